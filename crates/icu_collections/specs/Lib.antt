@@ -1,0 +1,2 @@
+pub mod Side
+pub mod Flag

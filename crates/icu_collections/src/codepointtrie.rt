@@ -1,0 +1,16 @@
+//! Maps from code points to values that are read in place (ICU's code point tries).
+//!
+//! [`CodePointTrieBuilder`] or [`build_from_writes`] makes a trie, [`CodePointTrie::get32`] asks it. A trie
+//! from a file is made of its parts by [`CodePointTrie::try_new`], which borrows them.
+
+pub use icu_trie::cells::{Cells, Steps};
+pub use icu_trie::cptrie::CodePointTrie;
+pub use icu_trie::error::CodePointTrieError;
+pub use icu_trie::header::{CodePointTrieHeader, TrieType};
+pub use icu_trie::impl_const;
+pub use icu_trie::lookup::look_up;
+pub use icu_trie::value::{NotAValue, TrieValue};
+pub use icu_trie_builder::build_from_writes;
+pub use icu_trie_builder::builder::CodePointTrieBuilder;
+pub use icu_trie_builder::error::BuildError;
+pub use icu_trie_builder::writes::{ApplyRefused, Write};

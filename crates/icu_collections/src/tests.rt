@@ -1,0 +1,8 @@
+//! What no clause says: examples whose answers come from outside, printed texts, each public call on its
+//! happy path, and refused memory.
+
+mod built_tries;
+mod packed_vectors;
+mod refused_memory;
+mod refused_parts;
+mod texts;

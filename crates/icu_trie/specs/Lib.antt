@@ -1,0 +1,5 @@
+pub mod Format
+pub mod Parts
+pub mod Coherence
+pub mod Blocks
+pub mod Numbers

@@ -1,0 +1,116 @@
+//! Look-up by the format of the trie.
+ghost use Rattle.std.specs.Prelude.{◌≡◌, ℕ, ◌+◌, ◌^◌, ◌<◌, ◌≤◌, ◌/◌, ◌%◌, ◌-◌, List, Some, None, length, slice_get, IfSome};
+ghost use Rattle.std.specs.Option.{option_and_then};
+ghost use Rattle.icu_trie.specs.Format.{answer, fast_limit, place, index2_cell, offset_in_block, long_offset, small_offset};
+
+use crate::cells::Cells;
+use crate::header::{CodePointTrieHeader, TrieType};
+
+/// The fast limit: the first code point that the fast index doesn't cover.
+#[inline(always)]
+pub(crate) fn fast_limit_of(trie_type: TrieType) -> u32
+    ensures limit { result ≡ fast_limit trie_type }
+    ensures low { result ≤ 0x10000 }
+{
+    match trie_type {
+        TrieType::Fast => 0x10000,
+        TrieType::Small => 0x1000,
+    }
+}
+
+/// The index-2 cell of a code point, in two reads.
+fn index2_cell_of<T, C: Cells<T>>(trie_type: TrieType, cells: &mut C, c: u32) -> Option<u16>
+    ensures cell { result ≡ index2_cell trie_type (C.index cells.old) c }
+    ensures reads { C.reads cells.new ≤ C.reads cells.old + 2 }
+    ensures same_index { C.index cells.new ≡ C.index cells.old }
+    ensures same_values { C.values cells.new ≡ C.values cells.old }
+{
+    let index1_start = match trie_type {
+        TrieType::Fast => 1020,
+        TrieType::Small => 64,
+    };
+    let block = cells.index_cell((c >> 14) as usize + index1_start)?;
+    cells.index_cell(block as usize + ((c >> 9) & 31) as usize)
+}
+
+/// An offset of 18 bits, from the cell that has the two high bits of eight offsets and from its own cell.
+fn long_offset_of(high: u16, low: u16, place: u32) -> u32
+    requires { place < 8 }
+    ensures { result ≡ long_offset high low place }
+{
+    (((high as u32) << (2 + 2 * place)) & 0x30000) | low as u32
+}
+
+/// One of the 32 data offsets of the index-3 block that an index-2 cell names, in two reads at most.
+fn offset_of<T, C: Cells<T>>(cells: &mut C, index2_cell: u16, place: u32) -> Option<u32>
+    requires { place < 32 }
+    ensures offset { result ≡ offset_in_block (C.index cells.old) index2_cell place }
+    ensures bound { IfSome result (λ offset. offset < 2 ^ 18) }
+    ensures reads { C.reads cells.new ≤ C.reads cells.old + 2 }
+    ensures same_index { C.index cells.new ≡ C.index cells.old }
+    ensures same_values { C.values cells.new ≡ C.values cells.old }
+{
+    if index2_cell & 0x8000 == 0 {
+        let offset = cells.index_cell(index2_cell as usize + place as usize)?;
+        return Some(offset as u32);
+    }
+    let group = (index2_cell & 0x7fff) as usize + ((place & !7) + (place >> 3)) as usize;
+    let place_in_group = place & 7;
+    let high = cells.index_cell(group)?;
+    let low = cells.index_cell(group + 1 + place_in_group as usize)?;
+    Some(long_offset_of(high, low, place_in_group))
+}
+
+/// The place in the data of a code point from the fast limit on and below the high start, by the three stages
+/// of the index.
+///
+/// It is no part of the fast path, and stays a call so that this one is short.
+#[inline(never)]
+#[tactic(auto, unfolding(crate::specs::Format::small_offset))]
+fn small_place_of<T, C: Cells<T>>(trie_type: TrieType, cells: &mut C, c: u32) -> Option<usize>
+    ensures place { result ≡ option_and_then (λ offset. Some (offset + c % 16)) (small_offset trie_type (C.index cells.old) c) }
+    ensures reads { C.reads cells.new ≤ C.reads cells.old + 4 }
+    ensures same_index { C.index cells.new ≡ C.index cells.old }
+    ensures same_values { C.values cells.new ≡ C.values cells.old }
+{
+    let index2_cell = index2_cell_of(trie_type, cells, c)?;
+    let offset = offset_of(cells, index2_cell, (c >> 4) & 31)?;
+    Some(offset as usize + (c & 15) as usize)
+}
+
+/// The place in the data of the cell of `c`, which may lie outside them. `None` above 0x10FFFF and where a
+/// cell of the index is missing.
+#[inline(always)]
+fn place_of<T, C: Cells<T>>(header: &CodePointTrieHeader, cells: &mut C, c: u32) -> Option<usize>
+    ensures place { result ≡ place header.now (C.index cells.old) (length (C.values cells.old)) c }
+    ensures reads { C.reads cells.new ≤ C.reads cells.old + 4 }
+    ensures same_index { C.index cells.new ≡ C.index cells.old }
+    ensures same_values { C.values cells.new ≡ C.values cells.old }
+{
+    // The fast limit first: most code points of most texts lie below it.
+    if c < fast_limit_of(header.trie_type) {
+        let offset = cells.index_cell((c >> 6) as usize)?;
+        return Some(offset as usize + (c & 63) as usize);
+    }
+    if c > 0x10FFFF {
+        return None;
+    }
+    if c >= header.high_start {
+        return cells.data_len().checked_sub(2);
+    }
+    small_place_of(header.trie_type, cells, c)
+}
+
+/// The cell of `c`, any number of 32 bits, by the format of the trie (UCPTrie), in at most five reads. `None`
+/// stands for the error value: above 0x10FFFF, and where a cell of index or data is missing.
+#[inline(always)]
+#[tactic(auto, unfolding(crate::specs::Format::answer))]
+pub fn look_up<T, C: Cells<T>>(header: &CodePointTrieHeader, cells: &mut C, c: u32) -> Option<T>
+    ensures answer { result ≡ answer header.now (C.index cells.old) (C.values cells.old) c }
+    ensures reads { C.reads cells.new ≤ C.reads cells.old + 5 }
+    ensures same_index { C.index cells.new ≡ C.index cells.old }
+    ensures same_values { C.values cells.new ≡ C.values cells.old }
+{
+    let place = place_of(header, cells, c)?;
+    cells.data_cell(place)
+}

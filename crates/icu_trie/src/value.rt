@@ -1,0 +1,107 @@
+//! The values of a trie.
+ghost use Rattle.std.specs.Prelude.{◌≡◌, ℕ, ◌^◌, ◌↔◌, IsTrue, IfOk, OnErr, Option, Some, None};
+ghost use Rattle.icu_trie.specs.Numbers.{fitting};
+
+use icu_zerovec::ule::AsULE;
+use thiserror::Error;
+
+/// A value that a trie can hold: a packed value with a number of 32 bits.
+///
+/// A type of your own is lawful where the number of each value gives the value back, and where values are
+/// equal exactly if their numbers are.
+pub trait TrieValue: AsULE + Eq {
+    /// What a number that is no value's is refused with.
+    type TryFromU32Error: Drop;
+
+    /// The number of a value.
+    ghost number: { Self → ℕ };
+
+    /// The value of a number, if it has one.
+    ghost of_number: { ℕ → Option Self };
+
+    /// The number of the value.
+    fn to_u32(self) -> u32
+        ensures { result ≡ number self };
+
+    /// The value of this number, an error where it is no value's.
+    fn try_from_u32(i: u32) -> Result<Self, Self::TryFromU32Error>
+        ensures ok { IfOk result (λ value. of_number i ≡ Some value) }
+        ensures err { OnErr result (of_number i ≡ None) };
+
+    /// The number of a value gives the value back.
+    ghost number_gives_back: { (x : Self) → Self.is_value x → of_number (number x) ≡ Some x };
+
+    /// Values are equal exactly if their numbers are.
+    ghost equal_by_number: { (x y : Self) → Self.is_value x → Self.is_value y → IsTrue (Self.eq x y) ↔ (number x ≡ number y) };
+}
+
+/// The number is no value's.
+#[derive(Clone, Copy, Debug, PartialEq, Eq, Error)]
+#[error("the number is no value of the type")]
+pub struct NotAValue;
+
+impl TrieValue for u8 {
+    ghost use Rattle.icu_trie.specs.Numbers.{fitting-small, equal_numbers};
+
+    type TryFromU32Error = NotAValue;
+
+    ghost number = { λ x. x };
+
+    ghost of_number = { fitting (2 ^ 8) };
+
+    fn to_u32(self) -> u32 {
+        u32::from(self)
+    }
+
+    fn try_from_u32(i: u32) -> Result<Self, NotAValue> {
+        u8::try_from(i).map_err(|_| NotAValue)
+    }
+
+    ghost number_gives_back = { fitting-small (2 ^ 8) };
+
+    ghost equal_by_number = { λ x y _ _. equal_numbers x y };
+}
+
+impl TrieValue for u16 {
+    ghost use Rattle.icu_trie.specs.Numbers.{fitting-small, equal_numbers};
+
+    type TryFromU32Error = NotAValue;
+
+    ghost number = { λ x. x };
+
+    ghost of_number = { fitting (2 ^ 16) };
+
+    fn to_u32(self) -> u32 {
+        u32::from(self)
+    }
+
+    fn try_from_u32(i: u32) -> Result<Self, NotAValue> {
+        u16::try_from(i).map_err(|_| NotAValue)
+    }
+
+    ghost number_gives_back = { fitting-small (2 ^ 16) };
+
+    ghost equal_by_number = { λ x y _ _. equal_numbers x y };
+}
+
+impl TrieValue for u32 {
+    ghost use Rattle.icu_trie.specs.Numbers.{fitting-small, equal_numbers};
+
+    type TryFromU32Error = NotAValue;
+
+    ghost number = { λ x. x };
+
+    ghost of_number = { fitting (2 ^ 32) };
+
+    fn to_u32(self) -> u32 {
+        self
+    }
+
+    fn try_from_u32(i: u32) -> Result<Self, NotAValue> {
+        Ok(i)
+    }
+
+    ghost number_gives_back = { fitting-small (2 ^ 32) };
+
+    ghost equal_by_number = { λ x y _ _. equal_numbers x y };
+}

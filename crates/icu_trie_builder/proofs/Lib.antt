@@ -1,0 +1,17 @@
+pub mod Windows
+pub mod Counts
+pub mod Different
+pub mod ChainedLemmas
+pub mod Placing
+pub mod Growing
+pub mod PackingLemmas
+pub mod Laying
+pub mod DataLemmas
+pub mod Answering
+pub mod AboveLemmas
+pub mod Sizes
+mod AfterLemmas
+mod WholeLemmas
+mod SameMapLemmas
+mod TypedLemmas
+mod BuilderLemmas

@@ -1,0 +1,141 @@
+-- The 18-bit form gives the offsets back.
+use Rattle.std.proofs.Common.{◌≡◌, ℕ, ◌+◌, ◌-◌, ◌*◌, ◌/◌, ◌%◌, ◌<◌, ◌≤◌, nat_eq, false, List, [], length, get_or, arith, sym, ap, ◌∙◌, Some, slice_get, zero, suc, refl}
+use Rattle.std.specs.List.{Contains}
+use Rattle.std.proofs.lemmas.Bool.{le-ltb}
+use Rattle.std.proofs.lemmas.Bool.Decides.{nat_tests}
+use Rattle.std.proofs.lemmas.List.{same_lists, get_or_default}
+use Rattle.icu_trie.specs.Blocks.{window, block}
+use Rattle.icu_trie.specs.Format.{long_offset, offset_in_block}
+use Rattle.icu_trie_builder.specs.Layout.{AllBelow, IsGrown, high_bits, packed_cell}
+use Rattle.icu_trie_builder.proofs.Growing.{cell_there}
+use Rattle.icu_trie_builder.proofs.Windows.{length-window, window-read}
+
+-- the two high bits and the 16 low ones are the offset
+long_back : (xs : List ℕ) (at q : ℕ) → at + 8 ≤ length xs → AllBelow 0x40000 xs → q < 8
+    → long_offset (high_bits xs at) (get_or xs (at + q) 0 % 65536) q ≡ get_or xs (at + q) 0
+unfolding high_bits
+long_back xs at q room fit l = by q l
+  where
+    f : (i : ℕ) → i < 8 → get_or xs (at + i) 0 < 262144
+    f i l = fit (at + i) (omega (arith, l, room))
+
+    z : get_or xs (at + 0) 0 ≡ get_or xs at 0
+    z = ap (λ n. get_or xs n 0) (omega arith)
+
+    f0 : get_or xs at 0 < 262144
+    f0 = fit at (omega (arith, room))
+
+    by : (q : ℕ) → q < 8 → long_offset (high_bits xs at) (get_or xs (at + q) 0 % 65536) q ≡ get_or xs (at + q) 0
+    by zero l = omega (arith, z, f0, f 1 (omega arith), f 2 (omega arith), f 3 (omega arith), f 4 (omega arith), f 5 (omega arith), f 6 (omega arith), f 7 (omega arith))
+    by (suc zero) l = omega (arith, f0, f 1 (omega arith), f 2 (omega arith), f 3 (omega arith), f 4 (omega arith), f 5 (omega arith), f 6 (omega arith), f 7 (omega arith))
+    by (suc (suc zero)) l = omega (arith, f 2 (omega arith), f 3 (omega arith), f 4 (omega arith), f 5 (omega arith), f 6 (omega arith), f 7 (omega arith))
+    by (suc (suc (suc zero))) l = omega (arith, f 3 (omega arith), f 4 (omega arith), f 5 (omega arith), f 6 (omega arith), f 7 (omega arith))
+    by (suc (suc (suc (suc zero)))) l = omega (arith, f 4 (omega arith), f 5 (omega arith), f 6 (omega arith), f 7 (omega arith))
+    by (suc (suc (suc (suc (suc zero))))) l = omega (arith, f 5 (omega arith), f 6 (omega arith), f 7 (omega arith))
+    by (suc (suc (suc (suc (suc (suc zero)))))) l = omega (arith, f 6 (omega arith), f 7 (omega arith))
+    by (suc (suc (suc (suc (suc (suc (suc zero))))))) l = omega (arith, f 7 (omega arith))
+    by (suc (suc (suc (suc (suc (suc (suc (suc n)))))))) l = absurd (omega (arith, l))
+
+-- a cell of high bits
+pub cell_high : (xs : List ℕ) (g i : ℕ) → i ≡ 9 * g → packed_cell xs i ≡ high_bits xs (8 * g)
+unfolding packed_cell
+cell_high xs g i e =
+    let z : i % 9 ≡ 0 = omega (arith, e) in
+    let a : 8 * (i / 9) ≡ 8 * g = omega (arith, e) in
+    rw (z, a) refl
+
+not_zero : (n q : ℕ) → n ≡ suc q → nat_eq n 0 ≡ false
+not_zero n q e = grind (arith, nat_tests, e)
+
+-- a cell of low bits
+pub cell_low : (xs : List ℕ) (g q i : ℕ) → q < 8 → i ≡ 9 * g + 1 + q → packed_cell xs i ≡ get_or xs (8 * g + q) 0 % 65536
+unfolding packed_cell
+cell_low xs g q i l e =
+    let z : i % 9 ≡ suc q = omega (arith, e, l) in
+    let a : 8 * (i / 9) + i % 9 - 1 ≡ 8 * g + q = omega (arith, e, l) in
+    rw (not_zero (i % 9) q z, a) refl
+
+-- the high bits of eight offsets fit a cell
+high-below : (xs : List ℕ) (at : ℕ) → at + 8 ≤ length xs → AllBelow 0x40000 xs → high_bits xs at < 65536
+unfolding high_bits
+high-below xs at room fit = omega (
+  arith,
+  fit at (omega (arith, room)),
+  fit (at + 1) (omega (arith, room)),
+  fit (at + 2) (omega (arith, room)),
+  fit (at + 3) (omega (arith, room)),
+  fit (at + 4) (omega (arith, room)),
+  fit (at + 5) (omega (arith, room)),
+  fit (at + 6) (omega (arith, room)),
+  fit (at + 7) (omega (arith, room)),
+)
+
+-- the cells of the 18-bit form have 16 bits
+pub packed-below : (small packed : List ℕ) → AllBelow 0x40000 small → IsGrown (9 * (length small / 8)) (packed_cell small) [] packed → AllBelow 0x10000 packed
+packed-below small packed fit g i l = by (i % 9) refl
+  where
+    lt : i < 9 * (length small / 8)
+    lt = omega (arith, l, g.len)
+
+    cell : get_or packed i 0 ≡ packed_cell small i
+    cell = ap (λ n. get_or packed n 0) (omega arith) ∙ g.more i lt
+
+    by : (r : ℕ) → i % 9 ≡ r → get_or packed i 0 < 0x10000
+    by zero e = omega (arith, cell, cell_high small (i / 9) i (omega (arith, e)), high-below small (8 * (i / 9)) (omega (arith, lt)) fit)
+    by (suc r) e = omega (arith, cell, cell_low small (i / 9) r i (omega (arith, e)) (omega (arith, e)))
+
+-- cells that are all drawn from others are below what those are below
+pub drawn-below : (n : ℕ) (xs ys : List ℕ) → ((i : ℕ) → i < length ys → Contains xs (get_or ys i 0)) → AllBelow n xs → AllBelow n ys
+drawn-below n xs ys drawn below i l =
+    let w = drawn i l in
+    omega (arith, w.2, get_or_default xs w.0 (get_or ys i 0) 0 w.1, below w.0 w.1)
+
+-- an index-3 block whose 36 cells are those of 32 offsets gives them
+pub offset_packed : (index small : List ℕ) (at j p : ℕ) → p < 32 → 32 * j + 32 ≤ length small → at + 36 ≤ length index → AllBelow 0x40000 small
+    → ((x : ℕ) → x < 36 → get_or index (at + x) 0 ≡ packed_cell small (36 * j + x))
+    → offset_in_block index (0x8000 + at) p ≡ Some (get_or small (32 * j + p) 0)
+offset_packed index small at j p l room inside fit cells =
+    let g : ℕ = 4 * j + p / 8 in
+    let q : ℕ = p % 8 in
+    let group : ℕ = 0x8000 + at - 0x8000 + 9 * (p / 8) in
+    let high : slice_get index group ≡ Some (high_bits small (8 * g)) = cell_there index group (high_bits small (8 * g)) (omega (arith, l, inside))
+    (ap (λ n. get_or index n 0) (omega arith) ∙ (cells (9 * (p / 8)) (omega (arith, l)) ∙ cell_high small g (36 * j + 9 * (p / 8)) (omega arith))) in
+    let low : slice_get index (group + 1 + p % 8) ≡ Some (get_or small (8 * g + q) 0 % 65536) = cell_there index (group + 1 + p % 8) (get_or small (8 * g + q) 0 % 65536) (omega (arith, l, inside))
+    (ap (λ n. get_or index n 0) (omega arith) ∙ (cells (9 * (p / 8) + 1 + p % 8) (omega (arith, l)) ∙ cell_low small g q (36 * j + (9 * (p / 8) + 1 + p % 8)) (omega arith) (omega arith))) in
+    let back = long_back small (8 * g) q (omega (arith, l, room)) fit (omega arith) in
+    let there : get_or small (8 * g + q) 0 ≡ get_or small (32 * j + p) 0 = ap (λ n. get_or small n 0) (omega arith) in
+    rw (le-ltb (0x8000 + at) 0x8000 (omega arith), high, low) (ap (λ n. Some n) (back ∙ there))
+
+-- equal offsets have equal high bits
+high-same : (xs : List ℕ) (a b : ℕ) → ((q : ℕ) → q < 8 → get_or xs (a + q) 0 ≡ get_or xs (b + q) 0) → high_bits xs a ≡ high_bits xs b
+unfolding high_bits
+high-same xs a b h =
+    let h0 : get_or xs a 0 ≡ get_or xs b 0 = ap (λ n. get_or xs n 0) (omega arith) ∙ (h 0 (omega arith) ∙ ap (λ n. get_or xs n 0) (omega arith)) in
+    rw (h0, h 1 (omega arith), h 2 (omega arith), h 3 (omega arith), h 4 (omega arith), h 5 (omega arith), h 6 (omega arith), h 7 (omega arith)) refl
+
+module _ (small : List ℕ) (i j : ℕ) (fits : 32 * i + 32 ≤ length small) (fits' : 32 * j + 32 ≤ length small) (same : window 32 (32 * i) small ≡ window 32 (32 * j) small) where
+  offset-same : (p : ℕ) → p < 32 → get_or small (32 * i + p) 0 ≡ get_or small (32 * j + p) 0
+  offset-same p l = sym (window-read 32 (32 * i) p small 0 l) ∙ (ap (λ xs. get_or xs p 0) same ∙ window-read 32 (32 * j) p small 0 l)
+
+  -- the cells of equal offsets are equal
+  cell-same : (x : ℕ) → x < 36 → packed_cell small (36 * i + x) ≡ packed_cell small (36 * j + x)
+  cell-same x l = by (x % 9) refl
+    where
+      by : (r : ℕ) → x % 9 ≡ r → packed_cell small (36 * i + x) ≡ packed_cell small (36 * j + x)
+      by zero e = cell_high small (4 * i + x / 9) (36 * i + x) (omega (arith, e)) ∙ (high-same small (8 * (4 * i + x / 9)) (8 * (4 * j + x / 9))
+          (λ q lt. ap (λ n. get_or small n 0) (omega arith) ∙ (offset-same (8 * (x / 9) + q) (omega (arith, l, lt)) ∙ ap (λ n. get_or small n 0) (omega arith)))
+          ∙ sym (cell_high small (4 * j + x / 9) (36 * j + x) (omega (arith, e))))
+      by (suc r) e = cell_low small (4 * i + x / 9) r (36 * i + x) (omega (arith, e)) (omega (arith, e)) ∙ (ap (λ n. n % 65536)
+          (ap (λ n. get_or small n 0) (omega arith) ∙ (offset-same (8 * (x / 9) + r) (omega (arith, l, e)) ∙ ap (λ n. get_or small n 0) (omega arith)))
+          ∙ sym (cell_low small (4 * j + x / 9) r (36 * j + x) (omega (arith, e)) (omega (arith, e))))
+
+  -- and so are the index-3 blocks
+  pub packed-same : (packed : List ℕ) → IsGrown (9 * (length small / 8)) (packed_cell small) [] packed → block 36 packed i ≡ block 36 packed j
+  packed-same packed g =
+      let all : length packed ≡ 9 * (length small / 8) = omega (arith, g.len) in
+      let li : length (block 36 packed i) ≡ 36 = length-window 36 (36 * i) packed (omega (arith, all, fits)) in
+      let lj : length (block 36 packed j) ≡ 36 = length-window 36 (36 * j) packed (omega (arith, all, fits')) in
+      let cell : (n : ℕ) (d : ℕ) → n < length packed → get_or packed n d ≡ packed_cell small n = λ n d lt. get_or_default packed n d 0 lt ∙ (ap (λ y. get_or packed y 0) (omega arith) ∙ g.more n (omega (arith, lt, all))) in
+      same_lists (block 36 packed i) (block 36 packed j) (li ∙ sym lj)
+      (λ x d l. let lt : x < 36 = omega (arith, l, li) in
+      window-read 36 (36 * i) x packed d lt ∙ (cell (36 * i + x) d (omega (arith, lt, all, fits)) ∙ (cell-same x lt ∙ (sym (cell (36 * j + x) d (omega (arith, lt, all, fits'))) ∙ sym (window-read 36 (36 * j) x packed d lt)))))

@@ -1,0 +1,54 @@
+-- Maps that agree in the code space have the same bounds.
+use Rattle.std.proofs.Common.{◌≡◌, ℕ, ◌+◌, ◌*◌, ◌<◌, ◌≤◌, List, map, refl, arith, sym, ◌∙◌, ap, ap₂, inl, inr}
+use Rattle.std.specs.Prelude.{nat_eq}
+use Rattle.std.specs.List.{range_with_len}
+use Rattle.std.specs.Set.{distinct_count}
+use Rattle.std.specs.Cmp.Lexicographic.{pointwise}
+use Rattle.std.proofs.lemmas.List.{same_lists}
+use Rattle.std.proofs.lemmas.List.FromFn.{length-map-range_with_len, get_or-map-range_with_len}
+use Rattle.icu_trie.specs.declared.header.TrieType.{TrieType}
+use Rattle.icu_trie.specs.declared.header.TrieType.TheVariants.{Fast, Small}
+use Rattle.icu_trie.specs.Blocks.{block_of, different}
+use Rattle.icu_trie_builder.specs.Bounds.{data_bound, index_bound, fast_blocks, small_blocks, index_blocks, IsTooLarge}
+
+-- functions that agree on a range give one list there
+same_map : {A : Type 0} (f g : ℕ → A) (first count : ℕ) → ((j : ℕ) → first ≤ j → j < first + count → f j ≡ g j) → map f (range_with_len first count) ≡ map g (range_with_len first count)
+same_map f g first count h =
+    let lf = length-map-range_with_len f first count in
+    same_lists (map f (range_with_len first count)) (map g (range_with_len first count)) (lf ∙ sym (length-map-range_with_len g first count))
+    (λ i d l. let below : i < count = omega (arith, l, lf) in
+    get_or-map-range_with_len f first count i (first + i) d below refl ∙ (h (first + i) (omega arith) (omega (arith, below)) ∙ sym (get_or-map-range_with_len g first count i (first + i) d below refl)))
+
+different-alike : (b b' : ℕ → List ℕ) (first count : ℕ) → ((j : ℕ) → first ≤ j → j < first + count → b j ≡ b' j) → different b first count ≡ different b' first count
+unfolding different
+different-alike b b' first count h = ap (distinct_count (pointwise nat_eq)) (same_map b b' first count h)
+
+module _ (f g : ℕ → ℕ) (same : (c : ℕ) → c < 0x110000 → f c ≡ g c) where
+  block_of-alike : (k j : ℕ) → k * j + k ≤ 0x110000 → block_of k f j ≡ block_of k g j
+  unfolding block_of
+  block_of-alike k j le = same_map f g (k * j) k (λ c from below. same c (omega (arith, le)))
+
+  fast-alike : (t : TrieType) → fast_blocks t f ≡ fast_blocks t g
+  fast-alike Fast = different-alike (block_of 64 f) (block_of 64 g) 0 1024 (λ j from below. block_of-alike 64 j (omega (arith, below)))
+  fast-alike Small = different-alike (block_of 64 f) (block_of 64 g) 0 64 (λ j from below. block_of-alike 64 j (omega (arith, below)))
+
+  small-alike : (t : TrieType) → small_blocks t f ≡ small_blocks t g
+  small-alike Fast = different-alike (block_of 16 f) (block_of 16 g) 4096 65536 (λ j from below. block_of-alike 16 j (omega (arith, below)))
+  small-alike Small = different-alike (block_of 16 f) (block_of 16 g) 256 69376 (λ j from below. block_of-alike 16 j (omega (arith, below)))
+
+  index-alike : (t : TrieType) → index_blocks t f ≡ index_blocks t g
+  index-alike Fast = different-alike (block_of 512 f) (block_of 512 g) 128 2048 (λ j from below. block_of-alike 512 j (omega (arith, below)))
+  index-alike Small = different-alike (block_of 512 f) (block_of 512 g) 8 2168 (λ j from below. block_of-alike 512 j (omega (arith, below)))
+
+  -- both have one bound on the cells of data
+  pub data_bound-alike : (t : TrieType) → data_bound t f ≡ data_bound t g
+  data_bound-alike t = ap₂ (λ m n. 64 * m + 16 * n + 160) (fast-alike t) (small-alike t)
+
+  -- and of index
+  pub index_bound-alike : (t : TrieType) → index_bound t f ≡ index_bound t g
+  index_bound-alike t = ap (λ n. 36 * n + 3200) (index-alike t)
+
+  -- and both may be refused for their size, or none
+  pub IsTooLarge-alike : IsTooLarge f → IsTooLarge g
+  IsTooLarge-alike (inl h) = inl (omega (arith, h, different-alike (block_of 512 f) (block_of 512 g) 0 2176 (λ j from below. block_of-alike 512 j (omega (arith, below)))))
+  IsTooLarge-alike (inr h) = inr (omega (arith, h, different-alike (block_of 16 f) (block_of 16 g) 0 69632 (λ j from below. block_of-alike 16 j (omega (arith, below)))))

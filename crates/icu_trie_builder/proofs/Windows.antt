@@ -1,0 +1,64 @@
+-- Windows of lists, and what `==` says of them.
+use Rattle.std.proofs.Common.{◌≡◌, ℕ, ◌+◌, ◌-◌, ◌*◌, ◌<◌, ◌≤◌, Bool, nat_eq, List, ◌++◌, length, get_or, take, drop, arith, ◌∙◌, ap, refl}
+use Rattle.std.specs.Bool.{Decides}
+use Rattle.std.specs.Cmp.{IsEquivalence}
+use Rattle.std.specs.Cmp.Lexicographic.{pointwise}
+use Rattle.std.proofs.lemmas.Bool.Decides.{nat_tests}
+use Rattle.std.proofs.lemmas.Cmp.{lists_equiv}
+use Rattle.std.proofs.lemmas.Slice.Eq.{slice_eq-Decides}
+use Rattle.std.proofs.lemmas.List.{drop-append-le, take-append-le, drop_at, take_all, length-take, length-drop, get_or-take, get_or-drop}
+use Rattle.icu_trie.specs.Blocks.{window, block}
+
+-- `==` of numbers is an equivalence
+nat_laws : IsEquivalence nat_eq
+nat_laws = record { refl = λ x. grind (arith, nat_tests); symm = λ x y. grind (arith, nat_tests); congr = λ x y z e. grind (arith, nat_tests, e) }
+
+-- `==` of numbers decides whether they are the same
+nat_decides : (a b : ℕ) → Decides (nat_eq a b) (a ≡ b)
+nat_decides a b = (λ e. grind (arith, nat_tests, e), λ e. grind (arith, nat_tests, e))
+
+-- `==` of lists of numbers is an equivalence
+pub list_laws : IsEquivalence (pointwise nat_eq)
+list_laws = lists_equiv nat_laws
+
+-- `==` of lists of numbers decides whether they are the same
+pub list_decides : (xs ys : List ℕ) → Decides (pointwise nat_eq xs ys) (xs ≡ ys)
+list_decides xs ys = slice_eq-Decides nat_decides xs ys (pointwise nat_eq xs ys) refl
+
+-- what `==` says of a part of a slice
+pub part-decides : (xs wanted : List ℕ) (at end k : ℕ) (r : Bool) → r ≡ pointwise nat_eq (take (end - at) (drop at xs)) wanted → end ≡ at + k
+    → Decides r (window k at xs ≡ wanted)
+part-decides xs wanted at end k r e h =
+    let n : end - at ≡ k = omega (arith, h) in
+    slice_eq-Decides nat_decides (window k at xs) wanted r (e ∙ ap (λ m. pointwise nat_eq (take m (drop at xs)) wanted) n)
+
+-- a window within the list has its length
+pub length-window : (k at : ℕ) (xs : List ℕ) → at + k ≤ length xs → length (window k at xs) ≡ k
+length-window k at xs h = omega (arith, length-take k (drop at xs), length-drop at xs, h)
+
+-- an element of a window
+pub window-read : (k at i : ℕ) (xs : List ℕ) (d : ℕ) → i < k → get_or (window k at xs) i d ≡ get_or xs (at + i) d
+window-read k at i xs d l = get_or-take k (drop at xs) i d l ∙ get_or-drop at xs i d
+
+-- a window stays where the list grows
+pub window-append : (k at : ℕ) (xs ys : List ℕ) → at + k ≤ length xs → window k at (xs ++ ys) ≡ window k at xs
+window-append k at xs ys h =
+    let a : at ≤ length xs = omega arith in
+    let b : k ≤ length (drop at xs) = omega (arith, length-drop at xs) in
+    rw drop-append-le (take-append-le k (drop at xs) ys b)
+
+-- what was put behind a list is a window
+pub window-end : (k at : ℕ) (xs ys : List ℕ) → length xs ≡ at → length ys ≡ k → window k at (xs ++ ys) ≡ ys
+window-end k at xs ys h l = rw drop_at (take_all k ys (omega arith))
+
+-- a block ends before the next one starts
+pub times-below : (k p n : ℕ) → p < n → k * p + k ≤ k * n
+times-below k p n h = grind arith
+
+-- the range of a slice that is a block
+pub part-block : (k i : ℕ) (cells : List ℕ) → take (k * i + k - k * i) (drop (k * i) cells) ≡ block k cells i
+part-block k i cells = let n : k * i + k - k * i ≡ k = omega arith in ap (λ m. take m (drop (k * i) cells)) n
+
+-- its length
+pub length-part : (k i m : ℕ) (cells : List ℕ) → i < m → k * m ≤ length cells → length (take (k * i + k - k * i) (drop (k * i) cells)) ≡ k
+length-part k i m cells h le = omega (arith, ap length (part-block k i cells), length-take k (drop (k * i) cells), length-drop (k * i) cells, times-below k i m h)

@@ -1,0 +1,36 @@
+use Rattle.std.proofs.Common.{◌≡◌, ℕ, ◌<◌, arith, ◌∙◌, ap}
+use Rattle.std.proofs.lemmas.Result.{IfOk-weaker}
+use Rattle.icu_trie_builder.specs.CodePointMap.{IsAfter, map_value}
+use Rattle.icu_trie_builder.specs.Writes.{value_after}
+use Rattle.icu_trie_builder.specs.MapAnswers.{IsWellBuilt}
+use Rattle.icu_trie_builder.proofs.BuilderLemmas.{from_ok}
+use Rattle.icu_trie_builder.proofs.TypedLemmas.{IsWellBuilt-alike}
+use Rattle.icu_trie_builder.proofs.SameMapLemmas.{IsTooLarge-alike}
+use Rattle.icu_trie_builder.proofs.build.build_from_writes.Goals as goal
+
+after : (g : _) (c : goal.After-build g) → IsAfter g.T.PartialEq.eq c.args.writes.now c.new-builder.result c.apply.new.self
+after g c = from_ok c.apply.result (IsAfter g.T.PartialEq.eq c.args.writes.now c.new-builder.result c.apply.new.self) c.if-is_err.ensures.value c.apply.ensures.ok
+
+-- the map that is built is that of the writes over the default
+same : (g : _) (c : goal.After-build g) → (k : ℕ) → k < 0x110000
+    → g.T.TrieValue.number (map_value c.apply.new.self k) ≡ g.T.TrieValue.number (value_after g.T.PartialEq.eq c.args.default c.args.writes.now c.args.default k)
+same g c k l =
+    let eq = g.T.PartialEq.eq in
+    let ws = c.args.writes.now in
+    ap g.T.TrieValue.number
+    ((after g c).values k (omega arith)
+    ∙ (ap (λ v. value_after eq c.new-builder.result.default ws v k) (c.new-builder.ensures.map k (omega arith))
+    ∙ ap (λ d. value_after eq d ws c.args.default k) c.new-builder.ensures.default))
+
+pub returns-clause-built : goal.returns-clause-built
+returns-clause-built g c =
+    let f : ℕ → ℕ = λ k. g.T.TrieValue.number (map_value c.apply.new.self k) in
+    let written : ℕ → ℕ = λ k. g.T.TrieValue.number (value_after g.T.PartialEq.eq c.args.default c.args.writes.now c.args.default k) in
+    IfOk-weaker c.build.result (IsWellBuilt g.T.TrieValue.of_number f) (IsWellBuilt g.T.TrieValue.of_number written)
+    (IsWellBuilt-alike g.T.TrieValue.of_number f written (same g c)) c.build.ensures.built
+
+pub returns-clause-too_large : goal.returns-clause-too_large
+returns-clause-too_large g c = λ e.
+    IsTooLarge-alike (λ k. g.T.TrieValue.number (map_value c.apply.new.self k))
+    (λ k. g.T.TrieValue.number (value_after g.T.PartialEq.eq c.args.default c.args.writes.now c.args.default k)) (same g c)
+    (c.build.ensures.too_large e)

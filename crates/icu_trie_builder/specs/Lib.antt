@@ -1,0 +1,9 @@
+pub mod Writes
+pub mod CodePointMap
+pub mod Bounds
+pub mod Chained
+pub mod Placed
+pub mod Data
+pub mod Layout
+pub mod Built
+pub mod MapAnswers

@@ -1,0 +1,26 @@
+-- What a trie that was built from a map answers, and what else holds of it.
+use Rattle.std.specs.Prelude.{◌≡◌, ℕ, ◌≤◌, nat_le, List, Option, Some, None, length, map, if◌then◌else◌}
+use Rattle.icu_trie.specs.Format.{answer}
+use Rattle.icu_trie.specs.Parts.{Parts, trie_value}
+use Rattle.icu_trie.specs.Coherence.{IsCoherent, IsShared}
+use Rattle.icu_trie_builder.specs.Bounds.{data_bound, index_bound}
+use Rattle.icu_trie_builder.specs.Built.{IsBuiltHeader}
+
+-- the trie t answers the map f at every number: a look-up, over whatever cells hold its index and data, finds
+-- f's value in the code space and nothing above it, and the trie's value above it is the error value
+pub record AnswersMap {T : Type 0} (f : ℕ → T) (error : T) (t : Parts T) : Type 0 where
+  pub look_up : (u : ℕ) → answer t.header t.index t.values u ≡ (if nat_le u 0x10FFFF then Some (f u) else None)
+  pub value : (u : ℕ) → trie_value t u ≡ Some (if nat_le u 0x10FFFF then f u else error)
+
+-- beside its answers: the header has the format's form, walks may trust the trie and are short over it, and
+-- it has no more cells than its map has different blocks for. f has the number of each code point's value
+pub record IsWellBuilt {T : Type 0} (of_number : ℕ → Option T) (f : ℕ → ℕ) (t : Parts T) : Type 0 where
+  pub header : IsBuiltHeader t.header
+  pub coherent : IsCoherent of_number t.header t.index t.values
+  pub shared : IsShared t.header t.index t.values
+  pub data_cells : length t.values ≤ data_bound t.header.trie_type f
+  pub index_cells : length t.index ≤ index_bound t.header.trie_type f
+
+-- the values are those of the numbers, cell by cell
+abbrev pub AreValuesOf : {T : Type 0} → (ℕ → Option T) → List ℕ → List T → Type 0
+AreValuesOf of_number numbers values = map Some values ≡ map of_number numbers

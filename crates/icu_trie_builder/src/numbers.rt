@@ -1,0 +1,70 @@
+//! A trie over numbers, built as a whole.
+ghost use Rattle.std.specs.Prelude.{◌≡◌, ℕ, Bool, true, length, slice_index, IfOk};
+ghost use Rattle.std.specs.List.{AllPass};
+ghost use Rattle.icu_trie_builder.specs.Bounds.{IsTooLarge};
+ghost use Rattle.icu_trie_builder.specs.Built.{IsBuilt};
+ghost use Rattle.icu_trie_builder.specs.declared.error.BuildError.TheVariants.{TooLarge};
+
+use crate::data::{NO_DATA_NULL_OFFSET, PlacedData, place_data};
+use crate::error::BuildError;
+use crate::high_start::find_high_start;
+use crate::index::{NO_INDEX3_NULL_OFFSET, build_index};
+use icu_trie::header::{CodePointTrieHeader, TrieType};
+use std::alloc::Global;
+
+/// The parts of a trie whose values are numbers.
+#[derive(Drop)]
+pub(crate) struct NumberTrie {
+    /// What the trie says of itself.
+    pub(crate) header: CodePointTrieHeader,
+    /// The cells that lead from a code point to its place in `values`.
+    pub(crate) index: Vec<u16>,
+    /// The data, the high value and the error value last.
+    pub(crate) values: Vec<u32>,
+}
+
+/// The trie of a map that is given by the number of each code point, with `error` for what is above the
+/// code space. No block is made the null block, so `null_value` is kept in the header and not read.
+///
+/// # Errors
+///
+/// `TooLarge` at the first offset that does not fit its cell, `Memory` where memory is refused.
+pub(crate) fn build_numbers(
+    alloc: Global,
+    numbers: &[u32],
+    error: u32,
+    null_value: u32,
+    trie_type: TrieType,
+) -> Result<NumberTrie, BuildError>
+    requires { length numbers.now ≡ 0x110000 }
+    ensures built { IfOk result (λ t.
+        IsBuilt (λ c. slice_index numbers.now c) error t.header t.index.items t.values.items) }
+    ensures trie_type { IfOk result (λ t. t.header.trie_type ≡ trie_type) }
+    ensures null_value { IfOk result (λ t. t.header.null_value ≡ null_value) }
+
+    // Each cell is a number of the map or the error value.
+    ensures drawn { IfOk result (λ t. (p : ℕ → Bool) → AllPass p numbers.now → p error ≡ true
+        → AllPass p t.values.items) }
+    ensures too_large { result ≡ Err TooLarge → IsTooLarge (λ c. slice_index numbers.now c) }
+{
+    let high_start = find_high_start(numbers);
+    let PlacedData {
+        values,
+        fast,
+        small,
+    } = place_data(alloc, numbers, error, trie_type, high_start)?;
+    let index = build_index(alloc, trie_type, high_start, &fast, &small)?;
+    let header = CodePointTrieHeader {
+        high_start: high_start as u32,
+        shifted12_high_start: high_start.div_ceil(0x1000) as u16,
+        index3_null_offset: NO_INDEX3_NULL_OFFSET,
+        data_null_offset: NO_DATA_NULL_OFFSET,
+        null_value,
+        trie_type,
+    };
+    Ok(NumberTrie {
+        header,
+        index,
+        values,
+    })
+}

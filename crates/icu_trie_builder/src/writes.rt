@@ -1,0 +1,22 @@
+//! What is written into a map of the code points.
+
+use std::ops::RangeInclusive;
+use thiserror::Error;
+
+/// One write into a map of the code points.
+///
+/// It is accepted where its value differs from the default, its range isn't reversed and it starts in the
+/// code space; any other write changes nothing. What lies above 0x10FFFF is left out.
+#[derive(Debug, Drop)]
+pub enum Write<T> {
+    /// This value at this code point.
+    One(u32, T),
+    /// This value at each code point from the start to the end, both included.
+    Range(RangeInclusive<u32>, T),
+}
+
+/// Memory was refused for the write at this place of the list, counted from 0. The writes before it are made,
+/// and no other.
+#[derive(Clone, Copy, Debug, PartialEq, Eq, Error)]
+#[error("no memory for write {0}")]
+pub struct ApplyRefused(pub usize);

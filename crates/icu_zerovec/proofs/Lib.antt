@@ -1,0 +1,4 @@
+mod CellsLemmas
+mod Searches
+mod SameLemmas
+pub mod Converted

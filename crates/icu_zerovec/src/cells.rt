@@ -1,0 +1,207 @@
+//! The work on packed bytes: cells of `WIDTH` bytes each, one for each value.
+ghost use Rattle.std.specs.Prelude.{◌≡◌, ◌/◌, ◌<◌, ◌≤◌, [], ◌∷◌, length, slice_get, OnOk, IfErr, IfOk, IfSome, MatchOption, Some, fold, false, take};
+ghost use Rattle.std.specs.Bool.{MatchBool};
+ghost use Rattle.std.specs.Cmp.Lexicographic.{pointwise};
+ghost use Rattle.std.specs.Hash as fed;
+ghost use Rattle.std.specs.List.Sorted.{IsSearchInRange, IsBinarySearchResult};
+ghost use Rattle.icu_zerovec.specs.Cells.{cell, values_of, IsPacked, IsFault, same_bytes, one_write};
+
+use crate::ule::{AsULE, UleError};
+use std::alloc::{AllocError, Global};
+use std::cmp::Ordering;
+use std::hash::Hasher;
+
+/// How many whole cells there are.
+#[inline(always)]
+pub(crate) fn count<T: AsULE>(bytes: &[u8]) -> usize
+    ensures { result ≡ length bytes.now / T.WIDTH }
+{
+    bytes.len() / T::WIDTH
+}
+
+/// How many values packed bytes have.
+#[inline(always)]
+pub(crate) fn len<T: AsULE>(bytes: &[u8]) -> usize
+    requires { IsPacked T.unpack T.WIDTH bytes.now }
+    ensures { result ≡ length (values_of T.unpack T.WIDTH bytes.now) }
+{
+    count::<T>(bytes)
+}
+
+/// The value that the cell at place `i` gives, if it gives one.
+#[inline(always)]
+pub(crate) fn read<T: AsULE>(bytes: &[u8], i: usize) -> Option<T>
+    requires { i < length bytes.now / T.WIDTH }
+    ensures { result ≡ T.unpack (cell T.WIDTH bytes.now i) }
+{
+    let start = i * T::WIDTH;
+    T::from_unaligned(&bytes[start..start + T::WIDTH])
+}
+
+/// The value at place `i` of packed bytes, `None` at or past the end.
+#[inline(always)]
+pub(crate) fn get<T: AsULE>(bytes: &[u8], i: usize) -> Option<T>
+    requires { IsPacked T.unpack T.WIDTH bytes.now }
+    ensures { result ≡ slice_get (values_of T.unpack T.WIDTH bytes.now) i }
+{
+    if i < count::<T>(bytes) {
+        read(bytes, i)
+    } else {
+        None
+    }
+}
+
+/// Refuses bytes that are not packed: by their number, then by the first cell that is no value.
+pub(crate) fn test<T: AsULE>(bytes: &[u8]) -> Result<(), UleError>
+    ensures ok { OnOk result (IsPacked T.unpack T.WIDTH bytes.now) }
+    ensures err { IfErr result (IsFault T.unpack T.WIDTH bytes.now) }
+{
+    if bytes.len() % T::WIDTH != 0 {
+        return Err(UleError::Length);
+    }
+    for i in 0..count::<T>(bytes) {
+        if read::<T>(bytes, i).is_none() {
+            return Err(UleError::Cell(i));
+        }
+    }
+    Ok(())
+}
+
+/// The packed bytes of these values, in memory that is asked for once.
+pub(crate) fn pack<T: AsULE>(alloc: Global, values: &[T]) -> Result<Vec<u8>, AllocError>
+    ensures packed { IfOk result (λ v. IsPacked T.unpack T.WIDTH v.items) }
+    ensures values { IfOk result (λ v. values_of T.unpack T.WIDTH v.items ≡ values.now) }
+{
+    let mut bytes = Vec::with_capacity(alloc, values.len().saturating_mul(T::WIDTH))?;
+    for value in values {
+        value.shown();
+        let cell = value.to_unaligned();
+        bytes.extend_from_slice(&cell[..T::WIDTH])?;
+    }
+    Ok(bytes)
+}
+
+/// The first value of packed bytes, and the bytes of the others. `None` where there are no bytes.
+#[inline(always)]
+pub(crate) fn split_first<T: AsULE>(bytes: &[u8]) -> Option<(T, &[u8])>
+    requires { IsPacked T.unpack T.WIDTH bytes.now }
+    ensures rest { IfSome result (λ p. IsPacked T.unpack T.WIDTH p.1.now) }
+    ensures first { MatchOption result (values_of T.unpack T.WIDTH bytes.now ≡ [])
+        (λ p. values_of T.unpack T.WIDTH bytes.now ≡ p.0 ∷ values_of T.unpack T.WIDTH p.1.now) }
+{
+    if bytes.is_empty() {
+        return None;
+    }
+    let (first, others) = bytes.split_at(T::WIDTH);
+    let value = T::from_unaligned(first)?;
+    Some((value, others))
+}
+
+/// A value of packed bytes that is there.
+#[inline(always)]
+fn at<T: AsULE>(bytes: &[u8], i: usize) -> T
+    requires packed { IsPacked T.unpack T.WIDTH bytes.now }
+    requires within { i < length (values_of T.unpack T.WIDTH bytes.now) }
+    ensures { slice_get (values_of T.unpack T.WIDTH bytes.now) i ≡ Some result }
+{
+    match get(bytes, i) {
+        Some(value) => value,
+        None => unreachable!(),
+    }
+}
+
+/// The place of an equal value of ascending packed bytes as `Ok`, or as `Err` the place where it could be
+/// inserted.
+pub(crate) fn binary_search<T: AsULE + Ord>(bytes: &[u8], x: &T) -> Result<usize, usize>
+    requires { IsPacked T.unpack T.WIDTH bytes.now }
+    ensures bound { IsSearchInRange result (length (values_of T.unpack T.WIDTH bytes.now)) }
+    ensures position { IsBinarySearchResult (λ y. T.cmp y x.now) (values_of T.unpack T.WIDTH bytes.now) result }
+{
+    let mut low = 0;
+    let mut high = len::<T>(bytes);
+    while low < high {
+        let middle = low + (high - low) / 2;
+        match at::<T>(bytes, middle).cmp(x) {
+            Ordering::Less => low = middle + 1,
+            Ordering::Greater => high = middle,
+            Ordering::Equal => return Ok(middle),
+        }
+    }
+    Err(low)
+}
+
+/// Whether two values are the same, by their bytes.
+fn alike<T: AsULE>(x: T, y: T) -> bool
+    ensures { MatchBool result (x ≡ y) (same_bytes T.pack x y ≡ false) }
+{
+    x.shown();
+    y.shown();
+    x.to_unaligned() == y.to_unaligned()
+}
+
+/// How many bytes to compare next. A block is compared as memory, which is fast, and only one that differs is
+/// gone through value by value.
+fn block(left: usize) -> usize
+    requires { 0 < left }
+    ensures some { 0 < result }
+    ensures within { result ≤ left }
+{
+    if left < 1024 { left } else { 1024 }
+}
+
+/// How many of the first bytes are the same, in whole blocks: all of them, where the bytes are the same.
+fn same_blocks(a: &[u8], b: &[u8]) -> usize
+    requires { length a.now ≡ length b.now }
+    ensures { take result a.now ≡ take result b.now }
+{
+    let mut at = 0;
+    while at < a.len() {
+        let step = block(a.len() - at);
+        if a[at..at + step] != b[at..at + step] {
+            return at;
+        }
+        at += step;
+    }
+    at
+}
+
+/// Whether two lists of values are the same. Bytes are compared, and values only from the first block of
+/// bytes that differ.
+pub(crate) fn same<T: AsULE>(a: &[u8], b: &[u8]) -> bool
+    requires a_packed { IsPacked T.unpack T.WIDTH a.now }
+    requires b_packed { IsPacked T.unpack T.WIDTH b.now }
+    ensures { MatchBool result (values_of T.unpack T.WIDTH a.now ≡ values_of T.unpack T.WIDTH b.now)
+        (pointwise (same_bytes T.pack) (values_of T.unpack T.WIDTH a.now) (values_of T.unpack T.WIDTH b.now) ≡ false) }
+{
+    let len = len::<T>(a);
+    if len != self::len::<T>(b) {
+        return false;
+    }
+    for i in same_blocks(a, b) / T::WIDTH..len {
+        if !alike(at::<T>(a, i), at::<T>(b, i)) {
+            return false;
+        }
+    }
+    true
+}
+
+/// Writes the bytes of a value.
+fn feed_one<T: AsULE, H: Hasher>(value: T, state: &mut H)
+    ensures { state.new ≡ H.write state.old (T.pack value) }
+{
+    value.shown();
+    let cell = value.to_unaligned();
+    state.write(&cell[..T::WIDTH]);
+}
+
+/// Writes how many values there are, and the bytes of each.
+pub(crate) fn feed<T: AsULE, H: Hasher>(bytes: &[u8], state: &mut H)
+    requires { IsPacked T.unpack T.WIDTH bytes.now }
+    ensures { state.new ≡ fold H.write state.old (fed.slice (one_write T.pack) (values_of T.unpack T.WIDTH bytes.now)) }
+{
+    let len = len::<T>(bytes);
+    state.write_usize(len);
+    for i in 0..len {
+        feed_one(at::<T>(bytes, i), state);
+    }
+}

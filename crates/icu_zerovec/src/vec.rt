@@ -1,0 +1,283 @@
+//! Vectors of packed values that lend or own their bytes.
+ghost use Rattle.std.specs.List.Sorted.{IsSearchInRange, IsBinarySearchResult};
+ghost use Rattle.std.specs.Prelude.{◌≡◌, ◌-◌, ◌^◌, ◌<◌, List, [], length, slice_get, Option, None, IfOk, IfErr, IsTrue, ◌↔◌};
+
+use crate::cells;
+use crate::iter::Iter;
+use crate::memory::MemoryError;
+use crate::slice::ZeroSlice;
+use crate::ule::{AsULE, UleError};
+use std::alloc::Global;
+use std::fmt;
+use std::marker::{Model, PhantomData};
+
+/// Bytes that are lent or owned. Both kinds keep the address and the number of their bytes at the same
+/// places, so a read does not look which one it is.
+#[derive(Drop)]
+enum Store<'a> {
+    Borrowed(&'a [u8]),
+    Owned(Vec<u8>),
+}
+
+impl<'a> Store<'a> {
+    ghost use Rattle.icu_zerovec.specs.Store.{bytes_of};
+
+    /// The bytes, whoever owns them.
+    #[inline(always)]
+    fn bytes(&self) -> &[u8]
+        ensures { result.now ≡ bytes_of self.now }
+    {
+        match self {
+            Store::Borrowed(bytes) => bytes,
+            Store::Owned(bytes) => bytes.as_slice(),
+        }
+    }
+}
+
+/// A vector of values that are kept as bytes, which it borrows or owns. A clause sees the list of the values.
+///
+/// ```
+/// let points = ZeroVec::<char>::parse_bytes(&[0x41, 0, 0, 0, 0xf6, 1])?;
+/// // points.first() is Some('A') and points.get(1) is Some('\u{1f600}')
+/// // ZeroVec::<char>::parse_bytes(&[0x41, 0, 0, 0, 0xd8, 0]) is Err(UleError::Cell(1)), since 0xD800 is a surrogate
+/// ```
+///
+/// Two vectors are equal, and hash alike, exactly if their lists are equal, whichever of them borrows.
+#[derive(Drop)]
+pub struct ZeroVec<'a, T: AsULE> {
+    store: Store<'a>,
+    of: PhantomData<T>,
+}
+
+impl<'a, T: AsULE> Model for ZeroVec<'a, T> {
+    ghost use Rattle.std.specs.Prelude.{List};
+    ghost use Rattle.icu_zerovec.specs.Store.{bytes_of};
+    ghost use Rattle.icu_zerovec.specs.Cells.{values_of, IsPacked};
+
+    ghost Value = { List T };
+
+    ghost view = { λ a. values_of T.unpack T.WIDTH (bytes_of a.store) };
+
+    ghost invariant = { λ a. IsPacked T.unpack T.WIDTH (bytes_of a.store) };
+}
+
+/// How a vector is made.
+impl<'a, T: AsULE> ZeroVec<'a, T> {
+    ghost use Rattle.icu_zerovec.specs.Cells.{values_of, IsPacked, IsFault};
+
+    /// The vector that these bytes are, which it borrows: `ZeroVec::<u16>::parse_bytes(&[1, 2])` holds 0x0201
+    /// alone.
+    ///
+    /// # Errors
+    /// `UleError::Length` where their number is no multiple of the width of a value, and otherwise
+    /// `UleError::Cell` with the first cell that is no value.
+    pub fn parse_bytes(bytes: &'a [u8]) -> Result<Self, UleError>
+        ensures ok { IfOk result (λ v. IsPacked T.unpack T.WIDTH bytes.now × (v ≡ values_of T.unpack T.WIDTH bytes.now)) }
+        ensures err { IfErr result (IsFault T.unpack T.WIDTH bytes.now) }
+    {
+        cells::test::<T>(bytes)?;
+        Ok(ZeroVec::from_packed(bytes))
+    }
+
+    /// The vector of bytes that were tested, which it borrows.
+    #[inline]
+    pub(crate) fn from_packed(bytes: &'a [u8]) -> Self
+        requires { IsPacked T.unpack T.WIDTH bytes.now }
+        ensures { result ≡ values_of T.unpack T.WIDTH bytes.now }
+    {
+        ZeroVec {
+            store: Store::Borrowed(bytes),
+            of: PhantomData,
+        }
+    }
+
+    /// A vector of these values that owns its bytes.
+    ///
+    /// # Errors
+    /// `MemoryError` where no memory was found.
+    pub fn alloc_from_slice(alloc: Global, values: &[T]) -> Result<Self, MemoryError>
+        ensures { IfOk result (λ v. v ≡ values.now) }
+    {
+        Ok(ZeroVec {
+            store: Store::Owned(cells::pack(alloc, values)?),
+            of: PhantomData,
+        })
+    }
+
+    /// An equal vector that owns its bytes, which are the same as those of this one.
+    ///
+    /// # Errors
+    /// `MemoryError` where no memory was found.
+    pub fn try_clone(&self, alloc: Global) -> Result<ZeroVec<'static, T>, MemoryError>
+        ensures { IfOk result (λ v. v ≡ self.now) }
+    {
+        Ok(ZeroVec {
+            store: Store::Owned(Vec::from_slice(alloc, self.bytes())?),
+            of: PhantomData,
+        })
+    }
+
+    /// The vector with bytes of its own. One that owns its bytes already keeps them, and takes no memory.
+    ///
+    /// # Errors
+    /// `MemoryError` where no memory was found. The vector is then given up, and bytes that it borrowed are
+    /// unchanged.
+    pub fn into_owned(self, alloc: Global) -> Result<ZeroVec<'static, T>, MemoryError>
+        ensures { IfOk result (λ v. v ≡ self.entry) }
+    {
+        let ZeroVec { store, of: _ } = self;
+        let bytes = match store {
+            Store::Borrowed(bytes) => Vec::from_slice(alloc, bytes)?,
+            Store::Owned(bytes) => bytes,
+        };
+        Ok(ZeroVec {
+            store: Store::Owned(bytes),
+            of: PhantomData,
+        })
+    }
+}
+
+/// What a vector holds.
+impl<'a, T: AsULE> ZeroVec<'a, T> {
+    ghost use Rattle.icu_zerovec.specs.Canonical.{IsCanonical};
+    ghost use Rattle.icu_zerovec.specs.Cells.{values_of, IsPacked};
+    ghost use Rattle.icu_zerovec.specs.Slice.{slice_values};
+    ghost use Rattle.std.specs.List.{flat_map};
+
+    /// The bytes, whoever owns them.
+    #[inline(always)]
+    pub(crate) fn bytes(&self) -> &[u8]
+        ensures packed { IsPacked T.unpack T.WIDTH result.now }
+        ensures values { self.now ≡ values_of T.unpack T.WIDTH result.now }
+    {
+        self.store.bytes()
+    }
+
+    /// How many values there are.
+    #[inline]
+    pub fn len(&self) -> usize
+        ensures { result ≡ length self.now }
+    {
+        cells::len::<T>(self.bytes())
+    }
+
+    /// Whether there is no value.
+    #[inline]
+    pub fn is_empty(&self) -> bool
+        ensures { IsTrue result ↔ (self.now ≡ []) }
+    {
+        self.len() == 0
+    }
+
+    /// The value at place `i`, counted from 0. `None` at or past the end.
+    #[inline]
+    pub fn get(&self, i: usize) -> Option<T>
+        ensures { result ≡ slice_get self.now i }
+    {
+        cells::get(self.bytes(), i)
+    }
+
+    /// The first value. `None` where there is none.
+    #[inline]
+    pub fn first(&self) -> Option<T>
+        ensures { result ≡ slice_get self.now 0 }
+    {
+        self.get(0)
+    }
+
+    /// The last value. `None` where there is none.
+    #[inline]
+    pub fn last(&self) -> Option<T>
+        ensures { result ≡ slice_get self.now (length self.now - 1) }
+    {
+        let len = self.len();
+        if len == 0 { None } else { self.get(len - 1) }
+    }
+
+    /// The values, one after another.
+    #[inline]
+    pub fn iter(&self) -> Iter<'_, T>
+        ensures items { result ≡ self.now }
+        ensures bound { length result < 2 ^ 64 }
+    {
+        Iter::from_packed(self.bytes())
+    }
+
+    /// The place of a value that is equal to `x`, as `Ok`, in a vector whose values ascend. Where several are
+    /// equal, the place of any of them: in `[10, 20, 30]` the place of 20 is `Ok(1)`, and that of 25 is
+    /// `Err(2)`.
+    ///
+    /// # Errors
+    /// The place at which `x` could be inserted so that the values still ascend, where none is equal to it.
+    pub fn binary_search(&self, x: &T) -> Result<usize, usize>
+    where
+        T: Ord,
+        ensures bound { IsSearchInRange result (length self.now) }
+        ensures position { IsBinarySearchResult (λ y. T.cmp y x.now) self.now result }
+    {
+        cells::binary_search(self.bytes(), x)
+    }
+
+    /// The packed bytes of the values, one after another: as they are kept, borrowed or owned.
+    ///
+    /// Where each value of the type has one encoding, as in all types of this crate, these are the bytes that
+    /// the values pack to. For a type of which several bytes are one value they are bytes that give the
+    /// values.
+    #[inline]
+    pub fn as_bytes(&self) -> &[u8]
+        ensures packed { IsPacked T.unpack T.WIDTH result.now }
+        ensures values { self.now ≡ values_of T.unpack T.WIDTH result.now }
+        ensures canonical { IsCanonical T.pack T.unpack T.WIDTH → result.now ≡ flat_map T.pack self.now }
+    {
+        self.store.bytes()
+    }
+
+    /// A view of the vector.
+    #[inline]
+    pub fn as_slice(&self) -> ZeroSlice<'_, T>
+        ensures { slice_values result ≡ self.now }
+    {
+        ZeroSlice::from_packed(self.bytes())
+    }
+}
+
+/// What a vector can become.
+impl<'a, T: AsULE> ZeroVec<'a, T> {
+    ghost use Rattle.icu_zerovec.specs.Canonical.{IsCanonical};
+    ghost use Rattle.icu_zerovec.specs.Cells.{values_of, IsFault, IsCell, IsConverted};
+    ghost use Rattle.std.specs.List.{flat_map};
+
+    /// The same bytes as values of another type of the same width: borrowed or owned as they were, none of
+    /// them copied.
+    ///
+    /// Each vector of `char` is one of `PotentialCodePoint`, and the other way round the cells decide. The
+    /// clauses speak of some bytes that give the values, which are known exactly where each value has one
+    /// encoding. That they are the vector's own, and stay where they are, is in no clause.
+    ///
+    /// # Errors
+    /// `UleError::Cell` with the first cell that is no value of the other type. The vector is then given up.
+    pub fn try_into_converted<P: AsULE>(self) -> Result<ZeroVec<'a, P>, UleError>
+        requires { T.WIDTH ≡ P.WIDTH }
+        ensures bytes { IsConverted T.unpack T.WIDTH P.unpack P.WIDTH self.entry result }
+        ensures ok { IsCanonical T.pack T.unpack T.WIDTH →
+            IfOk result (λ v. v ≡ values_of P.unpack P.WIDTH (flat_map T.pack self.entry)) }
+        ensures keeps { IsCanonical T.pack T.unpack T.WIDTH → IsCanonical P.pack P.unpack P.WIDTH →
+            IfOk result (λ v. flat_map P.pack v ≡ flat_map T.pack self.entry) }
+        ensures err { IsCanonical T.pack T.unpack T.WIDTH → IfErr result (IsFault P.unpack P.WIDTH (flat_map T.pack self.entry)) }
+        ensures cell { IfErr result IsCell }
+    {
+        let ZeroVec { store, of: _ } = self;
+        cells::test::<P>(store.bytes())?;
+        Ok(ZeroVec {
+            store,
+            of: PhantomData,
+        })
+    }
+}
+
+/// The list of the values, as a slice of them is shown: `[1, 2]`.
+impl<'a, T: AsULE + fmt::Debug> fmt::Debug for ZeroVec<'a, T> {
+    fn fmt<W: fmt::Write>(&self, f: &mut fmt::Formatter<W>) -> fmt::Result {
+        f.debug_list().entries(self.iter()).finish()
+    }
+}

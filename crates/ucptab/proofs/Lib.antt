@@ -1,0 +1,7 @@
+pub mod Bytes
+pub mod InputLines
+pub mod Powers
+pub mod Printed
+pub mod RowSteps
+pub mod WordSteps
+mod Asked

@@ -1,0 +1,2 @@
+pub mod TableText
+pub mod Words

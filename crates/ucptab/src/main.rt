@@ -1,0 +1,97 @@
+//! Prints what a code point trie answers, made from the rows that standard input holds.
+#![tactic(auto)]
+
+ghost use Rattle.std.specs.Prelude.{◌≡◌, ◌<◌};
+
+mod table;
+
+use crate::table::fault::TableError;
+use crate::table::streams::{Failed, Sink, Source};
+use crate::table::text::write_fault;
+use crate::table::{run_words, write_usage};
+use icu_collections::codepointtrie::Steps;
+use std::env;
+use std::io::{Read, Write};
+use std::marker::Brand;
+use std::process::ExitCode;
+use std::sync::ledger::{Blank, Ledger};
+
+/// A reader, with a count of its failures.
+#[derive(Drop)]
+struct Input<R: Read, L: Ledger> {
+    reader: R,
+    failures: Steps<L>,
+}
+
+impl<R: Read, L: Ledger> Source for Input<R, L> {
+    ghost remaining = { λ input. R.remaining input.reader };
+
+    ghost failures = { λ input. input.failures };
+
+    fn read(&mut self, buf: &mut [u8]) -> Result<usize, Failed> {
+        match self.reader.read(buf) {
+            Ok(n) => Ok(n),
+            Err(_) => {
+                self.failures.tick();
+                Err(Failed)
+            }
+        }
+    }
+}
+
+/// A writer, with a count of its failures.
+#[derive(Drop)]
+struct Output<W: Write, L: Ledger> {
+    writer: W,
+    failures: Steps<L>,
+}
+
+impl<W: Write, L: Ledger> Sink for Output<W, L> {
+    ghost contents = { λ output. W.contents output.writer };
+
+    ghost failures = { λ output. output.failures };
+
+    fn write(&mut self, buf: &[u8]) -> Result<(), Failed> {
+        match self.writer.write_all(buf) {
+            Ok(()) => Ok(()),
+            Err(_) => {
+                self.failures.tick();
+                Err(Failed)
+            }
+        }
+    }
+}
+
+/// Runs the program over standard input and output, with a ledger for the failures of each.
+/// It answers the status.
+fn status<L: Ledger, K: Ledger>(rt: &HostRuntime, reads: Blank, writes: Blank) -> u8
+    requires name { reads.name ≡ L.name }
+    requires parts { reads.parts ≡ L.parts }
+    requires some { 0 < reads.parts }
+    requires other_name { writes.name ≡ K.name }
+    requires other_parts { writes.parts ≡ K.parts }
+    requires other_some { 0 < writes.parts }
+{
+    let mut reader = Input {
+        reader: rt.stdin(),
+        failures: Steps::<L>::new(reads),
+    };
+    let mut writer = Output {
+        writer: rt.stdout(),
+        failures: Steps::<K>::new(writes),
+    };
+    let Ok(args) = env::args(rt) else {
+        write_usage(&mut writer);
+        return 2;
+    };
+    let Ok(words) = args.skip(1).collect(rt.alloc()) else {
+        let _ = write_fault(&mut writer, TableError::Memory);
+        return 1;
+    };
+    let words: Vec<String> = words;
+    run_words(rt.alloc(), &words, &mut reader, &mut writer)
+}
+
+fn main(rt: HostRuntime) -> ExitCode {
+    ExitCode::from(status::<Brand, Brand>(&rt, Blank::new(1), Blank::new(1)))
+}

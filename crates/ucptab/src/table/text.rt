@@ -1,0 +1,70 @@
+//! The lines that are printed.
+ghost use Rattle.std.specs.Prelude.{◌≡◌, ℕ, ◌+◌, ◌<◌, ◌^◌, [], ◌∷◌, ◌++◌, IfOk, IfErr, decimal, string_bytes};
+ghost use Rattle.std.specs.Io.KnownBytes.{Appends};
+ghost use Rattle.ucptab.specs.TableText.{answer_line, answers_text, fault_text};
+
+use crate::table::fault::TableError;
+use crate::table::streams::{Failed, Sink};
+use std::alloc::{AllocError, Global};
+
+/// The line of one asked number: the number, in at least four hexadecimal digits, and its answer.
+#[tactic(auto, using(crate::proofs::Printed::hex_written), unfolding(crate::specs::TableText::answer_line))]
+fn push_answer(text: &mut String, asked: u32, answer: u32) -> Result<(), AllocError>
+    ensures { IfOk result (λ _. string_bytes text.new ≡ string_bytes text.old ++ answer_line asked answer) }
+{
+    writeln!(text, "{asked:04X};{answer}")
+}
+
+/// The lines of the asked numbers, in order, each with what `answer` gives for it.
+pub fn answers_text<F: Fn(u32) -> u32>(
+    alloc: Global,
+    asked: &[u32],
+    answer: F,
+) -> Result<String, AllocError>
+    requires { F.IsAlwaysCallable answer }
+    ensures { (given : ℕ → ℕ) → ((n m : ℕ) → n < 2 ^ 32 → F.post answer n m → m ≡ given n)
+        → IfOk result (λ text. string_bytes text ≡ answers_text given asked.now) }
+{
+    let mut text = String::new(alloc);
+    for n in asked {
+        push_answer(&mut text, *n, answer(*n))?;
+    }
+    Ok(text)
+}
+
+/// Writes a number in decimal digits. It takes no memory.
+#[tactic(auto, using(crate::proofs::Printed::printing))]
+fn write_decimal<W: Sink>(sink: &mut W, n: u64) -> Result<(), Failed>
+    ensures text { IfOk result (λ _. Appends (W.contents sink.old) (W.contents sink.new) (decimal n)) }
+    ensures counted { IfOk result (λ _. W.failures sink.new ≡ W.failures sink.old) }
+    ensures failed { IfErr result (λ _. W.failures sink.new ≡ W.failures sink.old + 1) }
+{
+    if n < 10 {
+        return sink.write(&[b'0' + n as u8]);
+    }
+    write_decimal(sink, n / 10)?;
+    sink.write(&[b'0' + (n % 10) as u8])
+}
+
+/// Writes the line of a fault. It takes no memory.
+#[tactic(auto, using(crate::proofs::Printed::printing))]
+pub fn write_fault<W: Sink>(sink: &mut W, fault: TableError) -> Result<(), Failed>
+    ensures text { IfOk result
+        (λ _. Appends (W.contents sink.old) (W.contents sink.new) (fault_text fault ++ 10 ∷ [])) }
+    ensures counted { IfOk result (λ _. W.failures sink.new ≡ W.failures sink.old) }
+    ensures failed { IfErr result (λ _. W.failures sink.new ≡ W.failures sink.old + 1) }
+{
+    match fault {
+        TableError::Row(number, fault) => {
+            sink.write(b"line ")?;
+            write_decimal(sink, number)?;
+            sink.write(b": ")?;
+            sink.write(fault.text().as_bytes())?;
+        }
+        TableError::TooLarge => sink.write(b"too large")?,
+        TableError::Memory => sink.write(b"no memory")?,
+        TableError::Read => sink.write(b"read fault")?,
+        TableError::Write => sink.write(b"write fault")?,
+    }
+    sink.write(b"\n")
+}
