@@ -1,7 +1,7 @@
 //! Look-up by the format of the trie.
 ghost use Rattle.std.specs.Prelude.{◌≡◌, ℕ, ◌+◌, ◌^◌, ◌<◌, ◌≤◌, ◌/◌, ◌%◌, ◌-◌, List, Some, None, length, slice_get, IfSome};
 ghost use Rattle.std.specs.Option.{option_and_then};
-ghost use Rattle.icu_trie.specs.Format.{answer, fast_limit, place, index2_cell, offset_in_block, long_offset, small_offset};
+ghost use Rattle.icu_trie.specs.Format.{answer, fast_limit, index2_cell, offset_in_block, long_offset, small_offset};
 
 use crate::cells::Cells;
 use crate::header::{CodePointTrieHeader, TrieType};
@@ -78,29 +78,6 @@ fn small_place_of<T, C: Cells<T>>(trie_type: TrieType, cells: &mut C, c: u32) ->
     Some(offset as usize + (c & 15) as usize)
 }
 
-/// The place in the data of the cell of `c`, which may lie outside them. `None` above 0x10FFFF and where a
-/// cell of the index is missing.
-#[inline(always)]
-fn place_of<T, C: Cells<T>>(header: &CodePointTrieHeader, cells: &mut C, c: u32) -> Option<usize>
-    ensures place { result ≡ place header.now (C.index cells.old) (length (C.values cells.old)) c }
-    ensures reads { C.reads cells.new ≤ C.reads cells.old + 4 }
-    ensures same_index { C.index cells.new ≡ C.index cells.old }
-    ensures same_values { C.values cells.new ≡ C.values cells.old }
-{
-    // The fast limit first: most code points of most texts lie below it.
-    if c < fast_limit_of(header.trie_type) {
-        let offset = cells.index_cell((c >> 6) as usize)?;
-        return Some(offset as usize + (c & 63) as usize);
-    }
-    if c > 0x10FFFF {
-        return None;
-    }
-    if c >= header.high_start {
-        return cells.data_len().checked_sub(2);
-    }
-    small_place_of(header.trie_type, cells, c)
-}
-
 /// The cell of `c`, any number of 32 bits, by the format of the trie (UCPTrie), in at most five reads. `None`
 /// stands for the error value: above 0x10FFFF, and where a cell of index or data is missing.
 #[inline(always)]
@@ -111,6 +88,19 @@ pub fn look_up<T, C: Cells<T>>(header: &CodePointTrieHeader, cells: &mut C, c: u
     ensures same_index { C.index cells.new ≡ C.index cells.old }
     ensures same_values { C.values cells.new ≡ C.values cells.old }
 {
-    let place = place_of(header, cells, c)?;
+    // The fast limit first: most code points of most texts lie below it. Each case reads its own cell of the
+    // data, since one read for all of them would cost the fast path a test and a jump more.
+    if c < fast_limit_of(header.trie_type) {
+        let offset = cells.index_cell((c >> 6) as usize)?;
+        return cells.data_cell(offset as usize + (c & 63) as usize);
+    }
+    if c > 0x10FFFF {
+        return None;
+    }
+    if c >= header.high_start {
+        let high_cell = cells.data_len().checked_sub(2)?;
+        return cells.data_cell(high_cell);
+    }
+    let place = small_place_of(header.trie_type, cells, c)?;
     cells.data_cell(place)
 }

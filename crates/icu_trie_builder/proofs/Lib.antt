@@ -1,6 +1,7 @@
 pub mod Windows
 pub mod Counts
 pub mod Different
+mod FewWrites
 pub mod ChainedLemmas
 pub mod Placing
 pub mod Growing

@@ -1,11 +1,11 @@
 //! A map becomes a trie: its values as numbers, the trie of the numbers, and the values of its cells.
-ghost use Rattle.std.specs.Prelude.{◌≡◌, ℕ, ◌<◌, List, length, slice_index, slice_index_or, Err, None, IfOk, IfErr, is_some, map};
-ghost use Rattle.std.specs.List.{AllPass};
+ghost use Rattle.std.specs.Prelude.{◌≡◌, ◌≢◌, ℕ, ◌<◌, ◌≤◌, List, length, slice_index, slice_index_or, Err, None, IfOk, IfErr, is_some, map};
+ghost use Rattle.std.specs.List.{AllPass, count_by};
 ghost use Rattle.icu_trie.specs.Parts.{fault};
 ghost use Rattle.icu_trie_builder.specs.Bounds.{IsTooLarge};
 ghost use Rattle.icu_trie_builder.specs.CodePointMap.{map_value, cell_value, whole_cells, IsBuilder, IsWhole};
 ghost use Rattle.icu_trie_builder.specs.MapAnswers.{AnswersMap, IsWellBuilt, AreValuesOf};
-ghost use Rattle.icu_trie_builder.specs.Writes.{value_after};
+ghost use Rattle.icu_trie_builder.specs.Writes.{is_accepted, value_after};
 ghost use Rattle.icu_trie_builder.specs.declared.error.BuildError.TheVariants.{TooLarge};
 
 use crate::builder::{CODE_POINTS, CodePointTrieBuilder};
@@ -134,7 +134,7 @@ impl<T: TrieValue> CodePointTrieBuilder<T> {
 ///
 /// # Errors
 /// `BuildError::TooLarge` and `BuildError::Memory` as for [`CodePointTrieBuilder::build`]; `Memory` too where
-/// a write was refused, and `TooLarge` only where none was.
+/// a write was refused, and `TooLarge` only where none was, and never after at most 256 accepted writes.
 pub fn build_from_writes<T: TrieValue>(
     alloc: Global,
     default: T,
@@ -146,6 +146,7 @@ pub fn build_from_writes<T: TrieValue>(
     ensures trie_type { IfOk result (λ t. t.header.trie_type ≡ trie_type) }
     ensures built { IfOk result (IsWellBuilt T.of_number (λ c. T.number (value_after T.eq default writes.now default c))) }
     ensures too_large { result ≡ Err TooLarge → IsTooLarge (λ c. T.number (value_after T.eq default writes.now default c)) }
+    ensures few { count_by (is_accepted T.eq default) writes.now ≤ 256 → result ≢ Err TooLarge }
 {
     let mut builder = CodePointTrieBuilder::new(alloc, default, error, trie_type);
     if builder.apply(writes).is_err() {

@@ -152,9 +152,10 @@ pub fn run_words<S: Source, W: Sink>(
     // For that nothing is read.
     ensures fault_line { result ≡ 1 → W.failures writer.new ≡ W.failures writer.old
         → IfSome (arguments_of (map string_bytes words.now)) (λ a. (fault : TableError)
+        × (fault ≢ WriteFault
         × (HasCause a.default (S.remaining reader.old) (S.remaining reader.new)
         (S.failures reader.old) (S.failures reader.new) fault
-        × Appends (W.contents writer.old) (W.contents writer.new) (fault_text fault ++ 10 ∷ []))) }
+        × Appends (W.contents writer.old) (W.contents writer.new) (fault_text fault ++ 10 ∷ [])))) }
     ensures usage_line { result ≡ 2 → W.failures writer.new ≡ W.failures writer.old
         → Appends (W.contents writer.old) (W.contents writer.new) USAGE.now }
     ensures unread { result ≡ 2 → reader.new ≡ reader.old }

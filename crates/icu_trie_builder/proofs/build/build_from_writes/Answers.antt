@@ -4,6 +4,7 @@ use Rattle.icu_trie_builder.specs.CodePointMap.{IsAfter, map_value}
 use Rattle.icu_trie_builder.specs.Writes.{value_after}
 use Rattle.icu_trie_builder.specs.MapAnswers.{IsWellBuilt}
 use Rattle.icu_trie_builder.proofs.BuilderLemmas.{from_ok}
+use Rattle.icu_trie_builder.proofs.FewWrites.{few_too_large}
 use Rattle.icu_trie_builder.proofs.TypedLemmas.{IsWellBuilt-alike}
 use Rattle.icu_trie_builder.proofs.SameMapLemmas.{IsTooLarge-alike}
 use Rattle.icu_trie_builder.proofs.build.build_from_writes.Goals as goal
@@ -34,3 +35,6 @@ returns-clause-too_large g c = λ e.
     IsTooLarge-alike (λ k. g.T.TrieValue.number (map_value c.apply.new.self k))
     (λ k. g.T.TrieValue.number (value_after g.T.PartialEq.eq c.args.default c.args.writes.now c.args.default k)) (same g c)
     (c.build.ensures.too_large e)
+
+pub returns-clause-few : goal.returns-clause-few
+returns-clause-few g c few e = few_too_large g.T.PartialEq.eq g.T.TrieValue.number c.args.default c.args.writes.now few (returns-clause-too_large g c e)

@@ -1,0 +1,40 @@
+#!/bin/sh
+# Measures look-ups and builds beside ICU4C's, on each TABLE of rows HEX..HEX;N and HEX;N. README.md says what
+# is printed.
+# Usage: bench/look_ups/run.sh TABLE..
+set -eu
+here=$(dirname -- "$(readlink -f -- "$0")")
+root=$here/../..
+crates="icu_zerovec icu_trie icu_trie_builder"
+
+stop() { echo "look_ups: $1" >&2; exit 70; }
+[ $# -gt 0 ] || stop "usage: run.sh TABLE.."
+command -v rt >/dev/null || stop "no rt: put the kit's folder bin on PATH"
+command -v gcc >/dev/null || stop "no gcc"
+echo '#include <unicode/ucptrie.h>' | gcc -E - >/dev/null 2>&1 || stop "no ICU: install libicu-dev"
+kit=$(dirname -- "$(dirname -- "$(readlink -f -- "$(command -v rt)")")")
+
+# The exporting crate is no part of the repository, so it is built in a copy.
+work=$(mktemp -d)
+trap 'rm -rf "$work"' EXIT
+trap 'exit 130' INT TERM
+mkdir -p "$work/crates/look_ups/src"
+cp "$here/look_ups.rt.txt" "$work/crates/look_ups/src/lib.rt"
+[ ! -f "$root/HANDLES" ] || cp "$root/HANDLES" "$work"
+for crate in $crates; do
+    cp -r "$root/crates/$crate" "$work/crates"
+    grep "^$crate *:" "$root/crates.txt" >>"$work/crates.txt" || stop "crates.txt does not list $crate"
+done
+echo "look_ups staticlib: $crates" >>"$work/crates.txt"
+
+echo "look_ups: proves and builds; from a clean clone this takes some minutes" >&2
+if ! (cd "$work/crates/look_ups" && rt lib) >"$work/log" 2>&1; then
+    tail -n 20 "$work/log" >&2
+    stop "rt lib failed"
+fi
+library=$work/crates/look_ups/out/liblook_ups.a
+gcc -O3 -o "$work/bench" "$here/bench.c" "$library" "$kit/c/liblibc_c.a" -licuuc
+"$work/bench" "$@"
+if [ -n "${LOOK_UPS_CODE:-}" ]; then
+    objdump -d --no-show-raw-insn "$library" | awk '/add_values.*>:$/, /ret/' >"$LOOK_UPS_CODE"
+fi
