@@ -2,6 +2,7 @@
 //! happy path, and refused memory.
 
 mod built_tries;
+mod getters;
 mod packed_vectors;
 mod refused_memory;
 mod refused_parts;

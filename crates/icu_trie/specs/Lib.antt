@@ -3,3 +3,4 @@ pub mod Parts
 pub mod Coherence
 pub mod Blocks
 pub mod Numbers
+pub mod SignedNumbers

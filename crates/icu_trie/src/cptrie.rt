@@ -1,5 +1,6 @@
 //! The trie over packed vectors.
 ghost use Rattle.std.specs.Prelude.{◌≡◌, ℕ, ◌<◌, ◌≤◌, List, length, Some, None, IfOk, IfErr, is_some};
+ghost use Rattle.std.specs.Option.{option_map};
 ghost use Rattle.icu_trie.specs.Format.{answer};
 ghost use Rattle.icu_trie.specs.Parts.{fault, last_cell, passes_data, fast_index_len};
 ghost use Rattle.icu_zerovec.specs.Slice.{slice_values};
@@ -9,7 +10,8 @@ use crate::error::CodePointTrieError;
 use crate::header::{CodePointTrieHeader, TrieType};
 use crate::lookup::look_up;
 use crate::value::TrieValue;
-use icu_zerovec::{ZeroSlice, ZeroVec};
+use icu_zerovec::{MemoryError, ZeroSlice, ZeroVec};
+use std::alloc::Global;
 use std::marker::{Brand, Model};
 use std::sync::ledger::{Blank, Ledger};
 
@@ -125,9 +127,9 @@ fn is_number_of_value<T: TrieValue>(number: u32) -> bool
 /// answers.
 #[derive(Debug, Drop)]
 pub struct CodePointTrie<'trie, T: TrieValue> {
-    header: CodePointTrieHeader,
-    index: ZeroVec<'trie, u16>,
-    data: ZeroVec<'trie, T>,
+    pub(crate) header: CodePointTrieHeader,
+    pub(crate) index: ZeroVec<'trie, u16>,
+    pub(crate) data: ZeroVec<'trie, T>,
     // The last cell of the data, kept beside them since every look-up may need it.
     error_value: T,
 }
@@ -191,6 +193,62 @@ impl<'trie, T: TrieValue> CodePointTrie<'trie, T> {
         answer.unwrap_or(self.error_value)
     }
 
+    /// The value of a character.
+    #[inline]
+    pub fn get(&self, c: char) -> T
+        ensures { Some result ≡ trie_value self.now c }
+    {
+        self.get32(c as u32)
+    }
+
+    /// The value of a code point of the basic multilingual plane, surrogates among them.
+    #[inline]
+    pub fn get16(&self, bmp: u16) -> T
+        ensures { Some result ≡ trie_value self.now bmp }
+    {
+        self.get32(u32::from(bmp))
+    }
+
+    /// The value of a code point from 0x10000 on. As `get32`, and the same below.
+    #[inline]
+    pub fn get32_supplementary(&self, supplementary: u32) -> T
+        ensures { Some result ≡ trie_value self.now supplementary }
+    {
+        self.get32(supplementary)
+    }
+
+    /// The number of the value of the code point `c`: what `get32` answers, by `to_u32`.
+    #[inline]
+    pub fn get32_u32(&self, c: u32) -> u32
+        ensures { Some result ≡ option_map T.number (trie_value self.now c) }
+    {
+        self.get32(c).to_u32()
+    }
+
+    /// The header, and index and data lent: what the trie was made of by `try_new`.
+    pub fn parts(&self) -> (CodePointTrieHeader, ZeroSlice<'_, u16>, ZeroSlice<'_, T>)
+        ensures header { result.0 ≡ self.now.header }
+        ensures index { slice_values result.1 ≡ self.now.index }
+        ensures values { slice_values result.2 ≡ self.now.values }
+    {
+        (self.header, self.index.as_slice(), self.data.as_slice())
+    }
+
+    /// An equal trie that owns its index and its data.
+    ///
+    /// # Errors
+    /// `MemoryError` where no memory was found.
+    pub fn try_clone(&self, alloc: Global) -> Result<CodePointTrie<'static, T>, MemoryError>
+        ensures { IfOk result (λ trie. trie ≡ self.now) }
+    {
+        Ok(CodePointTrie {
+            header: self.header,
+            index: self.index.try_clone(alloc)?,
+            data: self.data.try_clone(alloc)?,
+            error_value: self.error_value,
+        })
+    }
+
     /// What a look-up above 0x10FFFF answers: the last cell of the data.
     #[inline]
     pub fn error_value(&self) -> T
@@ -199,7 +257,8 @@ impl<'trie, T: TrieValue> CodePointTrie<'trie, T> {
         self.error_value
     }
 
-    /// The value whose number the header keeps as the null value. In a built trie mostly the most common one.
+    /// The value whose number the header keeps as the null value. Which one that is in a built trie is left
+    /// open.
     pub fn null_value(&self) -> T
         ensures { T.of_number self.now.header.null_value ≡ Some result }
     {

@@ -10,6 +10,7 @@
 
 pub mod cells;
 pub mod cptrie;
+mod equality;
 pub mod error;
 pub mod header;
 pub mod impl_const;

@@ -1,6 +1,8 @@
 //! The values of a trie.
 ghost use Rattle.std.specs.Prelude.{◌≡◌, ℕ, ◌^◌, ◌↔◌, IsTrue, IfOk, OnErr, Option, Some, None};
+ghost use Rattle.std.specs.Int.{w8, w16, w32, cast_unsigned};
 ghost use Rattle.icu_trie.specs.Numbers.{fitting};
+ghost use Rattle.icu_trie.specs.SignedNumbers.{signed_fitting, character};
 
 use icu_zerovec::ule::AsULE;
 use thiserror::Error;
@@ -102,6 +104,95 @@ impl TrieValue for u32 {
     }
 
     ghost number_gives_back = { fitting-small (2 ^ 32) };
+
+    ghost equal_by_number = { λ x y _ _. equal_numbers x y };
+}
+
+impl TrieValue for i8 {
+    ghost use Rattle.icu_trie.specs.SignedNumbers.{back_i8, equal_i8};
+
+    type TryFromU32Error = NotAValue;
+
+    ghost number = { cast_unsigned w32 };
+
+    ghost of_number = { signed_fitting (2 ^ 7) };
+
+    fn to_u32(self) -> u32 {
+        i32::from(self).cast_unsigned()
+    }
+
+    fn try_from_u32(i: u32) -> Result<Self, NotAValue> {
+        i8::try_from(i.cast_signed()).map_err(|_| NotAValue)
+    }
+
+    ghost number_gives_back = { back_i8 };
+
+    ghost equal_by_number = { equal_i8 };
+}
+
+impl TrieValue for i16 {
+    ghost use Rattle.icu_trie.specs.SignedNumbers.{back_i16, equal_i16};
+
+    type TryFromU32Error = NotAValue;
+
+    ghost number = { cast_unsigned w32 };
+
+    ghost of_number = { signed_fitting (2 ^ 15) };
+
+    fn to_u32(self) -> u32 {
+        i32::from(self).cast_unsigned()
+    }
+
+    fn try_from_u32(i: u32) -> Result<Self, NotAValue> {
+        i16::try_from(i.cast_signed()).map_err(|_| NotAValue)
+    }
+
+    ghost number_gives_back = { back_i16 };
+
+    ghost equal_by_number = { equal_i16 };
+}
+
+impl TrieValue for i32 {
+    ghost use Rattle.icu_trie.specs.SignedNumbers.{back_i32, equal_i32};
+
+    type TryFromU32Error = NotAValue;
+
+    ghost number = { cast_unsigned w32 };
+
+    ghost of_number = { signed_fitting (2 ^ 31) };
+
+    fn to_u32(self) -> u32 {
+        self.cast_unsigned()
+    }
+
+    fn try_from_u32(i: u32) -> Result<Self, NotAValue> {
+        Ok(i.cast_signed())
+    }
+
+    ghost number_gives_back = { back_i32 };
+
+    ghost equal_by_number = { equal_i32 };
+}
+
+impl TrieValue for char {
+    ghost use Rattle.icu_trie.specs.Numbers.{equal_numbers};
+    ghost use Rattle.icu_trie.specs.SignedNumbers.{back_character};
+
+    type TryFromU32Error = NotAValue;
+
+    ghost number = { λ c. c };
+
+    ghost of_number = { character };
+
+    fn to_u32(self) -> u32 {
+        u32::from(self)
+    }
+
+    fn try_from_u32(i: u32) -> Result<Self, NotAValue> {
+        char::from_u32(i).ok_or(NotAValue)
+    }
+
+    ghost number_gives_back = { back_character };
 
     ghost equal_by_number = { λ x y _ _. equal_numbers x y };
 }

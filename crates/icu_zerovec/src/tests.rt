@@ -307,7 +307,7 @@ fn alloc_from_slice_refused(rt: HostRuntime) -> Result<(), Fail> {
         Err(error) => {
             assert_eq!(rt; error, MemoryError);
             assert_eq!(rt; values, [0x1234, 255]);
-            println!(rt; "refused: alloc_from_slice")?;
+            println!(rt; "refused")?;
         }
     }
     Ok(())
@@ -329,7 +329,7 @@ fn push_refused(rt: HostRuntime) -> Result<(), Fail> {
         Ok(numbers) => assert_eq!(rt; numbers.as_slice(), [7].as_slice()),
         Err(error) => {
             assert_eq!(rt; error, MemoryError);
-            println!(rt; "refused: push")?;
+            println!(rt; "refused")?;
         }
     }
     Ok(())
@@ -347,7 +347,7 @@ fn try_clone_refused(rt: HostRuntime) -> Result<(), Fail> {
         Ok(other) => assert!(rt; other == vector),
         Err(error) => {
             assert_eq!(rt; error, MemoryError);
-            println!(rt; "refused: try_clone")?;
+            println!(rt; "refused")?;
         }
     }
     assert_eq!(rt; vector.as_bytes(), [0x34, 0x12, 255, 0].as_slice());
@@ -366,7 +366,7 @@ fn into_owned_refused(rt: HostRuntime) -> Result<(), Fail> {
         Err(error) => {
             assert_eq!(rt; error, MemoryError);
             assert_eq!(rt; bytes, [0x34, 0x12, 255, 0]);
-            println!(rt; "refused: into_owned")?;
+            println!(rt; "refused")?;
         }
     }
     Ok(())
@@ -385,7 +385,7 @@ fn converted_into_owned_refused(rt: HostRuntime) -> Result<(), Fail> {
         Err(error) => {
             assert_eq!(rt; error, MemoryError);
             assert_eq!(rt; bytes, [0x41, 0, 0, 0x42, 0, 0]);
-            println!(rt; "refused: into_owned of a converted vector")?;
+            println!(rt; "refused")?;
         }
     }
     Ok(())

@@ -131,7 +131,24 @@ fn build_from_writes_refused(rt: HostRuntime) -> Result<(), Fail> {
     Ok(())
 }
 
-/// A new builder, ignored writes, look-ups and a trie of lent parts take no memory.
+/// A copy asks for the memory of its index, then for that of its data.
+#[test]
+fn try_clone_refused(rt: HostRuntime) -> Result<(), Fail> {
+    let writes = [Write::One(0x41, 1u8)];
+    let Ok(trie) = build_from_writes(rt.alloc(), 0, 9, TrieType::Small, &writes) else {
+        return Ok(());
+    };
+    println!(rt; "call")?;
+    let answer = trie.try_clone(rt.alloc());
+    println!(rt; "done")?;
+    match answer {
+        Ok(copy) => asked(&rt, &copy, &[(0x41, 1), (0x42, 0), (0x110000, 9)]),
+        Err(MemoryError) => println!(rt; "refused")?,
+    }
+    Ok(())
+}
+
+/// A new builder, ignored writes, look-ups by every getter, and a trie of lent parts take no memory.
 #[test]
 fn look_ups_quiet(rt: HostRuntime) -> Result<(), Fail> {
     println!(rt; "call")?;
@@ -150,7 +167,18 @@ fn look_ups_quiet(rt: HostRuntime) -> Result<(), Fail> {
         trie.error_value(),
         trie.null_value(),
     );
+    let others = (
+        trie.get('A'),
+        trie.get16(0x42),
+        trie.get32_supplementary(0x10000),
+        trie.get32_u32(0x41),
+    );
+    let (header, index, data) = trie.parts();
+    let lent = CodePointTrie::try_new(header, index.as_zerovec(), data.as_zerovec());
+    let same = lent.is_ok_and(|lent| lent == trie);
     println!(rt; "done")?;
     assert_eq!(rt; found, (1, 0, 9, 0));
+    assert_eq!(rt; others, (1, 0, 0, 1));
+    assert!(rt; same);
     Ok(())
 }
