@@ -130,6 +130,8 @@ fn twelve_thousand_small_blocks(rt: HostRuntime) -> Result<(), Fail> {
         &trie,
         &[(0x10000, 0x10000), (0x3EDEF, 0x3EDEF), (0x3EDF0, 0), (0, 0)],
     );
+    let (_, _, data) = trie.parts();
+    assert!(rt; data.len() <= 192_224);
     Ok(())
 }
 

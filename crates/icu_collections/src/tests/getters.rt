@@ -1,7 +1,7 @@
 //! Every getter of a trie, values of every type, parts and copies.
 
 use crate::codepointtrie::{CodePointTrie, TrieType, TrieValue, Write, build_from_writes};
-use std::alloc::{AllocError, Global};
+use std::alloc::Global;
 use std::process::Abort;
 use std::test::Fail;
 
@@ -93,31 +93,17 @@ fn each_getter(rt: HostRuntime) -> Result<(), Fail> {
     Ok(())
 }
 
-/// The writes of 1, 2, .. up to `count` at code points from 0x10000 on that lie `step` apart.
-fn numbered(alloc: Global, step: u32, count: u32) -> Result<Vec<Write<u32>>, AllocError> {
-    let mut writes = Vec::new(alloc);
-    let mut c = 0x10000u32;
-    for number in 1..=count {
-        writes.push(Write::One(c, number))?;
-        c = c.saturating_add(step);
-    }
-    Ok(writes)
-}
-
-/// The sizes of maps with as many different blocks as may not be refused.
+/// Of 800 different blocks of 512 values each a map is not refused, and its data stay small.
 #[test]
-fn sizes(rt: HostRuntime) -> Result<(), Fail> {
-    let blocks_of_512 = numbered(rt.alloc(), 512, 799)?;
-    let trie = built(&rt, rt.alloc(), (0, 9), TrieType::Fast, &blocks_of_512);
+fn eight_hundred_blocks(rt: HostRuntime) -> Result<(), Fail> {
+    let mut writes = Vec::new(rt.alloc());
+    for k in 0..799u32 {
+        writes.push(Write::One(0x10000 + 512 * k, k + 1))?;
+    }
+    let trie = built(&rt, rt.alloc(), (0, 9), TrieType::Fast, &writes);
     assert_eq!(rt; trie.get32(0x73C00), 799);
     let (_, _, data) = trie.parts();
     assert!(rt; data.len() <= 13_024);
-
-    let blocks_of_16 = numbered(rt.alloc(), 16, 11_999)?;
-    let trie = built(&rt, rt.alloc(), (0, 9), TrieType::Fast, &blocks_of_16);
-    assert_eq!(rt; trie.get32(0x10000 + 16 * 11_998), 11_999);
-    let (_, _, data) = trie.parts();
-    assert!(rt; data.len() <= 192_224);
     Ok(())
 }
 
