@@ -1,4 +1,4 @@
-mod CellsLemmas
+pub mod CellsLemmas
 mod Searches
 mod SameLemmas
 pub mod Converted

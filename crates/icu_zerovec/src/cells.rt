@@ -1,5 +1,5 @@
 //! The work on packed bytes: cells of `WIDTH` bytes each, one for each value.
-ghost use Rattle.std.specs.Prelude.{◌≡◌, ◌/◌, ◌<◌, ◌≤◌, [], ◌∷◌, length, slice_get, OnOk, IfErr, IfOk, IfSome, MatchOption, Some, fold, false, take};
+ghost use Rattle.std.specs.Prelude.{◌≡◌, ◌*◌, ◌/◌, ◌^◌, ◌<◌, ◌≤◌, [], ◌∷◌, length, slice_get, OnOk, IfErr, IfOk, IfSome, MatchOption, Some, fold, false, take};
 ghost use Rattle.std.specs.Bool.{MatchBool};
 ghost use Rattle.std.specs.Cmp.Lexicographic.{pointwise};
 ghost use Rattle.std.specs.Hash as fed;
@@ -14,7 +14,8 @@ use std::hash::Hasher;
 /// How many whole cells there are.
 #[inline(always)]
 pub(crate) fn count<T: AsULE>(bytes: &[u8]) -> usize
-    ensures { result ≡ length bytes.now / T.WIDTH }
+    ensures count { result ≡ length bytes.now / T.WIDTH }
+    ensures bound { result * T.WIDTH < 2 ^ 63 }
 {
     bytes.len() / T::WIDTH
 }
@@ -23,7 +24,8 @@ pub(crate) fn count<T: AsULE>(bytes: &[u8]) -> usize
 #[inline(always)]
 pub(crate) fn len<T: AsULE>(bytes: &[u8]) -> usize
     requires { IsPacked T.unpack T.WIDTH bytes.now }
-    ensures { result ≡ length (values_of T.unpack T.WIDTH bytes.now) }
+    ensures len { result ≡ length (values_of T.unpack T.WIDTH bytes.now) }
+    ensures bound { result * T.WIDTH < 2 ^ 63 }
 {
     count::<T>(bytes)
 }

@@ -1,5 +1,5 @@
 //! Views of packed vectors, with the same reads.
-ghost use Rattle.std.specs.Prelude.{◌≡◌, ◌-◌, ◌^◌, ◌<◌, [], ◌∷◌, length, slice_get, Option, None, IsTrue, ◌↔◌, ⊤};
+ghost use Rattle.std.specs.Prelude.{◌≡◌, ◌-◌, ◌*◌, ◌^◌, ◌<◌, [], ◌∷◌, length, slice_get, Option, None, IsTrue, ◌↔◌, ⊤};
 ghost use Rattle.std.specs.Cmp.{on_equiv, on_per, partial_equiv_from_equiv};
 ghost use Rattle.std.specs.Cmp.Lexicographic.{pointwise, lists_per, lists_equiv, nat_list_eq_equiv, bytes_decides};
 ghost use Rattle.std.specs.Hash as fed;
@@ -66,7 +66,8 @@ impl<'a, T: AsULE> ZeroSlice<'a, T> {
     /// How many values there are.
     #[inline]
     pub fn len(&self) -> usize
-        ensures { result ≡ length (slice_values self.now) }
+        ensures len { result ≡ length (slice_values self.now) }
+        ensures bound { length (slice_values self.now) * T.WIDTH < 2 ^ 63 }
     {
         cells::len::<T>(self.bytes)
     }

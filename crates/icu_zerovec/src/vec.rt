@@ -1,6 +1,6 @@
 //! Vectors of packed values that lend or own their bytes.
 ghost use Rattle.std.specs.List.Sorted.{IsSearchInRange, IsBinarySearchResult};
-ghost use Rattle.std.specs.Prelude.{◌≡◌, ◌-◌, ◌^◌, ◌<◌, List, [], length, slice_get, Option, None, IfOk, IfErr, IsTrue, ◌↔◌};
+ghost use Rattle.std.specs.Prelude.{◌≡◌, ◌-◌, ◌*◌, ◌^◌, ◌<◌, List, [], length, slice_get, Option, None, IfOk, IfErr, IsTrue, ◌↔◌};
 
 use crate::cells;
 use crate::iter::Iter;
@@ -156,7 +156,8 @@ impl<'a, T: AsULE> ZeroVec<'a, T> {
     /// How many values there are.
     #[inline]
     pub fn len(&self) -> usize
-        ensures { result ≡ length self.now }
+        ensures len { result ≡ length self.now }
+        ensures bound { length self.now * T.WIDTH < 2 ^ 63 }
     {
         cells::len::<T>(self.bytes())
     }
