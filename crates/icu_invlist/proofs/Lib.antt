@@ -1,0 +1,16 @@
+pub mod RunLemmas
+pub mod ValidLists
+pub mod Parity
+pub mod Splices
+pub mod EqualSets
+pub mod PlaceLemmas
+pub mod CheckedLists
+pub mod Toggles
+pub mod Merging
+pub mod Complements
+pub mod MemberLemmas
+pub mod SpanLemmas
+pub mod CharacterLemmas
+pub mod TextLemmas
+pub mod JsonLemmas
+pub mod WrittenSets

@@ -1,0 +1,16 @@
+-- A code point is held if the number of ends below the next one is odd.
+use Rattle.std.proofs.Common.{◌≡◌, ℕ, ◌%◌, List, refl, ap, arith, suc, Bool, true, false, cond}
+use Rattle.std.proofs.lemmas.Bool.{eq-eqb, ne_eqb}
+use Rattle.icu_invlist.specs.InversionList.{holds, is_odd}
+use Rattle.icu_invlist.specs.Places.{below}
+use Rattle.icu_invlist.proofs.RunLemmas.{up_to-below}
+
+pub odd_same : (m n : ℕ) → m % 2 ≡ n % 2 → is_odd m ≡ is_odd n
+odd_same m n e = rw e refl
+
+pub odd_is : (n : ℕ) (v : Bool) → n % 2 ≡ cond v 1 0 → is_odd n ≡ v
+odd_is n true e = eq-eqb _ _ e
+odd_is n false e = ne_eqb _ _ (λ k. omega arith)
+
+pub holds-below : (xs : List ℕ) (c : ℕ) → holds xs c ≡ is_odd (below xs (suc c))
+holds-below xs c = ap is_odd (up_to-below xs c)

@@ -1,0 +1,224 @@
+-- A splice of a list of ends, and what its set holds then.
+use mathlib.Core.Bool.{beq}
+use Rattle.std.proofs.Common.{◌≡◌, ℕ, ◌+◌, ◌-◌, ◌%◌, ◌<◌, ◌≤◌, List, [], ◌∷◌, ◌++◌, length, get_or, take, drop, refl, ap, sym, ◌∙◌, arith, min, zero, suc, add-one, nat_eq, Bool, true, false, cond, not, ◌&&◌, ◌||◌, ◌⊎◌, inl, inr, rules}
+use Rattle.std.proofs.lemmas.Bool.{cases_lt, cases_Bool, cases_eq, cond-true, cond-false, lt-ltb, le-ltb, le-leb, lt-leb, eq-eqb, ne_eqb, eqb-true}
+use Rattle.std.proofs.lemmas.List.{length-append, length-take-le, length-drop, take-append-drop}
+use Rattle.std.specs.List.{splice}
+use Rattle.icu_invlist.specs.InversionList.{holds, is_odd, between, IsValid, limit, Acts, either, without}
+use Rattle.icu_invlist.specs.Places.{IsFilled, Run, below}
+use Rattle.icu_invlist.proofs.RunLemmas.{up_to-below, below-append, below-before, below-past, below-le, below-yes, below-no, run-append, run-front, run-back, run-wider, below-mono, below-zero}
+use Rattle.icu_invlist.proofs.Parity.{odd_same, odd_is, holds-below}
+use Rattle.icu_invlist.proofs.ValidLists.{run_from_valid, valid_from_run}
+
+pub before_range : (s e c : ℕ) → c < s → between s e c ≡ false
+before_range s e c h = rw (lt-leb s c h) refl
+
+pub in_range : (s e c : ℕ) → s ≤ c → c < e → between s e c ≡ true
+in_range s e c h k = rw (le-leb s c h, lt-ltb c e k) refl
+
+pub past_range : (s e c : ℕ) → e ≤ c → between s e c ≡ false
+past_range s e c h = elim (cases_lt c s) [ inl k ↦ before_range s e c k | inr k ↦ rw (le-leb s c k, le-ltb c e h) refl ]
+
+-- the ends that stand before place `below xs c`, and the others
+pub below-split : (xs : List ℕ) (n c : ℕ) → below xs c ≡ below (take n xs) c + below (drop n xs) c
+below-split xs n c = ap (λ (ys : List ℕ). below ys c) (sym (take-append-drop n xs)) ∙ below-append (take n xs) (drop n xs) c
+
+pub length_front : (xs : List ℕ) (c : ℕ) → length (take (below xs c) xs) ≡ below xs c
+length_front xs c = length-take-le (below xs c) xs (below-le xs c)
+
+-- r in place of the ends from s to e
+abbrev pub spliced : List ℕ → ℕ → ℕ → List ℕ → List ℕ
+spliced xs s e r = splice xs (below xs s) (below xs (suc e)) r
+
+module _ (xs : List ℕ) (s e hi : ℕ) (r : List ℕ) (up : Run 0 hi xs) (less : s ≤ e) (within : e < hi) (inside : Run s (suc e) r) where
+  pub spliced-run : Run 0 hi (spliced xs s e r)
+  spliced-run = run-append 0 s hi (take (below xs s) xs) (r ++ drop (below xs (suc e)) xs) (omega arith) (omega arith) (run-front 0 hi s xs up)
+      (run-append s (suc e) hi r (drop (below xs (suc e)) xs) (omega arith) (omega arith) inside (run-back 0 hi (suc e) xs up))
+
+  pub spliced-below : (c : ℕ) → below (spliced xs s e r) c ≡ below (take (below xs s) xs) c + (below r c + below (drop (below xs (suc e)) xs) c)
+  spliced-below c = below-append (take (below xs s) xs) (r ++ drop (below xs (suc e)) xs) c
+      ∙ ap (λ (n : ℕ). below (take (below xs s) xs) c + n) (below-append r (drop (below xs (suc e)) xs) c)
+
+  -- before the range nothing changes
+  pub spliced-before : (c : ℕ) → c < s → below (spliced xs s e r) (suc c) ≡ below xs (suc c)
+  spliced-before c h =
+      let a = spliced-below (suc c) in
+      let b = below-split xs (below xs s) (suc c) in
+      let d = below-before s hi (drop (below xs s) xs) (suc c) (run-back 0 hi s xs up) (omega arith) in
+      let f = below-before s (suc e) r (suc c) inside (omega arith) in
+      let g = below-before (suc e) hi (drop (below xs (suc e)) xs) (suc c) (run-back 0 hi (suc e) xs up) (omega arith) in
+      omega arith
+
+  pub spliced-in : (c : ℕ) → s ≤ c → c < e → below (spliced xs s e r) (suc c) ≡ below xs s + below r (suc c)
+  spliced-in c h k =
+      let a = spliced-below (suc c) in
+      let b = below-past 0 s (take (below xs s) xs) (suc c) (run-front 0 hi s xs up) (omega arith) in
+      let d = length_front xs s in
+      let g = below-before (suc e) hi (drop (below xs (suc e)) xs) (suc c) (run-back 0 hi (suc e) xs up) (omega arith) in
+      omega arith
+
+  pub spliced-past : (c : ℕ) → e ≤ c → below (spliced xs s e r) (suc c) + below xs (suc e) ≡ below xs (suc c) + (below xs s + length r)
+  spliced-past c h =
+      let a = spliced-below (suc c) in
+      let b = below-past 0 s (take (below xs s) xs) (suc c) (run-front 0 hi s xs up) (omega arith) in
+      let d = length_front xs s in
+      let f = below-past s (suc e) r (suc c) inside (omega arith) in
+      let p = below-split xs (below xs (suc e)) (suc c) in
+      let q = below-past 0 (suc e) (take (below xs (suc e)) xs) (suc c) (run-front 0 hi (suc e) xs up) (omega arith) in
+      let t = length_front xs (suc e) in
+      omega arith
+
+  pub spliced-length : length (spliced xs s e r) + below xs (suc e) ≡ length xs + (below xs s + length r)
+  spliced-length =
+      let a = length-append (take (below xs s) xs) (r ++ drop (below xs (suc e)) xs) in
+      let b = length-append r (drop (below xs (suc e)) xs) in
+      let d = length_front xs s in
+      let f = length-drop (below xs (suc e)) xs in
+      let g = below-le xs (suc e) in
+      omega arith
+
+-- at most the two borders
+abbrev pub borders : Bool → Bool → ℕ → ℕ → List ℕ
+borders f g s e = cond f (s ∷ []) [] ++ cond g (e ∷ []) []
+
+borders-run : (f g : Bool) (s e : ℕ) → s < e → Run s (suc e) (borders f g s e)
+borders-run true true s e h = (omega arith, omega arith, (omega arith, omega arith, tt))
+borders-run true false s e h = (omega arith, omega arith, tt)
+borders-run false true s e h = (omega arith, omega arith, tt)
+borders-run false false s e h = tt
+
+borders-length : (f g : Bool) (s e : ℕ) → length (borders f g s e) ≡ cond f 1 0 + cond g 1 0
+borders-length true true s e = refl
+borders-length true false s e = refl
+borders-length false true s e = refl
+borders-length false false s e = refl
+
+borders-in : (f g : Bool) (s e c : ℕ) → s ≤ c → c < e → below (borders f g s e) (suc c) ≡ cond f 1 0
+borders-in true true s e c h k = rw (below-yes s (suc c) (e ∷ []) (omega arith), below-no e (suc c) [] (omega arith)) refl
+borders-in true false s e c h k = below-yes s (suc c) [] (omega arith)
+borders-in false true s e c h k = below-no e (suc c) [] (omega arith)
+borders-in false false s e c h k = refl
+
+module _ (xs : List ℕ) (s e : ℕ) (value f g : Bool) (valid : IsValid xs) (less : s < e) (within : e ≤ limit)
+    (first : (below xs s + cond f 1 0) % 2 ≡ cond value 1 0) (second : (below xs (suc e) + cond g 1 0) % 2 ≡ cond value 1 0) where
+  pub filled-valid : IsValid (spliced xs s e (borders f g s e))
+  filled-valid = valid_from_run _ (spliced-run xs s e (suc limit) (borders f g s e) (run_from_valid xs valid) (omega arith) (omega arith) (borders-run f g s e less))
+      (let a = spliced-length xs s e (suc limit) (borders f g s e) (run_from_valid xs valid) (omega arith) (omega arith) (borders-run f g s e less) in
+      let b = borders-length f g s e in
+      let d = valid.even in omega arith)
+
+  pub filled-holds : IsFilled xs s e value (spliced xs s e (borders f g s e))
+  filled-holds c = elim (cases_lt c s) [
+    | inl h ↦ rw (before_range s e c h, holds-below, holds-below xs c) (ap is_odd (spliced-before xs s e (suc limit) (borders f g s e) (run_from_valid xs valid) (omega arith) (omega arith) (borders-run f g s e less) c h))
+    | inr h ↦ elim (cases_lt c e) [
+      | inl k ↦ rw (in_range s e c h k, holds-below) (odd_is _ value
+          (let a = spliced-in xs s e (suc limit) (borders f g s e) (run_from_valid xs valid) (omega arith) (omega arith) (borders-run f g s e less) c h k in
+          let b = borders-in f g s e c h k in omega arith))
+      | inr k ↦ rw (past_range s e c k, holds-below, holds-below xs c) (odd_same _ _
+          (let a = spliced-past xs s e (suc limit) (borders f g s e) (run_from_valid xs valid) (omega arith) (omega arith) (borders-run f g s e less) c k in
+          let b = borders-length f g s e in omega arith))
+    ]
+  ]
+
+-- whether a border is needed, so that the number of ends before it is odd exactly if the answer from it on is `value`
+abbrev pub needed : ℕ → Bool → Bool
+needed n value = not (beq (nat_eq (n % 2) 1) value)
+
+needed-parity : (n : ℕ) (value : Bool) → (n + cond (needed n value) 1 0) % 2 ≡ cond value 1 0
+needed-parity n value = elim (cases_eq (n % 2) 1) [
+  | inl h ↦ rw (eq-eqb (n % 2) 1 h) (by_value_odd n value h)
+  | inr h ↦ rw (ne_eqb (n % 2) 1 h) (by_value_even n value h)
+]
+  where
+    by_value_odd : (n : ℕ) (value : Bool) → n % 2 ≡ 1 → (n + cond (not (beq true value)) 1 0) % 2 ≡ cond value 1 0
+    by_value_odd n true h = omega arith
+    by_value_odd n false h = omega arith
+
+    by_value_even : (n : ℕ) (value : Bool) → (n % 2 ≡ 1 → ⊥) → (n + cond (not (beq false value)) 1 0) % 2 ≡ cond value 1 0
+    by_value_even n true h = omega arith
+    by_value_even n false h = omega arith
+
+pub filled : (xs ys : List ℕ) (i j s e : ℕ) (value f g : Bool) → IsValid xs → s < e → e ≤ limit → i ≡ below xs s → j ≡ below xs (e + 1)
+    → f ≡ needed i value → g ≡ needed j value → ys ≡ splice xs i j (borders f g s e) → IsValid ys × IsFilled xs s e value ys
+filled xs ys i j s e value f g v h l a b p q y = rw (y, p, q, a, b, add-one) (
+  filled-valid xs s e value _ _ v h l (needed-parity _ value) (needed-parity _ value),
+  filled-holds xs s e value _ _ v h l (needed-parity _ value) (needed-parity _ value),
+)
+
+room_for : (i j : ℕ) (value f g : Bool) → i ≤ j → (i + cond f 1 0) % 2 ≡ cond value 1 0 → (j + cond g 1 0) % 2 ≡ cond value 1 0
+    → (f ≡ true → g ≡ true → i ≡ j → ⊥) → i + (cond f 1 0 + cond g 1 0) ≤ j
+room_for i j value true true h a b n = elim (cases_eq i j) [ inl e ↦ absurd (n refl refl e) | inr e ↦ omega arith ]
+room_for i j value true false h a b n = elim (cases_eq i j) [ inl e ↦ omega arith | inr e ↦ omega arith ]
+room_for i j value false true h a b n = omega arith
+room_for i j value false false h a b n = omega arith
+
+pub room : (xs : List ℕ) (i j s e : ℕ) (value : Bool) → s < e → i ≡ below xs s → j ≡ below xs (e + 1)
+    → (needed i value ≡ true → needed j value ≡ true → i ≡ j → ⊥) → i + (cond (needed i value) 1 0 + cond (needed j value) 1 0) ≤ j
+room xs i j s e value h a b n = room_for i j value _ _ (let k = below-mono xs s (e + 1) (omega arith) in omega arith) (needed-parity i value) (needed-parity j value) n
+
+-- a fill is a union or a difference
+pub union_from_fill : (xs ys : List ℕ) (s e last : ℕ) → last ≡ min e limit → IsFilled xs s last true ys → Acts either xs (between s e) ys
+union_from_fill xs ys s e last l f c h = f c ∙ elim (cases_lt c s) [
+  | inl a ↦ rw (before_range s last c a, before_range s e c a) (sym (or_false (holds xs c)))
+  | inr a ↦ elim (cases_lt c e) [
+    | inl b ↦ rw (in_range s last c a (omega arith), in_range s e c a b) (sym (or_true (holds xs c)))
+    | inr b ↦ rw (past_range s last c (omega arith), past_range s e c b) (sym (or_false (holds xs c)))
+  ]
+]
+  where
+    or_false : (b : Bool) → (b || false) ≡ b
+    or_false true = refl
+    or_false false = refl
+
+    or_true : (b : Bool) → (b || true) ≡ true
+    or_true true = refl
+    or_true false = refl
+
+pub difference_from_fill : (xs ys : List ℕ) (s e last : ℕ) → last ≡ min e limit → IsFilled xs s last false ys → Acts without xs (between s e) ys
+difference_from_fill xs ys s e last l f c h = f c ∙ elim (cases_lt c s) [
+  | inl a ↦ rw (before_range s last c a, before_range s e c a) (sym (and_true (holds xs c)))
+  | inr a ↦ elim (cases_lt c e) [
+    | inl b ↦ rw (in_range s last c a (omega arith), in_range s e c a b) (sym (and_false (holds xs c)))
+    | inr b ↦ rw (past_range s last c (omega arith), past_range s e c b) (sym (and_true (holds xs c)))
+  ]
+]
+  where
+    and_true : (b : Bool) → (b && not false) ≡ b
+    and_true true = refl
+    and_true false = refl
+
+    and_false : (b : Bool) → (b && not true) ≡ false
+    and_false true = refl
+    and_false false = refl
+
+pub no_named : (op : Bool → Bool → Bool) (xs : List ℕ) (s e : ℕ) → ((b : Bool) → op b false ≡ b) → (c : ℕ) → (s ≤ c → c < e → ⊥) → holds xs c ≡ op (holds xs c) (between s e c)
+no_named op xs s e id c h = elim (cases_lt c s) [
+  | inl a ↦ rw (before_range s e c a) (sym (id (holds xs c)))
+  | inr a ↦ elim (cases_lt c e) [
+    | inl b ↦ absurd (h a b)
+    | inr b ↦ rw (past_range s e c b) (sym (id (holds xs c)))
+  ]
+]
+
+pub plain : (n : ℕ) → nat_eq (n % 2) 1 ≡ needed n false
+plain n = same_flag (nat_eq (n % 2) 1)
+  where
+    same_flag : (b : Bool) → b ≡ not (beq b false)
+    same_flag true = refl
+    same_flag false = refl
+
+pub side_room : (xs : List ℕ) (i j s e : ℕ) → IsValid xs → s < e → e ≤ limit → i ≡ below xs s → j ≡ below xs (e + 1) → ((s ≡ 0) ⊎ (e ≡ limit))
+    → i + (cond (nat_eq (i % 2) 1) 1 0 + cond (nat_eq (j % 2) 1) 1 0) ≤ j
+side_room xs i j s e v h w a b side = rw (plain i, plain j) (room xs i j s e false h a b (λ p q r.
+    let x = eqb-true _ _ (plain i ∙ p) in let y = eqb-true _ _ (plain j ∙ q) in elim side [
+      | inl z ↦ absurd (let t : i ≡ 0 = a ∙ rw z (below-zero xs) in omega arith)
+      | inr z ↦ absurd (let t : j ≡ length xs = b ∙ below-past 0 (suc limit) xs (e + 1) (run_from_valid xs v) (omega arith) in let u = v.even in omega arith)
+    ]))
+
+pub emptied : (xs : List ℕ) (s e last c : ℕ) → last ≡ min e limit → last ≤ s → c < limit → holds [] c ≡ (holds xs c && between s e c)
+emptied xs s e last c l h k = let n : between s e c ≡ false = elim (cases_lt c s) [ inl a ↦ before_range s e c a | inr a ↦ past_range s e c (omega arith) ] in
+    holds-below [] c ∙ rw n (sym (and_no (holds xs c)))
+  where
+    and_no : (b : Bool) → (b && false) ≡ false
+    and_no true = refl
+    and_no false = refl

@@ -1,0 +1,19 @@
+use Rattle.std.proofs.Common.{◌≡◌, ◌∙◌, ap, ℕ, ◌<◌, Bool, true, false, refl, List}
+use Rattle.icu_invlist.specs.InversionList.{IsValid, holds, limit, one_of, Acts}
+use Rattle.icu_invlist.proofs.EqualSets.{same_sets}
+use Rattle.icu_invlist.proofs.codepointinvlist.builder.CodePointInversionListBuilder.complement_set.Goals as goal
+
+twice : (a b : Bool) → one_of (one_of a b) b ≡ a
+twice true true = refl
+twice true false = refl
+twice false true = refl
+twice false false = refl
+
+back : (old mid new : List ℕ) (named : ℕ → Bool) → IsValid new → IsValid old → Acts one_of old named mid → Acts one_of mid named new → new ≡ old
+back old mid new named v w first second =
+    same_sets new old v w (λ n h. second n h ∙ (ap (λ z. one_of z (named n)) (first n h) ∙ twice (holds old n) (named n)))
+
+pub returns-clause-twice : goal.returns-clause-twice
+returns-clause-twice c = λ ends v h.
+    back c.self.inside.ends.items c.in_ok-self-inside.field-0.items ends (holds c.args.set.now) v c.self.invariant (rw c.deref.ensures.value at c.in_ok-self-inside.ensures.set) h
+    ∙ c.self.view_is

@@ -1,0 +1,25 @@
+use Rattle.std.proofs.Common.{◌≡◌, ℕ, suc, sym, ◌∙◌, arith, true, false, nat_eq, inl, inr}
+use Rattle.std.proofs.lemmas.Bool.{leb-true, le-leb, eqb-true, cases_lt, both_ways, true≢false}
+use Rattle.icu_invlist.proofs.PlaceLemmas.{covers_all, not_even, not_past, within-place}
+use Rattle.icu_invlist.proofs.codepointinvlist.cpinvlist.CodePointInversionList.covers.Goals as goal
+
+pub end_at-requires : goal.end_at-requires
+end_at-requires c = within-place c.args.self.now c.place_of-place.result _ c.place_of-place.ensures.valid c.place_of-place.ensures.place c.if-place-eq1.true
+
+pub returns-then-place-eq1 : goal.returns-then-place-eq1
+returns-then-place-eq1 c =
+    let l = within-place c.args.self.now c.place_of-place.result _ c.place_of-place.ensures.valid c.place_of-place.ensures.place c.if-place-eq1.true in (
+      λ t. covers_all c.args.self.now c.place_of-place.result c.args.start c.args.end c.place_of-place.ensures.valid c.place_of-place.ensures.place c.if-place-eq1.true l
+          (let e = leb-true _ _ t in omega (arith, c.end_at.ensures.end)),
+      λ h. elim (cases_lt c.end_at.result c.args.end) [
+        | inl k ↦ absurd (not_past c.args.self.now c.place_of-place.result c.args.start c.args.end c.place_of-place.ensures.valid c.place_of-place.ensures.place c.if-place-eq1.true l h
+            (omega (arith, c.end_at.ensures.end)))
+        | inr k ↦ le-leb _ _ k
+      ],
+    )
+
+pub returns-else-place-eq1 : goal.returns-else-place-eq1
+returns-else-place-eq1 c = (
+  λ t. absurd (c.if-place-eq1.false (eqb-true _ _ t)),
+  λ h. absurd (not_even c.args.self.now c.place_of-place.result c.args.start c.args.end c.place_of-place.ensures.place c.requires.rises h c.if-place-eq1.false),
+)

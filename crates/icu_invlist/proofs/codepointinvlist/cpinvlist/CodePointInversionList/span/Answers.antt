@@ -1,0 +1,26 @@
+use Rattle.std.proofs.Common.{◌≡◌, ◌∙◌, ℕ, ap, sym, refl, arith, Bool, true, false, not, length}
+use Rattle.std.proofs.lemmas.Bool.{not-true, not-false}
+use Rattle.icu_invlist.specs.InversionList.{holds}
+use Rattle.icu_invlist.proofs.SpanLemmas.{Spanned, span_start, span_past, span_room, span_stops, span_ends}
+use Rattle.icu_invlist.proofs.codepointinvlist.cpinvlist.CodePointInversionList.span.Goals as goal
+use mathlib.Core.Bool.{beq}
+
+pub loop-c-init : goal.loop-c-init
+loop-c-init c = span_start _ c.args.text.now c.into_iter-c-iterator.result.rest.now c.utf8.text (cc)
+
+pub overflow_add-length : goal.overflow_add-length
+overflow_add-length c = let r = span_room _ c.args.text.now c.loop-c.c-iterator.rest.now c.next.new.self.rest.now c.loop-c.length c.in-Some.c c.loop-c.invariant c.in-Some.ensures.steps.0 in
+    omega (arith, c.len_utf8-length.ensures.len, c.type_inv.text)
+
+pub loop-c-preserved : goal.loop-c-preserved
+loop-c-preserved c = rw c.len_utf8-length.ensures.len
+    (span_past (λ k. beq (holds c.args.self.now k) c.args.held) c.args.text.now c.loop-c.c-iterator.rest.now c.next.new.self.rest.now c.loop-c.length c.in-Some.c c.loop-c.invariant c.in-Some.ensures.steps.0
+    (ap (λ (b : Bool). beq b c.args.held) (sym c.contains.ensures) ∙ not-false _ c.if-contains-held.false))
+
+pub returns-then-contains-held : goal.returns-then-contains-held
+returns-then-contains-held c =
+    span_stops (λ k. beq (holds c.args.self.now k) c.args.held) c.args.text.now c.loop-c.c-iterator.rest.now c.next.new.self.rest.now c.loop-c.length c.in-Some.c c.loop-c.invariant c.in-Some.ensures.steps.0
+    (ap (λ (b : Bool). beq b c.args.held) (sym c.contains.ensures) ∙ not-true _ c.if-contains-held.true)
+
+pub returns : goal.returns
+returns c = span_ends (λ k. beq (holds c.args.self.now k) c.args.held) c.args.text.now c.loop-c.c-iterator.rest.now c.loop-c.length c.loop-c.invariant c.in-None.ensures.steps.0.0

@@ -1,0 +1,14 @@
+use Rattle.std.proofs.Common.{◌≡◌, ℕ, ◌-◌, ◌%◌, ◌++◌, map, drop}
+use Rattle.serde_json.specs.View.{view}
+use Rattle.icu_invlist.specs.SetJson.{texts_of}
+use Rattle.icu_invlist.proofs.WrittenSets.{shown}
+use Rattle.icu_invlist.proofs.codepointinvlist.cpinvlist.CodePointInversionList.to_json.Given as goal
+
+abbrev pub invariant-loop-i : goal.invariant-loop-i
+invariant-loop-i l = record {
+  even : l.i % 2 ≡ 0;
+  texts : map view l.items.items ++ map shown (texts_of (drop l.i l.self)) ≡ map shown (texts_of l.self);
+}
+
+abbrev pub decreases-loop-i : goal.decreases-loop-i
+decreases-loop-i l = l.count - l.i

@@ -1,0 +1,156 @@
+-- A set in JSON: an array with one string for each range, ascending. A range of one code point is the point, a
+-- longer one its first and its last point with `-` between them. A point is written as the character itself, and
+-- a surrogate, which is none, as `U+` and its four upper-case hexadecimal digits.
+use Rattle.std.specs.Prelude.{◌≡◌, ℕ, ◌+◌, ◌*◌, ◌/◌, ◌%◌, ◌<◌, List, [], ◌∷◌, ◌++◌, map, Option, Some, None, Result, Ok, Err, ◌==◌, ◌&&◌, nat_le, nat_lt, if◌then◌else◌, option_and_then, ◌⊎◌}
+use Rattle.std.specs.Global.{Vec}
+use Rattle.std.specs.Str.{chars, encode_utf8_all}
+use Rattle.std.specs.Char.{digit_value}
+use Rattle.serde_json.specs.Data.{Data, null, boolean, number, string, array, object, Items, no_items, item}
+use Rattle.serde_json.specs.View.{items_of}
+use Rattle.icu_invlist.specs.InversionList.{IsValid, ranges_of}
+use Rattle.icu_invlist.specs.declared.codepointinvlist.error.SetJsonError.{SetJsonError}
+use Rattle.icu_invlist.specs.declared.codepointinvlist.error.SetJsonError.TheVariants.{NotAnArray, NotAString, NotARange, InvalidSet, Memory}
+
+-- ---- how a set is written
+-- a hexadecimal digit in upper case
+abbrev pub upper_hex : ℕ → ℕ
+upper_hex d = if nat_lt d 10 then 0x30 + d else 0x37 + d
+
+-- the four digits of a number below 0x10000
+abbrev pub upper_hex4 : ℕ → List ℕ
+upper_hex4 p = upper_hex (p / 4096 % 16) ∷ upper_hex (p / 256 % 16) ∷ upper_hex (p / 16 % 16) ∷ upper_hex (p % 16) ∷ []
+
+-- a point
+abbrev pub spelled : ℕ → List ℕ
+spelled p = if nat_le 0xD800 p && nat_lt p 0xE000 then 0x55 ∷ 0x2B ∷ upper_hex4 p else p ∷ []
+
+-- a range from a through b
+abbrev pub range_text : ℕ → ℕ → List ℕ
+range_text a b = if a == b then spelled a else spelled a ++ 0x2D ∷ spelled b
+
+-- the characters of the strings of a set
+abbrev pub texts_of : List ℕ → List (List ℕ)
+texts_of ends = map (λ r. range_text r.start r.end) (ranges_of ends)
+
+-- what is written of a set
+abbrev pub written_of : List ℕ → Data
+written_of ends = array (items_of (map (λ t. string (encode_utf8_all t)) (texts_of ends)))
+
+-- ---- what the strings of a set say
+-- the number of four hexadecimal digits of either case
+pub record IsHex (text : List ℕ) (n : ℕ) : Type 0 where
+  pub a : ℕ
+  pub b : ℕ
+  pub c : ℕ
+  pub d : ℕ
+  pub is : text ≡ a ∷ b ∷ c ∷ d ∷ []
+  pub digits : (digit_value a < 16) × (digit_value b < 16) × (digit_value c < 16) × (digit_value d < 16)
+  pub value : n ≡ ((digit_value a * 16 + digit_value b) * 16 + digit_value c) * 16 + digit_value d
+
+-- the text of a point: the character itself, or `U+` and four digits, which is the only way to spell a surrogate
+abbrev pub IsPoint : List ℕ → ℕ → Type 0
+IsPoint text p = (text ≡ p ∷ []) ⊎ ((digits : List ℕ) × (text ≡ 0x55 ∷ 0x2B ∷ digits) × IsHex digits p)
+
+-- the text of a range from a through b: one point, or two with a third between them, which is read as 0x2D, the
+-- minus sign
+abbrev pub IsRange : List ℕ → ℕ → ℕ → Type 0
+IsRange text a b =
+    (IsPoint text a × (b ≡ a))
+    ⊎ ((front : List ℕ) × (middle : List ℕ) × (back : List ℕ) × (text ≡ front ++ (middle ++ back)) × IsPoint front a × IsPoint middle 0x2D × IsPoint back b)
+
+-- the items of an array are strings, whose ranges have these ends: each first point, and each last point plus one
+abbrev pub SayEnds : Items → List ℕ → Type 0
+SayEnds no_items ends = ends ≡ []
+SayEnds (item (string text) items) ends = (a : ℕ) × (b : ℕ) × (rest : List ℕ) × IsRange (chars text) a b × (ends ≡ a ∷ (b + 1) ∷ rest) × SayEnds items rest
+SayEnds (item _ items) ends = ⊥
+
+-- ---- how a reader goes on
+-- the first character, and what follows
+abbrev pub first_of : List ℕ → Option (ℕ × List ℕ)
+first_of [] = None
+first_of (c ∷ cs) = Some (c, cs)
+
+-- the number so far with a digit behind it, and what follows
+unfoldable pub digit_at : ℕ → List ℕ → Option (ℕ × List ℕ)
+digit_at n cs = option_and_then (λ (x : ℕ × List ℕ). if nat_lt (digit_value x.0) 16 then Some (n * 16 + digit_value x.0, x.1) else None) (first_of cs)
+
+-- the number of four digits at the front, and what follows
+unfoldable pub hex_at : List ℕ → Option (ℕ × List ℕ)
+hex_at cs =
+    option_and_then (λ (x : ℕ × List ℕ). option_and_then (λ (y : ℕ × List ℕ). option_and_then (λ (z : ℕ × List ℕ). digit_at z.0 z.1) (digit_at y.0 y.1)) (digit_at x.0 x.1)) (digit_at 0 cs)
+
+-- a point at the front, and what follows
+unfoldable pub point_at : List ℕ → Option (ℕ × List ℕ)
+point_at [] = None
+point_at (c ∷ []) = Some (c, [])
+point_at (c ∷ d ∷ cs) = if c == 0x55 then (if d == 0x2B then hex_at cs else Some (c, d ∷ cs)) else Some (c, d ∷ cs)
+
+-- a last point, which ends the text
+abbrev pub last_point : ℕ → Option (ℕ × List ℕ) → Option (ℕ × ℕ)
+last_point a None = None
+last_point a (Some (b, [])) = Some (a, b)
+last_point a (Some (b, c ∷ rest)) = None
+
+-- a second point, which is a minus sign, and what follows it
+abbrev pub second_point : ℕ → Option (ℕ × List ℕ) → Option (ℕ × ℕ)
+second_point a None = None
+second_point a (Some (m, rest)) = if m == 0x2D then last_point a (point_at rest) else None
+
+-- what follows the first point
+abbrev pub range_from : Option (ℕ × List ℕ) → Option (ℕ × ℕ)
+range_from None = None
+range_from (Some (a, [])) = Some (a, a)
+range_from (Some (a, c ∷ rest)) = second_point a (point_at (c ∷ rest))
+
+-- the range that a whole text spells
+unfoldable pub range_at : List ℕ → Option (ℕ × ℕ)
+range_at cs = range_from (point_at cs)
+
+-- ---- the ends of a value, or the first fault
+-- these ends in front of those that are read
+abbrev pub with_front : List ℕ → Result (List ℕ) SetJsonError → Result (List ℕ) SetJsonError
+with_front front (Ok ends) = Ok (front ++ ends)
+with_front front (Err e) = Err e
+
+-- the ends of item i, a range, in front of those of the others
+abbrev pub in_front : ℕ → Option (ℕ × ℕ) → Result (List ℕ) SetJsonError → Result (List ℕ) SetJsonError
+in_front i None others = Err (NotARange i)
+in_front i (Some r) others = with_front (r.0 ∷ (r.1 + 1) ∷ []) others
+
+-- the same for an item of any kind
+abbrev pub item_ends : ℕ → Data → Result (List ℕ) SetJsonError → Result (List ℕ) SetJsonError
+item_ends i (string text) others = in_front i (range_at (chars text)) others
+item_ends i _ others = Err (NotAString i)
+
+-- the ends that the items say, of which the first stands at place i, or the first fault
+unfoldable pub ends_from : ℕ → Items → Result (List ℕ) SetJsonError
+ends_from i no_items = Ok []
+ends_from i (item d items) = item_ends i d (ends_from (i + 1) items)
+
+-- the ends that a value says, or its first fault
+abbrev pub ends_of : Data → Result (List ℕ) SetJsonError
+ends_of (array items) = ends_from 0 items
+ends_of _ = Err NotAnArray
+
+-- ---- what is read, and what is refused
+-- the value is an array whose strings say these ends
+abbrev pub IsSaid : Data → List ℕ → Type 0
+IsSaid d ends = (items : Items) × (d ≡ array items) × SayEnds items ends
+
+-- each refusal comes where it is the first fault, and `InvalidSet` where there is none but the ends are no
+-- inversion list. Want of memory may come in place of any answer
+abbrev pub IsRefusedJson : Data → SetJsonError → Type 0
+IsRefusedJson d NotAnArray = ends_of d ≡ Err NotAnArray
+IsRefusedJson d (NotAString i) = ends_of d ≡ Err (NotAString i)
+IsRefusedJson d (NotARange i) = ends_of d ≡ Err (NotARange i)
+IsRefusedJson d InvalidSet = (ends : List ℕ) × (ends_of d ≡ Ok ends) × (¬ (IsValid ends))
+IsRefusedJson d Memory = Unit {0}
+
+-- what a reader of the ends answers. No public contract has this word
+abbrev pub GivesEnds : Result (Vec ℕ) SetJsonError → Result (List ℕ) SetJsonError → Type 0
+GivesEnds (Ok v) read = read ≡ Ok v.items
+GivesEnds (Err Memory) read = Unit {0}
+GivesEnds (Err NotAnArray) read = read ≡ Err NotAnArray
+GivesEnds (Err (NotAString i)) read = read ≡ Err (NotAString i)
+GivesEnds (Err (NotARange i)) read = read ≡ Err (NotARange i)
+GivesEnds (Err InvalidSet) read = ⊥

@@ -1,0 +1,401 @@
+//! The set of an inversion list.
+ghost use Rattle.std.specs.Prelude.{◌≡◌, ℕ, suc, ◌+◌, ◌^◌, ◌<◌, ◌≤◌, List, [], ◌∷◌, length, slice_index, slice_get, map, min, not, Some, None, if◌then◌else◌, IfOk, IfErr, IsTrue, ◌↔◌};
+ghost use Rattle.std.specs.List.{take_while};
+ghost use Rattle.std.specs.Str.{chars, encode_utf8_all};
+ghost use mathlib.Core.Bool.{beq};
+ghost use mathlib.Core.List.{reverse};
+ghost use Rattle.icu_invlist.specs.InversionList.{IsValid, holds, limit, HoldsAll, IsSubset, ranges_of, members_below, characters, complement_of};
+ghost use Rattle.icu_invlist.specs.Places.{below};
+ghost use Rattle.icu_invlist.specs.Refusals.{IsRefusedList, IsRefusedSlice};
+
+use crate::codepointinvlist::error::{InvalidSetError, SetError};
+use crate::codepointinvlist::iter::{IterChars, IterRanges, IterRangesComplemented, start_of_gap};
+use crate::codepointinvlist::utils::{RangeOf, is_valid_slice, is_valid_zv};
+use icu_zerovec::ule::AsULE;
+use icu_zerovec::{MemoryError, PotentialCodePoint, ZeroVec};
+use std::alloc::Global;
+use std::marker::Model;
+use std::ops::RangeInclusive;
+
+/// A set of code points, surrogates among them. It lends or owns its ends, and a clause sees their list.
+///
+/// ```
+/// let letters = CodePointInversionList::try_from_u32_inversion_list_slice(alloc, &[0x41, 0x5B, 0x61, 0x7B])?;
+/// // letters.contains32(0x5A) is true, and letters.contains32(0x5B) is false
+/// ```
+#[derive(Debug, Drop)]
+pub struct CodePointInversionList<'data> {
+    ends: ZeroVec<'data, PotentialCodePoint>,
+}
+
+impl<'data> Model for CodePointInversionList<'data> {
+    ghost use Rattle.std.specs.Prelude.{List, ℕ};
+    ghost use Rattle.icu_invlist.specs.InversionList.{IsValid};
+
+    ghost Value = { List ℕ };
+
+    ghost view = { λ a. a.ends };
+
+    ghost invariant = { λ a. IsValid a.ends };
+}
+
+/// Copies ends that are packed.
+fn unpacked(
+    alloc: Global,
+    ends: &ZeroVec<'_, PotentialCodePoint>,
+) -> Result<Vec<PotentialCodePoint>, MemoryError>
+    ensures { IfOk result (λ v. v.items ≡ ends.now) }
+{
+    let mut points = Vec::with_capacity(alloc, ends.len())?;
+    for end in ends.iter() {
+        points.push(end)?;
+    }
+    Ok(points)
+}
+
+/// Cuts the numbers to 24 bits: what has more becomes 0xFFFFFF, which is no end either.
+fn cut_to_points(alloc: Global, ends: &[u32]) -> Result<Vec<PotentialCodePoint>, MemoryError>
+    ensures { IfOk result (λ v. v.items ≡ map (λ x. min x 0xFFFFFF) ends.now) }
+{
+    let mut points = Vec::with_capacity(alloc, ends.len())?;
+    for end in ends {
+        points.push(PotentialCodePoint::from_u24((*end).min(0xFF_FFFF)))?;
+    }
+    Ok(points)
+}
+
+/// How a set is made.
+impl<'data> CodePointInversionList<'data> {
+    /// The set of this list, which is taken over.
+    ///
+    /// # Errors
+    /// `SetError::Invalid` exactly where it is no inversion list, with the list. `SetError::Memory` where the
+    /// copy for that error was refused; a valid list takes no memory.
+    pub fn try_from_inversion_list(
+        alloc: Global,
+        ends: ZeroVec<'data, PotentialCodePoint>,
+    ) -> Result<Self, SetError>
+        ensures ok { IfOk result (λ s. (s ≡ ends.entry) × IsValid ends.entry) }
+        ensures err { IfErr result (IsRefusedList ends.entry) }
+    {
+        if is_valid_zv(&ends) {
+            return Ok(CodePointInversionList { ends });
+        }
+        Err(SetError::Invalid(InvalidSetError(unpacked(alloc, &ends)?)))
+    }
+
+    /// The set of these numbers, which are copied.
+    ///
+    /// # Errors
+    /// `SetError::Invalid` exactly where they are no inversion list, with the numbers as code points: one
+    /// above 0xFFFFFF is shown as that one. `SetError::Memory` where memory was refused.
+    pub fn try_from_u32_inversion_list_slice(alloc: Global, ends: &[u32]) -> Result<Self, SetError>
+        ensures ok { IfOk result (λ s. (s ≡ ends.now) × IsValid ends.now) }
+        ensures err { IfErr result (IsRefusedSlice ends.now) }
+    {
+        if !is_valid_slice(ends) {
+            return Err(SetError::Invalid(InvalidSetError(cut_to_points(alloc, ends)?)));
+        }
+        Ok(CodePointInversionList::from_valid_slice(alloc, ends)?)
+    }
+
+    /// The set of an inversion list, which is copied.
+    pub(crate) fn from_valid_slice(alloc: Global, ends: &[u32]) -> Result<Self, MemoryError>
+        requires { IsValid ends.now }
+        ensures { IfOk result (λ s. s ≡ ends.now) }
+    {
+        let points = cut_to_points(alloc, ends)?;
+        let ends = ZeroVec::alloc_from_slice(alloc, &points)?;
+        Ok(CodePointInversionList { ends })
+    }
+
+    /// All code points, 0 to 0x10FFFF, surrogates too. It takes no memory.
+    pub fn all() -> CodePointInversionList<'static>
+        ensures { result ≡ 0 ∷ limit ∷ [] }
+    {
+        match ZeroVec::parse_bytes(&[0, 0, 0, 0, 0, 0x11]) {
+            Ok(ends) => CodePointInversionList { ends },
+            Err(_) => unreachable!(),
+        }
+    }
+
+    /// The code points of the basic multilingual plane, 0 to 0xFFFF, surrogates too. It takes no memory.
+    pub fn bmp() -> CodePointInversionList<'static>
+        ensures { result ≡ 0 ∷ 0x10000 ∷ [] }
+    {
+        match ZeroVec::parse_bytes(&[0, 0, 0, 0, 0, 0x1]) {
+            Ok(ends) => CodePointInversionList { ends },
+            Err(_) => unreachable!(),
+        }
+    }
+
+    /// The set with ends of its own. One that owns them already keeps them, and takes no memory.
+    ///
+    /// # Errors
+    /// `MemoryError` where memory was refused. The set is then given up, and ends that it borrowed are unchanged.
+    pub fn into_owned(self, alloc: Global) -> Result<CodePointInversionList<'static>, MemoryError>
+        ensures ok { IfOk result (λ s. s ≡ self.entry) }
+    {
+        let CodePointInversionList { ends } = self;
+        Ok(CodePointInversionList {
+            ends: ends.into_owned(alloc)?,
+        })
+    }
+
+    /// An equal set with ends of its own.
+    ///
+    /// # Errors
+    /// `MemoryError` where memory was refused.
+    pub fn try_clone(&self, alloc: Global) -> Result<CodePointInversionList<'static>, MemoryError>
+        ensures ok { IfOk result (λ s. s ≡ self.now) }
+    {
+        Ok(CodePointInversionList {
+            ends: self.ends.try_clone(alloc)?,
+        })
+    }
+}
+
+/// What a set holds.
+impl<'data> CodePointInversionList<'data> {
+    /// How many ends there are.
+    pub(crate) fn count(&self) -> usize
+        ensures count { result ≡ length self.now }
+        ensures valid { IsValid self.now }
+    {
+        self.ends.len()
+    }
+
+    /// The end at place `i`, counted from 0.
+    pub(crate) fn end_at(&self, i: usize) -> u32
+        requires { i < length self.now }
+        ensures end { result ≡ slice_index self.now i }
+        ensures within { result ≤ limit }
+    {
+        match self.ends.get(i) {
+            Some(end) => u32::from(end),
+            None => 0,
+        }
+    }
+
+    /// How many ends are not above `c`.
+    fn place_of(&self, c: u32) -> usize
+        requires { c ≤ limit }
+        ensures valid { IsValid self.now }
+        ensures place { result ≡ below self.now (suc c) }
+        ensures within { result ≤ length self.now }
+    {
+        match self.ends.binary_search(&PotentialCodePoint::from_u24(c)) {
+            Ok(i) => i + 1,
+            Err(i) => i,
+        }
+    }
+
+    /// The ends, packed.
+    pub(crate) fn packed(&self) -> &ZeroVec<'data, PotentialCodePoint>
+        ensures ends { result.now ≡ self.now }
+        ensures valid { IsValid self.now }
+    {
+        &self.ends
+    }
+
+    /// The ends, copied.
+    ///
+    /// # Errors
+    /// `MemoryError` where memory was refused.
+    pub fn get_inversion_list_vec(&self, alloc: Global) -> Result<Vec<u32>, MemoryError>
+        ensures ok { IfOk result (λ v. v.items ≡ self.now) }
+    {
+        let mut ends = Vec::with_capacity(alloc, self.ends.len())?;
+        for end in self.ends.iter() {
+            ends.push(u32::from(end))?;
+        }
+        Ok(ends)
+    }
+
+    /// Whether the set holds the code point. No number above 0x10FFFF is held.
+    pub fn contains32(&self, c: u32) -> bool
+        ensures { result ≡ holds self.now c }
+    {
+        let _ = &self.ends;
+        c < 0x11_0000 && self.place_of(c) % 2 == 1
+    }
+
+    /// Whether the set holds the character.
+    pub fn contains(&self, c: char) -> bool
+        ensures { result ≡ holds self.now c }
+    {
+        self.contains32(u32::from(c))
+    }
+
+    /// Whether the set holds all code points from `start` to before `end`.
+    fn covers(&self, start: u32, end: u32) -> bool
+        requires rises { start < end }
+        requires within { end ≤ limit }
+        ensures { IsTrue result ↔ HoldsAll self.now start end }
+    {
+        let place = self.place_of(start);
+        place % 2 == 1 && end <= self.end_at(place)
+    }
+
+    /// Whether the range names a code point, and the set holds all that it names. The surrogates between two
+    /// characters are named too.
+    pub fn contains_range<R: RangeOf<char>>(&self, range: R) -> bool
+        ensures { IsTrue result ↔ (R.start range < min (R.end range) limit) × HoldsAll self.now (R.start range) (min (R.end range) limit) }
+    {
+        let (start, end) = range.deconstruct();
+        let end = end.min(0x11_0000);
+        start < end && self.covers(start, end)
+    }
+
+    /// Whether the set holds all that the other one holds. The empty set is part of each.
+    pub fn contains_set(&self, other: &CodePointInversionList<'_>) -> bool
+        ensures { IsTrue result ↔ IsSubset other.now self.now }
+    {
+        let mut i = 0;
+        let count = other.count();
+        while i < count {
+            if !self.covers(other.end_at(i), other.end_at(i + 1)) {
+                return false;
+            }
+            i += 2;
+        }
+        true
+    }
+
+    /// How many smaller code points the set holds, if it holds the character.
+    pub fn position(&self, c: char) -> Option<usize>
+        ensures { result ≡ (if holds self.now c then Some (members_below self.now c) else None) }
+    {
+        self.position32(u32::from(c))
+    }
+
+    /// How many smaller code points the set holds, if it holds this one.
+    pub fn position32(&self, c: u32) -> Option<usize>
+        ensures { result ≡ (if holds self.now c then Some (members_below self.now c) else None) }
+    {
+        let count = self.count();
+        let mut before = 0;
+        let mut i = 0;
+        while i < count {
+            let start = self.end_at(i);
+            let end = self.end_at(i + 1);
+            if c < start {
+                return None;
+            }
+            if c < end {
+                return Some(before + (c - start) as usize);
+            }
+            before += (end - start) as usize;
+            i += 2;
+        }
+        None
+    }
+
+    /// How many code points the set holds, surrogates among them.
+    pub fn size(&self) -> usize
+        ensures { result ≡ members_below self.now limit }
+    {
+        let count = self.count();
+        let mut size = 0;
+        let mut i = 0;
+        while i < count {
+            size += (self.end_at(i + 1) - self.end_at(i)) as usize;
+            i += 2;
+        }
+        size
+    }
+
+    /// Whether the set holds no code point.
+    pub fn is_empty(&self) -> bool
+        ensures { IsTrue result ↔ (self.now ≡ []) }
+    {
+        self.ends.is_empty()
+    }
+}
+
+/// The ranges and the characters of a set.
+impl<'data> CodePointInversionList<'data> {
+    /// How many ranges the set has.
+    pub fn get_range_count(&self) -> usize
+        ensures count { result ≡ length (ranges_of self.now) }
+        ensures valid { IsValid self.now }
+    {
+        self.ends.len() / 2
+    }
+
+    /// The range at place `index`, counted from 0, with its last code point included. `None` at or past the
+    /// count.
+    pub fn get_nth_range(&self, index: usize) -> Option<RangeInclusive<u32>>
+        ensures { result ≡ slice_get (ranges_of self.now) index }
+    {
+        if index >= self.count() / 2 {
+            return None;
+        }
+        Some(RangeInclusive::new(self.end_at(2 * index), self.end_at(2 * index + 1) - 1))
+    }
+
+    /// The ranges that the set holds, ascending: of `[0x41, 0x44, 0x61, 0x62]` 0x41..=0x43 and 0x61..=0x61.
+    pub fn iter_ranges(&self) -> IterRanges<'_>
+        ensures gives { result ≡ self.now }
+        ensures bound { length (ranges_of result) < 2 ^ 64 }
+    {
+        IterRanges::from_ends(self.ends.iter())
+    }
+
+    /// The ranges of code points that the set does not hold, ascending: of the empty set 0..=0x10FFFF.
+    pub fn iter_ranges_complemented(&self) -> IterRangesComplemented<'_>
+        ensures gives { result ≡ complement_of self.now }
+        ensures complement { (c : ℕ) → c < limit → holds (complement_of self.now) c ≡ not (holds self.now c) }
+        ensures valid { IsValid (complement_of self.now) }
+    {
+        let mut ends = self.ends.iter();
+        if self.contains32(0) {
+            let _ = ends.next();
+            let start = start_of_gap(ends.next());
+            return IterRangesComplemented::from_gap(start, ends);
+        }
+        IterRangesComplemented::from_gap(Some(0), ends)
+    }
+
+    /// The characters that the set holds, ascending. Its surrogates are left out.
+    pub fn iter_chars(&self) -> IterChars<'_>
+        ensures gives { result ≡ characters self.now }
+    {
+        IterChars::from_ends(self.ends.iter())
+    }
+}
+
+/// How far a text lies in a set.
+impl<'data> CodePointInversionList<'data> {
+    /// The length in bytes of the longest front of the text whose characters are all held, or, for `held`
+    /// false, all not held.
+    pub fn span(&self, text: &str, held: bool) -> usize
+        ensures { result ≡ length (encode_utf8_all (take_while (λ c. beq (holds self.now c) held) (chars text.now))) }
+    {
+        let mut length = 0;
+        for c in text.chars() {
+            if self.contains(c) != held {
+                return length;
+            }
+            length += c.len_utf8();
+        }
+        length
+    }
+
+    /// The place of the byte from which on all characters of the text are held, or, for `held` false, all not
+    /// held: the start of its longest such tail.
+    pub fn span_back(&self, text: &str, held: bool) -> usize
+        ensures { result + length (encode_utf8_all (take_while (λ c. beq (holds self.now c) held) (reverse (chars text.now))))
+            ≡ length text.now }
+    {
+        let mut start = text.len();
+        for c in text.chars().rev() {
+            c.shown();
+            if self.contains(c) != held {
+                return start;
+            }
+            start -= c.len_utf8();
+        }
+        start
+    }
+}
