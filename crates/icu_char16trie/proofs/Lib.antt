@@ -1,0 +1,11 @@
+pub mod MapLaws
+pub mod NodeLaws
+pub mod PartLaws
+pub mod PlaceLaws
+pub mod StepLaws
+pub mod TaskLaws
+pub mod OneMap
+pub mod Runs
+pub mod PassedLaws
+pub mod JsonLaws
+pub mod Rows

@@ -1,0 +1,95 @@
+-- What the units at the front of a part say of its arms.
+use Rattle.std.proofs.Common.{◌≡◌, ℕ, ◌+◌, ◌-◌, ◌*◌, ◌/◌, ◌%◌, ◌<◌, ◌≤◌, List, [], ◌∷◌, ◌++◌, Option, Some, None, Bool, true, false, cond, nat_eq, slice_get, refl, sym, ap, ◌∙◌, arith}
+use Rattle.std.specs.Bool.{then_some}
+use Rattle.std.proofs.lemmas.Bool.{ne_eqb}
+use Rattle.icu_char16trie.specs.Grammar.{Part, last, entry, split, UnitsBelow, UnitsFrom}
+use Rattle.icu_char16trie.specs.Numbers.{entry_child, short_end, lower_part, delta_end}
+use Rattle.icu_char16trie.specs.UnitMap.{arm_of}
+
+then_some_is : (b : Bool) (x : ℕ) → cond b (Some x) None ≡ then_some b x
+then_some_is true x = refl
+then_some_is false x = refl
+
+-- the only arm of a part of one
+pub last_found : (units : List ℕ) {p n : ℕ} {arms : List (ℕ × ℕ)} → Part units p n arms → n ≤ 1 → (u : ℕ) → slice_get units p ≡ Some u
+    → (w : ℕ) → then_some (nat_eq u w) (p + 1) ≡ arm_of arms w
+unfolding arm_of
+last_found units (last p n u' arms e g a) le u h w = let same : u' ≡ u = cc in rw (a, same) (sym (then_some_is (nat_eq u w) (p + 1)))
+last_found units (entry p n u' v child rest arms more le5 g g' c r a) le u h w = absurd (omega arith)
+last_found units (split p n s d low lower upper arms more g g' c l r b f a) le u h w = absurd (omega arith)
+
+pub last_is : (units : List ℕ) {p n : ℕ} {arms : List (ℕ × ℕ)} → Part units p n arms → n ≤ 1 → (u : ℕ) → slice_get units p ≡ Some u → arms ≡ (u, p + 1) ∷ []
+last_is units (last p n u' arms e g a) le u h = let same : u' ≡ u = cc in a ∙ ap (λ z. (z, p + 1) ∷ []) same
+last_is units (entry p n u' v child rest arms more le5 g g' c r a) le u h = absurd (omega arith)
+last_is units (split p n s d low lower upper arms more g g' c l r b f a) le u h = absurd (omega arith)
+
+pub record IsEntry (units : List ℕ) (p n u v : ℕ) (arms : List (ℕ × ℕ)) : Type 0 where
+  pub child : ℕ
+  pub rest : List (ℕ × ℕ)
+  pub at : entry_child units (p + 2) v ≡ Some child
+  pub is : arms ≡ (u, child) ∷ rest
+  pub others : Part units (short_end (p + 2) (v % 0x8000)) (n - 1) rest
+  pub found : (w : ℕ) → arm_of arms w ≡ cond (nat_eq u w) (Some child) (arm_of rest w)
+
+-- the first arm of a row
+pub entry_found : (units : List ℕ) {p n : ℕ} {arms : List (ℕ × ℕ)} → Part units p n arms → 1 < n → n ≤ 5
+    → (u v : ℕ) → slice_get units p ≡ Some u → slice_get units (p + 1) ≡ Some v → IsEntry units p n u v arms
+unfolding arm_of
+entry_found units (last p n u' arms e g a) more le u v h h' = absurd (omega arith)
+entry_found units (entry p n u' v' child rest arms more le5 g g' c r a) _ _ u v h h' =
+    let su : u' ≡ u = cc in
+    let sv : v' ≡ v = cc in
+    record { child = child; rest = rest; at = rw (← sv) c; is = a ∙ ap (λ z. (z, child) ∷ rest) su; others = rw (← sv) r; found = λ w. rw (a, su) refl }
+entry_found units (split p n s d low lower upper arms more g g' c l r b f a) _ le u v h h' = absurd (omega arith)
+
+-- no arm below s has the unit s or more
+pub arm_below : (lower upper : List (ℕ × ℕ)) (s w : ℕ) → UnitsBelow s lower → s ≤ w → arm_of (lower ++ upper) w ≡ arm_of upper w
+unfolding arm_of
+arm_below [] upper s w b h = refl
+arm_below (a ∷ lower) upper s w b h =
+    let no : nat_eq a.0 w ≡ false = ne_eqb a.0 w (λ e. absurd (omega (arith, b.0))) in
+    rw no (arm_below lower upper s w b.1 h)
+
+-- no arm from s on has a unit below s
+pub arm_from : (upper : List (ℕ × ℕ)) (s w : ℕ) → UnitsFrom s upper → w < s → arm_of upper w ≡ None
+unfolding arm_of
+arm_from [] s w f h = refl
+arm_from (a ∷ upper) s w f h =
+    let no : nat_eq a.0 w ≡ false = ne_eqb a.0 w (λ e. absurd (omega (arith, f.0))) in
+    rw no (arm_from upper s w f.1 h)
+
+-- so it is found among the lower ones or nowhere
+pub arm_append : (lower upper : List (ℕ × ℕ)) (w : ℕ) → arm_of upper w ≡ None → arm_of (lower ++ upper) w ≡ arm_of lower w
+unfolding arm_of
+arm_append [] upper w h = h
+arm_append (a ∷ lower) upper w h = ap (cond (nat_eq a.0 w) (Some a.1)) (arm_append lower upper w h)
+
+pub record IsSplit (units : List ℕ) (p n s d : ℕ) (arms : List (ℕ × ℕ)) : Type 0 where
+  pub low : ℕ
+  pub lower : List (ℕ × ℕ)
+  pub upper : List (ℕ × ℕ)
+  pub at : lower_part units (p + 2) d ≡ Some low
+  pub is : arms ≡ lower ++ upper
+  pub below : Part units low (n / 2) lower
+  pub above : Part units (delta_end (p + 2) d) (n - n / 2) upper
+  pub in_lower : (w : ℕ) → w < s → arm_of arms w ≡ arm_of lower w
+  pub in_upper : (w : ℕ) → s ≤ w → arm_of arms w ≡ arm_of upper w
+
+pub split_found : (units : List ℕ) {p n : ℕ} {arms : List (ℕ × ℕ)} → Part units p n arms → 5 < n
+    → (s d : ℕ) → slice_get units p ≡ Some s → slice_get units (p + 1) ≡ Some d → IsSplit units p n s d arms
+split_found units (last p n u' arms e g a) more s d h h' = absurd (omega arith)
+split_found units (entry p n u' v' child rest arms more le5 g g' c r a) more5 s d h h' = absurd (omega arith)
+split_found units (split p n s' d' low lower upper arms more g g' c l r b f a) _ s d h h' =
+    let ss : s' ≡ s = cc in
+    let sd : d' ≡ d = cc in
+    record {
+      low = low;
+      lower = lower;
+      upper = upper;
+      at = rw (← sd) c;
+      is = a;
+      below = l;
+      above = rw (← sd) r;
+      in_lower = λ w lt. ap (λ z. arm_of z w) a ∙ arm_append lower upper w (arm_from upper s' w f (rw ss lt));
+      in_upper = λ w le. ap (λ z. arm_of z w) a ∙ arm_below lower upper s' w b (rw ss le);
+    }

@@ -1,0 +1,10 @@
+pub mod Numbers
+pub mod Grammar
+pub mod UnitMap
+pub mod Places
+pub mod Steps
+pub mod Passed
+pub mod LossyText
+pub mod Tasks
+pub mod Entries
+pub mod Char16Json

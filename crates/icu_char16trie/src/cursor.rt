@@ -1,0 +1,116 @@
+//! A cursor over the units of a trie.
+ghost use Rattle.std.specs.Prelude.{◌≡◌, ℕ, ℤ, List, [], ◌∷◌, ◌++◌, ◌<◌, ◌≤◌, not};
+ghost use Rattle.icu_zerovec.specs.Slice.{slice_values};
+ghost use Rattle.icu_char16trie.specs.Grammar.{IsTrieOf};
+ghost use Rattle.icu_char16trie.specs.UnitMap.{UnitMap, value_of, goes_on};
+ghost use Rattle.icu_char16trie.specs.Places.{IsAfter, value_at, is_empty_at};
+ghost use Rattle.icu_char16trie.specs.Steps.{StepsTo, StepsAlong};
+ghost use Rattle.icu_char16trie.specs.Passed.{Passes};
+ghost use Rattle.std.specs.Char.Escape.{encode_utf16};
+ghost use Rattle.icu_char16trie.specs.declared.place.Place.{Place};
+ghost use Rattle.icu_char16trie.specs.declared.place.Place.TheVariants.{Nowhere, Node};
+
+use crate::place::Place;
+use crate::step::{is_empty_at, step, value_at};
+use icu_zerovec::ZeroSlice;
+use std::marker::Model;
+
+/// A cursor into the units of a trie, for look-up unit by unit.
+///
+/// A clause sees the units and the place where the cursor stands, and says what it has passed: after the units
+/// `w` from the root of the map `m` its value is that of the key `w`, and it is empty where no key goes on
+/// beyond `w`. On all units its steps are those of the format, where a unit that is needed and is not there is
+/// no match.
+#[derive(Clone, Debug, Drop)]
+pub struct Char16TrieCursor<'a> {
+    units: ZeroSlice<'a, u16>,
+    place: Place,
+}
+
+impl<'a> Model for Char16TrieCursor<'a> {
+    ghost use Rattle.icu_zerovec.specs.Slice.{slice_values};
+    ghost use Rattle.icu_char16trie.specs.Places.{At, IsNear};
+
+    ghost Value = { At };
+
+    ghost view = { λ c. record { units = slice_values c.units; place = c.place } };
+
+    ghost invariant = { λ c. IsNear c.place };
+}
+
+impl<'a> Char16TrieCursor<'a> {
+    /// A cursor at the root of the trie with these units.
+    #[inline]
+    pub fn new(trie: ZeroSlice<'a, u16>) -> Self
+        ensures units { result.units ≡ slice_values trie.entry }
+        ensures place { result.place ≡ Node 0 }
+        ensures root { (m : UnitMap) → IsTrieOf (slice_values trie.entry) m → IsAfter result m [] }
+    {
+        Char16TrieCursor {
+            units: trie,
+            place: Place::Node(0),
+        }
+    }
+
+    /// One more unit. After no match nothing changes.
+    #[inline]
+    pub fn step16(&mut self, unit: u16)
+        ensures units { self.new.units ≡ self.old.units }
+        ensures exact { StepsTo self.old.units self.old.place unit self.new.place }
+        ensures only { (q : Place) → StepsTo self.old.units self.old.place unit q → q ≡ self.new.place }
+        ensures after { (m : UnitMap) (w : List ℕ) → IsAfter self.old m w → IsAfter self.new m (w ++ unit ∷ []) }
+        ensures nowhere { self.old.place ≡ Nowhere → self.new.place ≡ Nowhere }
+    {
+        self.place = step(self.units, self.place, unit);
+    }
+
+    /// The units of one more code point up to 0x10FFFF: one below 0x10000, surrogates among them, and otherwise
+    /// two. A number above 0x10FFFF matches nothing.
+    pub fn step32(&mut self, c: u32)
+        ensures units { self.new.units ≡ self.old.units }
+        ensures within { c ≤ 0x10FFFF → Passes self.old (encode_utf16 c) self.new }
+        ensures only { c ≤ 0x10FFFF
+            → (q : Place) → StepsAlong self.old.units self.old.place (encode_utf16 c) q → q ≡ self.new.place }
+        ensures above { 0x10FFFF < c → self.new.place ≡ Nowhere }
+        ensures nowhere { self.old.place ≡ Nowhere → self.new.place ≡ Nowhere }
+    {
+        if let Ok(unit) = u16::try_from(c) {
+            self.step16(unit);
+        } else if c <= 0x10_FFFF {
+            let supplementary = c - 0x1_0000;
+            self.step16((0xD800 + supplementary / 0x400) as u16);
+            self.step16((0xDC00 + supplementary % 0x400) as u16);
+        } else {
+            self.place = Place::Nowhere;
+        }
+    }
+
+    /// The units of one more character: one, or two for a character from U+10000 on.
+    #[inline]
+    pub fn step(&mut self, c: char)
+        ensures passes { Passes self.old (encode_utf16 c) self.new }
+        ensures only { (q : Place) → StepsAlong self.old.units self.old.place (encode_utf16 c) q → q ≡ self.new.place }
+        ensures nowhere { self.old.place ≡ Nowhere → self.new.place ≡ Nowhere }
+    {
+        self.step32(c as u32);
+    }
+
+    /// The value of the units so far, if they are a key. 0 where the units of the value are cut off.
+    #[inline]
+    pub fn value(&self) -> Option<i32>
+        ensures value { (m : UnitMap) (w : List ℕ) → IsAfter self.now m w → result ≡ value_of m w }
+        ensures exact { result ≡ value_at self.now.units self.now.place }
+    {
+        value_at(self.units, self.place)
+    }
+
+    /// Whether no key goes on beyond the units so far: after no match, at a final value, and at a node whose
+    /// lead unit is not there.
+    #[inline]
+    pub fn is_empty(&self) -> bool
+        ensures empty { (m : UnitMap) (w : List ℕ) → IsAfter self.now m w → result ≡ not (goes_on m w) }
+        ensures exact { result ≡ is_empty_at self.now.units self.now.place }
+    {
+        is_empty_at(self.units, self.place)
+    }
+}

@@ -1,0 +1,12 @@
+//! Where a cursor stands.
+
+/// Where a cursor stands.
+#[derive(Clone, Copy, Debug, PartialEq, Eq)]
+pub enum Place {
+    /// After no match.
+    Nowhere,
+    /// At the node at this place.
+    Node(usize),
+    /// In a linear match: the place of its next unit, and how many more units follow that one.
+    Run(usize, u8),
+}

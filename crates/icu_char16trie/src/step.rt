@@ -1,0 +1,148 @@
+//! A step of a cursor, and what stands where it is.
+ghost use Rattle.icu_zerovec.specs.Slice.{slice_values};
+ghost use Rattle.std.specs.Prelude.{◌≡◌, ℕ, ℤ, ◌+◌, ◌*◌, ◌^◌, ◌<◌, ◌≤◌, slice_get, length, List, [], not, IfSome, Option, None};
+ghost use Rattle.icu_char16trie.specs.Grammar.{Arms, Holds, Matches, Part, IsAscending, Children};
+ghost use Rattle.icu_char16trie.specs.UnitMap.{UnitMap, after, value_of, goes_on};
+ghost use Rattle.icu_char16trie.specs.Steps.{StepsTo, InNode, InMatch, InPart, child_place, run_place};
+ghost use Rattle.icu_char16trie.specs.Places.{InRun, Stands, IsNear, value_at, value_by, is_empty_at};
+ghost use Rattle.icu_char16trie.specs.declared.place.Place.TheVariants.{Nowhere};
+
+use crate::branch::child_in_part;
+use crate::numbers::{node_end, node_number, short_number, unit_at};
+use crate::place::Place;
+use icu_zerovec::ZeroSlice;
+
+/// The place after the first unit of a run of `left + 1` units.
+fn step_in_run(units: ZeroSlice<'_, u16>, place: usize, left: u8, unit: u16) -> Place
+    requires { place < 2 ^ 63 }
+    ensures stands { let all = slice_values units.entry in
+        (m : UnitMap) → InRun all place (left + 1) m → Stands all result (after unit m) }
+    ensures exact { result ≡ run_place place left unit (slice_get (slice_values units.entry) place) }
+    ensures near { IsNear result }
+{
+    let Some(next) = unit_at(units, place) else {
+        return Place::Nowhere;
+    };
+    if next != unit {
+        return Place::Nowhere;
+    }
+    match left.checked_sub(1) {
+        Some(left) => Place::Run(place + 1, left),
+        None => Place::Node(place + 1),
+    }
+}
+
+/// The place after a unit at a branch of so many entries.
+fn step_in_branch(units: ZeroSlice<'_, u16>, place: usize, length: usize, unit: u16) -> Place
+    requires { place < 2 ^ 63 }
+    ensures stands { let all = slice_values units.entry in
+        (arms : Arms) (m : UnitMap) → Part all place length arms → IsAscending arms → Children all arms m
+        → Stands all result (after unit m) }
+    ensures exact { (r : Option ℕ) × InPart (slice_values units.entry) unit place length r × (result ≡ child_place r) }
+    ensures near { IsNear result }
+{
+    match child_in_part(units, place, length, unit) {
+        Some(child) => Place::Node(child),
+        None => Place::Nowhere,
+    }
+}
+
+/// The place after a unit at a match node, by its low six bits; `place` is behind its lead and its value.
+fn step_in_match(units: ZeroSlice<'_, u16>, place: usize, low: u16, unit: u16) -> Place
+    requires place { place < 2 ^ 63 }
+    requires low { low < 0x40 }
+    ensures stands { let all = slice_values units.entry in
+        (m : UnitMap) → Matches all place low m → Stands all result (after unit m) }
+    ensures exact { InMatch (slice_values units.entry) unit place low result }
+    ensures near { IsNear result }
+{
+    if low >= 0x30 {
+        return step_in_run(units, place, (low - 0x30) as u8, unit);
+    }
+    if low > 0 {
+        return step_in_branch(units, place, usize::from(low) + 1, unit);
+    }
+    match unit_at(units, place) {
+        Some(length) => step_in_branch(units, place + 1, usize::from(length) + 1, unit),
+        None => Place::Nowhere,
+    }
+}
+
+/// The place after a unit at a node.
+fn step_in_node(units: ZeroSlice<'_, u16>, place: usize, unit: u16) -> Place
+    requires { place < 2 ^ 63 }
+    ensures stands { let all = slice_values units.entry in
+        (m : UnitMap) → Holds all place m → Stands all result (after unit m) }
+    ensures exact { InNode (slice_values units.entry) unit place result }
+    ensures near { IsNear result }
+    ensures absent { slice_get (slice_values units.entry) place ≡ None → result ≡ Nowhere }
+{
+    let Some(lead) = unit_at(units, place) else {
+        return Place::Nowhere;
+    };
+    if lead >= 0x8000 {
+        return Place::Nowhere;
+    }
+    if lead < 0x40 {
+        return step_in_match(units, place + 1, lead, unit);
+    }
+    step_in_match(units, node_end(place + 1, lead), lead % 64, unit)
+}
+
+/// The place after one more unit.
+pub fn step(units: ZeroSlice<'_, u16>, place: Place, unit: u16) -> Place
+    requires { IsNear place }
+    ensures stands { let all = slice_values units.entry in
+        (m : UnitMap) → Stands all place m → Stands all result (after unit m) }
+    ensures exact { StepsTo (slice_values units.entry) place unit result }
+    ensures near { IsNear result }
+    ensures nowhere { place ≡ Nowhere → result ≡ Nowhere }
+{
+    match place {
+        Place::Nowhere => Place::Nowhere,
+        Place::Node(node) => step_in_node(units, node, unit),
+        Place::Run(next, left) => step_in_run(units, next, left, unit),
+    }
+}
+
+/// The value that stands at a lead unit before `place`, 0 if it is cut off.
+fn value_by(units: ZeroSlice<'_, u16>, place: usize, lead: u16) -> Option<i32>
+    ensures { result ≡ value_by (slice_values units.entry) place lead }
+{
+    if lead < 0x40 {
+        None
+    } else if lead < 0x8000 {
+        Some(node_number(units, place, lead).unwrap_or(0).cast_signed())
+    } else {
+        Some(
+            short_number(units, place, lead - 0x8000)
+                .unwrap_or(0)
+                .cast_signed(),
+        )
+    }
+}
+
+/// The value at a place.
+pub fn value_at(units: ZeroSlice<'_, u16>, place: Place) -> Option<i32>
+    requires { IsNear place }
+    ensures { result ≡ value_at (slice_values units.entry) place }
+{
+    match place {
+        Place::Node(node) => {
+            let lead = unit_at(units, node)?;
+            value_by(units, node + 1, lead)
+        }
+        Place::Nowhere | Place::Run(_, _) => None,
+    }
+}
+
+/// Whether nothing can match from a place on.
+pub fn is_empty_at(units: ZeroSlice<'_, u16>, place: Place) -> bool
+    ensures { result ≡ is_empty_at (slice_values units.entry) place }
+{
+    match place {
+        Place::Nowhere => true,
+        Place::Node(node) => unit_at(units, node).is_none_or(|lead| lead >= 0x8000),
+        Place::Run(_, _) => false,
+    }
+}

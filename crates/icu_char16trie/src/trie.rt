@@ -1,0 +1,137 @@
+//! The trie over a packed vector of units.
+ghost use Rattle.std.specs.Prelude.{◌≡◌, ◌↔◌, ◌⊎◌, ℕ, ℤ, List, [], Result, IfOk, IsTrue, String};
+ghost use Rattle.std.specs.Iterator.{Drains};
+ghost use Rattle.std.specs.Global.{Global};
+ghost use Rattle.std.specs.Cmp.{on_equiv, on_per, partial_equiv_from_equiv};
+ghost use Rattle.std.specs.Cmp.Lexicographic.{pointwise, lists_equiv, lists_per, nat_list_eq_equiv};
+ghost use Rattle.icu_zerovec.specs.declared.memory.MemoryError.{MemoryError};
+ghost use Rattle.icu_zerovec.specs.PackedBytes.{low_bytes};
+ghost use Rattle.icu_zerovec.specs.Cells.{same_bytes};
+ghost use Rattle.icu_char16trie.specs.Grammar.{IsTrieOf};
+ghost use Rattle.icu_char16trie.specs.UnitMap.{UnitMap, IsAscendingKeys};
+ghost use Rattle.icu_char16trie.specs.Entries.{IsLeft, GivesNext, AreEntries, AreCutShort};
+ghost use Rattle.icu_char16trie.specs.Places.{IsAfter};
+ghost use Rattle.icu_char16trie.specs.declared.place.Place.TheVariants.{Node};
+
+use crate::cursor::Char16TrieCursor;
+use crate::entries::Iter2;
+use crate::iterator::Char16TrieIterator;
+use icu_zerovec::{MemoryError, ZeroVec};
+use std::alloc::Global;
+use std::marker::Model;
+
+/// A map from lists of 16-bit units, mostly texts in UTF-16, to numbers of 32 bits with sign, in the format of
+/// ICU's `UCharsTrie`. A clause sees the list of its units.
+///
+/// ```
+/// let trie = Char16Trie::new(ZeroVec::alloc_from_slice(alloc, &[0x31, 0x61, 0x62, 0x8003])?);
+/// // the map of "ab" to 3
+/// ```
+///
+/// Two tries are equal exactly if their units are, whichever of them borrows.
+#[derive(Debug, Drop)]
+pub struct Char16Trie<'data> {
+    /// The units.
+    pub data: ZeroVec<'data, u16>,
+}
+
+impl<'data> Model for Char16Trie<'data> {
+    ghost use Rattle.std.specs.Prelude.{ℕ, List};
+
+    ghost Value = { List ℕ };
+
+    ghost view = { λ t. t.«data» };
+}
+
+impl<'data> Char16Trie<'data> {
+    /// The trie of these units. They are not tested: look-ups answer on all units.
+    #[inline]
+    pub fn new(data: ZeroVec<'data, u16>) -> Self
+        ensures { result ≡ «data».entry }
+    {
+        Char16Trie { data }
+    }
+
+    /// A cursor at the root, for look-up unit by unit.
+    ///
+    /// ```
+    /// // of the map of "ab" to 3
+    /// let mut cursor = trie.cursor();
+    /// cursor.step('a'); // cursor.value() is None
+    /// cursor.step('b'); // cursor.value() is Some(3)
+    /// ```
+    #[inline]
+    pub fn cursor(&self) -> Char16TrieCursor<'_>
+        ensures units { result.units ≡ self.now }
+        ensures place { result.place ≡ Node 0 }
+        ensures root { (m : UnitMap) → IsTrieOf self.now m → IsAfter result m [] }
+    {
+        Char16TrieCursor::new(self.data.as_slice())
+    }
+
+    /// An iterator at the root: a cursor that tells at each step what it found.
+    ///
+    /// ```
+    /// // of the map of "ab" to 3
+    /// let mut iterator = trie.iter();
+    /// // iterator.next('a') is TrieResult::NoValue, and then iterator.next('b') is TrieResult::FinalValue(3)
+    /// ```
+    #[inline]
+    pub fn iter(&self) -> Char16TrieIterator<'_>
+        ensures units { result.units ≡ self.now }
+        ensures place { result.place ≡ Node 0 }
+        ensures root { (m : UnitMap) → IsTrieOf self.now m → IsAfter result m [] }
+    {
+        Char16TrieIterator::new(self.data.as_slice())
+    }
+
+    /// The entries, in unit order: each key as text, with its value. It takes no memory before its first item.
+    ///
+    /// It is not named `iter`, since in the Rust crate that call gives what looks up and does not list.
+    ///
+    /// ```
+    /// // of the map of "a" to 1 and "ab" to 2
+    /// for entry in trie.iter2(alloc) {
+    ///     let (text, value) = entry?; // "a" and 1, then "ab" and 2
+    /// }
+    /// ```
+    #[inline]
+    pub fn iter2(&self, alloc: Global) -> Iter2<'_>
+        ensures left { (m : UnitMap) → IsTrieOf self.now m → IsLeft result m }
+        ensures map { (m : UnitMap) → IsTrieOf self.now m → IsAscendingKeys m }
+        ensures one { (m m' : UnitMap) → IsTrieOf self.now m → IsTrieOf self.now m' → m ≡ m' }
+
+        // Until the want of memory, if there is one, the items are the entries; only then are they cut short.
+        ensures drained { (m : UnitMap) (xs : List (Result (String Global × ℤ) MemoryError)) → IsTrieOf self.now m
+            → Drains GivesNext result xs → AreEntries xs m ⊎ AreCutShort xs m }
+    {
+        Iter2::new(alloc, self.data.as_slice())
+    }
+
+    /// An equal trie that owns its units.
+    ///
+    /// # Errors
+    /// `MemoryError` where no memory was found.
+    pub fn try_clone(&self, alloc: Global) -> Result<Char16Trie<'static>, MemoryError>
+        ensures ok { IfOk result (λ trie. trie ≡ self.now) }
+    {
+        Ok(Char16Trie::new(self.data.try_clone(alloc)?))
+    }
+}
+
+impl<'data> PartialEq for Char16Trie<'data> {
+    ghost eq = { pointwise (same_bytes (low_bytes 2)) };
+
+    ghost laws = { lists_per (on_per (low_bytes 2) (partial_equiv_from_equiv nat_list_eq_equiv)) };
+
+    fn eq(&self, other: &Self) -> bool
+        ensures value { result ≡ pointwise (same_bytes (low_bytes 2)) self.now other.now }
+        ensures same { IsTrue result ↔ (self.now ≡ other.now) }
+    {
+        self.data == other.data
+    }
+}
+
+impl<'data> Eq for Char16Trie<'data> {
+    ghost laws = { lists_equiv (on_equiv (low_bytes 2) nat_list_eq_equiv) };
+}
