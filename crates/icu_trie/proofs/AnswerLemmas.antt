@@ -1,6 +1,7 @@
 -- What the answer is in each part of a trie.
 use Rattle.std.proofs.Common.{◌≡◌, ◌⊎◌, inl, inr, ◌+◌, ◌/◌, ◌%◌, ◌<◌, ◌≤◌, ℕ, List, slice_get, Option, Some, None, arith, refl}
 use Rattle.std.proofs.lemmas.Bool.{lt-ltb, le-ltb}
+use Rattle.std.specs.Option.{option_len}
 use Rattle.icu_trie.specs.Format.{answer, fast_limit, index2_cell, offset_in_block, small_offset}
 use Rattle.icu_trie.specs.declared.header.TrieType.{TrieType}
 use Rattle.icu_trie.specs.declared.header.TrieType.TheVariants.{Fast, Small}
@@ -9,6 +10,10 @@ use Rattle.icu_trie.specs.declared.header.CodePointTrieHeader.{CodePointTrieHead
 pub none_or_some : {A : Type 0} (o : Option A) → (o ≡ None) ⊎ ((x : A) × (o ≡ Some x))
 none_or_some None = inl refl
 none_or_some (Some x) = inr (x, refl)
+
+pub option_len_most : {A : Type 0} (o : Option A) → option_len o ≤ 1
+option_len_most None = omega arith
+option_len_most (Some x) = omega arith
 
 pub fast_limit_most : (kind : TrieType) → (fast_limit kind ≤ 65536) × (fast_limit kind % 512 ≡ 0)
 fast_limit_most Fast = (omega arith, refl)

@@ -1,7 +1,7 @@
 -- The format of a code point trie, as ICU4C's UCPTrie has it: how the cell of a code point is found in index
 -- and data.
 use Rattle.std.specs.Prelude.{ℕ, ◌+◌, ◌-◌, ◌*◌, ◌/◌, ◌%◌, ◌^◌, nat_lt, List, length, slice_get, Option, Some, None, if◌then◌else◌}
-use Rattle.std.specs.Option.{option_and_then}
+use Rattle.std.specs.Option.{option_and_then, option_or}
 use Rattle.icu_trie.specs.declared.header.TrieType.{TrieType}
 use Rattle.icu_trie.specs.declared.header.TrieType.TheVariants.{Fast, Small}
 use Rattle.icu_trie.specs.declared.header.CodePointTrieHeader.{CodePointTrieHeader}
@@ -60,6 +60,10 @@ place h index len u =
     else (if nat_lt u (fast_limit h.trie_type) then option_and_then (λ offset. Some (offset + u % 64)) (fast_offset index u)
     else (if nat_lt u h.high_start then option_and_then (λ offset. Some (offset + u % 16)) (small_offset h.trie_type index u)
     else high_cell len))
+
+-- the place of the cell that stands for u, as `place`, and the last cell where the error value does so for want of a place
+abbrev pub place_or_last : CodePointTrieHeader → List ℕ → ℕ → ℕ → Option ℕ
+place_or_last h index len u = option_or (place h index len u) (Some (len - 1))
 
 -- the format answer: the cell of data at u, and none where the error value stands in its place
 unfoldable pub answer : {T : Type 0} → CodePointTrieHeader → List ℕ → List T → ℕ → Option T

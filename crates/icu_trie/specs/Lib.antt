@@ -4,3 +4,10 @@ pub mod Coherence
 pub mod Blocks
 pub mod Numbers
 pub mod SignedNumbers
+pub mod Typed
+pub mod Conversion
+pub mod Runs
+pub mod Seen
+pub mod Walk
+pub mod Ranges
+pub mod Iterators

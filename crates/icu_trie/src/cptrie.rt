@@ -1,15 +1,20 @@
 //! The trie over packed vectors.
-ghost use Rattle.std.specs.Prelude.{◌≡◌, ℕ, ◌<◌, ◌≤◌, List, length, Some, None, IfOk, IfErr, is_some};
+ghost use Rattle.std.specs.Prelude.{◌≡◌, ℕ, ◌<◌, ◌≤◌, List, length, Some, None, IfOk, IfErr, IsSomeAnd, is_some};
 ghost use Rattle.std.specs.Option.{option_map};
 ghost use Rattle.icu_trie.specs.Format.{answer};
 ghost use Rattle.icu_trie.specs.Parts.{fault, last_cell, passes_data, fast_index_len};
+ghost use Rattle.icu_trie.specs.Coherence.{IsCoherent};
+ghost use Rattle.icu_trie.specs.Ranges.{GivesWalk, last_of};
+ghost use Rattle.icu_trie.specs.Runs.{LongestRun};
 ghost use Rattle.icu_zerovec.specs.Slice.{slice_values};
 
 use crate::cells::{Cells, Steps};
 use crate::error::CodePointTrieError;
 use crate::header::{CodePointTrieHeader, TrieType};
 use crate::lookup::look_up;
+use crate::ranges::CodePointMapRange;
 use crate::value::TrieValue;
+use crate::walk::walk;
 use icu_zerovec::{MemoryError, ZeroSlice, ZeroVec};
 use std::alloc::Global;
 use std::marker::{Brand, Model};
@@ -17,10 +22,10 @@ use std::sync::ledger::{Blank, Ledger};
 
 /// The cells of two packed vectors.
 #[derive(Drop)]
-struct PackedCells<'a, T: TrieValue, L: Ledger> {
-    index: ZeroSlice<'a, u16>,
-    values: ZeroSlice<'a, T>,
-    reads: Steps<L>,
+pub(crate) struct PackedCells<'a, T: TrieValue, L: Ledger> {
+    pub(crate) index: ZeroSlice<'a, u16>,
+    pub(crate) values: ZeroSlice<'a, T>,
+    pub(crate) reads: Steps<L>,
 }
 
 impl<'a, T: TrieValue, L: Ledger> Cells<T> for PackedCells<'a, T, L> {
@@ -77,7 +82,7 @@ fn look_up_counted<T: TrieValue, L: Ledger>(
 
 /// `look_up` over packed vectors. Nobody reads its count, so that it makes one of its own.
 #[inline(always)]
-fn look_up_in<T: TrieValue>(
+pub(crate) fn look_up_in<T: TrieValue>(
     header: &CodePointTrieHeader,
     index: ZeroSlice<'_, u16>,
     values: ZeroSlice<'_, T>,
@@ -86,6 +91,43 @@ fn look_up_in<T: TrieValue>(
     ensures { result ≡ answer header.now (slice_values index.entry) (slice_values values.entry) c }
 {
     look_up_counted::<T, Brand>(header, index, values, c, Blank::new(1))
+}
+
+/// `walk` over packed vectors, with a count in the ledger of `blank`.
+fn walk_counted<T: TrieValue, L: Ledger>(
+    header: &CodePointTrieHeader,
+    index: ZeroSlice<'_, u16>,
+    values: ZeroSlice<'_, T>,
+    c: u32,
+    blank: Blank,
+) -> Option<CodePointMapRange<T>>
+    requires name { blank.name ≡ L.name }
+    requires parts { blank.parts ≡ L.parts }
+    requires some { 0 < blank.parts }
+    ensures gives { GivesWalk T.of_number header.now (slice_values index.entry) (slice_values values.entry) c result }
+    ensures longest { IsCoherent T.of_number header.now (slice_values index.entry) (slice_values values.entry) → c < 0x110000
+        → IsSomeAnd result (λ r. LongestRun (answer header.now (slice_values index.entry) (slice_values values.entry)) c (last_of r) (Some r.value)) }
+{
+    let mut cells = PackedCells {
+        index,
+        values,
+        reads: Steps::<L>::new(blank),
+    };
+    walk(header, &mut cells, c)
+}
+
+/// `walk` over packed vectors. Nobody reads its count, so that it makes one of its own.
+pub(crate) fn walk_in<T: TrieValue>(
+    header: &CodePointTrieHeader,
+    index: ZeroSlice<'_, u16>,
+    values: ZeroSlice<'_, T>,
+    c: u32,
+) -> Option<CodePointMapRange<T>>
+    ensures gives { GivesWalk T.of_number header.now (slice_values index.entry) (slice_values values.entry) c result }
+    ensures longest { IsCoherent T.of_number header.now (slice_values index.entry) (slice_values values.entry) → c < 0x110000
+        → IsSomeAnd result (λ r. LongestRun (answer header.now (slice_values index.entry) (slice_values values.entry)) c (last_of r) (Some r.value)) }
+{
+    walk_counted::<T, Brand>(header, index, values, c, Blank::new(1))
 }
 
 /// How many cells the fast index has.
@@ -131,7 +173,7 @@ pub struct CodePointTrie<'trie, T: TrieValue> {
     pub(crate) index: ZeroVec<'trie, u16>,
     pub(crate) data: ZeroVec<'trie, T>,
     // The last cell of the data, kept beside them since every look-up may need it.
-    error_value: T,
+    pub(crate) error_value: T,
 }
 
 impl<'trie, T: TrieValue> Model for CodePointTrie<'trie, T> {

@@ -4,15 +4,26 @@
 //! - `value`: what a trie can hold, [`TrieValue`](value::TrieValue)
 //! - `cells`: index and data cell by cell, with the count of reads
 //! - `lookup`: [`look_up`](lookup::look_up), the format as code
+//! - `walk`: [`walk`](walk::walk), the range of one value from a code point on, by blocks
 //! - `cptrie`: [`CodePointTrie`](cptrie::CodePointTrie), the trie over packed vectors
+//! - `ranges`: its ranges of equal values, and the set of a value
+//! - `packed_cell`, `convert`, `typed`: the bytes of a cell, the data read as another type, and tries whose type
+//!   is known
 //! - `error`, `impl_const`: why parts are refused; the format's numbers
 #![tactic(auto)]
 
 pub mod cells;
+mod convert;
 pub mod cptrie;
 mod equality;
 pub mod error;
 pub mod header;
 pub mod impl_const;
 pub mod lookup;
+mod packed_cell;
+pub mod ranges;
+#[cfg(test)]
+mod tests;
+pub mod typed;
 pub mod value;
+pub mod walk;

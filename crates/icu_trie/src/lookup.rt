@@ -19,7 +19,11 @@ pub(crate) fn fast_limit_of(trie_type: TrieType) -> u32
 }
 
 /// The index-2 cell of a code point, in two reads.
-fn index2_cell_of<T, C: Cells<T>>(trie_type: TrieType, cells: &mut C, c: u32) -> Option<u16>
+pub(crate) fn index2_cell_of<T, C: Cells<T>>(
+    trie_type: TrieType,
+    cells: &mut C,
+    c: u32,
+) -> Option<u16>
     ensures cell { result ≡ index2_cell trie_type (C.index cells.old) c }
     ensures reads { C.reads cells.new ≤ C.reads cells.old + 2 }
     ensures same_index { C.index cells.new ≡ C.index cells.old }
@@ -42,7 +46,7 @@ fn long_offset_of(high: u16, low: u16, place: u32) -> u32
 }
 
 /// One of the 32 data offsets of the index-3 block that an index-2 cell names, in two reads at most.
-fn offset_of<T, C: Cells<T>>(cells: &mut C, index2_cell: u16, place: u32) -> Option<u32>
+pub(crate) fn offset_of<T, C: Cells<T>>(cells: &mut C, index2_cell: u16, place: u32) -> Option<u32>
     requires { place < 32 }
     ensures offset { result ≡ offset_in_block (C.index cells.old) index2_cell place }
     ensures bound { IfSome result (λ offset. offset < 2 ^ 18) }
@@ -67,7 +71,11 @@ fn offset_of<T, C: Cells<T>>(cells: &mut C, index2_cell: u16, place: u32) -> Opt
 /// It is no part of the fast path, and stays a call so that this one is short.
 #[inline(never)]
 #[tactic(auto, unfolding(crate::specs::Format::small_offset))]
-fn small_place_of<T, C: Cells<T>>(trie_type: TrieType, cells: &mut C, c: u32) -> Option<usize>
+pub(crate) fn small_place_of<T, C: Cells<T>>(
+    trie_type: TrieType,
+    cells: &mut C,
+    c: u32,
+) -> Option<usize>
     ensures place { result ≡ option_and_then (λ offset. Some (offset + c % 16)) (small_offset trie_type (C.index cells.old) c) }
     ensures reads { C.reads cells.new ≤ C.reads cells.old + 4 }
     ensures same_index { C.index cells.new ≡ C.index cells.old }

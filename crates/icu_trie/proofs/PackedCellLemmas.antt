@@ -1,0 +1,31 @@
+-- The bytes of one value among packed bytes.
+use Rattle.std.proofs.Common.{◌≡◌, ℕ, ◌+◌, ◌-◌, ◌*◌, ◌/◌, ◌<◌, ◌≤◌, List, length, take, drop, slice_get, Option, Some, arith, sym, ◌∙◌, ap}
+use Rattle.std.specs.List.{slice_range}
+use Rattle.std.specs.Option.{option_map}
+use Rattle.std.proofs.lemmas.List.{length-take-le, length-drop}
+use Rattle.std.proofs.lemmas.Nat.{div-add-mod', row_fits}
+use Rattle.icu_zerovec.specs.Canonical.{IsCanonical}
+use Rattle.icu_zerovec.specs.Cells.{cell, values_of, IsPacked}
+use Rattle.icu_zerovec.proofs.CellsLemmas.{length-values_of, get-values_of, pack-get}
+
+module _ {T : Type 0} (f : List ℕ → Option T) (w : ℕ) (b : List ℕ) (p : IsPacked f w b) (i : ℕ) (l : i < length (values_of f w b)) where
+  within : i < length b / w
+  within = omega (arith, l, length-values_of f w b p)
+
+  -- they lie within the bytes
+  pub cell_fits : i * w + w ≤ length b
+  cell_fits = omega (arith, row_fits i w (length b / w) w within (omega arith), div-add-mod' (length b) w)
+
+  pub cell_is : slice_range b (i * w) (i * w + w) ≡ cell w b i
+  cell_is = let e : i * w + w - i * w ≡ w = omega arith in ap (λ n. take n (drop (i * w) b)) e
+
+  pub length-cell : length (slice_range b (i * w) (i * w + w)) ≡ w
+  length-cell = ap length cell_is ∙ length-take-le w (drop (i * w) b) (omega (arith, length-drop (i * w) b, cell_fits))
+
+  -- they give the value
+  pub value-cell : f (slice_range b (i * w) (i * w + w)) ≡ slice_get (values_of f w b) i
+  value-cell = ap f cell_is ∙ sym (get-values_of f w b i p within)
+
+  -- and are what it packs to, where each value has one encoding
+  pub pack-cell : (pack : T → List ℕ) → IsCanonical pack f w → Some (slice_range b (i * w) (i * w + w)) ≡ option_map pack (slice_get (values_of f w b) i)
+  pack-cell pack one = ap Some cell_is ∙ sym (pack-get f w pack one b i p within)

@@ -1,0 +1,20 @@
+-- The iterator over the ranges of a trie.
+use Rattle.std.specs.Prelude.{◌≡◌, ℕ, ◌+◌, Option, MatchOption}
+use Rattle.icu_trie.specs.declared.ranges.CodePointMapRange.{CodePointMapRange}
+use Rattle.icu_trie.specs.declared.ranges.CodePointMapRangeIterator.{CodePointMapRangeIterator}
+use Rattle.icu_trie.specs.Parts.{Parts}
+use Rattle.icu_trie.specs.Ranges.{GivesWalk, last_of}
+
+module _ {A : Type 0} {m : _} where
+  -- the trie of an iterator, and where its next range begins
+  abbrev pub iterator_trie : CodePointMapRangeIterator A m → Parts A
+  iterator_trie s = s.trie.now
+
+  abbrev pub iterator_next : CodePointMapRangeIterator A m → ℕ
+  iterator_next s = s.next
+
+  -- a call gave the range from where the one before it ended, or none, and then none for ever
+  pub record GivesNextRange (of_number : ℕ → Option A) (s : CodePointMapRangeIterator A m) (r : Option (CodePointMapRange A)) (t : CodePointMapRangeIterator A m) : Type 0 where
+    pub same : t.trie ≡ s.trie
+    pub gives : GivesWalk of_number (iterator_trie s).header (iterator_trie s).index (iterator_trie s).values (iterator_next s) r
+    pub moves : MatchOption r (iterator_next t ≡ 0x110000) (λ x. iterator_next t ≡ last_of x + 1)

@@ -1,0 +1,96 @@
+//! The data of a trie, read as values of another type.
+ghost use Rattle.std.specs.Prelude.{◌≡◌, ◌≢◌, ℕ, List, length, slice_get, Some, None, Ok, Err, Result, IfOk};
+ghost use Rattle.icu_trie.specs.Conversion.{Becomes, same_packed, with_null_value};
+ghost use Rattle.icu_trie.specs.Parts.{fault};
+ghost use Rattle.icu_trie.specs.declared.error.ConvertError.TheVariants.{Width, Cell};
+ghost use Rattle.icu_zerovec.specs.Canonical.{IsCanonical};
+ghost use Rattle.icu_zerovec.specs.Cells.{IsConverted, IsFirstRefused};
+ghost use Rattle.icu_zerovec.specs.declared.ule.UleError.{UleError};
+ghost use Rattle.icu_zerovec.specs.declared.ule.UleError.TheVariants as bytes;
+
+use crate::cptrie::CodePointTrie;
+use crate::error::ConvertError;
+use crate::header::CodePointTrieHeader;
+use crate::value::TrieValue;
+use icu_zerovec::ZeroVec;
+use icu_zerovec::ule::{AsULE, UleError};
+
+/// The value of the other type that has the same packed bytes. `None` where there is none.
+fn same_packed<T: AsULE, P: AsULE>(value: T) -> Option<P>
+    requires { T.WIDTH ≡ P.WIDTH }
+    ensures { result ≡ same_packed T.pack P.unpack (Some value) }
+{
+    value.shown();
+    P::from_unaligned(&value.to_unaligned()[..P::WIDTH])
+}
+
+impl<'trie, T: TrieValue> CodePointTrie<'trie, T> {
+    /// The same trie over values of another type of the same width: its index and the bytes of its data are kept,
+    /// borrowed or owned as they were, none of them copied. The header's null value becomes the other type's
+    /// number for the same packed bytes.
+    ///
+    /// The clauses speak of some bytes that give the values, which are known exactly where each value has one
+    /// encoding.
+    ///
+    /// # Errors
+    /// In this order: `Width` where values of the two types take different numbers of bytes; `Cell` with the
+    /// first cell of the data that is no value of the other type, the error value among them; `ErrorOrNull` where
+    /// the null value's packed bytes are no value of the other type. The trie is then given up.
+    pub fn try_into_converted<P: TrieValue>(self) -> Result<CodePointTrie<'trie, P>, ConvertError>
+        ensures width { T.WIDTH ≢ P.WIDTH → result ≡ Err Width }
+        ensures becomes { T.WIDTH ≡ P.WIDTH → (values : Result (List P) UleError)
+            × (IsConverted T.unpack T.WIDTH P.unpack P.WIDTH self.entry.values values
+            × Becomes P.number self.entry values (same_packed T.pack P.unpack (T.of_number self.entry.header.null_value)) result) }
+        ensures ok { IsCanonical T.pack T.unpack T.WIDTH → IfOk result (λ t. (i : ℕ)
+            → slice_get t.values i ≡ same_packed T.pack P.unpack (slice_get self.entry.values i)) }
+        ensures err { IsCanonical T.pack T.unpack T.WIDTH → (i : ℕ) → result ≡ Err (Cell i)
+            → IsFirstRefused T.pack P.unpack self.entry.values (bytes.Cell i) }
+    {
+        if T::WIDTH != P::WIDTH {
+            return Err(ConvertError::Width);
+        }
+        let null = self.null_value();
+        let CodePointTrie {
+            header,
+            index,
+            data,
+            error_value: _,
+        } = self;
+        let data = match data.try_into_converted::<P>() {
+            Ok(data) => data,
+            Err(UleError::Cell(i)) => return Err(ConvertError::Cell(i)),
+            Err(UleError::Length) => unreachable!(),
+        };
+        match same_packed::<T, P>(null) {
+            Some(null) => {
+                null.shown();
+                Ok(CodePointTrie::with_data(header, index, data, null))
+            }
+            None => Err(ConvertError::ErrorOrNull),
+        }
+    }
+
+    /// The trie of parts that were tested, with this null value.
+    fn with_data(
+        header: CodePointTrieHeader,
+        index: ZeroVec<'trie, u16>,
+        data: ZeroVec<'trie, T>,
+        null: T,
+    ) -> Self
+        requires { fault T.of_number (with_null_value header (T.number null)) index «data» ≡ None }
+        ensures { result ≡ record { header = with_null_value header (T.number null); index = index.entry; values = «data».entry } }
+    {
+        let Some(error_value) = data.last() else {
+            unreachable!()
+        };
+        CodePointTrie {
+            header: CodePointTrieHeader {
+                null_value: null.to_u32(),
+                ..header
+            },
+            index,
+            data,
+            error_value,
+        }
+    }
+}

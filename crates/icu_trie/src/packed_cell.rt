@@ -1,0 +1,105 @@
+//! The packed bytes of a code point's cell.
+ghost use Rattle.std.specs.Prelude.{◌≡◌, ◌≤◌, ℕ, ◌<◌, ◌+◌, ◌*◌, List, length, slice_get, Some, None, IsNone, IfSome, ◌↔◌};
+ghost use Rattle.std.specs.Option.{option_and_then, option_map};
+ghost use Rattle.icu_trie.specs.Format.{place, place_or_last};
+ghost use Rattle.icu_zerovec.specs.Canonical.{IsCanonical};
+ghost use Rattle.icu_zerovec.specs.Slice.{slice_values};
+
+use crate::cells::{Cells, Steps};
+use crate::cptrie::{CodePointTrie, PackedCells};
+use crate::header::CodePointTrieHeader;
+use crate::lookup::{fast_limit_of, small_place_of};
+use crate::value::TrieValue;
+use icu_zerovec::{ZeroSlice, ZeroVec};
+use std::marker::Brand;
+use std::sync::ledger::{Blank, Ledger};
+
+/// The place in the data of the cell of `c`, any number of 32 bits, whether or not the data reach so far.
+/// `None` above 0x10FFFF, and where a cell of the index is missing.
+#[inline]
+fn place_of<T, C: Cells<T>>(header: &CodePointTrieHeader, cells: &mut C, c: u32) -> Option<usize>
+    ensures { result ≡ place header.now (C.index cells.old) (length (C.values cells.old)) c }
+{
+    if c < fast_limit_of(header.trie_type) {
+        let offset = cells.index_cell((c >> 6) as usize)?;
+        return Some(offset as usize + (c & 63) as usize);
+    }
+    if c > 0x10FFFF {
+        return None;
+    }
+    if c >= header.high_start {
+        return cells.data_len().checked_sub(2);
+    }
+    small_place_of(header.trie_type, cells, c)
+}
+
+/// `place_of` over packed vectors, with a count in the ledger of `blank`.
+#[inline]
+fn place_counted<T: TrieValue, L: Ledger>(
+    header: &CodePointTrieHeader,
+    index: ZeroSlice<'_, u16>,
+    values: ZeroSlice<'_, T>,
+    c: u32,
+    blank: Blank,
+) -> Option<usize>
+    requires name { blank.name ≡ L.name }
+    requires parts { blank.parts ≡ L.parts }
+    requires some { 0 < blank.parts }
+    ensures { result ≡ place header.now (slice_values index.entry) (length (slice_values values.entry)) c }
+{
+    let mut cells = PackedCells {
+        index,
+        values,
+        reads: Steps::<L>::new(blank),
+    };
+    place_of(header, &mut cells, c)
+}
+
+/// `place_of` over packed vectors. Nobody reads its count, so that it makes one of its own.
+#[inline]
+fn place_in<T: TrieValue>(
+    header: &CodePointTrieHeader,
+    index: ZeroSlice<'_, u16>,
+    values: ZeroSlice<'_, T>,
+    c: u32,
+) -> Option<usize>
+    ensures { result ≡ place header.now (slice_values index.entry) (length (slice_values values.entry)) c }
+{
+    place_counted::<T, Brand>(header, index, values, c, Blank::new(1))
+}
+
+/// The packed bytes of the value at place `i`. `None` at or past the end.
+#[inline]
+fn bytes_at<'a, T: TrieValue>(values: &'a ZeroVec<'_, T>, i: usize) -> Option<&'a [u8]>
+    ensures value { option_and_then (λ b. T.unpack b.now) result ≡ slice_get values.now i }
+    ensures none { IsNone result ↔ (length values.now ≤ i) }
+    ensures width { IfSome result (λ b. length b.now ≡ T.WIDTH) }
+    ensures canonical { IsCanonical T.pack T.unpack T.WIDTH → option_map (λ b. b.now) result ≡ option_map T.pack (slice_get values.now i) }
+{
+    if i >= values.len() {
+        return None;
+    }
+    let start = i * T::WIDTH;
+    Some(&values.as_bytes()[start..start + T::WIDTH])
+}
+
+impl<'trie, T: TrieValue> CodePointTrie<'trie, T> {
+    /// The packed bytes of the cell of the code point `c`, `T::WIDTH` of them, lent: for values that are read in
+    /// place. Above 0x10FFFF, and where a cell of the index is missing, those of the last cell, which is the error
+    /// value. `None` exactly where the index leads outside the data.
+    ///
+    /// Where each value of the type has one encoding, as in all types of this crate, they are the bytes that the
+    /// value packs to.
+    pub fn get32_ule(&self, c: u32) -> Option<&[u8]>
+        ensures value { option_and_then (λ b. T.unpack b.now) result ≡ option_and_then (slice_get self.now.values)
+            (place_or_last self.now.header self.now.index (length self.now.values) c) }
+        ensures none { IsNone result ↔ IfSome (place_or_last self.now.header self.now.index (length self.now.values) c)
+            (λ i. length self.now.values ≤ i) }
+        ensures width { IfSome result (λ b. length b.now ≡ T.WIDTH) }
+        ensures canonical { IsCanonical T.pack T.unpack T.WIDTH → option_map (λ b. b.now) result ≡ option_map T.pack
+            (option_and_then (slice_get self.now.values) (place_or_last self.now.header self.now.index (length self.now.values) c)) }
+    {
+        let place = place_in(&self.header, self.index.as_slice(), self.data.as_slice(), c);
+        bytes_at(&self.data, place.unwrap_or(self.data.len() - 1))
+    }
+}

@@ -1,0 +1,133 @@
+//! The ranges of a trie.
+ghost use Rattle.std.specs.Prelude.{◌≡◌, ◌≢◌, ℕ, ◌+◌, ◌-◌, ◌<◌, ◌≤◌, List, Some, None, MatchOption, IfOk, map, true, ◌↔◌};
+ghost use Rattle.icu_invlist.specs.InversionList.{IsValid, holds};
+
+use crate::cptrie::{CodePointTrie, walk_in};
+use crate::value::TrieValue;
+use crate::walk::{CODE_POINTS, is_same};
+use icu_invlist::codepointinvlist::{CodePointInversionList, SetError};
+use icu_zerovec::MemoryError;
+use std::alloc::Global;
+use std::ops::RangeInclusive;
+
+/// Code points, both ends included, and the value that a trie has at each of them.
+#[derive(Clone, Debug, Drop, PartialEq, Eq)]
+pub struct CodePointMapRange<T> {
+    /// The code points, as `0x41..=0x5A`. A range that a trie gives is never empty.
+    pub range: RangeInclusive<u32>,
+    /// Their value.
+    pub value: T,
+}
+
+impl<'trie, T: TrieValue> CodePointTrie<'trie, T> {
+    ghost use Rattle.std.specs.Iterator.{Drains};
+    ghost use Rattle.icu_trie.specs.Runs.{LongestRun, AreMaximalRuns};
+    ghost use Rattle.icu_trie.specs.Ranges.{GivesWalk, AreRangesFrom, IsInRangeOf, IsCoherentTrie, answers, last_of, run_of};
+    ghost use Rattle.icu_trie.specs.Iterators.{GivesNextRange, iterator_trie, iterator_next};
+
+    /// The range of one value from the code point `c` on, as far as it goes.
+    ///
+    /// Over a coherent trie, as every built one is, it is the longest run of equal answers from `c` on. `None`
+    /// above 0x10FFFF, and where the trie lacks a cell that the walk comes to ([`walk`](crate::walk::walk)).
+    pub fn get_range(&self, c: u32) -> Option<CodePointMapRange<T>>
+        ensures gives { GivesWalk T.of_number self.now.header self.now.index self.now.values c result }
+        ensures longest { IsCoherentTrie T.of_number self.now
+            → MatchOption result (0x110000 ≤ c) (λ x. LongestRun (answers self.now) c (last_of x) (Some x.value)) }
+    {
+        walk_in(&self.header, self.index.as_slice(), self.data.as_slice(), c)
+    }
+
+    /// The ranges of equal values from 0 on, each of which begins where the one before it ended.
+    pub fn iter_ranges(&self) -> CodePointMapRangeIterator<'_, T>
+        ensures of { iterator_trie result ≡ self.now }
+        ensures start { iterator_next result ≡ 0 }
+        ensures ranges { (xs : List _) → Drains (GivesNextRange T.of_number) result xs
+            → AreRangesFrom T.of_number self.now 0 xs }
+        ensures runs { IsCoherentTrie T.of_number self.now → (xs : List _)
+            → Drains (GivesNextRange T.of_number) result xs → AreMaximalRuns (answers self.now) (map run_of xs) }
+        ensures only { IsCoherentTrie T.of_number self.now → (xs : List _)
+            → Drains (GivesNextRange T.of_number) result xs
+            → (runs : List _) → AreMaximalRuns (answers self.now) runs → runs ≡ map run_of xs }
+    {
+        CodePointMapRangeIterator {
+            trie: self,
+            next: 0,
+        }
+    }
+
+    /// The ends of the ranges with the value, each start and each exclusive end in turn. Ranges of the value that
+    /// touch are one.
+    fn ends_of_value(&self, alloc: Global, value: T) -> Result<Vec<u32>, MemoryError>
+        ensures valid { IfOk result (λ v. IsValid v.items) }
+        ensures set { IfOk result (λ v. (xs : List _) × AreRangesFrom T.of_number self.now 0 xs
+            × ((c : ℕ) → c < 0x110000 → (holds v.items c ≡ true) ↔ IsInRangeOf value xs c)) }
+    {
+        // An odd number of ends: the last range had the value.
+        let mut ends = Vec::new(alloc);
+        let mut next = 0;
+        for run in self.iter_ranges() {
+            let is_inside = ends.len() % 2 == 1;
+            if is_same(run.value, value) != is_inside {
+                ends.push(*run.range.start())?;
+            }
+            next = *run.range.end() + 1;
+        }
+        if ends.len() % 2 == 1 {
+            ends.push(next)?;
+        }
+        Ok(ends)
+    }
+
+    /// The code points whose range has the value, as `iter_ranges` gives them. Over a coherent trie, as every
+    /// built one is, these are the code points that have the value.
+    ///
+    /// # Errors
+    /// `MemoryError` where memory was refused.
+    pub fn get_set_for_value(
+        &self,
+        alloc: Global,
+        value: T,
+    ) -> Result<CodePointInversionList<'static>, MemoryError>
+        ensures set { IfOk result (λ s. (xs : List _) × AreRangesFrom T.of_number self.now 0 xs
+            × ((c : ℕ) → c < 0x110000 → (holds s c ≡ true) ↔ IsInRangeOf value xs c)) }
+        ensures preimage { IsCoherentTrie T.of_number self.now
+            → IfOk result (λ s. (c : ℕ) → c < 0x110000 → (holds s c ≡ true) ↔ (answers self.now c ≡ Some value)) }
+    {
+        let ends = self.ends_of_value(alloc, value)?;
+        match CodePointInversionList::try_from_u32_inversion_list_slice(alloc, &ends) {
+            Ok(set) => Ok(set),
+            Err(SetError::Memory) => Err(MemoryError),
+            Err(SetError::Invalid(_)) => unreachable!(),
+        }
+    }
+}
+
+/// The ranges of a trie, from 0 on.
+///
+/// It gives what `get_range` gives at 0, and then what it gives behind the end of the last range. Once there is
+/// none, it gives none for ever.
+#[derive(Debug, Drop)]
+pub struct CodePointMapRangeIterator<'a, T: TrieValue> {
+    trie: &'a CodePointTrie<'a, T>,
+    next: u32,
+}
+
+impl<'a, T: TrieValue> Iterator for CodePointMapRangeIterator<'a, T> {
+    ghost use Rattle.std.specs.Iterator.{at_most};
+    ghost use Rattle.icu_trie.specs.Iterators.{GivesNextRange, iterator_next};
+
+    type Item = CodePointMapRange<T>;
+
+    ghost next_gives = { GivesNextRange T.of_number };
+
+    ghost remaining = { λ s. at_most (0x110000 - iterator_next s) };
+
+    fn next(&mut self) -> Option<CodePointMapRange<T>> {
+        let range = self.trie.get_range(self.next);
+        self.next = match &range {
+            Some(x) => *x.range.end() + 1,
+            None => CODE_POINTS,
+        };
+        range
+    }
+}

@@ -1,0 +1,346 @@
+//! Tries whose type is known in the Rust type.
+ghost use Rattle.std.specs.Prelude.{◌≡◌, ℕ, ◌≤◌, ◌<◌, nat_lt, Some, None, IfOk, IfErr, if◌then◌else◌};
+ghost use Rattle.std.specs.Option.{option_map};
+ghost use Rattle.icu_trie.specs.Format.{fast_limit};
+ghost use Rattle.icu_trie.specs.Parts.{Parts, trie_value};
+ghost use Rattle.icu_trie.specs.declared.header.TrieType.{TrieType};
+ghost use Rattle.icu_trie.specs.declared.header.TrieType.TheVariants.{Fast, Small};
+ghost use Rattle.icu_trie.specs.Typed.{IsTyped, IsOfType};
+
+use crate::cptrie::{CodePointTrie, look_up_in};
+use crate::header::{CodePointTrieHeader, TrieType};
+use crate::lookup::fast_limit_of;
+use crate::value::TrieValue;
+use std::marker::Model;
+use thiserror::Error;
+
+/// A trie whose type is known where it is compiled, so that no look-up tests it.
+///
+/// A type of your own is lawful where the type of its trie is the constant: contracts name it `trie_type`, since
+/// they can't name a constant of a type that borrows.
+pub trait TypedCodePointTrie<'trie, T: TrieValue> {
+    /// The type of the trie.
+    const TRIE_TYPE: TrieType;
+
+    /// What the constant is.
+    ghost trie_type: { TrieType };
+
+    /// The header, the index and the data of the trie.
+    ghost parts: { Self → Parts T };
+
+    /// Tells a proof that the type of the trie in hand is the constant. It does nothing.
+    fn shown(&self)
+        ensures { (parts self.now).header.trie_type ≡ trie_type };
+
+    /// The value of the code point `c`, as [`CodePointTrie::get32`] answers it.
+    fn get32(&self, c: u32) -> T
+        ensures { Some result ≡ trie_value (parts self.now) c };
+
+    /// The value of a character.
+    fn get(&self, c: char) -> T
+        ensures { Some result ≡ trie_value (parts self.now) c };
+
+    /// The value of a code point of the basic multilingual plane, surrogates among them. In a fast trie it takes
+    /// two reads.
+    fn get16(&self, bmp: u16) -> T
+        ensures { Some result ≡ trie_value (parts self.now) bmp };
+
+    /// The value of a code point from 0x10000 on. As `get32`, and the same below.
+    fn get32_supplementary(&self, supplementary: u32) -> T
+        ensures { Some result ≡ trie_value (parts self.now) supplementary };
+
+    /// The number of the value of the code point `c`: what `get32` answers, by `to_u32`.
+    fn get32_u32(&self, c: u32) -> u32
+        ensures { Some result ≡ option_map T.number (trie_value (parts self.now) c) };
+
+    /// The value of a code point below the fast limit, which is 0x10000 for a fast trie and 0x1000 for a small
+    /// one. `None` from it on.
+    fn get32_by_fast_index(&self, c: u32) -> Option<T>
+        ensures { result ≡ (if nat_lt c (fast_limit trie_type) then trie_value (parts self.now) c else None) };
+}
+
+/// The value of `c` in a trie of this type. The type in the header is known then, and no code tests it.
+#[inline(always)]
+fn value_of<T: TrieValue>(trie: &CodePointTrie<'_, T>, trie_type: TrieType, c: u32) -> T
+    requires { trie.now.header.trie_type ≡ trie_type }
+    ensures { Some result ≡ trie_value trie.now c }
+{
+    let header = CodePointTrieHeader {
+        trie_type,
+        ..trie.header
+    };
+    let answer = look_up_in(&header, trie.index.as_slice(), trie.data.as_slice(), c);
+    answer.unwrap_or(trie.error_value)
+}
+
+/// The value of `c` in a trie of this type where `c` lies below the fast limit, `None` from it on.
+#[inline(always)]
+fn fast_value_of<T: TrieValue>(
+    trie: &CodePointTrie<'_, T>,
+    trie_type: TrieType,
+    c: u32,
+) -> Option<T>
+    requires { trie.now.header.trie_type ≡ trie_type }
+    ensures { result ≡ (if nat_lt c (fast_limit trie_type) then trie_value trie.now c else None) }
+{
+    if c < fast_limit_of(trie_type) {
+        Some(value_of(trie, trie_type, c))
+    } else {
+        None
+    }
+}
+
+/// A trie of the type `Fast`: all of the basic multilingual plane is looked up in two reads.
+///
+/// A clause sees it as its trie.
+#[derive(Debug, Drop)]
+pub struct FastCodePointTrie<'trie, T: TrieValue> {
+    inner: CodePointTrie<'trie, T>,
+}
+
+impl<'trie, T: TrieValue> Model for FastCodePointTrie<'trie, T> {
+    ghost Value = { Parts T };
+
+    ghost view = { λ t. t.inner };
+
+    ghost invariant = { λ t. t.inner.header.trie_type ≡ Fast };
+}
+
+impl<'trie, T: TrieValue> FastCodePointTrie<'trie, T> {
+    /// The trie, lent, as one whose type is not known.
+    #[inline(always)]
+    pub fn as_untyped_ref(&self) -> &CodePointTrie<'trie, T>
+        ensures { result.now ≡ self.now }
+    {
+        &self.inner
+    }
+
+    /// The trie, as one whose type is not known.
+    #[inline(always)]
+    pub fn to_untyped(self) -> CodePointTrie<'trie, T>
+        ensures { result ≡ self.entry }
+    {
+        self.inner
+    }
+}
+
+impl<'trie, T: TrieValue> TypedCodePointTrie<'trie, T> for FastCodePointTrie<'trie, T> {
+    const TRIE_TYPE: TrieType = TrieType::Fast;
+
+    ghost trie_type = { Fast };
+
+    ghost parts = { λ t. t };
+
+    #[inline(always)]
+    fn shown(&self) {
+        let _ = &self.inner;
+    }
+
+    #[inline(always)]
+    fn get32(&self, c: u32) -> T {
+        value_of(&self.inner, TrieType::Fast, c)
+    }
+
+    #[inline(always)]
+    fn get(&self, c: char) -> T {
+        value_of(&self.inner, TrieType::Fast, c as u32)
+    }
+
+    #[inline(always)]
+    fn get16(&self, bmp: u16) -> T {
+        value_of(&self.inner, TrieType::Fast, u32::from(bmp))
+    }
+
+    #[inline(always)]
+    fn get32_supplementary(&self, supplementary: u32) -> T {
+        value_of(&self.inner, TrieType::Fast, supplementary)
+    }
+
+    #[inline(always)]
+    fn get32_u32(&self, c: u32) -> u32 {
+        self.get32(c).to_u32()
+    }
+
+    #[inline(always)]
+    fn get32_by_fast_index(&self, c: u32) -> Option<T> {
+        fast_value_of(&self.inner, TrieType::Fast, c)
+    }
+}
+
+/// A trie of the type `Small`: code points below 0x1000 are looked up in two reads.
+///
+/// A clause sees it as its trie.
+#[derive(Debug, Drop)]
+pub struct SmallCodePointTrie<'trie, T: TrieValue> {
+    inner: CodePointTrie<'trie, T>,
+}
+
+impl<'trie, T: TrieValue> Model for SmallCodePointTrie<'trie, T> {
+    ghost Value = { Parts T };
+
+    ghost view = { λ t. t.inner };
+
+    ghost invariant = { λ t. t.inner.header.trie_type ≡ Small };
+}
+
+impl<'trie, T: TrieValue> SmallCodePointTrie<'trie, T> {
+    /// The trie, lent, as one whose type is not known.
+    #[inline(always)]
+    pub fn as_untyped_ref(&self) -> &CodePointTrie<'trie, T>
+        ensures { result.now ≡ self.now }
+    {
+        &self.inner
+    }
+
+    /// The trie, as one whose type is not known.
+    #[inline(always)]
+    pub fn to_untyped(self) -> CodePointTrie<'trie, T>
+        ensures { result ≡ self.entry }
+    {
+        self.inner
+    }
+}
+
+impl<'trie, T: TrieValue> TypedCodePointTrie<'trie, T> for SmallCodePointTrie<'trie, T> {
+    const TRIE_TYPE: TrieType = TrieType::Small;
+
+    ghost trie_type = { Small };
+
+    ghost parts = { λ t. t };
+
+    #[inline(always)]
+    fn shown(&self) {
+        let _ = &self.inner;
+    }
+
+    #[inline(always)]
+    fn get32(&self, c: u32) -> T {
+        value_of(&self.inner, TrieType::Small, c)
+    }
+
+    #[inline(always)]
+    fn get(&self, c: char) -> T {
+        value_of(&self.inner, TrieType::Small, c as u32)
+    }
+
+    #[inline(always)]
+    fn get16(&self, bmp: u16) -> T {
+        value_of(&self.inner, TrieType::Small, u32::from(bmp))
+    }
+
+    #[inline(always)]
+    fn get32_supplementary(&self, supplementary: u32) -> T {
+        value_of(&self.inner, TrieType::Small, supplementary)
+    }
+
+    #[inline(always)]
+    fn get32_u32(&self, c: u32) -> u32 {
+        self.get32(c).to_u32()
+    }
+
+    #[inline(always)]
+    fn get32_by_fast_index(&self, c: u32) -> Option<T> {
+        fast_value_of(&self.inner, TrieType::Small, c)
+    }
+}
+
+/// A trie with its type: one of two tries.
+#[derive(Clone, Copy, Debug, PartialEq, Eq)]
+pub enum Typed<F, S> {
+    /// The trie is of the type `Fast`.
+    Fast(F),
+    /// The trie is of the type `Small`.
+    Small(S),
+}
+
+/// The trie is of the other type.
+#[derive(Clone, Copy, Debug, PartialEq, Eq, Error)]
+#[error("the trie is of the other type")]
+pub struct TypedCodePointTrieError;
+
+impl<'trie, T: TrieValue> CodePointTrie<'trie, T> {
+    /// The trie, as one whose type is known.
+    pub fn to_typed(self) -> Typed<FastCodePointTrie<'trie, T>, SmallCodePointTrie<'trie, T>>
+        ensures { IsTyped self.entry result }
+    {
+        match self.header.trie_type {
+            TrieType::Fast => Typed::Fast(FastCodePointTrie { inner: self }),
+            TrieType::Small => Typed::Small(SmallCodePointTrie { inner: self }),
+        }
+    }
+
+    /// The trie, as one whose type is known, which borrows its index and its data from this one.
+    pub fn as_typed_ref(&self) -> Typed<FastCodePointTrie<'_, T>, SmallCodePointTrie<'_, T>>
+        ensures { IsTyped self.now result }
+    {
+        self.lent().to_typed()
+    }
+
+    /// An equal trie that borrows its index and its data from this one.
+    pub(crate) fn lent(&self) -> CodePointTrie<'_, T>
+        ensures { result ≡ self.now }
+    {
+        CodePointTrie {
+            header: self.header,
+            index: self.index.as_slice().as_zerovec(),
+            data: self.data.as_slice().as_zerovec(),
+            error_value: self.error_value,
+        }
+    }
+}
+
+/// The same trie, where it is of the type `Fast`.
+impl<'trie, T: TrieValue> TryFrom<CodePointTrie<'trie, T>> for FastCodePointTrie<'trie, T> {
+    type Error = TypedCodePointTrieError;
+
+    ghost try_from_gives = { λ t r. IsOfType Fast t r };
+
+    fn try_from(trie: CodePointTrie<'trie, T>) -> Result<Self, TypedCodePointTrieError> {
+        match trie.to_typed() {
+            Typed::Fast(trie) => Ok(trie),
+            Typed::Small(_) => Err(TypedCodePointTrieError),
+        }
+    }
+}
+
+/// The same trie, borrowed from this one, where it is of the type `Fast`.
+impl<'a, 'trie, T: TrieValue> TryFrom<&'a CodePointTrie<'trie, T>> for FastCodePointTrie<'a, T> {
+    type Error = TypedCodePointTrieError;
+
+    ghost try_from_gives = { λ t r. IsOfType Fast t.now r };
+
+    fn try_from(trie: &'a CodePointTrie<'trie, T>) -> Result<Self, TypedCodePointTrieError> {
+        match trie.as_typed_ref() {
+            Typed::Fast(trie) => Ok(trie),
+            Typed::Small(_) => Err(TypedCodePointTrieError),
+        }
+    }
+}
+
+/// The same trie, where it is of the type `Small`.
+impl<'trie, T: TrieValue> TryFrom<CodePointTrie<'trie, T>> for SmallCodePointTrie<'trie, T> {
+    type Error = TypedCodePointTrieError;
+
+    ghost try_from_gives = { λ t r. IsOfType Small t r };
+
+    fn try_from(trie: CodePointTrie<'trie, T>) -> Result<Self, TypedCodePointTrieError> {
+        match trie.to_typed() {
+            Typed::Fast(_) => Err(TypedCodePointTrieError),
+            Typed::Small(trie) => Ok(trie),
+        }
+    }
+}
+
+/// The same trie, borrowed from this one, where it is of the type `Small`.
+impl<'a, 'trie, T: TrieValue> TryFrom<&'a CodePointTrie<'trie, T>> for SmallCodePointTrie<'a, T> {
+    type Error = TypedCodePointTrieError;
+
+    ghost try_from_gives = { λ t r. IsOfType Small t.now r };
+
+    fn try_from(trie: &'a CodePointTrie<'trie, T>) -> Result<Self, TypedCodePointTrieError> {
+        match trie.as_typed_ref() {
+            Typed::Fast(_) => Err(TypedCodePointTrieError),
+            Typed::Small(trie) => Ok(trie),
+        }
+    }
+}
