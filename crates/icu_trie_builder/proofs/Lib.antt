@@ -16,3 +16,4 @@ mod WholeLemmas
 mod SameMapLemmas
 mod TypedLemmas
 mod BuilderLemmas
+mod RangesOfMap

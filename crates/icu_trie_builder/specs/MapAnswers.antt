@@ -1,8 +1,10 @@
 -- What a trie that was built from a map answers, and what else holds of it.
-use Rattle.std.specs.Prelude.{◌≡◌, ℕ, ◌≤◌, nat_le, List, Option, Some, None, length, map, if◌then◌else◌}
+use Rattle.std.specs.Prelude.{◌≡◌, ℕ, ◌<◌, ◌≤◌, ◌↔◌, nat_le, List, Option, Some, None, length, map, if◌then◌else◌}
 use Rattle.icu_trie.specs.Format.{answer}
 use Rattle.icu_trie.specs.Parts.{Parts, trie_value}
 use Rattle.icu_trie.specs.Coherence.{IsCoherent, IsShared}
+use Rattle.icu_trie.specs.Ranges.{answers}
+use Rattle.icu_trie.specs.Runs.{Run, AreMaximalRuns, some_run}
 use Rattle.icu_trie_builder.specs.Bounds.{data_bound, index_bound}
 use Rattle.icu_trie_builder.specs.Built.{IsBuiltHeader}
 
@@ -11,6 +13,12 @@ use Rattle.icu_trie_builder.specs.Built.{IsBuiltHeader}
 pub record AnswersMap {T : Type 0} (f : ℕ → T) (error : T) (t : Parts T) : Type 0 where
   pub look_up : (u : ℕ) → answer t.header t.index t.values u ≡ (if nat_le u 0x10FFFF then Some (f u) else None)
   pub value : (u : ℕ) → trie_value t u ≡ Some (if nat_le u 0x10FFFF then f u else error)
+
+-- the ranges and the value sets of the trie t are those of the map f: its format answers have f's maximal runs,
+-- and are a value at exactly the code points at which f has it
+pub record HasRangesOf {T : Type 0} (f : ℕ → T) (t : Parts T) : Type 0 where
+  pub runs : (rs : List (Run T)) → AreMaximalRuns (answers t) (map some_run rs) ↔ AreMaximalRuns f rs
+  pub sets : (v : T) (c : ℕ) → c < 0x110000 → (answers t c ≡ Some v) ↔ (f c ≡ v)
 
 -- beside its answers: the header has the format's form, walks may trust the trie and are short over it, and
 -- it has no more cells than its map has different blocks for. f has the number of each code point's value

@@ -4,7 +4,7 @@ ghost use Rattle.std.specs.List.{AllPass, count_by};
 ghost use Rattle.icu_trie.specs.Parts.{fault};
 ghost use Rattle.icu_trie_builder.specs.Bounds.{IsTooLarge};
 ghost use Rattle.icu_trie_builder.specs.CodePointMap.{map_value, cell_value, whole_cells, IsBuilder, IsWhole};
-ghost use Rattle.icu_trie_builder.specs.MapAnswers.{AnswersMap, IsWellBuilt, AreValuesOf};
+ghost use Rattle.icu_trie_builder.specs.MapAnswers.{AnswersMap, AreValuesOf, HasRangesOf, IsWellBuilt};
 ghost use Rattle.icu_trie_builder.specs.Writes.{is_accepted, value_after};
 ghost use Rattle.icu_trie_builder.specs.declared.error.BuildError.TheVariants.{TooLarge};
 
@@ -115,6 +115,7 @@ impl<T: TrieValue> CodePointTrieBuilder<T> {
     /// cases.
     pub fn build(self) -> Result<CodePointTrie<'static, T>, BuildError>
         ensures answers { IfOk result (AnswersMap (map_value self) self.error) }
+        ensures ranges { IfOk result (HasRangesOf (map_value self)) }
         ensures trie_type { IfOk result (λ t. t.header.trie_type ≡ self.trie_type) }
         ensures built { IfOk result (IsWellBuilt T.of_number (λ c. T.number (map_value self c))) }
         ensures too_large { result ≡ Err TooLarge → IsTooLarge (λ c. T.number (map_value self c)) }
@@ -143,6 +144,7 @@ pub fn build_from_writes<T: TrieValue>(
     writes: &[Write<T>],
 ) -> Result<CodePointTrie<'static, T>, BuildError>
     ensures answers { IfOk result (AnswersMap (value_after T.eq default writes.now default) error) }
+    ensures ranges { IfOk result (HasRangesOf (value_after T.eq default writes.now default)) }
     ensures trie_type { IfOk result (λ t. t.header.trie_type ≡ trie_type) }
     ensures built { IfOk result (IsWellBuilt T.of_number (λ c. T.number (value_after T.eq default writes.now default c))) }
     ensures too_large { result ≡ Err TooLarge → IsTooLarge (λ c. T.number (value_after T.eq default writes.now default c)) }

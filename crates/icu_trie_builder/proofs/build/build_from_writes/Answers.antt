@@ -2,9 +2,10 @@ use Rattle.std.proofs.Common.{◌≡◌, ℕ, ◌<◌, arith, ◌∙◌, ap}
 use Rattle.std.proofs.lemmas.Result.{IfOk-weaker}
 use Rattle.icu_trie_builder.specs.CodePointMap.{IsAfter, map_value}
 use Rattle.icu_trie_builder.specs.Writes.{value_after}
-use Rattle.icu_trie_builder.specs.MapAnswers.{IsWellBuilt}
+use Rattle.icu_trie_builder.specs.MapAnswers.{HasRangesOf, IsWellBuilt}
 use Rattle.icu_trie_builder.proofs.BuilderLemmas.{from_ok}
 use Rattle.icu_trie_builder.proofs.FewWrites.{few_too_large}
+use Rattle.icu_trie_builder.proofs.RangesOfMap.{HasRangesOf-alike}
 use Rattle.icu_trie_builder.proofs.TypedLemmas.{IsWellBuilt-alike}
 use Rattle.icu_trie_builder.proofs.SameMapLemmas.{IsTooLarge-alike}
 use Rattle.icu_trie_builder.proofs.build.build_from_writes.Goals as goal
@@ -13,15 +14,19 @@ after : (g : _) (c : goal.After-build g) → IsAfter g.T.PartialEq.eq c.args.wri
 after g c = from_ok c.apply.result (IsAfter g.T.PartialEq.eq c.args.writes.now c.new-builder.result c.apply.new.self) c.if-is_err.ensures.value c.apply.ensures.ok
 
 -- the map that is built is that of the writes over the default
-same : (g : _) (c : goal.After-build g) → (k : ℕ) → k < 0x110000
-    → g.T.TrieValue.number (map_value c.apply.new.self k) ≡ g.T.TrieValue.number (value_after g.T.PartialEq.eq c.args.default c.args.writes.now c.args.default k)
-same g c k l =
+same_value : (g : _) (c : goal.After-build g) → (k : ℕ) → k < 0x110000
+    → map_value c.apply.new.self k ≡ value_after g.T.PartialEq.eq c.args.default c.args.writes.now c.args.default k
+same_value g c k l =
     let eq = g.T.PartialEq.eq in
     let ws = c.args.writes.now in
-    ap g.T.TrieValue.number
-    ((after g c).values k (omega arith)
+    (after g c).values k (omega arith)
     ∙ (ap (λ v. value_after eq c.new-builder.result.default ws v k) (c.new-builder.ensures.map k (omega arith))
-    ∙ ap (λ d. value_after eq d ws c.args.default k) c.new-builder.ensures.default))
+    ∙ ap (λ d. value_after eq d ws c.args.default k) c.new-builder.ensures.default)
+
+-- by their numbers too
+same : (g : _) (c : goal.After-build g) → (k : ℕ) → k < 0x110000
+    → g.T.TrieValue.number (map_value c.apply.new.self k) ≡ g.T.TrieValue.number (value_after g.T.PartialEq.eq c.args.default c.args.writes.now c.args.default k)
+same g c k l = ap g.T.TrieValue.number (same_value g c k l)
 
 pub returns-clause-built : goal.returns-clause-built
 returns-clause-built g c =
@@ -38,3 +43,9 @@ returns-clause-too_large g c = λ e.
 
 pub returns-clause-few : goal.returns-clause-few
 returns-clause-few g c few e = few_too_large g.T.PartialEq.eq g.T.TrieValue.number c.args.default c.args.writes.now few (returns-clause-too_large g c e)
+
+pub returns-clause-ranges : goal.returns-clause-ranges
+returns-clause-ranges g c =
+    let written = value_after g.T.PartialEq.eq c.args.default c.args.writes.now c.args.default in
+    IfOk-weaker c.build.result (HasRangesOf (map_value c.apply.new.self)) (HasRangesOf written)
+    (HasRangesOf-alike (map_value c.apply.new.self) written (same_value g c)) c.build.ensures.ranges

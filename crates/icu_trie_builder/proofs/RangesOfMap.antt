@@ -1,0 +1,30 @@
+-- A trie that answers a map has its ranges and its value sets.
+use Rattle.std.proofs.Common.{◌≡◌, ℕ, ◌<◌, ◌≤◌, Option, Some, None, arith, sym, ◌∙◌, ap, nat_le}
+use Rattle.std.proofs.lemmas.Bool.Decides.{nat_tests}
+use Rattle.icu_trie.proofs.RunLemmas.{AreMaximalRuns-same, AreMaximalRuns-some}
+use Rattle.icu_trie.specs.Parts.{Parts}
+use Rattle.icu_trie.specs.Ranges.{answers}
+use Rattle.icu_trie_builder.specs.MapAnswers.{AnswersMap, HasRangesOf}
+
+module _ {T : Type 0} (f : ℕ → T) (error : T) (t : Parts T) (a : AnswersMap f error t) where
+  answers-at : (c : ℕ) → c < 0x110000 → answers t c ≡ Some (f c)
+  answers-at c l = let e = a.look_up c in grind (arith, nat_tests)
+
+  pub HasRangesOf-from_answers : HasRangesOf f t
+  HasRangesOf-from_answers = record {
+    runs = AreMaximalRuns-some (answers t) f answers-at;
+    sets = λ v c l. (
+      λ e. let same : Some (f c) ≡ Some v = sym (answers-at c l) ∙ e in let one : f c ≡ v = cc in one,
+      λ e. answers-at c l ∙ ap (λ x. Some x) e,
+    );
+  }
+
+-- maps that are equal on the code points have the same ranges and value sets
+pub HasRangesOf-alike : {T : Type 0} (f g : ℕ → T) → ((k : ℕ) → k < 0x110000 → f k ≡ g k) → (t : Parts T) → HasRangesOf f t → HasRangesOf g t
+HasRangesOf-alike f g same t h = record {
+  runs = λ rs.
+      let one = h.runs rs in
+      let other = AreMaximalRuns-same f g same rs in
+      (λ a. other.0 (one.0 a), λ a. one.1 (other.1 a));
+  sets = λ v c l. let both = h.sets v c l in (λ e. sym (same c l) ∙ both.0 e, λ e. both.1 (same c l ∙ e));
+}
