@@ -5,3 +5,4 @@ pub mod Printed
 pub mod RowSteps
 pub mod WordSteps
 mod Asked
+mod RangeRuns

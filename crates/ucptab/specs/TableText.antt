@@ -9,6 +9,9 @@ use Rattle.std.specs.Str.Lines.{lines}
 use Rattle.std.specs.Str.Parse.{digits_value}
 use Rattle.std.specs.Fmt.{digits}
 use Rattle.std.specs.Io.KnownBytes.{IsAtEnd}
+use Rattle.std.specs.Range.{range_inclusive_start, range_inclusive_end}
+use Rattle.icu_trie.specs.Runs.{Run, AreMaximalRuns}
+use Rattle.icu_trie.specs.declared.ranges.CodePointMapRange.{CodePointMapRange}
 use Rattle.icu_trie_builder.specs.declared.writes.Write.{Write}
 use Rattle.icu_trie_builder.specs.declared.writes.Write.TheVariants.{One, Range}
 use Rattle.icu_trie_builder.specs.Bounds.{IsTooLarge}
@@ -154,12 +157,31 @@ answer_line n answer = hex_text n ++ (59 ∷ (decimal_text answer ++ (10 ∷ [])
 abbrev pub answers_text : (ℕ → ℕ) → List ℕ → List ℕ
 answers_text answer asked = flat_map (λ n. answer_line n (answer n)) asked
 
--- no line of the input has a fault, and the text has the lines of the asked numbers, each with the value of
--- the last write of the input that covers it, the default where none does, and the error value above the code
--- space
-abbrev pub IsAnswerText : List ℕ → ℕ → ℕ → List ℕ → List ℕ → Type 0
-IsAnswerText input default error asked text =
-    (ws : List (Write ℕ)) × (AreRows input ws × (text ≡ answers_text (answer_after nat_eq default error ws) asked))
+-- a range of a trie as a run of its values
+abbrev pub run_of_values : CodePointMapRange ℕ → Run ℕ
+run_of_values x = record { first = range_inclusive_start x.range; last = range_inclusive_end x.range; value = x.value }
+
+-- the line of a run, `HEX..HEX;N` LF, and `HEX;N` LF where it is one code point
+unfoldable pub run_line : Run ℕ → List ℕ
+run_line r =
+    if nat_lt r.first r.last then hex_text r.first ++ (46 ∷ (46 ∷ answer_line r.last r.value)) else answer_line r.last r.value
+
+-- the lines of all runs, in order
+abbrev pub runs_text : List (Run ℕ) → List ℕ
+runs_text runs = flat_map run_line runs
+
+-- what is printed where these numbers are asked of a map with these answers: their lines, and where none is
+-- asked the lines of the map's maximal runs
+abbrev pub IsTextOfMap : (ℕ → ℕ) → (ℕ → ℕ) → List ℕ → List ℕ → Type 0
+IsTextOfMap value answer [] text = (runs : List (Run ℕ)) × (AreMaximalRuns value runs × (text ≡ runs_text runs))
+IsTextOfMap value answer (n ∷ asked) text = text ≡ answers_text answer (n ∷ asked)
+
+-- no line of the input has a fault, and the text is that of the map of its writes: each code point has the value
+-- of the last write of the input that covers it and the default where none does, and a number above the code
+-- space the error value
+abbrev pub IsTableText : List ℕ → ℕ → ℕ → List ℕ → List ℕ → Type 0
+IsTableText input default error asked text = (ws : List (Write ℕ)) × (AreRows input ws
+    × IsTextOfMap (value_after nat_eq default ws default) (answer_after nat_eq default error ws) asked text)
 
 -- what is printed of a row's fault, and of each fault, without the LF
 abbrev pub row_fault_text : RowFault → List ℕ

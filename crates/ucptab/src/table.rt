@@ -4,7 +4,7 @@ ghost use Rattle.std.specs.Io.KnownBytes.{Appends, IsAtEnd};
 ghost use Rattle.std.specs.List.{filter_map};
 ghost use Rattle.icu_trie_builder.specs.Bounds.{IsTooLarge};
 ghost use Rattle.icu_trie_builder.specs.Writes.{answer_after, value_after};
-ghost use Rattle.ucptab.specs.TableText.{answers_text, fault_text, hexadecimal, HasCause, IsAnswerText};
+ghost use Rattle.ucptab.specs.TableText.{fault_text, hexadecimal, HasCause, IsTableText, IsTextOfMap};
 ghost use Rattle.ucptab.specs.Words.{arguments_of};
 ghost use Rattle.ucptab.specs.declared.table.fault.TableError.{TableError};
 ghost use Rattle.ucptab.specs.declared.table.fault.TableError.TheVariants.{Memory, TooLarge, Write as WriteFault};
@@ -22,7 +22,7 @@ pub mod words;
 use crate::table::fault::TableError;
 use crate::table::input::{read_all, read_rows};
 use crate::table::streams::{Failed, Sink, Source};
-use crate::table::text::{answers_text, write_fault};
+use crate::table::text::{answers_text, ranges_text, write_fault};
 use crate::table::words::{Request, asked_numbers, request_of};
 use icu_collections::codepointtrie::{TrieType, Write, build_from_writes};
 use std::alloc::Global;
@@ -30,7 +30,9 @@ use std::alloc::Global;
 /// What the program takes.
 const USAGE: &str = "usage: ucptab fast|small DEFAULT ERROR [HEX ..]\n";
 
-/// The lines of the asked numbers, as a trie of these writes answers them.
+/// The lines of the asked numbers, as a trie of these writes answers them, and where none is asked those of its
+/// ranges.
+#[tactic(auto, using(crate::proofs::RangeRuns::text_of_some))]
 fn answer_text(
     alloc: Global,
     trie_type: TrieType,
@@ -39,19 +41,22 @@ fn answer_text(
     writes: &[Write<u32>],
     asked: &[u32],
 ) -> Result<String, TableError>
-    ensures text { IfOk result (λ text.
-        string_bytes text ≡ answers_text (answer_after nat_eq default error writes.now) asked.now) }
+    ensures text { IfOk result (λ text. IsTextOfMap (value_after nat_eq default writes.now default)
+        (answer_after nat_eq default error writes.now) asked.now (string_bytes text)) }
     ensures too_large { IfErr result
         (λ e. e ≡ TooLarge → IsTooLarge (value_after nat_eq default writes.now default)) }
     ensures no_other { IfErr result (λ e. (e ≡ TooLarge) ⊎ (e ≡ Memory)) }
 {
     let trie = build_from_writes(alloc, default, error, trie_type, writes)?;
-    let text = answers_text(alloc, asked, |n| trie.get32(n))?;
-    Ok(text)
+    if asked.is_empty() {
+        Ok(ranges_text(alloc, &trie)?)
+    } else {
+        Ok(answers_text(alloc, asked, |n| trie.get32(n))?)
+    }
 }
 
-/// Reads the table to its end, and writes the lines of the asked numbers by one call.
-/// Every fault but that of the write comes before a byte is written.
+/// Reads the table to its end, and writes the lines of the asked numbers by one call, or where none is asked
+/// those of all ranges of equal values. Every fault but that of the write comes before a byte is written.
 pub fn run<S: Source, W: Sink>(
     alloc: Global,
     trie_type: TrieType,
@@ -62,7 +67,7 @@ pub fn run<S: Source, W: Sink>(
     writer: &mut W,
 ) -> Result<(), TableError>
     ensures text { IfOk result (λ _. IfSome (S.remaining reader.old) (λ input. (text : List ℕ)
-        × (IsAnswerText input default error asked.now text
+        × (IsTableText input default error asked.now text
         × Appends (W.contents writer.old) (W.contents writer.new) text))) }
     ensures end { IfOk result (λ _. IsAtEnd (S.remaining reader.new)) }
     ensures counted { IfOk result (λ _. S.failures reader.new ≡ S.failures reader.old) }
@@ -100,7 +105,7 @@ fn answer<S: Source, W: Sink>(
     writer: &mut W,
 ) -> Result<(), TableError>
     ensures text { IfOk result (λ _. IfSome (S.remaining reader.old) (λ input. (text : List ℕ)
-        × (IsAnswerText input request.entry.default request.entry.error
+        × (IsTableText input request.entry.default request.entry.error
         (filter_map (λ word. hexadecimal (string_bytes word)) request.entry.asked.now) text
         × Appends (W.contents writer.old) (W.contents writer.new) text))) }
     ensures counted { IfOk result (λ _. S.failures reader.new ≡ S.failures reader.old) }
@@ -124,7 +129,7 @@ fn answer<S: Source, W: Sink>(
 }
 
 /// What the program does with the words behind its name, and its status: 0 where the asked numbers
-/// are answered, 1 where a fault's line is written, and 2 where the usage line is. Where a line can't
+/// are answered, or the ranges printed where none is asked, 1 where a fault's line is written, and 2 where the usage line is. Where a line can't
 /// be written, the status is the same.
 pub fn run_words<S: Source, W: Sink>(
     alloc: Global,
@@ -134,14 +139,11 @@ pub fn run_words<S: Source, W: Sink>(
 ) -> u8
     ensures statuses { result ≤ 2 }
     ensures usage { arguments_of (map string_bytes words.now) ≡ None → result ≡ 2 }
-    ensures none_asked { IfSome (arguments_of (map string_bytes words.now))
-        (λ a. a.asked ≡ [] → result ≡ 2) }
-    ensures asked { IfSome (arguments_of (map string_bytes words.now))
-        (λ a. a.asked ≢ [] → result ≤ 1) }
+    ensures readable { IfSome (arguments_of (map string_bytes words.now)) (λ _. result ≤ 1) }
 
     ensures answers { result ≡ 0 → IfSome (arguments_of (map string_bytes words.now)) (λ a.
         IfSome (S.remaining reader.old) (λ input. (text : List ℕ)
-        × (IsAnswerText input a.default a.error a.asked text
+        × (IsTableText input a.default a.error a.asked text
         × Appends (W.contents writer.old) (W.contents writer.new) text))) }
 
     // A failed read or write is never passed over.
@@ -164,10 +166,6 @@ pub fn run_words<S: Source, W: Sink>(
         write_usage(writer);
         return 2;
     };
-    if request.asked.is_empty() {
-        write_usage(writer);
-        return 2;
-    }
     match answer(alloc, request, reader, writer) {
         Ok(()) => 0,
         Err(fault) => {

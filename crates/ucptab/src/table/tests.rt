@@ -250,8 +250,8 @@ fn words_are_tested(rt: HostRuntime) -> Result<(), Fail> {
         "",
         "fast",
         "fast 0",
-        "fast 0 9",
         "Fast 0 9 41",
+        "fast 0 9 ",
         "fas 0 9 41",
         "fast 4294967296 9 41",
         "fast 0 4294967296 41",
@@ -320,7 +320,7 @@ fn failing_streams_are_told(rt: HostRuntime) -> Result<(), Fail> {
         assert_eq!(rt; end.status, 1);
         let end = outcome(
             rt.alloc(),
-            "fast 0 9",
+            "fast 0",
             input,
             4096,
             Failing { read: 0, write },
@@ -360,7 +360,7 @@ fn faults_show_their_lines(rt: HostRuntime) -> Result<(), Fail> {
 /// Whole runs: words, input, what is printed, status.
 #[test]
 fn runs_end(rt: HostRuntime) -> Result<(), Fail> {
-    let runs: [(&str, &[u8], &[u8], u8); 7] = [
+    let runs: [(&str, &[u8], &[u8], u8); 12] = [
         (
             "fast 0 9 0041 005B 110000",
             b"0041..005A;1",
@@ -383,11 +383,31 @@ fn runs_end(rt: HostRuntime) -> Result<(), Fail> {
             1,
         ),
         (
+            "small 0 9",
+            b"# a comment\n0041..0040;1",
+            b"line 2: range reversed\n",
+            1,
+        ),
+        (
             "small 0 9 0",
             b"110000;1",
             b"line 1: code point too large\n",
             1,
         ),
+        (
+            "fast 0 9",
+            b"0041..005A;1",
+            b"0000..0040;0\n0041..005A;1\n005B..10FFFF;0\n",
+            0,
+        ),
+        ("fast 0 9", b"", b"0000..10FFFF;0\n", 0),
+        (
+            "small 0 9",
+            b"0041;1\nFFC0..FFCF;1\nFFD0..FFFF;2\n10000..1000F;1\n10FFFF;3\n",
+            b"0000..0040;0\n0041;1\n0042..FFBF;0\nFFC0..FFCF;1\nFFD0..FFFF;2\n10000..1000F;1\n10010..10FFFE;0\n10FFFF;3\n",
+            0,
+        ),
+        ("fast 7 9", b"0041;7", b"0000..10FFFF;7\n", 0),
     ];
     for (words, input, bytes, status) in runs {
         let end = outcome(rt.alloc(), words, input, 4096, SOUND)?;
@@ -412,6 +432,42 @@ fn general_categories(rt: HostRuntime) -> Result<(), Fail> {
         let end = outcome(rt.alloc(), words.as_str(), CATEGORIES, 4096, SOUND)?;
         assert_eq!(rt; end.bytes.as_slice(), answers.as_slice(), "at {kind}");
         assert_eq!(rt; end.status, 0);
+    }
+    Ok(())
+}
+
+/// An excerpt of a real table, as ranges: what no row names has the default, and touching rows of one value are
+/// one range.
+#[test]
+fn ranges_of_general_categories(rt: HostRuntime) -> Result<(), Fail> {
+    let ranges =
+        b"0000..001F;1\n0020;30\n0021..002F;255\n0030..0039;14\n003A..0040;255\n0041..005A;10\n005B..0060;255\n0061..007A;6\n007B..00AC;255\n00AD;2\n00AE..4DFF;255\n4E00..A014;8\nA015..D7FF;255\nD800..DFFF;5\nE000..1F3FF;255\n1F400..1F6D7;27\n1F6D8..10FFFD;255\n10FFFE..10FFFF;3\n";
+    for kind in ["fast", "small"] {
+        let words = format!(in rt.alloc(); "{kind} 255 254")?;
+        let end = outcome(rt.alloc(), words.as_str(), CATEGORIES, 4096, SOUND)?;
+        assert_eq!(rt; end.bytes.as_slice(), ranges.as_slice(), "at {kind}");
+        assert_eq!(rt; end.status, 0);
+    }
+    Ok(())
+}
+
+/// The script `tests/refused_memory` refuses the requests of this run in turn.
+#[test]
+fn ranges_refused(rt: HostRuntime) -> Result<(), Fail> {
+    println!(rt; "call")?;
+    let ending = outcome(rt.alloc(), "fast 0 9", b"0041;1\n", 4, SOUND);
+    println!(rt; "done")?;
+    let Ok(end) = ending else {
+        println!(rt; "refused")?;
+        return Ok(());
+    };
+    if end.status == 0 {
+        let ranges = b"0000..0040;0\n0041;1\n0042..10FFFF;0\n";
+        assert_eq!(rt; end.bytes.as_slice(), ranges.as_slice());
+    } else {
+        assert_eq!(rt; end.status, 1);
+        assert_eq!(rt; end.bytes.as_slice(), b"no memory\n".as_slice());
+        println!(rt; "refused")?;
     }
     Ok(())
 }

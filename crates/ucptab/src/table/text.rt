@@ -1,10 +1,14 @@
 //! The lines that are printed.
-ghost use Rattle.std.specs.Prelude.{◌≡◌, ℕ, ◌+◌, ◌<◌, ◌^◌, [], ◌∷◌, ◌++◌, IfOk, IfErr, decimal, string_bytes};
+ghost use Rattle.std.specs.Prelude.{◌≡◌, ℕ, ◌+◌, ◌<◌, ◌^◌, [], ◌∷◌, ◌++◌, List, IfOk, IfErr, decimal, string_bytes};
 ghost use Rattle.std.specs.Io.KnownBytes.{Appends};
-ghost use Rattle.ucptab.specs.TableText.{answer_line, answers_text, fault_text};
+ghost use Rattle.icu_trie.specs.Numbers.{fitting};
+ghost use Rattle.icu_trie.specs.Ranges.{answers, IsCoherentTrie};
+ghost use Rattle.icu_trie.specs.Runs.{Run, AreMaximalRuns};
+ghost use Rattle.ucptab.specs.TableText.{answer_line, answers_text, fault_text, hex_text, run_line, run_of_values, runs_text};
 
 use crate::table::fault::TableError;
 use crate::table::streams::{Failed, Sink};
+use icu_collections::codepointtrie::{CodePointMapRange, CodePointTrie};
 use std::alloc::{AllocError, Global};
 
 /// The line of one asked number: the number, in at least four hexadecimal digits, and its answer.
@@ -28,6 +32,42 @@ pub fn answers_text<F: Fn(u32) -> u32>(
     let mut text = String::new(alloc);
     for n in asked {
         push_answer(&mut text, *n, answer(*n))?;
+    }
+    Ok(text)
+}
+
+/// A number in at least four hexadecimal digits, and two dots behind it.
+#[tactic(auto, using(crate::proofs::Printed::hex_written))]
+fn push_dotted(text: &mut String, n: u32) -> Result<(), AllocError>
+    ensures { IfOk result (λ _. string_bytes text.new ≡ string_bytes text.old ++ (hex_text n ++ (46 ∷ (46 ∷ [])))) }
+{
+    write!(text, "{n:04X}..")
+}
+
+/// The line of a range: its first and last code point in at least four hexadecimal digits, or the one where it is
+/// but one, and its value.
+fn push_range(text: &mut String, range: &CodePointMapRange<u32>) -> Result<(), AllocError>
+    ensures { IfOk result (λ _. string_bytes text.new ≡ string_bytes text.old ++ run_line (run_of_values range.now)) }
+{
+    let (first, last) = (*range.range.start(), *range.range.end());
+    if first < last {
+        push_dotted(text, first)?;
+        push_answer(text, last, range.value)
+    } else {
+        push_answer(text, last, range.value)
+    }
+}
+
+/// The lines of all ranges of the trie, in order. Where the trie is coherent they are those of the maximal runs of
+/// its map.
+pub fn ranges_text(alloc: Global, trie: &CodePointTrie<'_, u32>) -> Result<String, AllocError>
+    ensures { IsCoherentTrie (fitting (2 ^ 32)) trie.now → (value : ℕ → ℕ)
+        → ((u : ℕ) → u < 0x110000 → answers trie.now u ≡ Some (value u))
+        → IfOk result (λ text. (runs : List (Run ℕ)) × (AreMaximalRuns value runs × (string_bytes text ≡ runs_text runs))) }
+{
+    let mut text = String::new(alloc);
+    for range in trie.iter_ranges() {
+        push_range(&mut text, &range)?;
     }
     Ok(text)
 }
