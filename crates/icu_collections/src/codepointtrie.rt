@@ -5,12 +5,18 @@
 
 pub use icu_trie::cells::{Cells, Steps};
 pub use icu_trie::cptrie::CodePointTrie;
-pub use icu_trie::error::CodePointTrieError;
+pub use icu_trie::error::{CodePointTrieError, ConvertError};
 pub use icu_trie::header::{CodePointTrieHeader, TrieType};
 pub use icu_trie::impl_const;
 pub use icu_trie::lookup::look_up;
+pub use icu_trie::ranges::{CodePointMapRange, CodePointMapRangeIterator};
+pub use icu_trie::typed::{
+    FastCodePointTrie, SmallCodePointTrie, Typed, TypedCodePointTrie, TypedCodePointTrieError,
+};
 pub use icu_trie::value::{NotAValue, TrieValue};
+pub use icu_trie::walk::walk;
 pub use icu_trie_builder::build_from_writes;
 pub use icu_trie_builder::builder::CodePointTrieBuilder;
 pub use icu_trie_builder::error::BuildError;
 pub use icu_trie_builder::writes::{ApplyRefused, Write};
+pub use icu_trie_formats::planes;

@@ -3,6 +3,8 @@
 //! All items lie in crates of their own, one for each layer, and are shown here under the Rust crate's paths:
 //!
 //! - [`codepointtrie`]: maps from code points to values
+//! - [`codepointinvlist`]: sets of code points
+//! - [`char16trie`]: maps from keys of 16-bit units to numbers
 //! - [`zerovec`]: the packed vectors that they are kept in
 //!
 //! Its own code is tests alone: those that need more than one of the crates below.
@@ -10,6 +12,8 @@
 
 pub mod codepointtrie;
 
+pub use icu_char16trie::char16trie;
+pub use icu_invlist::codepointinvlist;
 pub use icu_zerovec as zerovec;
 
 #[cfg(test)]

@@ -4,6 +4,8 @@
 mod built_tries;
 mod getters;
 mod packed_vectors;
+mod ranges;
 mod refused_memory;
 mod refused_parts;
 mod texts;
+mod views;

@@ -3,6 +3,7 @@
 ghost use Rattle.std.specs.Prelude.{◌≡◌, ◌<◌, IsTrue, fold, Some, IfOk, IsOk, Bool, ℕ};
 ghost use Rattle.std.specs.Hash.DefaultHasher as sip;
 
+use crate::codepointtrie::{NotAValue, TrieValue};
 use icu_zerovec::ZeroVec;
 use icu_zerovec::ule::{AsULE, UleError};
 use std::hash::{DefaultHasher, Hash, Hasher};
@@ -11,7 +12,7 @@ use std::test::Fail;
 
 /// The side on which a mark stands: 0 before, 1 after. No other byte is a side.
 #[derive(Clone, Copy, Debug, PartialEq, Eq)]
-struct Side {
+pub(super) struct Side {
     byte: u8,
 }
 
@@ -62,6 +63,32 @@ impl AsULE for Side {
     fn shown(self) {
         let _byte = self.byte;
     }
+}
+
+impl TrieValue for Side {
+    ghost use Rattle.icu_trie.specs.Numbers.{fitting, fitting-small, equal_numbers};
+
+    type TryFromU32Error = NotAValue;
+
+    ghost number = { λ s. s };
+
+    ghost of_number = { fitting 2 };
+
+    fn to_u32(self) -> u32 {
+        u32::from(self.byte)
+    }
+
+    fn try_from_u32(i: u32) -> Result<Side, NotAValue> {
+        if i < 2 {
+            Ok(Side { byte: i as u8 })
+        } else {
+            Err(NotAValue)
+        }
+    }
+
+    ghost number_gives_back = { fitting-small 2 };
+
+    ghost equal_by_number = { λ x y _ _. equal_numbers x y };
 }
 
 /// A flag. Any byte but zero is a flag that is on.
