@@ -14,8 +14,8 @@ open_start = 0
 abbrev pub open_end : ℕ
 open_end = limit
 
--- the end of a range that includes e as its last number. There is no number after `u32::MAX`, so a range up to
--- that one ends before it
+-- the end of a range that includes e as its last number. There is no number after `u32::MAX`, so a range up
+-- to that one ends before it
 abbrev pub end_of_included : ℕ → ℕ
 end_of_included e = min (e + 1) (2 ^ 32 - 1)
 

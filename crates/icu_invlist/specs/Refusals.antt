@@ -12,8 +12,8 @@ abbrev pub IsRefusedList : List ℕ → SetError → Type 0
 IsRefusedList ends (set.Invalid e) = (¬ (IsValid ends)) × (e.0.items ≡ ends)
 IsRefusedList ends set.Memory = ¬ (IsValid ends)
 
--- A slice is refused likewise. Its numbers may have more than the 24 bits of a packed one, and are then shown as
--- 0xFFFFFF
+-- A slice is refused likewise. Its numbers may have more than the 24 bits of a packed one, and are then shown
+-- as 0xFFFFFF
 abbrev pub IsRefusedSlice : List ℕ → SetError → Type 0
 IsRefusedSlice ends (set.Invalid e) = (¬ (IsValid ends)) × (e.0.items ≡ map (λ x. min x 0xFFFFFF) ends)
 IsRefusedSlice ends set.Memory = Unit {0}

@@ -1,6 +1,6 @@
--- A set in JSON: an array with one string for each range, ascending. A range of one code point is the point, a
--- longer one its first and its last point with `-` between them. A point is written as the character itself, and
--- a surrogate, which is none, as `U+` and its four upper-case hexadecimal digits.
+-- A set in JSON: an array with one string for each range, ascending. A range of one code point is the point,
+-- a longer one its first and its last point with `-` between them. A point is written as the character
+-- itself, and a surrogate, which is none, as `U+` and its four upper-case hexadecimal digits.
 use Rattle.std.specs.Prelude.{◌≡◌, ℕ, ◌+◌, ◌*◌, ◌/◌, ◌%◌, ◌<◌, List, [], ◌∷◌, ◌++◌, map, Option, Some, None, Result, Ok, Err, ◌==◌, ◌&&◌, nat_le, nat_lt, if◌then◌else◌, option_and_then, ◌⊎◌}
 use Rattle.std.specs.Global.{Vec}
 use Rattle.std.specs.Str.{chars, encode_utf8_all}
@@ -47,18 +47,20 @@ pub record IsHex (text : List ℕ) (n : ℕ) : Type 0 where
   pub digits : (digit_value a < 16) × (digit_value b < 16) × (digit_value c < 16) × (digit_value d < 16)
   pub value : n ≡ ((digit_value a * 16 + digit_value b) * 16 + digit_value c) * 16 + digit_value d
 
--- the text of a point: the character itself, or `U+` and four digits, which is the only way to spell a surrogate
+-- the text of a point: the character itself, or `U+` and four digits, which is the only way to spell a
+-- surrogate
 abbrev pub IsPoint : List ℕ → ℕ → Type 0
 IsPoint text p = (text ≡ p ∷ []) ⊎ ((digits : List ℕ) × (text ≡ 0x55 ∷ 0x2B ∷ digits) × IsHex digits p)
 
--- the text of a range from a through b: one point, or two with a third between them, which is read as 0x2D, the
--- minus sign
+-- the text of a range from a through b: one point, or two with a third between them, which is read as 0x2D,
+-- the minus sign
 abbrev pub IsRange : List ℕ → ℕ → ℕ → Type 0
 IsRange text a b =
     (IsPoint text a × (b ≡ a))
     ⊎ ((front : List ℕ) × (middle : List ℕ) × (back : List ℕ) × (text ≡ front ++ (middle ++ back)) × IsPoint front a × IsPoint middle 0x2D × IsPoint back b)
 
--- the items of an array are strings, whose ranges have these ends: each first point, and each last point plus one
+-- the items of an array are strings, whose ranges have these ends: each first point, and each last point plus
+-- one
 abbrev pub SayEnds : Items → List ℕ → Type 0
 SayEnds no_items ends = ends ≡ []
 SayEnds (item (string text) items) ends = (a : ℕ) × (b : ℕ) × (rest : List ℕ) × IsRange (chars text) a b × (ends ≡ a ∷ (b + 1) ∷ rest) × SayEnds items rest

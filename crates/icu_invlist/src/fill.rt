@@ -192,8 +192,8 @@ fn reserve_two(ends: &mut Vec<u32>, wanted: bool) -> Result<(), MemoryError>
     Ok(())
 }
 
-/// Turns round the code points from `start` to before `end`. The list grows only where neither is an end: else
-/// the one that is an end is taken out first.
+/// Turns round the code points from `start` to before `end`. The list grows only where neither is an end:
+/// else the one that is an end is taken out first.
 fn toggle_both(ends: &mut Vec<u32>, start: u32, end: u32) -> Result<(), MemoryError>
     requires valid { IsValid ends.old.items }
     requires rises { start < end }
@@ -215,8 +215,8 @@ fn toggle_both(ends: &mut Vec<u32>, start: u32, end: u32) -> Result<(), MemoryEr
     Ok(())
 }
 
-/// Turns round the code points from `start` to before `end`: those that were in the set are not in it, and the
-/// others are.
+/// Turns round the code points from `start` to before `end`: those that were in the set are not in it, and
+/// the others are.
 pub(crate) fn flip(ends: &mut Vec<u32>, start: u32, end: u32) -> Result<(), MemoryError>
     requires { IsValid ends.old.items }
     ensures valid { IsValid ends.new.items }

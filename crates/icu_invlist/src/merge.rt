@@ -1,8 +1,8 @@
 //! Two lists of ends made into one, for the four operations on two sets.
 //!
-//! The walk goes over the ends of both lists in ascending order. Past each of them the numbers of ends passed in
-//! the two lists say whether the next code points are in the one set and in the other, and so whether they are
-//! in the new one: where that answer changes, the end is one of the new list's.
+//! The walk goes over the ends of both lists in ascending order. Past each of them the numbers of ends passed
+//! in the two lists say whether the next code points are in the one set and in the other, and so whether they
+//! are in the new one: where that answer changes, the end is one of the new list's.
 ghost use Rattle.std.specs.Prelude.{◌≡◌, ℕ, ◌+◌, ◌<◌, ◌≤◌, suc, length, slice_index, ◌⊎◌, IfOk};
 ghost use Rattle.icu_invlist.specs.InversionList.{IsValid, holds, limit, Acts};
 ghost use Rattle.icu_invlist.specs.Places.{below};

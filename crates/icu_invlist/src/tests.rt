@@ -1,5 +1,5 @@
-//! What no clause says: texts, that calls succeed, want of memory. Wanted values are those of ICU's UnicodeSet
-//! and of the Rust crate, or worked out by hand.
+//! What no clause says: texts, that calls succeed, want of memory. Wanted values are those of ICU's
+//! UnicodeSet and of the Rust crate, or worked out by hand.
 mod builder;
 mod json;
 mod memory;

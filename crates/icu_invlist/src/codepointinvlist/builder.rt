@@ -122,8 +122,8 @@ impl CodePointInversionListBuilder {
         fill::add(&mut self.ends, from, till)
     }
 
-    /// Adds what the range names. A range that names more than code points, so that its exclusive end is above
-    /// 0x110000, is ignored wholly: 0x50..=0x110000 adds nothing.
+    /// Adds what the range names. A range that names more than code points, so that its exclusive end is
+    /// above 0x110000, is ignored wholly: 0x50..=0x110000 adds nothing.
     ///
     /// # Errors
     /// `MemoryError` where memory was refused. The set is then unchanged.
@@ -272,11 +272,11 @@ impl CodePointInversionListBuilder {
     }
 }
 
-/// Complement and symmetric difference: what is named leaves the set where it was in it, and comes into it where
-/// it was not.
+/// Complement and symmetric difference: what is named leaves the set where it was in it, and comes into it
+/// where it was not.
 impl CodePointInversionListBuilder {
-    /// Turns all code points round: the set becomes its complement. The complement of the complement is the set
-    /// again.
+    /// Turns all code points round: the set becomes its complement. The complement of the complement is the
+    /// set again.
     ///
     /// # Errors
     /// `MemoryError` where memory was refused. The set is then unchanged.

@@ -17,8 +17,9 @@ impl<'data> CodePointInversionList<'data> {
     /// The set of what a range of characters names: `'A'..='Z'` gives `[0x41, 0x5B]`.
     ///
     /// # Errors
-    /// `TryRangeError::Invalid` exactly where the range is empty or reversed, with its start and its exclusive
-    /// end: `'B'..'A'` gives `RangeError(0x42, 0x41)`. `TryRangeError::Memory` where memory was refused.
+    /// `TryRangeError::Invalid` exactly where the range is empty or reversed, with its start and its
+    /// exclusive end: `'B'..'A'` gives `RangeError(0x42, 0x41)`. `TryRangeError::Memory` where memory was
+    /// refused.
     pub fn try_from<R: RangeOf<char>>(
         alloc: Global,
         range: R,
@@ -33,8 +34,8 @@ impl<'data> CodePointInversionList<'data> {
         Ok(CodePointInversionList::from_valid_slice(alloc, &[start, end])?)
     }
 
-    /// The set of all that the ranges name. A range whose last number is above 0x10FFFF is ignored wholly, as by
-    /// [`add_range32`](CodePointInversionListBuilder::add_range32). The iterator is one that ends.
+    /// The set of all that the ranges name. A range whose last number is above 0x10FFFF is ignored wholly, as
+    /// by [`add_range32`](CodePointInversionListBuilder::add_range32). The iterator is one that ends.
     ///
     /// # Errors
     /// `MemoryError` where memory was refused. The iterator is then let go where it stands.

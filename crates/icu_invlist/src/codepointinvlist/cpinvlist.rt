@@ -132,7 +132,8 @@ impl<'data> CodePointInversionList<'data> {
     /// The set with ends of its own. One that owns them already keeps them, and takes no memory.
     ///
     /// # Errors
-    /// `MemoryError` where memory was refused. The set is then given up, and ends that it borrowed are unchanged.
+    /// `MemoryError` where memory was refused. The set is then given up, and ends that it borrowed are
+    /// unchanged.
     pub fn into_owned(self, alloc: Global) -> Result<CodePointInversionList<'static>, MemoryError>
         ensures ok { IfOk result (λ s. s ≡ self.entry) }
     {

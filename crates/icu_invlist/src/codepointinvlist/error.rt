@@ -1,10 +1,9 @@
 //! Why lists and ranges are refused.
 ghost use Rattle.std.specs.Prelude.{◌≡◌};
-ghost use Rattle.icu_invlist.specs.declared.codepointinvlist.error.SetError.TheVariants.{Memory, Invalid};
+ghost use Rattle.icu_invlist.specs.declared.codepointinvlist.error.SetError.TheVariants.{Memory};
 ghost use Rattle.icu_invlist.specs.declared.codepointinvlist.error.TryRangeError.TheVariants.{Memory as RangeMemory};
 
 use icu_zerovec::{MemoryError, PotentialCodePoint};
-use std::alloc::{AllocError, AllocFailed};
 use thiserror::Error;
 
 /// This list is no inversion list: it has an odd number of ends, does not ascend, or has an end above
@@ -28,14 +27,6 @@ impl From<MemoryError> for SetError {
     ghost from_gives = { λ _ e. e ≡ Memory };
 
     fn from(_error: MemoryError) -> SetError {
-        SetError::Memory
-    }
-}
-
-impl From<AllocError> for SetError {
-    ghost from_gives = { λ _ e. e ≡ Memory };
-
-    fn from(_error: AllocError) -> SetError {
         SetError::Memory
     }
 }

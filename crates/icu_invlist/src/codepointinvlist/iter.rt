@@ -13,8 +13,8 @@ use std::marker::Model;
 use std::ops::RangeInclusive;
 
 /// The ranges of a set, ascending, as
-/// [`iter_ranges`](crate::codepointinvlist::CodePointInversionList::iter_ranges) gives them. It knows how many
-/// are left, and a clause sees the ends of those.
+/// [`iter_ranges`](crate::codepointinvlist::CodePointInversionList::iter_ranges) gives them. It knows how
+/// many are left, and a clause sees the ends of those.
 #[derive(Debug, Drop)]
 pub struct IterRanges<'a> {
     ends: Iter<'a, PotentialCodePoint>,
@@ -67,8 +67,8 @@ impl<'a> ExactSizeIterator for IterRanges<'a> {
 }
 
 /// The ranges that a set does not hold, ascending, as
-/// [`iter_ranges_complemented`](crate::codepointinvlist::CodePointInversionList::iter_ranges_complemented) gives
-/// them. A clause sees the ends of those that are left.
+/// [`iter_ranges_complemented`](crate::codepointinvlist::CodePointInversionList::iter_ranges_complemented)
+/// gives them. A clause sees the ends of those that are left.
 #[derive(Debug, Drop)]
 pub struct IterRangesComplemented<'a> {
     start: Option<u32>,
@@ -128,8 +128,8 @@ impl<'a> Iterator for IterRangesComplemented<'a> {
 }
 
 /// The characters of a set, ascending, as
-/// [`iter_chars`](crate::codepointinvlist::CodePointInversionList::iter_chars) gives them. A clause sees those
-/// that are left.
+/// [`iter_chars`](crate::codepointinvlist::CodePointInversionList::iter_chars) gives them. A clause sees
+/// those that are left.
 #[derive(Debug, Drop)]
 pub struct IterChars<'a> {
     next: u32,

@@ -21,9 +21,9 @@ impl RangePoint for u32 {
     ghost last_end = { 2 ^ 32 - 1 };
 }
 
-/// A range of characters or of numbers: `a..b`, `a..=b`, `a..`, `..b`, `..=b` or `..` of `char` or of `u32`. The
-/// numbers that it names are those from its start to before its end; a range of characters names the surrogates
-/// between them too.
+/// A range of characters or of numbers: `a..b`, `a..=b`, `a..`, `..b`, `..=b` or `..` of `char` or of `u32`.
+/// The numbers that it names are those from its start to before its end; a range of characters names the
+/// surrogates between them too.
 pub trait RangeOf<X: RangePoint> {
     /// The first number that it names, if it names one.
     ghost start: { Self → ℕ };

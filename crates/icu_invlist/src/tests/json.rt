@@ -28,7 +28,11 @@ fn read_from_json(rt: HostRuntime) -> Result<(), Fail> {
     expect_read(&rt, "[\"U-W\"]", Ok(&[0x55, 0x58]))?;
     expect_read(&rt, "[\"AU+002DC\"]", Ok(&[0x41, 0x44]))?;
     expect_read(&rt, "[\"--/\"]", Ok(&[0x2D, 0x30]))?;
-    expect_read(&rt, "[]", Ok(&[]))?;
+    expect_read(&rt, "[]", Ok(&[]))
+}
+
+#[test]
+fn refused_in_json(rt: HostRuntime) -> Result<(), Fail> {
     expect_read(&rt, "[\"A-B\", \"C-D\"]", Err(SetJsonError::InvalidSet))?;
     expect_read(&rt, "[\"A--\"]", Err(SetJsonError::InvalidSet))?;
     expect_read(&rt, "[\"A\", \"U+\"]", Err(SetJsonError::NotARange(1)))?;

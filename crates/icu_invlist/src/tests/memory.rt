@@ -1,8 +1,7 @@
-//! Want of memory: each call that may grow something says so at once where a growth was refused, and leaves what
-//! it would have changed as it was. Calls that take no memory ask for none.
+//! Want of memory: each call that may grow something says so at once where a growth was refused, and leaves
+//! what it would have changed as it was. Calls that take no memory ask for none.
 use super::*;
 use icu_zerovec::{MemoryError, PotentialCodePoint, ZeroVec};
-use std::ops::Range;
 
 /// A builder of the set with these ends that has no room for more.
 fn full_builder_of(alloc: Global, ends: &[u32]) -> Result<CodePointInversionListBuilder, SetError> {
@@ -442,7 +441,7 @@ fn get_inversion_list_vec_refused(rt: HostRuntime) -> Result<(), Fail> {
     Ok(())
 }
 
-/// Intersection with ranges, and changes that put no end in.
+/// Changes that put no end in, or as many as they take out.
 #[test]
 fn changes_quiet(rt: HostRuntime) -> Result<(), Fail> {
     let Ok(mut builder) = full_builder_of(rt.alloc(), &[0x41, 0x5B, 0x61, 0x7B]) else {
@@ -452,49 +451,67 @@ fn changes_quiet(rt: HostRuntime) -> Result<(), Fail> {
     let joined = builder.add_range('['..'a');
     let cut = builder.remove_range32(0x70..=u32::MAX);
     let moved = builder.complement_range32(0x41..0x43);
-    let ignored = builder.complement_range32(Range { start: 9, end: 3 });
+    println!(rt; "done")?;
+    assert!(rt; joined.is_ok() && cut.is_ok() && moved.is_ok());
+    expect_answer(&rt, Ok(()), builder, &[], &[0x43, 0x70])
+}
+
+/// Intersection with ranges.
+#[test]
+fn retained_quiet(rt: HostRuntime) -> Result<(), Fail> {
+    let Ok(mut builder) = full_builder_of(rt.alloc(), &[0x41, 0x5B, 0x61, 0x7B]) else {
+        return Ok(());
+    };
+    println!(rt; "call")?;
     builder.retain_range('D'..='Z');
     builder.retain_range32(0x45..0x50);
     builder.retain_char('F');
     builder.retain32(0x46);
     println!(rt; "done")?;
-    assert!(rt; joined.is_ok() && cut.is_ok() && moved.is_ok() && ignored.is_ok());
     expect_answer(&rt, Ok(()), builder, &[], &[0x46, 0x47])
 }
 
-/// Questions, and the sets that lie ready.
 #[test]
-fn questions_quiet(rt: HostRuntime) -> Result<(), Fail> {
+fn membership_quiet(rt: HostRuntime) -> Result<(), Fail> {
     println!(rt; "call")?;
     let all = CodePointInversionList::all();
     let bmp = CodePointInversionList::bmp();
-    let held = (
+    let points = (
         bmp.contains('A'),
         bmp.contains32(0x1_0000),
         bmp.contains_range('A'..),
-        all.contains_set(&bmp),
     );
-    let counts = (
-        bmp.size(),
-        bmp.get_range_count(),
-        bmp.position('A'),
-        bmp.position32(0x41),
-        bmp.is_empty(),
-    );
-    let spans = (bmp.span("ab", true), bmp.span_back("ab", true));
-    let given = (
-        bmp.iter_ranges().next(),
-        bmp.iter_ranges_complemented().next(),
-        bmp.iter_chars().next(),
-        bmp.get_nth_range(0),
-    );
-    let same = bmp == all;
+    let sets = (all.contains_set(&bmp), bmp == all, bmp.is_empty());
     println!(rt; "done")?;
-    assert_eq!(rt; held, (true, false, false, true));
-    assert_eq!(rt; counts, (0x1_0000, 1, Some(0x41), Some(0x41), false));
+    assert_eq!(rt; points, (true, false, false));
+    assert_eq!(rt; sets, (true, false, false));
+    Ok(())
+}
+
+#[test]
+fn counts_quiet(rt: HostRuntime) -> Result<(), Fail> {
+    let bmp = CodePointInversionList::bmp();
+    println!(rt; "call")?;
+    let counts = (bmp.size(), bmp.get_range_count());
+    let places = (bmp.position('A'), bmp.position32(0x1_0000));
+    let spans = (bmp.span("ab", true), bmp.span_back("ab", true));
+    println!(rt; "done")?;
+    assert_eq!(rt; counts, (0x1_0000, 1));
+    assert_eq!(rt; places, (Some(0x41), None));
     assert_eq!(rt; spans, (2, 0));
-    assert!(rt; given.0 == Some(0..=0xFFFF) && given.1 == Some(0x1_0000..=0x10_FFFF));
-    assert!(rt; given.2 == Some('\0') && given.3 == Some(0..=0xFFFF));
-    assert!(rt; !same);
+    Ok(())
+}
+
+#[test]
+fn iterators_quiet(rt: HostRuntime) -> Result<(), Fail> {
+    let bmp = CodePointInversionList::bmp();
+    println!(rt; "call")?;
+    let range = bmp.iter_ranges().next();
+    let gap = bmp.iter_ranges_complemented().next();
+    let first = bmp.iter_chars().next();
+    println!(rt; "done")?;
+    assert!(rt; range == Some(0..=0xFFFF));
+    assert!(rt; gap == Some(0x1_0000..=0x10_FFFF));
+    assert_eq!(rt; first, Some('\0'));
     Ok(())
 }

@@ -80,75 +80,92 @@ fn texts_of_errors(rt: HostRuntime) -> Result<(), Fail> {
 }
 
 #[test]
-fn sets_of_ranges(rt: HostRuntime) -> Result<(), Fail> {
+fn empty_and_reversed_ranges(rt: HostRuntime) {
     let alloc = rt.alloc();
-    let refused = [
+    let reversed = Range {
+        start: 'B',
+        end: 'A',
+    };
+    for (found, want) in [
         (
             CodePointInversionList::try_from(alloc, 'A'..'A').err(),
             RangeError(65, 65),
         ),
         (
-            CodePointInversionList::try_from(
-                alloc,
-                Range {
-                    start: 'B',
-                    end: 'A',
-                },
-            )
-            .err(),
+            CodePointInversionList::try_from(alloc, reversed).err(),
             RangeError(66, 65),
         ),
         (
             CodePointInversionList::try_from(alloc, ..'\0').err(),
             RangeError(0, 0),
         ),
-    ];
-    for (found, want) in refused {
+    ] {
         assert_eq!(rt; found, Some(TryRangeError::Invalid(want)));
     }
+}
+
+#[test]
+fn sets_of_ranges(rt: HostRuntime) -> Result<(), Fail> {
+    let alloc = rt.alloc();
     let letters = CodePointInversionList::try_from(alloc, 'A'..='Z')?;
     assert!(rt; letters == set_of(alloc, &[0x41, 0x5B])?);
-    assert!(rt; CodePointInversionList::try_from(alloc, ..)? == CodePointInversionList::all());
+    let all = CodePointInversionList::try_from(alloc, ..)?;
+    assert!(rt; all == CodePointInversionList::all());
     let joined = CodePointInversionList::from_iter(
         alloc,
         [0..=0x3FFF, 0x4000..=0x7FFF].into_iter(),
     )?;
     assert!(rt; joined == set_of(alloc, &[0, 0x8000])?);
-    assert_eq!(rt; deconstruct_range(0..=u32::MAX), (0, u32::MAX));
-    assert_eq!(rt; deconstruct_range(..='\u{10FFFF}'), (0, 0x11_0000));
     Ok(())
 }
 
 #[test]
-fn made_and_asked(rt: HostRuntime) -> Result<(), Fail> {
+fn ends_of_ranges(rt: HostRuntime) {
+    assert_eq!(rt; deconstruct_range(0..=u32::MAX), (0, u32::MAX));
+    assert_eq!(rt; deconstruct_range(..='\u{10FFFF}'), (0, 0x11_0000));
+    let mut spent = 5..=5_u32;
+    assert_eq!(rt; spent.next(), Some(5));
+    assert_eq!(rt; deconstruct_range(spent), (5, 5));
+}
+
+#[test]
+fn lent_and_owned(rt: HostRuntime) -> Result<(), Fail> {
     let alloc = rt.alloc();
     let bytes = [0x41, 0, 0, 0x5B, 0, 0];
-    let lent = CodePointInversionList::try_from_inversion_list(
-        alloc,
-        ZeroVec::parse_bytes(&bytes)?,
-    )?;
+    let list = ZeroVec::<PotentialCodePoint>::parse_bytes(&bytes)?;
+    let lent = CodePointInversionList::try_from_inversion_list(alloc, list)?;
     let cloned = lent.try_clone(alloc)?;
     assert!(rt; lent == cloned);
     assert_eq!(rt; hash_of(&lent), hash_of(&cloned));
-    assert!(rt; lent.contains32(0x5A) && !lent.contains32(0x5B) && !lent.contains32(u32::MAX));
-    assert!(rt; !lent.is_empty() && set_of(alloc, &[])?.is_empty());
-    assert_eq!(rt;
-        lent.get_inversion_list_vec(alloc)?.as_slice(),
-        [0x41, 0x5B].as_slice()
-    );
     let owned = lent.into_owned(alloc)?;
-    assert!(rt; owned == cloned && owned != CodePointInversionList::bmp());
-    assert_eq!(rt;
-        CodePointInversionList::bmp()
-            .get_inversion_list_vec(alloc)?
-            .as_slice(),
-        [0, 0x1_0000].as_slice()
-    );
-    assert_eq!(rt;
-        CodePointInversionList::all()
-            .get_inversion_list_vec(alloc)?
-            .as_slice(),
-        [0, 0x11_0000].as_slice()
-    );
+    assert!(rt; owned == cloned);
+    assert!(rt; owned != CodePointInversionList::bmp());
+    Ok(())
+}
+
+#[test]
+fn held_and_listed(rt: HostRuntime) -> Result<(), Fail> {
+    let set = set_of(rt.alloc(), &[0x41, 0x5B])?;
+    for (c, want) in [
+        (0x40, false),
+        (0x41, true),
+        (0x5A, true),
+        (0x5B, false),
+        (u32::MAX, false),
+    ] {
+        assert_eq!(rt; set.contains32(c), want);
+    }
+    assert!(rt; !set.is_empty());
+    let ends = set.get_inversion_list_vec(rt.alloc())?;
+    assert_eq!(rt; ends.as_slice(), [0x41, 0x5B].as_slice());
+    Ok(())
+}
+
+#[test]
+fn sets_that_lie_ready(rt: HostRuntime) -> Result<(), Fail> {
+    let bmp = CodePointInversionList::bmp().get_inversion_list_vec(rt.alloc())?;
+    assert_eq!(rt; bmp.as_slice(), [0, 0x1_0000].as_slice());
+    let all = CodePointInversionList::all().get_inversion_list_vec(rt.alloc())?;
+    assert_eq!(rt; all.as_slice(), [0, 0x11_0000].as_slice());
     Ok(())
 }
