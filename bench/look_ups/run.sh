@@ -5,7 +5,7 @@
 set -eu
 here=$(dirname -- "$(readlink -f -- "$0")")
 root=$here/../..
-crates="icu_zerovec icu_trie icu_trie_builder"
+crates="icu_zerovec icu_invlist icu_trie icu_trie_builder"
 
 stop() { echo "look_ups: $1" >&2; exit 70; }
 [ $# -gt 0 ] || stop "usage: run.sh TABLE.."
