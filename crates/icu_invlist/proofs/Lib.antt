@@ -14,3 +14,4 @@ pub mod CharacterLemmas
 pub mod TextLemmas
 pub mod JsonLemmas
 pub mod WrittenSets
+pub mod HeldMembers

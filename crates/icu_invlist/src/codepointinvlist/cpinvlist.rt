@@ -1,6 +1,8 @@
 //! The set of an inversion list.
-ghost use Rattle.std.specs.Prelude.{◌≡◌, ℕ, suc, ◌+◌, ◌^◌, ◌<◌, ◌≤◌, List, [], ◌∷◌, length, slice_index, slice_get, map, min, not, Some, None, if◌then◌else◌, IfOk, IfErr, IsTrue, ◌↔◌};
-ghost use Rattle.std.specs.List.{take_while};
+ghost use Rattle.std.specs.Prelude.{◌≡◌, ℕ, suc, ◌+◌, ◌^◌, ◌<◌, ◌≤◌, List, [], ◌∷◌, length, slice_index, slice_get, map, min, not, Some, None, if◌then◌else◌, IfOk, IfErr, IsTrue, true, ◌↔◌};
+ghost use Rattle.std.specs.List.{take_while, Contains};
+ghost use Rattle.std.specs.List.Sorted.{IsStrictlyIncreasing};
+ghost use Rattle.std.proofs.Math.Utf8.{scalar};
 ghost use Rattle.std.specs.Str.{chars, encode_utf8_all};
 ghost use mathlib.Core.Bool.{beq};
 ghost use mathlib.Core.List.{reverse};
@@ -361,6 +363,8 @@ impl<'data> CodePointInversionList<'data> {
     /// The characters that the set holds, ascending. Its surrogates are left out.
     pub fn iter_chars(&self) -> IterChars<'_>
         ensures gives { result ≡ characters self.now }
+        ensures held { (c : ℕ) → Contains (characters self.now) c ↔ (scalar c ≡ true) × (holds self.now c ≡ true) }
+        ensures ascending { IsStrictlyIncreasing (characters self.now) }
     {
         IterChars::from_ends(self.ends.iter())
     }

@@ -1,6 +1,7 @@
 //! The ranges and the characters of a set, one after another.
-ghost use Rattle.std.specs.Prelude.{◌≡◌, ◌<◌, ◌≤◌, ◌-◌, ◌^◌, ◌∷◌, [], length};
-ghost use Rattle.std.specs.Iterator.{YieldsFirst, item_count};
+ghost use Rattle.std.specs.Prelude.{◌≡◌, ◌<◌, ◌≤◌, ◌-◌, ◌^◌, ◌∷◌, [], length, Some, IfSome};
+ghost use Rattle.std.specs.Iterator.{YieldsFirst, item_count, at_most, UpTo};
+ghost use Rattle.std.specs.Iterator.SizeHint.{IsWithinCount};
 ghost use Rattle.std.specs.List.{filter, range_with_len};
 ghost use Rattle.std.specs.Option.{MatchOption};
 ghost use Rattle.std.proofs.Math.Utf8.{scalar};
@@ -54,7 +55,11 @@ impl<'a> Iterator for IterRanges<'a> {
         Some(RangeInclusive::new(u32::from(start), u32::from(end) - 1))
     }
 
-    fn size_hint(&self) -> (usize, Option<usize>) {
+    fn size_hint(&self) -> (usize, Option<usize>)
+        ensures lower { IsWithinCount result.0 (at_most (length (ranges_of self.now))) }
+        ensures upper { IfSome result.1 (UpTo (at_most (length (ranges_of self.now)))) }
+        ensures exact { (result.0 ≡ length (ranges_of self.now)) × (result.1 ≡ Some (length (ranges_of self.now))) }
+    {
         let len = self.ends.len() / 2;
         (len, Some(len))
     }
