@@ -10,3 +10,7 @@ pub mod RangeLemmas
 pub mod RunLemmas
 pub mod IteratorLemmas
 pub mod SetLemmas
+pub mod JoinedLemmas
+pub mod ValueLemmas
+pub mod MappedTrieLemmas
+pub mod MappedLemmas

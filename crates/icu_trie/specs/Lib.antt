@@ -11,3 +11,9 @@ pub mod Seen
 pub mod Walk
 pub mod Ranges
 pub mod Iterators
+pub mod TypeNumbers
+pub mod JoinedRanges
+pub mod Coalescer
+pub mod RangesOfValue
+pub mod MappedTrie
+pub mod MappedRanges

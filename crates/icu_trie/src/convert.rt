@@ -71,7 +71,7 @@ impl<'trie, T: TrieValue> CodePointTrie<'trie, T> {
     }
 
     /// The trie of parts that were tested, with this null value.
-    fn with_data(
+    pub(crate) fn with_data(
         header: CodePointTrieHeader,
         index: ZeroVec<'trie, u16>,
         data: ZeroVec<'trie, T>,

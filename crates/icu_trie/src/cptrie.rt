@@ -226,13 +226,30 @@ impl<'trie, T: TrieValue> CodePointTrie<'trie, T> {
         })
     }
 
+    /// What stands in where the format gives no answer: the last cell, which is the error value.
+    ///
+    /// It stays a call, and reads the cell, so that the path of those who have an answer has neither its load
+    /// nor its jump: a read of the field would be drawn into that path.
+    #[cold]
+    #[inline(never)]
+    pub(crate) fn without_answer(&self) -> T
+        ensures { Some result ≡ last_cell self.now.values }
+    {
+        match self.data.last() {
+            Some(value) => value,
+            None => unreachable!(),
+        }
+    }
+
     /// The value of the code point `c`. The error value above 0x10FFFF, and where the trie lacks a cell.
     #[inline]
     pub fn get32(&self, c: u32) -> T
         ensures { Some result ≡ trie_value self.now c }
     {
-        let answer = look_up_in(&self.header, self.index.as_slice(), self.data.as_slice(), c);
-        answer.unwrap_or(self.error_value)
+        match look_up_in(&self.header, self.index.as_slice(), self.data.as_slice(), c) {
+            Some(value) => value,
+            None => self.without_answer(),
+        }
     }
 
     /// The value of a character.
@@ -267,11 +284,12 @@ impl<'trie, T: TrieValue> CodePointTrie<'trie, T> {
         self.get32(c).to_u32()
     }
 
-    /// The header, and index and data lent: what the trie was made of by `try_new`.
+    /// The header, and index and data lent: what the trie was made of by `try_new`, which takes them again.
     pub fn parts(&self) -> (CodePointTrieHeader, ZeroSlice<'_, u16>, ZeroSlice<'_, T>)
         ensures header { result.0 ≡ self.now.header }
         ensures index { slice_values result.1 ≡ self.now.index }
         ensures values { slice_values result.2 ≡ self.now.values }
+        ensures whole { fault T.of_number self.now.header self.now.index self.now.values ≡ None }
     {
         (self.header, self.index.as_slice(), self.data.as_slice())
     }

@@ -1,4 +1,7 @@
 //! The header of a trie.
+ghost use Rattle.icu_trie.specs.TypeNumbers.{GivesType};
+
+use crate::error::CodePointTrieError;
 
 /// Which part of the code space the fast index covers.
 #[derive(Clone, Copy, Debug, PartialEq, Eq)]
@@ -7,6 +10,23 @@ pub enum TrieType {
     Fast = 0,
     /// Code points below 0x1000 alone, for small tables.
     Small = 1,
+}
+
+/// The type of a number in a file: 0 is `Fast` and 1 `Small`. Any other number is refused by `FromDeserialized`.
+impl TryFrom<u8> for TrieType {
+    type Error = CodePointTrieError;
+
+    ghost try_from_gives = { GivesType };
+
+    fn try_from(number: u8) -> Result<TrieType, CodePointTrieError> {
+        match number {
+            0 => Ok(TrieType::Fast),
+            1 => Ok(TrieType::Small),
+            _ => Err(CodePointTrieError::FromDeserialized {
+                reason: "Cannot parse value for trie_type",
+            }),
+        }
+    }
 }
 
 /// What a trie says of itself beside its index and its data (UCPTrie's header).

@@ -7,6 +7,10 @@
 //! - `walk`: [`walk`](walk::walk), the range of one value from a code point on, by blocks
 //! - `cptrie`: [`CodePointTrie`](cptrie::CodePointTrie), the trie over packed vectors
 //! - `ranges`: its ranges of equal values, and the set of a value
+//! - `ranges_of_value`: those of them that have a value
+//! - `iterator_utils`: ranges that touch and have equal values, joined
+//! - `mapped_ranges`: the ranges under a map of the values, joined
+//! - `map_value`: the trie of the mapped values
 //! - `packed_cell`, `convert`, `typed`: the bytes of a cell, the data read as another type, and tries whose type
 //!   is known
 //! - `error`, `impl_const`: why parts are refused; the format's numbers
@@ -19,9 +23,13 @@ mod equality;
 pub mod error;
 pub mod header;
 pub mod impl_const;
+pub mod iterator_utils;
 pub mod lookup;
+pub mod map_value;
+pub mod mapped_ranges;
 mod packed_cell;
 pub mod ranges;
+pub mod ranges_of_value;
 #[cfg(test)]
 mod tests;
 pub mod typed;

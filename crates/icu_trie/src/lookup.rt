@@ -68,7 +68,9 @@ pub(crate) fn offset_of<T, C: Cells<T>>(cells: &mut C, index2_cell: u16, place: 
 /// The place in the data of a code point from the fast limit on and below the high start, by the three stages
 /// of the index.
 ///
-/// It is no part of the fast path, and stays a call so that this one is short.
+/// It is no part of the fast path, and stays a call, told apart as the rarer one, so that the fast path is short
+/// and keeps all that it needs in registers.
+#[cold]
 #[inline(never)]
 #[tactic(auto, unfolding(crate::specs::Format::small_offset))]
 pub(crate) fn small_place_of<T, C: Cells<T>>(

@@ -7,6 +7,8 @@ use icu_zerovec::{MemoryError, ZeroVec};
 use std::process::Abort;
 use std::test::Fail;
 
+mod mapped;
+
 static ZEROS: [u8; 128] = [0; 128];
 
 /// 64 cells, then a high value and an error value.

@@ -69,8 +69,10 @@ fn value_of<T: TrieValue>(trie: &CodePointTrie<'_, T>, trie_type: TrieType, c: u
         trie_type,
         ..trie.header
     };
-    let answer = look_up_in(&header, trie.index.as_slice(), trie.data.as_slice(), c);
-    answer.unwrap_or(trie.error_value)
+    match look_up_in(&header, trie.index.as_slice(), trie.data.as_slice(), c) {
+        Some(value) => value,
+        None => trie.without_answer(),
+    }
 }
 
 /// The value of `c` in a trie of this type where `c` lies below the fast limit, `None` from it on.

@@ -1,0 +1,85 @@
+-- The ranges of a trie under a map of its values, and the iterators over them.
+use Rattle.std.specs.Prelude.{◌≡◌, ℕ, ◌+◌, ◌<◌, ◌≤◌, Bool, true, false, List, [], ◌∷◌, Option, Some, None, ⊤}
+use Rattle.std.specs.Range.{range_inclusive_exhausted}
+use Rattle.icu_trie.specs.declared.ranges.CodePointMapRange.{CodePointMapRange}
+use Rattle.icu_trie.specs.declared.ranges.CodePointMapRangeIterator.{CodePointMapRangeIterator}
+use Rattle.icu_trie.specs.declared.iterator_utils.RangeListIteratorCoalescer.{RangeListIteratorCoalescer}
+use Rattle.icu_trie.specs.declared.mapped_ranges.MappedRanges.{MappedRanges}
+use Rattle.icu_trie.specs.declared.mapped_ranges.IterRangesMapped.{IterRangesMapped}
+use Rattle.icu_trie.specs.Parts.{Parts}
+use Rattle.icu_trie.specs.Ranges.{first_of, last_of, AreRangesFrom}
+use Rattle.icu_trie.specs.Iterators.{GivesNextRange}
+use Rattle.icu_trie.specs.JoinedRanges.{joined}
+use Rattle.icu_trie.specs.Coalescer.{coalescer_steps}
+
+-- a range of code points: not empty, within the code points, and not used up
+abbrev pub IsRangeOfCodePoints : {A : Type 0} → CodePointMapRange A → Type 0
+IsRangeOfCodePoints r = (first_of r ≤ last_of r) × (last_of r < 0x110000) × (range_inclusive_exhausted r.range ≡ false)
+
+module _ {A B : Type 0} (eq : B → B → Bool) (h : A → B) (map : ℕ → Option A) where
+  -- from `first` to `last` the mapped values equal `value`, which is the mapped value at `first`
+  pub record MapsTo (first last : ℕ) (value : B) : Type 0 where
+    pub ordered : first ≤ last
+    pub within : last < 0x110000
+    pub starts : (x : A) → map first ≡ Some x → value ≡ h x
+    pub equal : (u : ℕ) (x : A) → first ≤ u → u ≤ last → map u ≡ Some x → eq (h x) value ≡ true
+
+  -- and the mapped value at the next code point, where there is one, doesn't
+  pub record LongestMappedRun (first last : ℕ) (value : B) : Type 0 where
+    pub maps : MapsTo first last value
+    pub ends : (x : A) → last + 1 < 0x110000 → map (last + 1) ≡ Some x → eq (h x) value ≡ false
+
+  -- from c on these are the maximal runs of the values of `map` under h, where values are equal by eq
+  abbrev pub AreMappedRunsFrom : ℕ → List (CodePointMapRange B) → Type 0
+  AreMappedRunsFrom c [] = c ≡ 0x110000
+  AreMappedRunsFrom c (r ∷ rs) =
+      (first_of r ≡ c) × (range_inclusive_exhausted r.range ≡ false) × LongestMappedRun c (last_of r) r.value × AreMappedRunsFrom (last_of r + 1) rs
+
+module _ {F A B : Type 0} (post : F → A → B → Type 0) (f : F) where
+  -- f answers h of its argument
+  abbrev pub Answers : (A → B) → Type 0
+  Answers h = (x : A) (r : B) → post f x r → r ≡ h x
+
+  -- the same ranges, each with an answer of f to its value
+  abbrev pub AreAnswered : List (CodePointMapRange A) → List (CodePointMapRange B) → Type 0
+  AreAnswered [] [] = ⊤
+  AreAnswered [] (y ∷ ys) = ⊥
+  AreAnswered (x ∷ xs) [] = ⊥
+  AreAnswered (x ∷ xs) (y ∷ ys) = (y.range ≡ x.range) × post f x.value y.value × AreAnswered xs ys
+
+  -- the same of one range, if there is one
+  abbrev pub IsAnswered : Option (CodePointMapRange A) → Option (CodePointMapRange B) → Type 0
+  IsAnswered None None = ⊤
+  IsAnswered None (Some y) = ⊥
+  IsAnswered (Some x) None = ⊥
+  IsAnswered (Some x) (Some y) = (y.range ≡ x.range) × post f x.value y.value
+
+-- the joined ranges of those that a trie gives, each with an answer of f to its value
+pub record AreMappedRangesOf {F A B : Type 0} (of_number : ℕ → Option A) (post : F → A → B → Type 0) (eq : B → B → Bool) (f : F) (p : Parts A) (ranges : List (CodePointMapRange B)) : Type 0 where
+  pub all : List (CodePointMapRange A)
+  pub given : AreRangesFrom of_number p 0 all
+  pub answered : List (CodePointMapRange B)
+  pub answers : AreAnswered post f all answered
+  pub joins : ranges ≡ joined eq answered
+
+module _ {F A : Type 0} {m : _} where
+  -- the iterator over the ranges that are to be mapped, and the closure
+  abbrev pub mapped_source : MappedRanges A F m → CodePointMapRangeIterator A m
+  mapped_source s = s.ranges
+
+  abbrev pub mapped_callee : MappedRanges A F m → F
+  mapped_callee s = s.map
+
+  -- a call gave the next range with an answer of the closure to its value, or none where there is none
+  pub record GivesMapped {B : Type 0} (of_number : ℕ → Option A) (post : F → A → B → Type 0) (s : MappedRanges A F m) (r : Option (CodePointMapRange B)) (t : MappedRanges A F m) : Type 0 where
+    pub same : mapped_callee t ≡ mapped_callee s
+    pub taken : Option (CodePointMapRange A)
+    pub step : GivesNextRange of_number (mapped_source s) taken (mapped_source t)
+    pub gives : IsAnswered post (mapped_callee s) taken r
+
+  -- the coalescer inside the iterator, and its steps
+  abbrev pub iter_mapped_source : {B : Type 0} → IterRangesMapped A B F m → RangeListIteratorCoalescer (MappedRanges A F m) B
+  iter_mapped_source s = s.ranges
+
+  abbrev pub iter_mapped_steps : {B : Type 0} → (ℕ → Option A) → (F → A → B → Type 0) → (B → B → Bool) → IterRangesMapped A B F m → Option (CodePointMapRange B) → IterRangesMapped A B F m → Type 0
+  iter_mapped_steps of_number post eq s r t = coalescer_steps (GivesMapped of_number post) eq (iter_mapped_source s) r (iter_mapped_source t)

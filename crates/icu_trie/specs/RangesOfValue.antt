@@ -1,0 +1,47 @@
+-- The ranges of a trie that have a value, and the iterator over them.
+use Rattle.std.specs.Prelude.{◌≡◌, ℕ, Bool, true, List, [], map, filter, Option, IfSome, option_map}
+use Rattle.std.specs.declared.ops.RangeInclusive.{RangeInclusive}
+use Rattle.std.specs.Iterator.{YieldsThen}
+use Rattle.icu_trie.specs.declared.ranges.CodePointMapRange.{CodePointMapRange}
+use Rattle.icu_trie.specs.declared.ranges.CodePointMapRangeIterator.{CodePointMapRangeIterator}
+use Rattle.icu_trie.specs.declared.ranges_of_value.IterRangesForValue.{IterRangesForValue}
+use Rattle.icu_trie.specs.Parts.{Parts}
+use Rattle.icu_trie.specs.Runs.{AreMaximalRuns}
+use Rattle.icu_trie.specs.Ranges.{AreRangesFrom, answers, run_of}
+use Rattle.icu_trie.specs.Iterators.{GivesNextRange}
+
+module _ {A : Type 0} (eq : A → A → Bool) where
+  -- those of the ranges whose value equals this one, in order
+  abbrev pub with_value : A → List (CodePointMapRange A) → List (CodePointMapRange A)
+  with_value value xs = filter (λ x. eq x.value value) xs
+
+  -- the code points are those of the ranges that the trie gives and that have the value, in order
+  pub record AreRangesOfValue (of_number : ℕ → Option A) (p : Parts A) (value : A) (ranges : List (RangeInclusive ℕ)) : Type 0 where
+    pub all : List (CodePointMapRange A)
+    pub given : AreRangesFrom of_number p 0 all
+    pub selected : ranges ≡ map (λ x. x.range) (with_value value all)
+
+  -- the code points are those of the maximal runs of the trie's answers that have the value, in order
+  pub record AreRunsOfValue (p : Parts A) (value : A) (ranges : List (RangeInclusive ℕ)) : Type 0 where
+    pub all : List (CodePointMapRange A)
+    pub maximal : AreMaximalRuns (answers p) (map run_of all)
+    pub selected : ranges ≡ map (λ x. x.range) (with_value value all)
+
+module _ {A : Type 0} {m : _} where
+  -- the iterator over all ranges, and the value that is sought
+  abbrev pub value_iterator_source : IterRangesForValue A m → CodePointMapRangeIterator A m
+  value_iterator_source s = s.ranges
+
+  abbrev pub value_iterator_value : IterRangesForValue A m → A
+  value_iterator_value s = s.value
+
+  -- a call passed over the ranges with other values, and then gave the next one, which has the value, or none
+  -- where there is no further range
+  pub record GivesNextOfValue (of_number : ℕ → Option A) (eq : A → A → Bool) (s : IterRangesForValue A m) (r : Option (RangeInclusive ℕ)) (t : IterRangesForValue A m) : Type 0 where
+    pub same : value_iterator_value t ≡ value_iterator_value s
+    pub passed : List (CodePointMapRange A)
+    pub last : Option (CodePointMapRange A)
+    pub calls : YieldsThen (GivesNextRange of_number) (value_iterator_source s) passed last (value_iterator_source t)
+    pub others : with_value eq (value_iterator_value s) passed ≡ []
+    pub gives : r ≡ option_map (λ x. x.range) last
+    pub has : IfSome last (λ x. eq x.value (value_iterator_value s) ≡ true)

@@ -1,0 +1,76 @@
+//! Iterators over ranges with values.
+ghost use Rattle.std.specs.Prelude.{◌≡◌, ◌+◌, None};
+ghost use Rattle.std.specs.Iterator.{IsFinite, count_map};
+ghost use Rattle.std.specs.Option.{option_len};
+ghost use Rattle.itertools.specs.Adaptor.{fuse_can, fuse_left, IsFresh, EachRunBehind, Gives};
+ghost use Rattle.icu_trie.specs.JoinedRanges.{joined, continues};
+ghost use Rattle.icu_trie.specs.Coalescer.{coalescer_source, coalescer_peek, coalescer_steps};
+
+use crate::ranges::CodePointMapRange;
+use std::iter::Fuse;
+
+/// An iterator over ranges with values that joins the ranges which touch and have equal values.
+///
+/// A range goes on with the one before it where it starts at that one's last code point plus one and has an
+/// equal value. Of ranges that are joined the first one's value is kept, and each further one is compared
+/// with it. A range that ends at `u32::MAX` has nothing behind it. Ranges that do not touch, or overlap, stay
+/// as they are.
+///
+/// Over (0..=3, 1), (4..=6, 1), (8..=9, 1) it gives (0..=6, 1), (8..=9, 1).
+#[derive(Debug, Drop)]
+pub struct RangeListIteratorCoalescer<I, U> {
+    iter: Fuse<I>,
+    peek: Option<CodePointMapRange<U>>,
+}
+
+impl<I: Iterator<Item = CodePointMapRange<U>>, U: Eq> RangeListIteratorCoalescer<I, U> {
+    /// The joined ranges of what `iter` gives. Once `iter` has answered `None` it is not asked again.
+    pub fn new(iter: I) -> Self
+        ensures source { IsFresh (coalescer_source result) iter }
+        ensures peek { coalescer_peek result ≡ None }
+        ensures runs { EachRunBehind (coalescer_steps I.next_gives U.PartialEq.eq) result I.next_gives iter
+            (λ p q. Gives p q (joined U.PartialEq.eq)) }
+    {
+        Self {
+            iter: iter.fuse(),
+            peek: None,
+        }
+    }
+}
+
+/// Whether `next` starts right behind `range` and has an equal value.
+fn is_continued<U: Eq>(range: &CodePointMapRange<U>, next: &CodePointMapRange<U>) -> bool
+    ensures { result ≡ continues U.PartialEq.eq range.now next.now }
+{
+    let last = *range.range.end();
+    last < u32::MAX && *next.range.start() == last + 1 && next.value == range.value
+}
+
+impl<I: Iterator<Item = CodePointMapRange<U>>, U: Eq + Drop> Iterator
+    for RangeListIteratorCoalescer<I, U> {
+    type Item = CodePointMapRange<U>;
+
+    ghost can_next = { λ s. fuse_can I.can_next (coalescer_source s)
+        × IsFinite (fuse_left I.remaining (coalescer_source s)) };
+
+    ghost next_gives = { coalescer_steps I.next_gives U.PartialEq.eq };
+
+    ghost remaining = { λ s. count_map (λ n. n + option_len (coalescer_peek s))
+        (fuse_left I.remaining (coalescer_source s)) };
+
+    fn next(&mut self) -> Option<CodePointMapRange<U>> {
+        let mut range = match self.peek.take() {
+            Some(range) => range,
+            None => self.iter.next()?,
+        };
+        while let Some(next) = self.iter.next() {
+            if is_continued(&range, &next) {
+                range.range = *range.range.start()..=*next.range.end();
+            } else {
+                self.peek = Some(next);
+                return Some(range);
+            }
+        }
+        Some(range)
+    }
+}
