@@ -1,0 +1,133 @@
+//! How sets of code points and texts are made.
+ghost use Rattle.std.specs.Prelude.{◌≡◌, ◌+◌, ◌≤◌, ◌||◌, ℕ, List, length, map, Some, None, IfOk, IfErr, OnOk, IfSome, option_map};
+ghost use Rattle.std.specs.String.{string_bytes};
+ghost use Rattle.std.specs.Str.{bytes_eq};
+ghost use Rattle.std.specs.Iterator.{Drains, IsFinite};
+ghost use Rattle.icu_text_sets.specs.TextSet.{TextSet, only_char, is_among, texts_of, IsStringList, HoldsTexts};
+ghost use Rattle.icu_text_sets.specs.TextFaults.{fault, fault_of, fault_at, extent, kind_of};
+
+use crate::codepointinvliststringlist::error::InvalidStringList;
+use crate::codepointinvliststringlist::set::{
+    CodePointInversionListAndStringList, only_char, place_of,
+};
+use icu_invlist::codepointinvlist::{CodePointInversionList, CodePointInversionListBuilder};
+use icu_zerovec::MemoryError;
+use std::alloc::Global;
+use std::cmp::Ordering;
+
+/// What is wrong with a string of a list.
+#[derive(Clone, Copy)]
+enum Fault {
+    OneCodePoint,
+    Repeated,
+    Unsorted,
+}
+
+/// What is wrong with a string before the next one, if there is one.
+fn fault_before(text: &String, next: Option<&String>) -> Option<Fault>
+    ensures { result ≡ kind_of (string_bytes text.now) (option_map (λ s. string_bytes s.now) next.entry) }
+{
+    if only_char(text.as_str()).is_some() {
+        return Some(Fault::OneCodePoint);
+    }
+    match text.as_str().cmp(next?.as_str()) {
+        Ordering::Less => None,
+        Ordering::Equal => Some(Fault::Repeated),
+        Ordering::Greater => Some(Fault::Unsorted),
+    }
+}
+
+/// The first fault on a walk from the front, with the place of its string.
+fn first_fault(strings: &[String]) -> Option<(usize, Fault)>
+    ensures first { fault (texts_of strings.now) ≡ option_map (λ x. fault_at (texts_of strings.now) x.0 x.1) result }
+    ensures within { IfSome result (λ x. x.0 + extent x.1 ≤ length strings.now) }
+{
+    for (i, text) in strings.iter().enumerate() {
+        if let Some(fault) = fault_before(text, strings.get(i + 1)) {
+            return Some((i, fault));
+        }
+    }
+    None
+}
+
+/// The error that has the strings at fault, which are taken out of the list.
+fn refused(mut strings: Vec<String>, place: usize, fault: Fault) -> InvalidStringList
+    requires { place + extent fault ≤ length strings.items }
+    ensures { fault_of result ≡ fault_at (texts_of strings.items) place fault }
+{
+    match fault {
+        Fault::OneCodePoint => InvalidStringList::InvalidStringLength(strings.swap_remove(place)),
+        Fault::Repeated => InvalidStringList::StringListNotUnique(strings.swap_remove(place)),
+        Fault::Unsorted => {
+            let next = strings.remove(place + 1);
+            InvalidStringList::StringListNotSorted(strings.swap_remove(place), next)
+        }
+    }
+}
+
+/// Puts a text that is no single character among strings of a set, where it isn't there yet.
+fn insert_text(alloc: Global, strings: &mut Vec<String>, text: &str) -> Result<(), MemoryError>
+    requires list { IsStringList (texts_of strings.old.items) }
+    requires string { only_char text.now ≡ None }
+    ensures list { OnOk result (IsStringList (texts_of strings.new.items)) }
+    ensures holds { OnOk result ((t : List ℕ) → is_among (texts_of strings.new.items) t ≡ (is_among (texts_of strings.old.items) t || bytes_eq text.now t)) }
+{
+    if let Err(place) = place_of(strings, text) {
+        strings.insert(place, String::from_str(alloc, text)?)?;
+    }
+    Ok(())
+}
+
+/// How a set is made.
+impl<'data> CodePointInversionListAndStringList<'data> {
+    /// The set of these code points and strings, which are taken over. It takes no memory.
+    ///
+    /// # Errors
+    /// The first fault on a walk from the front of the strings, with the strings at fault. At each place it
+    /// is, in this order:
+    /// - `InvalidStringLength` where the string is exactly one code point,
+    /// - `StringListNotUnique` where the next string is equal,
+    /// - `StringListNotSorted` where the next string has the smaller bytes, with both.
+    pub fn try_from(
+        cp_inv_list: CodePointInversionList<'data>,
+        str_list: Vec<String>,
+    ) -> Result<Self, InvalidStringList>
+        ensures ok { IfOk result (λ s. (s ≡ record { code_points = cp_inv_list.entry; strings = texts_of str_list.items }) × (fault (texts_of str_list.items) ≡ None)) }
+        ensures err { IfErr result (λ e. fault (texts_of str_list.items) ≡ Some (fault_of e)) }
+    {
+        match first_fault(&str_list) {
+            None => Ok(CodePointInversionListAndStringList {
+                cp_inv_list,
+                str_list,
+            }),
+            Some((place, fault)) => Err(refused(str_list, place, fault)),
+        }
+    }
+
+    /// The set of these texts, in any order, also more than once. A text of exactly one character becomes a
+    /// code point, any other one a string. The iterator is one that ends.
+    ///
+    /// # Errors
+    /// `MemoryError` where memory was refused. The iterator is then let go where it stands.
+    pub fn from_iter<'text, I: Iterator<Item = &'text str> + Drop>(
+        alloc: Global,
+        iter: I,
+    ) -> Result<Self, MemoryError>
+        requires can { I.can_next iter }
+        requires finite { IsFinite (I.remaining iter) }
+        ensures ok { IfOk result (λ s. (texts : List _) × Drains I.next_gives iter texts × HoldsTexts (map (λ t. t.now) texts) s) }
+    {
+        let mut builder = CodePointInversionListBuilder::new(alloc);
+        let mut str_list = Vec::new(alloc);
+        for text in iter {
+            match only_char(text) {
+                Some(c) => builder.add_char(c)?,
+                None => insert_text(alloc, &mut str_list, text)?,
+            }
+        }
+        Ok(CodePointInversionListAndStringList {
+            cp_inv_list: builder.build()?,
+            str_list,
+        })
+    }
+}
