@@ -1,1 +1,4 @@
+mod FirstFaultLemmas
+mod JsonLemmas
 mod PlanesLemmas
+mod TomlLemmas

@@ -1,1 +1,4 @@
+pub mod FirstFault
 pub mod Planes
+pub mod TrieJson
+pub mod TrieToml

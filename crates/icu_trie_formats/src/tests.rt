@@ -1,2 +1,4 @@
 //! What no clause says: each code point's plane, texts, and refused memory.
+mod json;
 mod planes;
+mod trie_toml;
