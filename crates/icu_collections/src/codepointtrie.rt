@@ -9,7 +9,10 @@ pub use icu_trie::error::{CodePointTrieError, ConvertError};
 pub use icu_trie::header::{CodePointTrieHeader, TrieType};
 pub use icu_trie::impl_const;
 pub use icu_trie::lookup::look_up;
+pub use icu_trie::map_value::MapError;
+pub use icu_trie::mapped_ranges::IterRangesMapped;
 pub use icu_trie::ranges::{CodePointMapRange, CodePointMapRangeIterator};
+pub use icu_trie::ranges_of_value::IterRangesForValue;
 pub use icu_trie::typed::{
     FastCodePointTrie, SmallCodePointTrie, Typed, TypedCodePointTrie, TypedCodePointTrieError,
 };
@@ -19,4 +22,4 @@ pub use icu_trie_builder::build_from_writes;
 pub use icu_trie_builder::builder::CodePointTrieBuilder;
 pub use icu_trie_builder::error::BuildError;
 pub use icu_trie_builder::writes::{ApplyRefused, Write};
-pub use icu_trie_formats::planes;
+pub use icu_trie_formats::{json, planes, trie_toml};

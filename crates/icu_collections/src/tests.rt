@@ -3,6 +3,7 @@
 
 mod built_tries;
 mod getters;
+mod mapped;
 mod packed_vectors;
 mod ranges;
 mod refused_memory;
