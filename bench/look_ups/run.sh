@@ -33,8 +33,14 @@ if ! (cd "$work/crates/look_ups" && rt lib) >"$work/log" 2>&1; then
     stop "rt lib failed"
 fi
 library=$work/crates/look_ups/out/liblook_ups.a
-gcc -O3 -o "$work/bench" "$here/bench.c" "$library" "$kit/c/liblibc_c.a" -licuuc
-"$work/bench" "$@"
+gcc -O3 -falign-functions=64 -c -o "$work/bench.o" "$here/bench.c"
+for shift in 0 16; do
+    # Where a loop stands in memory may cost it a half more on some processors, so each is timed at two places.
+    printf '.section .note.GNU-stack,"",@progbits\n.text\n.p2align 6\n.fill %d\n' "$shift" | gcc -x assembler -c -o "$work/shift.o" -
+    gcc -o "$work/bench" "$work/bench.o" "$work/shift.o" "$library" "$kit/c/liblibc_c.a" -licuuc
+    echo "== our code $shift bytes behind a multiple of 64"
+    "$work/bench" "$@"
+done
 if [ -n "${LOOK_UPS_CODE:-}" ]; then
-    objdump -d --no-show-raw-insn "$library" | awk '/add_values.*>:$/, /ret/' >"$LOOK_UPS_CODE"
+    objdump -d --no-show-raw-insn "$library" | awk '/add_(values|typed|units|text|plain).*>:$/ { inside = 1 } inside { print } /ret/ { inside = 0 }' >"$LOOK_UPS_CODE"
 fi
