@@ -63,6 +63,7 @@ impl<'data> CodePointInversionList<'data> {
     pub fn to_json(&self, alloc: Global) -> Result<Value, MemoryError>
         ensures ok { IfOk result (λ v. view v ≡ written_of self.now) }
         ensures read_back { IfOk result (λ v. ends_of (view v) ≡ Ok self.now) }
+        ensures valid { IsValid self.now }
     {
         let count = self.count();
         let mut items = Vec::with_capacity(alloc, count / 2)?;

@@ -91,8 +91,6 @@ impl<'data> CodePointInversionListAndStringList<'data> {
         ensures ok { IfOk result (λ v. view v ≡ json_of self.now) }
         ensures read_back { IfOk result (λ v. IsRead (view v) (Ok self.now)) }
     {
-        // This call says that the ends are an inversion list, and so that they are read back.
-        let _ranges = self.cp_inv_list.get_range_count();
         let code_points = self.cp_inv_list.to_json(alloc)?;
         let strings = items_of(alloc, &self.str_list)?;
         let value = object_of(alloc, code_points, strings)?;

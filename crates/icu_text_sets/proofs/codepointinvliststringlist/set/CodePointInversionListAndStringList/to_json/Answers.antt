@@ -20,5 +20,5 @@ pub returns-clause-read_back : goal.returns-clause-read_back
 returns-clause-read_back c =
     let inner : TextSet = record { code_points = c.self.inside.cp_inv_list; strings = texts_of c.self.inside.str_list.items } in
     let back : ends_of (written_of c.self.inside.cp_inv_list) ≡ Ok c.self.inside.cp_inv_list = sym (ap ends_of c.in_ok-code_points.ensures.ok) ∙ c.in_ok-code_points.ensures.read_back in
-    let whole : IsRead (json_of c.args.self.now) (Ok c.args.self.now) = subst (λ s. IsRead (json_of s) (Ok s)) c.self.view_is (json_read inner c.get_range_count-ranges.ensures.valid c.self.invariant back) in
+    let whole : IsRead (json_of c.args.self.now) (Ok c.args.self.now) = subst (λ s. IsRead (json_of s) (Ok s)) c.self.view_is (json_read inner c.in_ok-code_points.ensures.valid c.self.invariant back) in
     subst (λ d. IsRead d (Ok c.args.self.now)) (sym (written c)) whole
