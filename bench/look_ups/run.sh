@@ -5,7 +5,6 @@
 set -eu
 here=$(dirname -- "$(readlink -f -- "$0")")
 root=$here/../..
-crates="icu_zerovec icu_invlist icu_trie icu_trie_builder"
 
 stop() { echo "look_ups: $1" >&2; exit 70; }
 [ $# -gt 0 ] || stop "usage: run.sh TABLE.."
@@ -18,14 +17,7 @@ kit=$(dirname -- "$(dirname -- "$(readlink -f -- "$(command -v rt)")")")
 work=$(mktemp -d)
 trap 'rm -rf "$work"' EXIT
 trap 'exit 130' INT TERM
-mkdir -p "$work/crates/look_ups/src"
-cp "$here/look_ups.rt.txt" "$work/crates/look_ups/src/lib.rt"
-[ ! -f "$root/HANDLES" ] || cp "$root/HANDLES" "$work"
-for crate in $crates; do
-    cp -r "$root/crates/$crate" "$work/crates"
-    grep "^$crate *:" "$root/crates.txt" >>"$work/crates.txt" || stop "crates.txt does not list $crate"
-done
-echo "look_ups staticlib: $crates" >>"$work/crates.txt"
+"$root/tests/stage.sh" "$work" "look_ups staticlib: icu_zerovec icu_trie icu_trie_builder" "$here/look_ups.rt.txt" lib.rt
 
 echo "look_ups: proves and builds; from a clean clone this takes some minutes" >&2
 if ! (cd "$work/crates/look_ups" && rt lib) >"$work/log" 2>&1; then

@@ -6,11 +6,7 @@ here=$(dirname -- "$(readlink -f -- "$0")")
 kit=$(dirname -- "$(readlink -f -- "$(command -v rt)")")/..
 room=$(mktemp -d)
 trap 'rm -rf "$room"' EXIT
-mkdir -p "$room/crates/packed_bench/src"
-cp "$here/../../HANDLES" "$room/"
-cp -r "$here/../../crates/icu_zerovec" "$room/crates/"
-cp "$here/library.rt.txt" "$room/crates/packed_bench/src/lib.rt"
-printf 'icu_zerovec: thiserror\npacked_bench staticlib: icu_zerovec\n' >"$room/crates.txt"
+"$here/../../tests/stage.sh" "$room" "packed_bench staticlib: icu_zerovec" "$here/library.rt.txt" lib.rt
 (cd "$room/crates/packed_bench" && rt lib) >"$room/said" 2>&1 || { cat "$room/said"; exit 1; }
 library=$room/crates/packed_bench/out/libpacked_bench.a
 if [ "${1:-}" = code ]; then

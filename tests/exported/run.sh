@@ -7,7 +7,6 @@ set -eu
 here=$(dirname -- "$(readlink -f -- "$0")")
 root=$here/../..
 tables=${TABLES:-$root/../shared/data}
-crates="icu_zerovec icu_invlist icu_trie icu_trie_formats"
 
 stop() { echo "exported: $1" >&2; exit 70; }
 command -v rt >/dev/null || stop "no rt: put the kit's folder bin on PATH"
@@ -18,14 +17,7 @@ work=$(mktemp -d)
 trap 'rm -rf "$work"' EXIT
 trap 'exit 130' INT TERM
 gcc -O2 -o "$work/export" "$here/export.c" -licuuc
-mkdir -p "$work/crates/exported/src"
-cp "$here/main.rt.txt" "$work/crates/exported/src/main.rt"
-cp "$root/HANDLES" "$work"
-for crate in $crates; do
-    cp -r "$root/crates/$crate" "$work/crates"
-    grep "^$crate *:" "$root/crates.txt" >>"$work/crates.txt" || stop "crates.txt does not list $crate"
-done
-echo "exported: icu_trie icu_trie_formats toml" >>"$work/crates.txt"
+"$root/tests/stage.sh" "$work" "exported: icu_trie icu_trie_formats toml" "$here/main.rt.txt" main.rt
 echo "exported: proves and builds; from a clean clone this takes some minutes" >&2
 cd "$work/crates/exported"
 printf '' >trie.toml
