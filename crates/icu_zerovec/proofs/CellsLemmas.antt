@@ -78,6 +78,11 @@ some_value : {T : Type 0} (o : Option T) → is_some o ≡ true → (x : T) × (
 some_value None h = cc
 some_value (Some x) h = (x, refl)
 
+-- what is there is not none
+pub not_none : {T : Type 0} (o : Option T) → is_some o ≡ true → o ≡ None → ⊥
+not_none None h e = cc
+not_none (Some x) h e = cc
+
 -- below the length there is a value
 some_within : {T : Type 0} (xs : List T) (i : ℕ) → i < length xs → is_some (slice_get xs i) ≡ true
 some_within [] i l = absurd (omega arith)

@@ -99,14 +99,14 @@ pub(crate) fn split_first<T: AsULE>(bytes: &[u8]) -> Option<(T, &[u8])>
     Some((value, others))
 }
 
-/// A value of packed bytes that is there.
+/// A value of packed bytes that is there. Its place is proved, and no code tests it.
 #[inline(always)]
-fn at<T: AsULE>(bytes: &[u8], i: usize) -> T
+pub(crate) fn at<T: AsULE>(bytes: &[u8], i: usize) -> T
     requires packed { IsPacked T.unpack T.WIDTH bytes.now }
     requires within { i < length (values_of T.unpack T.WIDTH bytes.now) }
     ensures { slice_get (values_of T.unpack T.WIDTH bytes.now) i ≡ Some result }
 {
-    match get(bytes, i) {
+    match read(bytes, i) {
         Some(value) => value,
         None => unreachable!(),
     }

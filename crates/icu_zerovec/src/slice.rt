@@ -1,5 +1,5 @@
 //! Views of packed vectors, with the same reads.
-ghost use Rattle.std.specs.Prelude.{◌≡◌, ◌-◌, ◌*◌, ◌^◌, ◌<◌, [], ◌∷◌, length, slice_get, Option, None, IsTrue, ◌↔◌, ⊤};
+ghost use Rattle.std.specs.Prelude.{◌≡◌, ◌-◌, ◌*◌, ◌^◌, ◌<◌, [], ◌∷◌, length, slice_get, Option, Some, None, IsTrue, ◌↔◌, ⊤};
 ghost use Rattle.std.specs.Cmp.{on_equiv, on_per, partial_equiv_from_equiv};
 ghost use Rattle.std.specs.Cmp.Lexicographic.{pointwise, lists_per, lists_equiv, nat_list_eq_equiv, bytes_decides};
 ghost use Rattle.std.specs.Hash as fed;
@@ -86,6 +86,16 @@ impl<'a, T: AsULE> ZeroSlice<'a, T> {
         ensures { result ≡ slice_get (slice_values self.now) i }
     {
         cells::get(self.bytes, i)
+    }
+
+    /// The value at place `i`, counted from 0, which has to be there: for callers who know that it is, and so
+    /// need no test.
+    #[inline]
+    pub fn at(&self, i: usize) -> T
+        requires { i < length (slice_values self.now) }
+        ensures { slice_get (slice_values self.now) i ≡ Some result }
+    {
+        cells::at(self.bytes, i)
     }
 
     /// The first value. `None` where there is none.
