@@ -7,8 +7,9 @@ use Rattle.icu_zerovec.specs.Cells.{values_of, IsPacked, IsConverted, IsFirstRef
 use Rattle.icu_zerovec.specs.declared.ule.UleError.{UleError}
 use Rattle.icu_zerovec.proofs.CellsLemmas.{length-values_of}
 use Rattle.icu_trie.specs.Conversion.{with_null_value}
-use Rattle.icu_trie.specs.Parts.{fault, passes_data}
-use Rattle.icu_trie.specs.declared.header.CodePointTrieHeader.{CodePointTrieHeader}
+use Rattle.icu_trie_core.specs.FastIndex.{passes_data}
+use Rattle.icu_trie.specs.Parts.{fault}
+use Rattle.icu_trie_core.specs.declared.header.CodePointTrieHeader.{CodePointTrieHeader}
 
 -- as many values as before
 pub length-converted : {T P : Type 0} (f : List ℕ → Option T) (g : List ℕ → Option P) (w v : ℕ) (xs : List T) (ys : List P) → w ≡ v → IsConverted f w g v xs (Ok ys) → length ys ≡ length xs

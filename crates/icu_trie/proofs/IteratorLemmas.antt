@@ -2,13 +2,14 @@
 use Rattle.std.proofs.Common.{◌≡◌, ◌≤◌, ◌+◌, ℕ, List, [], ◌∷◌, map, Option, None, Some, inl, inr, arith, sym, ap, ◌∙◌}
 use Rattle.std.proofs.lemmas.Bool.{cases_lt}
 use Rattle.std.specs.Iterator.{Yields, Drains}
-use Rattle.icu_trie.specs.Runs.{AreRunsFrom, AreMaximalRuns}
+use Rattle.icu_trie_core.specs.Runs.{AreRunsFrom, AreMaximalRuns}
 use Rattle.icu_trie.specs.Parts.{Parts}
-use Rattle.icu_trie.specs.Ranges.{GivesWalk, AreRangesFrom, answers, IsCoherentTrie, run_of, last_of}
+use Rattle.icu_trie_core.specs.Range.{GivesWalk, run_of, last_of}
+use Rattle.icu_trie.specs.Ranges.{AreRangesFrom, answers, IsCoherentTrie}
 use Rattle.icu_trie.specs.Iterators.{GivesNextRange, iterator_trie, iterator_next}
-use Rattle.icu_trie.specs.declared.ranges.CodePointMapRange.{CodePointMapRange}
+use Rattle.icu_trie_core.specs.declared.range.CodePointMapRange.{CodePointMapRange}
 use Rattle.icu_trie.specs.declared.ranges.CodePointMapRangeIterator.{CodePointMapRangeIterator}
-use Rattle.icu_trie.proofs.RangeLemmas.{LongestRun-from_gives}
+use Rattle.icu_trie_core.proofs.RangeLemmas.{LongestRun-from_gives}
 
 module _ {A : Type 0} {m : _} (of_number : ℕ → Option A) (trie : Parts A) where
   AreRangesFrom-from_run : (xs : List (CodePointMapRange A)) (s t u : CodePointMapRangeIterator A m) → iterator_trie s ≡ trie

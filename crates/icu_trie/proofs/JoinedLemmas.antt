@@ -2,8 +2,8 @@
 use Rattle.std.proofs.Common.{◌≡◌, ℕ, List, [], ◌∷◌, Bool, true, false, refl, sym}
 use Rattle.std.specs.Range.{range_inclusive_start, range_inclusive_end, range_inclusive_exhausted}
 use Rattle.std.specs.declared.ops.RangeInclusive.{RangeInclusive}
-use Rattle.icu_trie.specs.declared.ranges.CodePointMapRange.{CodePointMapRange}
-use Rattle.icu_trie.specs.Ranges.{first_of, last_of}
+use Rattle.icu_trie_core.specs.declared.range.CodePointMapRange.{CodePointMapRange}
+use Rattle.icu_trie_core.specs.Range.{first_of, last_of}
 use Rattle.icu_trie.specs.JoinedRanges.{continues, merged, joined_from, joined}
 
 module _ {A : Type 0} (eq : A → A → Bool) where

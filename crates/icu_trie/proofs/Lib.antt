@@ -1,13 +1,5 @@
-pub mod Offsets
-pub mod AnswerLemmas
-pub mod FrontLemmas
 mod PackedCellLemmas
 mod ConversionLemmas
-pub mod ReachLemmas
-pub mod SeenLemmas
-pub mod SharedLemmas
-pub mod RangeLemmas
-pub mod RunLemmas
 pub mod IteratorLemmas
 pub mod SetLemmas
 pub mod JoinedLemmas

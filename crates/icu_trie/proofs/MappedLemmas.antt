@@ -12,10 +12,11 @@ use Rattle.std.proofs.iter.runs.Made.{run, took, seen, to_end}
 use Rattle.std.proofs.lemmas.Bool.{cases_lt, lt-ltb}
 use Rattle.itertools.specs.Adaptor.{EachRunBehind, Gives}
 use Rattle.icu_trie.specs.Parts.{Parts}
-use Rattle.icu_trie.specs.Runs.{LongestRun, AreRunsFrom}
-use Rattle.icu_trie.specs.declared.ranges.CodePointMapRange.{CodePointMapRange}
+use Rattle.icu_trie_core.specs.Runs.{LongestRun, AreRunsFrom}
+use Rattle.icu_trie_core.specs.declared.range.CodePointMapRange.{CodePointMapRange}
 use Rattle.icu_trie.specs.declared.ranges.CodePointMapRangeIterator.{CodePointMapRangeIterator}
-use Rattle.icu_trie.specs.Ranges.{first_of, last_of, run_of, AreRangesFrom}
+use Rattle.icu_trie_core.specs.Range.{first_of, last_of, run_of}
+use Rattle.icu_trie.specs.Ranges.{AreRangesFrom}
 use Rattle.icu_trie.specs.Iterators.{GivesNextRange}
 use Rattle.icu_trie.specs.JoinedRanges.{continues, merged, joined_from, joined}
 use Rattle.icu_trie.specs.MappedRanges.{IsRangeOfCodePoints, MapsTo, LongestMappedRun, AreMappedRunsFrom, Answers, AreAnswered, IsAnswered, GivesMapped, mapped_source, mapped_callee}

@@ -3,10 +3,10 @@ use Rattle.std.proofs.Common.{append_assoc, append-nil, ◌≡◌, ℕ, ◌+◌,
 use Rattle.std.specs.Option.{option_map, option_and_then}
 use Rattle.std.specs.Result.{IsErr, IsErrAnd}
 use Rattle.std.proofs.lemmas.Option.{slice_get-map}
-use Rattle.icu_trie.specs.declared.header.CodePointTrieHeader.{CodePointTrieHeader}
+use Rattle.icu_trie_core.specs.declared.header.CodePointTrieHeader.{CodePointTrieHeader}
 use Rattle.icu_trie.specs.Parts.{Parts}
-use Rattle.icu_trie.specs.Format.{answer, place, high_cell, high_value}
-use Rattle.icu_trie.specs.Coherence.{IsCoherent, AnswersNull}
+use Rattle.icu_trie_core.specs.Format.{answer, place, high_cell, high_value}
+use Rattle.icu_trie_core.specs.Coherence.{IsCoherent, AnswersNull}
 use Rattle.icu_trie.specs.Conversion.{with_null_value}
 use Rattle.icu_trie.specs.MappedTrie.{answered, AnswersAlways, CallsInTurn}
 

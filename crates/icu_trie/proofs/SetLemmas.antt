@@ -13,9 +13,10 @@ use mathlib.Core.Bool.{beq}
 use Rattle.std.specs.List.{All, Any, count_by}
 use Rattle.std.specs.List.Sorted.{IsStrictlyIncreasing}
 use Rattle.icu_invlist.specs.InversionList.{IsValid, holds, is_odd, ends_up_to}
-use Rattle.icu_trie.specs.Runs.{AreRunsFrom}
-use Rattle.icu_trie.specs.Ranges.{IsInRangeOf, first_of, last_of, run_of}
-use Rattle.icu_trie.specs.declared.ranges.CodePointMapRange.{CodePointMapRange}
+use Rattle.icu_trie_core.specs.Runs.{AreRunsFrom}
+use Rattle.icu_trie_core.specs.Range.{first_of, last_of, run_of}
+use Rattle.icu_trie.specs.Ranges.{IsInRangeOf}
+use Rattle.icu_trie_core.specs.declared.range.CodePointMapRange.{CodePointMapRange}
 
 -- ---- some element
 module _ {X : Type 0} (P : X → Type 0) where

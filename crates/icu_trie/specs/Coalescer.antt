@@ -2,7 +2,7 @@
 use Rattle.std.specs.Prelude.{◌≡◌, ℕ, Bool, true, List, ◌++◌, Option, option_to_list, ⊤}
 use Rattle.std.specs.declared.iter.Fuse.{Fuse}
 use Rattle.itertools.specs.Adaptor.{Adapts}
-use Rattle.icu_trie.specs.declared.ranges.CodePointMapRange.{CodePointMapRange}
+use Rattle.icu_trie_core.specs.declared.range.CodePointMapRange.{CodePointMapRange}
 use Rattle.icu_trie.specs.JoinedRanges.{joined}
 use Rattle.icu_trie.specs.declared.iterator_utils.RangeListIteratorCoalescer.{RangeListIteratorCoalescer}
 

@@ -1,9 +1,9 @@
 -- The iterator over the ranges of a trie.
 use Rattle.std.specs.Prelude.{◌≡◌, ℕ, ◌+◌, Option, MatchOption}
-use Rattle.icu_trie.specs.declared.ranges.CodePointMapRange.{CodePointMapRange}
+use Rattle.icu_trie_core.specs.declared.range.CodePointMapRange.{CodePointMapRange}
 use Rattle.icu_trie.specs.declared.ranges.CodePointMapRangeIterator.{CodePointMapRangeIterator}
 use Rattle.icu_trie.specs.Parts.{Parts}
-use Rattle.icu_trie.specs.Ranges.{GivesWalk, last_of}
+use Rattle.icu_trie_core.specs.Range.{GivesWalk, last_of}
 
 module _ {A : Type 0} {m : _} where
   -- the trie of an iterator, and where its next range begins

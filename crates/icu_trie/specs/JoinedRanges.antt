@@ -1,8 +1,8 @@
 -- The joined ranges of a list of ranges.
 use Rattle.std.specs.Prelude.{◌≡◌, ℕ, ◌+◌, ◌-◌, ◌^◌, ◌<◌, ◌≤◌, ◌==◌, ◌&&◌, nat_lt, if◌then◌else◌, Bool, true, false, List, [], ◌∷◌}
 use Rattle.std.specs.Range.{range_inclusive_start, range_inclusive_end}
-use Rattle.icu_trie.specs.declared.ranges.CodePointMapRange.{CodePointMapRange}
-use Rattle.icu_trie.specs.Ranges.{first_of, last_of}
+use Rattle.icu_trie_core.specs.declared.range.CodePointMapRange.{CodePointMapRange}
+use Rattle.icu_trie_core.specs.Range.{first_of, last_of}
 
 module _ {A : Type 0} (eq : A → A → Bool) where
   -- x goes on with r: it starts at the last code point of r plus one, and its value equals that of r. Nothing

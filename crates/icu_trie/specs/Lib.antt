@@ -1,17 +1,8 @@
-pub mod Format
 pub mod Parts
-pub mod Coherence
-pub mod Blocks
-pub mod Numbers
-pub mod SignedNumbers
 pub mod Typed
 pub mod Conversion
-pub mod Runs
-pub mod Seen
-pub mod Walk
 pub mod Ranges
 pub mod Iterators
-pub mod TypeNumbers
 pub mod JoinedRanges
 pub mod Coalescer
 pub mod RangesOfValue

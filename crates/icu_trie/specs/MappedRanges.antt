@@ -1,13 +1,14 @@
 -- The ranges of a trie under a map of its values, and the iterators over them.
 use Rattle.std.specs.Prelude.{◌≡◌, ℕ, ◌+◌, ◌<◌, ◌≤◌, Bool, true, false, List, [], ◌∷◌, Option, Some, None, ⊤}
 use Rattle.std.specs.Range.{range_inclusive_exhausted}
-use Rattle.icu_trie.specs.declared.ranges.CodePointMapRange.{CodePointMapRange}
+use Rattle.icu_trie_core.specs.declared.range.CodePointMapRange.{CodePointMapRange}
 use Rattle.icu_trie.specs.declared.ranges.CodePointMapRangeIterator.{CodePointMapRangeIterator}
 use Rattle.icu_trie.specs.declared.iterator_utils.RangeListIteratorCoalescer.{RangeListIteratorCoalescer}
 use Rattle.icu_trie.specs.declared.mapped_ranges.MappedRanges.{MappedRanges}
 use Rattle.icu_trie.specs.declared.mapped_ranges.IterRangesMapped.{IterRangesMapped}
 use Rattle.icu_trie.specs.Parts.{Parts}
-use Rattle.icu_trie.specs.Ranges.{first_of, last_of, AreRangesFrom}
+use Rattle.icu_trie_core.specs.Range.{first_of, last_of}
+use Rattle.icu_trie.specs.Ranges.{AreRangesFrom}
 use Rattle.icu_trie.specs.Iterators.{GivesNextRange}
 use Rattle.icu_trie.specs.JoinedRanges.{joined}
 use Rattle.icu_trie.specs.Coalescer.{coalescer_steps}

@@ -2,12 +2,13 @@
 use Rattle.std.specs.Prelude.{◌≡◌, ℕ, Bool, true, List, [], map, filter, Option, IfSome, option_map}
 use Rattle.std.specs.declared.ops.RangeInclusive.{RangeInclusive}
 use Rattle.std.specs.Iterator.{YieldsThen}
-use Rattle.icu_trie.specs.declared.ranges.CodePointMapRange.{CodePointMapRange}
+use Rattle.icu_trie_core.specs.declared.range.CodePointMapRange.{CodePointMapRange}
 use Rattle.icu_trie.specs.declared.ranges.CodePointMapRangeIterator.{CodePointMapRangeIterator}
 use Rattle.icu_trie.specs.declared.ranges_of_value.IterRangesForValue.{IterRangesForValue}
 use Rattle.icu_trie.specs.Parts.{Parts}
-use Rattle.icu_trie.specs.Runs.{AreMaximalRuns}
-use Rattle.icu_trie.specs.Ranges.{AreRangesFrom, answers, run_of}
+use Rattle.icu_trie_core.specs.Runs.{AreMaximalRuns}
+use Rattle.icu_trie_core.specs.Range.{run_of}
+use Rattle.icu_trie.specs.Ranges.{AreRangesFrom, answers}
 use Rattle.icu_trie.specs.Iterators.{GivesNextRange}
 
 module _ {A : Type 0} (eq : A → A → Bool) where

@@ -1,8 +1,8 @@
 -- Tries whose type is known in the Rust type.
 use Rattle.std.specs.Prelude.{◌≡◌, ◌≢◌, Result, Ok, Err}
 use Rattle.icu_trie.specs.Parts.{Parts}
-use Rattle.icu_trie.specs.declared.header.TrieType.{TrieType}
-use Rattle.icu_trie.specs.declared.header.TrieType.TheVariants as kinds
+use Rattle.icu_trie_core.specs.declared.header.TrieType.{TrieType}
+use Rattle.icu_trie_core.specs.declared.header.TrieType.TheVariants as kinds
 use Rattle.icu_trie.specs.declared.typed.Typed.{Typed}
 use Rattle.icu_trie.specs.declared.typed.Typed.TheVariants.{Fast, Small}
 use Rattle.icu_trie.specs.declared.typed.TypedCodePointTrieError.{TypedCodePointTrieError}

@@ -10,8 +10,8 @@ ghost use Rattle.icu_zerovec.specs.declared.ule.UleError.TheVariants as bytes;
 
 use crate::cptrie::CodePointTrie;
 use crate::error::ConvertError;
-use crate::header::CodePointTrieHeader;
-use crate::value::TrieValue;
+use icu_trie_core::header::CodePointTrieHeader;
+use icu_trie_core::value::TrieValue;
 use icu_zerovec::ZeroVec;
 use icu_zerovec::ule::{AsULE, UleError};
 

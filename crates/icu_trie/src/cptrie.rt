@@ -1,20 +1,21 @@
 //! The trie over packed vectors.
-ghost use Rattle.std.specs.Prelude.{◌≡◌, ℕ, ◌<◌, ◌≤◌, List, length, Some, None, IfOk, IfErr, IsSomeAnd, is_some};
+ghost use Rattle.std.specs.Prelude.{◌≡◌, ℕ, ◌<◌, ◌≤◌, List, length, Some, None, IfOk, IfErr, IsSomeAnd, is_some, false};
 ghost use Rattle.std.specs.Option.{option_map};
-ghost use Rattle.icu_trie.specs.Format.{answer};
-ghost use Rattle.icu_trie.specs.Parts.{fault, last_cell, passes_data, fast_index_len};
-ghost use Rattle.icu_trie.specs.Coherence.{IsCoherent};
-ghost use Rattle.icu_trie.specs.Ranges.{GivesWalk, last_of};
-ghost use Rattle.icu_trie.specs.Runs.{LongestRun};
+ghost use Rattle.icu_trie_core.specs.Format.{answer};
+ghost use Rattle.icu_trie_core.specs.FastIndex.{passes_data, fast_index_len};
+ghost use Rattle.icu_trie.specs.Parts.{fault, last_cell};
+ghost use Rattle.icu_trie_core.specs.Coherence.{IsCoherent};
+ghost use Rattle.icu_trie_core.specs.Range.{GivesWalk, last_of};
+ghost use Rattle.icu_trie_core.specs.Runs.{LongestRun};
 ghost use Rattle.icu_zerovec.specs.Slice.{slice_values};
 
-use crate::cells::{Cells, Steps};
-use crate::error::CodePointTrieError;
-use crate::header::{CodePointTrieHeader, TrieType};
-use crate::lookup::look_up;
-use crate::ranges::CodePointMapRange;
-use crate::value::TrieValue;
-use crate::walk::walk;
+use icu_trie_core::cells::{Cells, Steps};
+use icu_trie_core::error::CodePointTrieError;
+use icu_trie_core::header::{CodePointTrieHeader, TrieType};
+use icu_trie_core::lookup::look_up_whole;
+use icu_trie_core::range::CodePointMapRange;
+use icu_trie_core::value::TrieValue;
+use icu_trie_core::walk::walk;
 use icu_zerovec::{MemoryError, ZeroSlice, ZeroVec};
 use std::alloc::Global;
 use std::marker::{Brand, Model};
@@ -56,9 +57,21 @@ impl<'a, T: TrieValue, L: Ledger> Cells<T> for PackedCells<'a, T, L> {
         self.reads.tick();
         self.values.get(i)
     }
+
+    #[inline(always)]
+    fn index_at(&mut self, i: usize) -> u16 {
+        self.reads.tick();
+        self.index.at(i)
+    }
+
+    #[inline(always)]
+    fn data_at(&mut self, i: usize) -> T {
+        self.reads.tick();
+        self.values.at(i)
+    }
 }
 
-/// `look_up` over packed vectors, with a count in the ledger of `blank`.
+/// `look_up_whole` over packed vectors, with a count in the ledger of `blank`.
 #[inline(always)]
 fn look_up_counted<T: TrieValue, L: Ledger>(
     header: &CodePointTrieHeader,
@@ -70,6 +83,8 @@ fn look_up_counted<T: TrieValue, L: Ledger>(
     requires name { blank.name ≡ L.name }
     requires parts { blank.parts ≡ L.parts }
     requires some { 0 < blank.parts }
+    requires fast_index { fast_index_len header.now.trie_type ≤ length (slice_values index) }
+    requires blocks { passes_data header.now.trie_type (slice_values index) (length (slice_values values)) ≡ false }
     ensures { result ≡ answer header.now (slice_values index.entry) (slice_values values.entry) c }
 {
     let mut cells = PackedCells {
@@ -77,10 +92,10 @@ fn look_up_counted<T: TrieValue, L: Ledger>(
         values,
         reads: Steps::<L>::new(blank),
     };
-    look_up(header, &mut cells, c)
+    look_up_whole(header, &mut cells, c)
 }
 
-/// `look_up` over packed vectors. Nobody reads its count, so that it makes one of its own.
+/// `look_up_whole` over packed vectors. Nobody reads its count, so that it makes one of its own.
 #[inline(always)]
 pub(crate) fn look_up_in<T: TrieValue>(
     header: &CodePointTrieHeader,
@@ -88,6 +103,8 @@ pub(crate) fn look_up_in<T: TrieValue>(
     values: ZeroSlice<'_, T>,
     c: u32,
 ) -> Option<T>
+    requires fast_index { fast_index_len header.now.trie_type ≤ length (slice_values index) }
+    requires blocks { passes_data header.now.trie_type (slice_values index) (length (slice_values values)) ≡ false }
     ensures { result ≡ answer header.now (slice_values index.entry) (slice_values values.entry) c }
 {
     look_up_counted::<T, Brand>(header, index, values, c, Blank::new(1))

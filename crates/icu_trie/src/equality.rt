@@ -5,12 +5,12 @@ ghost use Rattle.std.specs.Cmp.Lexicographic.{pointwise, lists_equiv, lists_per,
 ghost use Rattle.std.specs.Ordering.{on, eq_of_both};
 ghost use Rattle.icu_zerovec.specs.PackedBytes.{low_bytes};
 ghost use Rattle.icu_zerovec.specs.Cells.{same_bytes};
-ghost use Rattle.icu_trie.specs.contracts.header.CodePointTrieHeaderPartialEq.TheImpl.Laws as header;
-ghost use Rattle.icu_trie.specs.contracts.header.CodePointTrieHeaderEq.TheImpl.Laws as whole_header;
+ghost use Rattle.icu_trie_core.specs.contracts.header.CodePointTrieHeaderPartialEq.TheImpl.Laws as header;
+ghost use Rattle.icu_trie_core.specs.contracts.header.CodePointTrieHeaderEq.TheImpl.Laws as whole_header;
 
 use crate::cptrie::CodePointTrie;
-use crate::header::CodePointTrieHeader;
-use crate::value::TrieValue;
+use icu_trie_core::header::CodePointTrieHeader;
+use icu_trie_core::value::TrieValue;
 
 impl<'trie, T: TrieValue> PartialEq for CodePointTrie<'trie, T> {
     ghost eq = { eq_of_both (on (λ t. t.header) ⟦<CodePointTrieHeader as PartialEq>⟧.eq) (eq_of_both (on (λ t. t.index) (pointwise (same_bytes (low_bytes 2)))) (on (λ t. t.values) (pointwise (same_bytes T.pack)))) };

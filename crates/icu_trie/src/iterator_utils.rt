@@ -6,7 +6,7 @@ ghost use Rattle.itertools.specs.Adaptor.{fuse_can, fuse_left, IsFresh, EachRunB
 ghost use Rattle.icu_trie.specs.JoinedRanges.{joined, continues};
 ghost use Rattle.icu_trie.specs.Coalescer.{coalescer_source, coalescer_peek, coalescer_steps};
 
-use crate::ranges::CodePointMapRange;
+use icu_trie_core::range::CodePointMapRange;
 use std::iter::Fuse;
 
 /// An iterator over ranges with values that joins the ranges which touch and have equal values.

@@ -7,7 +7,7 @@ ghost use Rattle.icu_trie.specs.Ranges.{IsCoherentTrie, answers};
 ghost use Rattle.icu_zerovec.specs.Slice.{slice_values};
 
 use crate::cptrie::CodePointTrie;
-use crate::value::TrieValue;
+use icu_trie_core::value::TrieValue;
 use icu_zerovec::ule::AsULE;
 use icu_zerovec::{MemoryError, ZeroSlice, ZeroVec};
 use std::alloc::{AllocError, AllocFailed, Global};

@@ -1,8 +1,9 @@
 //! The ranges of a trie under a map of its values.
 use crate::cptrie::CodePointTrie;
 use crate::iterator_utils::RangeListIteratorCoalescer;
-use crate::ranges::{CodePointMapRange, CodePointMapRangeIterator};
-use crate::value::TrieValue;
+use crate::ranges::CodePointMapRangeIterator;
+use icu_trie_core::range::CodePointMapRange;
+use icu_trie_core::value::TrieValue;
 
 impl<'trie, T: TrieValue> CodePointTrie<'trie, T> {
     ghost use Rattle.std.specs.Prelude.{List};

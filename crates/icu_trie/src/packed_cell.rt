@@ -1,15 +1,15 @@
 //! The packed bytes of a code point's cell.
 ghost use Rattle.std.specs.Prelude.{◌≡◌, ◌≤◌, ℕ, ◌<◌, ◌+◌, ◌*◌, List, length, slice_get, Some, None, IsNone, IfSome, ◌↔◌};
 ghost use Rattle.std.specs.Option.{option_and_then, option_map};
-ghost use Rattle.icu_trie.specs.Format.{place, place_or_last};
+ghost use Rattle.icu_trie_core.specs.Format.{place, place_or_last};
 ghost use Rattle.icu_zerovec.specs.Canonical.{IsCanonical};
 ghost use Rattle.icu_zerovec.specs.Slice.{slice_values};
 
-use crate::cells::{Cells, Steps};
 use crate::cptrie::{CodePointTrie, PackedCells};
-use crate::header::CodePointTrieHeader;
-use crate::lookup::{fast_limit_of, small_place_of};
-use crate::value::TrieValue;
+use icu_trie_core::cells::{Cells, Steps};
+use icu_trie_core::header::CodePointTrieHeader;
+use icu_trie_core::lookup::{fast_limit_of, small_place_of};
+use icu_trie_core::value::TrieValue;
 use icu_zerovec::{ZeroSlice, ZeroVec};
 use std::marker::Brand;
 use std::sync::ledger::{Blank, Ledger};

@@ -3,32 +3,24 @@ ghost use Rattle.std.specs.Prelude.{◌≡◌, ◌≢◌, ℕ, ◌+◌, ◌-◌,
 ghost use Rattle.icu_invlist.specs.InversionList.{IsValid, holds};
 
 use crate::cptrie::{CodePointTrie, walk_in};
-use crate::value::TrieValue;
-use crate::walk::{CODE_POINTS, is_same};
 use icu_invlist::codepointinvlist::{CodePointInversionList, SetError};
+pub use icu_trie_core::range::CodePointMapRange;
+use icu_trie_core::value::TrieValue;
+use icu_trie_core::walk::{CODE_POINTS, is_same};
 use icu_zerovec::MemoryError;
 use std::alloc::Global;
-use std::ops::RangeInclusive;
-
-/// Code points, both ends included, and the value that a trie has at each of them.
-#[derive(Clone, Debug, Drop, PartialEq, Eq)]
-pub struct CodePointMapRange<T> {
-    /// The code points, as `0x41..=0x5A`. A range that a trie gives is never empty.
-    pub range: RangeInclusive<u32>,
-    /// Their value.
-    pub value: T,
-}
 
 impl<'trie, T: TrieValue> CodePointTrie<'trie, T> {
     ghost use Rattle.std.specs.Iterator.{Drains};
-    ghost use Rattle.icu_trie.specs.Runs.{LongestRun, AreMaximalRuns};
-    ghost use Rattle.icu_trie.specs.Ranges.{GivesWalk, AreRangesFrom, IsInRangeOf, IsCoherentTrie, answers, last_of, run_of};
+    ghost use Rattle.icu_trie_core.specs.Runs.{LongestRun, AreMaximalRuns};
+    ghost use Rattle.icu_trie_core.specs.Range.{GivesWalk, last_of, run_of};
+    ghost use Rattle.icu_trie.specs.Ranges.{AreRangesFrom, IsInRangeOf, IsCoherentTrie, answers};
     ghost use Rattle.icu_trie.specs.Iterators.{GivesNextRange, iterator_trie, iterator_next};
 
     /// The range of one value from the code point `c` on, as far as it goes.
     ///
     /// Over a coherent trie, as every built one is, it is the longest run of equal answers from `c` on. `None`
-    /// above 0x10FFFF, and where the trie lacks a cell that the walk comes to ([`walk`](crate::walk::walk)).
+    /// above 0x10FFFF, and where the trie lacks a cell that the walk comes to ([`walk`](icu_trie_core::walk::walk)).
     pub fn get_range(&self, c: u32) -> Option<CodePointMapRange<T>>
         ensures gives { GivesWalk T.of_number self.now.header self.now.index self.now.values c result }
         ensures longest { IsCoherentTrie T.of_number self.now

@@ -1,7 +1,7 @@
 //! The ranges of a trie that have a value.
 use crate::cptrie::CodePointTrie;
 use crate::ranges::CodePointMapRangeIterator;
-use crate::value::TrieValue;
+use icu_trie_core::value::TrieValue;
 use std::ops::RangeInclusive;
 
 impl<'trie, T: TrieValue> CodePointTrie<'trie, T> {

@@ -1,8 +1,8 @@
 //! Ranges of tries that were made of parts, whose header says what is not so.
 use crate::cptrie::CodePointTrie;
-use crate::header::{CodePointTrieHeader, TrieType};
-use crate::ranges::CodePointMapRange;
 use icu_invlist::codepointinvlist::CodePointInversionList;
+use icu_trie_core::header::{CodePointTrieHeader, TrieType};
+use icu_trie_core::range::CodePointMapRange;
 use icu_zerovec::{MemoryError, ZeroVec};
 use std::process::Abort;
 use std::test::Fail;

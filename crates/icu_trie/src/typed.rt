@@ -1,16 +1,16 @@
 //! Tries whose type is known in the Rust type.
 ghost use Rattle.std.specs.Prelude.{◌≡◌, ℕ, ◌≤◌, ◌<◌, nat_lt, Some, None, IfOk, IfErr, if◌then◌else◌};
 ghost use Rattle.std.specs.Option.{option_map};
-ghost use Rattle.icu_trie.specs.Format.{fast_limit};
+ghost use Rattle.icu_trie_core.specs.Format.{fast_limit};
 ghost use Rattle.icu_trie.specs.Parts.{Parts, trie_value};
-ghost use Rattle.icu_trie.specs.declared.header.TrieType.{TrieType};
-ghost use Rattle.icu_trie.specs.declared.header.TrieType.TheVariants.{Fast, Small};
+ghost use Rattle.icu_trie_core.specs.declared.header.TrieType.{TrieType};
+ghost use Rattle.icu_trie_core.specs.declared.header.TrieType.TheVariants.{Fast, Small};
 ghost use Rattle.icu_trie.specs.Typed.{IsTyped, IsOfType};
 
 use crate::cptrie::{CodePointTrie, look_up_in};
-use crate::header::{CodePointTrieHeader, TrieType};
-use crate::lookup::fast_limit_of;
-use crate::value::TrieValue;
+use icu_trie_core::header::{CodePointTrieHeader, TrieType};
+use icu_trie_core::lookup::fast_limit_of;
+use icu_trie_core::value::TrieValue;
 use std::marker::Model;
 use thiserror::Error;
 

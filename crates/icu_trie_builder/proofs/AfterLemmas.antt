@@ -3,7 +3,7 @@ use Rattle.std.proofs.Common.{◌≡◌, ℕ, ◌+◌, ◌<◌, ◌≤◌, Bool,
 use Rattle.std.specs.Option.{option_or, unwrap_or}
 use Rattle.std.proofs.lemmas.Bool.Decides.{nat_tests}
 use Rattle.icu_trie_builder.specs.declared.writes.Write.{Write}
-use Rattle.icu_trie.specs.declared.header.TrieType.{TrieType}
+use Rattle.icu_trie_core.specs.declared.header.TrieType.{TrieType}
 use Rattle.icu_trie_builder.specs.CodePointMap.{CodePointMap, whole_cells, IsAfter, map_value}
 use Rattle.icu_trie_builder.specs.Writes.{first_of, last_of, value_of, value_after, last_written}
 use Rattle.icu_trie_builder.proofs.WholeLemmas.{whole_cells-full}

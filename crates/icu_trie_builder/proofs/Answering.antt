@@ -5,14 +5,14 @@ use Rattle.std.proofs.lemmas.List.{same_lists, get_or_default, get_or-take, leng
 use Rattle.std.proofs.lemmas.List.Folds.{list_any_none}
 use Rattle.std.proofs.lemmas.List.FromFn.{get_or-map-range_with_len}
 use Rattle.std.proofs.lemmas.Option.{slice_get-get_or}
-use Rattle.icu_trie.specs.declared.header.TrieType.{TrieType}
-use Rattle.icu_trie.specs.declared.header.TrieType.TheVariants.{Fast, Small}
-use Rattle.icu_trie.specs.declared.header.CodePointTrieHeader.{CodePointTrieHeader}
-use Rattle.icu_trie.specs.Blocks.{window, block, block_of, different}
-use Rattle.icu_trie.specs.Format.{answer, fast_limit, high_value}
-use Rattle.icu_trie.specs.Parts.{fast_index_len, passes_data}
-use Rattle.icu_trie.specs.Coherence.{IsCoherent, IsShared, SameAnswers}
-use Rattle.icu_trie.proofs.AnswerLemmas.{fast_answer, small_answer}
+use Rattle.icu_trie_core.specs.declared.header.TrieType.{TrieType}
+use Rattle.icu_trie_core.specs.declared.header.TrieType.TheVariants.{Fast, Small}
+use Rattle.icu_trie_core.specs.declared.header.CodePointTrieHeader.{CodePointTrieHeader}
+use Rattle.icu_trie_core.specs.Blocks.{window, block, block_of, different}
+use Rattle.icu_trie_core.specs.Format.{answer, fast_limit, high_value}
+use Rattle.icu_trie_core.specs.FastIndex.{fast_index_len, passes_data}
+use Rattle.icu_trie_core.specs.Coherence.{IsCoherent, IsShared, SameAnswers}
+use Rattle.icu_trie_core.proofs.AnswerLemmas.{fast_answer, small_answer}
 use Rattle.icu_trie_builder.specs.Layout.{IsIndex}
 use Rattle.icu_trie_builder.specs.Data.{IsData, SameNumbers}
 use Rattle.icu_trie_builder.proofs.Different.{different-by, different-within}

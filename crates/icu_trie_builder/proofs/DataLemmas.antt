@@ -4,9 +4,9 @@ use Rattle.std.specs.List.{AllPass}
 use Rattle.std.proofs.lemmas.Bool.{cases_lt, cases_eq, le-ltb}
 use Rattle.std.proofs.lemmas.List.{same_lists, get_or_default, get_or-take, get_or_append_left, get_or_at, length-append, length-take}
 use Rattle.std.proofs.lemmas.List.Elements.{All-contains}
-use Rattle.icu_trie.specs.declared.header.TrieType.{TrieType}
-use Rattle.icu_trie.specs.Blocks.{block}
-use Rattle.icu_trie.specs.Format.{fast_limit, high_value}
+use Rattle.icu_trie_core.specs.declared.header.TrieType.{TrieType}
+use Rattle.icu_trie_core.specs.Blocks.{block}
+use Rattle.icu_trie_core.specs.Format.{fast_limit, high_value}
 use Rattle.icu_trie.specs.Parts.{last_cell}
 use Rattle.icu_trie_builder.specs.Data.{IsData, IsHighFrom, SameNumbers}
 use Rattle.icu_trie_builder.specs.Placed.{IsPlaced}

@@ -7,7 +7,7 @@ use Rattle.std.proofs.lemmas.List.{get_or-take, get_or-drop, length-take, length
 use Rattle.std.proofs.lemmas.List.FromFn.{length-map-range_with_len, get_or-map-range_with_len}
 use Rattle.std.proofs.lemmas.Map.Made.{distinct_count-le, is_member-Decides, AllPairs-from_IsDistinct}
 use Rattle.std.specs.Prelude.{nat_eq}
-use Rattle.icu_trie.specs.Blocks.{block, block_of, different}
+use Rattle.icu_trie_core.specs.Blocks.{block, block_of, different}
 use Rattle.icu_trie_builder.specs.Layout.{IsGrown, packed_cell}
 use Rattle.icu_trie_builder.proofs.Counts.{apart-le-distinct_count, distinct_count-mono, unique_keys-apart, unique_keys-member}
 use Rattle.icu_trie_builder.proofs.PackingLemmas.{packed-same}

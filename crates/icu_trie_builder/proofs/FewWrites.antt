@@ -9,7 +9,7 @@ use Rattle.std.proofs.lemmas.List.{same_lists, length-map, length-replicate, get
 use Rattle.std.proofs.lemmas.List.Sums.{sum_by-cons}
 use Rattle.std.proofs.lemmas.List.FromFn.{length-map-range_with_len, get_or-map-range_with_len}
 use Rattle.std.proofs.lemmas.Map.Made.{distinct_count-le}
-use Rattle.icu_trie.specs.Blocks.{block_of, different}
+use Rattle.icu_trie_core.specs.Blocks.{block_of, different}
 use Rattle.icu_trie_builder.specs.declared.writes.Write.{Write}
 use Rattle.icu_trie_builder.specs.Bounds.{IsTooLarge}
 use Rattle.icu_trie_builder.specs.Writes.{first_of, last_of, value_of, is_accepted, covers, last_written, value_after}

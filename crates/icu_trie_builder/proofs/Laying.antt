@@ -1,11 +1,11 @@
 -- The parts of the index behind one another.
 use Rattle.std.proofs.Common.{◌≡◌, ℕ, ◌+◌, ◌-◌, ◌*◌, ◌/◌, ◌%◌, ◌<◌, ◌≤◌, List, [], length, get_or, arith, sym, ap, ◌∙◌, refl, Some, slice_get, unwrap_or}
 use Rattle.std.specs.Int.{div_ceil}
-use Rattle.icu_trie.specs.Blocks.{block}
+use Rattle.icu_trie_core.specs.Blocks.{block}
 use Rattle.icu_trie_builder.specs.Placed.{IsPlaced}
-use Rattle.icu_trie.specs.declared.header.TrieType.{TrieType}
-use Rattle.icu_trie.specs.declared.header.TrieType.TheVariants.{Fast, Small}
-use Rattle.icu_trie.specs.Format.{fast_limit, index1_start, index2_cell, small_offset}
+use Rattle.icu_trie_core.specs.declared.header.TrieType.{TrieType}
+use Rattle.icu_trie_core.specs.declared.header.TrieType.TheVariants.{Fast, Small}
+use Rattle.icu_trie_core.specs.Format.{fast_limit, index1_start, index2_cell, small_offset}
 use Rattle.icu_trie_builder.specs.Layout.{AllBelow, IsGrown, IsIndex, IsUpper, packed_cell}
 use Rattle.icu_trie_builder.proofs.Growing.{cell_there}
 use Rattle.icu_trie_builder.proofs.PackingLemmas.{offset_packed, packed-same}

@@ -4,8 +4,8 @@ use Rattle.std.specs.List.{Contains}
 use Rattle.std.proofs.lemmas.Bool.{le-ltb}
 use Rattle.std.proofs.lemmas.Bool.Decides.{nat_tests}
 use Rattle.std.proofs.lemmas.List.{same_lists, get_or_default}
-use Rattle.icu_trie.specs.Blocks.{window, block}
-use Rattle.icu_trie.specs.Format.{long_offset, offset_in_block}
+use Rattle.icu_trie_core.specs.Blocks.{window, block}
+use Rattle.icu_trie_core.specs.Format.{long_offset, offset_in_block}
 use Rattle.icu_trie_builder.specs.Layout.{AllBelow, IsGrown, high_bits, packed_cell}
 use Rattle.icu_trie_builder.proofs.Growing.{cell_there}
 use Rattle.icu_trie_builder.proofs.Windows.{length-window, window-read}

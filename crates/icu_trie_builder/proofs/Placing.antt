@@ -2,7 +2,7 @@
 use Rattle.std.proofs.Common.{◌≡◌, ℕ, ◌+◌, ◌*◌, ◌-◌, ◌/◌, ◌%◌, ◌<◌, ◌≤◌, ◌≢◌, List, [], ◌∷◌, ◌++◌, length, get_or, take, arith, ◌∙◌, sym, ap, below_more, ◌⊎◌, inl, inr}
 use Rattle.std.proofs.lemmas.List.{take-append-le, take_all, length-append, get_or_append_left, get_or_at}
 use Rattle.std.proofs.lemmas.List.Elements.{Contains-get_or}
-use Rattle.icu_trie.specs.Blocks.{window, block, different}
+use Rattle.icu_trie_core.specs.Blocks.{window, block, different}
 use Rattle.icu_trie_builder.specs.Chained.{block_from}
 use Rattle.icu_trie_builder.specs.Placed.{IsPlaced}
 use Rattle.icu_trie_builder.proofs.Counts.{apart-le-distinct_count}

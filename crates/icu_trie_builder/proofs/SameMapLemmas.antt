@@ -6,9 +6,9 @@ use Rattle.std.specs.Set.{distinct_count}
 use Rattle.std.specs.Cmp.Lexicographic.{pointwise}
 use Rattle.std.proofs.lemmas.List.{same_lists}
 use Rattle.std.proofs.lemmas.List.FromFn.{length-map-range_with_len, get_or-map-range_with_len}
-use Rattle.icu_trie.specs.declared.header.TrieType.{TrieType}
-use Rattle.icu_trie.specs.declared.header.TrieType.TheVariants.{Fast, Small}
-use Rattle.icu_trie.specs.Blocks.{block_of, different}
+use Rattle.icu_trie_core.specs.declared.header.TrieType.{TrieType}
+use Rattle.icu_trie_core.specs.declared.header.TrieType.TheVariants.{Fast, Small}
+use Rattle.icu_trie_core.specs.Blocks.{block_of, different}
 use Rattle.icu_trie_builder.specs.Bounds.{data_bound, index_bound, fast_blocks, small_blocks, index_blocks, IsTooLarge}
 
 -- functions that agree on a range give one list there

@@ -2,9 +2,9 @@
 -- bounded by the map.
 use Rattle.std.proofs.Common.{◌≡◌, ℕ, ◌+◌, ◌-◌, ◌*◌, ◌/◌, ◌≤◌, List, length, get_or, arith}
 use Rattle.std.proofs.lemmas.List.{get_or_default}
-use Rattle.icu_trie.specs.declared.header.TrieType.{TrieType}
-use Rattle.icu_trie.specs.Blocks.{block, block_of, different}
-use Rattle.icu_trie.specs.Format.{fast_limit}
+use Rattle.icu_trie_core.specs.declared.header.TrieType.{TrieType}
+use Rattle.icu_trie_core.specs.Blocks.{block, block_of, different}
+use Rattle.icu_trie_core.specs.Format.{fast_limit}
 use Rattle.icu_trie_builder.specs.Bounds.{fast_blocks, small_blocks}
 use Rattle.icu_trie_builder.proofs.Different.{block-block_of, different-within}
 use Rattle.icu_trie_builder.proofs.Laying.{parts}

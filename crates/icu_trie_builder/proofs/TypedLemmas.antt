@@ -6,10 +6,11 @@ use Rattle.std.proofs.lemmas.Bool.{lt-ltb, le-ltb, cases_lt}
 use Rattle.std.proofs.lemmas.Bool.Decides.{nat_tests}
 use Rattle.std.proofs.lemmas.List.{length-map}
 use Rattle.std.proofs.lemmas.Option.{slice_get-map, same_Some}
-use Rattle.icu_trie.specs.declared.header.CodePointTrieHeader.{CodePointTrieHeader}
-use Rattle.icu_trie.specs.Format.{answer, high_cell, high_value, place}
-use Rattle.icu_trie.specs.Parts.{Parts, last_cell, fault, fast_index_len, passes_data}
-use Rattle.icu_trie.specs.Coherence.{IsCoherent, IsShared, SameAnswers}
+use Rattle.icu_trie_core.specs.declared.header.CodePointTrieHeader.{CodePointTrieHeader}
+use Rattle.icu_trie_core.specs.Format.{answer, high_cell, high_value, place}
+use Rattle.icu_trie_core.specs.FastIndex.{fast_index_len, passes_data}
+use Rattle.icu_trie.specs.Parts.{Parts, last_cell, fault}
+use Rattle.icu_trie_core.specs.Coherence.{IsCoherent, IsShared, SameAnswers}
 use Rattle.icu_trie_builder.specs.Built.{IsBuilt}
 use Rattle.icu_trie_builder.specs.MapAnswers.{AnswersMap, AreValuesOf, IsWellBuilt}
 use Rattle.icu_trie_builder.specs.Bounds.{data_bound}

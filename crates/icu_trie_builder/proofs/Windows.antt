@@ -7,7 +7,7 @@ use Rattle.std.proofs.lemmas.Bool.Decides.{nat_tests}
 use Rattle.std.proofs.lemmas.Cmp.{lists_equiv}
 use Rattle.std.proofs.lemmas.Slice.Eq.{slice_eq-Decides}
 use Rattle.std.proofs.lemmas.List.{drop-append-le, take-append-le, drop_at, take_all, length-take, length-drop, get_or-take, get_or-drop}
-use Rattle.icu_trie.specs.Blocks.{window, block}
+use Rattle.icu_trie_core.specs.Blocks.{window, block}
 
 -- `==` of numbers is an equivalence
 nat_laws : IsEquivalence nat_eq

@@ -1,9 +1,9 @@
 -- How large a trie may be, and which maps may be refused, by counts of different aligned blocks of
 -- the map. f gives each code point's number.
 use Rattle.std.specs.Prelude.{ℕ, ◌+◌, ◌-◌, ◌*◌, ◌/◌, ◌<◌, ◌⊎◌}
-use Rattle.icu_trie.specs.declared.header.TrieType.{TrieType}
-use Rattle.icu_trie.specs.Blocks.{block_of, different}
-use Rattle.icu_trie.specs.Format.{fast_limit}
+use Rattle.icu_trie_core.specs.declared.header.TrieType.{TrieType}
+use Rattle.icu_trie_core.specs.Blocks.{block_of, different}
+use Rattle.icu_trie_core.specs.Format.{fast_limit}
 
 -- different fast blocks: among the aligned blocks of 64 below the fast limit
 abbrev pub fast_blocks : TrieType → (ℕ → ℕ) → ℕ

@@ -1,9 +1,10 @@
 -- What a built trie is.
 use Rattle.std.specs.Prelude.{◌≡◌, ℕ, ◌+◌, ◌/◌, ◌%◌, ◌<◌, ◌≤◌, false, List, Some, length}
-use Rattle.icu_trie.specs.declared.header.CodePointTrieHeader.{CodePointTrieHeader}
-use Rattle.icu_trie.specs.Format.{answer}
-use Rattle.icu_trie.specs.Parts.{last_cell, fast_index_len, passes_data}
-use Rattle.icu_trie.specs.Coherence.{IsCoherent, IsShared}
+use Rattle.icu_trie_core.specs.declared.header.CodePointTrieHeader.{CodePointTrieHeader}
+use Rattle.icu_trie_core.specs.Format.{answer}
+use Rattle.icu_trie_core.specs.FastIndex.{fast_index_len, passes_data}
+use Rattle.icu_trie.specs.Parts.{last_cell}
+use Rattle.icu_trie_core.specs.Coherence.{IsCoherent, IsShared}
 use Rattle.icu_trie_builder.specs.Bounds.{data_bound, index_bound}
 
 -- the header's high start is a multiple of 512, at most the end of the code space, and stands in

@@ -1,6 +1,6 @@
 -- Blocks in buckets by their hash, each bucket a chain from its newest block down.
 use Rattle.std.specs.Prelude.{◌≡◌, ℕ, ◌+◌, ◌*◌, ◌%◌, ◌<◌, ◌≤◌, List, length, slice_index, fold}
-use Rattle.icu_trie.specs.Blocks.{window}
+use Rattle.icu_trie_core.specs.Blocks.{window}
 use Rattle.icu_trie_builder.specs.declared.chains.Chains.{Chains}
 
 -- the bucket of a block

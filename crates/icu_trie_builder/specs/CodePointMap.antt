@@ -1,7 +1,7 @@
 -- A map of the code points 0 to 0x10FFFF, as a builder holds it.
 use Rattle.std.specs.Prelude.{◌≡◌, ℕ, ◌≤◌, ◌⊎◌, nat_le, Bool, List, [], ◌∷◌, length, replicate, slice_index_or, if◌then◌else◌}
 use Rattle.std.specs.List.{All}
-use Rattle.icu_trie.specs.declared.header.TrieType.{TrieType}
+use Rattle.icu_trie_core.specs.declared.header.TrieType.{TrieType}
 use Rattle.icu_trie_builder.specs.declared.writes.Write.{Write}
 use Rattle.icu_trie_builder.specs.Writes.{value_after}
 

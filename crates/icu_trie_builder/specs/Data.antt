@@ -1,8 +1,8 @@
 -- Data whose blocks have their places.
 use Rattle.std.specs.Prelude.{◌≡◌, ℕ, ◌+◌, ◌-◌, ◌*◌, ◌/◌, ◌%◌, ◌<◌, ◌≤◌, List, Some, length, slice_get, slice_index}
-use Rattle.icu_trie.specs.declared.header.TrieType.{TrieType}
-use Rattle.icu_trie.specs.Blocks.{block, different}
-use Rattle.icu_trie.specs.Format.{fast_limit, high_value}
+use Rattle.icu_trie_core.specs.declared.header.TrieType.{TrieType}
+use Rattle.icu_trie_core.specs.Blocks.{block, different}
+use Rattle.icu_trie_core.specs.Format.{fast_limit, high_value}
 use Rattle.icu_trie_builder.specs.Layout.{AllBelow}
 
 -- from this code point on all have the last code point's number

@@ -1,9 +1,9 @@
 -- How the index is laid out.
 use Rattle.std.specs.Prelude.{◌≡◌, ◌≢◌, ℕ, ◌+◌, ◌-◌, ◌*◌, ◌/◌, ◌%◌, ◌<◌, ◌≤◌, nat_eq, List, length, slice_index, Some, if◌then◌else◌}
 use Rattle.std.specs.Int.{div_ceil}
-use Rattle.icu_trie.specs.declared.header.TrieType.{TrieType}
-use Rattle.icu_trie.specs.Blocks.{block, different}
-use Rattle.icu_trie.specs.Format.{fast_limit, fast_offset, small_offset, index2_cell}
+use Rattle.icu_trie_core.specs.declared.header.TrieType.{TrieType}
+use Rattle.icu_trie_core.specs.Blocks.{block, different}
+use Rattle.icu_trie_core.specs.Format.{fast_limit, fast_offset, small_offset, index2_cell}
 
 -- each number of the list is below n
 abbrev pub AllBelow : ℕ → List ℕ → Type 0

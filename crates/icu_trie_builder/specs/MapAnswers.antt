@@ -1,10 +1,10 @@
 -- What a trie that was built from a map answers, and what else holds of it.
 use Rattle.std.specs.Prelude.{◌≡◌, ℕ, ◌<◌, ◌≤◌, ◌↔◌, nat_le, List, Option, Some, None, length, map, if◌then◌else◌}
-use Rattle.icu_trie.specs.Format.{answer}
+use Rattle.icu_trie_core.specs.Format.{answer}
 use Rattle.icu_trie.specs.Parts.{Parts, trie_value}
-use Rattle.icu_trie.specs.Coherence.{IsCoherent, IsShared}
+use Rattle.icu_trie_core.specs.Coherence.{IsCoherent, IsShared}
 use Rattle.icu_trie.specs.Ranges.{answers}
-use Rattle.icu_trie.specs.Runs.{Run, AreMaximalRuns, some_run}
+use Rattle.icu_trie_core.specs.Runs.{Run, AreMaximalRuns, some_run}
 use Rattle.icu_trie_builder.specs.Bounds.{data_bound, index_bound}
 use Rattle.icu_trie_builder.specs.Built.{IsBuiltHeader}
 

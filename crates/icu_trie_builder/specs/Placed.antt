@@ -1,7 +1,7 @@
 -- Blocks of cells that stand in a table.
 use Rattle.std.specs.Prelude.{◌≡◌, ℕ, ◌+◌, ◌<◌, ◌≤◌, List, length, take, slice_index}
 use Rattle.std.specs.List.{Contains}
-use Rattle.icu_trie.specs.Blocks.{window, block}
+use Rattle.icu_trie_core.specs.Blocks.{window, block}
 
 -- behind what `before` holds, `after` has the blocks of k cells from the one numbered `first` on,
 -- each at its offset

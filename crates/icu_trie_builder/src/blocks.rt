@@ -1,6 +1,6 @@
 //! Blocks of cells put behind one another, where equal blocks share one place.
 ghost use Rattle.std.specs.Prelude.{◌≡◌, ◌≢◌, ℕ, ◌+◌, ◌*◌, ◌^◌, ◌<◌, ◌≤◌, ◌++◌, length, max, IfOk, OnOk};
-ghost use Rattle.icu_trie.specs.Blocks.{block, different};
+ghost use Rattle.icu_trie_core.specs.Blocks.{block, different};
 ghost use Rattle.icu_trie_builder.specs.Chained.{block_from, chained_count, IsChained};
 ghost use Rattle.icu_trie_builder.specs.Placed.{IsPlaced};
 ghost use Rattle.icu_trie_builder.specs.declared.error.BuildError.TheVariants.{TooLarge};

@@ -1,7 +1,7 @@
 //! The data: the different blocks of 64 and of 16, the high value and the error value.
 ghost use Rattle.std.specs.Prelude.{◌≡◌, ℕ, ◌+◌, ◌-◌, ◌*◌, ◌/◌, ◌%◌, ◌<◌, ◌≤◌, Bool, true, length, slice_index, Some, IfOk};
 ghost use Rattle.std.specs.List.{AllPass};
-ghost use Rattle.icu_trie.specs.Format.{fast_limit};
+ghost use Rattle.icu_trie_core.specs.Format.{fast_limit};
 ghost use Rattle.icu_trie.specs.Parts.{last_cell};
 ghost use Rattle.icu_trie_builder.specs.Data.{different_cells, IsData, IsHighFrom};
 ghost use Rattle.icu_trie_builder.specs.declared.error.BuildError.TheVariants.{TooLarge};

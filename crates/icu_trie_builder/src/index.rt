@@ -1,7 +1,7 @@
 //! The index: the offsets of the blocks of 64 below the fast limit, then index-1, the index-3 blocks and
 //! index-2 for the code points from it on.
 ghost use Rattle.std.specs.Prelude.{◌≡◌, ℕ, ◌+◌, ◌-◌, ◌*◌, ◌/◌, ◌%◌, ◌<◌, ◌≤◌, length, slice_index, IfOk, OnOk};
-ghost use Rattle.icu_trie.specs.Format.{fast_limit};
+ghost use Rattle.icu_trie_core.specs.Format.{fast_limit};
 ghost use Rattle.icu_trie_builder.specs.Layout.{AllBelow, IsGrown, IsIndex, IsUpper, index3_cells, index3_start};
 ghost use Rattle.icu_trie_builder.specs.declared.error.BuildError.TheVariants.{TooLarge};
 

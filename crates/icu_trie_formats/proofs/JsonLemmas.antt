@@ -7,11 +7,11 @@ use Rattle.serde_json.proofs.OnLiterals.{serde_json_on_literals}
 use Rattle.serde_json.specs.Data.{Data, number, unsigned}
 use Rattle.serde_json.specs.View.{view, items_view, items_of}
 use Rattle.serde_json.specs.declared.value.Value.{Value}
-use Rattle.icu_trie.specs.Numbers.{fitting}
+use Rattle.icu_trie_core.specs.Numbers.{fitting}
 use Rattle.icu_trie.specs.Parts.{Parts, fault}
-use Rattle.icu_trie.specs.declared.header.TrieType.{TrieType}
-use Rattle.icu_trie.specs.declared.header.TrieType.TheVariants.{Fast, Small}
-use Rattle.icu_trie.specs.declared.header.CodePointTrieHeader.{CodePointTrieHeader}
+use Rattle.icu_trie_core.specs.declared.header.TrieType.{TrieType}
+use Rattle.icu_trie_core.specs.declared.header.TrieType.TheVariants.{Fast, Small}
+use Rattle.icu_trie_core.specs.declared.header.CodePointTrieHeader.{CodePointTrieHeader}
 use Rattle.icu_trie_formats.specs.FirstFault.{and_then, before, read_from}
 use Rattle.icu_trie_formats.specs.TrieJson.{JsonFault, list_of, number_of, number_or, value_of, values_of, cells_of, no_number, no_value, header_of, header_json, json_of, trie_object, numbers_json, IsGivenBack, unless_fault, trie_with, trie_of_json}
 

@@ -6,10 +6,10 @@ use Rattle.icu_trie_formats.specs.FirstFault.{and_then}
 use Rattle.icu_trie_formats.specs.TrieToml.{list_of, TrieFault, TomlParts, GivesHeader, header_with, type_of, typed_data, trie_with, trie_of, IsRefusedTrie, GivesTrie}
 use Rattle.icu_trie_formats.specs.declared.trie_toml.TrieFromTomlError.{TrieFromTomlError}
 use Rattle.icu_trie.specs.Parts.{Parts}
-use Rattle.icu_trie.specs.TypeNumbers.{type_number}
-use Rattle.icu_trie.specs.declared.header.TrieType.{TrieType}
-use Rattle.icu_trie.specs.declared.header.TrieType.TheVariants.{Fast, Small}
-use Rattle.icu_trie.specs.declared.header.CodePointTrieHeader.{CodePointTrieHeader}
+use Rattle.icu_trie_core.specs.TypeNumbers.{type_number}
+use Rattle.icu_trie_core.specs.declared.header.TrieType.{TrieType}
+use Rattle.icu_trie_core.specs.declared.header.TrieType.TheVariants.{Fast, Small}
+use Rattle.icu_trie_core.specs.declared.header.CodePointTrieHeader.{CodePointTrieHeader}
 
 pub list_of-items_view : (vs : List Value) → list_of (items_view vs) ≡ map view vs
 list_of-items_view [] = refl

@@ -1,8 +1,8 @@
 -- The parts of the trie that gives each code point the number of its plane.
 use Rattle.std.specs.Prelude.{ℕ, ◌+◌, ◌*◌, ◌/◌, ◌%◌, List, [], ◌∷◌, ◌++◌, map, replicate}
 use Rattle.std.specs.List.{range_with_len}
-use Rattle.icu_trie.specs.declared.header.TrieType.TheVariants.{Small}
-use Rattle.icu_trie.specs.declared.header.CodePointTrieHeader.{CodePointTrieHeader}
+use Rattle.icu_trie_core.specs.declared.header.TrieType.TheVariants.{Small}
+use Rattle.icu_trie_core.specs.declared.header.CodePointTrieHeader.{CodePointTrieHeader}
 
 abbrev pub planes_header : CodePointTrieHeader
 planes_header = record { high_start = 0x100000; shifted12_high_start = 0x100; index3_null_offset = 2; data_null_offset = 0; null_value = 0; trie_type = Small }

@@ -4,12 +4,12 @@ use Rattle.std.specs.Option.{ok_or}
 use Rattle.serde_json.specs.Data.{Data, object, array, number, string, unsigned, Items, no_items, item, no_members, member}
 use Rattle.serde_json.specs.Find.{get, as_object, as_array, as_number, as_str, as_u64}
 use Rattle.serde_json.specs.View.{items_of}
-use Rattle.icu_trie.specs.Numbers.{fitting}
+use Rattle.icu_trie_core.specs.Numbers.{fitting}
 use Rattle.icu_trie.specs.Parts.{Parts, fault}
-use Rattle.icu_trie.specs.declared.header.TrieType.{TrieType}
-use Rattle.icu_trie.specs.declared.header.TrieType.TheVariants.{Fast, Small}
-use Rattle.icu_trie.specs.declared.header.CodePointTrieHeader.{CodePointTrieHeader}
-use Rattle.icu_trie.specs.declared.error.CodePointTrieError.{CodePointTrieError}
+use Rattle.icu_trie_core.specs.declared.header.TrieType.{TrieType}
+use Rattle.icu_trie_core.specs.declared.header.TrieType.TheVariants.{Fast, Small}
+use Rattle.icu_trie_core.specs.declared.header.CodePointTrieHeader.{CodePointTrieHeader}
+use Rattle.icu_trie_core.specs.declared.error.CodePointTrieError.{CodePointTrieError}
 use Rattle.icu_trie_formats.specs.FirstFault.{and_then, read_from}
 use Rattle.icu_trie_formats.specs.declared.json.TrieJsonError.{TrieJsonError}
 use Rattle.icu_trie_formats.specs.declared.json.TrieJsonError.TheVariants.{Shape, Number, Value, Trie, Memory}

@@ -6,7 +6,7 @@ use Rattle.std.proofs.Math.Nat.{sub-zero}
 use Rattle.std.specs.Fmt.{digits, padded_integral, format_spec, char_count}
 use Rattle.std.proofs.KnownBytes.{Appends-trans}
 use Rattle.std.proofs.lemmas.Fmt.{decimal_digit, decimal_step}
-use Rattle.icu_trie.specs.Runs.{Run}
+use Rattle.icu_trie_core.specs.Runs.{Run}
 use Rattle.ucptab.specs.TableText.{answer_line, hex_text, run_line}
 
 -- `{:04X}`

@@ -1,8 +1,8 @@
 -- The ranges of a trie as runs of its map.
 use Rattle.std.proofs.Common.{◌≡◌, ◌≢◌, ℕ, List, [], ◌∷◌, map, refl, ap}
-use Rattle.icu_trie.specs.Ranges.{run_of}
-use Rattle.icu_trie.specs.Runs.{Run, AreMaximalRuns, some_run}
-use Rattle.icu_trie.specs.declared.ranges.CodePointMapRange.{CodePointMapRange}
+use Rattle.icu_trie_core.specs.Range.{run_of}
+use Rattle.icu_trie_core.specs.Runs.{Run, AreMaximalRuns, some_run}
+use Rattle.icu_trie_core.specs.declared.range.CodePointMapRange.{CodePointMapRange}
 use Rattle.ucptab.specs.TableText.{answers_text, run_of_values, runs_text, IsTextOfMap}
 
 -- a run of the answers is a run of the values

@@ -10,8 +10,8 @@ use Rattle.std.specs.Str.Parse.{digits_value}
 use Rattle.std.specs.Fmt.{digits}
 use Rattle.std.specs.Io.KnownBytes.{IsAtEnd}
 use Rattle.std.specs.Range.{range_inclusive_start, range_inclusive_end}
-use Rattle.icu_trie.specs.Runs.{Run, AreMaximalRuns}
-use Rattle.icu_trie.specs.declared.ranges.CodePointMapRange.{CodePointMapRange}
+use Rattle.icu_trie_core.specs.Runs.{Run, AreMaximalRuns}
+use Rattle.icu_trie_core.specs.declared.range.CodePointMapRange.{CodePointMapRange}
 use Rattle.icu_trie_builder.specs.declared.writes.Write.{Write}
 use Rattle.icu_trie_builder.specs.declared.writes.Write.TheVariants.{One, Range}
 use Rattle.icu_trie_builder.specs.Bounds.{IsTooLarge}

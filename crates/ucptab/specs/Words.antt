@@ -3,8 +3,8 @@ use Rattle.std.specs.Prelude.{ℕ, nat_le, nat_eq, List, ◌∷◌, Option, Some
 use Rattle.std.specs.List.{list_all, filter_map}
 use Rattle.std.specs.Option.{option_and_then}
 use Rattle.std.specs.Cmp.Lexicographic.{pointwise}
-use Rattle.icu_trie.specs.declared.header.TrieType.{TrieType}
-use Rattle.icu_trie.specs.declared.header.TrieType.TheVariants.{Fast, Small}
+use Rattle.icu_trie_core.specs.declared.header.TrieType.{TrieType}
+use Rattle.icu_trie_core.specs.declared.header.TrieType.TheVariants.{Fast, Small}
 use Rattle.ucptab.specs.TableText.{hexadecimal, decimal_number}
 
 -- what the words ask for: a trie of this type over these values, and the numbers whose answers are wanted

@@ -2,7 +2,7 @@
 use super::{ZEROS, data, small_trie};
 use crate::iterator_utils::RangeListIteratorCoalescer;
 use crate::map_value::MapError;
-use crate::ranges::CodePointMapRange;
+use icu_trie_core::range::CodePointMapRange;
 use std::ops::RangeInclusive;
 use std::test::Fail;
 

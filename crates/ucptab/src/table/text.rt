@@ -1,9 +1,9 @@
 //! The lines that are printed.
 ghost use Rattle.std.specs.Prelude.{◌≡◌, ℕ, ◌+◌, ◌<◌, ◌^◌, [], ◌∷◌, ◌++◌, List, IfOk, IfErr, decimal, string_bytes};
 ghost use Rattle.std.specs.Io.KnownBytes.{Appends};
-ghost use Rattle.icu_trie.specs.Numbers.{fitting};
+ghost use Rattle.icu_trie_core.specs.Numbers.{fitting};
 ghost use Rattle.icu_trie.specs.Ranges.{answers, IsCoherentTrie};
-ghost use Rattle.icu_trie.specs.Runs.{Run, AreMaximalRuns};
+ghost use Rattle.icu_trie_core.specs.Runs.{Run, AreMaximalRuns};
 ghost use Rattle.ucptab.specs.TableText.{answer_line, answers_text, fault_text, hex_text, run_line, run_of_values, runs_text};
 
 use crate::table::fault::TableError;

@@ -1,8 +1,8 @@
 use Rattle.std.proofs.Common.{◌≡◌, ◌+◌, ◌<◌, slice_get, Some, nat_lt, arith, sym, ◌∙◌}
 use Rattle.std.proofs.lemmas.Bool.{lt-ltb, le-ltb}
 use Rattle.icu_zerovec.specs.Slice.{slice_values}
-use Rattle.icu_trie.specs.Parts.{fast_index_len}
-use Rattle.icu_trie.proofs.FrontLemmas.{found, none_more, none_past}
+use Rattle.icu_trie_core.specs.FastIndex.{fast_index_len}
+use Rattle.icu_trie_core.proofs.FrontLemmas.{found, none_more, none_past}
 use Rattle.icu_trie.proofs.cptrie.fast_block_passes.Goals as goal
 use Rattle.icu_trie.proofs.cptrie.fast_block_passes.Goals.{in-Some+else-len-offset, in_default}
 

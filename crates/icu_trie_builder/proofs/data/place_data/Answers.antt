@@ -1,6 +1,6 @@
 use Rattle.std.proofs.Common.{◌≡◌, ◌/◌, length, get_or, arith, ap}
-use Rattle.icu_trie.specs.Blocks.{block}
-use Rattle.icu_trie.specs.Format.{fast_limit}
+use Rattle.icu_trie_core.specs.Blocks.{block}
+use Rattle.icu_trie_core.specs.Format.{fast_limit}
 use Rattle.icu_trie_builder.specs.Placed.{IsPlaced}
 use Rattle.icu_trie_builder.proofs.Different.{different-le_count}
 use Rattle.icu_trie_builder.proofs.DataLemmas.{is_data, cells-drawn, last-two}

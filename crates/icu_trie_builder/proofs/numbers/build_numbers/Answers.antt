@@ -1,7 +1,7 @@
 use Rattle.std.proofs.Common.{rules, ◌≡◌, ℕ, ◌/◌, Err, get_or, arith, ap, refl, inl, inr}
-use Rattle.icu_trie.specs.declared.header.CodePointTrieHeader.{CodePointTrieHeader}
-use Rattle.icu_trie.specs.Blocks.{block}
-use Rattle.icu_trie.specs.Format.{fast_limit}
+use Rattle.icu_trie_core.specs.declared.header.CodePointTrieHeader.{CodePointTrieHeader}
+use Rattle.icu_trie_core.specs.Blocks.{block}
+use Rattle.icu_trie_core.specs.Format.{fast_limit}
 use Rattle.icu_trie_builder.specs.Data.{IsData}
 use Rattle.icu_trie_builder.specs.Layout.{IsIndex}
 use Rattle.icu_trie_builder.specs.declared.error.BuildError.TheVariants.{TooLarge}

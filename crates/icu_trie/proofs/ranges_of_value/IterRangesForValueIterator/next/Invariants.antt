@@ -1,6 +1,6 @@
 use Rattle.std.proofs.Common.{◌≡◌, ◌-◌, ◌≤◌, List, []}
 use Rattle.std.specs.Iterator.{Yields}
-use Rattle.icu_trie.specs.declared.ranges.CodePointMapRange.{CodePointMapRange}
+use Rattle.icu_trie_core.specs.declared.range.CodePointMapRange.{CodePointMapRange}
 use Rattle.icu_trie.specs.Iterators.{GivesNextRange, iterator_next}
 use Rattle.icu_trie.specs.RangesOfValue.{with_value}
 use Rattle.icu_trie.proofs.ranges_of_value.IterRangesForValueIterator.next.Given as goal

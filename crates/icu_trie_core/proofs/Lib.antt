@@ -1,0 +1,9 @@
+pub mod Offsets
+pub mod AnswerLemmas
+pub mod FrontLemmas
+pub mod FastIndexLemmas
+pub mod ReachLemmas
+pub mod SeenLemmas
+pub mod SharedLemmas
+pub mod RangeLemmas
+pub mod RunLemmas

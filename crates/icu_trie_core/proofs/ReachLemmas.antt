@@ -1,0 +1,87 @@
+-- How far a value goes, block by block.
+use Rattle.std.proofs.Common.{◌≡◌, inl, inr, ℕ, ◌+◌, ◌-◌, ◌<◌, ◌≤◌, Option, Some, None, ◌∙◌, min, arith}
+use Rattle.std.proofs.lemmas.Bool.{cases_lt}
+use Rattle.icu_trie_core.specs.Walk.{Holds, EndsAt, BreaksOff, Reaches}
+
+-- up to a place below the limit
+pub Holds-below_limit : {A : Type 0} {f : ℕ → Option A} {start : ℕ} {value : A} (base limit : ℕ) → base ≤ limit → Holds f start (min base limit) value → Holds f start base value
+Holds-below_limit base limit le holds u a b = holds u a (omega (arith, b, le))
+
+-- a block of len places at base, in which f is g. The value came up to the block, and place `from` is where it goes on
+module _ {A : Type 0} {f g : ℕ → Option A} {start base len from : ℕ} {value : A} (before : Holds f start base value) (agree : (i : ℕ) → i < len → f (base + i) ≡ g i) (from_is : from ≡ start - base) where
+  -- it goes on to place k of the block
+  Holds-in_block : (k : ℕ) → k ≤ len → Holds g from k value → Holds f start (base + k) value
+  Holds-in_block k most inside u a b = elim (cases_lt u base) [
+    | inl p ↦ before u a p
+    | inr p ↦
+        let i : u ≡ base + (u - base) = omega (arith, p) in
+        let lt : u - base < k = omega (arith, p, b) in
+        rw i (agree (u - base) (omega (arith, lt, most)) ∙ inside (u - base) (omega (arith, a, from_is)) lt)
+  ]
+
+  -- it goes over the block
+  pub Holds-over_block : (next reach : ℕ) → EndsAt g from len value reach → len ≤ reach → next ≤ base + len → Holds f start next value
+  Holds-over_block next reach e whole fits u a b =
+      Holds-in_block len (omega arith) (λ i c d. e.equal i c (omega (arith, whole, d))) u a (omega (arith, b, fits))
+
+  -- it ends in the block
+  pub EndsAt-in_block : (limit reach : ℕ) → base + len ≤ limit → reach < len → EndsAt g from len value reach → EndsAt f start limit value (base + reach)
+  EndsAt-in_block limit reach fits lt e = record {
+    begun = let b = e.begun in omega (arith, b, from_is);
+    within = omega (arith, fits, lt);
+    equal = Holds-in_block reach (omega (arith, lt)) e.equal;
+    differs = λ _. rw (agree reach lt) (e.differs lt);
+  }
+
+  -- it breaks off in the block
+  pub BreaksOff-in_block : (limit : ℕ) → base + len ≤ limit → BreaksOff g from len value → BreaksOff f start limit value
+  BreaksOff-in_block limit fits e =
+      let b = e.begun in
+      let w = e.within in
+      record {
+        place = base + e.place;
+        begun = omega (arith, b, from_is);
+        within = omega (arith, fits, w);
+        equal = Holds-in_block e.place (omega (arith, w)) e.equal;
+        missing = agree e.place w ∙ e.missing;
+      }
+
+-- nothing is seen in a block of len places at base, to which the value came
+pub BreaksOff-at_block : {A : Type 0} {f : ℕ → Option A} {start base : ℕ} {value : A} (len limit : ℕ) → Holds f start base value → 0 < len → start < base + len → base + len ≤ limit → ((i : ℕ) → i < len → f (base + i) ≡ None) → BreaksOff f start limit value
+BreaksOff-at_block {A} {f} {start} {base} {value} len limit before some begun fits none = record {
+  place = base + (start - base);
+  begun = omega arith;
+  within = omega (arith, some, begun, fits);
+  equal = λ u a b. elim (cases_lt start base) [
+    | inl p ↦ before u a (omega (arith, p, b))
+    | inr p ↦ absurd (omega (arith, p, a, b))
+  ];
+  missing = none (start - base) (omega (arith, some, begun));
+}
+
+-- how far the value goes from mid on is how far it goes from start on, where it came up to mid
+pub Reaches-after : {A : Type 0} (f : ℕ → Option A) (start mid limit : ℕ) (value : A) (r : Option ℕ) → Holds f start mid value → start ≤ mid → Reaches f mid limit value r → Reaches f start limit value r
+Reaches-after f start mid limit value None before le e =
+    let b = e.begun in
+    record {
+      place = e.place;
+      begun = omega (arith, b, le);
+      within = e.within;
+      equal = λ u a d. elim (cases_lt u mid) [ inl p ↦ before u a p | inr p ↦ e.equal u p d ];
+      missing = e.missing;
+    }
+Reaches-after f start mid limit value (Some end) before le e =
+    let b = e.begun in
+    record {
+      begun = omega (arith, b, le);
+      within = e.within;
+      equal = λ u a d. elim (cases_lt u mid) [ inl p ↦ before u a p | inr p ↦ e.equal u p d ];
+      differs = e.differs;
+    }
+
+-- a limit further behind
+pub EndsAt-below : {A : Type 0} {f : ℕ → Option A} {start limit : ℕ} {value : A} {end : ℕ} (next : ℕ) → limit ≤ next → end < limit → EndsAt f start limit value end → EndsAt f start next value end
+EndsAt-below next le lt e = record { begun = e.begun; within = omega (arith, le, lt); equal = e.equal; differs = λ _. e.differs lt }
+
+pub BreaksOff-below : {A : Type 0} {f : ℕ → Option A} {start limit : ℕ} {value : A} (next : ℕ) → limit ≤ next → BreaksOff f start limit value → BreaksOff f start next value
+BreaksOff-below next le e = let w = e.within in record { place = e.place; begun = e.begun; within = omega (arith, le, w); equal = e.equal; missing = e.missing }

@@ -1,0 +1,14 @@
+-- The fast index of a trie, and whether the blocks that it names lie in the data.
+use Rattle.std.specs.Prelude.{ℕ, ◌+◌, nat_lt, Bool, List, take}
+use Rattle.std.specs.List.{list_any}
+use Rattle.icu_trie_core.specs.declared.header.TrieType.{TrieType}
+use Rattle.icu_trie_core.specs.declared.header.TrieType.TheVariants.{Fast, Small}
+
+-- how many cells the fast index has, one for each block of 64 below the fast limit
+abbrev pub fast_index_len : TrieType → ℕ
+fast_index_len Fast = 1024
+fast_index_len Small = 64
+
+-- whether a block of 64 that the fast index names ends outside data of this length
+abbrev pub passes_data : TrieType → List ℕ → ℕ → Bool
+passes_data trie_type index len = list_any (λ offset. nat_lt len (offset + 64)) (take (fast_index_len trie_type) index)

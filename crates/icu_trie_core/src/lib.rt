@@ -1,0 +1,22 @@
+//! The format of ICU's code point tries, as code over any index and data.
+//!
+//! - `header`: the trie's type and what it says of itself
+//! - `value`: what a trie can hold, [`TrieValue`](value::TrieValue)
+//! - `cells`: index and data cell by cell, with the count of reads
+//! - `lookup`: [`look_up`](lookup::look_up), the format as code, and [`look_up_whole`](lookup::look_up_whole), which
+//!   tests no place on the fast path
+//! - `walk`: [`walk`](walk::walk), the range of one value from a code point on, by blocks
+//! - `range`: [`CodePointMapRange`](range::CodePointMapRange), what a walk gives
+//! - `error`, `impl_const`: why parts are refused; the format's numbers
+//!
+//! Where the cells are kept is left open: the crate `icu_trie` has the trie over packed vectors.
+#![tactic(auto)]
+
+pub mod cells;
+pub mod error;
+pub mod header;
+pub mod impl_const;
+pub mod lookup;
+pub mod range;
+pub mod value;
+pub mod walk;

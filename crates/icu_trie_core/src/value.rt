@@ -1,0 +1,198 @@
+//! The values of a trie.
+ghost use Rattle.std.specs.Prelude.{◌≡◌, ℕ, ◌^◌, ◌↔◌, IsTrue, IfOk, OnErr, Option, Some, None};
+ghost use Rattle.std.specs.Int.{w8, w16, w32, cast_unsigned};
+ghost use Rattle.icu_trie_core.specs.Numbers.{fitting};
+ghost use Rattle.icu_trie_core.specs.SignedNumbers.{signed_fitting, character};
+
+use icu_zerovec::ule::AsULE;
+use thiserror::Error;
+
+/// A value that a trie can hold: a packed value with a number of 32 bits.
+///
+/// A type of your own is lawful where the number of each value gives the value back, and where values are
+/// equal exactly if their numbers are.
+pub trait TrieValue: AsULE + Eq {
+    /// What a number that is no value's is refused with.
+    type TryFromU32Error: Drop;
+
+    /// The number of a value.
+    ghost number: { Self → ℕ };
+
+    /// The value of a number, if it has one.
+    ghost of_number: { ℕ → Option Self };
+
+    /// The number of the value.
+    fn to_u32(self) -> u32
+        ensures { result ≡ number self };
+
+    /// The value of this number, an error where it is no value's.
+    fn try_from_u32(i: u32) -> Result<Self, Self::TryFromU32Error>
+        ensures ok { IfOk result (λ value. of_number i ≡ Some value) }
+        ensures err { OnErr result (of_number i ≡ None) };
+
+    /// The number of a value gives the value back.
+    ghost number_gives_back: { (x : Self) → Self.is_value x → of_number (number x) ≡ Some x };
+
+    /// Values are equal exactly if their numbers are.
+    ghost equal_by_number: { (x y : Self) → Self.is_value x → Self.is_value y → IsTrue (Self.eq x y) ↔ (number x ≡ number y) };
+}
+
+/// The number is no value's.
+#[derive(Clone, Copy, Debug, PartialEq, Eq, Error)]
+#[error("the number is no value of the type")]
+pub struct NotAValue;
+
+impl TrieValue for u8 {
+    ghost use Rattle.icu_trie_core.specs.Numbers.{fitting-small, equal_numbers};
+
+    type TryFromU32Error = NotAValue;
+
+    ghost number = { λ x. x };
+
+    ghost of_number = { fitting (2 ^ 8) };
+
+    fn to_u32(self) -> u32 {
+        u32::from(self)
+    }
+
+    fn try_from_u32(i: u32) -> Result<Self, NotAValue> {
+        u8::try_from(i).map_err(|_| NotAValue)
+    }
+
+    ghost number_gives_back = { fitting-small (2 ^ 8) };
+
+    ghost equal_by_number = { λ x y _ _. equal_numbers x y };
+}
+
+impl TrieValue for u16 {
+    ghost use Rattle.icu_trie_core.specs.Numbers.{fitting-small, equal_numbers};
+
+    type TryFromU32Error = NotAValue;
+
+    ghost number = { λ x. x };
+
+    ghost of_number = { fitting (2 ^ 16) };
+
+    fn to_u32(self) -> u32 {
+        u32::from(self)
+    }
+
+    fn try_from_u32(i: u32) -> Result<Self, NotAValue> {
+        u16::try_from(i).map_err(|_| NotAValue)
+    }
+
+    ghost number_gives_back = { fitting-small (2 ^ 16) };
+
+    ghost equal_by_number = { λ x y _ _. equal_numbers x y };
+}
+
+impl TrieValue for u32 {
+    ghost use Rattle.icu_trie_core.specs.Numbers.{fitting-small, equal_numbers};
+
+    type TryFromU32Error = NotAValue;
+
+    ghost number = { λ x. x };
+
+    ghost of_number = { fitting (2 ^ 32) };
+
+    fn to_u32(self) -> u32 {
+        self
+    }
+
+    fn try_from_u32(i: u32) -> Result<Self, NotAValue> {
+        Ok(i)
+    }
+
+    ghost number_gives_back = { fitting-small (2 ^ 32) };
+
+    ghost equal_by_number = { λ x y _ _. equal_numbers x y };
+}
+
+impl TrieValue for i8 {
+    ghost use Rattle.icu_trie_core.specs.SignedNumbers.{back_i8, equal_i8};
+
+    type TryFromU32Error = NotAValue;
+
+    ghost number = { cast_unsigned w32 };
+
+    ghost of_number = { signed_fitting (2 ^ 7) };
+
+    fn to_u32(self) -> u32 {
+        i32::from(self).cast_unsigned()
+    }
+
+    fn try_from_u32(i: u32) -> Result<Self, NotAValue> {
+        i8::try_from(i.cast_signed()).map_err(|_| NotAValue)
+    }
+
+    ghost number_gives_back = { back_i8 };
+
+    ghost equal_by_number = { equal_i8 };
+}
+
+impl TrieValue for i16 {
+    ghost use Rattle.icu_trie_core.specs.SignedNumbers.{back_i16, equal_i16};
+
+    type TryFromU32Error = NotAValue;
+
+    ghost number = { cast_unsigned w32 };
+
+    ghost of_number = { signed_fitting (2 ^ 15) };
+
+    fn to_u32(self) -> u32 {
+        i32::from(self).cast_unsigned()
+    }
+
+    fn try_from_u32(i: u32) -> Result<Self, NotAValue> {
+        i16::try_from(i.cast_signed()).map_err(|_| NotAValue)
+    }
+
+    ghost number_gives_back = { back_i16 };
+
+    ghost equal_by_number = { equal_i16 };
+}
+
+impl TrieValue for i32 {
+    ghost use Rattle.icu_trie_core.specs.SignedNumbers.{back_i32, equal_i32};
+
+    type TryFromU32Error = NotAValue;
+
+    ghost number = { cast_unsigned w32 };
+
+    ghost of_number = { signed_fitting (2 ^ 31) };
+
+    fn to_u32(self) -> u32 {
+        self.cast_unsigned()
+    }
+
+    fn try_from_u32(i: u32) -> Result<Self, NotAValue> {
+        Ok(i.cast_signed())
+    }
+
+    ghost number_gives_back = { back_i32 };
+
+    ghost equal_by_number = { equal_i32 };
+}
+
+impl TrieValue for char {
+    ghost use Rattle.icu_trie_core.specs.Numbers.{equal_numbers};
+    ghost use Rattle.icu_trie_core.specs.SignedNumbers.{back_character};
+
+    type TryFromU32Error = NotAValue;
+
+    ghost number = { λ c. c };
+
+    ghost of_number = { character };
+
+    fn to_u32(self) -> u32 {
+        u32::from(self)
+    }
+
+    fn try_from_u32(i: u32) -> Result<Self, NotAValue> {
+        char::from_u32(i).ok_or(NotAValue)
+    }
+
+    ghost number_gives_back = { back_character };
+
+    ghost equal_by_number = { λ x y _ _. equal_numbers x y };
+}
