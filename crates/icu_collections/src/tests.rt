@@ -6,6 +6,7 @@ mod getters;
 mod mapped;
 mod packed_vectors;
 mod ranges;
+mod reads;
 mod refused_memory;
 mod refused_parts;
 mod texts;

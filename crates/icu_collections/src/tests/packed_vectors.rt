@@ -66,7 +66,7 @@ impl AsULE for Side {
 }
 
 impl TrieValue for Side {
-    ghost use Rattle.icu_trie.specs.Numbers.{fitting, fitting-small, equal_numbers};
+    ghost use Rattle.icu_trie_core.specs.Numbers.{fitting, fitting-small, equal_numbers};
 
     type TryFromU32Error = NotAValue;
 

@@ -1,0 +1,165 @@
+//! How many cells one walk reads, by cells of a test's own over the parts of built tries.
+ghost use Rattle.std.specs.Prelude.{◌≡◌, ◌<◌};
+ghost use Rattle.icu_zerovec.specs.Slice.{slice_values};
+
+use crate::codepointtrie::{
+    Cells, CodePointMapRange, CodePointTrie, Steps, TrieType, TrieValue, Write, build_from_writes,
+    walk,
+};
+use crate::zerovec::ZeroSlice;
+use std::alloc::Global;
+use std::fmt::Debug;
+use std::marker::Brand;
+use std::process::Abort;
+use std::sync::ledger::{Blank, Ledger};
+use std::test::Fail;
+
+const BOTH: [TrieType; 2] = [TrieType::Fast, TrieType::Small];
+
+/// The most cells that one walk over a built trie reads.
+const MOST_READS: u64 = 6_000;
+
+fn built<T: TrieValue>(
+    rt: &impl Abort,
+    alloc: Global,
+    trie_type: TrieType,
+    values: (T, T),
+    writes: &[Write<T>],
+) -> CodePointTrie<'static, T> {
+    match build_from_writes(alloc, values.0, values.1, trie_type, writes) {
+        Ok(trie) => trie,
+        Err(_) => panic!(rt; "not built"),
+    }
+}
+
+/// The cells of a trie's parts, with a count that can be shown.
+#[derive(Drop)]
+struct CountedParts<'a, T: TrieValue, L: Ledger> {
+    index: ZeroSlice<'a, u16>,
+    values: ZeroSlice<'a, T>,
+    reads: Steps<L>,
+    shown: u64,
+}
+
+impl<'a, T: TrieValue, L: Ledger> Cells<T> for CountedParts<'a, T, L> {
+    ghost index = { λ cells. slice_values cells.index };
+
+    ghost values = { λ cells. slice_values cells.values };
+
+    ghost reads = { λ cells. cells.reads };
+
+    fn index_len(&self) -> usize {
+        self.index.len()
+    }
+
+    fn data_len(&self) -> usize {
+        self.values.len()
+    }
+
+    fn index_cell(&mut self, i: usize) -> Option<u16> {
+        self.reads.tick();
+        self.shown = self.shown.saturating_add(1);
+        self.index.get(i)
+    }
+
+    fn data_cell(&mut self, i: usize) -> Option<T> {
+        self.reads.tick();
+        self.shown = self.shown.saturating_add(1);
+        self.values.get(i)
+    }
+}
+
+/// The range from `c` on by a walk over cells of the test's own, and how many were read.
+fn walked<T: TrieValue, L: Ledger>(
+    trie: &CodePointTrie<'_, T>,
+    c: u32,
+    blank: Blank,
+) -> (Option<CodePointMapRange<T>>, u64)
+    requires name { blank.name ≡ L.name }
+    requires parts { blank.parts ≡ L.parts }
+    requires some { 0 < blank.parts }
+{
+    let (header, index, values) = trie.parts();
+    let mut cells = CountedParts {
+        index,
+        values,
+        reads: Steps::<L>::new(blank),
+        shown: 0,
+    };
+    let range = walk(&header, &mut cells, c);
+    (range, cells.shown)
+}
+
+/// From each first code point on, the trie has the value up to the last one, and the walk there
+/// reads no more cells than it may. Behind the code points there is no range.
+fn ask<T: TrieValue + Debug>(
+    rt: &impl Abort,
+    trie: &CodePointTrie<'_, T>,
+    expected: &[(u32, Option<(u32, T)>)],
+) {
+    for (first, rest) in expected {
+        let (found, reads) = walked::<T, Brand>(trie, *first, Blank::new(1));
+        let range = rest.map(|(last, value)| CodePointMapRange {
+            range: *first..=last,
+            value,
+        });
+        assert_eq!(rt; found, range, "at {first:x}");
+        assert_eq!(rt; trie.get_range(*first), range, "at {first:x}");
+        assert!(rt; reads <= MOST_READS, "{reads} reads at {first:x}");
+        // The answer lies in the cells, so that a walk with no read has not been counted.
+        assert!(rt; range.is_none() || 0 < reads, "no read at {first:x}");
+    }
+}
+
+/// The trie has one value up to the last code point, which has another: no high start ends the walk
+/// before it.
+fn ask_one_run(rt: &impl Abort, trie: &CodePointTrie<'_, u8>, run: u8, last: u8) {
+    ask(
+        rt,
+        trie,
+        &[
+            (0, Some((0x10FFFE, run))),
+            (0x80, Some((0x10FFFE, run))),
+            (0xFFFF, Some((0x10FFFE, run))),
+            (0x10000, Some((0x10FFFE, run))),
+            (0x10FFFE, Some((0x10FFFE, run))),
+            (0x10FFFF, Some((0x10FFFF, last))),
+            (0x110000, None),
+        ],
+    );
+}
+
+#[test]
+fn reads_of_one_walk(rt: HostRuntime) -> Result<(), Fail> {
+    // Each of 799 blocks of 512 begins with a value of its own, so that no two of them are equal.
+    let mut numbers = Vec::new(rt.alloc());
+    for k in 0u32..799 {
+        numbers.push(Write::One(0x10000 + 512 * k, k + 1))?;
+    }
+    for trie_type in BOTH {
+        let last = [Write::One(0x10FFFF, 1)];
+        let trie = built(&rt, rt.alloc(), trie_type, (0u8, 9), &last);
+        ask_one_run(&rt, &trie, 0, 1);
+        // The run has not the default value: its blocks are no null blocks, which need no read.
+        let all = [Write::Range(0..=0x10FFFE, 1), Write::One(0x10FFFF, 2)];
+        let trie = built(&rt, rt.alloc(), trie_type, (0u8, 9), &all);
+        ask_one_run(&rt, &trie, 1, 2);
+        let trie = built(&rt, rt.alloc(), trie_type, (0, 9), &numbers);
+        ask(
+            &rt,
+            &trie,
+            &[
+                (0, Some((0xFFFF, 0))),
+                (0x80, Some((0xFFFF, 0))),
+                (0xFFFF, Some((0xFFFF, 0))),
+                (0x10000, Some((0x10000, 1))),
+                (0x10001, Some((0x101FF, 0))),
+                (0x73C00, Some((0x73C00, 799))),
+                (0x73C01, Some((0x10FFFF, 0))),
+                (0x10FFFF, Some((0x10FFFF, 0))),
+                (0x110000, None),
+            ],
+        );
+    }
+    Ok(())
+}
