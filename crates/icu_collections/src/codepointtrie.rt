@@ -8,7 +8,7 @@ pub use icu_trie::cptrie::CodePointTrie;
 pub use icu_trie::error::{CodePointTrieError, ConvertError};
 pub use icu_trie::header::{CodePointTrieHeader, TrieType};
 pub use icu_trie::impl_const;
-pub use icu_trie::lookup::look_up;
+pub use icu_trie::lookup::{look_up, look_up_whole};
 pub use icu_trie::map_value::MapError;
 pub use icu_trie::mapped_ranges::IterRangesMapped;
 pub use icu_trie::ranges::{CodePointMapRange, CodePointMapRangeIterator};

@@ -27,6 +27,9 @@ fn expect_values<T: AsULE + Debug + PartialEq>(rt: &impl Abort, bytes: &[u8], va
     for (i, value) in values.iter().enumerate() {
         assert_eq!(rt; vector.get(i), Some(*value), "at {i} of {bytes:?}");
         assert_eq!(rt; view.get(i), Some(*value), "at {i} of {bytes:?}");
+        if i < view.len() {
+            assert_eq!(rt; view.at(i), *value, "at {i} of {bytes:?}");
+        }
     }
     assert_eq!(rt; vector.get(values.len()), None);
     assert_eq!(rt; view.get(values.len()), None);

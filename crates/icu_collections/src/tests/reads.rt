@@ -1,10 +1,10 @@
-//! How many cells one walk reads, by cells of a test's own over the parts of built tries.
+//! How many cells one walk and one look-up read, by cells of a test's own over the parts of built tries.
 ghost use Rattle.std.specs.Prelude.{◌≡◌, ◌<◌};
 ghost use Rattle.icu_zerovec.specs.Slice.{slice_values};
 
 use crate::codepointtrie::{
     Cells, CodePointMapRange, CodePointTrie, Steps, TrieType, TrieValue, Write, build_from_writes,
-    walk,
+    look_up_whole, walk,
 };
 use crate::zerovec::ZeroSlice;
 use std::alloc::Global;
@@ -18,6 +18,9 @@ const BOTH: [TrieType; 2] = [TrieType::Fast, TrieType::Small];
 
 /// The most cells that one walk over a built trie reads.
 const MOST_READS: u64 = 6_000;
+
+/// The most cells that one look-up reads.
+const MOST_READS_OF_LOOK_UP: u64 = 5;
 
 fn built<T: TrieValue>(
     rt: &impl Abort,
@@ -90,6 +93,27 @@ fn walked<T: TrieValue, L: Ledger>(
     (range, cells.shown)
 }
 
+/// The cell of `c` by cells of the test's own, and how many were read.
+fn looked_up<T: TrieValue, L: Ledger>(
+    trie: &CodePointTrie<'_, T>,
+    c: u32,
+    blank: Blank,
+) -> (Option<T>, u64)
+    requires name { blank.name ≡ L.name }
+    requires parts { blank.parts ≡ L.parts }
+    requires some { 0 < blank.parts }
+{
+    let (header, index, values) = trie.parts();
+    let mut cells = CountedParts {
+        index,
+        values,
+        reads: Steps::<L>::new(blank),
+        shown: 0,
+    };
+    let value = look_up_whole(&header, &mut cells, c);
+    (value, cells.shown)
+}
+
 /// From each first code point on, the trie has the value up to the last one, and the walk there
 /// reads no more cells than it may. Behind the code points there is no range.
 fn ask<T: TrieValue + Debug>(
@@ -106,6 +130,9 @@ fn ask<T: TrieValue + Debug>(
         assert_eq!(rt; found, range, "at {first:x}");
         assert_eq!(rt; trie.get_range(*first), range, "at {first:x}");
         assert!(rt; reads <= MOST_READS, "{reads} reads at {first:x}");
+        let (found, few) = looked_up::<T, Brand>(trie, *first, Blank::new(1));
+        assert_eq!(rt; found, rest.map(|(_, value)| value), "at {first:x}");
+        assert!(rt; few <= MOST_READS_OF_LOOK_UP, "{few} reads at {first:x}");
         // The answer lies in the cells, so that a walk with no read has not been counted.
         assert!(rt; range.is_none() || 0 < reads, "no read at {first:x}");
     }
