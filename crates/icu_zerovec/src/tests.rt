@@ -14,38 +14,74 @@ fn hash_of<T: Hash>(x: &T) -> u64 {
     state.finish()
 }
 
+/// The values stand at their places, and none behind them.
+fn expect_places<T: AsULE + Debug + PartialEq>(
+    rt: &impl Abort,
+    vector: &ZeroVec<'_, T>,
+    values: &[T],
+) {
+    let view = vector.as_slice();
+    for (i, value) in values.iter().enumerate() {
+        assert_eq!(rt; vector.get(i), Some(*value), "at {i}");
+        assert_eq!(rt; view.get(i), Some(*value), "at {i}");
+        if i < view.len() {
+            assert_eq!(rt; view.at(i), *value, "at {i}");
+        }
+    }
+    assert_eq!(rt; vector.get(values.len()), None);
+    assert_eq!(rt; view.get(values.len()), None);
+}
+
+/// The first and the last value, and how many there are.
+fn expect_ends<T: AsULE + Debug + PartialEq>(
+    rt: &impl Abort,
+    vector: &ZeroVec<'_, T>,
+    values: &[T],
+) {
+    assert_eq!(rt; vector.len(), values.len());
+    assert_eq!(rt; vector.is_empty(), values.is_empty());
+    assert_eq!(rt; vector.first(), values.first().copied());
+    assert_eq!(rt; vector.last(), values.last().copied());
+}
+
+/// The same of a view.
+fn expect_ends_of_view<T: AsULE + Debug + PartialEq>(
+    rt: &impl Abort,
+    view: ZeroSlice<'_, T>,
+    values: &[T],
+) {
+    assert_eq!(rt; view.len(), values.len());
+    assert_eq!(rt; view.is_empty(), values.is_empty());
+    assert_eq!(rt; view.first(), values.first().copied());
+    assert_eq!(rt; view.last(), values.last().copied());
+}
+
+/// The values, one after another.
+fn expect_items<T: AsULE + Debug + PartialEq>(
+    rt: &impl Abort,
+    vector: &ZeroVec<'_, T>,
+    values: &[T],
+) {
+    assert_eq!(rt; vector.iter().len(), values.len());
+    for (value, want) in vector.iter().zip(values.iter()) {
+        assert_eq!(rt; value, *want);
+    }
+    for (value, want) in vector.as_slice().iter().zip(values.iter()) {
+        assert_eq!(rt; value, *want);
+    }
+}
+
 /// These bytes are these values, whichever call reads them.
 fn expect_values<T: AsULE + Debug + PartialEq>(rt: &impl Abort, bytes: &[u8], values: &[T]) {
     let Ok(vector) = ZeroVec::<T>::parse_bytes(bytes) else {
         panic!(rt; "{bytes:?} is refused");
     };
-    let view = vector.as_slice();
-    assert_eq!(rt; vector.len(), values.len());
-    assert_eq!(rt; view.len(), values.len());
-    assert_eq!(rt; vector.is_empty(), values.is_empty());
-    assert_eq!(rt; view.is_empty(), values.is_empty());
-    for (i, value) in values.iter().enumerate() {
-        assert_eq!(rt; vector.get(i), Some(*value), "at {i} of {bytes:?}");
-        assert_eq!(rt; view.get(i), Some(*value), "at {i} of {bytes:?}");
-        if i < view.len() {
-            assert_eq!(rt; view.at(i), *value, "at {i} of {bytes:?}");
-        }
-    }
-    assert_eq!(rt; vector.get(values.len()), None);
-    assert_eq!(rt; view.get(values.len()), None);
-    assert_eq!(rt; vector.first(), values.first().copied());
-    assert_eq!(rt; view.first(), values.first().copied());
-    assert_eq!(rt; vector.last(), values.last().copied());
-    assert_eq!(rt; view.last(), values.last().copied());
     assert_eq!(rt; vector.as_bytes(), bytes);
-    assert_eq!(rt; view.as_bytes(), bytes);
-    assert_eq!(rt; vector.iter().len(), values.len());
-    for (value, want) in vector.iter().zip(values.iter()) {
-        assert_eq!(rt; value, *want);
-    }
-    for (value, want) in view.iter().zip(values.iter()) {
-        assert_eq!(rt; value, *want);
-    }
+    assert_eq!(rt; vector.as_slice().as_bytes(), bytes);
+    expect_places(rt, &vector, values);
+    expect_ends(rt, &vector, values);
+    expect_ends_of_view(rt, vector.as_slice(), values);
+    expect_items(rt, &vector, values);
 }
 
 /// Values that own their bytes have these bytes, and are equal to those that borrow them.
