@@ -189,7 +189,7 @@ pub struct CodePointTrie<'trie, T: TrieValue> {
     pub(crate) header: CodePointTrieHeader,
     pub(crate) index: ZeroVec<'trie, u16>,
     pub(crate) data: ZeroVec<'trie, T>,
-    // The last cell of the data, kept beside them since every look-up may need it.
+    // The last cell of the data, which `error_value` answers without a read.
     pub(crate) error_value: T,
 }
 
