@@ -32,7 +32,5 @@ mod place;
 mod step;
 mod task;
 mod tasks;
-#[cfg(test)]
-mod tests;
 pub mod trie;
 mod write;

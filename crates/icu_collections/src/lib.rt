@@ -19,6 +19,3 @@ pub use icu_invlist::codepointinvlist;
 pub use icu_text_sets::codepointinvliststringlist;
 pub use icu_trie::iterator_utils;
 pub use icu_zerovec as zerovec;
-
-#[cfg(test)]
-mod tests;

@@ -19,5 +19,3 @@ pub mod codepointinvlist;
 mod fill;
 mod merge;
 mod spelling;
-#[cfg(test)]
-mod tests;

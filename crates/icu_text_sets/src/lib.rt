@@ -10,5 +10,3 @@
 #![tactic(auto)]
 
 pub mod codepointinvliststringlist;
-#[cfg(test)]
-mod tests;

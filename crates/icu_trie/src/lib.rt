@@ -24,8 +24,6 @@ pub mod mapped_ranges;
 mod packed_cell;
 pub mod ranges;
 pub mod ranges_of_value;
-#[cfg(test)]
-mod tests;
 pub mod typed;
 
 pub use icu_trie_core::{cells, header, impl_const, lookup, value, walk};

@@ -26,8 +26,6 @@ mod high_start;
 mod index;
 mod numbers;
 mod packing;
-#[cfg(test)]
-mod tests;
 pub mod writes;
 
 pub use build::build_from_writes;

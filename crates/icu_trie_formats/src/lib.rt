@@ -10,6 +10,4 @@
 
 pub mod json;
 pub mod planes;
-#[cfg(test)]
-mod tests;
 pub mod trie_toml;

@@ -24,8 +24,6 @@ pub mod iter;
 pub mod memory;
 mod numbers;
 pub mod slice;
-#[cfg(test)]
-mod tests;
 pub mod ule;
 pub mod vec;
 

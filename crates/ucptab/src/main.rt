@@ -3,18 +3,16 @@
 
 ghost use Rattle.std.specs.Prelude.{◌≡◌, ◌<◌};
 
-mod table;
-
-use crate::table::fault::TableError;
-use crate::table::streams::{Failed, Sink, Source};
-use crate::table::text::write_fault;
-use crate::table::{run_words, write_usage};
-use icu_collections::codepointtrie::Steps;
+use icu_trie_core::cells::Steps;
 use std::env;
 use std::io::{Read, Write};
 use std::marker::Brand;
 use std::process::ExitCode;
 use std::sync::ledger::{Blank, Ledger};
+use ucptab_table::fault::TableError;
+use ucptab_table::streams::{Failed, Sink, Source};
+use ucptab_table::text::write_fault;
+use ucptab_table::{run_words, write_usage};
 
 /// A reader, with a count of its failures.
 #[derive(Drop)]

@@ -1,0 +1,11 @@
+//! What no clause says of built tries: examples whose answers come from outside, printed texts, sizes, each
+//! public call on its happy path, and refused memory.
+
+mod built_tries;
+mod getters;
+mod mapped;
+mod ranges;
+mod refused_memory;
+mod sizes;
+mod support;
+mod texts;

@@ -1,0 +1,82 @@
+//! How many cells a built trie has, and which maps are too large.
+
+use crate::tests::support::{BOTH, built, expect, expect_numbers, own_numbers};
+use icu_collections::codepointtrie::{
+    BuildError, CodePointTrie, TrieType, Write, build_from_writes,
+};
+use std::alloc::{AllocError, Global};
+use std::process::Abort;
+use std::test::Fail;
+
+/// The trie has at most so many cells of data.
+fn expect_data(rt: &impl Abort, trie: &CodePointTrie<'_, u32>, most: usize) {
+    let (_, _, data) = trie.parts();
+    let found = data.len();
+    assert!(rt; found <= most, "{found} cells of data");
+}
+
+/// 12,000 different blocks of 16 values are no reason to refuse a map, nor does it take long to find which
+/// are equal.
+#[test]
+fn twelve_thousand_small_blocks(rt: HostRuntime) -> Result<(), Fail> {
+    let writes = own_numbers(rt.alloc(), 0x10000, 0x3EDEF)?;
+    let trie = built(&rt, TrieType::Fast, (0, 9), &writes);
+    expect_data(&rt, &trie, 192_224);
+    let expected = [(0x10000, 0x10000), (0x3EDEF, 0x3EDEF), (0x3EDF0, 0), (0, 0)];
+    expect_numbers(&rt, trie, &expected);
+    Ok(())
+}
+
+/// The writes of another value in each of 799 blocks of 512.
+fn distant_writes(alloc: Global) -> Result<Vec<Write<u32>>, AllocError> {
+    let mut writes = Vec::new(alloc);
+    for k in 0..799u32 {
+        writes.push(Write::One(0x10000 + 512 * k, k + 1))?;
+    }
+    Ok(writes)
+}
+
+/// Of 800 different blocks of 512 values each a map is not refused, and its data stay small.
+#[test]
+fn eight_hundred_blocks(rt: HostRuntime) -> Result<(), Fail> {
+    let writes = distant_writes(rt.alloc())?;
+    let trie = built(&rt, TrieType::Fast, (0, 9), &writes);
+    expect_data(&rt, &trie, 13_024);
+    expect_numbers(&rt, trie, &[(0x73C00, 799)]);
+    Ok(())
+}
+
+/// The writes of another value at each code point.
+fn writes_everywhere(alloc: Global) -> Result<Vec<Write<u32>>, AllocError> {
+    let mut writes = Vec::new(alloc);
+    for c in 0u32..0x110000 {
+        writes.push(Write::One(c, c + 1))?;
+    }
+    Ok(writes)
+}
+
+/// A map of as many different values as there are code points has no trie.
+#[test]
+fn too_large(rt: HostRuntime) -> Result<(), Fail> {
+    let writes = writes_everywhere(rt.alloc())?;
+    for trie_type in BOTH {
+        let refused = build_from_writes(rt.alloc(), 0, 9, trie_type, &writes).err();
+        expect(&rt, refused == Some(BuildError::TooLarge), "too large");
+    }
+    Ok(())
+}
+
+/// Index and data of the trie of one number for all.
+fn expect_least(rt: &impl Abort, trie: CodePointTrie<'_, u32>) {
+    let (_, index, data) = trie.parts();
+    let found = (index.len(), data.len());
+    assert_eq!(rt; found, (64, 66));
+}
+
+/// The smallest trie: one number for all, by a write or as the default.
+#[test]
+fn one_number_for_all(rt: HostRuntime) {
+    let writes = [Write::Range(0..=0x10FFFF, 7)];
+    expect_least(&rt, built(&rt, TrieType::Small, (0, 9), &writes));
+    expect_least(&rt, built(&rt, TrieType::Small, (7, 9), &[]));
+}

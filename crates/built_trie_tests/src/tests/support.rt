@@ -1,0 +1,69 @@
+//! What the tests share: tries that are built of writes, and what is expected of them.
+
+use icu_collections::codepointtrie::{
+    CodePointMapRange, CodePointTrie, TrieType, TrieValue, Write, build_from_writes,
+};
+use std::alloc::{AllocError, Global};
+use std::process::Abort;
+
+pub const BOTH: [TrieType; 2] = [TrieType::Fast, TrieType::Small];
+
+/// The trie of these writes over the first of the two values, with the second as its error value.
+pub fn built<T: TrieValue>(
+    rt: &(impl Abort + AllocGlobal),
+    trie_type: TrieType,
+    values: (T, T),
+    writes: &[Write<T>],
+) -> CodePointTrie<'static, T> {
+    match build_from_writes(rt.alloc(), values.0, values.1, trie_type, writes) {
+        Ok(trie) => trie,
+        Err(_) => panic!(rt; "not built"),
+    }
+}
+
+/// The writes of `c` at each code point `c` from `first` to `last`.
+pub fn own_numbers(alloc: Global, first: u32, last: u32) -> Result<Vec<Write<u32>>, AllocError> {
+    let mut writes = Vec::new(alloc);
+    for c in first..=last {
+        writes.push(Write::One(c, c))?;
+    }
+    Ok(writes)
+}
+
+/// What is said holds.
+pub fn expect(rt: &impl Abort, holds: bool, what: &str) {
+    assert!(rt; holds, "{what}");
+}
+
+/// The number that is found at this code point is the wanted one.
+pub fn expect_number(rt: &impl Abort, c: u32, found: u32, wanted: u32) {
+    assert_eq!(rt; found, wanted, "at {c:x}");
+}
+
+/// The value at each of these code points has this number.
+pub fn expect_numbers<T: TrieValue>(
+    rt: &impl Abort,
+    trie: CodePointTrie<'_, T>,
+    expected: &[(u32, u32)],
+) {
+    for (c, number) in expected {
+        expect_number(rt, *c, trie.get32(*c).to_u32(), *number);
+    }
+}
+
+/// The range has these first and last code points and this value.
+fn is_range(range: &CodePointMapRange<u8>, wanted: (u32, u32, u8)) -> bool {
+    let (first, last, value) = wanted;
+    range.range == (first..=last) && range.value == value
+}
+
+/// The trie has these ranges, each with its first and last code point and its value, and no more.
+pub fn expect_ranges(rt: &impl Abort, trie: CodePointTrie<'_, u8>, expected: &[(u32, u32, u8)]) {
+    let mut found = 0;
+    for range in trie.iter_ranges() {
+        assert!(rt; found < expected.len(), "more than {found} ranges");
+        assert!(rt; is_range(&range, expected[found]), "range {found}");
+        found += 1;
+    }
+    assert!(rt; found == expected.len(), "{found} ranges");
+}

@@ -1,4 +1,0 @@
-//! What no clause says: each code point's plane, texts, and refused memory.
-mod json;
-mod planes;
-mod trie_toml;

@@ -1,0 +1,89 @@
+//! Vectors are equal, and hash alike, by their lists of values, whoever owns the bytes.
+use crate::tests::support::{expect_bytes, expect_of, hash_of};
+use icu_zerovec::ule::AsULE;
+use icu_zerovec::{ZeroSlice, ZeroVec};
+use std::fmt::Debug;
+use std::process::Abort;
+use std::test::Fail;
+
+/// A vector and its view are equal to another vector, and hash as that one does.
+fn expect_equal<T: AsULE>(
+    rt: &impl Abort,
+    vector: &ZeroVec<'_, T>,
+    lent: &ZeroVec<'_, T>,
+    bytes: &[u8],
+) {
+    let view = vector.as_slice();
+    let hash = hash_of(lent);
+    expect_of(rt, *vector == *lent, "an equal vector", bytes);
+    expect_of(rt, view == lent.as_slice(), "an equal view", bytes);
+    expect_of(rt, hash_of(vector) == hash, "the hash of a vector", bytes);
+    expect_of(rt, hash_of(&view) == hash, "the hash of a view", bytes);
+}
+
+/// A vector has these bytes, and is equal to the one that borrows them.
+fn expect_like_lent<T: AsULE>(
+    rt: &impl Abort,
+    vector: ZeroVec<'_, T>,
+    bytes: &[u8],
+) -> Result<(), Fail> {
+    expect_bytes(rt, vector.as_bytes(), bytes);
+    let lent = ZeroVec::<T>::parse_bytes(bytes)?;
+    expect_equal(rt, &vector, &lent, bytes);
+    Ok(())
+}
+
+/// A copy of a view, and the vector that it gives, are equal to what it views.
+fn expect_copies<T: AsULE>(
+    rt: &impl Abort,
+    view: ZeroSlice<'_, T>,
+    bytes: &[u8],
+) -> Result<(), Fail> {
+    let copy = view;
+    expect_of(rt, copy == view.clone()?, "a cloned view", bytes);
+    let lent = ZeroVec::<T>::parse_bytes(bytes)?;
+    expect_of(rt, copy.as_zerovec() == lent, "the vector of a view", bytes);
+    Ok(())
+}
+
+/// Values that own their bytes have these bytes, and are equal to those that borrow them.
+pub fn expect_owned<T: AsULE + Debug>(
+    rt: &(impl Abort + AllocGlobal),
+    bytes: &[u8],
+    values: &[T],
+) -> Result<(), Fail> {
+    let packed = ZeroVec::alloc_from_slice(rt.alloc(), values)?;
+    expect_copies(rt, packed.as_slice(), bytes)?;
+    expect_like_lent(rt, packed, bytes)?;
+    let cloned = ZeroVec::<T>::parse_bytes(bytes)?.try_clone(rt.alloc())?;
+    expect_like_lent(rt, cloned, bytes)?;
+    let owned = ZeroVec::<T>::parse_bytes(bytes)?.into_owned(rt.alloc())?;
+    expect_like_lent(rt, owned, bytes)
+}
+
+/// Two vectors, and their views, are unequal, and hash differently.
+fn expect_unequal(rt: &impl Abort, one: &ZeroVec<'_, u16>, other: &ZeroVec<'_, u16>, bytes: &[u8]) {
+    expect_of(rt, *one != *other, "another vector", bytes);
+    expect_of(
+        rt,
+        one.as_slice() != other.as_slice(),
+        "another view",
+        bytes,
+    );
+    expect_of(rt, hash_of(one) != hash_of(other), "another hash", bytes);
+}
+
+#[test]
+fn unequal_lists(rt: HostRuntime) -> Result<(), Fail> {
+    for bytes in [
+        [].as_slice(),
+        [0, 1].as_slice(),
+        [1, 0, 0, 0].as_slice(),
+        [1, 0, 1, 0].as_slice(),
+    ] {
+        let one = ZeroVec::<u16>::parse_bytes(&[1, 0])?;
+        let other = ZeroVec::<u16>::parse_bytes(bytes)?;
+        expect_unequal(&rt, &one, &other, bytes);
+    }
+    Ok(())
+}

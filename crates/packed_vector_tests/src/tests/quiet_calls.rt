@@ -1,0 +1,130 @@
+//! No call that has no allocator takes memory, nor does `into_owned` where the vector owns its bytes already,
+//! also once it was converted. The script `tests/refused_memory` sees that a test whose name ends in `_quiet`
+//! asks for nothing between the lines `call` and `done`.
+use crate::tests::refused_memory::say;
+use crate::tests::support::{expect, expect_same, hash_of};
+use icu_zerovec::ule::UleError;
+use icu_zerovec::{PotentialCodePoint, ZeroSlice, ZeroVec};
+use std::test::Fail;
+
+/// How many values there are, whether there is none, the second, the first and the last one, and how many come
+/// one after another.
+type Reads = (usize, bool, Option<u32>, Option<u32>, Option<u32>, usize);
+
+/// What a vector of these bytes reads.
+fn reads_of(bytes: &[u8]) -> Result<Reads, UleError> {
+    let lent = ZeroVec::<u32>::parse_bytes(bytes)?;
+    Ok((
+        lent.len(),
+        lent.is_empty(),
+        lent.get(1),
+        lent.first(),
+        lent.last(),
+        lent.iter().count(),
+    ))
+}
+
+/// What a view reads.
+fn reads_of_view(view: ZeroSlice<'_, u32>) -> Reads {
+    (
+        view.len(),
+        view.is_empty(),
+        view.get(1),
+        view.first(),
+        view.last(),
+        view.iter().count(),
+    )
+}
+
+/// What the view of a vector of these bytes reads.
+fn views_of(bytes: &[u8]) -> Result<Reads, UleError> {
+    let lent = ZeroVec::<u32>::parse_bytes(bytes)?;
+    Ok(reads_of_view(lent.as_slice()))
+}
+
+#[test]
+fn reads_quiet(rt: HostRuntime) {
+    let Ok(owner) = ZeroVec::alloc_from_slice(rt.alloc(), &[0x41_u32, 0x42]) else {
+        return;
+    };
+    say(&rt, "call");
+    let reads = reads_of(owner.as_bytes());
+    let views = views_of(owner.as_bytes());
+    say(&rt, "done");
+    let want = Ok((2, false, Some(0x42), Some(0x41), Some(0x42), 2));
+    expect_same(&rt, reads, want, "reads of a vector");
+    expect_same(&rt, views, want, "reads of a view");
+}
+
+/// The place of one number in a vector of these bytes, and that of another in its view.
+fn places_of(bytes: &[u8]) -> Result<(Result<usize, usize>, Result<usize, usize>), UleError> {
+    let lent = ZeroVec::<u32>::parse_bytes(bytes)?;
+    Ok((
+        lent.binary_search(&0x42),
+        lent.as_slice().binary_search(&0x43),
+    ))
+}
+
+#[test]
+fn searches_quiet(rt: HostRuntime) {
+    let Ok(owner) = ZeroVec::alloc_from_slice(rt.alloc(), &[0x41_u32, 0x42]) else {
+        return;
+    };
+    say(&rt, "call");
+    let places = places_of(owner.as_bytes());
+    say(&rt, "done");
+    expect_same(&rt, places, Ok((Ok(1), Err(2))), "places");
+}
+
+/// Whether a vector that borrows the bytes of another is equal to it and hashes as its view does, and whether
+/// the two views, and what they give, are the same.
+fn is_like_its_owner(owner: &ZeroVec<'_, u32>) -> Result<bool, UleError> {
+    let lent = ZeroVec::<u32>::parse_bytes(owner.as_bytes())?;
+    let view = lent.as_slice();
+    let same = lent == *owner && view == owner.as_slice() && view.as_zerovec() == lent;
+    let hashes = hash_of(&lent) == hash_of(&owner.as_slice());
+    Ok(same && hashes && lent.as_bytes() == view.as_bytes())
+}
+
+#[test]
+fn comparisons_quiet(rt: HostRuntime) {
+    let Ok(owner) = ZeroVec::alloc_from_slice(rt.alloc(), &[0x41_u32, 0x42]) else {
+        return;
+    };
+    say(&rt, "call");
+    let alike = is_like_its_owner(&owner);
+    say(&rt, "done");
+    expect_same(&rt, alike, Ok(true), "a vector and its owner");
+}
+
+#[test]
+fn single_values_quiet(rt: HostRuntime) {
+    say(&rt, "call");
+    let refused = ZeroVec::<char>::parse_bytes(&[0, 0xd8, 0]).err();
+    let low = PotentialCodePoint::from_u24(7);
+    let high = PotentialCodePoint::try_from(0x100_0000);
+    say(&rt, "done");
+    expect_same(&rt, refused, Some(UleError::Cell(0)), "a surrogate");
+    expect_same(&rt, u32::from(low), 7, "a low number");
+    expect(&rt, high == Err(0x100_0000), "a number past the highest");
+}
+
+/// The last value of these bytes as numbers with sign.
+fn last_converted(bytes: &[u8]) -> Result<Option<i32>, UleError> {
+    let signed = ZeroVec::<u32>::parse_bytes(bytes)?.try_into_converted::<i32>()?;
+    Ok(signed.last())
+}
+
+#[test]
+fn conversions_quiet(rt: HostRuntime) -> Result<(), Fail> {
+    let Ok(owner) = ZeroVec::alloc_from_slice(rt.alloc(), &[0x41_u32, 0x42]) else {
+        return Ok(());
+    };
+    say(&rt, "call");
+    let last = last_converted(owner.as_bytes());
+    let owned = owner.try_into_converted::<i32>()?.into_owned(rt.alloc())?;
+    say(&rt, "done");
+    expect_same(&rt, owned.first(), Some(0x41), "first");
+    expect_same(&rt, last, Ok(Some(0x42)), "last");
+    Ok(())
+}

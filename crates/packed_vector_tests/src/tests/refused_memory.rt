@@ -1,0 +1,115 @@
+//! Calls whose requests for memory are refused in turn. The script `tests/refused_memory` runs each test whose
+//! name ends in `_refused` with its first, second, .. request refused, until a run refuses nothing: a refusal
+//! between the lines `call` and `done` has to be answered by the line `refused`.
+use crate::tests::support::{expect, expect_bytes, expect_same};
+use icu_zerovec::ule::AsULE;
+use icu_zerovec::{MemoryError, PotentialCodePoint, ZeroVec};
+use std::alloc::Global;
+use std::process::Abort;
+use std::test::Fail;
+
+/// Prints the line.
+pub fn say(rt: &(impl Abort + Print), line: &str) {
+    let printed = println!(rt; "{line}");
+    assert!(rt; printed.is_ok());
+}
+
+/// Says that memory was refused.
+fn say_refused(rt: &(impl Abort + Print), error: MemoryError) {
+    expect_same(rt, error, MemoryError, "the error");
+    say(rt, "refused");
+}
+
+/// The call made a vector of these bytes, or says that memory was refused.
+fn expect_made<T: AsULE>(
+    rt: &(impl Abort + Print),
+    made: Result<ZeroVec<'_, T>, MemoryError>,
+    bytes: &[u8],
+) {
+    match made {
+        Ok(vector) => expect_bytes(rt, vector.as_bytes(), bytes),
+        Err(error) => say_refused(rt, error),
+    }
+}
+
+#[test]
+fn alloc_from_slice_refused(rt: HostRuntime) {
+    let values = [0x1234_u16, 255];
+    say(&rt, "call");
+    let made = ZeroVec::alloc_from_slice(rt.alloc(), &values);
+    say(&rt, "done");
+    expect_made(&rt, made, &[0x34, 0x12, 255, 0]);
+    expect_same(&rt, values, [0x1234, 255], "the values");
+}
+
+/// The refusal of a call that gives the value back, as the crates above convert it.
+fn one_number(alloc: Global, number: u16) -> Result<Vec<u16>, MemoryError> {
+    let mut numbers = Vec::new(alloc);
+    numbers.push(number)?;
+    Ok(numbers)
+}
+
+/// The numbers are these, or memory was refused.
+fn expect_numbers(rt: &(impl Abort + Print), made: Result<Vec<u16>, MemoryError>, want: &[u16]) {
+    match made {
+        Ok(numbers) => assert_eq!(rt; numbers.as_slice(), want),
+        Err(error) => say_refused(rt, error),
+    }
+}
+
+#[test]
+fn push_refused(rt: HostRuntime) {
+    say(&rt, "call");
+    let made = one_number(rt.alloc(), 7);
+    say(&rt, "done");
+    expect_numbers(&rt, made, &[7]);
+}
+
+/// The clone is equal to the vector, which has its bytes still, or memory was refused.
+fn expect_clone(
+    rt: &(impl Abort + Print),
+    vector: &ZeroVec<'_, u16>,
+    cloned: Result<ZeroVec<'_, u16>, MemoryError>,
+) {
+    match cloned {
+        Ok(other) => expect(rt, other == *vector, "an equal vector"),
+        Err(error) => say_refused(rt, error),
+    }
+    expect_bytes(rt, vector.as_bytes(), &[0x34, 0x12, 255, 0]);
+}
+
+#[test]
+fn try_clone_refused(rt: HostRuntime) {
+    let Ok(vector) = ZeroVec::alloc_from_slice(rt.alloc(), &[0x1234_u16, 255]) else {
+        return;
+    };
+    say(&rt, "call");
+    let cloned = vector.try_clone(rt.alloc());
+    say(&rt, "done");
+    expect_clone(&rt, &vector, cloned);
+}
+
+#[test]
+fn into_owned_refused(rt: HostRuntime) -> Result<(), Fail> {
+    let bytes = [0x34, 0x12, 255, 0];
+    let vector = ZeroVec::<u16>::parse_bytes(&bytes)?;
+    say(&rt, "call");
+    let owned = vector.into_owned(rt.alloc());
+    say(&rt, "done");
+    expect_made(&rt, owned, &bytes);
+    expect_bytes(&rt, &bytes, &[0x34, 0x12, 255, 0]);
+    Ok(())
+}
+
+/// A vector that borrows still does once it is converted, so its own bytes take memory.
+#[test]
+fn converted_into_owned_refused(rt: HostRuntime) -> Result<(), Fail> {
+    let bytes = [0x41, 0, 0, 0x42, 0, 0];
+    let points = ZeroVec::<char>::parse_bytes(&bytes)?.try_into_converted::<PotentialCodePoint>()?;
+    say(&rt, "call");
+    let owned = points.into_owned(rt.alloc());
+    say(&rt, "done");
+    expect_made(&rt, owned, &bytes);
+    expect_bytes(&rt, &bytes, &[0x41, 0, 0, 0x42, 0, 0]);
+    Ok(())
+}

@@ -1,0 +1,45 @@
+//! Searched places.
+use crate::tests::support::expect_same;
+use icu_zerovec::ZeroVec;
+use std::process::Abort;
+use std::test::Fail;
+
+/// The place of a number among the tens, in the vector and in its view.
+fn expect_place(rt: &impl Abort, tens: &ZeroVec<'_, u16>, x: u16, want: Result<usize, usize>) {
+    let places = (tens.binary_search(&x), tens.as_slice().binary_search(&x));
+    assert_eq!(rt; places, (want, want), "at {x}");
+}
+
+#[test]
+fn searched_places(rt: HostRuntime) -> Result<(), Fail> {
+    let tens = ZeroVec::<u16>::parse_bytes(&[10, 0, 20, 0, 30, 0, 0, 1])?;
+    for (x, want) in [
+        (10_u16, Ok(0)),
+        (20, Ok(1)),
+        (30, Ok(2)),
+        (256, Ok(3)),
+        (5, Err(0)),
+        (15, Err(1)),
+        (25, Err(2)),
+        (31, Err(3)),
+        (257, Err(4)),
+    ] {
+        expect_place(&rt, &tens, x, want);
+    }
+    Ok(())
+}
+
+#[test]
+fn searched_place_in_no_values(rt: HostRuntime) -> Result<(), Fail> {
+    let found = ZeroVec::<u8>::parse_bytes(&[])?.binary_search(&7);
+    expect_same(&rt, found, Err(0), "7 in no values");
+    Ok(())
+}
+
+#[test]
+fn searched_places_of_signed_numbers(rt: HostRuntime) -> Result<(), Fail> {
+    let signed = ZeroVec::<i8>::parse_bytes(&[0x80, 0xff, 0, 0x7f])?;
+    expect_same(&rt, signed.binary_search(&-1), Ok(1), "-1");
+    expect_same(&rt, signed.binary_search(&-2), Err(1), "-2");
+    Ok(())
+}

@@ -1,0 +1,58 @@
+//! Printed texts of vectors and of errors.
+use crate::tests::support::expect_same;
+use icu_zerovec::ule::UleError;
+use icu_zerovec::{MemoryError, ZeroVec};
+use std::fmt::{Debug, Display};
+use std::process::Abort;
+use std::test::Fail;
+
+/// The text is the other one.
+fn expect_text(rt: &impl Abort, text: String, want: &str) {
+    assert_eq!(rt; text.as_str(), want);
+}
+
+/// A value is shown so, as for one who looks for a fault.
+fn expect_shown<T: Debug>(
+    rt: &(impl Abort + AllocGlobal),
+    shown: &T,
+    want: &str,
+) -> Result<(), Fail> {
+    expect_text(rt, format!(in rt.alloc(); "{shown:?}")?, want);
+    Ok(())
+}
+
+/// An error is told so.
+fn expect_told<T: Display>(
+    rt: &(impl Abort + AllocGlobal),
+    told: &T,
+    want: &str,
+) -> Result<(), Fail> {
+    expect_text(rt, format!(in rt.alloc(); "{told}")?, want);
+    Ok(())
+}
+
+#[test]
+fn shown_as_lists(rt: HostRuntime) -> Result<(), Fail> {
+    let vector = ZeroVec::<u16>::parse_bytes(&[0x34, 0x12, 255, 0])?;
+    expect_shown(&rt, &vector, "[4660, 255]")?;
+    expect_shown(&rt, &vector.as_slice(), "[4660, 255]")
+}
+
+#[test]
+fn rest_shown_as_a_list(rt: HostRuntime) -> Result<(), Fail> {
+    let vector = ZeroVec::<u16>::parse_bytes(&[0x34, 0x12, 255, 0])?;
+    let mut left = vector.iter();
+    expect_same(&rt, left.next(), Some(0x1234), "the first value");
+    expect_shown(&rt, &left, "[255]")
+}
+
+#[test]
+fn errors_as_text(rt: HostRuntime) -> Result<(), Fail> {
+    expect_told(&rt, &MemoryError, "no memory")?;
+    expect_told(&rt, &UleError::Cell(3), "cell 3 is no value")?;
+    expect_told(
+        &rt,
+        &UleError::Length,
+        "the number of bytes is no multiple of the width of a value",
+    )
+}

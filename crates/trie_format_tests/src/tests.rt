@@ -1,0 +1,5 @@
+//! What no clause says: each code point's plane, texts, and refused memory.
+mod json;
+mod planes;
+mod support;
+mod trie_toml;

@@ -1,0 +1,237 @@
+//! Tries in JSON: faults, the way there and back, texts, and refused memory.
+use super::support::{expect_answers, expect_text, joined, say};
+use icu_trie::cptrie::CodePointTrie;
+use icu_trie::error::CodePointTrieError;
+use icu_trie_formats::json::{TrieJsonError, from_json, to_json};
+use icu_trie_formats::planes::get_planes_trie;
+use icu_zerovec::MemoryError;
+use serde_json::Value;
+use std::alloc::Global;
+use std::process::Abort;
+use std::test::Fail;
+
+/// A header but for its type, of an object that goes on.
+const HEADER: &str =
+    r#"{"header":{"high_start":0,"shifted12_high_start":0,"index3_null_offset":32767,
+"data_null_offset":0,"null_value":0,"trie_type":"#;
+
+/// 64 cells of 0.
+const INDEX: &str = r#""index":[
+0,0,0,0,0,0,0,0,0,0,0,0,0,0,0,0,0,0,0,0,0,0,0,0,0,0,0,0,0,0,0,0,
+0,0,0,0,0,0,0,0,0,0,0,0,0,0,0,0,0,0,0,0,0,0,0,0,0,0,0,0,0,0,0,0]"#;
+
+/// 64 cells of 0, the high value 7 and the error value 9.
+const DATA: &str = r#""data":[
+0,0,0,0,0,0,0,0,0,0,0,0,0,0,0,0,0,0,0,0,0,0,0,0,0,0,0,0,0,0,0,0,
+0,0,0,0,0,0,0,0,0,0,0,0,0,0,0,0,0,0,0,0,0,0,0,0,0,0,0,0,0,0,0,0,
+7,9]}"#;
+
+/// The parts of a trie's object.
+const WHOLE: [&str; 5] = [HEADER, r#""Small"},"#, INDEX, ",", DATA];
+
+/// The value of a text in parts, `None` where no memory was found.
+fn value_of(alloc: Global, parts: &[&str]) -> Option<Value> {
+    let text = joined(alloc, parts)?;
+    Value::from_str(alloc, text.as_str()).ok()
+}
+
+/// Why such a value is refused.
+fn fault_of(alloc: Global, parts: &[&str]) -> Result<Option<TrieJsonError>, Fail> {
+    let value = value_of(alloc, parts).ok_or("no value")?;
+    Ok(from_json::<u8>(alloc, &value).err())
+}
+
+/// The fault is the wanted one.
+fn expect_fault(
+    rt: &impl Abort,
+    fault: Option<TrieJsonError>,
+    want: TrieJsonError,
+    parts: &[&str],
+) {
+    assert_eq!(rt; fault, Some(want), "of {parts:?}");
+}
+
+#[test]
+fn values_refused_by_their_header(rt: HostRuntime) -> Result<(), Fail> {
+    let rows: [(&[&str], TrieJsonError); 8] = [
+        (&["[]"], TrieJsonError::Shape("")),
+        (&["{}"], TrieJsonError::Shape("header")),
+        (&[r#"{"header":[]}"#], TrieJsonError::Shape("header")),
+        (&[r#"{"header":{}}"#], TrieJsonError::Shape("high_start")),
+        (
+            &[r#"{"header":{"high_start":-1}}"#],
+            TrieJsonError::Number("high_start"),
+        ),
+        (
+            &[r#"{"header":{"high_start":0,"shifted12_high_start":65536}}"#],
+            TrieJsonError::Number("shifted12_high_start"),
+        ),
+        (&[HEADER, r#""Slow"}}"#], TrieJsonError::Shape("trie_type")),
+        (&[HEADER, "1}}"], TrieJsonError::Shape("trie_type")),
+    ];
+    for (parts, fault) in rows {
+        expect_fault(&rt, fault_of(rt.alloc(), parts)?, fault, parts);
+    }
+    Ok(())
+}
+
+#[test]
+fn values_refused_by_their_arrays(rt: HostRuntime) -> Result<(), Fail> {
+    let rows: [(&[&str], TrieJsonError); 5] = [
+        (&[HEADER, r#""Small"}}"#], TrieJsonError::Shape("index")),
+        (
+            &[HEADER, r#""Small"},"index":[65536]}"#],
+            TrieJsonError::Number("index"),
+        ),
+        (
+            &[HEADER, r#""Small"},"#, INDEX, "}"],
+            TrieJsonError::Shape("data"),
+        ),
+        (
+            &[HEADER, r#""Small"},"#, INDEX, r#","data":[0,0.5]}"#],
+            TrieJsonError::Number("data"),
+        ),
+        (
+            &[HEADER, r#""Small"},"#, INDEX, r#","data":[0,0,0,300]}"#],
+            TrieJsonError::Value(3),
+        ),
+    ];
+    for (parts, fault) in rows {
+        expect_fault(&rt, fault_of(rt.alloc(), parts)?, fault, parts);
+    }
+    Ok(())
+}
+
+#[test]
+fn parts_of_no_trie(rt: HostRuntime) -> Result<(), Fail> {
+    let rows: [(&[&str], CodePointTrieError); 2] = [
+        (
+            &[HEADER, r#""Small"},"#, INDEX, r#","data":[]}"#],
+            CodePointTrieError::EmptyDataVector,
+        ),
+        (
+            &[HEADER, r#""Fast"},"#, INDEX, ",", DATA],
+            CodePointTrieError::IndexTooShortForFastAccess,
+        ),
+    ];
+    for (parts, fault) in rows {
+        let found = fault_of(rt.alloc(), parts)?;
+        expect_fault(&rt, found, TrieJsonError::Trie(fault), parts);
+    }
+    Ok(())
+}
+
+#[test]
+fn a_trie_is_read(rt: HostRuntime) -> Result<(), Fail> {
+    let value = value_of(rt.alloc(), &WHOLE).ok_or("no value")?;
+    let trie = from_json::<u8>(rt.alloc(), &value)?;
+    expect_answers(&rt, trie, &[(0x41, 0), (0x1000, 7), (0x11_0000, 9)]);
+    Ok(())
+}
+
+/// The value that a trie is written as, which was read from the value.
+fn there_and_back_of(alloc: Global, value: &Value) -> Result<Value, Fail> {
+    let trie = from_json::<u8>(alloc, value)?;
+    Ok(to_json(alloc, &trie)?)
+}
+
+/// Both values are one.
+fn expect_same_value(rt: &impl Abort, value: Value, other: Value) {
+    assert!(rt; value == other);
+}
+
+#[test]
+fn there_and_back(rt: HostRuntime) -> Result<(), Fail> {
+    let value = value_of(rt.alloc(), &WHOLE).ok_or("no value")?;
+    let written = there_and_back_of(rt.alloc(), &value)?;
+    expect_same_value(&rt, written, value);
+    Ok(())
+}
+
+/// The trie of the planes, written and read.
+fn planes_read_back(alloc: Global) -> Result<CodePointTrie<'static, u8>, Fail> {
+    let written = to_json(alloc, &get_planes_trie())?;
+    Ok(from_json(alloc, &written)?)
+}
+
+/// Both tries are one.
+fn expect_same_trie(rt: &impl Abort, trie: CodePointTrie<'_, u8>, other: CodePointTrie<'_, u8>) {
+    assert!(rt; trie == other);
+}
+
+#[test]
+fn planes_there_and_back(rt: HostRuntime) -> Result<(), Fail> {
+    expect_same_trie(&rt, planes_read_back(rt.alloc())?, get_planes_trie());
+    Ok(())
+}
+
+#[test]
+fn texts_of_errors(rt: HostRuntime) -> Result<(), Fail> {
+    let texts = [
+        (
+            TrieJsonError::Shape("index"),
+            "no value of the right kind at the key `index`",
+        ),
+        (
+            TrieJsonError::Number("data"),
+            "no whole number in its range at the key `data`",
+        ),
+        (
+            TrieJsonError::Value(3),
+            "cell 3 of the data is the number of no value",
+        ),
+        (
+            TrieJsonError::Trie(CodePointTrieError::InvalidNullValue),
+            "The null value is not a valid `T`",
+        ),
+        (TrieJsonError::Memory, "no memory"),
+    ];
+    for (error, want) in texts {
+        expect_text(&rt, format!(in rt.alloc(); "{error}")?, want);
+    }
+    Ok(())
+}
+
+/// The value has data.
+fn expect_data(rt: &impl Abort, value: Value) {
+    assert!(rt; value.get("data").is_some());
+}
+
+/// The value has data, or the want of memory was told, which is said.
+fn expect_written(rt: &(impl Abort + Print), written: Result<Value, MemoryError>) {
+    match written {
+        Ok(value) => expect_data(rt, value),
+        Err(MemoryError) => say(rt, "refused"),
+    }
+}
+
+#[test]
+fn to_json_refused(rt: HostRuntime) {
+    let planes = get_planes_trie();
+    say(&rt, "call");
+    let written = to_json(rt.alloc(), &planes);
+    say(&rt, "done");
+    expect_written(&rt, written);
+}
+
+/// The trie has its high value, or the want of memory was told, which is said.
+fn expect_read(rt: &(impl Abort + Print), trie: Result<CodePointTrie<'_, u8>, TrieJsonError>) {
+    match trie {
+        Ok(trie) => expect_answers(rt, trie, &[(0x1000, 7)]),
+        Err(error) => {
+            expect_fault(rt, Some(error), TrieJsonError::Memory, &WHOLE);
+            say(rt, "refused");
+        }
+    }
+}
+
+#[test]
+fn from_json_refused(rt: HostRuntime) {
+    let Some(value) = value_of(rt.alloc(), &WHOLE) else {
+        return;
+    };
+    say(&rt, "call");
+    let trie = from_json::<u8>(rt.alloc(), &value);
+    say(&rt, "done");
+    expect_read(&rt, trie);
+}

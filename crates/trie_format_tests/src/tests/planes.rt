@@ -1,0 +1,81 @@
+//! The trie of the planes.
+use icu_trie::cptrie::CodePointTrie;
+use icu_trie::error::CodePointTrieError;
+use icu_trie_formats::planes::get_planes_trie;
+use icu_zerovec::ZeroVec;
+use std::process::Abort;
+use std::test::Fail;
+
+/// The number that is answered is the wanted one.
+fn expect_number(rt: &impl Abort, found: u32, want: u32, c: u32) {
+    assert_eq!(rt; found, want, "at {c:x}");
+}
+
+#[test]
+fn each_code_point_has_its_plane(rt: HostRuntime) {
+    let planes = get_planes_trie();
+    for c in 0..0x11_0000_u32 {
+        expect_number(&rt, u32::from(planes.get32(c)), c >> 16, c);
+    }
+    expect_number(&rt, u32::from(planes.get32(0x11_0000)), 0, 0x11_0000);
+}
+
+/// The index takes 1168 cells of two bytes.
+fn expect_whole(rt: &impl Abort, bytes: usize) {
+    assert_eq!(rt; bytes, 2336);
+}
+
+#[test]
+fn bytes_of_the_index(rt: HostRuntime) {
+    let planes = get_planes_trie();
+    let (_, index, _) = planes.parts();
+    expect_whole(&rt, index.as_bytes().len());
+}
+
+/// The trie of the planes over the first cells of its index, so many.
+fn trie_of_front<'a>(
+    planes: &'a CodePointTrie<'static, u8>,
+    len: usize,
+) -> Result<Result<CodePointTrie<'a, u8>, CodePointTrieError>, Fail> {
+    let (header, index, values) = planes.parts();
+    let bytes = len.checked_mul(2).ok_or("no such front")?;
+    let front = index.as_bytes().get(..bytes).ok_or("no such front")?;
+    let index = ZeroVec::<u16>::parse_bytes(front)?;
+    Ok(CodePointTrie::try_new(header, index, values.as_zerovec()))
+}
+
+/// The front has too few cells for the fast look-ups.
+fn expect_refused(rt: &impl Abort, fault: Option<CodePointTrieError>, len: usize) {
+    assert_eq!(rt;
+        fault,
+        Some(CodePointTrieError::IndexTooShortForFastAccess),
+        "{len} cells"
+    );
+}
+
+#[test]
+fn short_fronts_of_the_index(rt: HostRuntime) -> Result<(), Fail> {
+    let planes = get_planes_trie();
+    for len in 0..64_usize {
+        let fault = trie_of_front(&planes, len)?.err();
+        expect_refused(&rt, fault, len);
+    }
+    Ok(())
+}
+
+/// What a look-up can't find is answered by the error value.
+fn expect_planes(rt: &impl Abort, trie: CodePointTrie<'_, u8>, len: usize) {
+    let value = trie.get32(0x1_F600);
+    assert!(rt; value == 0 || value == 1, "{len} cells");
+    assert_eq!(rt; trie.get32(0x10_FFFF), 16, "{len} cells");
+}
+
+#[test]
+fn fronts_of_the_index(rt: HostRuntime) -> Result<(), Fail> {
+    let planes = get_planes_trie();
+    for len in 64..1169_usize {
+        let trie = trie_of_front(&planes, len)??;
+        expect_planes(&rt, trie, len);
+    }
+    Ok(())
+}

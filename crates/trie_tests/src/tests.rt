@@ -1,0 +1,101 @@
+//! What no clause says of tries that are made of their parts: examples whose answers come from outside, packed values of a
+//! user's own, and headers that lie.
+//!
+//! An assert stands in a small helper without a contract, and a value that owns memory is handed to it: a proof of a test
+//! that asserts and holds such values at the same time is long.
+
+mod constants;
+mod packed_vectors;
+mod reader;
+mod reads;
+mod refused_parts;
+mod typed_tries;
+mod values;
+mod views;
+
+use icu_collections::codepointtrie::{
+    CodePointTrie, CodePointTrieHeader, TrieType, TrieValue, Write, build_from_writes,
+};
+use icu_collections::zerovec::ZeroVec;
+use std::alloc::Global;
+use std::fmt::Debug;
+use std::process::Abort;
+
+const BOTH: [TrieType; 2] = [TrieType::Fast, TrieType::Small];
+
+static ZEROS: [u8; 128] = [0; 128];
+
+/// What is said holds.
+fn expect(rt: &impl Abort, holds: bool, what: &str) {
+    assert!(rt; holds, "{what}");
+}
+
+/// What was found is what was wanted.
+fn expect_same<T: PartialEq + Debug + Drop>(rt: &impl Abort, found: T, want: T, what: &str) {
+    assert_eq!(rt; found, want, "{what}");
+}
+
+/// What was found at the code point `c` is what was wanted.
+fn expect_at<T: PartialEq + Debug + Drop>(rt: &impl Abort, found: T, want: T, c: u32) {
+    assert_eq!(rt; found, want, "at {c:x}");
+}
+
+/// Prints a word of which the caller of the test knows what the test is about to do, or has done.
+fn say(rt: &(impl Abort + Print), word: &str) {
+    rt.println(word).expect(rt, "not printed");
+}
+
+/// The trie of these writes, the default value and the error value being `values`.
+fn built<T: TrieValue>(
+    rt: &impl Abort,
+    alloc: Global,
+    trie_type: TrieType,
+    values: (T, T),
+    writes: &[Write<T>],
+) -> CodePointTrie<'static, T> {
+    match build_from_writes(alloc, values.0, values.1, trie_type, writes) {
+        Ok(trie) => trie,
+        Err(_) => panic!(rt; "not built"),
+    }
+}
+
+/// The header of a small trie that has no null block.
+fn small_header(high_start: u32, null_value: u32) -> CodePointTrieHeader {
+    CodePointTrieHeader {
+        high_start,
+        shifted12_high_start: 1,
+        index3_null_offset: 0x7fff,
+        data_null_offset: 0xfffff,
+        null_value,
+        trie_type: TrieType::Small,
+    }
+}
+
+/// 64 cells, then a high value and an error value.
+fn data(each: u8, high: u8, error: u8) -> [u8; 66] {
+    let mut data = [each; 66];
+    data[64] = high;
+    data[65] = error;
+    data
+}
+
+/// The trie of these parts, if they are not refused.
+fn lent_trie<'a>(
+    header: CodePointTrieHeader,
+    index: &'a [u8],
+    data: &'a [u8],
+) -> Option<CodePointTrie<'a, u8>> {
+    let index = ZeroVec::parse_bytes(index).ok()?;
+    let data = ZeroVec::parse_bytes(data).ok()?;
+    CodePointTrie::try_new(header, index, data).ok()
+}
+
+/// The trie of these parts, which it borrows.
+fn trie_of<'a>(
+    rt: &impl Abort,
+    header: CodePointTrieHeader,
+    index: &'a [u8],
+    data: &'a [u8],
+) -> CodePointTrie<'a, u8> {
+    lent_trie(header, index, data).expect(rt, "a trie")
+}

@@ -1,0 +1,143 @@
+//! Ranges that are joined, chosen by their value or mapped, and tries of mapped values.
+use super::super::{ZEROS, data, expect, expect_at, expect_same, say};
+use super::small_trie;
+use icu_trie::cptrie::CodePointTrie;
+use icu_trie::iterator_utils::RangeListIteratorCoalescer;
+use icu_trie::map_value::MapError;
+use icu_trie_core::range::CodePointMapRange;
+use std::fmt::Debug;
+use std::ops::RangeInclusive;
+use std::process::Abort;
+use std::test::Fail;
+
+/// The range of a value.
+fn with<T>(range: RangeInclusive<u32>, value: T) -> CodePointMapRange<T> {
+    CodePointMapRange { range, value }
+}
+
+/// The items found are those wanted, in their order.
+fn expect_items<T: PartialEq + Debug + Drop>(rt: &impl Abort, found: Vec<T>, want: &[T]) {
+    assert_eq!(rt; found.as_slice(), want);
+}
+
+#[test]
+fn ranges_that_touch_are_joined(rt: HostRuntime) -> Result<(), Fail> {
+    let ranges = [with(0..=3, 1u8), with(4..=6, 1), with(8..=9, 1)];
+    let joined: Vec<_> = RangeListIteratorCoalescer::new(ranges.into_iter()).collect(rt.alloc())?;
+    expect_items(&rt, joined, &[with(0..=6, 1u8), with(8..=9, 1)]);
+    Ok(())
+}
+
+#[test]
+fn nothing_is_behind_the_greatest_number(rt: HostRuntime) -> Result<(), Fail> {
+    let ranges = [with(5..=u32::MAX, 1u8), with(0..=2, 1)];
+    let joined: Vec<_> = RangeListIteratorCoalescer::new(ranges.into_iter()).collect(rt.alloc())?;
+    expect_items(&rt, joined, &[with(5..=u32::MAX, 1u8), with(0..=2, 1)]);
+    Ok(())
+}
+
+/// The code points with this value are these, where those below 0x1000 have the value 1 and all others 2.
+fn expect_ranges_of(
+    rt: &(impl Abort + AllocGlobal),
+    value: u8,
+    want: &[RangeInclusive<u32>],
+) -> Result<(), Fail> {
+    let ones = data(1, 2, 3);
+    let trie = small_trie(rt, 0x1000, 0xfffff, &ZEROS, &ones);
+    let found: Vec<_> = trie.iter_ranges_for_value(value).collect(rt.alloc())?;
+    expect_items(rt, found, want);
+    Ok(())
+}
+
+#[test]
+fn ranges_of_a_value(rt: HostRuntime) -> Result<(), Fail> {
+    expect_ranges_of(&rt, 1, &[0..=0xFFF])?;
+    expect_ranges_of(&rt, 2, &[0x1000..=0x10FFFF])?;
+    expect_ranges_of(&rt, 3, &[])
+}
+
+#[test]
+fn mapped_ranges(rt: HostRuntime) -> Result<(), Fail> {
+    let ones = data(1, 2, 3);
+    let trie = small_trie(&rt, 0x1000, 0xfffff, &ZEROS, &ones);
+    let evens: Vec<_> = trie.iter_ranges_mapped(|x| x % 2 == 0).collect(rt.alloc())?;
+    expect_items(
+        &rt,
+        evens,
+        &[with(0..=0xFFF, false), with(0x1000..=0x10FFFF, true)],
+    );
+    Ok(())
+}
+
+/// The header names the block of all code points below 0x1000 as null, and it is not: each of them is alone, and
+/// they are joined by their equal answers.
+#[test]
+fn mapped_ranges_that_touch(rt: HostRuntime) -> Result<(), Fail> {
+    let sevens = data(7, 7, 9);
+    let trie = small_trie(&rt, 0x1000, 0, &ZEROS, &sevens);
+    let same: Vec<_> = trie.iter_ranges_mapped(|x| x).collect(rt.alloc())?;
+    expect_items(&rt, same, &[with(0..=0x10FFFF, 7u8)]);
+    Ok(())
+}
+
+/// The closure refused the value 2.
+fn is_two(mapped: Result<CodePointTrie<'_, u8>, MapError<&str>>) -> bool {
+    matches!(mapped.err(), Some(MapError::Closure("two")))
+}
+
+#[test]
+fn refusal_of_a_value(rt: HostRuntime) {
+    let ones = data(1, 2, 3);
+    let trie = small_trie(&rt, 0x1000, 0xfffff, &ZEROS, &ones);
+    let mapped = trie.try_alloc_map_value(
+        rt.alloc(),
+        |x: u8| if x == 2 { Err("two") } else { Ok(x) },
+    );
+    expect(&rt, is_two(mapped), "the closure refused the value 2");
+}
+
+/// The text is the other one.
+fn expect_text(rt: &impl Abort, text: String, want: &str) {
+    assert_eq!(rt; text.as_str(), want);
+}
+
+#[test]
+fn texts_of_errors(rt: HostRuntime) -> Result<(), Fail> {
+    let refused = format!(in rt.alloc(); "{}", MapError::Closure("two"))?;
+    expect_text(&rt, refused, "two");
+    let memory = format!(in rt.alloc(); "{}", MapError::<&str>::Memory)?;
+    expect_text(&rt, memory, "no memory");
+    Ok(())
+}
+
+/// Each value is 0x100 more than in the trie that was mapped.
+fn expect_mapped(rt: &impl Abort, mapped: CodePointTrie<'_, u16>) {
+    for (c, want) in [(0xFFF, 0x101), (0x1000, 0x102), (0x110000, 0x103)] {
+        expect_at(rt, mapped.get32(c), want, c);
+    }
+    expect_same(rt, mapped.null_value(), 0x100, "null value");
+}
+
+fn expect_mapped_or_refusal(
+    rt: &(impl Abort + Print),
+    mapped: Result<CodePointTrie<'_, u16>, MapError<u8>>,
+) {
+    match mapped {
+        Ok(mapped) => expect_mapped(rt, mapped),
+        Err(error) => {
+            expect_same(rt, error, MapError::Memory, "refused memory");
+            say(rt, "refused");
+        }
+    }
+}
+
+#[test]
+fn try_alloc_map_value_refused(rt: HostRuntime) {
+    let ones = data(1, 2, 3);
+    let trie = small_trie(&rt, 0x1000, 0xfffff, &ZEROS, &ones);
+    say(&rt, "call");
+    let mapped = trie.try_alloc_map_value(rt.alloc(), |x: u8| Ok::<u16, u8>(u16::from(x) + 0x100));
+    say(&rt, "done");
+    expect_mapped_or_refusal(&rt, mapped);
+    expect_at(&rt, trie.get32(0), 1, 0);
+}

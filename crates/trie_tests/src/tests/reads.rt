@@ -1,0 +1,227 @@
+//! How many cells one walk and one look-up read, by cells of a test's own over the parts of built tries.
+ghost use Rattle.std.specs.Prelude.{◌≡◌, ◌<◌};
+ghost use Rattle.icu_zerovec.specs.Slice.{slice_values};
+
+use super::{BOTH, built, expect_at};
+use icu_collections::codepointtrie::{
+    Cells, CodePointMapRange, CodePointTrie, Steps, TrieValue, Write, look_up_whole, walk,
+};
+use icu_collections::zerovec::ZeroSlice;
+use std::alloc::Global;
+use std::fmt::Debug;
+use std::marker::Brand;
+use std::process::Abort;
+use std::sync::ledger::{Blank, Ledger};
+use std::test::Fail;
+
+/// The most cells that one walk over a built trie reads.
+const MOST_READS: u64 = 6_000;
+
+/// The most cells that one look-up reads.
+const MOST_READS_OF_LOOK_UP: u64 = 5;
+
+/// The cells of a trie's parts, with a count that can be shown.
+#[derive(Drop)]
+struct CountedParts<'a, T: TrieValue, L: Ledger> {
+    index: ZeroSlice<'a, u16>,
+    values: ZeroSlice<'a, T>,
+    reads: Steps<L>,
+    shown: u64,
+}
+
+impl<'a, T: TrieValue, L: Ledger> Cells<T> for CountedParts<'a, T, L> {
+    ghost index = { λ cells. slice_values cells.index };
+
+    ghost values = { λ cells. slice_values cells.values };
+
+    ghost reads = { λ cells. cells.reads };
+
+    fn index_len(&self) -> usize {
+        self.index.len()
+    }
+
+    fn data_len(&self) -> usize {
+        self.values.len()
+    }
+
+    fn index_cell(&mut self, i: usize) -> Option<u16> {
+        self.reads.tick();
+        self.shown = self.shown.saturating_add(1);
+        self.index.get(i)
+    }
+
+    fn data_cell(&mut self, i: usize) -> Option<T> {
+        self.reads.tick();
+        self.shown = self.shown.saturating_add(1);
+        self.values.get(i)
+    }
+}
+
+/// The range from `c` on by a walk over cells of the test's own, and how many were read.
+fn walked<T: TrieValue, L: Ledger>(
+    trie: &CodePointTrie<'_, T>,
+    c: u32,
+    blank: Blank,
+) -> (Option<CodePointMapRange<T>>, u64)
+    requires name { blank.name ≡ L.name }
+    requires parts { blank.parts ≡ L.parts }
+    requires some { 0 < blank.parts }
+{
+    let (header, index, values) = trie.parts();
+    let mut cells = CountedParts {
+        index,
+        values,
+        reads: Steps::<L>::new(blank),
+        shown: 0,
+    };
+    let range = walk(&header, &mut cells, c);
+    (range, cells.shown)
+}
+
+/// The cell of `c` by cells of the test's own, and how many were read.
+fn looked_up<T: TrieValue, L: Ledger>(
+    trie: &CodePointTrie<'_, T>,
+    c: u32,
+    blank: Blank,
+) -> (Option<T>, u64)
+    requires name { blank.name ≡ L.name }
+    requires parts { blank.parts ≡ L.parts }
+    requires some { 0 < blank.parts }
+{
+    let (header, index, values) = trie.parts();
+    let mut cells = CountedParts {
+        index,
+        values,
+        reads: Steps::<L>::new(blank),
+        shown: 0,
+    };
+    let value = look_up_whole(&header, &mut cells, c);
+    (value, cells.shown)
+}
+
+/// A call at `c` read so many cells at least, and so many at most.
+fn expect_reads(rt: &impl Abort, reads: u64, least: u64, most: u64, c: u32) {
+    assert!(rt; least <= reads && reads <= most, "{reads} reads at {c:x}");
+}
+
+/// The walk from `c` on finds this range, and reads no more cells than it may.
+fn ask_walk<T: TrieValue + Debug>(
+    rt: &impl Abort,
+    trie: &CodePointTrie<'_, T>,
+    c: u32,
+    range: Option<CodePointMapRange<T>>,
+) {
+    let (found, reads) = walked::<T, Brand>(trie, c, Blank::new(1));
+    // The answer lies in the cells, so that a walk with no read has not been counted.
+    let least = if range.is_some() { 1 } else { 0 };
+    expect_reads(rt, reads, least, MOST_READS, c);
+    expect_at(rt, found, range, c);
+}
+
+/// The look-up at `c` finds this value, and reads no more cells than it may.
+fn ask_look_up<T: TrieValue + Debug>(
+    rt: &impl Abort,
+    trie: &CodePointTrie<'_, T>,
+    c: u32,
+    value: Option<T>,
+) {
+    let (found, reads) = looked_up::<T, Brand>(trie, c, Blank::new(1));
+    expect_reads(rt, reads, 0, MOST_READS_OF_LOOK_UP, c);
+    expect_at(rt, found, value, c);
+}
+
+/// The range from `first` on that has a value up to a last code point, if any.
+fn range_from<T>(first: u32, rest: Option<(u32, T)>) -> Option<CodePointMapRange<T>> {
+    match rest {
+        Some((last, value)) => Some(CodePointMapRange {
+            range: first..=last,
+            value,
+        }),
+        None => None,
+    }
+}
+
+/// From each first code point on, the trie has the value up to the last one. Behind the code points there is
+/// no range.
+fn ask<T: TrieValue + Debug>(
+    rt: &impl Abort,
+    trie: &CodePointTrie<'_, T>,
+    expected: &[(u32, Option<(u32, T)>)],
+) {
+    for (first, rest) in expected {
+        let (first, rest) = (*first, *rest);
+        ask_walk(rt, trie, first, range_from(first, rest));
+        expect_at(rt, trie.get_range(first), range_from(first, rest), first);
+        ask_look_up(rt, trie, first, rest.map(|(_, value)| value));
+    }
+}
+
+/// The trie has one value up to the last code point, which has another: no high start ends the walk
+/// before it.
+fn ask_one_run(rt: &impl Abort, trie: &CodePointTrie<'_, u8>, run: u8, last: u8) {
+    ask(
+        rt,
+        trie,
+        &[
+            (0, Some((0x10FFFE, run))),
+            (0x80, Some((0x10FFFE, run))),
+            (0xFFFF, Some((0x10FFFE, run))),
+            (0x10000, Some((0x10FFFE, run))),
+            (0x10FFFE, Some((0x10FFFE, run))),
+            (0x10FFFF, Some((0x10FFFF, last))),
+            (0x110000, None),
+        ],
+    );
+}
+
+#[test]
+fn reads_of_one_walk(rt: HostRuntime) {
+    for trie_type in BOTH {
+        let last = [Write::One(0x10FFFF, 1)];
+        let trie = built(&rt, rt.alloc(), trie_type, (0u8, 9), &last);
+        ask_one_run(&rt, &trie, 0, 1);
+    }
+}
+
+/// The run has not the default value: its blocks are no null blocks, which need no read.
+#[test]
+fn reads_of_one_walk_without_null_blocks(rt: HostRuntime) {
+    for trie_type in BOTH {
+        let all = [Write::Range(0..=0x10FFFE, 1), Write::One(0x10FFFF, 2)];
+        let trie = built(&rt, rt.alloc(), trie_type, (0u8, 9), &all);
+        ask_one_run(&rt, &trie, 1, 2);
+    }
+}
+
+/// Each of 799 blocks of 512 begins with a value of its own, so that no two of them are equal.
+fn numbers(alloc: Global) -> Result<Vec<Write<u32>>, Fail> {
+    let mut numbers = Vec::new(alloc);
+    for k in 0u32..799 {
+        numbers.push(Write::One(0x10000 + 512 * k, k + 1))?;
+    }
+    Ok(numbers)
+}
+
+#[test]
+fn reads_of_one_walk_over_many_blocks(rt: HostRuntime) -> Result<(), Fail> {
+    let numbers = numbers(rt.alloc())?;
+    for trie_type in BOTH {
+        let trie = built(&rt, rt.alloc(), trie_type, (0, 9), &numbers);
+        ask(
+            &rt,
+            &trie,
+            &[
+                (0, Some((0xFFFF, 0))),
+                (0x80, Some((0xFFFF, 0))),
+                (0xFFFF, Some((0xFFFF, 0))),
+                (0x10000, Some((0x10000, 1))),
+                (0x10001, Some((0x101FF, 0))),
+                (0x73C00, Some((0x73C00, 799))),
+                (0x73C01, Some((0x10FFFF, 0))),
+                (0x10FFFF, Some((0x10FFFF, 0))),
+                (0x110000, None),
+            ],
+        );
+    }
+    Ok(())
+}

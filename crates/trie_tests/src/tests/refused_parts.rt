@@ -1,0 +1,159 @@
+//! Tries that are made of parts: which are refused, and what a lying header answers.
+ghost use Rattle.std.specs.Prelude.{◌≡◌, ◌<◌};
+
+use super::{ZEROS, data, expect_at, expect_same, small_header, trie_of};
+use icu_collections::codepointtrie::{Cells, CodePointTrie, CodePointTrieError, Steps, look_up};
+use icu_collections::zerovec::ZeroVec;
+use std::marker::Brand;
+use std::process::Abort;
+use std::sync::ledger::{Blank, Ledger};
+
+/// The fault of these parts.
+fn fault_of(
+    index: &'static [u8],
+    data: &'static [u8],
+    null_value: u32,
+) -> Option<CodePointTrieError> {
+    let index = ZeroVec::parse_bytes(index).ok()?;
+    let data = ZeroVec::<u8>::parse_bytes(data).ok()?;
+    CodePointTrie::try_new(small_header(0x1000, null_value), index, data).err()
+}
+
+/// Parts of so many zeros as index and as data have this fault.
+fn expect_fault(
+    rt: &impl Abort,
+    found: Option<CodePointTrieError>,
+    fault: Option<CodePointTrieError>,
+    index: usize,
+    data: usize,
+) {
+    assert_eq!(rt; found, fault, "{index} bytes of index, {data} of data");
+}
+
+#[test]
+fn parts_are_refused_in_order(rt: HostRuntime) {
+    for (index, data, null_value, fault) in [
+        (128, 64, 0, None),
+        (
+            128,
+            63,
+            0,
+            Some(CodePointTrieError::DataTooShortForFastAccess),
+        ),
+        (
+            126,
+            63,
+            0,
+            Some(CodePointTrieError::IndexTooShortForFastAccess),
+        ),
+        (126, 1, 300, Some(CodePointTrieError::InvalidNullValue)),
+        (0, 1, 300, Some(CodePointTrieError::InvalidNullValue)),
+        (0, 0, 300, Some(CodePointTrieError::EmptyDataVector)),
+    ] {
+        let found = fault_of(&ZEROS[..index], &ZEROS[..data], null_value);
+        expect_fault(&rt, found, fault, index, data);
+    }
+}
+
+fn asked(rt: &impl Abort, high_start: u32, data: &[u8], expected: &[(u32, u8)]) {
+    let trie = trie_of(rt, small_header(high_start, 0), &ZEROS, data);
+    for (c, value) in expected {
+        expect_at(rt, trie.get32(*c), *value, *c);
+    }
+    expect_same(rt, trie.null_value(), 0, "null value");
+}
+
+/// A header that claims more than its cells hold gets the error value, and no fault.
+#[test]
+fn lying_headers_are_answered(rt: HostRuntime) {
+    asked(
+        &rt,
+        0x1000,
+        &data(7, 7, 9),
+        &[(0, 7), (0x1000, 7), (0x10FFFF, 7), (0x110000, 9)],
+    );
+    asked(&rt, u32::MAX, &data(7, 7, 9), &[(0, 7), (0x1000, 9)]);
+    asked(
+        &rt,
+        0x2000,
+        &data(1, 2, 3),
+        &[(0, 1), (0x1000, 3), (0x2000, 2)],
+    );
+}
+
+/// Cells of a test's own, with a count that can be shown.
+#[derive(Drop)]
+struct CountedCells<'a, L: Ledger> {
+    index: &'a [u16],
+    values: &'a [u8],
+    reads: Steps<L>,
+    shown: u64,
+}
+
+impl<'a, L: Ledger> Cells<u8> for CountedCells<'a, L> {
+    ghost index = { λ cells. cells.index.now };
+
+    ghost values = { λ cells. cells.values.now };
+
+    ghost reads = { λ cells. cells.reads };
+
+    fn index_len(&self) -> usize {
+        self.index.len()
+    }
+
+    fn data_len(&self) -> usize {
+        self.values.len()
+    }
+
+    fn index_cell(&mut self, i: usize) -> Option<u16> {
+        self.reads.tick();
+        self.shown = self.shown.saturating_add(1);
+        self.index.get(i).copied()
+    }
+
+    fn data_cell(&mut self, i: usize) -> Option<u8> {
+        self.reads.tick();
+        self.shown = self.shown.saturating_add(1);
+        self.values.get(i).copied()
+    }
+}
+
+/// The answer at `c` over cells of the test's own, and how many were read.
+fn counted<L: Ledger>(index: &[u16], values: &[u8], c: u32, blank: Blank) -> (Option<u8>, u64)
+    requires name { blank.name ≡ L.name }
+    requires parts { blank.parts ≡ L.parts }
+    requires some { 0 < blank.parts }
+{
+    let mut cells = CountedCells {
+        index,
+        values,
+        reads: Steps::<L>::new(blank),
+        shown: 0,
+    };
+    let answer = look_up(&small_header(0x2000, 0), &mut cells, c);
+    (answer, cells.shown)
+}
+
+/// An index with one block of 512 of which each offset has 18 bits: the longest way, five reads.
+#[test]
+fn a_look_up_reads_five_cells_at_most(rt: HostRuntime) {
+    let mut index = [0u16; 128];
+    // The index-2 block starts at 65, and its ninth cell, for 0x1000, names the 18-bit block at 80.
+    index[64] = 65;
+    index[65 + 8] = 0x8000 + 80;
+    // The fourth offset of the block is 3, that of 0x1030.
+    index[80 + 4] = 3;
+    let mut values = [0u8; 66];
+    values[3 + 5] = 42;
+    for (c, answer, reads) in [
+        (0x1035, Some(42), 5),
+        (0x1034, Some(0), 5),
+        (0x41, Some(0), 2),
+        (0x1400, Some(0), 4),
+        (0x2000, Some(0), 1),
+        (0x110000, None, 0),
+    ] {
+        let found = counted::<Brand>(&index, &values, c, Blank::new(1));
+        expect_at(&rt, found, (answer, reads), c);
+    }
+}

@@ -1,8 +1,0 @@
-use Rattle.std.proofs.Common.{◌≡◌, take}
-use Rattle.std.specs.List.{filter_map}
-use Rattle.std.specs.Prelude.{string_bytes}
-use Rattle.ucptab.specs.TableText.{hexadecimal}
-use Rattle.ucptab.proofs.table.words.asked_numbers.Given as goal
-
-abbrev pub invariant-loop-word : goal.invariant-loop-word
-invariant-loop-word l = l.asked.items ≡ filter_map (λ word. hexadecimal (string_bytes word)) (take l.word-index l.words)

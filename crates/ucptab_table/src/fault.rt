@@ -1,0 +1,98 @@
+//! Why a table can't be answered, and the line that says so.
+ghost use Rattle.std.specs.Prelude.{◌≡◌, ◌⊎◌, Some};
+ghost use Rattle.ucptab_table.specs.TableText.{fault_text, row_fault_text};
+ghost use Rattle.ucptab_table.specs.declared.fault.TableError.TheVariants.{Memory, TooLarge};
+
+use icu_trie_builder::error::BuildError;
+use std::alloc::AllocError;
+use std::error::Error;
+use std::fmt;
+
+/// What is wrong with a row. Rows are tested in this order.
+#[derive(Clone, Copy, Debug, PartialEq, Eq)]
+pub enum RowFault {
+    /// The line has neither the form `HEX;N` nor the form `HEX..HEX;N`.
+    NotARow,
+    /// A code point is above 10FFFF.
+    CodePoint,
+    /// The end of the range is below its start.
+    Reversed,
+    /// The value is above 4294967295.
+    Value,
+}
+
+impl RowFault {
+    /// What is wrong, in words.
+    pub fn text(self) -> &'static str
+        ensures { result.now ≡ row_fault_text self }
+    {
+        match self {
+            RowFault::NotARow => "not a row",
+            RowFault::CodePoint => "code point too large",
+            RowFault::Reversed => "range reversed",
+            RowFault::Value => "value too large",
+        }
+    }
+}
+
+impl fmt::Display for RowFault {
+    ghost output = { λ fault. Some (row_fault_text fault) };
+
+    fn fmt<W: fmt::Write>(&self, f: &mut fmt::Formatter<W>) -> fmt::Result {
+        f.write_str(self.text())
+    }
+}
+
+impl Error for RowFault {}
+
+/// Why a table can't be answered.
+#[derive(Clone, Copy, Debug, PartialEq, Eq)]
+pub enum TableError {
+    /// The first line, counted from 1, that is no row, and what is wrong with it.
+    Row(u64, RowFault),
+    /// The map is too large for a trie.
+    TooLarge,
+    /// No memory was found.
+    Memory,
+    /// The input can't be read.
+    Read,
+    /// The output can't be written.
+    Write,
+}
+
+impl fmt::Display for TableError {
+    ghost output = { λ fault. Some (fault_text fault) };
+
+    fn fmt<W: fmt::Write>(&self, f: &mut fmt::Formatter<W>) -> fmt::Result {
+        match self {
+            TableError::Row(number, fault) => write!(f, "line {number}: {fault}"),
+            TableError::TooLarge => f.write_str("too large"),
+            TableError::Memory => f.write_str("no memory"),
+            TableError::Read => f.write_str("read fault"),
+            TableError::Write => f.write_str("write fault"),
+        }
+    }
+}
+
+impl Error for TableError {}
+
+impl From<BuildError> for TableError {
+    ghost use Rattle.icu_trie_builder.specs.declared.error.BuildError.TheVariants.{TooLarge as BuildTooLarge};
+
+    ghost from_gives = { λ from e. (e ≡ TooLarge → from ≡ BuildTooLarge) × ((e ≡ TooLarge) ⊎ (e ≡ Memory)) };
+
+    fn from(error: BuildError) -> TableError {
+        match error {
+            BuildError::TooLarge => TableError::TooLarge,
+            BuildError::Memory => TableError::Memory,
+        }
+    }
+}
+
+impl From<AllocError> for TableError {
+    ghost from_gives = { λ _ e. e ≡ Memory };
+
+    fn from(_e: AllocError) -> TableError {
+        TableError::Memory
+    }
+}

@@ -1,0 +1,93 @@
+//! Reads the table: its bytes, then its lines, then the rows.
+ghost use Rattle.std.specs.Prelude.{◌≡◌, ◌⊎◌, ◌<◌, ℕ, length, ◌∷◌, [], IfOk, IfErr, IfSome, IfNone};
+ghost use Rattle.std.specs.Io.KnownBytes.{IsAtEnd};
+ghost use Rattle.std.specs.Str.Lines.{lines, strip_carriage_return};
+ghost use Rattle.ucptab_table.specs.TableText.{AreRows, IsFirstFault};
+ghost use Rattle.ucptab_table.specs.declared.fault.RowFault.{RowFault};
+ghost use Rattle.ucptab_table.specs.declared.fault.TableError.TheVariants.{Row, Memory, Read};
+
+use crate::fault::TableError;
+use crate::rows::{place_of, row_of};
+use crate::streams::{Failed, Source};
+use icu_trie_builder::writes::Write;
+use std::alloc::Global;
+
+/// All bytes that are left. `Read` where a read failed, and `Memory` where they found no room.
+pub fn read_all<S: Source>(alloc: Global, reader: &mut S) -> Result<Vec<u8>, TableError>
+    ensures bytes { IfOk result
+        (λ all. IfSome (S.remaining reader.old) (λ input. all.items ≡ input)) }
+    ensures end { IfOk result (λ _. IsAtEnd (S.remaining reader.new)) }
+    ensures counted { IfOk result (λ _. S.failures reader.new ≡ S.failures reader.old) }
+    ensures read_fault { IfErr result
+        (λ e. e ≡ Read → S.failures reader.old < S.failures reader.new) }
+    ensures no_other { IfErr result (λ e. (e ≡ Read) ⊎ (e ≡ Memory)) }
+{
+    let mut all = Vec::new(alloc);
+    let mut buf = [0u8; 4096];
+    for turn in 0..u64::MAX {
+        let n = match reader.read(&mut buf) {
+            Ok(n) => n,
+            Err(Failed) => return Err(TableError::Read),
+        };
+        if n == 0 {
+            return Ok(all);
+        }
+        if all.extend_from_slice(&buf[..n]).is_err() {
+            return Err(TableError::Memory);
+        }
+    }
+    // Each turn adds a byte, and a `Vec` has fewer than there are turns.
+    unreachable!()
+}
+
+/// The line without the one carriage return at its end, if it has one.
+fn strip_carriage_return(line: &[u8]) -> &[u8]
+    ensures { result.now ≡ strip_carriage_return line.now }
+{
+    match line {
+        [front @ .., b'\r'] => front,
+        _ => line,
+    }
+}
+
+/// The first line, and what is behind its LF. `None` where there is no line.
+fn first_line(input: &[u8]) -> Option<(&[u8], &[u8])>
+    ensures none { IfNone result (lines input.now ≡ []) }
+    ensures some { IfSome result (λ cut. lines input.now ≡ cut.0.now ∷ lines cut.1.now) }
+    ensures shorter { IfSome result (λ cut. length cut.1.now < length input.now) }
+{
+    let place = place_of(b'\n', input);
+    if place < input.len() {
+        return Some((strip_carriage_return(&input[..place]), &input[place + 1..]));
+    }
+    if input.is_empty() {
+        return None;
+    }
+    Some((input, &[]))
+}
+
+/// The writes of all rows of the table, in order. `Row` with the first line that has a fault,
+/// counted from 1, and `Memory` where the writes found no room.
+pub fn read_rows(alloc: Global, input: &[u8]) -> Result<Vec<Write<u32>>, TableError>
+    ensures ok { IfOk result (λ writes. AreRows input.now writes.items) }
+    ensures row { (k : ℕ) (f : RowFault) → IfErr result (λ e. e ≡ Row k f → IsFirstFault input.now k f) }
+    ensures no_other { IfErr result (λ e. (e ≡ Memory) ⊎ ((k : ℕ) × ((f : RowFault) × (e ≡ Row k f)))) }
+{
+    let mut writes = Vec::new(alloc);
+    let mut number = 0u64;
+    let mut rest = input;
+    while let Some((line, after)) = first_line(rest) {
+        number += 1;
+        rest = after;
+        match row_of(line) {
+            Ok(None) => {}
+            Ok(Some(write)) => {
+                if writes.push(write).is_err() {
+                    return Err(TableError::Memory);
+                }
+            }
+            Err(fault) => return Err(TableError::Row(number, fault)),
+        }
+    }
+    Ok(writes)
+}

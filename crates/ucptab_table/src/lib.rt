@@ -1,0 +1,178 @@
+//! The table's engine: it reads rows, and prints what a trie of them answers.
+#![tactic(auto)]
+
+ghost use Rattle.std.specs.Prelude.{◌≡◌, ◌≢◌, ◌⊎◌, ℕ, nat_eq, ◌<◌, ◌≤◌, List, [], ◌∷◌, ◌++◌, None, map, IfOk, IfErr, IfSome, string_bytes};
+ghost use Rattle.std.specs.Io.KnownBytes.{Appends, IsAtEnd};
+ghost use Rattle.std.specs.List.{filter_map};
+ghost use Rattle.icu_trie_builder.specs.Bounds.{IsTooLarge};
+ghost use Rattle.icu_trie_builder.specs.Writes.{answer_after, value_after};
+ghost use Rattle.ucptab_table.specs.TableText.{fault_text, hexadecimal, HasCause, IsTableText, IsTextOfMap};
+ghost use Rattle.ucptab_table.specs.Words.{arguments_of};
+ghost use Rattle.ucptab_table.specs.declared.fault.TableError.{TableError};
+ghost use Rattle.ucptab_table.specs.declared.fault.TableError.TheVariants.{Memory, TooLarge, Write as WriteFault};
+
+pub mod fault;
+pub mod input;
+pub mod numbers;
+pub mod rows;
+pub mod streams;
+pub mod text;
+pub mod words;
+
+use crate::fault::TableError;
+use crate::input::{read_all, read_rows};
+use crate::streams::{Failed, Sink, Source};
+use crate::text::{answers_text, ranges_text, write_fault};
+use crate::words::{Request, asked_numbers, request_of};
+use icu_trie_builder::build_from_writes;
+use icu_trie_builder::writes::Write;
+use icu_trie_core::header::TrieType;
+use std::alloc::Global;
+
+/// What the program takes.
+pub const USAGE: &str = "usage: ucptab fast|small DEFAULT ERROR [HEX ..]\n";
+
+/// The lines of the asked numbers, as a trie of these writes answers them, and where none is asked those of its
+/// ranges.
+#[tactic(auto, using(crate::proofs::RangeRuns::text_of_some))]
+fn answer_text(
+    alloc: Global,
+    trie_type: TrieType,
+    default: u32,
+    error: u32,
+    writes: &[Write<u32>],
+    asked: &[u32],
+) -> Result<String, TableError>
+    ensures text { IfOk result (λ text. IsTextOfMap (value_after nat_eq default writes.now default)
+        (answer_after nat_eq default error writes.now) asked.now (string_bytes text)) }
+    ensures too_large { IfErr result
+        (λ e. e ≡ TooLarge → IsTooLarge (value_after nat_eq default writes.now default)) }
+    ensures no_other { IfErr result (λ e. (e ≡ TooLarge) ⊎ (e ≡ Memory)) }
+{
+    let trie = build_from_writes(alloc, default, error, trie_type, writes)?;
+    if asked.is_empty() {
+        Ok(ranges_text(alloc, &trie)?)
+    } else {
+        Ok(answers_text(alloc, asked, |n| trie.get32(n))?)
+    }
+}
+
+/// Reads the table to its end, and writes the lines of the asked numbers by one call, or where none is asked
+/// those of all ranges of equal values. Every fault but that of the write comes before a byte is written.
+pub fn run<S: Source, W: Sink>(
+    alloc: Global,
+    trie_type: TrieType,
+    default: u32,
+    error: u32,
+    asked: &[u32],
+    reader: &mut S,
+    writer: &mut W,
+) -> Result<(), TableError>
+    ensures text { IfOk result (λ _. IfSome (S.remaining reader.old) (λ input. (text : List ℕ)
+        × (IsTableText input default error asked.now text
+        × Appends (W.contents writer.old) (W.contents writer.new) text))) }
+    ensures end { IfOk result (λ _. IsAtEnd (S.remaining reader.new)) }
+    ensures counted { IfOk result (λ _. S.failures reader.new ≡ S.failures reader.old) }
+    ensures written { IfOk result (λ _. W.failures writer.new ≡ W.failures writer.old) }
+
+    ensures cause { IfErr result (HasCause default (S.remaining reader.old) (S.remaining reader.new)
+        (S.failures reader.old) (S.failures reader.new)) }
+    ensures write_fault { IfErr result
+        (λ e. e ≡ WriteFault → W.failures writer.old < W.failures writer.new) }
+    ensures before { IfErr result (λ e. e ≢ WriteFault → writer.new ≡ writer.old) }
+{
+    let input = read_all(alloc, reader)?;
+    let writes = read_rows(alloc, &input)?;
+    let text = answer_text(alloc, trie_type, default, error, &writes, asked)?;
+    match writer.write(text.as_bytes()) {
+        Ok(()) => Ok(()),
+        Err(Failed) => Err(TableError::Write),
+    }
+}
+
+/// Writes the usage line. Where that fails, nothing else is done.
+pub fn write_usage<W: Sink>(writer: &mut W)
+    ensures usage { W.failures writer.new ≡ W.failures writer.old
+        → Appends (W.contents writer.old) (W.contents writer.new) USAGE.now }
+    ensures counted { W.failures writer.old ≤ W.failures writer.new }
+{
+    let _ = writer.write(USAGE.as_bytes());
+}
+
+/// Answers a request: the same as `run`, after its words are taken as numbers.
+fn answer<S: Source, W: Sink>(
+    alloc: Global,
+    request: Request<'_>,
+    reader: &mut S,
+    writer: &mut W,
+) -> Result<(), TableError>
+    ensures text { IfOk result (λ _. IfSome (S.remaining reader.old) (λ input. (text : List ℕ)
+        × (IsTableText input request.entry.default request.entry.error
+        (filter_map (λ word. hexadecimal (string_bytes word)) request.entry.asked.now) text
+        × Appends (W.contents writer.old) (W.contents writer.new) text))) }
+    ensures counted { IfOk result (λ _. S.failures reader.new ≡ S.failures reader.old) }
+    ensures written { IfOk result (λ _. W.failures writer.new ≡ W.failures writer.old) }
+    ensures cause { IfErr result (HasCause request.entry.default (S.remaining reader.old) (S.remaining reader.new)
+        (S.failures reader.old) (S.failures reader.new)) }
+    ensures write_fault { IfErr result
+        (λ e. e ≡ WriteFault → W.failures writer.old < W.failures writer.new) }
+    ensures before { IfErr result (λ e. e ≢ WriteFault → writer.new ≡ writer.old) }
+{
+    let asked = asked_numbers(alloc, request.asked)?;
+    run(
+        alloc,
+        request.trie_type,
+        request.default,
+        request.error,
+        &asked,
+        reader,
+        writer,
+    )
+}
+
+/// What the program does with the words behind its name, and its status: 0 where the asked numbers
+/// are answered, or the ranges printed where none is asked, 1 where a fault's line is written, and 2 where the usage line is. Where a line can't
+/// be written, the status is the same.
+pub fn run_words<S: Source, W: Sink>(
+    alloc: Global,
+    words: &[String],
+    reader: &mut S,
+    writer: &mut W,
+) -> u8
+    ensures statuses { result ≤ 2 }
+    ensures usage { arguments_of (map string_bytes words.now) ≡ None → result ≡ 2 }
+    ensures readable { IfSome (arguments_of (map string_bytes words.now)) (λ _. result ≤ 1) }
+
+    ensures answers { result ≡ 0 → IfSome (arguments_of (map string_bytes words.now)) (λ a.
+        IfSome (S.remaining reader.old) (λ input. (text : List ℕ)
+        × (IsTableText input a.default a.error a.asked text
+        × Appends (W.contents writer.old) (W.contents writer.new) text))) }
+
+    // A failed read or write is never passed over.
+    ensures sound_reads { result ≡ 0 → S.failures reader.new ≡ S.failures reader.old }
+    ensures sound_writes { result ≡ 0 → W.failures writer.new ≡ W.failures writer.old }
+
+    // Where no write failed, a fault's line is all that is written, and so is the usage line.
+    // For that nothing is read.
+    ensures fault_line { result ≡ 1 → W.failures writer.new ≡ W.failures writer.old
+        → IfSome (arguments_of (map string_bytes words.now)) (λ a. (fault : TableError)
+        × (fault ≢ WriteFault
+        × (HasCause a.default (S.remaining reader.old) (S.remaining reader.new)
+        (S.failures reader.old) (S.failures reader.new) fault
+        × Appends (W.contents writer.old) (W.contents writer.new) (fault_text fault ++ 10 ∷ [])))) }
+    ensures usage_line { result ≡ 2 → W.failures writer.new ≡ W.failures writer.old
+        → Appends (W.contents writer.old) (W.contents writer.new) USAGE.now }
+    ensures unread { result ≡ 2 → reader.new ≡ reader.old }
+{
+    let Some(request) = request_of(words) else {
+        write_usage(writer);
+        return 2;
+    };
+    match answer(alloc, request, reader, writer) {
+        Ok(()) => 0,
+        Err(fault) => {
+            let _ = write_fault(writer, fault);
+            1
+        }
+    }
+}

@@ -1,0 +1,147 @@
+//! What a line of the table says.
+ghost use Rattle.std.specs.Prelude.{◌≡◌, ◌≤◌, ◌==◌, length};
+ghost use Rattle.std.specs.List.{position_or_len};
+ghost use Rattle.ucptab_table.specs.TableText.{trim_start, trim_end, trimmed, before, behind, code_points_of, row_of_numbers, content_of, row_of};
+
+use crate::fault::RowFault;
+use crate::numbers::{decimal_number, hexadecimal};
+use icu_trie_builder::writes::Write;
+
+/// The largest code point.
+const LAST_CODE_POINT: u32 = 0x10FFFF;
+
+/// The code points that a row speaks of.
+#[derive(Clone, Copy, Debug, PartialEq, Eq)]
+pub enum CodePoints {
+    /// This one.
+    Single(u32),
+    /// Those from the first to the second, both included.
+    Span(u32, u32),
+}
+
+/// The bytes without the spaces and tabs before them.
+fn trim_start(bytes: &[u8]) -> &[u8]
+    ensures { result.now ≡ trim_start bytes.now }
+{
+    let mut rest = bytes;
+    while let [b' ' | b'\t', others @ ..] = rest {
+        rest = others;
+    }
+    rest
+}
+
+/// The bytes without the spaces and tabs behind them.
+#[tactic(auto, using(crate::proofs::Bytes::trim_end_blank, crate::proofs::Bytes::trim_end_other, crate::proofs::Bytes::trim_end_none))]
+fn trim_end(bytes: &[u8]) -> &[u8]
+    ensures { result.now ≡ trim_end bytes.now }
+{
+    let mut rest = bytes;
+    while let [others @ .., b' ' | b'\t'] = rest {
+        rest = others;
+    }
+    rest
+}
+
+/// The bytes without the spaces and tabs round them.
+#[tactic(auto, unfolding(crate::specs::TableText::trimmed))]
+fn trimmed(bytes: &[u8]) -> &[u8]
+    ensures { result.now ≡ trimmed bytes.now }
+{
+    trim_end(trim_start(bytes))
+}
+
+/// The place of the first byte that is `mark`, or the length where none is.
+pub fn place_of(mark: u8, bytes: &[u8]) -> usize
+    ensures place { result ≡ position_or_len (λ b. b == mark) bytes.now }
+    ensures within { result ≤ length bytes.now }
+{
+    match bytes.iter().position(|b| *b == mark) {
+        Some(place) => place,
+        None => bytes.len(),
+    }
+}
+
+/// What stands before the first byte that is `mark`: all where none is.
+#[tactic(auto, unfolding(crate::specs::TableText::before))]
+pub fn before(mark: u8, bytes: &[u8]) -> &[u8]
+    ensures { result.now ≡ before mark bytes.now }
+{
+    &bytes[..place_of(mark, bytes)]
+}
+
+/// What stands behind the first byte that is `mark`: nothing where none is.
+#[tactic(auto, unfolding(crate::specs::TableText::behind))]
+pub fn behind(mark: u8, bytes: &[u8]) -> &[u8]
+    ensures { result.now ≡ behind mark bytes.now }
+{
+    let place = place_of(mark, bytes);
+    if place < bytes.len() {
+        &bytes[place + 1..]
+    } else {
+        &[]
+    }
+}
+
+/// The code points of the field `HEX` or `HEX..HEX`. `None` for any other field.
+#[tactic(auto, unfolding(crate::specs::TableText::code_points_of))]
+fn code_points_of(field: &[u8]) -> Option<CodePoints>
+    ensures { result ≡ code_points_of field.now }
+{
+    if let [b'.', end @ ..] = behind(b'.', field) {
+        let start = hexadecimal(before(b'.', field))?;
+        let end = hexadecimal(end)?;
+        return Some(CodePoints::Span(start, end));
+    }
+    let code_point = hexadecimal(field)?;
+    Some(CodePoints::Single(code_point))
+}
+
+/// The write of a row, or the first fault of its numbers.
+#[tactic(auto, unfolding(crate::specs::TableText::row_of_numbers))]
+fn row_of_numbers(points: CodePoints, value: u64) -> Result<Write<u32>, RowFault>
+    ensures { result ≡ row_of_numbers points value }
+{
+    let (start, end) = match points {
+        CodePoints::Single(code_point) => (code_point, code_point),
+        CodePoints::Span(start, end) => (start, end),
+    };
+    if start > LAST_CODE_POINT || end > LAST_CODE_POINT {
+        return Err(RowFault::CodePoint);
+    }
+    if start > end {
+        return Err(RowFault::Reversed);
+    }
+    let Ok(value) = u32::try_from(value) else {
+        return Err(RowFault::Value);
+    };
+    match points {
+        CodePoints::Single(code_point) => Ok(Write::One(code_point, value)),
+        CodePoints::Span(start, end) => Ok(Write::Range(start..=end, value)),
+    }
+}
+
+/// The line without its comment, from the first `#` on, and without the blanks round it.
+fn content_of(line: &[u8]) -> &[u8]
+    ensures { result.now ≡ content_of line.now }
+{
+    trimmed(before(b'#', line))
+}
+
+/// What a line says: its write, `None` where the line is empty or a comment, or what is wrong with it.
+#[tactic(auto, unfolding(crate::specs::TableText::row_of))]
+pub fn row_of(line: &[u8]) -> Result<Option<Write<u32>>, RowFault>
+    ensures { result ≡ row_of line.now }
+{
+    let content = content_of(line);
+    if content.is_empty() {
+        return Ok(None);
+    }
+    let Some(points) = code_points_of(trimmed(before(b';', content))) else {
+        return Err(RowFault::NotARow);
+    };
+    let Some(value) = decimal_number(trimmed(behind(b';', content))) else {
+        return Err(RowFault::NotARow);
+    };
+    let write = row_of_numbers(points, value)?;
+    Ok(Some(write))
+}

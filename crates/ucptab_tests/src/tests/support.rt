@@ -1,0 +1,176 @@
+//! Streams in memory, runs over them, and what a test expects of a run.
+ghost use Rattle.std.specs.Prelude.{◌≡◌, ◌<◌, Some};
+
+use icu_trie_core::cells::Steps;
+use std::alloc::{AllocError, Global};
+use std::marker::Brand;
+use std::process::Abort;
+use std::sync::ledger::{Blank, Ledger};
+use std::test::Fail;
+use ucptab_table::run_words;
+use ucptab_table::streams::{Failed, Sink, Source};
+
+/// A table in memory, of which each read gives up to `most` bytes. The read number `fails_at`, from 1, fails.
+#[derive(Drop)]
+struct Table<'a, L: Ledger> {
+    rest: &'a [u8],
+    most: usize,
+    reads: u32,
+    fails_at: u32,
+    failures: Steps<L>,
+}
+
+impl<L: Ledger> Source for Table<'_, L> {
+    ghost remaining = { λ table. Some table.rest.now };
+
+    ghost failures = { λ table. table.failures };
+
+    fn read(&mut self, buf: &mut [u8]) -> Result<usize, Failed> {
+        self.reads = self.reads.saturating_add(1);
+        if self.reads == self.fails_at {
+            self.failures.tick();
+            return Err(Failed);
+        }
+        let n = self.rest.len().min(buf.len()).min(self.most.max(1));
+        let (front, rest) = self.rest.split_at(n);
+        buf[..n].copy_from_slice(front);
+        self.rest = rest;
+        Ok(n)
+    }
+}
+
+/// What was written. The write number `fails_at`, from 1, fails.
+#[derive(Drop)]
+struct Written<L: Ledger> {
+    bytes: Vec<u8>,
+    writes: u32,
+    fails_at: u32,
+    failures: Steps<L>,
+}
+
+impl<L: Ledger> Sink for Written<L> {
+    ghost contents = { λ written. Some written.bytes.items };
+
+    ghost failures = { λ written. written.failures };
+
+    fn write(&mut self, buf: &[u8]) -> Result<(), Failed> {
+        self.writes = self.writes.saturating_add(1);
+        if self.writes != self.fails_at && self.bytes.extend_from_slice(buf).is_ok() {
+            return Ok(());
+        }
+        self.failures.tick();
+        Err(Failed)
+    }
+}
+
+/// A run of the program.
+#[derive(Clone, Copy, Debug)]
+pub struct Run<'a> {
+    /// The words, which single spaces part.
+    pub words: &'a str,
+    /// The table.
+    pub input: &'a [u8],
+    /// The bytes that a read gives up to.
+    pub most: usize,
+    /// The read that fails, from 1, and none at 0.
+    pub failing_read: u32,
+    /// The write that fails, from 1, and none at 0.
+    pub failing_write: u32,
+}
+
+/// A run in which no call fails, and a read gives up to 4096 bytes.
+pub fn sound<'a>(words: &'a str, input: &'a [u8]) -> Run<'a> {
+    Run {
+        words,
+        input,
+        most: 4096,
+        failing_read: 0,
+        failing_write: 0,
+    }
+}
+
+/// The line that is printed where the words can't be taken.
+pub const USAGE: &[u8] = b"usage: ucptab fast|small DEFAULT ERROR [HEX ..]\n";
+
+/// How a run ends.
+#[derive(Drop)]
+pub struct Ending {
+    pub status: u8,
+    pub bytes: Vec<u8>,
+}
+
+/// The words of a line, which single spaces part.
+fn words_of(alloc: Global, line: &str) -> Result<Vec<String>, AllocError> {
+    let mut words = Vec::new(alloc);
+    for word in line.split(' ') {
+        words.push(String::from_str(alloc, word)?)?;
+    }
+    Ok(words)
+}
+
+fn outcome_over<L: Ledger, K: Ledger>(
+    alloc: Global,
+    words: &[String],
+    run: Run<'_>,
+    reads: Blank,
+    writes: Blank,
+) -> Result<Ending, AllocError>
+    requires name { reads.name ≡ L.name }
+    requires parts { reads.parts ≡ L.parts }
+    requires some { 0 < reads.parts }
+    requires other_name { writes.name ≡ K.name }
+    requires other_parts { writes.parts ≡ K.parts }
+    requires other_some { 0 < writes.parts }
+{
+    let mut reader = Table {
+        rest: run.input,
+        most: run.most,
+        reads: 0,
+        fails_at: run.failing_read,
+        failures: Steps::<L>::new(reads),
+    };
+    // Room for what a test may write, so that only the run itself asks for more.
+    let mut writer = Written {
+        bytes: Vec::with_capacity(alloc, 4096)?,
+        writes: 0,
+        fails_at: run.failing_write,
+        failures: Steps::<K>::new(writes),
+    };
+    let status = run_words(alloc, words, &mut reader, &mut writer);
+    let bytes = Vec::from_slice(alloc, &writer.bytes)?;
+    Ok(Ending { status, bytes })
+}
+
+/// How the run ends.
+pub fn outcome(alloc: Global, run: Run<'_>) -> Result<Ending, AllocError> {
+    let words = words_of(alloc, run.words)?;
+    outcome_over::<Brand, Brand>(alloc, &words, run, Blank::new(1), Blank::new(1))
+}
+
+/// The run has this status.
+pub fn expect_status(rt: &impl Abort, status: u8, want: u8, run: Run<'_>) {
+    assert_eq!(rt; status, want, "the status of {run:?}");
+}
+
+/// The run printed these bytes.
+pub fn expect_bytes(rt: &impl Abort, bytes: Vec<u8>, want: &[u8], run: Run<'_>) {
+    assert_eq!(rt; bytes.as_slice(), want, "printed by {run:?}");
+}
+
+/// The run ends with this status and has printed these bytes.
+pub fn expect_run(
+    rt: &(impl Abort + AllocGlobal),
+    run: Run<'_>,
+    status: u8,
+    bytes: &[u8],
+) -> Result<(), Fail> {
+    let end = outcome(rt.alloc(), run)?;
+    expect_status(rt, end.status, status, run);
+    expect_bytes(rt, end.bytes, bytes, run);
+    Ok(())
+}
+
+/// The text is the wanted one.
+pub fn expect_text(rt: &impl Abort, text: String, want: &str, what: &str) {
+    assert_eq!(rt; text.as_str(), want, "of {what}");
+}

@@ -1,0 +1,37 @@
+//! The words of the program: which are taken, and which are answered by the usage line.
+use super::support::{USAGE, expect_run, sound};
+use std::test::Fail;
+
+#[test]
+fn words_are_tested(rt: HostRuntime) -> Result<(), Fail> {
+    let refused = [
+        "",
+        "fast",
+        "fast 0",
+        "Fast 0 9 41",
+        "fast 0 9 ",
+        "fas 0 9 41",
+        "fast 4294967296 9 41",
+        "fast 0 4294967296 41",
+        "fast 00000000000 9 41",
+        "fast 0x1 9 41",
+        "fast +1 9 41",
+        "fast 0 -9 41",
+        "fast  9 41",
+        "fast 0 9 000000041",
+        "fast 0 9 41 4g",
+        "fast 0 9 41 ",
+        "fast 0 9 U+41",
+        "small 0 9 41..42",
+    ];
+    for line in refused {
+        expect_run(&rt, sound(line, b"x"), 2, USAGE)?;
+    }
+    Ok(())
+}
+
+#[test]
+fn words_are_taken(rt: HostRuntime) -> Result<(), Fail> {
+    let words = "small 0000000007 4294967295 0 FFFFFFFF";
+    expect_run(&rt, sound(words, b""), 0, b"0000;7\nFFFFFFFF;4294967295\n")
+}

@@ -1,0 +1,144 @@
+//! Calls whose requests for memory are refused in turn. The script `tests/refused_memory` runs each test whose
+//! name ends in `_refused` with its first, second, .. request refused, until a run refuses nothing: a refusal
+//! between the lines `call` and `done` has to be answered by the line `refused`. In a test whose name ends in
+//! `_quiet` nothing is asked for between the two.
+use crate::tests::support::{SIX, expect, expect_same, last_result, trie_of};
+use icu_char16trie::char16trie::{Char16JsonError, Char16Trie, Iter2, TrieResult};
+use icu_zerovec::MemoryError;
+use serde_json::Value;
+use std::fmt::Write;
+use std::process::Abort;
+
+/// Prints the line.
+fn say(rt: &(impl Abort + Print), line: &str) {
+    let printed = println!(rt; "{line}");
+    assert!(rt; printed.is_ok());
+}
+
+/// Says that memory was refused.
+fn say_refused(rt: &(impl Abort + Print), error: MemoryError) {
+    expect_same(rt, error, MemoryError, "the error");
+    say(rt, "refused");
+}
+
+/// The clone is equal to the trie, or memory was refused.
+fn expect_clone(
+    rt: &(impl Abort + Print),
+    trie: &Char16Trie<'_>,
+    cloned: Result<Char16Trie<'_>, MemoryError>,
+) {
+    match cloned {
+        Ok(other) => expect(rt, other == *trie, "an equal trie"),
+        Err(error) => say_refused(rt, error),
+    }
+}
+
+#[test]
+fn try_clone_refused(rt: HostRuntime) {
+    let Ok(trie) = trie_of(rt.alloc(), &[0x30, 0x61, 0x8001]) else {
+        return;
+    };
+    say(&rt, "call");
+    let cloned = trie.try_clone(rt.alloc());
+    say(&rt, "done");
+    expect_clone(&rt, &trie, cloned);
+    let result = last_result(&trie, "a");
+    expect_same(&rt, result, TrieResult::FinalValue(1), "the trie itself");
+}
+
+/// The value of the last entry.
+fn last_value(entries: &mut Iter2<'_>) -> Result<Option<i32>, MemoryError> {
+    let mut last = None;
+    for item in entries {
+        let (_, value) = item?;
+        last = Some(value);
+    }
+    Ok(last)
+}
+
+/// The last value is 6, or memory was refused.
+fn expect_six(rt: &(impl Abort + Print), last: Result<Option<i32>, MemoryError>) {
+    match last {
+        Ok(value) => expect_same(rt, value, Some(6), "the last value"),
+        Err(error) => say_refused(rt, error),
+    }
+}
+
+/// After want of memory no item comes.
+#[test]
+fn iter2_refused(rt: HostRuntime) {
+    let Ok(trie) = trie_of(rt.alloc(), &SIX) else {
+        return;
+    };
+    let mut entries = trie.iter2(rt.alloc());
+    say(&rt, "call");
+    let last = last_value(&mut entries);
+    say(&rt, "done");
+    expect_six(&rt, last);
+    expect(&rt, entries.next().is_none(), "no item");
+}
+
+/// A JSON value has the key of the units, or memory was refused.
+fn expect_json(rt: &(impl Abort + Print), written: Result<Value, MemoryError>) {
+    match written {
+        Ok(value) => expect(rt, value.get("data").is_some(), "the key `data`"),
+        Err(error) => say_refused(rt, error),
+    }
+}
+
+#[test]
+fn to_json_refused(rt: HostRuntime) {
+    let Ok(trie) = trie_of(rt.alloc(), &[0x8007]) else {
+        return;
+    };
+    say(&rt, "call");
+    let written = trie.to_json(rt.alloc());
+    say(&rt, "done");
+    expect_json(&rt, written);
+}
+
+/// The trie has the value 7 at its root, or memory was refused.
+fn expect_seven(rt: &(impl Abort + Print), read: Result<Char16Trie<'_>, Char16JsonError>) {
+    match read {
+        Ok(trie) => expect_same(rt, trie.cursor().value(), Some(7), "the value"),
+        Err(error) => {
+            expect_same(rt, error, Char16JsonError::Memory, "the error");
+            say(rt, "refused");
+        }
+    }
+}
+
+#[test]
+fn from_json_refused(rt: HostRuntime) {
+    let Ok(value) = Value::from_str(rt.alloc(), r#"{"data":[32775]}"#) else {
+        return;
+    };
+    say(&rt, "call");
+    let read = Char16Trie::from_json(rt.alloc(), &value);
+    say(&rt, "done");
+    expect_seven(&rt, read);
+}
+
+/// Whether `c` can be written to a cursor, its value, whether no key goes on beyond it, and what an iterator
+/// tells of `d`.
+fn look_ups_of(trie: &Char16Trie<'_>) -> (bool, Option<i32>, bool, TrieResult) {
+    let mut cursor = trie.cursor();
+    let written = cursor.write_str("c").is_ok();
+    let result = trie.iter().next('d');
+    (written, cursor.value(), cursor.is_empty(), result)
+}
+
+/// Look-ups take no memory, and neither does an iterator that is not asked.
+#[test]
+fn look_ups_quiet(rt: HostRuntime) {
+    let Ok(trie) = trie_of(rt.alloc(), &SIX) else {
+        return;
+    };
+    say(&rt, "call");
+    let found = look_ups_of(&trie);
+    let entries = trie.iter2(rt.alloc());
+    say(&rt, "done");
+    let want = (true, Some(3), true, TrieResult::FinalValue(4));
+    expect_same(&rt, found, want, "c and d");
+    let _ = entries;
+}

@@ -1,0 +1,186 @@
+//! Tries whose entries and results are known from the format's description, and units that are no trie.
+use crate::tests::support::{SIX, last_result, trie_of};
+use icu_char16trie::char16trie::{Char16Trie, TrieResult};
+use icu_zerovec::MemoryError;
+use std::alloc::Global;
+use std::process::Abort;
+use std::test::Fail;
+
+/// An entry as `text=value;`.
+fn line_of(alloc: Global, text: String, value: i32) -> Result<String, MemoryError> {
+    Ok(format!(in alloc; "{text}={value};")?)
+}
+
+/// One item more of `iter2`, as its line.
+fn add_line(
+    alloc: Global,
+    said: &mut String,
+    item: Result<(String, i32), MemoryError>,
+) -> Result<(), MemoryError> {
+    let (text, value) = item?;
+    let line = line_of(alloc, text, value)?;
+    Ok(said.push_str(line.as_str())?)
+}
+
+/// The entries of `iter2` one after another.
+fn entries_of(alloc: Global, trie: &Char16Trie<'_>) -> Result<String, MemoryError> {
+    let mut said = String::new(alloc);
+    for item in trie.iter2(alloc) {
+        add_line(alloc, &mut said, item)?;
+    }
+    Ok(said)
+}
+
+/// The entries of these units are these.
+fn expect_entries(rt: &impl Abort, said: String, entries: &str, units: &[u16]) {
+    assert_eq!(rt; said.as_str(), entries, "of {units:?}");
+}
+
+/// The text gives this result.
+fn expect_result(rt: &impl Abort, found: TrieResult, want: TrieResult, text: &str, units: &[u16]) {
+    assert_eq!(rt; found, want, "{text} of {units:?}");
+}
+
+/// These units give these entries, and this result after the characters of the text.
+fn expect_trie(
+    rt: &(impl Abort + AllocGlobal),
+    units: &[u16],
+    entries: &str,
+    text: &str,
+    want: TrieResult,
+) -> Result<(), MemoryError> {
+    let trie = trie_of(rt.alloc(), units)?;
+    expect_result(rt, last_result(&trie, text), want, text, units);
+    expect_entries(rt, entries_of(rt.alloc(), &trie)?, entries, units);
+    Ok(())
+}
+
+/// What ICU's builder writes for six keys of one letter, each with a longer key: values at the ends of each of their lengths.
+const SIX_BY_ICU: [u16; 45] = [
+    0x5, 0x64, 0x19, 0x64, 0xA, 0x65, 0xE, 0x66, 0x7FF0, 0xFFFF, 0xFFFF, 0x7A, 0xFFFF, 0x8000, 0x0,
+    0x7FB0, 0xFFFF, 0x7A, 0xFFFF, 0x3FFF, 0x0, 0x7FF0, 0xFE, 0x0, 0x7A, 0xFFFF, 0xFFFF, 0xFFFF,
+    0x61, 0x8, 0x62, 0x9, 0x63, 0x4070, 0x100, 0x7A, 0xFFFE, 0xFFFF, 0x70, 0x7A, 0xBFFF, 0x4030,
+    0x7A, 0xC000, 0x4000,
+];
+
+#[test]
+fn values_of_all_lengths(rt: HostRuntime) -> Result<(), Fail> {
+    let entries =
+        "a=0;az=16383;b=255;bz=16384;c=256;cz=1073676287;d=16646143;dz=1073676288;e=16646144;ez=-1;f=-1;fz=-2147483648;";
+    expect_trie(&rt, &SIX_BY_ICU, entries, "ez", TrieResult::FinalValue(-1))?;
+    expect_trie(
+        &rt,
+        &SIX_BY_ICU,
+        entries,
+        "d",
+        TrieResult::Intermediate(16_646_143),
+    )?;
+    Ok(())
+}
+
+#[test]
+fn values_and_linear_matches(rt: HostRuntime) -> Result<(), Fail> {
+    let smile = [0x31, 0xD83D, 0xDE00, 0x8001];
+    // A surrogate without its partner is a key, and no character.
+    let lone = [0x30, 0xD800, 0x8005];
+    for (units, entries, text, want) in [
+        ([].as_slice(), "", "a", TrieResult::NoMatch),
+        ([0x8007].as_slice(), "=7;", "a", TrieResult::NoMatch),
+        ([0xC000, 0x0001].as_slice(), "=1;", "a", TrieResult::NoMatch),
+        (
+            [0xFFFF, 0xFFFF, 0xFFFE].as_slice(),
+            "=-2;",
+            "a",
+            TrieResult::NoMatch,
+        ),
+        (
+            [0x31, 0x61, 0x62, 0x8003].as_slice(),
+            "ab=3;",
+            "a",
+            TrieResult::NoValue,
+        ),
+        (
+            smile.as_slice(),
+            "\u{1f600}=1;",
+            "\u{1f600}",
+            TrieResult::FinalValue(1),
+        ),
+        (
+            lone.as_slice(),
+            "\u{fffd}=5;",
+            "\u{fffd}",
+            TrieResult::NoMatch,
+        ),
+    ] {
+        expect_trie(&rt, units, entries, text, want)?;
+    }
+    Ok(())
+}
+
+#[test]
+fn branches(rt: HostRuntime) -> Result<(), Fail> {
+    let jump = [1, 0x61, 2, 0x62, 0x8002, 0x8001];
+    expect_trie(&rt, &jump, "a=1;b=2;", "b", TrieResult::FinalValue(2))?;
+    let final_in_row = [1, 0x61, 0x8001, 0x62, 0x8002];
+    expect_trie(
+        &rt,
+        &final_in_row,
+        "a=1;b=2;",
+        "a",
+        TrieResult::FinalValue(1),
+    )?;
+    for (text, want) in [
+        ("c", TrieResult::FinalValue(3)),
+        ("f", TrieResult::FinalValue(6)),
+        ("g", TrieResult::NoMatch),
+    ] {
+        expect_trie(&rt, &SIX, "a=1;b=2;c=3;d=4;e=5;f=6;", text, want)?;
+    }
+    Ok(())
+}
+
+#[test]
+fn intermediate_values(rt: HostRuntime) -> Result<(), Fail> {
+    let units = [0x30, 0x61, 0xB0, 0x62, 0x8002];
+    for (text, want) in [
+        ("a", TrieResult::Intermediate(1)),
+        ("ab", TrieResult::FinalValue(2)),
+    ] {
+        expect_trie(&rt, &units, "a=1;ab=2;", text, want)?;
+    }
+    Ok(())
+}
+
+/// Units that are no trie answer all the same: what is needed and not there is no match, and the value of a node
+/// that is cut off is 0.
+#[test]
+fn broken_units(rt: HostRuntime) -> Result<(), Fail> {
+    for (units, entries, want) in [
+        ([0].as_slice(), "", TrieResult::NoMatch),
+        ([0x30].as_slice(), "", TrieResult::NoMatch),
+        ([5, 0x61].as_slice(), "", TrieResult::NoMatch),
+        ([0xFFFF].as_slice(), "=0;", TrieResult::NoMatch),
+        ([0x7FC0].as_slice(), "=0;", TrieResult::NoMatch),
+        (
+            [0x30, 0x61, 0xFFFF].as_slice(),
+            "a=0;",
+            TrieResult::FinalValue(0),
+        ),
+    ] {
+        expect_trie(&rt, units, entries, "a", want)?;
+    }
+    Ok(())
+}
+
+#[test]
+fn jump_past_the_end(rt: HostRuntime) -> Result<(), Fail> {
+    let units = [1, 0x61, 0x3FFF, 0x62, 0x8002];
+    for (text, want) in [
+        ("a", TrieResult::NoMatch),
+        ("ab", TrieResult::NoMatch),
+        ("b", TrieResult::FinalValue(2)),
+    ] {
+        expect_trie(&rt, &units, "b=2;", text, want)?;
+    }
+    Ok(())
+}
