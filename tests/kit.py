@@ -13,7 +13,6 @@ def top():
 
 def load():
     """rt's own module, set up as rt ci does it."""
-    sys.dont_write_bytecode = True
     loader = importlib.machinery.SourceFileLoader("rt", os.path.realpath(shutil.which("rt") or sys.exit("no rt: put the kit's folder bin on PATH")))
     made = importlib.util.module_from_spec(importlib.util.spec_from_loader("rt", loader))
     loader.exec_module(made)
