@@ -1,10 +1,10 @@
 -- How the units of a JSON array are read, one item after another.
-use Rattle.std.proofs.Common.{◌≡◌, ℕ, suc, ◌+◌, ◌<◌, ◌≤◌, List, [], ◌∷◌, ◌++◌, ◌^◌, Bool, true, false, Option, Some, None, Result, Ok, Err, refl, sym, ap, ◌∙◌, arith, length, get_or, drop, drop-cons, append_assoc, append-nil, add-one, map}
+use Rattle.std.proofs.Common.{◌≡◌, ℕ, suc, ◌+◌, ◌<◌, ◌≤◌, List, [], ◌∷◌, ◌++◌, ◌^◌, true, Option, Some, None, Result, Ok, Err, refl, sym, ap, ◌∙◌, arith, length, get_or, drop, drop-cons, append_assoc, append-nil, add-one, map}
 use Rattle.std.proofs.lemmas.List.{drop_all}
 use Rattle.std.proofs.lemmas.Bool.Decides.{nat_tests}
 use Rattle.std.specs.Prelude.{All, nat_lt}
 use Rattle.serde_json.proofs.OnLiterals.{serde_json_on_literals}
-use Rattle.serde_json.specs.Data.{Data, number, unsigned, Items, no_items, item}
+use Rattle.serde_json.specs.Data.{Data, number, unsigned, Items, item}
 use Rattle.serde_json.specs.View.{view, items_view, items_of}
 use Rattle.serde_json.specs.declared.value.Value.{Value}
 use Rattle.icu_char16trie.specs.Char16Json.{unit_of, unit_before, units_from, units_of, json_of}

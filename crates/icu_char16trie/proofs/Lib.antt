@@ -9,3 +9,4 @@ pub mod Runs
 pub mod PassedLaws
 pub mod JsonLaws
 pub mod Rows
+pub mod LongForms

@@ -1,5 +1,5 @@
 -- What a step does at a node.
-use Rattle.std.proofs.Common.{◌≡◌, ℕ, ℤ, suc, zero, ◌+◌, ◌-◌, ◌<◌, ◌≤◌, Bool, true, false, cond, not, ◌||◌, ◌&&◌, nat_eq, List, [], ◌∷◌, ◌++◌, map, Option, Some, None, refl, sym, ap, ◌∙◌, arith, length, take, drop, slice_get, ◌⊎◌, inl, inr, append-nil, add-one, add-zero, drop-cons, get_or, ◌%◌}
+use Rattle.std.proofs.Common.{◌≡◌, ℕ, ℤ, ◌+◌, ◌-◌, ◌<◌, ◌≤◌, Bool, true, false, cond, nat_eq, List, [], ◌∷◌, ◌++◌, Option, Some, None, refl, sym, ap, ◌∙◌, arith, length, take, drop, slice_get, ◌⊎◌, inl, inr, append-nil, add-one, add-zero, drop-cons, get_or, ◌%◌}
 use Rattle.std.specs.Int.{cast_signed, w32}
 use Rattle.icu_char16trie.specs.Numbers.{short_number, node_number, node_end}
 use Rattle.std.proofs.lemmas.Option.{slice_get_within, get_or_from_slice_get, slice_get-get_or}

@@ -1,14 +1,11 @@
 -- What a cursor passes, one unit after the other.
-use Rattle.std.proofs.Common.{◌≡◌, ℕ, ℤ, ◌+◌, ◌-◌, ◌/◌, ◌%◌, ◌<◌, ◌≤◌, Bool, true, false, nat_lt, cond, List, [], ◌∷◌, ◌++◌, Option, Some, None, slice_get, refl, sym, ap, subst, ◌∙◌, arith, append-nil, append_assoc}
-use Rattle.std.specs.Prelude.{nat_le, option_and_then}
+use Rattle.std.proofs.Common.{◌≡◌, ℕ, ℤ, ◌+◌, ◌-◌, ◌/◌, ◌%◌, ◌<◌, ◌≤◌, true, false, nat_lt, List, [], ◌∷◌, ◌++◌, refl, sym, subst, ◌∙◌, arith, append-nil, append_assoc}
 use Rattle.std.specs.Char.Escape.{encode_utf16}
 use Rattle.std.proofs.lemmas.Bool.Decides.{nat_tests}
-use Rattle.icu_char16trie.specs.Places.{At, IsAfter, value_at, value_by, is_empty_at, ends_by}
-use Rattle.icu_char16trie.specs.Steps.{StepsTo, StepsAlong, InNode, no_lead, at_final, at_plain, at_valued}
-use Rattle.icu_char16trie.specs.Passed.{Passes, answer_at, result_of}
+use Rattle.icu_char16trie.specs.Places.{At, IsAfter}
+use Rattle.icu_char16trie.specs.Steps.{StepsTo, StepsAlong}
+use Rattle.icu_char16trie.specs.Passed.{Passes}
 use Rattle.icu_char16trie.specs.declared.place.Place.{Place}
-use Rattle.icu_char16trie.specs.declared.place.Place.TheVariants.{Nowhere, Node, Run}
-use Rattle.icu_char16trie.specs.declared.iterator.TrieResult.TheVariants.{NoMatch, NoValue, FinalValue, Intermediate}
 use Rattle.icu_char16trie.proofs.StepLaws.{steps_one}
 
 along_then : (units : List ℕ) (from mid to : Place) (v w : List ℕ) → StepsAlong units from v mid → StepsAlong units mid w to → StepsAlong units from (v ++ w) to

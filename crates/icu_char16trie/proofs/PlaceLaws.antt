@@ -1,13 +1,12 @@
 -- What stands at a place says of the place's value and its end.
-use Rattle.std.proofs.Common.{◌≡◌, ℕ, ℤ, suc, ◌+◌, ◌-◌, ◌<◌, ◌≤◌, ◌%◌, Bool, true, false, cond, not, ◌||◌, ◌&&◌, nat_eq, nat_lt, List, [], ◌∷◌, ◌++◌, Option, Some, None, refl, sym, ap, ◌∙◌, arith, length, take, drop, slice_get, inl, inr}
+use Rattle.std.proofs.Common.{◌≡◌, ℕ, ℤ, ◌<◌, ◌≤◌, true, false, not, nat_lt, List, [], ◌∷◌, ◌++◌, refl, sym, ap, ◌∙◌, arith, slice_get, inl, inr}
 use Rattle.std.proofs.lemmas.Bool.Decides.{nat_tests}
 use Rattle.std.specs.Prelude.{nat_le}
-use Rattle.std.specs.Int.{cast_signed, w32}
-use Rattle.icu_char16trie.specs.Numbers.{short_number, node_number, node_end}
 use Rattle.icu_char16trie.specs.Grammar.{Holds, final, plain, valued, Matches, IsTrieOf}
 use Rattle.icu_char16trie.specs.Grammar as grammar
 use Rattle.icu_char16trie.specs.UnitMap.{under, after, after_all, value_of, same_key, goes_on, key_goes_on}
-use Rattle.icu_char16trie.specs.Places.{InRun, Stands, At, IsAfter, value_at, value_by, is_empty_at, ends_by}
+use Rattle.icu_char16trie.specs.Passed.{answer_at, result_of}
+use Rattle.icu_char16trie.specs.Places.{Stands, At, IsAfter, value_at, is_empty_at}
 use Rattle.icu_char16trie.specs.declared.place.Place.{Place}
 use Rattle.icu_char16trie.specs.declared.place.Place.TheVariants.{Nowhere, Node, Run}
 use Rattle.icu_char16trie.proofs.MapLaws.{value_after_all, goes_on_after_all, after_all_push}
@@ -67,6 +66,10 @@ value_is_after cursor m w h = value_stands cursor.units cursor.place (after_all 
 
 pub empty_is_after : (cursor : At) (m : List (List ℕ × ℤ)) (w : List ℕ) → IsAfter cursor m w → is_empty_at cursor.units cursor.place ≡ not (goes_on m w)
 empty_is_after cursor m w h = empty_stands cursor.units cursor.place (after_all w m) h ∙ ap not (sym (goes_on_after_all w m))
+
+-- what is told where units of a trie have been passed
+pub answer_is_after : (cursor : At) (m : List (List ℕ × ℤ)) (w : List ℕ) → IsAfter cursor m w → answer_at cursor ≡ result_of (value_of m w) (not (goes_on m w))
+answer_is_after cursor m w h = rw (value_is_after cursor m w h, empty_is_after cursor m w h) refl
 
 pub step_is_after : (units : List ℕ) (place : Place) (m : List (List ℕ × ℤ)) (w : List ℕ) (u : ℕ) → Stands units place (after u (after_all w m)) → Stands units place (after_all (w ++ u ∷ []) m)
 step_is_after units place m w u h = rw (after_all_push w u m) h

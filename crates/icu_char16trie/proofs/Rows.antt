@@ -1,5 +1,5 @@
 -- Small tries and their maps, so that each rule of the grammar is met by units.
-use Rattle.std.proofs.Common.{◌≡◌, ℕ, ℤ, pos, negsuc, List, [], ◌∷◌, Some, refl, lit<, lit≤}
+use Rattle.std.proofs.Common.{ℕ, ℤ, pos, negsuc, List, [], ◌∷◌, refl, lit<, lit≤}
 use Rattle.icu_char16trie.specs.Numbers.{short_number, short_end, node_number, node_end, entry_child, delta_number, delta_end, lower_part}
 use Rattle.icu_char16trie.specs.Grammar.{Arms, Part, last, entry, split, Holds, final, plain, valued, Matches, run, branch, Children, none, more, IsTrieOf}
 use Rattle.icu_char16trie.specs.Grammar as grammar

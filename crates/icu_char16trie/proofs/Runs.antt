@@ -1,6 +1,5 @@
 -- A whole run of the iterator.
-use Rattle.std.proofs.Common.{◌≡◌, ℕ, ℤ, Bool, true, false, List, [], ◌∷◌, Option, Some, None, Result, Ok, Err, String, Global, string_bytes, subst, sym, refl, ◌⊎◌, inl, inr}
-use Rattle.std.specs.Prelude.{IsNone}
+use Rattle.std.proofs.Common.{◌≡◌, ℕ, ℤ, Bool, true, false, List, [], ◌∷◌, None, Result, Ok, Err, String, Global, subst, refl, ◌⊎◌, inl, inr}
 use Rattle.std.specs.Iterator.{Yields, Drains}
 use Rattle.icu_zerovec.specs.declared.memory.MemoryError.{MemoryError}
 use Rattle.icu_char16trie.specs.Entries.{IsLeft, IsDone, GivesNext, AreEntries, AreCutShort}

@@ -1,11 +1,10 @@
 -- A unit leads to one place.
-use Rattle.std.proofs.Common.{◌≡◌, ◌≢◌, ℕ, ◌+◌, ◌-◌, ◌/◌, ◌%◌, ◌<◌, ◌≤◌, Bool, true, false, cond, nat_eq, nat_lt, List, [], ◌∷◌, Option, Some, None, slice_get, refl, sym, ap, ◌∙◌, arith}
-use Rattle.std.specs.Prelude.{nat_le}
+use Rattle.std.proofs.Common.{◌≡◌, ℕ, ◌+◌, ◌-◌, ◌/◌, ◌%◌, ◌<◌, ◌≤◌, Bool, true, false, nat_eq, nat_lt, List, Option, Some, None, slice_get, sym, ap, ◌∙◌, arith}
 use Rattle.std.specs.Bool.{then_some}
 use Rattle.std.proofs.lemmas.Bool.{ne_eqb}
 use Rattle.std.proofs.lemmas.Bool.Decides.{nat_tests}
-use Rattle.icu_char16trie.specs.Numbers.{short_end, node_end, delta_end, entry_child, lower_part}
-use Rattle.icu_char16trie.specs.Steps.{InRow, gone, last, cut, here, on, InPart, row, no_split, no_delta, cut_delta, lower, upper, InMatch, in_run, in_short, in_long, no_length, InNode, no_lead, at_final, at_plain, at_valued, StepsTo, child_place, run_place}
+use Rattle.icu_char16trie.specs.Numbers.{short_end, delta_end, entry_child, lower_part}
+use Rattle.icu_char16trie.specs.Steps.{InRow, gone, last, cut, here, on, InPart, row, no_split, no_delta, cut_delta, lower, upper, InMatch, in_run, in_short, in_long, no_length, InNode, no_lead, at_final, at_plain, at_valued, StepsTo, child_place}
 use Rattle.icu_char16trie.specs.declared.place.Place.{Place}
 use Rattle.icu_char16trie.specs.declared.place.Place.TheVariants.{Nowhere, Node, Run}
 

@@ -1,7 +1,6 @@
 -- How tasks are opened.
-use Rattle.std.proofs.Common.{◌≡◌, ℕ, ℤ, suc, ◌+◌, ◌-◌, ◌*◌, ◌/◌, ◌%◌, ◌^◌, ◌<◌, ◌≤◌, List, [], ◌∷◌, ◌++◌, Option, Some, None, true, false, nat_eq, refl, sym, ap, subst, ◌∙◌, arith, length, take, drop, slice_get, append_assoc, append-nil, reverse, ◌⊎◌, inl, inr, length-append, add-zero, unwrap_or}
+use Rattle.std.proofs.Common.{◌≡◌, ℕ, ℤ, suc, ◌+◌, ◌-◌, ◌/◌, ◌%◌, ◌^◌, ◌<◌, ◌≤◌, List, [], ◌∷◌, ◌++◌, Option, Some, None, true, false, nat_eq, refl, sym, ap, subst, ◌∙◌, arith, length, take, drop, slice_get, append_assoc, append-nil, reverse, inl, inr, length-append, unwrap_or}
 use Rattle.std.proofs.lemmas.List.Sums.{sum_by-append}
-use Rattle.std.specs.Prelude.{sum_by}
 use Rattle.std.proofs.lemmas.List.{take_all, take-append-le, reverse-append}
 use Rattle.std.proofs.Math.Nat.{pow-le-pow_right, one-le-pow, pow-suc}
 use Rattle.std.specs.Int.{cast_signed, w32}
@@ -12,7 +11,6 @@ use Rattle.icu_char16trie.specs.Places.{InRun}
 use Rattle.icu_char16trie.specs.LossyText.{key_text}
 use Rattle.icu_char16trie.specs.Tasks.{Pending, WorkHolds, GivesFirst, weight, work_left}
 use Rattle.icu_char16trie.specs.declared.task.Task.{Task}
-use Rattle.icu_char16trie.specs.declared.task.Work.{Work}
 use Rattle.icu_char16trie.specs.declared.task.Work.TheVariants as work
 use Rattle.std.proofs.lemmas.Bool.{ne_eqb, eq-eqb}
 use Rattle.icu_char16trie.proofs.NodeLaws.{matches_branch, holds_final, holds_plain, holds_valued, holds_within}

@@ -1,5 +1,5 @@
 -- What an iterator over the entries of a trie has still to give.
-use Rattle.std.specs.Prelude.{◌≡◌, ℕ, ℤ, List, [], ◌∷◌, Option, Result, Ok, Err, reverse, MatchOption, MatchResult, IfSome, IfOk, string_bytes, String, IsNone, IsErr, ◌⊎◌}
+use Rattle.std.specs.Prelude.{◌≡◌, ℕ, ℤ, List, [], ◌∷◌, Option, Result, Ok, Err, reverse, MatchOption, MatchResult, IfSome, IfOk, string_bytes, String, IsNone, IsErr}
 use Rattle.std.specs.Global.{Global}
 use Rattle.icu_zerovec.specs.Slice.{slice_values}
 use Rattle.icu_zerovec.specs.declared.memory.MemoryError.{MemoryError}

@@ -3,7 +3,7 @@
 -- A node begins with its lead unit. Bit 15 of the lead says a final value. Otherwise its low six bits say a
 -- match node: 0x30..=0x3f a linear match of 1 to 16 units, 0x00..=0x2f a branch; its bits 6 to 14, where they
 -- are not 0, say an intermediate value before it.
-use Rattle.std.specs.Prelude.{◌≡◌, ℕ, ℤ, ◌+◌, ◌-◌, ◌/◌, ◌%◌, ◌<◌, ◌≤◌, ◌==◌, List, [], ◌∷◌, ◌++◌, Option, Some, slice_get, if◌then◌else◌, take, drop, length}
+use Rattle.std.specs.Prelude.{◌≡◌, ℕ, ◌+◌, ◌-◌, ◌/◌, ◌%◌, ◌<◌, ◌≤◌, ◌==◌, List, [], ◌∷◌, ◌++◌, Option, Some, slice_get, if◌then◌else◌, take, drop, length}
 use Rattle.std.specs.Int.{cast_signed, w32}
 use Rattle.icu_char16trie.specs.UnitMap.{UnitMap, under}
 use Rattle.icu_char16trie.specs.Numbers.{short_number, short_end, node_number, node_end, delta_end, entry_child, lower_part}

@@ -1,7 +1,7 @@
 //! Look-up with a result for each step, as before there was a cursor.
-ghost use Rattle.std.specs.Prelude.{◌≡◌, ℕ, ℤ, List, [], ◌∷◌, ◌++◌, ◌<◌, ◌≤◌, Option, Bool};
+ghost use Rattle.std.specs.Prelude.{◌≡◌, ℕ, ℤ, List, [], ◌∷◌, ◌++◌, ◌<◌, ◌≤◌, Option, Bool, not};
 ghost use Rattle.icu_zerovec.specs.Slice.{slice_values};
-ghost use Rattle.icu_char16trie.specs.UnitMap.{UnitMap};
+ghost use Rattle.icu_char16trie.specs.UnitMap.{UnitMap, goes_on, value_of};
 ghost use Rattle.icu_char16trie.specs.declared.place.Place.{Place};
 ghost use Rattle.icu_char16trie.specs.declared.place.Place.TheVariants.{Nowhere, Node};
 
@@ -42,7 +42,7 @@ impl<'a> Char16TrieIterator<'a> {
     ghost use Rattle.icu_char16trie.specs.Grammar.{IsTrieOf};
     ghost use Rattle.icu_char16trie.specs.Places.{IsAfter};
     ghost use Rattle.icu_char16trie.specs.Steps.{StepsTo, StepsAlong};
-    ghost use Rattle.icu_char16trie.specs.Passed.{Passes, answer_at, result_of};
+    ghost use Rattle.icu_char16trie.specs.Passed.{Passes, answer_at, result_of, result_of};
     ghost use Rattle.icu_char16trie.specs.declared.iterator.TrieResult.TheVariants.{NoMatch};
 
     /// An iterator at the root of the trie with these units.
@@ -64,6 +64,8 @@ impl<'a> Char16TrieIterator<'a> {
         ensures only { (q : Place) → StepsAlong self.old.units self.old.place (encode_utf16 c) q → q ≡ self.new.place }
         ensures nowhere { self.old.place ≡ Nowhere → self.new.place ≡ Nowhere }
         ensures answer { result ≡ answer_at self.new }
+        ensures told { (m : UnitMap) (w : List ℕ) → IsAfter self.new m w
+            → result ≡ result_of (value_of m w) (not (goes_on m w)) }
         ensures stays { answer_at self.old ≡ NoMatch → result ≡ NoMatch }
     {
         self.next32(c as u32)
@@ -71,6 +73,7 @@ impl<'a> Char16TrieIterator<'a> {
 
     /// One more code point up to 0x10FFFF, as [`Char16TrieCursor::step32`]. A number above 0x10FFFF matches
     /// nothing.
+    #[tactic(auto, using(crate::proofs::PlaceLaws::answer_is_after))]
     pub fn next32(&mut self, c: u32) -> TrieResult
         ensures units { self.new.units ≡ self.old.units }
         ensures within { c ≤ 0x10FFFF → Passes self.old (encode_utf16 c) self.new }
@@ -79,6 +82,8 @@ impl<'a> Char16TrieIterator<'a> {
         ensures above { 0x10FFFF < c → self.new.place ≡ Nowhere }
         ensures nowhere { self.old.place ≡ Nowhere → self.new.place ≡ Nowhere }
         ensures answer { result ≡ answer_at self.new }
+        ensures told { (m : UnitMap) (w : List ℕ) → IsAfter self.new m w
+            → result ≡ result_of (value_of m w) (not (goes_on m w)) }
         ensures stays { answer_at self.old ≡ NoMatch → result ≡ NoMatch }
     {
         self.cursor.step32(c);
@@ -87,6 +92,7 @@ impl<'a> Char16TrieIterator<'a> {
 
     /// One more unit.
     #[inline]
+    #[tactic(auto, using(crate::proofs::PlaceLaws::answer_is_after))]
     pub fn next16(&mut self, c: u16) -> TrieResult
         ensures units { self.new.units ≡ self.old.units }
         ensures exact { StepsTo self.old.units self.old.place c self.new.place }
@@ -94,6 +100,8 @@ impl<'a> Char16TrieIterator<'a> {
         ensures after { (m : UnitMap) (w : List ℕ) → IsAfter self.old m w → IsAfter self.new m (w ++ c ∷ []) }
         ensures nowhere { self.old.place ≡ Nowhere → self.new.place ≡ Nowhere }
         ensures answer { result ≡ answer_at self.new }
+        ensures told { (m : UnitMap) (w : List ℕ) → IsAfter self.new m w
+            → result ≡ result_of (value_of m w) (not (goes_on m w)) }
         ensures stays { answer_at self.old ≡ NoMatch → result ≡ NoMatch }
     {
         self.cursor.step16(c);

@@ -1,10 +1,10 @@
 -- The walk of a test for a valid list.
-use Rattle.std.proofs.Common.{◌≡◌, ◌∙◌, sym, ap, refl, ℕ, ◌+◌, ◌-◌, ◌%◌, ◌<◌, ◌≤◌, zero, suc, List, [], ◌∷◌, ◌++◌, length, get_or, subst, ◌⊎◌, inl, inr, arith}
+use Rattle.std.proofs.Common.{◌≡◌, ◌∙◌, sym, ap, refl, ℕ, ◌+◌, ◌%◌, ◌<◌, ◌≤◌, suc, List, [], ◌∷◌, ◌++◌, length, get_or, subst, ◌⊎◌, inl, inr, arith}
 use Rattle.std.proofs.lemmas.List.{length-append, length_push, get_or_append_left, get_or_at, get_or_push, append_assoc, append-nil}
 use Rattle.icu_invlist.specs.InversionList.{IsValid, limit}
 use Rattle.icu_invlist.specs.Places.{Run}
 use Rattle.icu_invlist.proofs.RunLemmas.{run-append, run-wider}
-use Rattle.icu_invlist.proofs.ValidLists.{run_from_valid, valid_from_run}
+use Rattle.icu_invlist.proofs.ValidLists.{valid_from_run}
 
 abbrev pub Tight : List ℕ → ℕ → Type 0
 Tight ys next = (next ≡ 0) ⊎ ((k : ℕ) × (length ys ≡ k + 1) × (get_or ys k 0 + 1 ≡ next))

@@ -1,10 +1,10 @@
 -- Two valid lists with the same members are equal.
-use Rattle.std.proofs.Common.{◌≡◌, ℕ, ◌+◌, ◌%◌, ◌<◌, ◌≤◌, List, [], ◌∷◌, length, refl, ap, sym, ◌∙◌, arith, zero, suc, Bool, true, false, cond, not, ◌⊎◌, inl, inr}
+use Rattle.std.proofs.Common.{◌≡◌, ℕ, ◌%◌, ◌<◌, ◌≤◌, List, [], ◌∷◌, refl, ap, sym, ◌∙◌, arith, suc, true, false, inl, inr}
 use Rattle.std.proofs.lemmas.Bool.{cases_lt, cases_order, cases_eq, eq-eqb, ne_eqb, eqb-true, eqb-false}
 use Rattle.icu_invlist.specs.InversionList.{holds, is_odd, IsValid, limit}
 use Rattle.icu_invlist.specs.Places.{Run, below}
-use Rattle.icu_invlist.proofs.RunLemmas.{below-before, below-past, below-yes, below-no}
-use Rattle.icu_invlist.proofs.Parity.{odd_is, odd_same, holds-below}
+use Rattle.icu_invlist.proofs.RunLemmas.{below-before, below-past, below-yes}
+use Rattle.icu_invlist.proofs.Parity.{holds-below}
 use Rattle.icu_invlist.proofs.ValidLists.{run_from_valid}
 
 -- parities of the numbers of ends not above c, at every c from lo on

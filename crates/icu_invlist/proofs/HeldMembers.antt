@@ -1,5 +1,5 @@
 -- The members of a set are the code points that it holds, ascending.
-use Rattle.std.proofs.Common.{◌≡◌, ℕ, ◌+◌, ◌-◌, ◌%◌, ◌<◌, ◌≤◌, List, [], ◌∷◌, ◌++◌, length, get_or, refl, ap, sym, ◌∙◌, subst, arith, zero, suc, Bool, true, false, cond, ◌⊎◌, inl, inr, ◌↔◌}
+use Rattle.std.proofs.Common.{◌≡◌, ℕ, ◌+◌, ◌-◌, ◌%◌, ◌<◌, ◌≤◌, List, [], ◌∷◌, ◌++◌, length, get_or, refl, ap, sym, ◌∙◌, subst, arith, zero, suc, Bool, true, false, cond, inl, inr, ◌↔◌}
 use Rattle.std.proofs.lemmas.Bool.{cases_lt, false≢true, true≢false}
 use Rattle.std.proofs.lemmas.List.Elements.{All-contains, All-contains_itself, All-filter, All-cons, All-nil, All-weaker, Contains-append_left, Contains-append_right, Contains-append_cases, Contains-get_or, filter_passes}
 use Rattle.std.proofs.lemmas.List.FromFn.{get_or-range_with_len, length-range_with_len}
@@ -8,7 +8,7 @@ use Rattle.std.specs.List.{All, Contains, filter, range_with_len}
 use Rattle.std.specs.List.Sorted.{IsStrictlyIncreasing}
 use Rattle.std.proofs.Math.Utf8.{scalar}
 use Rattle.icu_invlist.specs.InversionList.{holds, is_odd, IsValid, limit, members, characters}
-use Rattle.icu_invlist.specs.Places.{Run, below}
+use Rattle.icu_invlist.specs.Places.{Run}
 use Rattle.icu_invlist.proofs.RunLemmas.{below-before, run-append, run-wider}
 use Rattle.icu_invlist.proofs.Parity.{holds-below}
 use Rattle.icu_invlist.proofs.MemberLemmas.{pair_past, pair_in, pair_before}

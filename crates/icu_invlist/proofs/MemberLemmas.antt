@@ -4,7 +4,9 @@ use Rattle.std.proofs.lemmas.Bool.{cases_lt, cases_eq, eq-eqb, ne_eqb}
 use Rattle.std.specs.Option.{MatchOption}
 use Rattle.std.specs.declared.ops.RangeInclusive.{RangeInclusive}
 use Rattle.std.proofs.lemmas.List.{drop_more, drop_all}
-use Rattle.icu_invlist.specs.InversionList.{holds, is_odd, IsValid, limit, ranges_of, members_below}
+use Rattle.std.proofs.lemmas.List.Elements.{All-cons, All-nil}
+use Rattle.std.specs.List.{All}
+use Rattle.icu_invlist.specs.InversionList.{holds, is_odd, IsOfCodePoints, IsValid, limit, ranges_of, members_below}
 use Rattle.icu_invlist.specs.Places.{Run, below}
 use Rattle.icu_invlist.proofs.RunLemmas.{below-before, below-yes, below-no, run-wider}
 use Rattle.icu_invlist.proofs.Parity.{holds-below, odd_same}
@@ -19,6 +21,14 @@ length-ranges (x ∷ y ∷ xs) = let e = length-ranges xs in omega arith
 pub rest_valid : (x y : ℕ) (xs : List ℕ) → IsValid (x ∷ y ∷ xs) → IsValid xs
 rest_valid x y xs v = let r = run_from_valid (x ∷ y ∷ xs) v in
     valid_from_run xs (run-wider (suc y) (suc limit) 0 (suc limit) xs (omega arith) (omega arith) r.2.2) (let e = v.even in omega arith)
+
+-- each range of a set has a code point, and none that is no code point
+pub ranges_within : (xs : List ℕ) → IsValid xs → All IsOfCodePoints (ranges_of xs)
+ranges_within [] v = All-nil IsOfCodePoints
+ranges_within (x ∷ []) v = All-nil IsOfCodePoints
+ranges_within (x ∷ y ∷ xs) v =
+    let r = run_from_valid (x ∷ y ∷ xs) v in
+    All-cons IsOfCodePoints (record { start = x; end = y - 1; exhausted = false }) (ranges_of xs) (omega (arith, r.2.0), omega (arith, r.2.0, r.2.1)) (ranges_within xs (rest_valid x y xs v))
 
 pub no_single : (x : ℕ) → IsValid (x ∷ []) → ⊥
 no_single x v = let e = v.even in omega arith

@@ -1,17 +1,15 @@
 -- The step of a walk over two lists of ends.
-use Rattle.std.proofs.Common.{◌≡◌, ℕ, ◌+◌, ◌%◌, ◌<◌, ◌≤◌, List, [], ◌∷◌, ◌++◌, length, get_or, refl, ap, sym, ◌∙◌, arith, zero, suc, Bool, true, false, not, nat_eq, ◌⊎◌, inl, inr}
-use Rattle.std.proofs.lemmas.Bool.{cases_lt, cases_eq, cases_Bool, both_ways, eq-eqb, eqb-true, ne_eqb, eqb-false}
-use Rattle.std.proofs.lemmas.List.{length-append}
+use Rattle.std.proofs.Common.{◌≡◌, ℕ, ◌+◌, ◌%◌, ◌<◌, ◌≤◌, List, [], ◌++◌, length, refl, ap, sym, ◌∙◌, arith, suc, Bool, true, false, not, nat_eq, inl, inr}
+use Rattle.std.proofs.lemmas.Bool.{cases_lt, cases_eq, cases_Bool, both_ways, eq-eqb, ne_eqb, eqb-false}
 use Rattle.icu_invlist.specs.InversionList.{holds, is_odd, IsValid, limit, Acts}
 use Rattle.icu_invlist.specs.Places.{Run, below}
 use Rattle.icu_invlist.specs.Blends.{blend}
 use Rattle.icu_invlist.specs.declared.merge.Blend.{Blend}
 use Rattle.icu_invlist.specs.declared.merge.Blend.TheVariants.{Union, Difference, Intersection, Symmetric}
 use mathlib.Core.Bool.{beq}
-use Rattle.icu_invlist.proofs.RunLemmas.{below-append, below-before, below-past, below-mono, below-le, below-zero, below-stays, below_is, run-rises, run-back-least, run-append, run-wider}
-use Rattle.icu_invlist.proofs.Parity.{holds-below, odd_same}
-use Rattle.icu_invlist.proofs.PlaceLemmas.{least_at, stays_at, moves_over, stays_over}
-use Rattle.icu_invlist.proofs.ValidLists.{run_from_valid, valid_from_run}
+use Rattle.icu_invlist.proofs.RunLemmas.{below-append, below-before, below-past, below-mono, below-le, below-zero, run-append, run-wider}
+use Rattle.icu_invlist.proofs.Parity.{holds-below}
+use Rattle.icu_invlist.proofs.ValidLists.{valid_from_run}
 
 -- the walk has passed all ends below `passed`
 pub record Merging (f : Bool → Bool → Bool) (a b out : List ℕ) (passed i j : ℕ) : Type 0 where

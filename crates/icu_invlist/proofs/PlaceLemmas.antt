@@ -1,13 +1,13 @@
 -- Where a code point stands among the ends of a valid list.
-use Rattle.std.proofs.Common.{◌≡◌, ℕ, ◌+◌, ◌-◌, ◌%◌, ◌<◌, ◌≤◌, List, [], ◌∷◌, length, get_or, refl, ap, sym, ◌∙◌, arith, zero, suc, Bool, true, false, inl, inr, Result, Ok, Err, add-one}
-use Rattle.std.proofs.lemmas.Bool.{cases_lt, cases_eq, eq-eqb, ne_eqb, eqb-true, eqb-false, both_ways}
+use Rattle.std.proofs.Common.{◌≡◌, ℕ, ◌+◌, ◌-◌, ◌%◌, ◌<◌, ◌≤◌, List, [], ◌∷◌, length, get_or, refl, sym, ◌∙◌, arith, suc, true, false, inl, inr, Result, Ok, Err}
+use Rattle.std.proofs.lemmas.Bool.{cases_eq, eq-eqb, ne_eqb, eqb-true}
 use Rattle.std.proofs.lemmas.List.Sorted.{searched}
 use Rattle.std.specs.List.Sorted.{IsBinarySearchResult}
 use Rattle.std.specs.Ordering.{nat_cmp}
 use Rattle.std.specs.Result.{MatchResult}
-use Rattle.icu_invlist.specs.InversionList.{holds, is_odd, IsValid, limit, HoldsAll, IsSubset}
+use Rattle.icu_invlist.specs.InversionList.{holds, IsValid, limit, HoldsAll, IsSubset}
 use Rattle.icu_invlist.specs.Places.{Run, below}
-use Rattle.icu_invlist.proofs.RunLemmas.{below_is, below-le, below-past, below-front, below-stays, run-rises, run-back-least}
+use Rattle.icu_invlist.proofs.RunLemmas.{below_is, below-le, below-front, below-stays, run-rises, run-back-least}
 use Rattle.icu_invlist.proofs.Parity.{holds-below}
 use Rattle.icu_invlist.proofs.EqualSets.{holds-past}
 use Rattle.icu_invlist.proofs.ValidLists.{run_from_valid}

@@ -1,5 +1,5 @@
 -- The walk of a span over the characters of a text.
-use Rattle.std.proofs.Common.{◌≡◌, ◌∙◌, sym, ap, refl, ℕ, ◌+◌, ◌<◌, List, [], ◌∷◌, ◌++◌, length, take, reverse, Bool, true, false, arith, encode_utf8}
+use Rattle.std.proofs.Common.{◌≡◌, ◌∙◌, sym, ap, refl, ℕ, ◌+◌, List, [], ◌∷◌, ◌++◌, length, take, reverse, Bool, true, false, arith, encode_utf8}
 use Rattle.std.specs.List.{take_while}
 use Rattle.std.specs.Str.{chars, encode_utf8_all, IsUtf8}
 use Rattle.std.proofs.lemmas.Bool.{cond-true, cond-false}

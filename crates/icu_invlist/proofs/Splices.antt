@@ -1,12 +1,12 @@
 -- A splice of a list of ends, and what its set holds then.
 use mathlib.Core.Bool.{beq}
-use Rattle.std.proofs.Common.{◌≡◌, ℕ, ◌+◌, ◌-◌, ◌%◌, ◌<◌, ◌≤◌, List, [], ◌∷◌, ◌++◌, length, get_or, take, drop, refl, ap, sym, ◌∙◌, arith, min, zero, suc, add-one, nat_eq, Bool, true, false, cond, not, ◌&&◌, ◌||◌, ◌⊎◌, inl, inr, rules}
-use Rattle.std.proofs.lemmas.Bool.{cases_lt, cases_Bool, cases_eq, cond-true, cond-false, lt-ltb, le-ltb, le-leb, lt-leb, eq-eqb, ne_eqb, eqb-true}
+use Rattle.std.proofs.Common.{◌≡◌, ℕ, ◌+◌, ◌%◌, ◌<◌, ◌≤◌, List, [], ◌∷◌, ◌++◌, length, take, drop, refl, ap, sym, ◌∙◌, arith, min, suc, add-one, nat_eq, Bool, true, false, cond, not, ◌&&◌, ◌||◌, ◌⊎◌, inl, inr}
+use Rattle.std.proofs.lemmas.Bool.{cases_lt, cases_eq, lt-ltb, le-ltb, le-leb, lt-leb, eq-eqb, ne_eqb, eqb-true}
 use Rattle.std.proofs.lemmas.List.{length-append, length-take-le, length-drop, take-append-drop}
 use Rattle.std.specs.List.{splice}
 use Rattle.icu_invlist.specs.InversionList.{holds, is_odd, between, IsValid, limit, Acts, either, without}
 use Rattle.icu_invlist.specs.Places.{IsFilled, Run, below}
-use Rattle.icu_invlist.proofs.RunLemmas.{up_to-below, below-append, below-before, below-past, below-le, below-yes, below-no, run-append, run-front, run-back, run-wider, below-mono, below-zero}
+use Rattle.icu_invlist.proofs.RunLemmas.{below-append, below-before, below-past, below-le, below-yes, below-no, run-append, run-front, run-back, below-mono, below-zero}
 use Rattle.icu_invlist.proofs.Parity.{odd_same, odd_is, holds-below}
 use Rattle.icu_invlist.proofs.ValidLists.{run_from_valid, valid_from_run}
 

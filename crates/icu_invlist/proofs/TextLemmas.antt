@@ -1,9 +1,9 @@
 -- Reading a text, and the grammar.
-use Rattle.std.proofs.Common.{◌≡◌, ℕ, ◌+◌, ◌*◌, ◌<◌, List, [], ◌∷◌, ◌++◌, Option, Some, None, Bool, true, false, cond, nat_eq, nat_lt, option_and_then, ◌⊎◌, inl, inr, refl, sym, ap, subst, append-nil, ◌∙◌, arith}
+use Rattle.std.proofs.Common.{◌≡◌, ℕ, ◌+◌, ◌*◌, ◌<◌, List, [], ◌∷◌, ◌++◌, Option, Some, None, Bool, true, false, cond, nat_eq, nat_lt, option_and_then, inl, inr, refl, sym, ap, subst, append-nil, ◌∙◌, arith}
 use Rattle.std.specs.Char.{digit_value}
-use Rattle.std.proofs.lemmas.Bool.{eqb-true, eqb-false, eq-eqb, ne_eqb}
+use Rattle.std.proofs.lemmas.Bool.{eqb-true}
 use Rattle.std.proofs.lemmas.Bool.Decides.{nat_tests}
-use Rattle.icu_invlist.specs.SetJson.{IsHex, IsPoint, IsRange, first_of, digit_at, hex_at, point_at, last_point, second_point, range_from, range_at}
+use Rattle.icu_invlist.specs.SetJson.{IsHex, IsPoint, IsRange, digit_at, hex_at, point_at, last_point, second_point, range_from, range_at}
 
 below_true : (a b : ℕ) → nat_lt a b ≡ true → a < b
 below_true a b h = grind (arith, nat_tests)

@@ -1,5 +1,5 @@
 -- One end put in or taken out.
-use Rattle.std.proofs.Common.{◌≡◌, ℕ, ◌+◌, ◌%◌, ◌<◌, ◌≤◌, List, [], ◌∷◌, length, refl, ap, sym, ◌∙◌, arith, zero, suc, add-one, Bool, true, false, not, ◌⊎◌, inl, inr, Result, Ok, Err, Decides}
+use Rattle.std.proofs.Common.{◌≡◌, ℕ, ◌+◌, ◌%◌, ◌<◌, ◌≤◌, List, [], ◌∷◌, length, refl, ap, sym, ◌∙◌, arith, suc, add-one, Bool, true, false, not, inl, inr, Result, Ok, Err, Decides}
 use Rattle.std.proofs.lemmas.List.Sorted.{searched}
 use Rattle.std.specs.List.Sorted.{IsBinarySearchResult}
 use Rattle.std.specs.Ordering.{nat_cmp}
@@ -7,12 +7,12 @@ use Rattle.std.specs.Result.{MatchResult, is_err}
 use Rattle.std.proofs.lemmas.Bool.{false≢true, cases_lt, cases_eq, eq-eqb, ne_eqb, eqb-true, le-leb, lt-leb}
 use Rattle.std.specs.List.{splice, insert, remove}
 use Rattle.std.specs.Prelude.{nat_le}
-use Rattle.icu_invlist.specs.InversionList.{holds, is_odd, between, IsValid, limit, Acts, one_of}
+use Rattle.icu_invlist.specs.InversionList.{holds, is_odd, IsValid, limit, one_of}
 use Rattle.icu_invlist.specs.Places.{Run, below}
-use Rattle.icu_invlist.proofs.RunLemmas.{below-mono, below-step, below-le, below-more, below_is, run-rises}
-use Rattle.icu_invlist.proofs.Splices.{spliced-run, spliced-before, spliced-past, spliced-length, before_range, in_range, past_range}
+use Rattle.icu_invlist.proofs.RunLemmas.{below-mono, below-step, below-more, below_is, run-rises}
+use Rattle.icu_invlist.proofs.Splices.{spliced-run, spliced-before, spliced-past}
 use Rattle.icu_invlist.proofs.Parity.{holds-below}
-use Rattle.icu_invlist.proofs.ValidLists.{run_from_valid, valid_from_run, rises}
+use Rattle.icu_invlist.proofs.ValidLists.{valid_from_run, rises}
 
 pub odd_next : (n : ℕ) → is_odd (n + 1) ≡ not (is_odd n)
 odd_next n = elim (cases_eq (n % 2) 1) [

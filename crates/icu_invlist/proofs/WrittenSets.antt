@@ -1,19 +1,19 @@
 -- What is written of a set is read back as the set.
-use Rattle.std.proofs.Common.{◌≡◌, ℕ, ◌+◌, ◌-◌, ◌*◌, ◌/◌, ◌%◌, ◌<◌, ◌≤◌, List, [], ◌∷◌, ◌++◌, map, length, get_or, drop, refl, sym, ap, ◌∙◌, arith, suc, Bool, true, false, cond, eqb, nat_lt, ◌&&◌, inl, inr, Result, Ok, Err, Vec}
+use Rattle.std.proofs.Common.{◌≡◌, ℕ, ◌+◌, ◌-◌, ◌/◌, ◌%◌, ◌<◌, ◌≤◌, List, [], ◌∷◌, ◌++◌, map, length, get_or, drop, refl, sym, ap, ◌∙◌, arith, suc, Bool, true, nat_lt, ◌&&◌, inl, inr, Result, Ok, Err}
 use Rattle.std.specs.Prelude.{nat_le}
 use Rattle.std.specs.Char.{digit_value}
-use Rattle.std.specs.Str.{chars, encode_utf8_all}
+use Rattle.std.specs.Str.{encode_utf8_all}
 use Rattle.std.proofs.Math.Utf8.{scalar, scalars}
-use Rattle.std.proofs.lemmas.Bool.{cases_lt, cases_eq, cond-true, cond-false, eq-eqb, ne_eqb, lt-ltb, le-ltb, le-leb, lt-leb, and_from, and_parts, both_ways}
+use Rattle.std.proofs.lemmas.Bool.{cases_lt, cases_eq, eq-eqb, ne_eqb, lt-ltb, le-ltb, le-leb, lt-leb, and_from, and_parts}
 use Rattle.std.proofs.lemmas.Bool.Decides.{nat_tests}
 use Rattle.std.proofs.lemmas.List.{append_assoc, append-nil, map-append, drop_all}
 use Rattle.std.proofs.lemmas.Str.{chars-encodes}
-use Rattle.serde_json.specs.Data.{Data, null, boolean, number, string, array, object, Items, no_items, item}
+use Rattle.serde_json.specs.Data.{Data, null, boolean, number, string, array, object, Items}
 use Rattle.serde_json.specs.View.{items_of, view}
 use Rattle.serde_json.specs.declared.value.Value.{Value}
-use Rattle.icu_invlist.specs.InversionList.{IsValid, limit, ranges_of}
+use Rattle.icu_invlist.specs.InversionList.{IsValid, limit}
 use Rattle.icu_invlist.specs.Places.{Run}
-use Rattle.icu_invlist.specs.SetJson.{IsHex, IsPoint, IsRange, SayEnds, IsSaid, IsRefusedJson, GivesEnds, upper_hex, upper_hex4, spelled, range_text, texts_of, written_of, ends_of, ends_from}
+use Rattle.icu_invlist.specs.SetJson.{IsHex, IsPoint, IsRange, SayEnds, IsSaid, GivesEnds, upper_hex, upper_hex4, spelled, range_text, texts_of, written_of, ends_of}
 use Rattle.icu_invlist.specs.declared.codepointinvlist.error.SetJsonError.{SetJsonError}
 use Rattle.icu_invlist.specs.declared.codepointinvlist.error.SetJsonError.TheVariants as errors
 use Rattle.icu_invlist.proofs.JsonLemmas.{ends_found, ends_only}

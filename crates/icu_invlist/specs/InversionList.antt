@@ -69,6 +69,10 @@ ranges_of [] = []
 ranges_of (start ∷ []) = []
 ranges_of (start ∷ end ∷ ends) = record { start = start; end = end - 1; exhausted = false } ∷ ranges_of ends
 
+-- the range has a code point, and none that is no code point
+abbrev pub IsOfCodePoints : RangeInclusive ℕ → Type 0
+IsOfCodePoints r = (r.start ≤ r.end) × (r.end < limit)
+
 -- the code points that the set holds, ascending
 unfoldable pub members : List ℕ → List ℕ
 members [] = []

@@ -1,7 +1,6 @@
 -- What an iterator still gives, from what it keeps. No public contract has these words.
-use Rattle.std.specs.Prelude.{ℕ, ◌-◌, ◌≡◌, List, [], ◌∷◌, ◌++◌, Option, Some, None, nat_lt, if◌then◌else◌}
+use Rattle.std.specs.Prelude.{ℕ, ◌-◌, List, [], ◌∷◌, ◌++◌, Option, Some, None, nat_lt, if◌then◌else◌}
 use Rattle.std.specs.List.{filter, range_with_len}
-use Rattle.std.specs.Option.{MatchOption}
 use Rattle.std.proofs.Math.Utf8.{scalar}
 use Rattle.icu_invlist.specs.InversionList.{limit, members, toggle_back}
 

@@ -3,10 +3,9 @@ use Rattle.std.proofs.Common.{◌≡◌, ℕ, List, Option, Some, None, Result, 
 use Rattle.serde_json.specs.Data.{Data, null, boolean, number, string, array, object}
 use Rattle.serde_json.specs.Find.{get}
 use Rattle.icu_invlist.specs.InversionList.{IsValid}
-use Rattle.icu_invlist.specs.SetJson.{ends_of, IsSaid, IsRefusedJson}
+use Rattle.icu_invlist.specs.SetJson.{ends_of, IsRefusedJson}
 use Rattle.icu_invlist.specs.declared.codepointinvlist.error.SetJsonError.{SetJsonError}
 use Rattle.icu_invlist.specs.declared.codepointinvlist.error.SetJsonError.TheVariants.{NotAnArray, NotAString, NotARange, InvalidSet, Memory}
-use Rattle.icu_invlist.proofs.JsonLemmas.{ends_only}
 use Rattle.icu_text_sets.specs.TextSet.{TextSet}
 use Rattle.icu_text_sets.specs.TextFaults.{TextFault, fault}
 use Rattle.icu_text_sets.specs.TextSetJson.{JsonFault, no_set, text_fault, texts_said, set_fault_of, set_unless, set_with, IsReadWith, IsReadAt, IsRead, IsRefusedAs, GivesTexts}
@@ -22,9 +21,6 @@ read_at (number n) p r g h = absurd cc
 read_at (string s) p r g h = absurd cc
 read_at (array ds) p r g h = absurd cc
 read_at (object ms) p r g h = subst (λ o. IsReadAt o (object ms) r) (sym g) h
-
-pub points_read : (p : Data) (ends : List ℕ) → IsSaid p ends → ends_of p ≡ Ok ends
-points_read p ends (items, e, s) = ap ends_of e ∙ ends_only 0 items ends s
 
 -- ---- a refused set of code points
 refused_points : (d p : Data) (e : SetJsonError) → PointsAt d p → ends_of p ≡ Err e → IsRead d (Err (no_set e))

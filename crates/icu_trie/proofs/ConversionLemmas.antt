@@ -1,13 +1,9 @@
 -- A trie over values of another type keeps what its parts were tested for.
-use Rattle.std.proofs.Common.{◌≡◌, ℕ, ◌+◌, ◌<◌, Bool, true, false, List, length, Option, Some, None, Result, Ok, Err, refl, arith, sym, ◌∙◌, ap, subst, rules, nat_lt}
+use Rattle.std.proofs.Common.{◌≡◌, ℕ, List, length, Option, Some, None, Ok, refl, arith, sym, ◌∙◌, ap}
 use Rattle.std.proofs.lemmas.Bool.Decides.{nat_tests}
-use Rattle.std.specs.Prelude.{IfOk, IfErr, is_none}
-use Rattle.icu_zerovec.specs.Canonical.{IsCanonical}
-use Rattle.icu_zerovec.specs.Cells.{values_of, IsPacked, IsConverted, IsFirstRefused}
-use Rattle.icu_zerovec.specs.declared.ule.UleError.{UleError}
+use Rattle.icu_zerovec.specs.Cells.{values_of, IsConverted}
 use Rattle.icu_zerovec.proofs.CellsLemmas.{length-values_of}
 use Rattle.icu_trie.specs.Conversion.{with_null_value}
-use Rattle.icu_trie_core.specs.FastIndex.{passes_data}
 use Rattle.icu_trie.specs.Parts.{fault}
 use Rattle.icu_trie_core.specs.declared.header.CodePointTrieHeader.{CodePointTrieHeader}
 

@@ -2,9 +2,9 @@
 use Rattle.std.proofs.Common.{◌≡◌, ◌≤◌, ◌+◌, ℕ, List, [], ◌∷◌, map, Option, None, Some, inl, inr, arith, sym, ap, ◌∙◌}
 use Rattle.std.proofs.lemmas.Bool.{cases_lt}
 use Rattle.std.specs.Iterator.{Yields, Drains}
-use Rattle.icu_trie_core.specs.Runs.{AreRunsFrom, AreMaximalRuns}
+use Rattle.icu_trie_core.specs.Runs.{AreRunsFrom}
 use Rattle.icu_trie.specs.Parts.{Parts}
-use Rattle.icu_trie_core.specs.Range.{GivesWalk, run_of, last_of}
+use Rattle.icu_trie_core.specs.Range.{run_of, last_of}
 use Rattle.icu_trie.specs.Ranges.{AreRangesFrom, answers, IsCoherentTrie}
 use Rattle.icu_trie.specs.Iterators.{GivesNextRange, iterator_trie, iterator_next}
 use Rattle.icu_trie_core.specs.declared.range.CodePointMapRange.{CodePointMapRange}

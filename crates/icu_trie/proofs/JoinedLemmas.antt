@@ -1,10 +1,10 @@
 -- Joined ranges, step by step.
-use Rattle.std.proofs.Common.{◌≡◌, ℕ, List, [], ◌∷◌, Bool, true, false, refl, sym}
+use Rattle.std.proofs.Common.{◌≡◌, ℕ, List, ◌∷◌, Bool, true, false, refl, sym}
 use Rattle.std.specs.Range.{range_inclusive_start, range_inclusive_end, range_inclusive_exhausted}
 use Rattle.std.specs.declared.ops.RangeInclusive.{RangeInclusive}
 use Rattle.icu_trie_core.specs.declared.range.CodePointMapRange.{CodePointMapRange}
 use Rattle.icu_trie_core.specs.Range.{first_of, last_of}
-use Rattle.icu_trie.specs.JoinedRanges.{continues, merged, joined_from, joined}
+use Rattle.icu_trie.specs.JoinedRanges.{continues, joined_from}
 
 module _ {A : Type 0} (eq : A → A → Bool) where
   -- a range with the ends of the merged one stands for it

@@ -1,13 +1,12 @@
 -- The ranges of a mapped trie.
-use Rattle.std.proofs.Common.{◌≡◌, ℕ, ◌+◌, ◌<◌, ◌≤◌, ◌==◌, ◌&&◌, nat_lt, List, [], ◌∷◌, map, length, Option, Some, None, Bool, true, false, inl, inr, refl, sym, ap, subst, ◌∙◌, arith, rules, eq-eqb}
+use Rattle.std.proofs.Common.{◌≡◌, ℕ, ◌+◌, ◌<◌, ◌≤◌, List, [], ◌∷◌, map, Option, Some, None, Bool, true, false, inl, inr, refl, sym, ap, subst, ◌∙◌, arith, eq-eqb}
 use Rattle.std.specs.List.{All}
 use Rattle.std.specs.Range.{range_inclusive_start, range_inclusive_end, range_inclusive_exhausted}
 use Rattle.std.specs.Prelude.{⊤}
 use Rattle.std.proofs.lemmas.Bool.Decides.{nat_tests}
 use Rattle.std.proofs.lemmas.List.Elements.{All-cons}
 use Rattle.std.specs.declared.ops.RangeInclusive.{RangeInclusive}
-use Rattle.std.specs.Iterator.{Yields, YieldsThen, Drains, DrainsIf}
-use Rattle.std.specs.Iterator.Runs.{Run, SomeRun, EachRunFrom}
+use Rattle.std.specs.Iterator.{Yields, Drains, DrainsIf}
 use Rattle.std.proofs.iter.runs.Made.{run, took, seen, to_end}
 use Rattle.std.proofs.lemmas.Bool.{cases_lt, lt-ltb}
 use Rattle.itertools.specs.Adaptor.{EachRunBehind, Gives}
@@ -19,7 +18,7 @@ use Rattle.icu_trie_core.specs.Range.{first_of, last_of, run_of}
 use Rattle.icu_trie.specs.Ranges.{AreRangesFrom}
 use Rattle.icu_trie.specs.Iterators.{GivesNextRange}
 use Rattle.icu_trie.specs.JoinedRanges.{continues, merged, joined_from, joined}
-use Rattle.icu_trie.specs.MappedRanges.{IsRangeOfCodePoints, MapsTo, LongestMappedRun, AreMappedRunsFrom, Answers, AreAnswered, IsAnswered, GivesMapped, mapped_source, mapped_callee}
+use Rattle.icu_trie.specs.MappedRanges.{IsRangeOfCodePoints, MapsTo, AreMappedRunsFrom, Answers, AreAnswered, IsAnswered, GivesMapped, mapped_source, mapped_callee}
 use Rattle.icu_trie.specs.declared.mapped_ranges.MappedRanges.{MappedRanges}
 
 -- what a wrapper drains its inside drains

@@ -1,10 +1,10 @@
 -- A trie of the answers of a closure: which calls were made, and what its answers are.
-use Rattle.std.proofs.Common.{append_assoc, append-nil, ◌≡◌, ℕ, ◌+◌, ◌-◌, ◌*◌, ◌<◌, ◌≤◌, List, [], ◌∷◌, ◌++◌, map, length, slice_get, Option, Some, None, IsSome, Result, Ok, Err, refl, sym, ap, ◌∙◌, arith, rules}
-use Rattle.std.specs.Option.{option_map, option_and_then}
+use Rattle.std.proofs.Common.{append_assoc, append-nil, ◌≡◌, ℕ, ◌+◌, ◌-◌, ◌*◌, List, [], ◌∷◌, ◌++◌, map, length, slice_get, Option, Some, None, IsSome, Result, Ok, Err, refl, sym, ap, ◌∙◌, arith, rules}
+use Rattle.std.specs.Option.{option_map, option_and_then, option_or}
 use Rattle.std.specs.Result.{IsErr, IsErrAnd}
 use Rattle.std.proofs.lemmas.Option.{slice_get-map}
 use Rattle.icu_trie_core.specs.declared.header.CodePointTrieHeader.{CodePointTrieHeader}
-use Rattle.icu_trie.specs.Parts.{Parts}
+use Rattle.icu_trie.specs.Parts.{trie_value, last_cell}
 use Rattle.icu_trie_core.specs.Format.{answer, place, high_cell, high_value}
 use Rattle.icu_trie_core.specs.Coherence.{IsCoherent, AnswersNull}
 use Rattle.icu_trie.specs.Conversion.{with_null_value}
@@ -43,6 +43,21 @@ module _ {A B E : Type 0} (h : A → Result B E) (header : CodePointTrieHeader) 
 
   high-mapped : option_map (answered {E = E}) (high_value ys) ≡ option_map h (high_value xs)
   high-mapped = rw same (at_place (high_cell (length xs)))
+
+  or-mapped : (o : Option A) (p : Option B) (q : Option A) (r : Option B) → option_map (answered {E = E}) p ≡ option_map h o → option_map (answered {E = E}) r ≡ option_map h q
+      → option_map (answered {E = E}) (option_or p r) ≡ option_map h (option_or o q)
+  or-mapped None None q r e d = d
+  or-mapped None (Some y) q r e d = absurd (cc)
+  or-mapped (Some x) None q r e d = absurd (cc)
+  or-mapped (Some x) (Some y) q r e d = e
+
+  last-mapped : option_map (answered {E = E}) (last_cell ys) ≡ option_map h (last_cell xs)
+  last-mapped = rw same (at_cell (length xs - 1))
+
+  -- the value of the trie of the answers, also where it is the error value
+  pub value-mapped : (u : ℕ) → option_map (answered {E = E}) (trie_value (record { header = with_null_value header number; index = index; values = ys }) u)
+      ≡ option_map h (trie_value (record { header = header; index = index; values = xs }) u)
+  value-mapped u = or-mapped _ _ _ _ (answers-mapped u) last-mapped
 
   some-mapped : (o : Option A) (p : Option B) → option_map (answered {E = E}) p ≡ option_map h o → IsSome o → IsSome p
   some-mapped None p e s = absurd (cc)

@@ -1,5 +1,5 @@
 -- The steps of the coalescer.
-use Rattle.std.specs.Prelude.{◌≡◌, ℕ, Bool, true, List, ◌++◌, Option, option_to_list, ⊤}
+use Rattle.std.specs.Prelude.{Bool, true, List, ◌++◌, Option, option_to_list, ⊤}
 use Rattle.std.specs.declared.iter.Fuse.{Fuse}
 use Rattle.itertools.specs.Adaptor.{Adapts}
 use Rattle.icu_trie_core.specs.declared.range.CodePointMapRange.{CodePointMapRange}

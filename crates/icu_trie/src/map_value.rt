@@ -3,6 +3,7 @@ ghost use Rattle.std.specs.Prelude.{◌≡◌, ℕ, Result, IfOk, IfErr};
 ghost use Rattle.std.specs.Option.{option_map};
 ghost use Rattle.icu_trie.specs.declared.map_value.MapError.TheVariants.{Memory};
 ghost use Rattle.icu_trie.specs.MappedTrie.{answered, AnswersAlways, MapsInTurn, AnswersAll, BreaksOffAt};
+ghost use Rattle.icu_trie.specs.Parts.{trie_value};
 ghost use Rattle.icu_trie.specs.Ranges.{IsCoherentTrie, answers};
 ghost use Rattle.icu_zerovec.specs.Slice.{slice_values};
 
@@ -100,11 +101,13 @@ impl<'trie, T: TrieValue> CodePointTrie<'trie, T> {
         &self,
         alloc: Global,
         mut f: F,
-    ) -> Result<CodePointTrie<'trie, P>, MapError<E>>
+    ) -> Result<CodePointTrie<'static, P>, MapError<E>>
         requires { F.IsAlwaysCallable f }
         ensures maps { MapsInTurn F.step f T.of_number P.number self.now result }
         ensures same { (h : T → Result P E) → AnswersAlways F.step h → IfOk result (λ t. (u : ℕ)
             → option_map (answered {E = E}) (answers t u) ≡ option_map h (answers self.now u)) }
+        ensures value { (h : T → Result P E) → AnswersAlways F.step h → IfOk result (λ t. (u : ℕ)
+            → option_map (answered {E = E}) (trie_value t u) ≡ option_map h (trie_value self.now u)) }
         ensures coherent { (h : T → Result P E) → AnswersAlways F.step h → IsCoherentTrie T.of_number self.now
             → IfOk result (λ t. IsCoherentTrie P.of_number t) }
     {

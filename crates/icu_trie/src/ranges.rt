@@ -80,6 +80,7 @@ impl<'trie, T: TrieValue> CodePointTrie<'trie, T> {
         alloc: Global,
         value: T,
     ) -> Result<CodePointInversionList<'static>, MemoryError>
+        ensures valid { IfOk result IsValid }
         ensures set { IfOk result (λ s. (xs : List _) × AreRangesFrom T.of_number self.now 0 xs
             × ((c : ℕ) → c < 0x110000 → (holds s c ≡ true) ↔ IsInRangeOf value xs c)) }
         ensures preimage { IsCoherentTrie T.of_number self.now

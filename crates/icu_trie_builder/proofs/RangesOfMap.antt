@@ -1,5 +1,5 @@
 -- A trie that answers a map has its ranges and its value sets.
-use Rattle.std.proofs.Common.{◌≡◌, ℕ, ◌<◌, ◌≤◌, Option, Some, None, arith, sym, ◌∙◌, ap, nat_le}
+use Rattle.std.proofs.Common.{◌≡◌, ℕ, ◌<◌, Some, arith, sym, ◌∙◌, ap}
 use Rattle.std.proofs.lemmas.Bool.Decides.{nat_tests}
 use Rattle.icu_trie_core.proofs.RunLemmas.{AreMaximalRuns-same, AreMaximalRuns-some}
 use Rattle.icu_trie.specs.Parts.{Parts}

@@ -1,16 +1,16 @@
 -- What a walk gives.
-use Rattle.std.proofs.Common.{◌≡◌, ◌≢◌, inl, inr, ℕ, ◌+◌, ◌-◌, ◌<◌, ◌≤◌, List, [], ◌∷◌, map, Option, Some, None, IsSome, IsSomeAnd, sym, ap, ◌∙◌, max, arith, rules, refl}
+use Rattle.std.proofs.Common.{◌≡◌, ◌≢◌, inl, inr, ℕ, ◌+◌, ◌-◌, ◌<◌, ◌≤◌, List, Option, Some, None, IsSomeAnd, sym, ap, ◌∙◌, max, arith, rules, refl}
 use Rattle.std.proofs.lemmas.Bool.{cases_lt, false≢true}
 use Rattle.std.specs.declared.ops.RangeInclusive.{RangeInclusive}
 use Rattle.std.specs.Range.{range_inclusive_start, range_inclusive_end, range_inclusive_exhausted}
-use Rattle.std.specs.Prelude.{Bool, false}
+use Rattle.std.specs.Prelude.{false}
 use Rattle.icu_trie_core.specs.declared.header.CodePointTrieHeader.{CodePointTrieHeader}
 use Rattle.icu_trie_core.specs.declared.range.CodePointMapRange.{CodePointMapRange}
 use Rattle.icu_trie_core.specs.Format.{answer, high_value}
 use Rattle.icu_trie_core.specs.Coherence.{IsCoherent}
 use Rattle.icu_trie_core.specs.Runs.{LongestRun}
 use Rattle.icu_trie_core.specs.Seen.{seen}
-use Rattle.icu_trie_core.specs.Walk.{Holds, EndsAt, BreaksOff}
+use Rattle.icu_trie_core.specs.Walk.{EndsAt, BreaksOff}
 use Rattle.icu_trie_core.specs.Range.{GivesWalk, last_of}
 use Rattle.icu_trie_core.proofs.AnswerLemmas.{none_or_some}
 use Rattle.icu_trie_core.proofs.SeenLemmas.{seen-from_high, seen-below, seen-high}

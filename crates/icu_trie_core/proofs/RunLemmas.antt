@@ -1,5 +1,5 @@
 -- The maximal runs of a map: there is one list of them, and maps that are equal on the code points have the same.
-use Rattle.std.proofs.Common.{◌≡◌, ℕ, ◌+◌, ◌<◌, ◌≤◌, List, [], ◌∷◌, map, Option, Some, refl, arith, ◌∙◌, sym, ap, ◌↔◌}
+use Rattle.std.proofs.Common.{◌≡◌, ℕ, ◌+◌, ◌<◌, List, [], ◌∷◌, map, Option, Some, refl, arith, ◌∙◌, sym, ap, ◌↔◌}
 use Rattle.icu_trie_core.specs.Runs.{Run, LongestRun, AreRunsFrom, AreMaximalRuns, some_run}
 
 module _ {A : Type 0} (f : ℕ → A) where

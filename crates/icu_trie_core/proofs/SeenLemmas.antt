@@ -1,12 +1,12 @@
 -- What a walk sees in each part of a trie, and that over a coherent trie this is the answer.
-use Rattle.std.proofs.Common.{◌≡◌, ◌≢◌, inl, inr, ◌≤◌, ◌||◌, ◌<◌, ◌*◌, ◌/◌, ◌%◌, ◌+◌, ℕ, List, Option, Some, None, Bool, true, false, slice_get, arith, sym, ap, ◌∙◌, nat_lt, nat_eq, refl}
+use Rattle.std.proofs.Common.{◌≡◌, ◌≢◌, inl, inr, ◌≤◌, ◌<◌, ◌*◌, ◌/◌, ◌%◌, ◌+◌, ℕ, List, Option, Some, None, true, slice_get, arith, sym, ap, ◌∙◌, nat_eq, refl}
 use Rattle.std.proofs.lemmas.Bool.{lt-ltb, le-ltb, cases_Bool, eqb-true}
 use Rattle.std.proofs.lemmas.Bool.Decides.{nat_tests}
 use Rattle.icu_trie_core.specs.declared.header.CodePointTrieHeader.{CodePointTrieHeader}
 use Rattle.icu_trie_core.specs.Format.{answer, fast_limit, fast_offset, small_offset, index2_cell, offset_in_block, high_value}
 use Rattle.icu_trie_core.specs.Coherence.{IsCoherent}
 use Rattle.icu_trie_core.specs.Seen.{seen, names_null, is_cell}
-use Rattle.icu_trie_core.specs.Walk.{block_seen, cell_seen, blocks_seen}
+use Rattle.icu_trie_core.specs.Walk.{block_seen, cell_seen}
 use Rattle.icu_trie_core.proofs.AnswerLemmas.{fast_limit_most, fast_answer, fast_none, small_answer, small_none, none_or_some}
 
 module _ {A : Type 0} (of_number : ℕ → Option A) (h : CodePointTrieHeader) (index : List ℕ) (values : List A) where

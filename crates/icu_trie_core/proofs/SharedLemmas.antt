@@ -1,13 +1,12 @@
 -- Over a coherent and shared trie, blocks in which a walk sees one value have one name, so it reads few of them.
-use Rattle.std.proofs.Common.{◌≡◌, inl, inr, ◌+◌, ◌-◌, ◌*◌, ◌/◌, ◌%◌, ◌<◌, ◌≤◌, ℕ, List, slice_get, Option, Some, None, sym, ◌∙◌, ap, arith, rules, min, refl}
+use Rattle.std.proofs.Common.{◌≡◌, inl, inr, ◌+◌, ◌-◌, ◌*◌, ◌/◌, ◌%◌, ◌<◌, ◌≤◌, ℕ, List, slice_get, Option, Some, sym, ◌∙◌, ap, arith, min}
 use Rattle.std.proofs.lemmas.Bool.{cases_lt}
-use Rattle.std.specs.Option.{option_len}
 use Rattle.icu_trie_core.specs.Format.{answer, fast_limit, fast_offset, small_offset, index2_cell, offset_in_block}
 use Rattle.icu_trie_core.specs.Coherence.{IsCoherent, IsShared}
 use Rattle.icu_trie_core.specs.Seen.{seen}
 use Rattle.icu_trie_core.specs.Walk.{Holds, cell_seen, SharesBlocks}
 use Rattle.icu_trie_core.specs.declared.header.CodePointTrieHeader.{CodePointTrieHeader}
-use Rattle.icu_trie_core.proofs.AnswerLemmas.{fast_limit_most, small_offset_at, none_or_some}
+use Rattle.icu_trie_core.proofs.AnswerLemmas.{small_offset_at}
 use Rattle.icu_trie_core.proofs.SeenLemmas.{seen-below, seen-cell}
 
 module _ {A : Type 0} {of_number : ℕ → Option A} {h : CodePointTrieHeader} {index : List ℕ} {values : List A} (coherent : IsCoherent of_number h index values) (shares : IsShared h index values) where

@@ -1,12 +1,12 @@
 //! The set of an inversion list.
-ghost use Rattle.std.specs.Prelude.{◌≡◌, ℕ, suc, ◌+◌, ◌^◌, ◌<◌, ◌≤◌, List, [], ◌∷◌, length, slice_index, slice_get, map, min, not, Some, None, if◌then◌else◌, IfOk, IfErr, IsTrue, true, ◌↔◌};
-ghost use Rattle.std.specs.List.{take_while, Contains};
+ghost use Rattle.std.specs.Prelude.{◌≡◌, ℕ, suc, ◌+◌, ◌^◌, ◌<◌, ◌≤◌, List, [], ◌∷◌, length, slice_index, slice_get, map, min, not, Some, None, if◌then◌else◌, IfOk, IfErr, IsTrue, true, false, ◌↔◌};
+ghost use Rattle.std.specs.List.{take_while, All, Contains};
 ghost use Rattle.std.specs.List.Sorted.{IsStrictlyIncreasing};
 ghost use Rattle.std.proofs.Math.Utf8.{scalar};
 ghost use Rattle.std.specs.Str.{chars, encode_utf8_all};
 ghost use mathlib.Core.Bool.{beq};
 ghost use mathlib.Core.List.{reverse};
-ghost use Rattle.icu_invlist.specs.InversionList.{IsValid, holds, limit, HoldsAll, IsSubset, ranges_of, members_below, characters, complement_of};
+ghost use Rattle.icu_invlist.specs.InversionList.{IsOfCodePoints, IsValid, holds, limit, HoldsAll, IsSubset, ranges_of, members_below, characters, complement_of};
 ghost use Rattle.icu_invlist.specs.Places.{below};
 ghost use Rattle.icu_invlist.specs.Refusals.{IsRefusedList, IsRefusedSlice};
 
@@ -217,7 +217,8 @@ impl<'data> CodePointInversionList<'data> {
 
     /// Whether the set holds the code point. No number above 0x10FFFF is held.
     pub fn contains32(&self, c: u32) -> bool
-        ensures { result ≡ holds self.now c }
+        ensures held { result ≡ holds self.now c }
+        ensures far { limit ≤ c → result ≡ false }
     {
         let _ = &self.ends;
         c < 0x11_0000 && self.place_of(c) % 2 == 1
@@ -341,6 +342,8 @@ impl<'data> CodePointInversionList<'data> {
     pub fn iter_ranges(&self) -> IterRanges<'_>
         ensures gives { result ≡ self.now }
         ensures bound { length (ranges_of result) < 2 ^ 64 }
+        ensures valid { IsValid self.now }
+        ensures within { All IsOfCodePoints (ranges_of self.now) }
     {
         IterRanges::from_ends(self.ends.iter())
     }
@@ -350,6 +353,7 @@ impl<'data> CodePointInversionList<'data> {
         ensures gives { result ≡ complement_of self.now }
         ensures complement { (c : ℕ) → c < limit → holds (complement_of self.now) c ≡ not (holds self.now c) }
         ensures valid { IsValid (complement_of self.now) }
+        ensures within { All IsOfCodePoints (ranges_of (complement_of self.now)) }
     {
         let mut ends = self.ends.iter();
         if self.contains32(0) {

@@ -89,7 +89,7 @@ impl<'data> CodePointInversionList<'data> {
         alloc: Global,
         value: &Value,
     ) -> Result<CodePointInversionList<'static>, SetJsonError>
-        ensures ok { IfOk result (λ s. IsSaid (view value.now) s × IsValid s) }
+        ensures ok { IfOk result (λ s. (ends_of (view value.now) ≡ Ok s) × IsSaid (view value.now) s × IsValid s) }
         ensures only { (items : Items) (ends : List ℕ) → view value.now ≡ array items → SayEnds items ends → IsValid ends
             → MatchResult result (λ s. s ≡ ends) (λ e. e ≡ Memory) }
         ensures err { IfErr result (IsRefusedJson (view value.now)) }

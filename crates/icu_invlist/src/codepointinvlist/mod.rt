@@ -10,7 +10,7 @@ mod equality;
 mod error;
 mod iter;
 mod json;
-mod utils;
+pub mod utils;
 
 pub use builder::CodePointInversionListBuilder;
 pub use cpinvlist::CodePointInversionList;

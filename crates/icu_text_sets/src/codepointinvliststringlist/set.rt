@@ -1,9 +1,9 @@
 //! Sets of code points and texts, and what they can be asked.
-ghost use Rattle.std.specs.Prelude.{◌≡◌, ◌==◌, ◌&&◌, ℕ, List, [], ◌∷◌, length, not, IfOk};
+ghost use Rattle.std.specs.Prelude.{◌≡◌, ◌≤◌, ◌==◌, ◌&&◌, ℕ, List, [], ◌∷◌, length, not, IfOk, false};
 ghost use Rattle.std.specs.Result.{is_ok};
 ghost use Rattle.std.specs.Option.{option_map, IfSome};
 ghost use Rattle.std.specs.Str.{chars, is_utf8, IsUtf8};
-ghost use Rattle.icu_invlist.specs.InversionList.{holds};
+ghost use Rattle.icu_invlist.specs.InversionList.{holds, limit};
 ghost use Rattle.icu_text_sets.specs.TextSet.{TextSet, only_char, is_among, texts_of, IsStringList, member, member_count};
 ghost use Rattle.icu_text_sets.specs.Places.{IsPlaceOf};
 
@@ -130,7 +130,8 @@ impl<'data> CodePointInversionListAndStringList<'data> {
 
     /// Whether the set holds the code point. No number above 0x10FFFF is held.
     pub fn contains32(&self, cp: u32) -> bool
-        ensures { result ≡ holds self.now.code_points cp }
+        ensures held { result ≡ holds self.now.code_points cp }
+        ensures far { limit ≤ cp → result ≡ false }
     {
         self.cp_inv_list.contains32(cp)
     }

@@ -22,7 +22,8 @@ fn asked_numbers_are_answered(rt: HostRuntime) -> Result<(), Fail> {
 
 #[test]
 fn faults_end_a_run(rt: HostRuntime) -> Result<(), Fail> {
-    let runs: [(&str, &[u8], &[u8]); 5] = [
+    let runs: [(&str, &[u8], &[u8]); 6] = [
+        ("small 0 9", b"110000;1", b"line 1: code point too large\n"),
         ("fast 0 9 0", b"0;4294967296", b"line 1: value too large\n"),
         ("fast 0 9 0", b"0 ..1;2", b"line 1: not a row\n"),
         (

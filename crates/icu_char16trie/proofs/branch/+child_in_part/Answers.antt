@@ -1,5 +1,5 @@
 use Rattle.icu_zerovec.specs.Slice.{slice_values}
-use Rattle.std.proofs.Common.{ℕ, ◌+◌, ◌≤◌, List, Some, arith, ◌∙◌, sym, ◌≡◌}
+use Rattle.std.proofs.Common.{arith, ◌∙◌, sym, ◌≡◌}
 use Rattle.icu_char16trie.specs.Steps.{row, no_split, no_delta, cut_delta, lower, upper}
 use Rattle.icu_char16trie.proofs.PartLaws.{split_found}
 use Rattle.icu_char16trie.proofs.branch.+child_in_part.Goals as goal

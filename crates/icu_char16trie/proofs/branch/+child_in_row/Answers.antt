@@ -1,5 +1,5 @@
 use Rattle.icu_zerovec.specs.Slice.{slice_values}
-use Rattle.std.proofs.Common.{ℕ, ◌+◌, ◌≤◌, List, Some, arith, ◌∙◌, sym, ap, refl, ◌≡◌, nat_eq, false, ◌%◌}
+use Rattle.std.proofs.Common.{◌+◌, arith, ◌∙◌, sym, ap, refl, ◌≡◌, nat_eq, false, ◌%◌}
 use Rattle.std.proofs.lemmas.Nat.{and_mask}
 use Rattle.std.proofs.lemmas.Bool.{ne_eqb}
 use Rattle.icu_char16trie.specs.Numbers.{short_end}

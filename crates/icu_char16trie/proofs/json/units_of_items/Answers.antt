@@ -1,4 +1,4 @@
-use Rattle.std.proofs.Common.{◌≡◌, sym, ◌∙◌, inr}
+use Rattle.std.proofs.Common.{sym, inr}
 use Rattle.icu_char16trie.proofs.JsonLaws.{stops, goes_on, at_end}
 use Rattle.icu_char16trie.proofs.json.units_of_items.Goals as goal
 

@@ -1,6 +1,6 @@
 use Rattle.icu_zerovec.specs.Slice.{slice_values}
-use Rattle.std.proofs.Common.{arith, sym, refl, ap, ◌∙◌, ◌+◌, ◌≡◌, ◌≤◌, ◌<◌, length, length-append, List, ℕ, ℤ, ◌∷◌, ◌++◌, [], reverse}
-use Rattle.icu_char16trie.specs.Tasks.{Pending, weight, work_left}
+use Rattle.std.proofs.Common.{arith, sym, ap, ◌∙◌, ◌+◌, ◌≡◌, length, length-append, List, ℕ, ◌∷◌, ◌++◌, []}
+use Rattle.icu_char16trie.specs.Tasks.{weight, work_left}
 use Rattle.icu_char16trie.proofs.TaskLaws.{one_pushed, work_push}
 use Rattle.icu_char16trie.specs.declared.task.Task.{Task}
 use Rattle.icu_char16trie.proofs.tasks.next_of_tasks.Goals as goal

@@ -1,8 +1,7 @@
 use Rattle.icu_zerovec.specs.Slice.{slice_values}
-use Rattle.std.proofs.Common.{arith, sym, refl, ap, ◌∙◌, ◌+◌, ◌≡◌, ◌-◌, length, append-nil, List, ℕ, ℤ, ◌∷◌, ◌++◌, ◌<◌}
-use Rattle.icu_char16trie.specs.Tasks.{weight, work_left}
-use Rattle.icu_char16trie.proofs.TaskLaws.{weight_some, work_one, node_opens, run_opens, part_opens, branch_plain, branch_long}
-use Rattle.icu_char16trie.proofs.NodeLaws.{matches_run, matches_branch, holds_final, holds_plain, holds_valued}
+use Rattle.std.proofs.Common.{arith, sym, refl, ◌+◌, length}
+use Rattle.icu_char16trie.proofs.TaskLaws.{weight_some, work_one, part_opens, branch_plain, branch_long}
+use Rattle.icu_char16trie.proofs.NodeLaws.{matches_run}
 use Rattle.icu_char16trie.proofs.tasks.open_match.Goals as goal
 
 pub returns-then-low-ge48-clause-gives : goal.returns-then-low-ge48-clause-gives

@@ -1,12 +1,9 @@
 use Rattle.icu_zerovec.specs.Slice.{slice_values}
-use Rattle.std.proofs.Common.{arith, sym, refl, ap, ◌∙◌, ◌+◌, ◌≡◌, ◌-◌, length, append-nil, List, ℕ, ℤ, ◌∷◌, ◌++◌, ◌<◌, ◌^◌, [], unwrap_or}
+use Rattle.std.proofs.Common.{arith, sym, ap, ◌∙◌, ◌≡◌, length, ℕ, ℤ, ◌<◌, ◌^◌, unwrap_or}
 use Rattle.std.specs.Int.{cast_signed, cast_unsigned, w32}
 use Rattle.std.proofs.lemmas.Int.{of_z-to_z}
 use Rattle.icu_char16trie.specs.LossyText.{key_text}
-use Rattle.icu_char16trie.specs.Tasks.{weight, work_left}
-use Rattle.icu_char16trie.specs.UnitMap.{under}
-use Rattle.icu_char16trie.proofs.TaskLaws.{weight_some, final_gives, valued_gives, absent_opens, node_here}
-use Rattle.icu_char16trie.proofs.NodeLaws.{holds_final, holds_plain, holds_valued, holds_within}
+use Rattle.icu_char16trie.proofs.TaskLaws.{weight_some, final_gives, valued_gives}
 use Rattle.icu_char16trie.proofs.tasks.open_node.Goals as goal
 
 pub returns-in_default-clause-work : goal.returns-in_default-clause-work

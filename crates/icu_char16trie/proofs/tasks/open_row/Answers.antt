@@ -1,8 +1,7 @@
 use Rattle.icu_zerovec.specs.Slice.{slice_values}
-use Rattle.std.proofs.Common.{arith, sym, refl, ap, ◌∙◌, ◌+◌, ◌≡◌, length}
+use Rattle.std.proofs.Common.{arith, sym, refl, ap, ◌∙◌, ◌+◌, length}
 use Rattle.std.proofs.lemmas.Nat.{and_mask}
 use Rattle.icu_char16trie.specs.Numbers.{short_end}
-use Rattle.icu_char16trie.specs.Tasks.{weight, work_left}
 use Rattle.icu_char16trie.proofs.TaskLaws.{weight_some, work_one, work_two, row_opens, last_opens}
 use Rattle.icu_char16trie.proofs.tasks.open_row.Goals as goal
 

@@ -1,8 +1,6 @@
 use Rattle.icu_zerovec.specs.Slice.{slice_values}
-use Rattle.std.proofs.Common.{arith, sym, refl, ap, ◌∙◌, ◌+◌, ◌≡◌, ◌-◌, length, take, drop, append-nil, List, ℕ, ℤ, ◌∷◌, ◌++◌, ◌<◌}
-use Rattle.icu_char16trie.specs.Tasks.{weight, work_left}
-use Rattle.icu_char16trie.proofs.TaskLaws.{weight_some, work_one, node_opens, run_opens, part_opens}
-use Rattle.icu_char16trie.proofs.NodeLaws.{matches_run, matches_branch, holds_final, holds_plain, holds_valued}
+use Rattle.std.proofs.Common.{arith, refl, length}
+use Rattle.icu_char16trie.proofs.TaskLaws.{weight_some, work_one, run_opens}
 use Rattle.icu_char16trie.proofs.tasks.open_run.Goals as goal
 
 pub returns-then-len-place-clause-work : goal.returns-then-len-place-clause-work

@@ -1,6 +1,5 @@
 use Rattle.icu_zerovec.specs.Slice.{slice_values}
-use Rattle.std.proofs.Common.{arith, sym, refl, ◌≡◌, length}
-use Rattle.icu_char16trie.specs.Tasks.{weight, work_left}
+use Rattle.std.proofs.Common.{arith, sym, refl, length}
 use Rattle.icu_char16trie.proofs.TaskLaws.{weight_some, work_two, split_opens}
 use Rattle.icu_char16trie.proofs.tasks.open_split.Goals as goal
 

@@ -1,5 +1,4 @@
-use Rattle.std.proofs.Common.{◌≡◌, ℕ, ◌+◌, List, length, refl, true, false, nat_eq}
-use Rattle.icu_invlist.specs.Places.{below}
+use Rattle.std.proofs.Common.{false}
 use Rattle.icu_invlist.proofs.ValidLists.{run_from_valid}
 use Rattle.icu_invlist.proofs.Splices.{filled, plain, side_room}
 use Rattle.icu_invlist.proofs.fill.clear_side.Goals as goal

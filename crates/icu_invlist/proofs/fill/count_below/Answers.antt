@@ -1,9 +1,8 @@
-use Rattle.std.proofs.Common.{◌≡◌, ℕ, ◌<◌, ◌≤◌, List, length, get_or, rules, true, false, suc, nat_lt}
+use Rattle.std.proofs.Common.{◌≡◌, rules, true, false, suc, nat_lt}
 use Rattle.std.specs.List.Sorted.{IsPartitionPoint}
 use Rattle.std.proofs.lemmas.List.Sorted.{IsPartitionPoint-from_clause, IsPartitionedBy-ltb}
 use Rattle.std.proofs.lemmas.Bool.{ltb-true, ltb-false}
 use Rattle.icu_invlist.specs.InversionList.{limit}
-use Rattle.icu_invlist.specs.Places.{below}
 use Rattle.icu_invlist.proofs.RunLemmas.{below_is, run-rises}
 use Rattle.icu_invlist.proofs.fill.count_below.Goals as goal
 

@@ -1,11 +1,9 @@
-use Rattle.std.proofs.Common.{◌≡◌, ℕ, ◌+◌, sym, List, length, refl, OnOk, true, false, nat_eq}
-use Rattle.std.specs.Prelude.{IfOk}
+use Rattle.std.proofs.Common.{◌≡◌, ◌+◌, sym, refl, true}
 use Rattle.std.proofs.lemmas.Bool.{both_ways}
 use Rattle.std.proofs.lemmas.Result.{on_ok_weaker}
-use Rattle.icu_invlist.specs.InversionList.{IsValid, limit}
-use Rattle.icu_invlist.specs.Places.{IsFilled, below}
+use Rattle.icu_invlist.specs.Places.{below}
 use Rattle.icu_invlist.proofs.ValidLists.{run_from_valid}
-use Rattle.icu_invlist.proofs.Splices.{filled, room, needed}
+use Rattle.icu_invlist.proofs.Splices.{filled, room}
 use Rattle.icu_invlist.proofs.fill.fill.Goals as goal
 use Rattle.icu_invlist.proofs.fill.fill.Goals.{else-first-via-then-first+then-second+else-lower-upper, else-first-via-then-first+else-second, else-first-via-else-first}
 

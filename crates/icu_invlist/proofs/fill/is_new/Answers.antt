@@ -1,4 +1,3 @@
-use Rattle.std.proofs.Common.{◌≡◌, ◌∙◌, sym}
 use Rattle.icu_invlist.proofs.Toggles.{end_found, new_found}
 use Rattle.icu_invlist.proofs.fill.is_new.Goals as goal
 

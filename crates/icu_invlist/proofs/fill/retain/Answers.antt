@@ -1,4 +1,4 @@
-use Rattle.std.proofs.Common.{◌≡◌, ℕ, ◌+◌, List, length, refl, arith, rules}
+use Rattle.std.proofs.Common.{rules}
 use Rattle.icu_invlist.proofs.Splices.{emptied}
 use Rattle.icu_invlist.proofs.fill.retain.Goals as goal
 

@@ -1,9 +1,8 @@
-use Rattle.std.proofs.Common.{◌≡◌, ℕ, ◌+◌, ◌++◌, ◌∷◌, [], length, refl, ap, sym, ◌∙◌, arith, add-one, suc}
+use Rattle.std.proofs.Common.{◌≡◌, ◌∷◌, [], length, ap, ◌∙◌, arith, add-one}
 use Rattle.std.proofs.lemmas.List.{append-nil, length_push}
-use Rattle.icu_invlist.specs.InversionList.{is_odd, limit}
-use Rattle.icu_invlist.specs.Places.{below}
+use Rattle.icu_invlist.specs.InversionList.{is_odd}
 use Rattle.icu_invlist.specs.Blends.{blend}
-use Rattle.icu_invlist.proofs.Merging.{Merging, none_yet, merged_more, merged_all, blend_none, needs, has}
+use Rattle.icu_invlist.proofs.Merging.{none_yet, merged_more, merged_all, blend_none, needs, has}
 use Rattle.icu_invlist.proofs.merge.merged.Goals as goal
 
 pub loop-i-init : goal.loop-i-init

@@ -1,4 +1,4 @@
-use Rattle.std.proofs.Common.{◌≡◌, ℕ, ◌<◌, ◌≤◌, length, get_or, arith}
+use Rattle.std.proofs.Common.{get_or, arith}
 use Rattle.icu_invlist.proofs.PlaceLemmas.{least_at, stays_at}
 use Rattle.icu_invlist.proofs.merge.next_end.Goals as goal
 

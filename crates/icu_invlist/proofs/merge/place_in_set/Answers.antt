@@ -1,5 +1,4 @@
-use Rattle.std.proofs.Common.{◌≡◌, ℕ, ◌<◌, ◌≤◌, length, get_or, arith, sym, ◌∙◌}
-use Rattle.icu_invlist.specs.Places.{below}
+use Rattle.std.proofs.Common.{arith, sym, ◌∙◌}
 use Rattle.icu_invlist.proofs.RunLemmas.{below-le}
 use Rattle.icu_invlist.proofs.PlaceLemmas.{moves_over, stays_over}
 use Rattle.icu_invlist.proofs.merge.place_in_set.Goals as goal

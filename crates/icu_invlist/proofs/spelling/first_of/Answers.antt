@@ -1,7 +1,5 @@
-use Rattle.std.proofs.Common.{◌≡◌, ◌∙◌, sym, ap, refl, ◌++◌, encode_utf8}
-use Rattle.std.specs.Str.{chars}
+use Rattle.std.proofs.Common.{◌≡◌, refl, ◌++◌, encode_utf8}
 use Rattle.std.proofs.lemmas.Str.{chars_past_char}
-use Rattle.icu_invlist.specs.SetJson.{first_of}
 use Rattle.icu_invlist.proofs.spelling.first_of.Goals as goal
 
 pub returns : goal.returns

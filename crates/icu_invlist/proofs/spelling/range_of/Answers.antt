@@ -1,5 +1,4 @@
 use Rattle.std.proofs.Common.{◌≡◌, ◌∙◌, sym, IfSome, Some, None, Option, ℕ, List}
-use Rattle.std.specs.Str.{chars}
 use Rattle.icu_invlist.specs.SetJson.{range_at, IsRange}
 use Rattle.icu_invlist.proofs.TextLemmas.{range_found, range_only}
 use Rattle.icu_invlist.proofs.spelling.range_of.Goals as goal

@@ -1,4 +1,4 @@
-use Rattle.std.proofs.Common.{rules, of_calls, None, arith, ◌≡◌, [], ◌∷◌, ◌++◌, append-nil, length, sym, ap, ◌∙◌, refl}
+use Rattle.std.proofs.Common.{rules, of_calls, None, arith, [], append-nil, length, ap, refl}
 use Rattle.std.proofs.lemmas.List.{length-append}
 use Rattle.icu_trie.proofs.MappedTrieLemmas.{onward-answered, onward-refused}
 use Rattle.icu_trie.proofs.map_value.map_cells.Goals as goal

@@ -1,4 +1,4 @@
-use Rattle.std.proofs.Common.{◌≡◌, ◌+◌, ℕ, List, ◌++◌, length, Option}
+use Rattle.std.proofs.Common.{◌≡◌, ◌+◌, List, ◌++◌, length, Option}
 use Rattle.icu_zerovec.specs.Slice.{slice_values}
 use Rattle.icu_trie.specs.MappedTrie.{CallsInTurn}
 use Rattle.icu_trie.proofs.map_value.map_cells.Given as goal

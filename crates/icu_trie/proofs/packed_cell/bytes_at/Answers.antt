@@ -1,7 +1,5 @@
 -- The bytes of one value are its cell.
-use Rattle.std.proofs.Common.{◌≡◌, ◌<◌, ◌+◌, ◌*◌, ◌≤◌, length, arith, sym, ◌∙◌, ap}
-use Rattle.std.specs.Option.{option_map}
-use Rattle.std.specs.Prelude.{slice_get}
+use Rattle.std.proofs.Common.{◌<◌, length, arith}
 use Rattle.icu_zerovec.specs.Cells.{values_of}
 use Rattle.icu_trie.proofs.PackedCellLemmas.{cell_fits, value-cell, pack-cell}
 use Rattle.icu_trie.proofs.packed_cell.bytes_at.Goals as goal

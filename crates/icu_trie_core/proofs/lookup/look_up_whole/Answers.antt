@@ -1,4 +1,4 @@
-use Rattle.std.proofs.Common.{◌≡◌, ◌+◌, ◌<◌, ◌/◌, length, bit_and, arith, sym, ap}
+use Rattle.std.proofs.Common.{◌<◌, ◌/◌, length, arith}
 use Rattle.std.proofs.lemmas.Nat.{and_le_r}
 use Rattle.icu_trie_core.proofs.FastIndexLemmas.{in_fast_index, block_inside}
 use Rattle.icu_trie_core.proofs.lookup.look_up_whole.Goals as goal

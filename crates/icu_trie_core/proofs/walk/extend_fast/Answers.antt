@@ -1,5 +1,4 @@
-use Rattle.std.proofs.Common.{rules, arith, sym, ap, ◌∙◌, ◌≡◌, ◌≤◌, ◌<◌, ◌+◌, ◌-◌, ◌*◌, ◌/◌, ℕ, Some, None, slice_get, min}
-use Rattle.std.specs.Int.{div_ceil}
+use Rattle.std.proofs.Common.{rules, arith, sym, ap, ◌∙◌, ◌≡◌, ◌<◌, ◌+◌, ◌-◌, ◌*◌, Some, None, min}
 use Rattle.icu_trie_core.proofs.ReachLemmas.{Holds-below_limit, Holds-over_block, EndsAt-in_block, BreaksOff-in_block, BreaksOff-at_block}
 use Rattle.icu_trie_core.proofs.SeenLemmas.{seen-fast_block, seen-fast_missing}
 use Rattle.icu_trie_core.proofs.SharedLemmas.{reads_after}

@@ -1,5 +1,4 @@
-use Rattle.std.proofs.Common.{rules, arith, sym, ap, ◌∙◌, ◌≡◌, ◌≤◌, ◌<◌, ◌+◌, ◌-◌, ◌*◌, ◌/◌, ℕ, Some, None, min, refl, inl, inr}
-use Rattle.std.specs.Int.{div_ceil}
+use Rattle.std.proofs.Common.{rules, arith, sym, ap, ◌∙◌, ◌≡◌, ◌<◌, ◌+◌, ◌-◌, ◌*◌, Some, None, min, refl, inl, inr}
 use Rattle.std.specs.Option.{option_len}
 use Rattle.icu_trie_core.specs.Format.{offset_in_block}
 use Rattle.icu_trie_core.proofs.AnswerLemmas.{none_or_some}

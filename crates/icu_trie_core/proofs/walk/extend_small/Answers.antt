@@ -1,7 +1,5 @@
-use Rattle.std.proofs.Common.{rules, arith, sym, ap, ◌∙◌, ◌≡◌, ◌≤◌, ◌<◌, ◌+◌, ◌-◌, ◌*◌, ◌/◌, ℕ, Some, None, min, refl, inl, inr}
-use Rattle.std.specs.Int.{div_ceil}
+use Rattle.std.proofs.Common.{rules, arith, sym, ap, ◌∙◌, ◌≡◌, ◌<◌, ◌+◌, ◌-◌, ◌*◌, Some, None, min, refl, inl, inr}
 use Rattle.std.specs.Option.{option_len}
-use Rattle.icu_trie_core.specs.Format.{fast_limit, index2_cell}
 use Rattle.icu_trie_core.proofs.AnswerLemmas.{none_or_some, fast_limit_most, option_len_most}
 use Rattle.icu_trie_core.proofs.ReachLemmas.{Holds-below_limit, Holds-over_block, EndsAt-in_block, BreaksOff-in_block, BreaksOff-at_block}
 use Rattle.icu_trie_core.proofs.SeenLemmas.{seen-cell, seen-cell_missing}

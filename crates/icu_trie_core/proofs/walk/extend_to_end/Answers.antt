@@ -1,4 +1,4 @@
-use Rattle.std.proofs.Common.{rules, arith, sym, ◌∙◌, ◌≡◌, ◌≤◌, ◌<◌, None}
+use Rattle.std.proofs.Common.{rules, arith, ◌≡◌, None}
 use Rattle.icu_trie_core.proofs.RangeLemmas.{BreaksOff-at_high, EndsAt-over_high, EndsAt-at_high}
 use Rattle.icu_trie_core.proofs.walk.extend_to_end.Goals as goal
 

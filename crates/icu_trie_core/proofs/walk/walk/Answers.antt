@@ -1,7 +1,5 @@
-use Rattle.std.proofs.Common.{rules, arith, sym, ◌∙◌, ◌≡◌, ◌≤◌, ◌<◌, ◌+◌, ◌-◌, None, Some, max}
+use Rattle.std.proofs.Common.{rules, arith, sym, ◌≡◌, ◌+◌, ◌-◌, None, Some, max}
 use Rattle.std.specs.Range.{range_inclusive_end}
-use Rattle.icu_trie_core.specs.Format.{answer}
-use Rattle.icu_trie_core.specs.Range.{GivesWalk}
 use Rattle.icu_trie_core.proofs.RangeLemmas.{GivesWalk-from_break, GivesWalk-from_ends, LongestRun-from_gives}
 use Rattle.icu_trie_core.proofs.walk.walk.Goals as goal
 

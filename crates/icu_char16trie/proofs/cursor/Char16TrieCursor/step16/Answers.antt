@@ -1,4 +1,3 @@
-use Rattle.std.proofs.Common.{◌∙◌, ap}
 use Rattle.icu_char16trie.proofs.StepLaws.{steps_one}
 use Rattle.icu_char16trie.proofs.PlaceLaws.{step_is_after}
 use Rattle.icu_char16trie.proofs.cursor.Char16TrieCursor.step16.Goals as goal

@@ -1,4 +1,4 @@
-use Rattle.std.proofs.Common.{◌∙◌, ap}
+use Rattle.std.proofs.Common.{◌∙◌}
 use Rattle.icu_char16trie.proofs.PlaceLaws.{value_is_after}
 use Rattle.icu_char16trie.proofs.cursor.Char16TrieCursor.value.Goals as goal
 

@@ -1,9 +1,8 @@
 use Rattle.icu_zerovec.specs.Slice.{slice_values}
 use Rattle.std.proofs.Common.{◌≡◌, ℕ, ℤ, List, [], ◌∷◌, ◌++◌, refl, sym, ap, ◌∙◌, reverse, append-nil}
 use Rattle.icu_char16trie.specs.UnitMap.{under}
-use Rattle.icu_char16trie.specs.Tasks.{Pending, WorkHolds, with_root}
+use Rattle.icu_char16trie.specs.Tasks.{Pending, WorkHolds}
 use Rattle.icu_char16trie.specs.declared.task.Task.{Task}
-use Rattle.icu_char16trie.specs.declared.task.Work.TheVariants as work
 use Rattle.icu_char16trie.proofs.TaskLaws.{one_pushed, pending_push}
 use Rattle.icu_char16trie.proofs.NodeLaws.{under_nil}
 use Rattle.icu_char16trie.proofs.PlaceLaws.{root_stands}

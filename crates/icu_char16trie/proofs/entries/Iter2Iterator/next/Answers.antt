@@ -1,5 +1,5 @@
 use Rattle.icu_zerovec.specs.Slice.{slice_values}
-use Rattle.std.proofs.Common.{◌≡◌, ℕ, ◌<◌, ◌+◌, List, [], ◌∷◌, refl, sym, ap, ◌∙◌, length, arith}
+use Rattle.std.proofs.Common.{◌≡◌, ℕ, ◌<◌, ◌+◌, List, [], ◌∷◌, refl, ap, length, arith}
 use Rattle.std.proofs.lemmas.List.Sums.{sum_by-append}
 use Rattle.icu_char16trie.specs.Tasks.{work_left, weight, with_root}
 use Rattle.icu_char16trie.specs.declared.task.Task.{Task}

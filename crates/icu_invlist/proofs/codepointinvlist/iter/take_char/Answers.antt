@@ -1,4 +1,3 @@
-use Rattle.std.proofs.Common.{◌≡◌, ◌∙◌, sym}
 use Rattle.icu_invlist.proofs.CharacterLemmas.{char_found, char_passed}
 use Rattle.icu_invlist.proofs.codepointinvlist.iter.take_char.Goals as goal
 

@@ -1,4 +1,4 @@
-use Rattle.std.proofs.Common.{◌≡◌, sym, ◌∙◌}
+use Rattle.std.proofs.Common.{sym}
 use Rattle.icu_invlist.proofs.JsonLemmas.{stops_no_string, stops_no_range, goes_on, at_end}
 use Rattle.icu_invlist.proofs.codepointinvlist.json.ends_of_items.Goals as goal
 

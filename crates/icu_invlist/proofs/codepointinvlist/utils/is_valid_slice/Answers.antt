@@ -1,4 +1,4 @@
-use Rattle.std.proofs.Common.{◌≡◌, ◌+◌, ◌<◌, ◌%◌, refl, arith, get_or, take, drop, length}
+use Rattle.std.proofs.Common.{◌+◌, ◌<◌, refl, arith, get_or, take, drop, length}
 use Rattle.std.proofs.lemmas.List.{take_more, drop_more, drop_all}
 use Rattle.icu_invlist.proofs.CheckedLists.{checked_more, checked_all}
 use Rattle.icu_invlist.proofs.codepointinvlist.utils.is_valid_slice.Goals as goal

@@ -1,7 +1,6 @@
-use Rattle.std.proofs.Common.{◌≡◌, ◌∙◌, ◌+◌, ◌<◌, ◌≤◌, ◌%◌, ◌++◌, ◌∷◌, [], sym, ap, refl, arith, length, ℕ, inl, inr}
+use Rattle.std.proofs.Common.{refl, arith, inl, inr}
 use Rattle.std.proofs.lemmas.Bool.{false≢true}
-use Rattle.icu_invlist.specs.InversionList.{limit}
-use Rattle.icu_invlist.proofs.CheckedLists.{Checked, checked_more, checked_low, checked_high, checked_all}
+use Rattle.icu_invlist.proofs.CheckedLists.{checked_more, checked_low, checked_high, checked_all}
 use Rattle.icu_invlist.proofs.codepointinvlist.utils.is_valid_zv.Goals as goal
 
 pub returns-then-end-next : goal.returns-then-end-next

@@ -1,10 +1,8 @@
-use Rattle.std.proofs.Common.{rules, arith, sym, ap, ◌∙◌, ◌≡◌, ◌≢◌, ◌≤◌, ◌<◌, ◌+◌, ◌%◌, Some, None, length, Bool, true, false, not}
+use Rattle.std.proofs.Common.{rules, arith, sym, ◌∙◌, ◌≡◌, ◌≤◌, length, true, false}
 use Rattle.std.proofs.lemmas.Bool.{eq-eqb, ne_eqb}
-use mathlib.Core.Bool.{beq}
 use Rattle.icu_invlist.specs.InversionList.{is_odd}
-use Rattle.icu_trie.specs.Iterators.{iterator_next}
 use Rattle.icu_trie_core.specs.Range.{first_of, last_of}
-use Rattle.icu_trie.proofs.SetLemmas.{Gathers, Gathers-kept, Gathers-turned, kept_tells, turned_tells, members-closed, members-opened}
+use Rattle.icu_trie.proofs.SetLemmas.{Gathers-kept, Gathers-turned, kept_tells, turned_tells, members-closed, members-opened}
 use Rattle.icu_trie.proofs.cptrie.CodePointTrie.ends_of_value.Goals.{then-is_same-is_inside+in_ok-push, else-is_same-is_inside, then-len-eq1+in_ok-push-2, else-len-eq1}
 use Rattle.icu_trie.proofs.cptrie.CodePointTrie.ends_of_value.Goals as goal
 

@@ -1,4 +1,4 @@
-use Rattle.std.proofs.Common.{rules, arith, ◌≤◌, ◌∙◌, ap, sym}
+use Rattle.std.proofs.Common.{arith}
 use Rattle.icu_trie.specs.Ranges.{answers}
 use Rattle.icu_trie.proofs.IteratorLemmas.{AreRunsFrom-from_ranges}
 use Rattle.icu_trie.proofs.SetLemmas.{IsInRangeOf-from_runs}

@@ -1,4 +1,4 @@
-use Rattle.std.proofs.Common.{refl, ◌≤◌, arith, sym}
+use Rattle.std.proofs.Common.{refl, arith}
 use Rattle.icu_trie.proofs.IteratorLemmas.{AreRangesFrom-from_drained, AreRunsFrom-from_ranges}
 use Rattle.icu_trie_core.proofs.RunLemmas.{runs-unique}
 use Rattle.icu_trie.proofs.cptrie.CodePointTrie.iter_ranges.Goals as goal

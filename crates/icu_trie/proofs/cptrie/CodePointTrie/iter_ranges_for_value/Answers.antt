@@ -1,5 +1,3 @@
-use Rattle.std.proofs.Common.{arith}
-use Rattle.icu_trie.proofs.IteratorLemmas.{AreRunsFrom-from_ranges}
 use Rattle.icu_trie.proofs.ValueLemmas.{selected-from_run}
 use Rattle.icu_trie.proofs.cptrie.CodePointTrie.iter_ranges_for_value.Goals as goal
 

@@ -1,4 +1,4 @@
-use Rattle.std.proofs.Common.{sym, refl}
+use Rattle.std.proofs.Common.{refl}
 use Rattle.icu_trie.specs.MappedRanges.{iter_mapped_source, iter_mapped_steps, GivesMapped}
 use Rattle.icu_trie.specs.Coalescer.{coalescer_steps}
 use Rattle.icu_trie.proofs.MappedLemmas.{Drains-inside, Drains-behind, answered-from_run, AreAnswered-by, AreOfCodePoints-from_ranges, AreOfCodePoints-answered, All-joined, joined-maximal}

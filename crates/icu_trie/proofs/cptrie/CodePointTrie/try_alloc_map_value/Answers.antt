@@ -1,9 +1,7 @@
-use Rattle.std.proofs.Common.{rules, of_calls, ◌≡◌, ◌∙◌, ap, sym, refl, Some, None, Ok, Err, List, [], ◌∷◌, length}
-use Rattle.icu_zerovec.specs.Slice.{slice_values}
-use Rattle.icu_trie.specs.MappedTrie.{MapsInTurn, CallsInTurn}
-use Rattle.icu_trie.proofs.MappedTrieLemmas.{answers-by, answers-mapped, IsCoherent-mapped, handed_on}
+use Rattle.std.proofs.Common.{rules, of_calls, ◌≡◌, sym, refl, Some, None, Ok, [], ◌∷◌, length}
+use Rattle.icu_trie.specs.MappedTrie.{MapsInTurn}
+use Rattle.icu_trie.proofs.MappedTrieLemmas.{answers-by, answers-mapped, value-mapped, IsCoherent-mapped, handed_on}
 use Rattle.icu_trie.specs.Conversion.{with_null_value}
-use Rattle.icu_trie.specs.Parts.{Parts}
 use Rattle.icu_trie.proofs.cptrie.CodePointTrie.try_alloc_map_value.Goals as goal
 
 pub returns-in-Err-clause-maps : goal.returns-in-Err-clause-maps
@@ -114,6 +112,16 @@ returns-clause-same g c = λ h always u.
     let mapped = answers-by (goal.F-step g) h always c.f-2.new.self c.self.inside.«data» c.in_ok-values.values.items all.last (rw c.as_slice.ensures at calls) same in
     let trie : c.with_data.result ≡ record { header = with_null_value c.self.inside.header (g.P.TrieValue.number c.in-Ok-f.null); index = c.self.inside.index; values = c.in_ok-values.values.items } = search rules in
     rw (← c.self.view_is, trie) (answers-mapped h c.self.inside.header c.self.inside.index c.self.inside.«data» c.in_ok-values.values.items (g.P.TrieValue.number c.in-Ok-f.null) mapped same u)
+
+pub returns-clause-value : goal.returns-clause-value
+returns-clause-value g c = λ h always u.
+    let all = c.in_ok-values.ensures.ok in
+    let calls = all.calls in
+    let whole = all.whole in
+    let same : length c.in_ok-values.values.items ≡ length c.self.inside.«data» = rw c.as_slice.ensures at whole in
+    let mapped = answers-by (goal.F-step g) h always c.f-2.new.self c.self.inside.«data» c.in_ok-values.values.items all.last (rw c.as_slice.ensures at calls) same in
+    let trie : c.with_data.result ≡ record { header = with_null_value c.self.inside.header (g.P.TrieValue.number c.in-Ok-f.null); index = c.self.inside.index; values = c.in_ok-values.values.items } = search rules in
+    rw (← c.self.view_is, trie) (value-mapped h c.self.inside.header c.self.inside.index c.self.inside.«data» c.in_ok-values.values.items (g.P.TrieValue.number c.in-Ok-f.null) mapped same u)
 
 pub returns-clause-coherent : goal.returns-clause-coherent
 returns-clause-coherent g c = λ h always coherent.

@@ -1,5 +1,5 @@
 -- The converted trie, value by value.
-use Rattle.std.proofs.Common.{◌≡◌, ◌∙◌, sym, Some, None, Ok, Err, length, ap, subst}
+use Rattle.std.proofs.Common.{◌≡◌, ◌∙◌, sym, Ok, Err, subst}
 use Rattle.icu_zerovec.specs.Cells.{IsConverted}
 use Rattle.icu_zerovec.specs.declared.ule.UleError.TheVariants as bytes
 use Rattle.icu_zerovec.proofs.Converted.{converted_ok, converted_err}

@@ -1,5 +1,5 @@
-use Rattle.std.proofs.Common.{rules, refl, sym, arith, true, None, ◌∙◌}
-use Rattle.itertools.proofs.AdaptorLemmas.{Partway-start, Partway-as, Partway-next, Partway-end, pull, can_after}
+use Rattle.std.proofs.Common.{rules, refl, sym, ◌∙◌}
+use Rattle.itertools.proofs.AdaptorLemmas.{Partway-start, Partway-as, Partway-next, Partway-end}
 use Rattle.icu_trie.proofs.JoinedLemmas.{joined_from-continued}
 use Rattle.icu_trie.proofs.iterator_utils.RangeListIteratorCoalescerIterator.next.Goals.{in-Some, in-None+in_ok-range-in-None}
 use Rattle.icu_trie.proofs.iterator_utils.RangeListIteratorCoalescerIterator.next.Goals as goal

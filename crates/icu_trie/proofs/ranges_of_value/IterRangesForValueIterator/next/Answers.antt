@@ -1,4 +1,4 @@
-use Rattle.std.proofs.Common.{rules, arith, ◌++◌, ◌∷◌, []}
+use Rattle.std.proofs.Common.{arith, ◌++◌, ◌∷◌, []}
 use Rattle.icu_trie.specs.Iterators.{GivesNextRange}
 use Rattle.icu_trie.proofs.ValueLemmas.{Yields-one_more, passed_more}
 use Rattle.icu_trie.proofs.ranges_of_value.IterRangesForValueIterator.next.Goals as goal

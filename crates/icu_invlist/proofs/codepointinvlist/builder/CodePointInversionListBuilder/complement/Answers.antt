@@ -1,4 +1,4 @@
-use Rattle.std.proofs.Common.{◌≡◌, ◌∙◌, ap, ℕ, ◌<◌, zero, Bool, true, false, not, refl, arith, List}
+use Rattle.std.proofs.Common.{◌≡◌, ◌∙◌, ap, ℕ, ◌<◌, Bool, true, false, not, refl, arith, List}
 use Rattle.std.proofs.lemmas.Result.{on_ok_weaker}
 use Rattle.icu_invlist.specs.InversionList.{holds, limit, between, one_of, Acts}
 use Rattle.icu_invlist.proofs.Splices.{in_range}

@@ -1,5 +1,5 @@
-use Rattle.std.proofs.Common.{◌≡◌, ◌∙◌, ap, ℕ, ◌<◌, Bool, true, false, refl, List}
-use Rattle.icu_invlist.specs.InversionList.{IsValid, holds, limit, one_of, Acts}
+use Rattle.std.proofs.Common.{◌≡◌, ◌∙◌, ap, ℕ, Bool, true, false, refl, List}
+use Rattle.icu_invlist.specs.InversionList.{IsValid, holds, one_of, Acts}
 use Rattle.icu_invlist.proofs.EqualSets.{same_sets}
 use Rattle.icu_invlist.proofs.codepointinvlist.builder.CodePointInversionListBuilder.complement_set.Goals as goal
 

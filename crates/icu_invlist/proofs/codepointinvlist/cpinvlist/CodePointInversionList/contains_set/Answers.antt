@@ -1,4 +1,4 @@
-use Rattle.std.proofs.Common.{◌≡◌, ℕ, ◌+◌, ◌<◌, length, arith, refl, true, false, get_or}
+use Rattle.std.proofs.Common.{arith, refl}
 use Rattle.std.proofs.lemmas.Bool.{both_ways, false≢true}
 use Rattle.icu_invlist.proofs.PlaceLemmas.{subset_from, all_from_subset}
 use Rattle.icu_invlist.proofs.codepointinvlist.cpinvlist.CodePointInversionList.contains_set.Goals as goal

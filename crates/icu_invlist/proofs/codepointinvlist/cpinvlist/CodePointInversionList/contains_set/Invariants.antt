@@ -1,4 +1,4 @@
-use Rattle.std.proofs.Common.{◌≡◌, ℕ, ◌+◌, ◌-◌, ◌%◌, ◌<◌, ◌≤◌, length, get_or}
+use Rattle.std.proofs.Common.{◌≡◌, ℕ, ◌+◌, ◌-◌, ◌%◌, ◌<◌, get_or}
 use Rattle.icu_invlist.specs.InversionList.{HoldsAll}
 use Rattle.icu_invlist.proofs.codepointinvlist.cpinvlist.CodePointInversionList.contains_set.Given as goal
 

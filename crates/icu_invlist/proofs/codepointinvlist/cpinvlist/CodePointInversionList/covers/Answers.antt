@@ -1,5 +1,5 @@
-use Rattle.std.proofs.Common.{◌≡◌, ℕ, suc, sym, ◌∙◌, arith, true, false, nat_eq, inl, inr}
-use Rattle.std.proofs.lemmas.Bool.{leb-true, le-leb, eqb-true, cases_lt, both_ways, true≢false}
+use Rattle.std.proofs.Common.{arith, inl, inr}
+use Rattle.std.proofs.lemmas.Bool.{leb-true, le-leb, eqb-true, cases_lt}
 use Rattle.icu_invlist.proofs.PlaceLemmas.{covers_all, not_even, not_past, within-place}
 use Rattle.icu_invlist.proofs.codepointinvlist.cpinvlist.CodePointInversionList.covers.Goals as goal
 

@@ -1,8 +1,6 @@
-use Rattle.std.proofs.Common.{◌≡◌, ◌∙◌, sym, ap, rules, List, ℕ}
+use Rattle.std.proofs.Common.{◌≡◌, ◌∙◌, rules}
 use Rattle.std.proofs.lemmas.Bool.{both_ways}
 use Rattle.serde_json.specs.View.{view}
-use Rattle.icu_invlist.specs.InversionList.{IsValid}
-use Rattle.icu_invlist.specs.SetJson.{IsSaid, ends_of}
 use Rattle.icu_invlist.specs.declared.codepointinvlist.error.SetJsonError.TheVariants as errors
 use Rattle.icu_invlist.proofs.WrittenSets.{said, said_alone, refused_alone}
 use Rattle.icu_invlist.proofs.codepointinvlist.cpinvlist.CodePointInversionList.from_json.Goals as goal
@@ -20,7 +18,7 @@ pub returns-clause-ok : goal.returns-clause-ok
 returns-clause-ok c =
     let v = c.is_valid_slice.ensures.0 c.if-not-is_valid_slice.false in
     let e = c.in-Ok.ensures ∙ c.deref-2.ensures.value in
-    (rw e (said (view c.args.value.now) c.in_ok-ends.ends.items c.in_ok-ends.ensures), rw e (rw c.deref.ensures.value at v))
+    (rw e c.in_ok-ends.ensures, rw e (said (view c.args.value.now) c.in_ok-ends.ends.items c.in_ok-ends.ensures), rw e (rw c.deref.ensures.value at v))
 
 pub returns-clause-only : goal.returns-clause-only
 returns-clause-only c = λ items ends d s v. c.in-Ok.ensures ∙ (c.deref-2.ensures.value ∙ said_alone _ items c.in_ok-ends.ends.items ends c.in_ok-ends.ensures d s)

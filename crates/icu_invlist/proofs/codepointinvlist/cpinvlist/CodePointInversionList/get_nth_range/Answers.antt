@@ -1,4 +1,4 @@
-use Rattle.std.proofs.Common.{◌≡◌, ◌∙◌, ◌-◌, ◌+◌, ◌*◌, ◌<◌, sym, ap, refl, arith, length, Some, ℕ, get_or}
+use Rattle.std.proofs.Common.{◌≡◌, ◌∙◌, ◌-◌, ◌+◌, ◌*◌, sym, ap, arith, Some, ℕ, get_or}
 use Rattle.std.proofs.lemmas.Option.{slice_get_past}
 use Rattle.icu_invlist.specs.InversionList.{ranges_of}
 use Rattle.icu_invlist.proofs.MemberLemmas.{nth, same_range, length-ranges}

@@ -1,4 +1,3 @@
-use Rattle.std.proofs.Common.{◌≡◌}
 use Rattle.icu_invlist.proofs.HeldMembers.{characters_are_held, characters_rise}
 use Rattle.icu_invlist.proofs.codepointinvlist.cpinvlist.CodePointInversionList.iter_chars.Goals as goal
 

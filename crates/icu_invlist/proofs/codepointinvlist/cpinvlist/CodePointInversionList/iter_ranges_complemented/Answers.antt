@@ -1,26 +1,27 @@
 use Rattle.std.proofs.Common.{◌≡◌, ◌∙◌, sym, ap, ℕ, List, ◌∷◌}
 use Rattle.icu_invlist.specs.InversionList.{complement_of, toggle_back}
 use Rattle.icu_invlist.specs.StillGiven.{gaps_left}
+use Rattle.icu_invlist.proofs.MemberLemmas.{ranges_within}
 use Rattle.icu_invlist.proofs.Complements.{complement_valid, complement-holds, gaps_from_zero, gaps_from_start}
 use Rattle.icu_invlist.proofs.codepointinvlist.cpinvlist.CodePointInversionList.iter_ranges_complemented.Goals as goal
 
 from_zero : (c : goal.After-start_of_gap-start) → gaps_left c.start_of_gap-start.result c.next-then-contains32.new.self ≡ complement_of c.self.inside.ends
 from_zero c = rw c.start_of_gap-start.ensures
     (gaps_from_zero c.self.inside.ends c.next.new.self c.next-then-contains32.new.self c.next.result c.next-then-contains32.result c.self.invariant
-    (rw c.self.view_is (sym c.contains32.ensures ∙ c.if-contains32.true)) (rw c.iter-ends.ensures.items at c.next.ensures.steps) c.next-then-contains32.ensures.steps)
+    (rw c.self.view_is (sym c.contains32.ensures.held ∙ c.if-contains32.true)) (rw c.iter-ends.ensures.items at c.next.ensures.steps) c.next-then-contains32.ensures.steps)
 
 given_from_zero : (c : goal.After-from_gap) → gaps_left c.start_of_gap-start.result c.next-then-contains32.new.self ≡ complement_of c.self.inside.ends
 given_from_zero c = rw c.start_of_gap-start.ensures
     (gaps_from_zero c.self.inside.ends c.next.new.self c.next-then-contains32.new.self c.next.result c.next-then-contains32.result c.self.invariant
-    (rw c.self.view_is (sym c.contains32.ensures ∙ c.if-contains32.true)) (rw c.iter-ends.ensures.items at c.next.ensures.steps) c.next-then-contains32.ensures.steps)
+    (rw c.self.view_is (sym c.contains32.ensures.held ∙ c.if-contains32.true)) (rw c.iter-ends.ensures.items at c.next.ensures.steps) c.next-then-contains32.ensures.steps)
 
 from_start : (c : goal.Else-contains32) → 0 ∷ toggle_back c.iter-ends.result ≡ complement_of c.self.inside.ends
 from_start c = rw c.iter-ends.ensures.items
-    (gaps_from_start c.self.inside.ends c.self.invariant (rw c.self.view_is (sym c.contains32.ensures ∙ c.if-contains32.false)))
+    (gaps_from_start c.self.inside.ends c.self.invariant (rw c.self.view_is (sym c.contains32.ensures.held ∙ c.if-contains32.false)))
 
 given_from_start : (c : goal.After-from_gap-2) → 0 ∷ toggle_back c.iter-ends.result ≡ complement_of c.self.inside.ends
 given_from_start c = rw c.iter-ends.ensures.items
-    (gaps_from_start c.self.inside.ends c.self.invariant (rw c.self.view_is (sym c.contains32.ensures ∙ c.if-contains32.false)))
+    (gaps_from_start c.self.inside.ends c.self.invariant (rw c.self.view_is (sym c.contains32.ensures.held ∙ c.if-contains32.false)))
 
 pub from_gap-requires : goal.from_gap-requires
 from_gap-requires c = rw (from_zero c) (complement_valid c.self.inside.ends c.self.invariant)
@@ -45,3 +46,9 @@ returns-then-contains32-clause-valid c = rw (← c.self.view_is) (complement_val
 
 pub returns-clause-valid : goal.returns-clause-valid
 returns-clause-valid c = rw (← c.self.view_is) (complement_valid c.self.inside.ends c.self.invariant)
+
+pub returns-then-contains32-clause-within : goal.returns-then-contains32-clause-within
+returns-then-contains32-clause-within c = rw (← c.self.view_is) (ranges_within (complement_of c.self.inside.ends) (complement_valid c.self.inside.ends c.self.invariant))
+
+pub returns-clause-within : goal.returns-clause-within
+returns-clause-within c = rw (← c.self.view_is) (ranges_within (complement_of c.self.inside.ends) (complement_valid c.self.inside.ends c.self.invariant))

@@ -1,9 +1,5 @@
-use Rattle.std.proofs.Common.{◌≡◌, ℕ, suc, ◌+◌, ◌<◌, ◌≤◌, length, arith, Ok, Err, List, Result}
-use Rattle.std.specs.List.Sorted.{IsBinarySearchResult}
-use Rattle.std.specs.Ordering.{nat_cmp}
-use Rattle.std.specs.Result.{MatchResult}
+use Rattle.std.proofs.Common.{arith}
 use Rattle.std.proofs.lemmas.Result.{MatchResult-at_ok, MatchResult-at_err}
-use Rattle.icu_invlist.specs.Places.{below}
 use Rattle.icu_invlist.proofs.PlaceLemmas.{placed, valid-length}
 use Rattle.icu_invlist.proofs.codepointinvlist.cpinvlist.CodePointInversionList.place_of.Goals as goal
 

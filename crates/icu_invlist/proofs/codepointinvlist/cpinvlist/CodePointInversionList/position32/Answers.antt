@@ -1,6 +1,6 @@
-use Rattle.std.proofs.Common.{◌≡◌, ◌∙◌, ◌+◌, ◌<◌, ℕ, suc, length, arith, sym, refl, ap, Some, None}
+use Rattle.std.proofs.Common.{◌∙◌, ◌+◌, ◌<◌, length, arith, sym, refl, ap, Some}
 use Rattle.std.proofs.lemmas.Bool.{cond-true, cond-false}
-use Rattle.icu_invlist.proofs.MemberLemmas.{Walked, walked_room, walked_before, walked_in, walked_past, walked_all}
+use Rattle.icu_invlist.proofs.MemberLemmas.{walked_room, walked_before, walked_in, walked_past, walked_all}
 use Rattle.icu_invlist.proofs.codepointinvlist.cpinvlist.CodePointInversionList.position32.Goals as goal
 
 pub loop-i-init : goal.loop-i-init

@@ -1,4 +1,4 @@
-use Rattle.std.proofs.Common.{◌≡◌, ◌∙◌, ◌+◌, ℕ, suc, [], length, arith, sym, drop, get_or}
+use Rattle.std.proofs.Common.{◌≡◌, ◌∙◌, ◌+◌, suc, [], arith, sym, drop}
 use Rattle.std.proofs.lemmas.List.{drop_all}
 use Rattle.icu_invlist.specs.InversionList.{limit}
 use Rattle.icu_invlist.proofs.MemberLemmas.{total, total-more, total-le, size-valid}

@@ -1,4 +1,4 @@
-use Rattle.std.proofs.Common.{◌≡◌, ℕ, ◌+◌, ◌-◌, ◌%◌, ◌<◌, ◌≤◌, length, drop}
+use Rattle.std.proofs.Common.{◌≡◌, ◌+◌, ◌-◌, ◌%◌, drop}
 use Rattle.icu_invlist.proofs.MemberLemmas.{total}
 use Rattle.icu_invlist.proofs.codepointinvlist.cpinvlist.CodePointInversionList.size.Given as goal
 

@@ -1,7 +1,7 @@
-use Rattle.std.proofs.Common.{◌≡◌, ◌∙◌, ℕ, ap, sym, refl, arith, Bool, true, false, not, length}
+use Rattle.std.proofs.Common.{◌∙◌, ap, sym, arith, Bool}
 use Rattle.std.proofs.lemmas.Bool.{not-true, not-false}
 use Rattle.icu_invlist.specs.InversionList.{holds}
-use Rattle.icu_invlist.proofs.SpanLemmas.{Spanned, span_start, span_past, span_room, span_stops, span_ends}
+use Rattle.icu_invlist.proofs.SpanLemmas.{span_start, span_past, span_room, span_stops, span_ends}
 use Rattle.icu_invlist.proofs.codepointinvlist.cpinvlist.CodePointInversionList.span.Goals as goal
 use mathlib.Core.Bool.{beq}
 

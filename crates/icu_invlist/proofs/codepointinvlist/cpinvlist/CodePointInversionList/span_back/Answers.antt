@@ -1,5 +1,5 @@
 use mathlib.Core.Bool.{beq}
-use Rattle.std.proofs.Common.{◌≡◌, ◌∙◌, ℕ, ◌+◌, ◌-◌, ap, sym, arith, Bool, length}
+use Rattle.std.proofs.Common.{◌∙◌, ℕ, ap, sym, arith, Bool}
 use Rattle.std.specs.Char.{IsScalar}
 use Rattle.std.proofs.lemmas.Bool.{not-true, not-false}
 use Rattle.icu_invlist.specs.InversionList.{holds}

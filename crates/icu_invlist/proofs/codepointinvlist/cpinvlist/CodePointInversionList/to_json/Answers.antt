@@ -1,10 +1,10 @@
-use Rattle.std.proofs.Common.{◌≡◌, ◌∙◌, ◌+◌, ap, arith, rules, length, map, String, Global, string_bytes}
+use Rattle.std.proofs.Common.{◌≡◌, ◌∙◌, ap, arith, rules, map, String, Global, string_bytes}
 use Rattle.serde_json.specs.declared.value.Value as Value
 use Rattle.serde_json.specs.declared.value.Value.{the_lemmas}
 use Rattle.serde_json.proofs.Views.{view-Array}
 use Rattle.serde_json.specs.Data.{array, string}
 use Rattle.serde_json.specs.View.{view, items_of}
-use Rattle.icu_invlist.specs.SetJson.{texts_of, ends_of, written_of}
+use Rattle.icu_invlist.specs.SetJson.{texts_of, ends_of}
 use Rattle.icu_invlist.proofs.WrittenSets.{shown, texts_step, texts_all, written_back}
 use Rattle.icu_invlist.proofs.codepointinvlist.cpinvlist.CodePointInversionList.to_json.Goals as goal
 

@@ -1,4 +1,4 @@
-use Rattle.std.proofs.Common.{◌≡◌, ℕ, ◌-◌, ◌%◌, ◌++◌, map, drop}
+use Rattle.std.proofs.Common.{◌≡◌, ◌-◌, ◌%◌, ◌++◌, map, drop}
 use Rattle.serde_json.specs.View.{view}
 use Rattle.icu_invlist.specs.SetJson.{texts_of}
 use Rattle.icu_invlist.proofs.WrittenSets.{shown}

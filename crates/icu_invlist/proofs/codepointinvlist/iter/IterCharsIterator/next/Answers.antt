@@ -1,4 +1,4 @@
-use Rattle.std.proofs.Common.{◌≡◌, ◌∙◌, sym}
+use Rattle.std.proofs.Common.{◌∙◌, sym}
 use Rattle.icu_invlist.proofs.CharacterLemmas.{left_none, left_one, left_past}
 use Rattle.icu_invlist.proofs.codepointinvlist.iter.IterCharsIterator.next.Goals as goal
 

@@ -1,4 +1,4 @@
-use Rattle.std.proofs.Common.{◌≡◌, ◌∙◌, sym, ap, ℕ, List, ◌∷◌, ◌-◌, Some}
+use Rattle.std.proofs.Common.{◌≡◌, ◌∙◌, sym, ap, ℕ, List, ◌∷◌, ◌-◌}
 use Rattle.icu_invlist.specs.InversionList.{IsValid, ranges_of}
 use Rattle.icu_invlist.specs.StillGiven.{gaps_left}
 use Rattle.icu_invlist.proofs.Complements.{next_gap}

@@ -1,4 +1,4 @@
-use Rattle.std.proofs.Common.{◌≡◌, length, arith}
+use Rattle.std.proofs.Common.{arith}
 use Rattle.icu_invlist.proofs.MemberLemmas.{length-ranges}
 use Rattle.icu_invlist.proofs.codepointinvlist.iter.IterRangesExactSizeIterator.len.Goals as goal
 

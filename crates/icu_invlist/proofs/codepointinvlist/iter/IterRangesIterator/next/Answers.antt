@@ -1,4 +1,3 @@
-use Rattle.std.proofs.Common.{◌≡◌, length, arith}
 use Rattle.icu_invlist.proofs.MemberLemmas.{left_valid}
 use Rattle.icu_invlist.proofs.codepointinvlist.iter.IterRangesIterator.next.Goals as goal
 
