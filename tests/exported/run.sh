@@ -1,12 +1,12 @@
 #!/bin/sh
 # Reads tries in TOML as ICU's icuexportdata writes them, and compares their ranges with those that another program found. ICU4C builds and exports them here,
-# from each NAME.txt of the folder TABLES (../shared/data if it is not set) with a NAME.runs.txt beside it. It needs rt, gcc and ICU 72 or newer
+# from each NAME.txt of the folder TABLES with a NAME.runs.txt beside it. It needs rt, gcc and ICU 72 or newer
 # (libicu-dev), so ./test doesn't call it.
 # Its last line is 'all exported tries as expected', with status 0, or says what failed, with status 1.
 set -eu
 here=$(dirname -- "$(readlink -f -- "$0")")
 root=$here/../..
-tables=${TABLES:-$root/../shared/data}
+tables=${TABLES:?the folder of the tables}
 
 stop() { echo "exported: $1" >&2; exit 70; }
 command -v rt >/dev/null || stop "no rt: put the kit's folder bin on PATH"

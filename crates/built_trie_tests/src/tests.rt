@@ -2,8 +2,10 @@
 //! public call on its happy path, and refused memory.
 
 mod built_tries;
+mod compaction;
 mod getters;
 mod mapped;
+mod random_maps;
 mod ranges;
 mod refused_memory;
 mod sizes;

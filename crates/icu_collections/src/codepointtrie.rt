@@ -4,6 +4,7 @@
 //! from a file is made of its parts by [`CodePointTrie::try_new`], which borrows them.
 
 pub use icu_trie::cells::{Cells, Steps};
+pub use icu_trie::coherent::is_coherent;
 pub use icu_trie::cptrie::CodePointTrie;
 pub use icu_trie::error::{CodePointTrieError, ConvertError};
 pub use icu_trie::header::{CodePointTrieHeader, TrieType};

@@ -5,16 +5,16 @@
 //! - [`codepointtrie`]: maps from code points to values
 //! - [`codepointinvlist`]: sets of code points
 //! - [`codepointinvliststringlist`]: sets of code points and texts
-//! - [`char16trie`]: maps from keys of 16-bit units to numbers
+//! - [`char16trie`]: maps from keys of 16-bit units to numbers, built and read in place
 //! - [`zerovec`]: the packed vectors that they are kept in
 //! - [`iterator_utils`]: ranges with values that touch and have equal values, joined
 //!
 //! Its own code is tests alone: those that need more than one of the crates below.
 #![tactic(auto)]
 
+pub mod char16trie;
 pub mod codepointtrie;
 
-pub use icu_char16trie::char16trie;
 pub use icu_invlist::codepointinvlist;
 pub use icu_text_sets::codepointinvliststringlist;
 pub use icu_trie::iterator_utils;

@@ -1,3 +1,4 @@
+pub mod CallerLemmas
 pub mod RunLemmas
 pub mod ValidLists
 pub mod Parity
@@ -15,3 +16,5 @@ pub mod TextLemmas
 pub mod JsonLemmas
 pub mod WrittenSets
 pub mod HeldMembers
+pub mod HeldRanges
+pub mod FirstRefusal

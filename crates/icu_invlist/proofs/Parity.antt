@@ -1,5 +1,5 @@
 -- A code point is held if the number of ends below the next one is odd.
-use Rattle.std.proofs.Common.{◌≡◌, ℕ, ◌%◌, List, refl, ap, arith, suc, Bool, true, false, cond}
+use Rattle.std.proofs.Common.{◌≡◌, ℕ, ◌%◌, List, [], refl, ap, arith, suc, Bool, true, false, cond}
 use Rattle.std.proofs.lemmas.Bool.{eq-eqb, ne_eqb}
 use Rattle.icu_invlist.specs.InversionList.{holds, is_odd}
 use Rattle.icu_invlist.specs.Places.{below}
@@ -14,3 +14,6 @@ odd_is n false e = ne_eqb _ _ (λ k. omega arith)
 
 pub holds-below : (xs : List ℕ) (c : ℕ) → holds xs c ≡ is_odd (below xs (suc c))
 holds-below xs c = ap is_odd (up_to-below xs c)
+
+pub holds-nil : (c : ℕ) → holds [] c ≡ false
+holds-nil c = holds-below [] c

@@ -73,6 +73,21 @@ ranges_of (start ∷ end ∷ ends) = record { start = start; end = end - 1; exha
 abbrev pub IsOfCodePoints : RangeInclusive ℕ → Type 0
 IsOfCodePoints r = (r.start ≤ r.end) × (r.end < limit)
 
+-- whether one of the ranges has the code point
+abbrev pub in_ranges : List (RangeInclusive ℕ) → ℕ → Bool
+in_ranges [] c = false
+in_ranges (r ∷ rs) c = (nat_le r.start c && nat_le c r.end) || in_ranges rs c
+
+-- the first of the ranges, if there is one, starts behind n
+abbrev pub StartsBehind : ℕ → List (RangeInclusive ℕ) → Type 0
+StartsBehind n [] = Unit {0}
+StartsBehind n (r ∷ rs) = n < r.start
+
+-- the ranges ascend, and between one and the next there is a gap
+abbrev pub AreApart : List (RangeInclusive ℕ) → Type 0
+AreApart [] = Unit {0}
+AreApart (r ∷ rs) = StartsBehind (r.end + 1) rs × AreApart rs
+
 -- the code points that the set holds, ascending
 unfoldable pub members : List ℕ → List ℕ
 members [] = []

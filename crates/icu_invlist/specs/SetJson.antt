@@ -1,7 +1,7 @@
 -- A set in JSON: an array with one string for each range, ascending. A range of one code point is the point,
 -- a longer one its first and its last point with `-` between them. A point is written as the character
 -- itself, and a surrogate, which is none, as `U+` and its four upper-case hexadecimal digits.
-use Rattle.std.specs.Prelude.{◌≡◌, ℕ, ◌+◌, ◌*◌, ◌/◌, ◌%◌, ◌<◌, List, [], ◌∷◌, ◌++◌, map, Option, Some, None, Result, Ok, Err, ◌==◌, ◌&&◌, nat_le, nat_lt, if◌then◌else◌, option_and_then, ◌⊎◌}
+use Rattle.std.specs.Prelude.{◌≡◌, ◌≢◌, ℕ, zero, suc, ◌+◌, ◌*◌, ◌/◌, ◌%◌, ◌<◌, List, [], ◌∷◌, ◌++◌, map, Option, Some, None, Result, Ok, Err, ◌==◌, ◌&&◌, nat_le, nat_lt, if◌then◌else◌, option_and_then, ◌⊎◌}
 use Rattle.std.specs.Global.{Vec}
 use Rattle.std.specs.Str.{chars, encode_utf8_all}
 use Rattle.std.specs.Char.{digit_value}
@@ -147,6 +147,29 @@ IsRefusedJson d (NotAString i) = ends_of d ≡ Err (NotAString i)
 IsRefusedJson d (NotARange i) = ends_of d ≡ Err (NotARange i)
 IsRefusedJson d InvalidSet = (ends : List ℕ) × (ends_of d ≡ Ok ends) × (¬ (IsValid ends))
 IsRefusedJson d Memory = Unit {0}
+
+-- a string that spells a range
+abbrev pub SpellsRange : Data → Type 0
+SpellsRange d = (text : List ℕ) × (a : ℕ) × (b : ℕ) × (d ≡ string text) × IsRange (chars text) a b
+
+-- a string that spells none
+abbrev pub SpellsNoRange : Data → Type 0
+SpellsNoRange d = (text : List ℕ) × (d ≡ string text) × ((a b : ℕ) → ¬ (IsRange (chars text) a b))
+
+-- the item at place i is the first that spells no range, and it has the fault
+abbrev pub FailsFirst : (Data → Type 0) → ℕ → Items → Type 0
+FailsFirst Fault i no_items = ⊥
+FailsFirst Fault zero (item d items) = Fault d
+FailsFirst Fault (suc i) (item d items) = SpellsRange d × FailsFirst Fault i items
+
+-- the same refusals by what the strings spell, without a reader: the value is no array, its first item that
+-- spells no range is no string or such a string, or the ends that they all say are no inversion list
+abbrev pub SaysNone : Data → SetJsonError → Type 0
+SaysNone d NotAnArray = (items : Items) → d ≢ array items
+SaysNone d (NotAString i) = (items : Items) × (d ≡ array items) × FailsFirst (λ x. (text : List ℕ) → x ≢ string text) i items
+SaysNone d (NotARange i) = (items : Items) × (d ≡ array items) × FailsFirst SpellsNoRange i items
+SaysNone d InvalidSet = (items : Items) × (ends : List ℕ) × (d ≡ array items) × SayEnds items ends × (¬ (IsValid ends))
+SaysNone d Memory = Unit {0}
 
 -- what a reader of the ends answers. No public contract has this word
 abbrev pub GivesEnds : Result (Vec ℕ) SetJsonError → Result (List ℕ) SetJsonError → Type 0

@@ -1,4 +1,4 @@
-//! Changes of a list of ends in place, range by range: two searches and one splice each.
+//! Changes of a list of ends in place, range by range: searches for the borders, and the ends between them changed.
 //!
 //! Between the ends that stand below a range and those that stand above it, at most the two borders of the
 //! range are left: its start where the answer changes there, and its end likewise.

@@ -2,7 +2,7 @@
 use Rattle.std.proofs.Common.{◌≡◌, ℕ, List, length, Option, Some, None, Ok, refl, arith, sym, ◌∙◌, ap}
 use Rattle.std.proofs.lemmas.Bool.Decides.{nat_tests}
 use Rattle.icu_zerovec.specs.Cells.{values_of, IsConverted}
-use Rattle.icu_zerovec.proofs.CellsLemmas.{length-values_of}
+use Rattle.icu_zerovec.proofs.CallerLemmas.{length-values_of}
 use Rattle.icu_trie.specs.Conversion.{with_null_value}
 use Rattle.icu_trie.specs.Parts.{fault}
 use Rattle.icu_trie_core.specs.declared.header.CodePointTrieHeader.{CodePointTrieHeader}

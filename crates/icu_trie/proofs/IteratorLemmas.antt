@@ -9,7 +9,7 @@ use Rattle.icu_trie.specs.Ranges.{AreRangesFrom, answers, IsCoherentTrie}
 use Rattle.icu_trie.specs.Iterators.{GivesNextRange, iterator_trie, iterator_next}
 use Rattle.icu_trie_core.specs.declared.range.CodePointMapRange.{CodePointMapRange}
 use Rattle.icu_trie.specs.declared.ranges.CodePointMapRangeIterator.{CodePointMapRangeIterator}
-use Rattle.icu_trie_core.proofs.RangeLemmas.{LongestRun-from_gives}
+use Rattle.icu_trie_core.proofs.CallerLemmas.{LongestRun-from_gives}
 
 module _ {A : Type 0} {m : _} (of_number : ℕ → Option A) (trie : Parts A) where
   AreRangesFrom-from_run : (xs : List (CodePointMapRange A)) (s t u : CodePointMapRangeIterator A m) → iterator_trie s ≡ trie

@@ -1,3 +1,4 @@
+pub mod CallerLemmas
 mod PackedCellLemmas
 mod ConversionLemmas
 pub mod IteratorLemmas
@@ -6,3 +7,6 @@ pub mod JoinedLemmas
 pub mod ValueLemmas
 pub mod MappedTrieLemmas
 pub mod MappedLemmas
+pub mod GivenRanges
+pub mod JoinedGroups
+pub mod SameMaps

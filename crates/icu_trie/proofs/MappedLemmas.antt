@@ -15,11 +15,12 @@ use Rattle.icu_trie_core.specs.Runs.{LongestRun, AreRunsFrom}
 use Rattle.icu_trie_core.specs.declared.range.CodePointMapRange.{CodePointMapRange}
 use Rattle.icu_trie.specs.declared.ranges.CodePointMapRangeIterator.{CodePointMapRangeIterator}
 use Rattle.icu_trie_core.specs.Range.{first_of, last_of, run_of}
-use Rattle.icu_trie.specs.Ranges.{AreRangesFrom}
+use Rattle.icu_trie.specs.Ranges.{AreRangesFrom, IsRangeOfCodePoints}
 use Rattle.icu_trie.specs.Iterators.{GivesNextRange}
 use Rattle.icu_trie.specs.JoinedRanges.{continues, merged, joined_from, joined}
-use Rattle.icu_trie.specs.MappedRanges.{IsRangeOfCodePoints, MapsTo, AreMappedRunsFrom, Answers, AreAnswered, IsAnswered, GivesMapped, mapped_source, mapped_callee}
+use Rattle.icu_trie.specs.MappedRanges.{MapsTo, AreMappedRunsFrom, Answers, AreAnswered, IsAnswered, GivesMapped, mapped_source, mapped_callee}
 use Rattle.icu_trie.specs.declared.mapped_ranges.MappedRanges.{MappedRanges}
+use Rattle.icu_trie.proofs.GivenRanges.{AreOfCodePoints, AreOfCodePoints-from_ranges}
 
 -- what a wrapper drains its inside drains
 module _ {S T A : Type 0} {steps : S → Option A → S → Type 0} (inner : T → Option A → T → Type 0) (inside : S → T) (through : (s : S) (r : Option A) (t : S) → steps s r t → inner (inside s) r (inside t)) where
@@ -82,18 +83,6 @@ module _ {F A B : Type 0} {m : _} (of_number : ℕ → Option A) (post : F → A
       (x.0 ∷ rest.0, (rest.1.0, (rest.1.1.0, (mapped_source y.0, x.2, rest.1.1.1), rest.1.1.2)), (x.1.0, x.1.1, rest.2))
 
 -- ---- each joined range is one of code points
--- each of the ranges is one of code points
-abbrev pub AreOfCodePoints : {A : Type 0} → List (CodePointMapRange A) → Type 0
-AreOfCodePoints [] = ⊤
-AreOfCodePoints (x ∷ xs) = IsRangeOfCodePoints x × AreOfCodePoints xs
-
-pub AreOfCodePoints-from_ranges : {A : Type 0} (of_number : ℕ → Option A) (p : Parts A) (c : ℕ) (xs : List (CodePointMapRange A)) → AreRangesFrom of_number p c xs → AreOfCodePoints xs
-AreOfCodePoints-from_ranges of_number p c [] given = tt
-AreOfCodePoints-from_ranges of_number p c (x ∷ xs) given =
-    let shape = given.0.shape in
-    let first = shape.0 in let up = shape.1 in
-    ((omega (arith, first, up), shape.2, shape.3), AreOfCodePoints-from_ranges of_number p (last_of x + 1) xs given.1)
-
 pub AreOfCodePoints-answered : {F A B : Type 0} (post : F → A → B → Type 0) (f : F) (xs : List (CodePointMapRange A)) (ys : List (CodePointMapRange B)) → AreAnswered post f xs ys → AreOfCodePoints xs → AreOfCodePoints ys
 AreOfCodePoints-answered post f [] [] a are = tt
 AreOfCodePoints-answered post f [] (y ∷ ys) a are = absurd a

@@ -6,7 +6,7 @@ use Rattle.std.proofs.lemmas.List.{length-take-le, length-drop}
 use Rattle.std.proofs.lemmas.Nat.{div-add-mod', row_fits}
 use Rattle.icu_zerovec.specs.Canonical.{IsCanonical}
 use Rattle.icu_zerovec.specs.Cells.{cell, values_of, IsPacked}
-use Rattle.icu_zerovec.proofs.CellsLemmas.{length-values_of, get-values_of, pack-get}
+use Rattle.icu_zerovec.proofs.CallerLemmas.{length-values_of, get-values_of, pack-get}
 
 module _ {T : Type 0} (f : List ℕ → Option T) (w : ℕ) (b : List ℕ) (p : IsPacked f w b) (i : ℕ) (l : i < length (values_of f w b)) where
   within : i < length b / w

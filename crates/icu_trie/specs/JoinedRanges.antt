@@ -1,5 +1,5 @@
 -- The joined ranges of a list of ranges.
-use Rattle.std.specs.Prelude.{◌+◌, ◌==◌, ◌&&◌, nat_lt, if◌then◌else◌, Bool, false, List, [], ◌∷◌}
+use Rattle.std.specs.Prelude.{◌≡◌, ◌+◌, ◌==◌, ◌&&◌, nat_lt, if◌then◌else◌, Bool, true, false, List, [], ◌∷◌, ◌++◌}
 use Rattle.icu_trie_core.specs.declared.range.CodePointMapRange.{CodePointMapRange}
 use Rattle.icu_trie_core.specs.Range.{first_of, last_of}
 
@@ -23,3 +23,27 @@ module _ {A : Type 0} (eq : A → A → Bool) where
   abbrev pub joined : List (CodePointMapRange A) → List (CodePointMapRange A)
   joined [] = []
   joined (x ∷ xs) = joined_from x xs
+
+  -- ---- what they are, without a way to find them
+  -- each of the ranges goes on with r and those before it
+  abbrev pub GoOn : CodePointMapRange A → List (CodePointMapRange A) → Type 0
+  GoOn r [] = Unit {0}
+  GoOn r (x ∷ xs) = (continues r x ≡ true) × GoOn (merged r x) xs
+
+  -- r and the ranges that go on with it as one, with the value of r
+  abbrev pub group_of : CodePointMapRange A → List (CodePointMapRange A) → CodePointMapRange A
+  group_of r [] = r
+  group_of r (x ∷ xs) = group_of (merged r x) xs
+
+  -- the first of the ranges, if there is one, doesn't go on with r
+  abbrev pub StopsAt : CodePointMapRange A → List (CodePointMapRange A) → Type 0
+  StopsAt r [] = Unit {0}
+  StopsAt r (x ∷ xs) = continues r x ≡ false
+
+  -- xs is cut into consecutive groups of ranges that go on with one another, a group stops where the next range
+  -- doesn't go on with it, and each group is one range of ys
+  abbrev pub AreJoined : List (CodePointMapRange A) → List (CodePointMapRange A) → Type 0
+  AreJoined xs [] = xs ≡ []
+  AreJoined xs (y ∷ ys) =
+      (r : CodePointMapRange A) × (others : List (CodePointMapRange A)) × (rest : List (CodePointMapRange A))
+      × (xs ≡ r ∷ (others ++ rest)) × GoOn r others × (y ≡ group_of r others) × StopsAt y rest × AreJoined rest ys

@@ -13,10 +13,6 @@ use Rattle.icu_trie.specs.Iterators.{GivesNextRange}
 use Rattle.icu_trie.specs.JoinedRanges.{joined}
 use Rattle.icu_trie.specs.Coalescer.{coalescer_steps}
 
--- a range of code points: not empty, within the code points, and not used up
-abbrev pub IsRangeOfCodePoints : {A : Type 0} → CodePointMapRange A → Type 0
-IsRangeOfCodePoints r = (first_of r ≤ last_of r) × (last_of r < 0x110000) × (range_inclusive_exhausted r.range ≡ false)
-
 module _ {A B : Type 0} (eq : B → B → Bool) (h : A → B) (map : ℕ → Option A) where
   -- from `first` to `last` the mapped values equal `value`, which is the mapped value at `first`
   pub record MapsTo (first last : ℕ) (value : B) : Type 0 where

@@ -1,12 +1,23 @@
 -- The ranges of a trie.
-use Rattle.std.specs.Prelude.{◌≡◌, ℕ, ◌+◌, ◌≤◌, List, [], ◌∷◌, Option, Some, None, Any}
+use Rattle.std.specs.Prelude.{◌≡◌, ℕ, ◌+◌, ◌<◌, ◌≤◌, false, List, [], ◌∷◌, Option, Some, None, Any}
+use Rattle.std.specs.Range.{range_inclusive_start, range_inclusive_end, range_inclusive_exhausted}
+use Rattle.std.specs.declared.ops.RangeInclusive.{RangeInclusive}
 use Rattle.icu_trie_core.specs.declared.range.CodePointMapRange.{CodePointMapRange}
 use Rattle.icu_trie_core.specs.Format.{answer}
 use Rattle.icu_trie_core.specs.Coherence.{IsCoherent, IsShared}
 use Rattle.icu_trie.specs.Parts.{Parts}
 use Rattle.icu_trie_core.specs.Range.{first_of, last_of, GivesWalk}
 
+-- a range of code points: not empty, within the code points, and not used up
+abbrev pub HasCodePoints : RangeInclusive ℕ → Type 0
+HasCodePoints r =
+    (range_inclusive_start r ≤ range_inclusive_end r) × (range_inclusive_end r < 0x110000) × (range_inclusive_exhausted r ≡ false)
+
 module _ {A : Type 0} where
+  -- the same of a range with a value
+  abbrev pub IsRangeOfCodePoints : CodePointMapRange A → Type 0
+  IsRangeOfCodePoints x = HasCodePoints x.range
+
   -- some range with the value holds c
   abbrev pub IsInRangeOf : A → List (CodePointMapRange A) → ℕ → Type 0
   IsInRangeOf value xs c = Any (λ x. (x.value ≡ value) × (first_of x ≤ c) × (c ≤ last_of x)) xs

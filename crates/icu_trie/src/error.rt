@@ -12,7 +12,7 @@ pub enum ConvertError {
     /// This cell of the data, counted from 0, is the first one that is no value of the other type.
     #[error("cell {0} is no value of the other type")]
     Cell(usize),
-    /// The null value's packed bytes are no value of the other type.
+    /// The null value is no value of the other type. (The error value, which is a cell too, is told by `Cell`.)
     #[error("the error value or the null value is no value of the other type")]
     ErrorOrNull,
 }

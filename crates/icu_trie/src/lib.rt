@@ -1,19 +1,21 @@
 //! Maps from code points to values that are read in place: ICU's code point tries.
 //!
 //! - `cptrie`: [`CodePointTrie`](cptrie::CodePointTrie), the trie over packed vectors
+//! - `coherence`: whether what its header says is so
 //! - `ranges`: its ranges of equal values, and the set of a value
 //! - `ranges_of_value`: those of them that have a value
 //! - `iterator_utils`: ranges that touch and have equal values, joined
 //! - `mapped_ranges`: the ranges under a map of the values, joined
 //! - `map_value`: the trie of the mapped values
-//! - `packed_cell`, `convert`, `typed`: the bytes of a cell, the data read as another type, and tries whose type
-//!   is known
+//! - `packed_cell`, `convert`, `typed`: the bytes of a cell, the data read as another type, and tries whose
+//!   type is known
 //! - `error`: why parts are refused, and why a trie can't be read as one of another type
 //!
-//! The modules `cells`, `header`, `impl_const`, `lookup`, `value` and `walk` are those of the crate
-//! `icu_trie_core`, the format over any index and data.
+//! The modules `cells`, `coherent`, `header`, `impl_const`, `lookup`, `value` and `walk` are those of the
+//! crate `icu_trie_core`, the format over any index and data.
 #![tactic(auto)]
 
+mod coherence;
 mod convert;
 pub mod cptrie;
 mod equality;
@@ -26,4 +28,4 @@ pub mod ranges;
 pub mod ranges_of_value;
 pub mod typed;
 
-pub use icu_trie_core::{cells, header, impl_const, lookup, value, walk};
+pub use icu_trie_core::{cells, coherent, header, impl_const, lookup, value, walk};

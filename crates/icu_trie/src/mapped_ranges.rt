@@ -10,9 +10,9 @@ impl<'trie, T: TrieValue> CodePointTrie<'trie, T> {
     ghost use Rattle.std.specs.List.{All};
     ghost use Rattle.std.specs.Iterator.{Drains};
     ghost use Rattle.itertools.specs.Adaptor.{fuse_can};
-    ghost use Rattle.icu_trie.specs.Ranges.{IsCoherentTrie, answers};
+    ghost use Rattle.icu_trie.specs.Ranges.{IsCoherentTrie, IsRangeOfCodePoints, answers};
     ghost use Rattle.icu_trie.specs.Coalescer.{coalescer_source};
-    ghost use Rattle.icu_trie.specs.MappedRanges.{Answers, AreMappedRangesOf, AreMappedRunsFrom, IsRangeOfCodePoints, mapped_callee, iter_mapped_source, iter_mapped_steps};
+    ghost use Rattle.icu_trie.specs.MappedRanges.{Answers, AreMappedRangesOf, AreMappedRunsFrom, mapped_callee, iter_mapped_source, iter_mapped_steps};
 
     /// The ranges of equal values under `map`: each range that `iter_ranges` gives with the answer of `map`
     /// to its value, and those that touch and have equal answers joined.
@@ -50,7 +50,7 @@ impl<'trie, T: TrieValue> CodePointTrie<'trie, T> {
 }
 
 /// The ranges of a trie, each with the answer of a closure to its value. Ranges of equal answers are not
-/// joined.
+/// joined. Part of [`IterRangesMapped`], which joins them.
 #[derive(Drop)]
 pub struct MappedRanges<'a, T: TrieValue, F> {
     ranges: CodePointMapRangeIterator<'a, T>,

@@ -11,10 +11,11 @@ use icu_zerovec::MemoryError;
 use std::alloc::Global;
 
 impl<'trie, T: TrieValue> CodePointTrie<'trie, T> {
+    ghost use Rattle.std.specs.List.{All};
     ghost use Rattle.std.specs.Iterator.{Drains};
     ghost use Rattle.icu_trie_core.specs.Runs.{LongestRun, AreMaximalRuns};
     ghost use Rattle.icu_trie_core.specs.Range.{GivesWalk, last_of, run_of};
-    ghost use Rattle.icu_trie.specs.Ranges.{AreRangesFrom, IsInRangeOf, IsCoherentTrie, answers};
+    ghost use Rattle.icu_trie.specs.Ranges.{AreRangesFrom, IsInRangeOf, IsCoherentTrie, IsRangeOfCodePoints, answers};
     ghost use Rattle.icu_trie.specs.Iterators.{GivesNextRange, iterator_trie, iterator_next};
 
     /// The range of one value from the code point `c` on, as far as it goes.
@@ -35,6 +36,8 @@ impl<'trie, T: TrieValue> CodePointTrie<'trie, T> {
         ensures start { iterator_next result ≡ 0 }
         ensures ranges { (xs : List _) → Drains (GivesNextRange T.of_number) result xs
             → AreRangesFrom T.of_number self.now 0 xs }
+        ensures shape { (xs : List _) → Drains (GivesNextRange T.of_number) result xs
+            → All IsRangeOfCodePoints xs }
         ensures runs { IsCoherentTrie T.of_number self.now → (xs : List _)
             → Drains (GivesNextRange T.of_number) result xs → AreMaximalRuns (answers self.now) (map run_of xs) }
         ensures only { IsCoherentTrie T.of_number self.now → (xs : List _)

@@ -6,8 +6,9 @@ use std::ops::RangeInclusive;
 
 impl<'trie, T: TrieValue> CodePointTrie<'trie, T> {
     ghost use Rattle.std.specs.Prelude.{List};
+    ghost use Rattle.std.specs.List.{All};
     ghost use Rattle.std.specs.Iterator.{Drains};
-    ghost use Rattle.icu_trie.specs.Ranges.{IsCoherentTrie};
+    ghost use Rattle.icu_trie.specs.Ranges.{HasCodePoints, IsCoherentTrie};
     ghost use Rattle.icu_trie.specs.RangesOfValue.{GivesNextOfValue, AreRangesOfValue, AreRunsOfValue};
 
     /// The ranges that have the value, in order: of those that `iter_ranges` gives, the ones whose value is
@@ -18,6 +19,8 @@ impl<'trie, T: TrieValue> CodePointTrie<'trie, T> {
     pub fn iter_ranges_for_value(&self, value: T) -> IterRangesForValue<'_, T>
         ensures ranges { (xs : List _) → Drains (GivesNextOfValue T.of_number T.PartialEq.eq) result xs
             → AreRangesOfValue T.PartialEq.eq T.of_number self.now value xs }
+        ensures shape { (xs : List _) → Drains (GivesNextOfValue T.of_number T.PartialEq.eq) result xs
+            → All HasCodePoints xs }
         ensures runs { IsCoherentTrie T.of_number self.now → (xs : List _)
             → Drains (GivesNextOfValue T.of_number T.PartialEq.eq) result xs
             → AreRunsOfValue T.PartialEq.eq self.now value xs }

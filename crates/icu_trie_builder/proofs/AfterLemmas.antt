@@ -9,23 +9,23 @@ use Rattle.icu_trie_builder.specs.Writes.{first_of, last_of, value_of, value_aft
 use Rattle.icu_trie_builder.proofs.WholeLemmas.{whole_cells-full}
 
 -- a write that is accepted, and fills its range
-pub value_after-filled : {T : Type 0} (eq : T → T → Bool) (w : Write T) (d : T) (old new : T) (c : ℕ)
-    → eq (value_of w) d ≡ false → first_of w ≤ last_of w → first_of w ≤ 0x10FFFF → c ≤ 0x10FFFF
+pub value_after-filled : {T : Type 0} (w : Write T) (old new : T) (c : ℕ)
+    → first_of w ≤ last_of w → first_of w ≤ 0x10FFFF → c ≤ 0x10FFFF
     → (first_of w ≤ c → c ≤ last_of w → new ≡ value_of w) → (c < first_of w → new ≡ old) → (last_of w < c → new ≡ old)
-    → new ≡ value_after eq d (w ∷ []) old c
-value_after-filled eq w d old new c e h k l inside before behind = grind (arith, nat_tests)
+    → new ≡ value_after (w ∷ []) old c
+value_after-filled w old new c h k l inside before behind = grind (arith, nat_tests)
 
 -- cells in which the range of an accepted write is filled
-pub IsAfter-filled : {T : Type 0} (eq : T → T → Bool) (w : Write T) (cells made filled : List T) (d error : T) (trie_type : TrieType) (end : ℕ)
-    → eq (value_of w) d ≡ false → first_of w ≤ end → end ≡ min (last_of w) 0x10FFFF
+pub IsAfter-filled : {T : Type 0} (w : Write T) (cells made filled : List T) (d error : T) (trie_type : TrieType) (end : ℕ)
+    → first_of w ≤ end → end ≡ min (last_of w) 0x10FFFF
     → made ≡ whole_cells cells d → length filled ≡ 0x110000
     → ((k : ℕ) (e : T) → first_of w ≤ k → k < end + 1 → get_or filled k e ≡ value_of w)
     → ((k : ℕ) (e : T) → k < first_of w → get_or filled k e ≡ get_or made k e)
     → ((k : ℕ) (e : T) → end + 1 ≤ k → get_or filled k e ≡ get_or made k e)
-    → IsAfter eq (w ∷ []) (record { values = whole_cells cells d; default = d; error = error; trie_type = trie_type }) (record { values = whole_cells filled d; default = d; error = error; trie_type = trie_type })
-IsAfter-filled eq w cells made filled d error trie_type end e h m q l inside before behind = record {
+    → IsAfter (w ∷ []) (record { values = whole_cells cells d; default = d; error = error; trie_type = trie_type }) (record { values = whole_cells filled d; default = d; error = error; trie_type = trie_type })
+IsAfter-filled w cells made filled d error trie_type end h m q l inside before behind = record {
   values = λ c lt. let s = whole_cells-full filled d l in
-      rw s (value_after-filled eq w d (get_or (whole_cells cells d) c d) (get_or filled c d) c e (omega arith) (omega arith) lt
+      rw s (value_after-filled w (get_or (whole_cells cells d) c d) (get_or filled c d) c (omega arith) (omega arith) lt
       (λ a b. inside c d a (omega arith)) (λ a. before c d a ∙ ap (λ xs. get_or xs c d) q) (λ a. behind c d (omega arith) ∙ ap (λ xs. get_or xs c d) q));
   default = refl;
   error = refl;
@@ -45,19 +45,16 @@ unwrap_or-option_or None b d = refl
 unwrap_or-option_or (Some x) b d = refl
 
 -- the last of two lists of writes is asked first
-pub last_written-append : {T : Type 0} (eq : T → T → Bool) (d : T) (ws vs : List (Write T)) (c : ℕ) → last_written eq d (ws ++ vs) c ≡ option_or (last_written eq d vs c) (last_written eq d ws c)
-last_written-append eq d [] vs c = sym (option_or-none (last_written eq d vs c))
-last_written-append eq d (w ∷ ws) vs c = rw (last_written-append eq d ws vs c) (option_or_assoc (last_written eq d vs c) (last_written eq d ws c) _)
+pub last_written-append : {T : Type 0} (ws vs : List (Write T)) (c : ℕ) → last_written (ws ++ vs) c ≡ option_or (last_written vs c) (last_written ws c)
+last_written-append [] vs c = sym (option_or-none (last_written vs c))
+last_written-append (w ∷ ws) vs c = rw (last_written-append ws vs c) (option_or_assoc (last_written vs c) (last_written ws c) _)
 
-pub value_after-append : {T : Type 0} (eq : T → T → Bool) (d : T) (ws vs : List (Write T)) (old : T) (c : ℕ) → value_after eq d (ws ++ vs) old c ≡ value_after eq d vs (value_after eq d ws old c) c
-value_after-append eq d ws vs old c = rw (last_written-append eq d ws vs c) (unwrap_or-option_or (last_written eq d vs c) (last_written eq d ws c) old)
+pub value_after-append : {T : Type 0} (ws vs : List (Write T)) (old : T) (c : ℕ) → value_after (ws ++ vs) old c ≡ value_after vs (value_after ws old c) c
+value_after-append ws vs old c = rw (last_written-append ws vs c) (unwrap_or-option_or (last_written vs c) (last_written ws c) old)
 
-pub IsAfter-append : {T : Type 0} (eq : T → T → Bool) (ws vs : List (Write T)) (a b e : CodePointMap T) → IsAfter eq ws a b → IsAfter eq vs b e → IsAfter eq (ws ++ vs) a e
-IsAfter-append eq ws vs a b e p q = record {
-  values = λ c l.
-      let first = q.values c l in
-      let first' : map_value e c ≡ value_after eq a.default vs (map_value b c) c = first ∙ ap (λ d. value_after eq d vs (map_value b c) c) p.default in
-      first' ∙ (ap (λ v. value_after eq a.default vs v c) (p.values c l) ∙ sym (value_after-append eq a.default ws vs (map_value a c) c));
+pub IsAfter-append : {T : Type 0} (ws vs : List (Write T)) (a b e : CodePointMap T) → IsAfter ws a b → IsAfter vs b e → IsAfter (ws ++ vs) a e
+IsAfter-append ws vs a b e p q = record {
+  values = λ c l. q.values c l ∙ (ap (λ v. value_after vs v c) (p.values c l) ∙ sym (value_after-append ws vs (map_value a c) c));
   default = q.default ∙ p.default;
   error = q.error ∙ p.error;
   trie_type = q.trie_type ∙ p.trie_type;

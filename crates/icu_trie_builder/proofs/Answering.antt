@@ -12,9 +12,10 @@ use Rattle.icu_trie_core.specs.Blocks.{window, block, block_of, different}
 use Rattle.icu_trie_core.specs.Format.{answer, fast_limit, high_value}
 use Rattle.icu_trie_core.specs.FastIndex.{fast_index_len, passes_data}
 use Rattle.icu_trie_core.specs.Coherence.{IsCoherent, IsShared, SameAnswers}
-use Rattle.icu_trie_core.proofs.AnswerLemmas.{fast_answer, small_answer}
+use Rattle.icu_trie_core.proofs.CallerLemmas.{fast_answer, small_answer}
 use Rattle.icu_trie_builder.specs.Layout.{IsIndex}
 use Rattle.icu_trie_builder.specs.Data.{IsData, SameNumbers}
+use Rattle.icu_trie_builder.specs.NullBlock.{NamesNull}
 use Rattle.icu_trie_builder.proofs.Different.{different-by, different-within}
 use Rattle.icu_trie_builder.proofs.Laying.{parts}
 use Rattle.icu_trie_builder.proofs.Windows.{length-window, window-read}
@@ -42,8 +43,8 @@ pub fast_index_len-limit : (trie_type : TrieType) → fast_index_len trie_type �
 fast_index_len-limit Fast = refl
 fast_index_len-limit Small = refl
 
-module _ (trie_type : TrieType) (high : ℕ) (f : ℕ → ℕ) (fast small values : List ℕ) (aligned : high % 512 ≡ 0) (within : high ≤ 1114112)
-    (p : IsData trie_type high f fast small values) where
+module _ (trie_type : TrieType) (high null value : ℕ) (f : ℕ → ℕ) (fast small values : List ℕ) (aligned : high % 512 ≡ 0) (within : high ≤ 1114112)
+    (p : IsData trie_type high null value f fast small values) where
   -- blocks of 512 with the same numbers have the same offsets
   pub offsets_same : (b d : ℕ) → fast_limit trie_type ≤ b * 512 → b * 512 < high → fast_limit trie_type ≤ d * 512 → d * 512 < high → SameNumbers f 512 b d
       → window 32 (32 * (b - fast_limit trie_type / 512)) small ≡ window 32 (32 * (d - fast_limit trie_type / 512)) small
@@ -82,7 +83,7 @@ module _ (trie_type : TrieType) (high : ℕ) (f : ℕ → ℕ) (fast small value
       omega (arith, few_offsets, different-within (block_of 512 f) (block_of 512 f) first (2176 - first) 0 2176 (λ j l l'. (j, omega arith, omega (arith, l', t.2), refl)))
 
 module _ (h : CodePointTrieHeader) (f : ℕ → ℕ) (fast small index values : List ℕ) (aligned : h.high_start % 512 ≡ 0) (within : h.high_start ≤ 1114112)
-    (x : IsIndex h.trie_type h.high_start fast small index) (p : IsData h.trie_type h.high_start f fast small values) where
+    (x : IsIndex h.trie_type h.high_start fast small index) (p : IsData h.trie_type h.high_start h.data_null_offset h.null_value f fast small values) where
   pub answers : (c : ℕ) → c < 1114112 → answer h index values c ≡ Some (f c)
   answers c lt = elim (cases_lt c (fast_limit h.trie_type)) [
     | inl below ↦ fast_answer h index values c (get_or fast (c / 64) 0) lt below (x.on_fast c below) ∙ p.on_fast c below
@@ -95,38 +96,50 @@ module _ (h : CodePointTrieHeader) (f : ℕ → ℕ) (fast small index values : 
   numbers_same : (k b d : ℕ) → b * k + k ≤ 1114112 → d * k + k ≤ 1114112 → SameAnswers h index values k b d → SameNumbers f k b d
   numbers_same k b d b1 d1 same i l = some-injective (f (b * k + i)) (f (d * k + i)) (sym (answers (b * k + i) (omega (arith, l, b1))) ∙ (same i l ∙ answers (d * k + i) (omega (arith, l, d1))))
 
-  -- no block has a null offset, so a walk trusts none
-  pub coherent : h.index3_null_offset ≡ 0x7fff → h.data_null_offset ≡ 0xfffff → IsCoherent Some h index values
-  coherent no_index3 no_data =
+  -- blocks at the null offset hold the null value
+  pub coherent : h.index3_null_offset ≡ 0x7fff → IsCoherent Some h index values
+  coherent no_index3 =
       let t = parts h.trie_type in
       record {
         aligned = aligned;
         within = within;
         high = λ c above lt. (answers c lt ∙ sym (p.on_high c above lt), some-is (high_value values) (f c) (p.on_high c above lt));
         inside = λ c below. some-is (answer h index values c) (f c) (answers c (omega (arith, below, within)));
-        null_64 = λ b low below is i l. absurd (
+        null_64 = λ b low below is i l.
             let at = some-injective (get_or fast (b * 64 / 64) 0) h.data_null_offset (sym (x.on_fast (b * 64) low) ∙ is) in
-            let fit = p.fast_fit (b * 64 / 64) (omega (arith, low, t.1, p.fast_len)) in
-            omega (arith, at, fit, no_data));
-        null_16 = λ b from below is i l. absurd (
+            let same : b * 64 / 64 ≡ b = omega arith in
+            answers (b * 64 + i) (omega (arith, low, l, t.1, t.2)) ∙ ap (λ n. Some n) (p.null_fast b i (omega (arith, low, t.1)) l (ap (λ j. get_or fast j 0) (sym same) ∙ at));
+        null_16 = λ b from below is i l.
             let at = some-injective (get_or small (b * 16 / 16 - fast_limit h.trie_type / 16) 0) h.data_null_offset (sym (x.gives.on_small (b * 16) from below) ∙ is) in
-            let fit = p.small_fit (b * 16 / 16 - fast_limit h.trie_type / 16) (omega (arith, from, below, t.1, p.small_len, aligned)) in
-            omega (arith, at, fit, no_data));
+            let same : b * 16 / 16 ≡ b = omega arith in
+            answers (b * 16 + i) (omega (arith, below, l, aligned, within)) ∙ ap (λ n. Some n) (p.null_small b i (omega (arith, from, t.1)) below l (ap (λ j. get_or small (j - fast_limit h.trie_type / 16) 0) (sym same) ∙ at));
         null_512 = λ b from below is i l. absurd (x.gives.not_null (b * 512) from below (is ∙ ap (λ n. Some n) no_index3));
       }
+
+  -- the header names a block of one number
+  pub names_null : NamesNull h index f
+  unfolding NamesNull
+  names_null = λ e. elim (p.names_null e) [
+    | inl w ↦
+        let same : w.0 * 64 / 64 ≡ w.0 = omega arith in
+        inl (w.0, w.1, w.2, x.on_fast (w.0 * 64) w.1 ∙ ap (λ n. Some n) (ap (λ j. get_or fast j 0) same ∙ w.3))
+    | inr w ↦
+        let same : w.0 * 16 / 16 ≡ w.0 = omega arith in
+        inr (w.0, w.1, w.2, w.3, x.gives.on_small (w.0 * 16) w.1 w.2 ∙ ap (λ n. Some n) (ap (λ j. get_or small (j - fast_limit h.trie_type / 16) 0) same ∙ w.4))
+  ]
 
   pub shared : IsShared h index values
   shared = record {
     fast = λ b d sb sd same.
         let t = parts h.trie_type in
-        let one = p.shared_fast b d (omega (arith, sb.1, t.1)) (omega (arith, sd.1, t.1))
+        let one = p.shared_fast b d (omega (arith, sb.0)) (omega (arith, sd.0)) (omega (arith, sb.1, t.1)) (omega (arith, sd.1, t.1))
         (numbers_same 64 b d (omega (arith, sb.1, t.2)) (omega (arith, sd.1, t.2)) same) in
         x.on_fast (b * 64) sb.1 ∙ (ap (λ n. Some (get_or fast n 0)) (omega arith) ∙ (ap (λ n. Some n) one ∙ (ap (λ n. Some (get_or fast n 0)) (omega arith) ∙ sym (x.on_fast (d * 64) sd.1))));
     small = λ b d sb sd same.
         let one = p.shared_small b d (omega (arith, sb.0)) (omega (arith, sd.0)) sb.2 sd.2
         (numbers_same 16 b d (omega (arith, sb.2, aligned, within)) (omega (arith, sd.2, aligned, within)) same) in
         x.gives.on_small (b * 16) sb.0 sb.2 ∙ (ap (λ n. Some (get_or small n 0)) (omega arith) ∙ (ap (λ n. Some n) one ∙ (ap (λ n. Some (get_or small n 0)) (omega arith) ∙ sym (x.gives.on_small (d * 16) sd.0 sd.2))));
-    index2 = λ b d sb sd same. x.gives.on_cells b d sb.0 sb.2 sd.0 sd.2 (offsets_same h.trie_type h.high_start f fast small values aligned within p b d sb.0 sb.2 sd.0 sd.2
+    index2 = λ b d sb sd same. x.gives.on_cells b d sb.0 sb.2 sd.0 sd.2 (offsets_same h.trie_type h.high_start h.data_null_offset h.null_value f fast small values aligned within p b d sb.0 sb.2 sd.0 sd.2
         (numbers_same 512 b d (omega (arith, sb.2, aligned, within)) (omega (arith, sd.2, aligned, within)) same));
   }
 

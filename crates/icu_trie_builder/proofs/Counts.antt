@@ -42,7 +42,7 @@ module _ {K : Type 0} {eq : K → K → Bool} (laws : IsEquivalence eq) (same : 
       let bound = length-le-distinct_count ns xs (IsDistinct-from_AllPairs same ns pairs) member in
       omega (arith, len, bound)
 
-  absent-apart : (q : K) (ys : List K) → is_member eq ys q ≡ false → AllByRecursion (λ y. eq q y ≡ false) ys
+  pub absent-apart : (q : K) (ys : List K) → is_member eq ys q ≡ false → AllByRecursion (λ y. eq q y ≡ false) ys
   absent-apart q [] h = tt
   absent-apart q (y ∷ ys) h = at (eq q y) refl h (absent-apart q ys)
     where

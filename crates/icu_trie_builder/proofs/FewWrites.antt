@@ -54,60 +54,60 @@ find-between low high (b ∷ bs) = by (split low b) (split b high) (find-between
 covers-same : (a b c : ℕ) → (a ≡ c + 1 → ⊥) → (b + 1 ≡ c + 1 → ⊥) → (nat_le a (c + 1) && nat_le (c + 1) b) ≡ (nat_le a c && nat_le c b)
 covers-same a b c h k = grind (arith, nat_tests)
 
-module _ {T : Type 0} (eq : T → T → Bool) (number : T → ℕ) (d : T) where
+module _ {T : Type 0} (number : T → ℕ) (d : T) where
   -- where accepted writes begin, and where they have ended
   borders : List (Write T) → List ℕ
   borders [] = []
-  borders (w ∷ ws) = cond (is_accepted eq d w) (first_of w ∷ (last_of w + 1) ∷ borders ws) (borders ws)
+  borders (w ∷ ws) = cond (is_accepted w) (first_of w ∷ (last_of w + 1) ∷ borders ws) (borders ws)
 
   -- what accepted writes write
   written : List (Write T) → List T
   written [] = []
-  written (w ∷ ws) = cond (is_accepted eq d w) (value_of w ∷ written ws) (written ws)
+  written (w ∷ ws) = cond (is_accepted w) (value_of w ∷ written ws) (written ws)
 
-  length-borders : (ws : List (Write T)) → length (borders ws) ≡ 2 * count_by (is_accepted eq d) ws
+  length-borders : (ws : List (Write T)) → length (borders ws) ≡ 2 * count_by (is_accepted) ws
   unfolding borders
   length-borders [] = refl
-  length-borders (w ∷ ws) = by (is_accepted eq d w) (length-borders ws) ∙ ap (λ n. 2 * n) (sym (sum_by-cons (λ x. cond (is_accepted eq d x) 1 0) w ws))
+  length-borders (w ∷ ws) = by (is_accepted w) (length-borders ws) ∙ ap (λ n. 2 * n) (sym (sum_by-cons (λ x. cond (is_accepted x) 1 0) w ws))
     where
-      by : (b : Bool) → length (borders ws) ≡ 2 * count_by (is_accepted eq d) ws → length (cond b (first_of w ∷ (last_of w + 1) ∷ borders ws) (borders ws)) ≡ 2 * (cond b 1 0 + count_by (is_accepted eq d) ws)
+      by : (b : Bool) → length (borders ws) ≡ 2 * count_by (is_accepted) ws → length (cond b (first_of w ∷ (last_of w + 1) ∷ borders ws) (borders ws)) ≡ 2 * (cond b 1 0 + count_by (is_accepted) ws)
       by true h = omega (arith, h)
       by false h = omega (arith, h)
 
-  length-written : (ws : List (Write T)) → length (written ws) ≡ count_by (is_accepted eq d) ws
+  length-written : (ws : List (Write T)) → length (written ws) ≡ count_by (is_accepted) ws
   unfolding written
   length-written [] = refl
-  length-written (w ∷ ws) = by (is_accepted eq d w) (length-written ws) ∙ sym (sum_by-cons (λ x. cond (is_accepted eq d x) 1 0) w ws)
+  length-written (w ∷ ws) = by (is_accepted w) (length-written ws) ∙ sym (sum_by-cons (λ x. cond (is_accepted x) 1 0) w ws)
     where
-      by : (b : Bool) → length (written ws) ≡ count_by (is_accepted eq d) ws → length (cond b (value_of w ∷ written ws) (written ws)) ≡ (cond b 1 0 + count_by (is_accepted eq d) ws)
+      by : (b : Bool) → length (written ws) ≡ count_by (is_accepted) ws → length (cond b (value_of w ∷ written ws) (written ws)) ≡ (cond b 1 0 + count_by (is_accepted) ws)
       by true h = omega (arith, h)
       by false h = omega (arith, h)
 
   -- nothing changes from one code point to the next but at a border
-  steady : (ws : List (Write T)) (c : ℕ) → (Has (borders ws) (c + 1) → ⊥) → last_written eq d ws (c + 1) ≡ last_written eq d ws c
+  steady : (ws : List (Write T)) (c : ℕ) → (Has (borders ws) (c + 1) → ⊥) → last_written ws (c + 1) ≡ last_written ws c
   unfolding borders
   steady [] c h = refl
-  steady (w ∷ ws) c h = by (is_accepted eq d w) refl h (steady ws c)
+  steady (w ∷ ws) c h = by (is_accepted w) refl h (steady ws c)
     where
-      by : (b : Bool) → is_accepted eq d w ≡ b → (Has (cond b (first_of w ∷ (last_of w + 1) ∷ borders ws) (borders ws)) (c + 1) → ⊥) → ((Has (borders ws) (c + 1) → ⊥) → last_written eq d ws (c + 1) ≡ last_written eq d ws c)
-          → last_written eq d (w ∷ ws) (c + 1) ≡ last_written eq d (w ∷ ws) c
+      by : (b : Bool) → is_accepted w ≡ b → (Has (cond b (first_of w ∷ (last_of w + 1) ∷ borders ws) (borders ws)) (c + 1) → ⊥) → ((Has (borders ws) (c + 1) → ⊥) → last_written ws (c + 1) ≡ last_written ws c)
+          → last_written (w ∷ ws) (c + 1) ≡ last_written (w ∷ ws) c
       by true a h r =
-          let e : covers eq d w (c + 1) ≡ covers eq d w c = ap (λ x. is_accepted eq d w && x) (covers-same (first_of w) (last_of w) c (λ e. h (inl e)) (λ e. h (inr (inl e)))) in
-          ap (λ o. option_or o (cond (covers eq d w (c + 1)) (Some (value_of w)) None)) (r (λ t. h (inr (inr t)))) ∙ ap (λ x. option_or (last_written eq d ws c) (cond x (Some (value_of w)) None)) e
+          let e : covers w (c + 1) ≡ covers w c = ap (λ x. is_accepted w && x) (covers-same (first_of w) (last_of w) c (λ e. h (inl e)) (λ e. h (inr (inl e)))) in
+          ap (λ o. option_or o (cond (covers w (c + 1)) (Some (value_of w)) None)) (r (λ t. h (inr (inr t)))) ∙ ap (λ x. option_or (last_written ws c) (cond x (Some (value_of w)) None)) e
       by false a h r =
-          let e : covers eq d w (c + 1) ≡ covers eq d w c = ap (λ x. x && (nat_le (first_of w) (c + 1) && nat_le (c + 1) (last_of w))) a ∙ sym (ap (λ x. x && (nat_le (first_of w) c && nat_le c (last_of w))) a) in
-          ap (λ o. option_or o (cond (covers eq d w (c + 1)) (Some (value_of w)) None)) (r h) ∙ ap (λ x. option_or (last_written eq d ws c) (cond x (Some (value_of w)) None)) e
+          let e : covers w (c + 1) ≡ covers w c = ap (λ x. x && (nat_le (first_of w) (c + 1) && nat_le (c + 1) (last_of w))) a ∙ sym (ap (λ x. x && (nat_le (first_of w) c && nat_le c (last_of w))) a) in
+          ap (λ o. option_or o (cond (covers w (c + 1)) (Some (value_of w)) None)) (r h) ∙ ap (λ x. option_or (last_written ws c) (cond x (Some (value_of w)) None)) e
 
   -- each value is the old one or one that was written
-  value_after-written : (ws : List (Write T)) (old : T) (c : ℕ) → Has (old ∷ written ws) (value_after eq d ws old c)
+  value_after-written : (ws : List (Write T)) (old : T) (c : ℕ) → Has (old ∷ written ws) (value_after ws old c)
   unfolding written
   value_after-written [] old c = inl refl
   value_after-written (w ∷ ws) old c =
-      by (is_accepted eq d w) (covers eq d w c) (value_after eq d (w ∷ ws) old c) refl refl
-      (unwrap_or-option_or (last_written eq d ws c) (cond (covers eq d w c) (Some (value_of w)) None) old) (λ o. value_after-written ws o c)
+      by (is_accepted w) (covers w c) (value_after (w ∷ ws) old c) refl refl
+      (unwrap_or-option_or (last_written ws c) (cond (covers w c) (Some (value_of w)) None) old) (λ o. value_after-written ws o c)
     where
-      by : (acc cov : Bool) (x : T) → is_accepted eq d w ≡ acc → covers eq d w c ≡ cov → x ≡ value_after eq d ws (unwrap_or (cond (covers eq d w c) (Some (value_of w)) None) old) c
-          → ((o : T) → Has (o ∷ written ws) (value_after eq d ws o c)) → Has (old ∷ cond acc (value_of w ∷ written ws) (written ws)) x
+      by : (acc cov : Bool) (x : T) → is_accepted w ≡ acc → covers w c ≡ cov → x ≡ value_after ws (unwrap_or (cond (covers w c) (Some (value_of w)) None) old) c
+          → ((o : T) → Has (o ∷ written ws) (value_after ws o c)) → Has (old ∷ cond acc (value_of w ∷ written ws) (written ws)) x
       by true true x a v e r = inr (subst (λ y. Has (value_of w ∷ written ws) y) (sym (rw v at e)) (r (value_of w)))
       by true false x a v e r = let h = subst (λ y. Has (old ∷ written ws) y) (sym (rw v at e)) (r old) in elim h as (λ _. Has (old ∷ value_of w ∷ written ws) x) [ inl q ↦ inl q | inr t ↦ inr (inr t) ]
       by false true x a v e r = absurd (true≢false (sym v ∙ ap (λ y. y && (nat_le (first_of w) c && nat_le c (last_of w))) a))
@@ -116,20 +116,20 @@ module _ {T : Type 0} (eq : T → T → Bool) (number : T → ℕ) (d : T) where
   module _ (ws : List (Write T)) where
     -- the numbers of the map of the writes
     of : ℕ → ℕ
-    of c = number (value_after eq d ws d c)
+    of c = number (value_after ws d c)
 
     -- no change within a block that has no border inside
     steady-block : (low high : ℕ) → ((p : ℕ) → Has (borders ws) p → low < p → p < high → ⊥) → (i : ℕ) → low + i < high → of (low + i) ≡ of low
     unfolding of
-    steady-block low high h zero l = ap (λ c. number (value_after eq d ws d c)) (add-zero low)
+    steady-block low high h zero l = ap (λ c. number (value_after ws d c)) (add-zero low)
     steady-block low high h (suc i) l =
         let step = steady ws (low + i) (λ t. h (low + i + 1) t (omega arith) (omega (arith, l))) in
         let at : low + suc i ≡ low + i + 1 = omega arith in
-        ap (λ c. number (value_after eq d ws d c)) at ∙ ap (λ o. number (unwrap_or o d)) step ∙ steady-block low high h i (omega (arith, l))
+        ap (λ c. number (value_after ws d c)) at ∙ ap (λ o. number (unwrap_or o d)) step ∙ steady-block low high h i (omega (arith, l))
 
     -- the block in which p lies
     around : ℕ → ℕ → List ℕ
-    around k p = block_of k (λ c. number (value_after eq d ws d c)) (p / k)
+    around k p = block_of k (λ c. number (value_after ws d c)) (p / k)
 
     -- the block of one value
     flat : ℕ → T → List ℕ
@@ -138,12 +138,12 @@ module _ {T : Type 0} (eq : T → T → Bool) (number : T → ℕ) (d : T) where
     candidates : ℕ → List (List ℕ)
     candidates k = map (flat k) (d ∷ written ws) ++ map (around k) (borders ws)
 
-    length-candidates : (k : ℕ) → length (candidates k) ≡ 3 * count_by (is_accepted eq d) ws + 1
+    length-candidates : (k : ℕ) → length (candidates k) ≡ 3 * count_by (is_accepted) ws + 1
     unfolding candidates
     length-candidates k = omega (arith, length-append (map (flat k) (d ∷ written ws)) (map (around k) (borders ws)), length-map (d ∷ written ws) (flat k), length-map (borders ws) (around k), length-borders ws, length-written ws)
 
     -- every block is among the candidates
-    has-block : (k j : ℕ) → 0 < k → Contains (candidates k) (block_of k (λ c. number (value_after eq d ws d c)) j)
+    has-block : (k j : ℕ) → 0 < k → Contains (candidates k) (block_of k (λ c. number (value_after ws d c)) j)
     unfolding candidates around flat block_of of
     has-block k j pos = elim (find-between (k * j) (k * j + k) (borders ws)) [
       | inl w ↦
@@ -153,20 +153,20 @@ module _ {T : Type 0} (eq : T → T → Bool) (number : T → ℕ) (d : T) where
           let up : p / k < j → ⊥ = λ l. omega (arith, times-below k (p / k) j l, whole, rest, w.2) in
           let down : j < p / k → ⊥ = λ l. omega (arith, times-below k j (p / k) l, whole, rest, w.3) in
           let same : p / k ≡ j = omega (arith, up, down) in
-          Contains-right (map (flat k) (d ∷ written ws)) (map (around k) (borders ws)) _ (subst (λ i. Contains (map (around k) (borders ws)) (block_of k (λ c. number (value_after eq d ws d c)) i)) same (Contains-map-Has (around k) (borders ws) p w.1))
+          Contains-right (map (flat k) (d ∷ written ws)) (map (around k) (borders ws)) _ (subst (λ i. Contains (map (around k) (borders ws)) (block_of k (λ c. number (value_after ws d c)) i)) same (Contains-map-Has (around k) (borders ws) p w.1))
       | inr none ↦
-          let f : ℕ → ℕ = λ c. number (value_after eq d ws d c) in
+          let f : ℕ → ℕ = λ c. number (value_after ws d c) in
           let level : replicate k (f (k * j)) ≡ map f (range_with_len (k * j) k) = same_lists (replicate k (f (k * j))) (map f (range_with_len (k * j) k)) (length-replicate k (f (k * j)) ∙ sym (length-map-range_with_len f (k * j) k))
           (λ i e l. let lt : i < k = omega (arith, l, length-replicate k (f (k * j))) in
           get_or-replicate k i (f (k * j)) e lt ∙ sym (steady-block (k * j) (k * j + k) none i (omega (arith, lt))) ∙ sym (get_or-map-range_with_len f (k * j) k i (k * j + i) e lt refl)) in
-          Contains-left (map (flat k) (d ∷ written ws)) (map (around k) (borders ws)) _ (subst (λ b. Contains (map (flat k) (d ∷ written ws)) b) level (Contains-map-Has (flat k) (d ∷ written ws) (value_after eq d ws d (k * j)) (value_after-written ws d (k * j))))
+          Contains-left (map (flat k) (d ∷ written ws)) (map (around k) (borders ws)) _ (subst (λ b. Contains (map (flat k) (d ∷ written ws)) b) level (Contains-map-Has (flat k) (d ∷ written ws) (value_after ws d (k * j)) (value_after-written ws d (k * j))))
     ]
 
     -- n accepted writes leave at most 3 n + 1 different blocks of any one length
-    different-few : (k first count : ℕ) → 0 < k → different (block_of k (λ c. number (value_after eq d ws d c))) first count ≤ 3 * count_by (is_accepted eq d) ws + 1
+    different-few : (k first count : ℕ) → 0 < k → different (block_of k (λ c. number (value_after ws d c))) first count ≤ 3 * count_by (is_accepted) ws + 1
     unfolding different
     different-few k first count pos =
-        let b : ℕ → List ℕ = block_of k (λ c. number (value_after eq d ws d c)) in
+        let b : ℕ → List ℕ = block_of k (λ c. number (value_after ws d c)) in
         omega (
           arith,
           distinct_count-mono list_laws list_decides (map b (range_with_len first count)) (candidates k)
@@ -177,6 +177,6 @@ module _ {T : Type 0} (eq : T → T → Bool) (number : T → ℕ) (d : T) where
         )
 
     -- so at most 256 accepted writes are never too many
-    pub few_too_large : count_by (is_accepted eq d) ws ≤ 256 → IsTooLarge (λ c. number (value_after eq d ws d c)) → ⊥
+    pub few_too_large : count_by (is_accepted) ws ≤ 256 → IsTooLarge (λ c. number (value_after ws d c)) → ⊥
     few_too_large h (inl l) = omega (arith, h, l, different-few 512 0 2176 (omega arith))
     few_too_large h (inr l) = omega (arith, h, l, different-few 16 0 69632 (omega arith))

@@ -22,7 +22,7 @@ module _ (trie_type : TrieType) (high blocks start3 start2 z : ℕ) (small packe
     (is_start3 : start3 ≡ fast_limit trie_type / 64 + blocks) (is_start2 : start2 ≡ start3 + length index3) (is_z : z ≡ fast_limit trie_type % 16384 / 512)
     (g1 : IsGrown blocks (λ j. start2 + 32 * j) a b) (g2 : IsGrown (length index3) (λ i. get_or index3 i 0) b c) (g3 : IsGrown z (λ _. 0) c d)
     (g4 : IsGrown (length placed) (λ i. 0x8000 + (start3 + get_or placed i 0)) d e)
-    (pk : IsGrown (9 * (length small / 8)) (packed_cell small) [] packed) (pl : IsPlaced 36 0 packed [] index3 placed) (count : length placed ≡ length small / 32) where
+    (pk : IsGrown (9 * (length small / 8)) (packed_cell small) [] packed) (pl : IsPlaced 36 0 (block 36 packed) [] index3 placed) (count : length placed ≡ length small / 32) where
   len_b : length b ≡ start3
   len_b = omega (arith, g1.len, len_a, is_start3)
 
@@ -68,8 +68,8 @@ module _ (trie_type : TrieType) (high blocks start3 start2 z : ℕ) (small packe
   block_three : (i x : ℕ) → i < length placed → x < 36 → get_or e (start3 + get_or placed i 0 + x) 0 ≡ packed_cell small (36 * i + x)
   block_three i x li l =
       let o : ℕ = get_or placed i 0 in
-      let inside = pl.inside i li in
-      ap (λ n. get_or e n 0) (omega arith) ∙ (at_three (o + x) (omega (arith, inside, l)) ∙ (sym (window-read 36 o x index3 0 l) ∙ (ap (λ xs. get_or xs x 0) (pl.copies i li)
+      let inside = pl.copied.inside i li in
+      ap (λ n. get_or e n 0) (omega arith) ∙ (at_three (o + x) (omega (arith, inside, l)) ∙ (sym (window-read 36 o x index3 0 l) ∙ (ap (λ xs. get_or xs x 0) (pl.copied.copies i li)
       ∙ (window-read 36 (36 * (0 + i)) x packed 0 l ∙ (ap (λ n. get_or packed n 0) (omega arith) ∙ pk.more (36 * i + x) (omega (arith, li, l, count)))))))
 
   pub small_at : (u : ℕ) → fast_limit trie_type ≤ u → u < high → small_offset trie_type e u ≡ Some (get_or small (u / 16 - fast_limit trie_type / 16) 0)
@@ -78,7 +78,7 @@ module _ (trie_type : TrieType) (high blocks start3 start2 z : ℕ) (small packe
       let p = parts trie_type in
       let i : ℕ = u / 512 - fast_limit trie_type / 512 in
       let li : i < length placed = omega (arith, count, len_small, aligned, p.1, from, below) in
-      let inside = pl.inside i li in
+      let inside = pl.copied.inside i li in
       let there = offset_packed e small (start3 + get_or placed i 0) i (u / 16 % 32) (omega arith) (omega (arith, li, count)) (omega (arith, inside, len_e, is_start2)) fit (λ x l. block_three i x li l) in
       rw (cell_two u from below) (there ∙ ap (λ n. Some (get_or small n 0)) (omega (arith, p.1, from)))
 

@@ -1,9 +1,12 @@
+pub mod CallerLemmas
 pub mod Windows
+pub mod HashLemmas
+pub mod TableLemmas
+pub mod Compacting
+pub mod NullLemmas
 pub mod Counts
 pub mod Different
 mod FewWrites
-pub mod ChainedLemmas
-pub mod Placing
 pub mod Growing
 pub mod PackingLemmas
 pub mod Laying

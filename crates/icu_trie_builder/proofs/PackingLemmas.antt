@@ -1,12 +1,14 @@
 -- The 18-bit form gives the offsets back.
-use Rattle.std.proofs.Common.{◌≡◌, ℕ, ◌+◌, ◌-◌, ◌*◌, ◌/◌, ◌%◌, ◌<◌, ◌≤◌, nat_eq, false, List, [], length, get_or, arith, sym, ap, ◌∙◌, Some, slice_get, zero, suc, refl}
-use Rattle.std.specs.List.{Contains}
-use Rattle.std.proofs.lemmas.Bool.{le-ltb}
+use Rattle.std.proofs.Common.{◌≡◌, ℕ, ◌+◌, ◌-◌, ◌*◌, ◌/◌, ◌%◌, ◌<◌, ◌≤◌, nat_eq, nat_lt, Bool, true, false, List, [], length, get_or, drop, arith, sym, ap, ◌∙◌, Some, slice_get, zero, suc, refl}
+use Rattle.std.specs.List.{AllPass}
+use Rattle.std.proofs.lemmas.Bool.{le-ltb, lt-ltb}
 use Rattle.std.proofs.lemmas.Bool.Decides.{nat_tests}
 use Rattle.std.proofs.lemmas.List.{same_lists, get_or_default}
+use Rattle.std.proofs.lemmas.List.Elements.{All-take, All-drop}
 use Rattle.icu_trie_core.specs.Blocks.{window, block}
 use Rattle.icu_trie_core.specs.Format.{long_offset, offset_in_block}
 use Rattle.icu_trie_builder.specs.Layout.{AllBelow, IsGrown, high_bits, packed_cell}
+use Rattle.icu_trie_builder.specs.Placed.{IsPlaced}
 use Rattle.icu_trie_builder.proofs.Growing.{cell_there}
 use Rattle.icu_trie_builder.proofs.Windows.{length-window, window-read}
 
@@ -84,11 +86,15 @@ packed-below small packed fit g i l = by (i % 9) refl
     by zero e = omega (arith, cell, cell_high small (i / 9) i (omega (arith, e)), high-below small (8 * (i / 9)) (omega (arith, lt)) fit)
     by (suc r) e = omega (arith, cell, cell_low small (i / 9) r i (omega (arith, e)) (omega (arith, e)))
 
--- cells that are all drawn from others are below what those are below
-pub drawn-below : (n : ℕ) (xs ys : List ℕ) → ((i : ℕ) → i < length ys → Contains xs (get_or ys i 0)) → AllBelow n xs → AllBelow n ys
-drawn-below n xs ys drawn below i l =
-    let w = drawn i l in
-    omega (arith, w.2, get_or_default xs w.0 (get_or ys i 0) 0 w.1, below w.0 w.1)
+-- cells of placed blocks are below what the blocks' cells are below
+pub drawn-below : (n k : ℕ) (xs before ys offsets : List ℕ) → IsPlaced k 0 (block k xs) before ys offsets → length before ≡ 0 → AllBelow n xs → AllBelow n ys
+drawn-below n k xs before ys offsets placed none below i l =
+    let test : ℕ → Bool = λ x. nat_lt x n in
+    let P : ℕ → Type 0 = λ x. nat_lt x n ≡ true in
+    let all : AllPass test xs = λ i d l. lt-ltb (get_or xs i d) n (omega (arith, get_or_default xs i d 0 l, below i l)) in
+    let pass = placed.drawn test (λ j h. All-take P k (drop (k * (0 + j)) xs) (All-drop P (k * (0 + j)) xs all)) (λ i d h. absurd (omega (arith, h, none))) in
+    let e : nat_lt (get_or ys i 0) n ≡ true = pass i 0 l in
+    grind (arith, nat_tests, e)
 
 -- an index-3 block whose 36 cells are those of 32 offsets gives them
 pub offset_packed : (index small : List ℕ) (at j p : ℕ) → p < 32 → 32 * j + 32 ≤ length small → at + 36 ≤ length index → AllBelow 0x40000 small

@@ -1,13 +1,14 @@
 -- A trie that answers a map has its ranges and its value sets.
 use Rattle.std.proofs.Common.{◌≡◌, ℕ, ◌<◌, Some, arith, sym, ◌∙◌, ap}
 use Rattle.std.proofs.lemmas.Bool.Decides.{nat_tests}
-use Rattle.icu_trie_core.proofs.RunLemmas.{AreMaximalRuns-same, AreMaximalRuns-some}
+use Rattle.icu_trie_core.proofs.CallerLemmas.{AreMaximalRuns-same, AreMaximalRuns-some}
 use Rattle.icu_trie.specs.Parts.{Parts}
 use Rattle.icu_trie.specs.Ranges.{answers}
 use Rattle.icu_trie_builder.specs.MapAnswers.{AnswersMap, HasRangesOf}
 
 module _ {T : Type 0} (f : ℕ → T) (error : T) (t : Parts T) (a : AnswersMap f error t) where
-  answers-at : (c : ℕ) → c < 0x110000 → answers t c ≡ Some (f c)
+  -- the answer at a code point
+  pub answers-at : (c : ℕ) → c < 0x110000 → answers t c ≡ Some (f c)
   answers-at c l = let e = a.look_up c in grind (arith, nat_tests)
 
   pub HasRangesOf-from_answers : HasRangesOf f t

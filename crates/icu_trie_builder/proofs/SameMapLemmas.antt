@@ -1,15 +1,18 @@
 -- Maps that agree in the code space have the same bounds.
 use Rattle.std.proofs.Common.{◌≡◌, ℕ, ◌+◌, ◌*◌, ◌<◌, ◌≤◌, List, map, refl, arith, sym, ◌∙◌, ap, ap₂, inl, inr}
-use Rattle.std.specs.Prelude.{nat_eq}
-use Rattle.std.specs.List.{range_with_len}
+use Rattle.std.specs.Prelude.{nat_eq, not, Bool, Some}
+use Rattle.std.specs.List.{range_with_len, list_any, filter}
 use Rattle.std.specs.Set.{distinct_count}
 use Rattle.std.specs.Cmp.Lexicographic.{pointwise}
 use Rattle.std.proofs.lemmas.List.{same_lists}
 use Rattle.std.proofs.lemmas.List.FromFn.{length-map-range_with_len, get_or-map-range_with_len}
 use Rattle.icu_trie_core.specs.declared.header.TrieType.{TrieType}
 use Rattle.icu_trie_core.specs.declared.header.TrieType.TheVariants.{Fast, Small}
+use Rattle.icu_trie_core.specs.declared.header.CodePointTrieHeader.{CodePointTrieHeader}
+use Rattle.icu_trie_core.specs.Format.{fast_limit, fast_offset, small_offset}
 use Rattle.icu_trie_core.specs.Blocks.{block_of, different}
-use Rattle.icu_trie_builder.specs.Bounds.{data_bound, index_bound, fast_blocks, small_blocks, index_blocks, IsTooLarge}
+use Rattle.icu_trie_builder.specs.Bounds.{data_bound, compact_data_bound, index_bound, fast_blocks, small_blocks, lone_small_blocks, index_blocks, different_but, stands_in, stands_below, IsTooLarge}
+use Rattle.icu_trie_builder.specs.NullBlock.{HoldsOne, SomeHoldsOne, NamesNull}
 
 -- functions that agree on a range give one list there
 same_map : {A : Type 0} (f g : ℕ → A) (first count : ℕ) → ((j : ℕ) → first ≤ j → j < first + count → f j ≡ g j) → map f (range_with_len first count) ≡ map g (range_with_len first count)
@@ -22,6 +25,10 @@ same_map f g first count h =
 different-alike : (b b' : ℕ → List ℕ) (first count : ℕ) → ((j : ℕ) → first ≤ j → j < first + count → b j ≡ b' j) → different b first count ≡ different b' first count
 unfolding different
 different-alike b b' first count h = ap (distinct_count (pointwise nat_eq)) (same_map b b' first count h)
+
+different_but-alike : (p : List ℕ → Bool) (b b' : ℕ → List ℕ) (first count : ℕ) → ((j : ℕ) → first ≤ j → j < first + count → b j ≡ b' j) → different_but p b first count ≡ different_but p b' first count
+unfolding different_but
+different_but-alike p b b' first count h = ap (λ bs. distinct_count (pointwise nat_eq) (filter (λ x. not (p x)) bs)) (same_map b b' first count h)
 
 module _ (f g : ℕ → ℕ) (same : (c : ℕ) → c < 0x110000 → f c ≡ g c) where
   block_of-alike : (k j : ℕ) → k * j + k ≤ 0x110000 → block_of k f j ≡ block_of k g j
@@ -36,6 +43,14 @@ module _ (f g : ℕ → ℕ) (same : (c : ℕ) → c < 0x110000 → f c ≡ g c)
   small-alike Fast = different-alike (block_of 16 f) (block_of 16 g) 4096 65536 (λ j from below. block_of-alike 16 j (omega (arith, below)))
   small-alike Small = different-alike (block_of 16 f) (block_of 16 g) 256 69376 (λ j from below. block_of-alike 16 j (omega (arith, below)))
 
+  stands-alike : (n : ℕ) → 64 * n ≤ 0x110000 → stands_below (block_of 64 f) n ≡ stands_below (block_of 64 g) n
+  unfolding stands_below
+  stands-alike n le = ap (λ bs x. list_any (stands_in x) bs) (same_map (block_of 64 f) (block_of 64 g) 0 n (λ j from below. block_of-alike 64 j (omega (arith, below, le))))
+
+  lone-alike : (t : TrieType) → lone_small_blocks t f ≡ lone_small_blocks t g
+  lone-alike Fast = ap (λ p. different_but p (block_of 16 f) 4096 65536) (stands-alike 1024 (omega arith)) ∙ different_but-alike (stands_below (block_of 64 g) 1024) (block_of 16 f) (block_of 16 g) 4096 65536 (λ j from below. block_of-alike 16 j (omega (arith, below)))
+  lone-alike Small = ap (λ p. different_but p (block_of 16 f) 256 69376) (stands-alike 64 (omega arith)) ∙ different_but-alike (stands_below (block_of 64 g) 64) (block_of 16 f) (block_of 16 g) 256 69376 (λ j from below. block_of-alike 16 j (omega (arith, below)))
+
   index-alike : (t : TrieType) → index_blocks t f ≡ index_blocks t g
   index-alike Fast = different-alike (block_of 512 f) (block_of 512 g) 128 2048 (λ j from below. block_of-alike 512 j (omega (arith, below)))
   index-alike Small = different-alike (block_of 512 f) (block_of 512 g) 8 2168 (λ j from below. block_of-alike 512 j (omega (arith, below)))
@@ -43,6 +58,10 @@ module _ (f g : ℕ → ℕ) (same : (c : ℕ) → c < 0x110000 → f c ≡ g c)
   -- both have one bound on the cells of data
   pub data_bound-alike : (t : TrieType) → data_bound t f ≡ data_bound t g
   data_bound-alike t = ap₂ (λ m n. 64 * m + 16 * n + 160) (fast-alike t) (small-alike t)
+
+  -- two, in fact
+  pub compact_data_bound-alike : (t : TrieType) → compact_data_bound t f ≡ compact_data_bound t g
+  compact_data_bound-alike t = ap₂ (λ m n. 64 * m + 16 * n + 160) (fast-alike t) (lone-alike t)
 
   -- and of index
   pub index_bound-alike : (t : TrieType) → index_bound t f ≡ index_bound t g
@@ -52,3 +71,23 @@ module _ (f g : ℕ → ℕ) (same : (c : ℕ) → c < 0x110000 → f c ≡ g c)
   pub IsTooLarge-alike : IsTooLarge f → IsTooLarge g
   IsTooLarge-alike (inl h) = inl (omega (arith, h, different-alike (block_of 512 f) (block_of 512 g) 0 2176 (λ j from below. block_of-alike 512 j (omega (arith, below)))))
   IsTooLarge-alike (inr h) = inr (omega (arith, h, different-alike (block_of 16 f) (block_of 16 g) 0 69632 (λ j from below. block_of-alike 16 j (omega (arith, below)))))
+
+-- a block of one number is one of the other map too
+HoldsOne-alike : (f g : ℕ → ℕ) → ((c : ℕ) → c < 0x110000 → f c ≡ g c) → (k b : ℕ) → 0 < k → b * k + k ≤ 0x110000 → HoldsOne f k b → HoldsOne g k b
+HoldsOne-alike f g same k b pos inside h i l = sym (same (b * k + i) (omega (arith, inside, l))) ∙ (h i l ∙ same (b * k) (omega (arith, inside, pos)))
+
+SomeHoldsOne-alike : (f g : ℕ → ℕ) → ((c : ℕ) → c < 0x110000 → f c ≡ g c) → (t : TrieType) (high : ℕ) (P Q : ℕ → Type 0) → high ≤ 0x110000 → SomeHoldsOne t high f P Q → SomeHoldsOne t high g P Q
+SomeHoldsOne-alike f g same t high P Q within (inl w) = inl (w.0, w.1, HoldsOne-alike f g same 64 w.0 (omega arith) (low t w.0 w.1) w.2, w.3)
+  where
+    low : (t : TrieType) (b : ℕ) → b * 64 < fast_limit t → b * 64 + 64 ≤ 0x110000
+    low Fast b l = omega (arith, l)
+    low Small b l = omega (arith, l)
+SomeHoldsOne-alike f g same t high P Q within (inr w) = inr (w.0, w.1, w.2, HoldsOne-alike f g same 16 w.0 (omega arith) (omega (arith, w.2, within)) w.3, w.4)
+
+-- a null offset that is one of a block of one number is so of the other map too
+pub NamesNull-alike : (f g : ℕ → ℕ) → ((c : ℕ) → c < 0x110000 → f c ≡ g c) → (h : CodePointTrieHeader) (index : List ℕ) → h.high_start ≤ 0x110000 → NamesNull h index f → NamesNull h index g
+unfolding NamesNull
+NamesNull-alike f g same h index within names = λ given.
+    let none : ℕ → Type 0 = λ _. Unit {0} in
+    SomeHoldsOne-alike f g same h.trie_type h.high_start (λ b. fast_offset index (b * 64) ≡ Some h.data_null_offset) (λ b. small_offset h.trie_type index (b * 16) ≡ Some h.data_null_offset) within
+    (names (SomeHoldsOne-alike g f (λ c l. sym (same c l)) h.trie_type h.high_start none none within given))

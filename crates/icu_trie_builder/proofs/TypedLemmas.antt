@@ -1,6 +1,6 @@
 -- A trie of values stands on the trie of their numbers.
 use Rattle.std.proofs.Common.{◌≡◌, ℕ, ◌+◌, ◌-◌, ◌*◌, ◌<◌, ◌≤◌, nat_le, nat_lt, true, false, List, [], ◌∷◌, length, Option, Some, None, slice_get, refl, arith, sym, ◌∙◌, ap, subst, inl, inr}
-use Rattle.std.specs.Prelude.{IsSome, if◌then◌else◌}
+use Rattle.std.specs.Prelude.{IsSome, is_some, is_none, if◌then◌else◌}
 use Rattle.std.specs.Option.{option_and_then, option_map, option_or}
 use Rattle.std.proofs.lemmas.Bool.{lt-ltb, le-ltb, cases_lt}
 use Rattle.std.proofs.lemmas.Bool.Decides.{nat_tests}
@@ -13,8 +13,8 @@ use Rattle.icu_trie.specs.Parts.{Parts, last_cell, fault}
 use Rattle.icu_trie_core.specs.Coherence.{IsCoherent, IsShared, SameAnswers}
 use Rattle.icu_trie_builder.specs.Built.{IsBuilt}
 use Rattle.icu_trie_builder.specs.MapAnswers.{AnswersMap, AreValuesOf, IsWellBuilt}
-use Rattle.icu_trie_builder.specs.Bounds.{data_bound}
-use Rattle.icu_trie_builder.proofs.SameMapLemmas.{data_bound-alike, index_bound-alike}
+use Rattle.icu_trie_builder.specs.Bounds.{data_bound, compact_data_bound}
+use Rattle.icu_trie_builder.proofs.SameMapLemmas.{data_bound-alike, compact_data_bound-alike, index_bound-alike, NamesNull-alike}
 
 -- above the code space there is no answer
 above_answer : {A : Type 0} (h : CodePointTrieHeader) (index : List ℕ) (values : List A) (u : ℕ) → 0x110000 ≤ u → answer h index values u ≡ None
@@ -58,11 +58,15 @@ some_length (y ∷ xs) x e = omega arith
 is_some-of : {A : Type 0} (o : Option A) (x : A) → o ≡ Some x → IsSome o
 is_some-of o x e = rw e refl
 
+not-none : {A : Type 0} (o : Option A) → is_some o ≡ true → is_none o ≡ false
+not-none None e = absurd (cc e)
+not-none (Some x) e = refl
+
 -- f has the number of each value of the map g, of which the trie of the numbers was built
-module _ {T : Type 0} (of_number : ℕ → Option T) (number : T → ℕ) (g : ℕ → T) (error null : T) (f : ℕ → ℕ)
+module _ {T : Type 0} (of_number : ℕ → Option T) (number : T → ℕ) (g : ℕ → T) (error : T) (f : ℕ → ℕ)
     (h : CodePointTrieHeader) (index numbers : List ℕ) (values : List T) (same : AreValuesOf of_number numbers values)
-    (back : (c : ℕ) → c < 0x110000 → of_number (number (g c)) ≡ Some (g c)) (error_back : of_number (number error) ≡ Some error) (null_back : of_number (number null) ≡ Some null)
-    (is : (c : ℕ) → c < 0x110000 → f c ≡ number (g c)) (built : IsBuilt f (number error) h index numbers) (is_null : h.null_value ≡ number null) where
+    (back : (c : ℕ) → c < 0x110000 → of_number (number (g c)) ≡ Some (g c)) (error_back : of_number (number error) ≡ Some error)
+    (is : (c : ℕ) → c < 0x110000 → f c ≡ number (g c)) (built : IsBuilt f (number error) h index numbers) (null_is : is_some (of_number h.null_value) ≡ true) where
   -- the number of a code point's value is what the trie of the numbers answers
   number_answer : (c : ℕ) → c < 0x110000 → answer h index numbers c ≡ Some (number (g c))
   number_answer c l = built.answers c l ∙ ap (λ n. Some n) (is c l)
@@ -93,10 +97,10 @@ module _ {T : Type 0} (of_number : ℕ → Option T) (number : T → ℕ) (g : �
   pub no_fault : fault of_number h index values ≡ None
   no_fault =
       let len : nat_lt (length values) 1 ≡ false = le-ltb (length values) 1 (omega (arith, some_length values error error_cell)) in
-      let null_is : of_number h.null_value ≡ Some null = ap of_number is_null ∙ null_back in
+      let null : is_none (of_number h.null_value) ≡ false = not-none (of_number h.null_value) null_is in
       let fast : nat_lt (length index) (fast_index_len h.trie_type) ≡ false = le-ltb (length index) (fast_index_len h.trie_type) built.fast_index in
       let inside : passes_data h.trie_type index (length values) ≡ false = ap (passes_data h.trie_type index) (length-values of_number numbers values same) ∙ built.fast_data in
-      rw (len, null_is, fast, inside) refl
+      rw (len, null, fast, inside) refl
 
   -- null blocks and the high value are as with the numbers
   pub coherent_values : IsCoherent of_number h index values
@@ -143,6 +147,9 @@ module _ {T : Type 0} (of_number : ℕ → Option T) (number : T → ℕ) (g : �
         shared = shared_values;
         data_cells = subst (λ n. n ≤ data_bound h.trie_type (λ c. number (g c))) (sym (length-values of_number numbers values same)) bound;
         index_cells = subst (λ n. length index ≤ n) (index_bound-alike f (λ c. number (g c)) is h.trie_type) built.index_short;
+        compact_data = subst (λ n. n ≤ compact_data_bound h.trie_type (λ c. number (g c))) (sym (length-values of_number numbers values same))
+            (subst (λ n. length numbers ≤ n) (compact_data_bound-alike f (λ c. number (g c)) is h.trie_type) built.compact_data);
+        null_block = NamesNull-alike f (λ c. number (g c)) is h index built.header.within built.null_block;
       }
 
 -- what is well built of one map is so of a map that agrees with it in the code space
@@ -153,4 +160,6 @@ IsWellBuilt-alike of_number f g same t w = record {
   shared = w.shared;
   data_cells = subst (λ n. length t.values ≤ n) (data_bound-alike f g same t.header.trie_type) w.data_cells;
   index_cells = subst (λ n. length t.index ≤ n) (index_bound-alike f g same t.header.trie_type) w.index_cells;
+  compact_data = subst (λ n. length t.values ≤ n) (compact_data_bound-alike f g same t.header.trie_type) w.compact_data;
+  null_block = NamesNull-alike f g same t.header t.index w.header.within w.null_block;
 }

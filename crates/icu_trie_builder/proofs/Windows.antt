@@ -1,12 +1,12 @@
 -- Windows of lists, and what `==` says of them.
-use Rattle.std.proofs.Common.{◌≡◌, ℕ, ◌+◌, ◌-◌, ◌*◌, ◌<◌, ◌≤◌, Bool, nat_eq, List, ◌++◌, length, get_or, take, drop, arith, ◌∙◌, ap, refl}
+use Rattle.std.proofs.Common.{◌≡◌, ℕ, ◌+◌, ◌-◌, ◌*◌, ◌<◌, ◌≤◌, Bool, nat_eq, List, ◌++◌, length, get_or, take, drop, arith, ◌∙◌, ap, sym, refl}
 use Rattle.std.specs.Bool.{Decides}
 use Rattle.std.specs.Cmp.{IsEquivalence}
 use Rattle.std.specs.Cmp.Lexicographic.{pointwise}
 use Rattle.std.proofs.lemmas.Bool.Decides.{nat_tests}
 use Rattle.std.proofs.lemmas.Cmp.{lists_equiv}
 use Rattle.std.proofs.lemmas.Slice.Eq.{slice_eq-Decides}
-use Rattle.std.proofs.lemmas.List.{drop-append-le, take-append-le, drop_at, take_all, length-take, length-drop, get_or-take, get_or-drop}
+use Rattle.std.proofs.lemmas.List.{drop-append-le, take-append-le, drop_at, take_all, length-take, length-drop, get_or-take, get_or-drop, drop-take, take-take, drop-drop}
 use Rattle.icu_trie_core.specs.Blocks.{window, block}
 
 -- `==` of numbers is an equivalence
@@ -62,3 +62,15 @@ part-block k i cells = let n : k * i + k - k * i ≡ k = omega arith in ap (λ m
 -- its length
 pub length-part : (k i m : ℕ) (cells : List ℕ) → i < m → k * m ≤ length cells → length (take (k * i + k - k * i) (drop (k * i) cells)) ≡ k
 length-part k i m cells h le = omega (arith, ap length (part-block k i cells), length-take k (drop (k * i) cells), length-drop (k * i) cells, times-below k i m h)
+
+-- what `==` says of a tail of a slice
+pub tail-decides : (xs ys : List ℕ) (at : ℕ) (r : Bool) → r ≡ pointwise nat_eq (take (length xs - at) (drop at xs)) ys → Decides r (drop at xs ≡ ys)
+tail-decides xs ys at r e =
+    let all : take (length xs - at) (drop at xs) ≡ drop at xs = take_all (length xs - at) (drop at xs) (omega (arith, length-drop at xs)) in
+    slice_eq-Decides nat_decides (drop at xs) ys r (e ∙ ap (λ x. pointwise nat_eq x ys) all)
+
+-- a window of a window
+pub window-window : (k i m at : ℕ) (xs : List ℕ) → i + k ≤ m → window k i (window m at xs) ≡ window k (at + i) xs
+window-window k i m at xs h =
+    let is : i + (m - i) ≡ m = omega (arith, h) in
+    ap (λ n. take k (drop i (take n (drop at xs)))) (sym is) ∙ (ap (λ ys. take k ys) (drop-take i (m - i) (drop at xs)) ∙ (take-take k (m - i) (drop i (drop at xs)) (omega (arith, h)) ∙ ap (λ ys. take k ys) (drop-drop i at xs)))

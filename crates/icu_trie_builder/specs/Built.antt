@@ -5,7 +5,8 @@ use Rattle.icu_trie_core.specs.Format.{answer}
 use Rattle.icu_trie_core.specs.FastIndex.{fast_index_len, passes_data}
 use Rattle.icu_trie.specs.Parts.{last_cell}
 use Rattle.icu_trie_core.specs.Coherence.{IsCoherent, IsShared}
-use Rattle.icu_trie_builder.specs.Bounds.{data_bound, index_bound}
+use Rattle.icu_trie_builder.specs.Bounds.{data_bound, compact_data_bound, index_bound}
+use Rattle.icu_trie_builder.specs.NullBlock.{NamesNull}
 
 -- the header's high start is a multiple of 512, at most the end of the code space, and stands in
 -- its shifted form too, which is rounded up
@@ -29,3 +30,7 @@ pub record IsBuilt (f : ℕ → ℕ) (error : ℕ) (h : CodePointTrieHeader) (in
   -- the fast index is whole, and its blocks lie within the data
   pub fast_index : fast_index_len h.trie_type ≤ length index
   pub fast_data : passes_data h.trie_type index (length values) ≡ false
+  -- small blocks that stand in fast ones take no cells
+  pub compact_data : length values ≤ compact_data_bound h.trie_type f
+  -- the null offset is that of a block of one number, where there is one
+  pub null_block : NamesNull h index f

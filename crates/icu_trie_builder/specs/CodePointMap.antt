@@ -22,8 +22,8 @@ abbrev pub map_answer : {T : Type 0} → CodePointMap T → ℕ → T
 map_answer m u = if nat_le u 0x10FFFF then map_value m u else m.error
 
 -- new is old after the writes, and keeps default, error value and trie type
-pub record IsAfter {T : Type 0} (eq : T → T → Bool) (ws : List (Write T)) (old new : CodePointMap T) : Type 0 where
-  pub values : (c : ℕ) → c ≤ 0x10FFFF → map_value new c ≡ value_after eq old.default ws (map_value old c) c
+pub record IsAfter {T : Type 0} (ws : List (Write T)) (old new : CodePointMap T) : Type 0 where
+  pub values : (c : ℕ) → c ≤ 0x10FFFF → map_value new c ≡ value_after ws (map_value old c) c
   pub default : new.default ≡ old.default
   pub error : new.error ≡ old.error
   pub trie_type : new.trie_type ≡ old.trie_type

@@ -1,8 +1,11 @@
 pub mod Writes
 pub mod CodePointMap
 pub mod Bounds
-pub mod Chained
+pub mod Hashes
+pub mod Windows
 pub mod Placed
+pub mod NullBlock
+pub mod FilledBlocks
 pub mod Data
 pub mod Layout
 pub mod Built

@@ -1,65 +1,143 @@
-//! Blocks of cells put behind one another, where equal blocks share one place.
-ghost use Rattle.std.specs.Prelude.{◌≡◌, ◌≢◌, ℕ, ◌+◌, ◌*◌, ◌^◌, ◌<◌, ◌≤◌, ◌++◌, length, max, IfOk, OnOk};
-ghost use Rattle.icu_trie_core.specs.Blocks.{block, different};
-ghost use Rattle.icu_trie_builder.specs.Chained.{block_from, chained_count, IsChained};
-ghost use Rattle.icu_trie_builder.specs.Placed.{IsPlaced};
+//! Blocks of cells that are found among the cells so far, or put behind them.
+ghost use Rattle.std.specs.Prelude.{◌≡◌, ◌≢◌, ℕ, ◌+◌, ◌-◌, ◌*◌, ◌^◌, ◌<◌, ◌≤◌, Bool, true, List, length, max, take, drop, IfOk, OnOk, IfSome};
+ghost use Rattle.std.specs.List.{AllPass};
+ghost use Rattle.icu_trie_core.specs.Blocks.{window, block, different};
+ghost use Rattle.icu_trie_builder.specs.Bounds.{different_but};
+ghost use Rattle.icu_trie_builder.specs.Placed.{AllStandIn, IsPlaced};
+ghost use Rattle.icu_trie_builder.specs.Windows.{HasAll, IsLeast, IsTable};
 ghost use Rattle.icu_trie_builder.specs.declared.error.BuildError.TheVariants.{TooLarge};
 
-use crate::chains::Chains;
 use crate::error::BuildError;
+use crate::hashing::hash_of;
+use crate::window_table::WindowTable;
 use std::alloc::Global;
 
-/// The number of `wanted` among the blocks that stand in `stored` from `start` on, which `chains` has.
-/// A new block is put at the end.
+/// Block number `number` of `size` cells.
+fn block_at(cells: &[u32], size: usize, number: usize) -> &[u32]
+    requires room { length cells.now < 2 ^ 31 }
+    requires inside { size * number + size ≤ length cells.now }
+    ensures { result.now ≡ block size cells.now number }
+{
+    &cells[size * number..size * number + size]
+}
+
+/// The length of the longest tail of `stored`, shorter than `wanted`, that equals the front of `wanted`.
+fn overlap(stored: &[u32], wanted: &[u32]) -> usize
+    requires { 0 < length wanted.now }
+    ensures below { result < length wanted.now }
+    ensures inside { result ≤ length stored.now }
+    ensures tail { drop (length stored.now - result) stored.now ≡ take result wanted.now }
+    ensures longest { (m : ℕ) → result < m → m < length wanted.now → m ≤ length stored.now
+        → drop (length stored.now - m) stored.now ≢ take m wanted.now }
+{
+    let mut common = (wanted.len() - 1).min(stored.len());
+    while common > 0 {
+        if &stored[stored.len() - common..] == &wanted[..common] {
+            return common;
+        }
+        common -= 1;
+    }
+    0
+}
+
+/// The first place where `wanted` stands in `stored`. Where it stands nowhere, it is put behind the longest
+/// tail that equals its front.
 ///
 /// # Errors
 ///
-/// `TooLarge` where a new block would stand above `limit`.
+/// `TooLarge` where it stands nowhere and would start above `limit`.
 fn place_block(
+    alloc: Global,
     stored: &mut Vec<u32>,
-    start: usize,
+    table: &mut WindowTable,
     wanted: &[u32],
     limit: usize,
-    chains: &mut Chains,
 ) -> Result<usize, BuildError>
-    requires size { length stored.old.items ≡ start + length wanted.now * chained_count chains.old }
-    requires room { chained_count chains.old < 2 ^ 63 }
-    requires chained { IsChained (block_from (length wanted.now) start stored.old.items) chains.old }
-    ensures number { IfOk result (λ p. p ≤ chained_count chains.old) }
-    ensures found { IfOk result (λ p. p < chained_count chains.old
-        → (stored.new.items ≡ stored.old.items) × (chained_count chains.new ≡ chained_count chains.old)
-        × (block_from (length wanted.now) start stored.old.items p ≡ wanted.now)) }
-    ensures fresh { IfOk result (λ p. p ≡ chained_count chains.old
-        → (stored.new.items ≡ stored.old.items ++ wanted.now)
-        × (chained_count chains.new ≡ chained_count chains.old + 1)
-        × ((q : ℕ) → q < chained_count chains.old
-        → block_from (length wanted.now) start stored.old.items q ≢ wanted.now)) }
-    ensures chained { OnOk result
-        (IsChained (block_from (length wanted.now) start stored.new.items) chains.new) }
-    ensures capped { OnOk result
-        (length stored.new.items ≤ max (length stored.old.items) (limit + length wanted.now)) }
+    requires size { length wanted.now ≡ table.old.size }
+    requires room { length stored.old.items < 2 ^ 30 }
+    requires limit { limit + table.old.size < 2 ^ 30 }
+    requires table { IsTable stored.old.items table.old }
+    requires whole { HasAll stored.old.items table.old }
+    ensures least { IfOk result (λ at. IsLeast table.old.size at stored.new.items wanted.now) }
+    ensures size { OnOk result (table.new.size ≡ table.old.size) }
+    ensures table { OnOk result (IsTable stored.new.items table.new) }
+    ensures whole { OnOk result (HasAll stored.new.items table.new) }
+    ensures kept { OnOk result (take (length stored.old.items) stored.new.items ≡ stored.old.items) }
+    ensures grown { OnOk result (length stored.old.items < length stored.new.items
+        → (length stored.new.items ≤ length stored.old.items + table.old.size)
+        × ((q : ℕ) → window table.old.size q stored.old.items ≢ wanted.now)) }
+    ensures capped { OnOk result (length stored.new.items
+        ≤ max (length stored.old.items) (limit + table.old.size)) }
+    ensures drawn { OnOk result ((p : ℕ → Bool) → AllPass p wanted.now → AllPass p stored.old.items
+        → AllPass p stored.new.items) }
     ensures too_large { result ≡ Err TooLarge → (limit < length stored.old.items)
-        × ((q : ℕ) → q < chained_count chains.old
-        → block_from (length wanted.now) start stored.old.items q ≢ wanted.now) }
+        × ((q : ℕ) → window table.old.size q stored.old.items ≢ wanted.now) }
 {
-    if let Some(number) = chains.find(stored, start, wanted) {
-        return Ok(number);
+    if let Some(at) = table.find(stored, wanted, hash_of(wanted)) {
+        return Ok(at);
     }
-    if stored.len() > limit {
+    let common = overlap(stored, wanted);
+    let at = stored.len() - common;
+    if at > limit {
         return Err(BuildError::TooLarge);
     }
-    let number = chains.len();
-    stored.extend_from_slice(wanted)?;
-    chains.push(wanted)?;
-    Ok(number)
+    stored.extend_from_slice(&wanted[common..])?;
+    table.grow(alloc)?;
+    table.enter_all(stored)?;
+    Ok(at)
+}
+
+/// Places block number `number`, where `last` is the place of the block before it, if that is placed.
+fn place_next(
+    alloc: Global,
+    stored: &mut Vec<u32>,
+    table: &mut WindowTable,
+    cells: &[u32],
+    number: usize,
+    last: Option<usize>,
+    limit: usize,
+) -> Result<usize, BuildError>
+    requires cells { length cells.now < 2 ^ 31 }
+    requires inside { table.old.size * number + table.old.size ≤ length cells.now }
+    requires last { IfSome last (λ at. (0 < number)
+        × IsLeast table.old.size at stored.old.items (block table.old.size cells.now (number - 1))) }
+    requires room { length stored.old.items < 2 ^ 30 }
+    requires limit { limit + table.old.size < 2 ^ 30 }
+    requires table { IsTable stored.old.items table.old }
+    requires whole { HasAll stored.old.items table.old }
+    ensures least { IfOk result (λ at.
+        IsLeast table.old.size at stored.new.items (block table.old.size cells.now number)) }
+    ensures size { OnOk result (table.new.size ≡ table.old.size) }
+    ensures table { OnOk result (IsTable stored.new.items table.new) }
+    ensures whole { OnOk result (HasAll stored.new.items table.new) }
+    ensures kept { OnOk result (take (length stored.old.items) stored.new.items ≡ stored.old.items) }
+    ensures grown { OnOk result (length stored.old.items < length stored.new.items
+        → (length stored.new.items ≤ length stored.old.items + table.old.size)
+        × ((q : ℕ) → window table.old.size q stored.old.items ≢ block table.old.size cells.now number)) }
+    ensures capped { OnOk result (length stored.new.items
+        ≤ max (length stored.old.items) (limit + table.old.size)) }
+    ensures drawn { OnOk result ((p : ℕ → Bool) → AllPass p (block table.old.size cells.now number)
+        → AllPass p stored.old.items → AllPass p stored.new.items) }
+    ensures too_large { result ≡ Err TooLarge → (limit < length stored.old.items)
+        × ((q : ℕ) → window table.old.size q stored.old.items ≢ block table.old.size cells.now number) }
+{
+    let size = table.size();
+    let wanted = block_at(cells, size, number);
+    if let Some(at) = last {
+        if wanted == block_at(cells, size, number - 1) {
+            return Ok(at);
+        }
+    }
+    place_block(alloc, stored, table, wanted, limit)
 }
 
 /// The offset in `stored` of each block of `size` cells of `cells`, from the block numbered `first` on,
-/// `count` of them. The different ones are put behind what `stored` holds, equal ones once.
+/// `count` of them: the first place where it stands. Those that stand nowhere are put behind what `stored`
+/// holds, each over the longest tail that equals its front.
 ///
 /// # Errors
 ///
-/// `TooLarge` at the first block that would stand above `limit`.
+/// `TooLarge` at the first block that would start above `limit`.
 pub(crate) fn place_blocks(
     alloc: Global,
     stored: &mut Vec<u32>,
@@ -71,24 +149,32 @@ pub(crate) fn place_blocks(
 ) -> Result<Vec<usize>, BuildError>
     requires nonzero { 0 < size }
     requires range { size * (first + count) ≤ length cells.now }
-    requires room { length cells.now < 2 ^ 63 }
+    requires cells { length cells.now < 2 ^ 31 }
+    requires room { length stored.old.items < 2 ^ 30 }
+    requires limit { limit + size < 2 ^ 30 }
     ensures count { IfOk result (λ offsets. length offsets.items ≡ count) }
-    ensures placed { IfOk result (λ offsets.
-        IsPlaced size first cells.now stored.old.items stored.new.items offsets.items) }
+    ensures placed { IfOk result (λ offsets. IsPlaced size first (block size cells.now)
+        stored.old.items stored.new.items offsets.items) }
     ensures capped { OnOk result
         (length stored.new.items ≤ max (length stored.old.items) (limit + size)) }
     ensures short { OnOk result (length stored.new.items
         ≤ length stored.old.items + size * different (block size cells.now) first count) }
+
+    // Blocks that stand in the cells already add none.
+    ensures shorter { OnOk result ((p : List ℕ → Bool) → AllStandIn size stored.old.items p
+        → length stored.new.items
+        ≤ length stored.old.items + size * different_but p (block size cells.now) first count) }
     ensures too_large { result ≡ Err TooLarge → limit + size
         < length stored.old.items + size * different (block size cells.now) first count }
 {
-    let start = stored.len();
-    let mut chains = Chains::new(alloc)?;
+    let mut table = WindowTable::new(alloc, size)?;
+    table.enter_all(stored)?;
     let mut offsets = Vec::new(alloc);
+    let mut last = None;
     for j in 0..count {
-        let at = size * (first + j);
-        let number = place_block(stored, start, &cells[at..at + size], limit, &mut chains)?;
-        offsets.push(start + size * number)?;
+        let offset = place_next(alloc, stored, &mut table, cells, first + j, last, limit)?;
+        offsets.push(offset)?;
+        last = Some(offset);
     }
     Ok(offsets)
 }

@@ -143,12 +143,12 @@ pub fn build_from_writes<T: TrieValue>(
     trie_type: TrieType,
     writes: &[Write<T>],
 ) -> Result<CodePointTrie<'static, T>, BuildError>
-    ensures answers { IfOk result (AnswersMap (value_after T.eq default writes.now default) error) }
-    ensures ranges { IfOk result (HasRangesOf (value_after T.eq default writes.now default)) }
+    ensures answers { IfOk result (AnswersMap (value_after writes.now default) error) }
+    ensures ranges { IfOk result (HasRangesOf (value_after writes.now default)) }
     ensures trie_type { IfOk result (λ t. t.header.trie_type ≡ trie_type) }
-    ensures built { IfOk result (IsWellBuilt T.of_number (λ c. T.number (value_after T.eq default writes.now default c))) }
-    ensures too_large { result ≡ Err TooLarge → IsTooLarge (λ c. T.number (value_after T.eq default writes.now default c)) }
-    ensures few { count_by (is_accepted T.eq default) writes.now ≤ 256 → result ≢ Err TooLarge }
+    ensures built { IfOk result (IsWellBuilt T.of_number (λ c. T.number (value_after writes.now default c))) }
+    ensures too_large { result ≡ Err TooLarge → IsTooLarge (λ c. T.number (value_after writes.now default c)) }
+    ensures few { count_by (is_accepted) writes.now ≤ 256 → result ≢ Err TooLarge }
 {
     let mut builder = CodePointTrieBuilder::new(alloc, default, error, trie_type);
     if builder.apply(writes).is_err() {

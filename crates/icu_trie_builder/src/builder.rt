@@ -95,23 +95,22 @@ impl<T: TrieValue> CodePointTrieBuilder<T> {
         }
     }
 
-    /// Gives the code point `c` this value. The default as a value, and a number above 0x10FFFF, write
-    /// nothing.
+    /// Gives the code point `c` this value. A number above 0x10FFFF writes nothing.
     ///
     /// # Errors
     /// `MemoryError` where memory for the cells was refused, which only a write can meet that is accepted.
     /// The map stays as it was.
     pub fn set_value(&mut self, c: u32, value: T) -> Result<(), MemoryError>
-        ensures ok { OnOk result (IsAfter T.eq (Write.One c value ∷ []) self.old self.new) }
-        ensures ignored { is_accepted T.eq self.old.default (Write.One c value) ≡ false → self.new ≡ self.old }
+        ensures ok { OnOk result (IsAfter (Write.One c value ∷ []) self.old self.new) }
+        ensures ignored { is_accepted (Write.One c value) ≡ false → self.new ≡ self.old }
         ensures err { OnErr result (self.new ≡ self.old) }
-        ensures accepted { OnErr result (is_accepted T.eq self.old.default (Write.One c value) ≡ true) }
+        ensures accepted { OnErr result (is_accepted (Write.One c value) ≡ true) }
     {
         self.set_range_value(c..=c, value)
     }
 
-    /// Gives each code point of the range this value. The default as a value writes nothing, nor does a
-    /// reversed range or one wholly above 0x10FFFF; a range that passes 0x10FFFF is cut there.
+    /// Gives each code point of the range this value. A reversed range writes nothing, nor does one wholly above
+    /// 0x10FFFF; a range that passes 0x10FFFF is cut there.
     ///
     /// # Errors
     /// `MemoryError` where memory for the cells was refused, which only a write can meet that is accepted.
@@ -121,14 +120,14 @@ impl<T: TrieValue> CodePointTrieBuilder<T> {
         range: RangeInclusive<u32>,
         value: T,
     ) -> Result<(), MemoryError>
-        ensures ok { OnOk result (IsAfter T.eq (Write.Range range value ∷ []) self.old self.new) }
-        ensures ignored { is_accepted T.eq self.old.default (Write.Range range value) ≡ false → self.new ≡ self.old }
+        ensures ok { OnOk result (IsAfter (Write.Range range value ∷ []) self.old self.new) }
+        ensures ignored { is_accepted (Write.Range range value) ≡ false → self.new ≡ self.old }
         ensures err { OnErr result (self.new ≡ self.old) }
-        ensures accepted { OnErr result (is_accepted T.eq self.old.default (Write.Range range value) ≡ true) }
+        ensures accepted { OnErr result (is_accepted (Write.Range range value) ≡ true) }
     {
         let start = *range.start() as usize;
         let end = (*range.end() as usize).min(CODE_POINTS - 1);
-        if value == self.default || start > end {
+        if start > end {
             return Ok(());
         }
         value.shown();
@@ -143,10 +142,10 @@ impl<T: TrieValue> CodePointTrieBuilder<T> {
     /// `ApplyRefused` with the place of the first write that memory was refused for. The writes before it are
     /// made then, and no other.
     pub fn apply(&mut self, writes: &[Write<T>]) -> Result<(), ApplyRefused>
-        ensures ok { OnOk result (IsAfter T.eq writes.now self.old self.new) }
-        ensures err { IfErr result (λ e. IsAfter T.eq (take e.0 writes.now) self.old self.new) }
+        ensures ok { OnOk result (IsAfter writes.now self.old self.new) }
+        ensures err { IfErr result (λ e. IsAfter (take e.0 writes.now) self.old self.new) }
         ensures place { IfErr result (λ e. e.0 < length writes.now) }
-        ensures accepted { IfErr result (λ e. (w : _) → slice_get writes.now e.0 ≡ Some w → is_accepted T.eq self.old.default w ≡ true) }
+        ensures accepted { IfErr result (λ e. (w : _) → slice_get writes.now e.0 ≡ Some w → is_accepted w ≡ true) }
     {
         for (i, write) in writes.iter().enumerate() {
             if self.write(write).is_err() {
@@ -158,9 +157,9 @@ impl<T: TrieValue> CodePointTrieBuilder<T> {
 
     /// Makes one write.
     fn write(&mut self, write: &Write<T>) -> Result<(), MemoryError>
-        ensures ok { OnOk result (IsAfter T.eq (write.now ∷ []) self.old self.new) }
+        ensures ok { OnOk result (IsAfter (write.now ∷ []) self.old self.new) }
         ensures err { OnErr result (self.new ≡ self.old) }
-        ensures accepted { OnErr result (is_accepted T.eq self.old.default write.now ≡ true) }
+        ensures accepted { OnErr result (is_accepted write.now ≡ true) }
     {
         match write {
             Write::One(c, value) => self.set_value(*c, *value),

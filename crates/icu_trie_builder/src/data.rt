@@ -1,22 +1,24 @@
-//! The data: the different blocks of 64 and of 16, the high value and the error value.
-ghost use Rattle.std.specs.Prelude.{◌≡◌, ℕ, ◌+◌, ◌-◌, ◌*◌, ◌/◌, ◌%◌, ◌<◌, ◌≤◌, Bool, true, length, slice_index, Some, IfOk};
+//! The data: the first 128 cells, the different blocks of 64 and of 16, the high value and the error value.
+ghost use Rattle.std.specs.Prelude.{◌≡◌, ℕ, ◌+◌, ◌-◌, ◌*◌, ◌/◌, ◌%◌, ◌^◌, ◌<◌, ◌≤◌, ◌∷◌, Bool, true, length, slice_index, take, Some, IfOk, OnOk, MatchOption};
 ghost use Rattle.std.specs.List.{AllPass};
-ghost use Rattle.icu_trie_core.specs.Format.{fast_limit};
+ghost use Rattle.icu_trie_core.specs.Format.{fast_limit, high_value};
 ghost use Rattle.icu_trie.specs.Parts.{last_cell};
-ghost use Rattle.icu_trie_builder.specs.Data.{different_cells, IsData, IsHighFrom};
+ghost use Rattle.icu_trie_builder.specs.Bounds.{compact_data_bound, IsTooLarge};
+ghost use Rattle.icu_trie_builder.specs.Data.{IsData, IsHighFrom};
 ghost use Rattle.icu_trie_builder.specs.declared.error.BuildError.TheVariants.{TooLarge};
 
 use crate::blocks::place_blocks;
 use crate::error::BuildError;
 use crate::index::fast_limit_of;
+use crate::null_block::{NullBlock, place_null};
 use icu_trie::header::TrieType;
-use std::alloc::Global;
+use std::alloc::{AllocError, Global};
 
 /// The greatest offset of a block, of 18 bits.
 const MAX_DATA_OFFSET: usize = 0x3ffff;
 
 /// The data offset that says that there is no null block, and that no block can have.
-pub(crate) const NO_DATA_NULL_OFFSET: u32 = 0xfffff;
+const NO_DATA_NULL_OFFSET: usize = 0xfffff;
 
 /// The cells of the data, and where the blocks start in them.
 #[derive(Drop)]
@@ -27,10 +29,82 @@ pub(crate) struct PlacedData {
     pub(crate) fast: Vec<usize>,
     /// The offset of each block of 16 from the fast limit on to before the high start.
     pub(crate) small: Vec<usize>,
+    /// The null block.
+    pub(crate) null: NullBlock,
+}
+
+/// The first 128 cells.
+fn first_cells(alloc: Global, cells: &[u32]) -> Result<Vec<u32>, AllocError>
+    requires { 128 ≤ length cells.now }
+    ensures { IfOk result (λ v. v.items ≡ take 128 cells.now) }
+{
+    let mut first = Vec::new(alloc);
+    first.extend_from_slice(&cells[..128])?;
+    Ok(first)
+}
+
+/// The offsets of all blocks of 64, where `rest` has those of the third and the following.
+fn with_first_offsets(alloc: Global, rest: &[usize]) -> Result<Vec<usize>, AllocError>
+    ensures { IfOk result (λ v. v.items ≡ 0 ∷ 64 ∷ rest.now) }
+{
+    let mut fast = Vec::new(alloc);
+    fast.push(0)?;
+    fast.push(64)?;
+    fast.extend_from_slice(rest)?;
+    Ok(fast)
+}
+
+/// Puts the high value behind the data, where it is not their last cell already.
+fn push_high(values: &mut Vec<u32>, high: u32) -> Result<(), AllocError>
+    requires { 0 < length values.old.items }
+    ensures kept { OnOk result (take (length values.old.items) values.new.items ≡ values.old.items) }
+    ensures short { OnOk result (length values.new.items ≤ length values.old.items + 1) }
+    ensures last { OnOk result (slice_index values.new.items (length values.new.items - 1) ≡ high) }
+    ensures drawn { OnOk result ((p : ℕ → Bool) → AllPass p values.old.items → p high ≡ true
+        → AllPass p values.new.items) }
+{
+    if values[values.len() - 1] == high {
+        return Ok(());
+    }
+    values.push(high)?;
+    Ok(())
+}
+
+/// Puts the high value and the error value behind the data, where they do not end so already.
+fn push_end(values: &mut Vec<u32>, high: u32, error: u32) -> Result<(), AllocError>
+    requires { 2 ≤ length values.old.items }
+    ensures kept { OnOk result (take (length values.old.items) values.new.items ≡ values.old.items) }
+    ensures short { OnOk result (length values.new.items ≤ length values.old.items + 2) }
+    ensures high { OnOk result (high_value values.new.items ≡ Some high) }
+    ensures error { OnOk result (last_cell values.new.items ≡ Some error) }
+    ensures drawn { OnOk result ((p : ℕ → Bool) → AllPass p values.old.items → p high ≡ true
+        → p error ≡ true → AllPass p values.new.items) }
+{
+    let len = values.len();
+    if values[len - 2] == high && values[len - 1] == error {
+        return Ok(());
+    }
+    push_high(values, high)?;
+    values.push(error)?;
+    Ok(())
+}
+
+/// The null block, and an offset that no block has where there is none.
+fn null_or(null: Option<NullBlock>, default: u32) -> NullBlock
+    ensures { MatchOption null
+        ((result.offset ≡ 0xfffff) × (result.value ≡ default)) (λ n. result ≡ n) }
+{
+    match null {
+        Some(null) => null,
+        None => NullBlock {
+            offset: NO_DATA_NULL_OFFSET,
+            value: default,
+        },
+    }
 }
 
 /// The data of a map that is given by the number of each code point, which is the last one's from
-/// `high_start` on.
+/// `high_start` on. Where no block holds one number, the null block's is `default`.
 ///
 /// # Errors
 ///
@@ -39,6 +113,7 @@ pub(crate) fn place_data(
     alloc: Global,
     numbers: &[u32],
     error: u32,
+    default: u32,
     trie_type: TrieType,
     high_start: usize,
 ) -> Result<PlacedData, BuildError>
@@ -47,31 +122,32 @@ pub(crate) fn place_data(
     requires within { high_start ≤ 0x110000 }
     requires high { IsHighFrom numbers.now high_start }
     ensures placed { IfOk result (λ d.
-        IsData trie_type high_start (slice_index numbers.now)
+        IsData trie_type high_start d.null.offset d.null.value (slice_index numbers.now)
         d.fast.items d.small.items d.values.items) }
+    ensures null_fit { IfOk result (λ d. d.null.offset ≤ 0xfffff) }
+    ensures null_drawn { IfOk result (λ d. (p : ℕ → Bool) → AllPass p numbers.now → p default ≡ true
+        → p d.null.value ≡ true) }
     ensures error_value { IfOk result (λ d. last_cell d.values.items ≡ Some error) }
     ensures short { IfOk result (λ d.
-        length d.values.items ≤ different_cells trie_type high_start numbers.now + 2) }
+        length d.values.items ≤ compact_data_bound trie_type (slice_index numbers.now)) }
     ensures drawn { IfOk result (λ d. (p : ℕ → Bool) → AllPass p numbers.now → p error ≡ true
         → AllPass p d.values.items) }
-
-    // Behind all others, a different block of 16 would have an offset of more than 18 bits.
-    ensures too_large { result ≡ Err TooLarge
-        → 0x40000 + 16 ≤ different_cells trie_type high_start numbers.now }
+    ensures too_large { result ≡ Err TooLarge → IsTooLarge (slice_index numbers.now) }
 {
     let limit = fast_limit_of(trie_type);
     let small_len = high_start.saturating_sub(limit) / 16;
-    let mut values = Vec::new(alloc);
-    let fast = place_blocks(
+    let mut values = first_cells(alloc, numbers)?;
+    let rest = place_blocks(
         alloc,
         &mut values,
         numbers,
         64,
-        0,
-        limit / 64,
+        2,
+        limit / 64 - 2,
         MAX_DATA_OFFSET,
     )?;
-    let small = place_blocks(
+    let fast = with_first_offsets(alloc, &rest)?;
+    let mut small = place_blocks(
         alloc,
         &mut values,
         numbers,
@@ -80,11 +156,12 @@ pub(crate) fn place_data(
         small_len,
         MAX_DATA_OFFSET,
     )?;
-    values.push(numbers[0x10ffff])?;
-    values.push(error)?;
+    let null = place_null(alloc, &mut values, &fast, &mut small, MAX_DATA_OFFSET)?;
+    push_end(&mut values, numbers[0x10ffff], error)?;
     Ok(PlacedData {
         values,
         fast,
         small,
+        null: null_or(null, default),
     })
 }

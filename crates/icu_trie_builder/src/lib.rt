@@ -12,20 +12,24 @@
 //! - `high_start`: where the high value begins
 //! - `data`: the cells of the data, and the offsets of its blocks
 //! - `index`: the index that gives each block its offset; `packing` has the 18-bit form of an index-3 block
-//! - `blocks`: blocks put behind one another, equal ones once, which data and index-3 share; `chains` finds
-//!   an equal block by its hash
+//! - `null_block`: the block of one number that a walk knows by its offset; `uses` wishes for a frequent one
+//! - `blocks`: blocks found among the cells so far or put behind them, which data and index-3 share;
+//!   `window_table` finds a block by its hash, which `hashing` computes
 #![tactic(auto)]
 
 mod blocks;
 mod build;
 pub mod builder;
-mod chains;
 mod data;
 pub mod error;
+mod hashing;
 mod high_start;
 mod index;
+mod null_block;
 mod numbers;
 mod packing;
+mod uses;
+mod window_table;
 pub mod writes;
 
 pub use build::build_from_writes;

@@ -5,7 +5,7 @@ ghost use Rattle.icu_trie_builder.specs.Bounds.{IsTooLarge};
 ghost use Rattle.icu_trie_builder.specs.Built.{IsBuilt};
 ghost use Rattle.icu_trie_builder.specs.declared.error.BuildError.TheVariants.{TooLarge};
 
-use crate::data::{NO_DATA_NULL_OFFSET, PlacedData, place_data};
+use crate::data::{PlacedData, place_data};
 use crate::error::BuildError;
 use crate::high_start::find_high_start;
 use crate::index::{NO_INDEX3_NULL_OFFSET, build_index};
@@ -24,7 +24,7 @@ pub(crate) struct NumberTrie {
 }
 
 /// The trie of a map that is given by the number of each code point, with `error` for what is above the
-/// code space. No block is made the null block, so `null_value` is kept in the header and not read.
+/// code space. The header's null value is that of the null block, and `default` where there is none.
 ///
 /// # Errors
 ///
@@ -33,14 +33,15 @@ pub(crate) fn build_numbers(
     alloc: Global,
     numbers: &[u32],
     error: u32,
-    null_value: u32,
+    default: u32,
     trie_type: TrieType,
 ) -> Result<NumberTrie, BuildError>
     requires { length numbers.now ≡ 0x110000 }
     ensures built { IfOk result (λ t.
         IsBuilt (λ c. slice_index numbers.now c) error t.header t.index.items t.values.items) }
     ensures trie_type { IfOk result (λ t. t.header.trie_type ≡ trie_type) }
-    ensures null_value { IfOk result (λ t. t.header.null_value ≡ null_value) }
+    ensures null_value { IfOk result (λ t. (p : ℕ → Bool) → AllPass p numbers.now → p default ≡ true
+        → p t.header.null_value ≡ true) }
 
     // Each cell is a number of the map or the error value.
     ensures drawn { IfOk result (λ t. (p : ℕ → Bool) → AllPass p numbers.now → p error ≡ true
@@ -52,14 +53,15 @@ pub(crate) fn build_numbers(
         values,
         fast,
         small,
-    } = place_data(alloc, numbers, error, trie_type, high_start)?;
+        null,
+    } = place_data(alloc, numbers, error, default, trie_type, high_start)?;
     let index = build_index(alloc, trie_type, high_start, &fast, &small)?;
     let header = CodePointTrieHeader {
         high_start: high_start as u32,
         shifted12_high_start: high_start.div_ceil(0x1000) as u16,
         index3_null_offset: NO_INDEX3_NULL_OFFSET,
-        data_null_offset: NO_DATA_NULL_OFFSET,
-        null_value,
+        data_null_offset: null.offset as u32,
+        null_value: null.value,
         trie_type,
     };
     Ok(NumberTrie {

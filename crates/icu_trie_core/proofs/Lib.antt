@@ -1,3 +1,4 @@
+pub mod CallerLemmas
 pub mod Offsets
 pub mod AnswerLemmas
 pub mod FrontLemmas
@@ -7,3 +8,4 @@ pub mod SeenLemmas
 pub mod SharedLemmas
 pub mod RangeLemmas
 pub mod RunLemmas
+pub mod CoherentLemmas

@@ -1,5 +1,7 @@
 -- The maximal runs of a map: there is one list of them, and maps that are equal on the code points have the same.
 use Rattle.std.proofs.Common.{◌≡◌, ℕ, ◌+◌, ◌<◌, List, [], ◌∷◌, map, Option, Some, refl, arith, ◌∙◌, sym, ap, ◌↔◌}
+use Rattle.icu_trie_core.specs.Range.{run_of, value_run}
+use Rattle.icu_trie_core.specs.declared.range.CodePointMapRange.{CodePointMapRange}
 use Rattle.icu_trie_core.specs.Runs.{Run, LongestRun, AreRunsFrom, AreMaximalRuns, some_run}
 
 module _ {A : Type 0} (f : ℕ → A) where
@@ -88,3 +90,8 @@ pub AreMaximalRuns-some : {A : Type 0} (f : ℕ → Option A) (g : ℕ → A) �
 AreMaximalRuns-some f g same rs =
     let along = AreMaximalRuns-same f (λ u. Some (g u)) same (map some_run rs) in
     (λ h. AreRunsFrom-from_some g 0 rs (along.0 h), λ h. along.1 (AreRunsFrom-to_some g 0 rs h))
+
+-- ranges as runs of the answers, by their values
+pub value_runs-some : {A : Type 0} (xs : List (CodePointMapRange A)) → map run_of xs ≡ map some_run (map value_run xs)
+value_runs-some [] = refl
+value_runs-some (x ∷ xs) = ap (λ rs. run_of x ∷ rs) (value_runs-some xs)

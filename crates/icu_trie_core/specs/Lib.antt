@@ -1,6 +1,7 @@
 pub mod Format
 pub mod FastIndex
 pub mod Coherence
+pub mod CoherentBlocks
 pub mod Blocks
 pub mod Numbers
 pub mod SignedNumbers

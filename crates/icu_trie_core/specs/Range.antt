@@ -19,6 +19,10 @@ module _ {A : Type 0} where
   abbrev pub run_of : CodePointMapRange A → Run (Option A)
   run_of r = record { first = first_of r; last = last_of r; value = Some r.value }
 
+  -- a range as a run of its value
+  abbrev pub value_run : CodePointMapRange A → Run A
+  value_run r = record { first = first_of r; last = last_of r; value = r.value }
+
 -- what a walk gives from c on, over any trie. A range has the answer at c. It goes on while the walk sees that
 -- value, and is c alone where the walk sees another value there already; from the high start on it goes to the
 -- last code point. There is none above the code points, where c has no answer, and where the walk comes to a

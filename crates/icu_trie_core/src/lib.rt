@@ -3,9 +3,10 @@
 //! - `header`: the trie's type and what it says of itself
 //! - `value`: what a trie can hold, [`TrieValue`](value::TrieValue)
 //! - `cells`: index and data cell by cell, with the count of reads
-//! - `lookup`: [`look_up`](lookup::look_up), the format as code, and [`look_up_whole`](lookup::look_up_whole), which
-//!   tests no place on the fast path
+//! - `lookup`: [`look_up`](lookup::look_up), the format as code, and
+//!   [`look_up_whole`](lookup::look_up_whole), which tests no place on the fast path
 //! - `walk`: [`walk`](walk::walk), the range of one value from a code point on, by blocks
+//! - `coherent`: [`is_coherent`](coherent::is_coherent), whether what the header says is so
 //! - `range`: [`CodePointMapRange`](range::CodePointMapRange), what a walk gives
 //! - `error`, `impl_const`: why parts are refused; the format's numbers
 //!
@@ -13,6 +14,7 @@
 #![tactic(auto)]
 
 pub mod cells;
+pub mod coherent;
 pub mod error;
 pub mod header;
 pub mod impl_const;

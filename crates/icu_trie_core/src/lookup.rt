@@ -7,7 +7,7 @@ ghost use Rattle.icu_trie_core.specs.FastIndex.{fast_index_len, passes_data};
 use crate::cells::Cells;
 use crate::header::{CodePointTrieHeader, TrieType};
 
-/// The fast limit: the first code point that the fast index doesn't cover.
+/// The fast limit: the first code point that the fast index doesn't cover. Public for the crates above.
 #[inline(always)]
 pub fn fast_limit_of(trie_type: TrieType) -> u32
     ensures limit { result ≡ fast_limit trie_type }
@@ -67,7 +67,7 @@ pub(crate) fn offset_of<T, C: Cells<T>>(cells: &mut C, index2_cell: u16, place: 
 }
 
 /// The place in the data of a code point from the fast limit on and below the high start, by the three stages
-/// of the index.
+/// of the index. Public for the crates above.
 ///
 /// It is no part of the fast path, and stays a call, told apart as the rarer one, so that the fast path is short
 /// and keeps all that it needs in registers.

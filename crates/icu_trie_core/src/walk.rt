@@ -17,10 +17,10 @@ use crate::lookup::{fast_limit_of, index2_cell_of, look_up, offset_of};
 use crate::range::CodePointMapRange;
 use crate::value::TrieValue;
 
-/// One more than the last code point.
+/// One more than the last code point. Public for the crates above.
 pub const CODE_POINTS: u32 = 0x110000;
 
-/// Whether two values are one.
+/// Whether two values are one. Public for the crates above.
 pub fn is_same<T: TrieValue>(x: T, y: T) -> bool
     ensures { MatchBool result (x ≡ y) (x ≢ y) }
 {
@@ -305,7 +305,8 @@ fn extend_to_end<T: TrieValue, C: Cells<T>>(
 ///
 /// Over a coherent trie it is the longest run of equal answers from `c` on. Over any other trie a walk believes
 /// the header: it sees the null value in the blocks that the header names as null, and the high value from the
-/// high start on. `None` above 0x10FFFF, and where a cell is missing that the walk comes to.
+/// high start on. `None` above 0x10FFFF, and where the walk comes to a cell that is missing, or to a block that is
+/// named as null while the null value's number is no value.
 pub fn walk<T: TrieValue, C: Cells<T>>(
     header: &CodePointTrieHeader,
     cells: &mut C,

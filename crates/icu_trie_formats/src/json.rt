@@ -16,8 +16,8 @@ use thiserror::Error;
 /// Why a JSON value is no trie.
 #[derive(Clone, Copy, Debug, PartialEq, Error)]
 pub enum TrieJsonError {
-    /// Nothing stands at this key, or what stands there is of another kind. The key is empty where the value
-    /// itself is no object.
+    /// Nothing stands at this key, or something else where an object, an array or the name of a trie type was to
+    /// stand. The key is empty where the value itself is no object.
     #[error("no value of the right kind at the key `{0}`")]
     Shape(&'static str),
     /// What stands at this key, or an item of the array there, is no whole number in its range.
@@ -274,9 +274,9 @@ fn object_of(alloc: Global, header: Value, index: Value, data: Value) -> Result<
 /// The first fault in this order: `Shape("")` where the value is no object; those of the header, whose keys
 /// are tested as `high_start`, `shifted12_high_start`, `index3_null_offset`, `data_null_offset`,
 /// `null_value`, `trie_type`; those of the index, and of the data, cell by cell. `Shape` with the key where
-/// nothing stands there or what stands there is of another kind; `Number` with the key where a number, or an
-/// item of the array there, is no whole number in its range; `Value` with the cell of the data that is the
-/// number of no value. Then `Trie` where `CodePointTrie::try_new` refuses the parts. `Memory` where no memory
+/// nothing stands there, or something else where an object, an array or the name of a trie type was to stand;
+/// `Number` with the key where a number, or an item of the array there, is no whole number in its range; `Value`
+/// with the cell of the data that is the number of no value. Then `Trie` where `CodePointTrie::try_new` refuses the parts. `Memory` where no memory
 /// was found.
 pub fn from_json<T: TrieValue>(
     alloc: Global,

@@ -1,3 +1,4 @@
+pub mod CallerLemmas
 pub mod CellsLemmas
 mod Searches
 mod SameLemmas

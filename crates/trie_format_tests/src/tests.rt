@@ -2,4 +2,5 @@
 mod json;
 mod planes;
 mod support;
+mod toml_keys;
 mod trie_toml;

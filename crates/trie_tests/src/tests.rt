@@ -4,6 +4,7 @@
 //! An assert stands in a small helper without a contract, and a value that owns memory is handed to it: a proof of a test
 //! that asserts and holds such values at the same time is long.
 
+mod coherence;
 mod constants;
 mod packed_vectors;
 mod reader;

@@ -181,7 +181,7 @@ IsTextOfMap value answer (n ∷ asked) text = text ≡ answers_text answer (n �
 -- space the error value
 abbrev pub IsTableText : List ℕ → ℕ → ℕ → List ℕ → List ℕ → Type 0
 IsTableText input default error asked text = (ws : List (Write ℕ)) × (AreRows input ws
-    × IsTextOfMap (value_after nat_eq default ws default) (answer_after nat_eq default error ws) asked text)
+    × IsTextOfMap (value_after ws default) (answer_after default error ws) asked text)
 
 -- what is printed of a row's fault, and of each fault, without the LF
 abbrev pub row_fault_text : RowFault → List ℕ
@@ -201,7 +201,7 @@ fault_text WriteFault = codes "write fault"
 -- blocks for a trie
 abbrev pub IsTooLargeInput : ℕ → List ℕ → Type 0
 IsTooLargeInput default input =
-    (ws : List (Write ℕ)) × (AreRows input ws × IsTooLarge (value_after nat_eq default ws default))
+    (ws : List (Write ℕ)) × (AreRows input ws × IsTooLarge (value_after ws default))
 
 -- a fault has its cause, where a reader's bytes were `before` and are `after`, as far as they are known: a
 -- row's fault is the first one of the whole input, which is read to its end, as it is before a map is found

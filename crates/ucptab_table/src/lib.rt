@@ -43,10 +43,10 @@ fn answer_text(
     writes: &[Write<u32>],
     asked: &[u32],
 ) -> Result<String, TableError>
-    ensures text { IfOk result (λ text. IsTextOfMap (value_after nat_eq default writes.now default)
-        (answer_after nat_eq default error writes.now) asked.now (string_bytes text)) }
+    ensures text { IfOk result (λ text. IsTextOfMap (value_after writes.now default)
+        (answer_after default error writes.now) asked.now (string_bytes text)) }
     ensures too_large { IfErr result
-        (λ e. e ≡ TooLarge → IsTooLarge (value_after nat_eq default writes.now default)) }
+        (λ e. e ≡ TooLarge → IsTooLarge (value_after writes.now default)) }
     ensures no_other { IfErr result (λ e. (e ≡ TooLarge) ⊎ (e ≡ Memory)) }
 {
     let trie = build_from_writes(alloc, default, error, trie_type, writes)?;

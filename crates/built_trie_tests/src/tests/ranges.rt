@@ -11,10 +11,23 @@ use std::test::Fail;
 fn ranges_of_letters(rt: HostRuntime) {
     for trie_type in BOTH {
         let writes = [Write::Range(0x41..=0x5A, 1), Write::One(0x41, 0)];
-        let expected = [(0, 0x40, 0), (0x41, 0x5A, 1), (0x5B, 0x10FFFF, 0)];
+        let expected = [(0, 0x41, 0), (0x42, 0x5A, 1), (0x5B, 0x10FFFF, 0)];
         expect_ranges(&rt, built(&rt, trie_type, (0, 9), &writes), &expected);
         let trie = built(&rt, trie_type, (0u8, 9), &writes);
         expect_numbers(&rt, trie, &[(0x110000, 9)]);
+    }
+}
+
+/// The whole code space is written, and then most of it taken back.
+#[test]
+fn ranges_taken_back(rt: HostRuntime) {
+    for trie_type in BOTH {
+        let writes = [
+            Write::Range(0..=0x10FFFF, 1),
+            Write::Range(0x80..=0x10FFFF, 0),
+        ];
+        let expected = [(0, 0x7F, 1), (0x80, 0x10FFFF, 0)];
+        expect_ranges(&rt, built(&rt, trie_type, (0, 9), &writes), &expected);
     }
 }
 
@@ -22,6 +35,15 @@ fn ranges_of_letters(rt: HostRuntime) {
 fn range_of_the_default(rt: HostRuntime) {
     for trie_type in BOTH {
         let trie = built(&rt, trie_type, (7, 9), &[]);
+        expect_ranges(&rt, trie, &[(0, 0x10FFFF, 7)]);
+    }
+}
+
+#[test]
+fn range_of_default_writes(rt: HostRuntime) {
+    for trie_type in BOTH {
+        let writes = [Write::Range(0x41..=0x5A, 7), Write::One(0x10FFFF, 7)];
+        let trie = built(&rt, trie_type, (7, 9), &writes);
         expect_ranges(&rt, trie, &[(0, 0x10FFFF, 7)]);
     }
 }

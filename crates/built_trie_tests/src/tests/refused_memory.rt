@@ -72,7 +72,7 @@ fn set_range_value_refused(rt: HostRuntime) {
 fn apply_refused(rt: HostRuntime) {
     let mut builder = builder_of_nothing(rt.alloc());
     let writes = [
-        Write::One(0x40, 0),
+        Write::One(0x110000, 3),
         Write::One(0x41, 1),
         Write::One(0x42, 2),
     ];
@@ -81,7 +81,7 @@ fn apply_refused(rt: HostRuntime) {
     say(&rt, "done");
     say_if_refused(&rt, answer == Err(ApplyRefused(1)));
     let (first, second) = if answer.is_ok() { (1, 2) } else { (0, 0) };
-    expect_held(&rt, builder, &[(0x40, 0), (0x41, first), (0x42, second)]);
+    expect_held(&rt, builder, &[(0x41, first), (0x42, second), (0x43, 0)]);
 }
 
 /// A builder that has its cells, with 1 at 0x41 and 2 at 0x10000, so that index-1, index-2 and index-3 are
@@ -177,7 +177,7 @@ fn get_set_for_value_refused(rt: HostRuntime) {
 fn ignored_write_quiet(rt: HostRuntime) {
     say(&rt, "call");
     let mut builder = CodePointTrieBuilder::new(rt.alloc(), 0u8, 9, TrieType::Small);
-    let ignored = builder.set_value(0x41, 0);
+    let ignored = builder.set_value(0x110000, 1);
     say(&rt, "done");
     expect(&rt, ignored == Ok(()), "ignored");
 }

@@ -70,10 +70,11 @@ fn too_large(rt: HostRuntime) -> Result<(), Fail> {
 fn expect_least(rt: &impl Abort, trie: CodePointTrie<'_, u32>) {
     let (_, index, data) = trie.parts();
     let found = (index.len(), data.len());
-    assert_eq!(rt; found, (64, 66));
+    assert_eq!(rt; found, (64, 129));
 }
 
-/// The smallest trie: one number for all, by a write or as the default.
+/// The smallest trie, whose data are the first 128 cells and the error value: one number for all, by a write or
+/// as the default.
 #[test]
 fn one_number_for_all(rt: HostRuntime) {
     let writes = [Write::Range(0..=0x10FFFF, 7)];

@@ -13,8 +13,8 @@ use std::marker::Model;
 /// A set of code points that changes, and becomes a [`CodePointInversionList`] by
 /// [`build`](CodePointInversionListBuilder::build). A clause sees its ends.
 ///
-/// A range is changed by two searches and one splice of the ends, two sets are joined by one walk over both.
-/// Ranges that are added in ascending order cost one search each.
+/// A range is changed in place: its two borders are searched for, and the ends between them give way to it. Two
+/// sets are joined by one walk over both, into a new list.
 ///
 /// ```
 /// let mut builder = CodePointInversionListBuilder::new(alloc);
@@ -53,7 +53,8 @@ impl CodePointInversionListBuilder {
 
     /// Whether the set holds no code point.
     pub fn is_empty(&self) -> bool
-        ensures { IsTrue result ↔ (self.now ≡ []) }
+        ensures empty { IsTrue result ↔ (self.now ≡ []) }
+        ensures valid { IsValid self.now }
     {
         self.ends.is_empty()
     }
@@ -132,6 +133,7 @@ impl CodePointInversionListBuilder {
         ensures err { OnErr result (self.new ≡ self.old) }
         ensures valid { IsValid self.new × IsValid self.old }
     {
+        // A set is known to be valid where its ends are named.
         let _ = &self.ends;
         let (start, end) = range.deconstruct();
         if end > 0x11_0000 {

@@ -1,12 +1,12 @@
 //! The set of an inversion list.
-ghost use Rattle.std.specs.Prelude.{◌≡◌, ℕ, suc, ◌+◌, ◌^◌, ◌<◌, ◌≤◌, List, [], ◌∷◌, length, slice_index, slice_get, map, min, not, Some, None, if◌then◌else◌, IfOk, IfErr, IsTrue, true, false, ◌↔◌};
+ghost use Rattle.std.specs.Prelude.{◌≡◌, ℕ, suc, ◌+◌, ◌^◌, ◌<◌, ◌≤◌, List, [], ◌∷◌, length, slice_index, slice_get, map, min, not, Some, None, if◌then◌else◌, IfOk, IfErr, IfSome, IsTrue, true, false, ◌↔◌};
 ghost use Rattle.std.specs.List.{take_while, All, Contains};
 ghost use Rattle.std.specs.List.Sorted.{IsStrictlyIncreasing};
 ghost use Rattle.std.proofs.Math.Utf8.{scalar};
 ghost use Rattle.std.specs.Str.{chars, encode_utf8_all};
 ghost use mathlib.Core.Bool.{beq};
 ghost use mathlib.Core.List.{reverse};
-ghost use Rattle.icu_invlist.specs.InversionList.{IsOfCodePoints, IsValid, holds, limit, HoldsAll, IsSubset, ranges_of, members_below, characters, complement_of};
+ghost use Rattle.icu_invlist.specs.InversionList.{AreApart, IsOfCodePoints, IsValid, holds, in_ranges, limit, HoldsAll, IsSubset, ranges_of, members_below, characters, complement_of};
 ghost use Rattle.icu_invlist.specs.Places.{below};
 ghost use Rattle.icu_invlist.specs.Refusals.{IsRefusedList, IsRefusedSlice};
 
@@ -220,6 +220,7 @@ impl<'data> CodePointInversionList<'data> {
         ensures held { result ≡ holds self.now c }
         ensures far { limit ≤ c → result ≡ false }
     {
+        // A set is known to be valid where its ends are named.
         let _ = &self.ends;
         c < 0x11_0000 && self.place_of(c) % 2 == 1
     }
@@ -253,8 +254,11 @@ impl<'data> CodePointInversionList<'data> {
 
     /// Whether the set holds all that the other one holds. The empty set is part of each.
     pub fn contains_set(&self, other: &CodePointInversionList<'_>) -> bool
-        ensures { IsTrue result ↔ IsSubset other.now self.now }
+        ensures subset { IsTrue result ↔ IsSubset other.now self.now }
+        ensures valid { IsValid self.now × IsValid other.now }
     {
+        // A set is known to be valid where its ends are named.
+        let _ = &self.ends;
         let mut i = 0;
         let count = other.count();
         while i < count {
@@ -297,7 +301,8 @@ impl<'data> CodePointInversionList<'data> {
 
     /// How many code points the set holds, surrogates among them.
     pub fn size(&self) -> usize
-        ensures { result ≡ members_below self.now limit }
+        ensures size { result ≡ members_below self.now limit }
+        ensures valid { IsValid self.now }
     {
         let count = self.count();
         let mut size = 0;
@@ -311,7 +316,8 @@ impl<'data> CodePointInversionList<'data> {
 
     /// Whether the set holds no code point.
     pub fn is_empty(&self) -> bool
-        ensures { IsTrue result ↔ (self.now ≡ []) }
+        ensures empty { IsTrue result ↔ (self.now ≡ []) }
+        ensures valid { IsValid self.now }
     {
         self.ends.is_empty()
     }
@@ -330,7 +336,9 @@ impl<'data> CodePointInversionList<'data> {
     /// The range at place `index`, counted from 0, with its last code point included. `None` at or past the
     /// count.
     pub fn get_nth_range(&self, index: usize) -> Option<RangeInclusive<u32>>
-        ensures { result ≡ slice_get (ranges_of self.now) index }
+        ensures nth { result ≡ slice_get (ranges_of self.now) index }
+        ensures within { IfSome result IsOfCodePoints }
+        ensures valid { IsValid self.now }
     {
         if index >= self.count() / 2 {
             return None;
@@ -344,6 +352,8 @@ impl<'data> CodePointInversionList<'data> {
         ensures bound { length (ranges_of result) < 2 ^ 64 }
         ensures valid { IsValid self.now }
         ensures within { All IsOfCodePoints (ranges_of self.now) }
+        ensures apart { AreApart (ranges_of self.now) }
+        ensures held { (c : ℕ) → in_ranges (ranges_of self.now) c ≡ holds self.now c }
     {
         IterRanges::from_ends(self.ends.iter())
     }
@@ -354,6 +364,8 @@ impl<'data> CodePointInversionList<'data> {
         ensures complement { (c : ℕ) → c < limit → holds (complement_of self.now) c ≡ not (holds self.now c) }
         ensures valid { IsValid (complement_of self.now) }
         ensures within { All IsOfCodePoints (ranges_of (complement_of self.now)) }
+        ensures apart { AreApart (ranges_of (complement_of self.now)) }
+        ensures held { (c : ℕ) → c < limit → in_ranges (ranges_of (complement_of self.now)) c ≡ not (holds self.now c) }
     {
         let mut ends = self.ends.iter();
         if self.contains32(0) {
@@ -369,6 +381,7 @@ impl<'data> CodePointInversionList<'data> {
         ensures gives { result ≡ characters self.now }
         ensures held { (c : ℕ) → Contains (characters self.now) c ↔ (scalar c ≡ true) × (holds self.now c ≡ true) }
         ensures ascending { IsStrictlyIncreasing (characters self.now) }
+        ensures valid { IsValid self.now }
     {
         IterChars::from_ends(self.ends.iter())
     }

@@ -3,7 +3,7 @@ ghost use Rattle.std.specs.Prelude.{◌≡◌, ℕ, ◌+◌, ◌++◌, List, [],
 ghost use Rattle.serde_json.specs.View.{view, items_view};
 ghost use Rattle.serde_json.specs.Data.{Items, array};
 ghost use Rattle.icu_invlist.specs.InversionList.{IsValid};
-ghost use Rattle.icu_invlist.specs.SetJson.{SayEnds, IsSaid, IsRefusedJson, ends_of, ends_from, GivesEnds, written_of};
+ghost use Rattle.icu_invlist.specs.SetJson.{SayEnds, IsSaid, IsRefusedJson, SaysNone, ends_of, ends_from, GivesEnds, written_of};
 ghost use Rattle.icu_invlist.specs.declared.codepointinvlist.error.SetJsonError.TheVariants.{Memory};
 
 use crate::codepointinvlist::cpinvlist::CodePointInversionList;
@@ -93,6 +93,7 @@ impl<'data> CodePointInversionList<'data> {
         ensures only { (items : Items) (ends : List ℕ) → view value.now ≡ array items → SayEnds items ends → IsValid ends
             → MatchResult result (λ s. s ≡ ends) (λ e. e ≡ Memory) }
         ensures err { IfErr result (IsRefusedJson (view value.now)) }
+        ensures says_none { IfErr result (SaysNone (view value.now)) }
     {
         let ends = ends_of_value(alloc, value)?;
         if !is_valid_slice(&ends) {

@@ -141,7 +141,7 @@ fn expect_fault(rt: &impl Abort, fault: Option<TomlError>, want: TomlError, part
 
 #[test]
 fn tables_with_a_first_fault(rt: HostRuntime) -> Result<(), Fail> {
-    let rows: [(&[&str], TomlError); 9] = [
+    let rows: [(&[&str], TomlError); 13] = [
         (&[FIELDS, "type = 1\n"], TomlError::Missing("index")),
         (
             &["index = [65536]\ndata_8 = [256]"],
@@ -149,6 +149,16 @@ fn tables_with_a_first_fault(rt: HostRuntime) -> Result<(), Fail> {
         ),
         (&["index = 7"], TomlError::OutOfRange("index")),
         (&["index = [-1]"], TomlError::OutOfRange("index")),
+        (&["index = \"x\""], TomlError::OutOfRange("index")),
+        (&[INDEX, "data_8 = [256]"], TomlError::OutOfRange("data_8")),
+        (
+            &[INDEX, "highStart = -1"],
+            TomlError::OutOfRange("highStart"),
+        ),
+        (
+            &[INDEX, "highStart = 4294967296"],
+            TomlError::OutOfRange("highStart"),
+        ),
         (
             &[INDEX, "data_8 = [255, 256]"],
             TomlError::OutOfRange("data_8"),

@@ -49,7 +49,7 @@ fn faults_of_copies(
 }
 
 fn expect_signed(rt: &impl Abort, signed: CodePointTrie<'_, i8>) {
-    expect_same(rt, signed.get32(0x41), 1, "signed at 41");
+    expect_same(rt, signed.get32(0x42), 1, "signed at 42");
     expect_same(rt, signed.get32(0x110000), 9, "signed at 110000");
 }
 

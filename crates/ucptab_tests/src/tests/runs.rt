@@ -50,7 +50,12 @@ fn faults_end_a_run(rt: HostRuntime) -> Result<(), Fail> {
 
 #[test]
 fn ranges_are_printed(rt: HostRuntime) -> Result<(), Fail> {
-    let runs: [(&str, &[u8], &[u8]); 4] = [
+    let runs: [(&str, &[u8], &[u8]); 5] = [
+        (
+            "fast 0 9",
+            b"0041..005A;1\n0041;0\n",
+            b"0000..0041;0\n0042..005A;1\n005B..10FFFF;0\n",
+        ),
         (
             "fast 0 9",
             b"0041..005A;1",

@@ -2,7 +2,7 @@ use Rattle.std.proofs.Common.{◌≡◌, ◌+◌, ◌<◌, slice_get, Some, nat_
 use Rattle.std.proofs.lemmas.Bool.{lt-ltb, le-ltb}
 use Rattle.icu_zerovec.specs.Slice.{slice_values}
 use Rattle.icu_trie_core.specs.FastIndex.{fast_index_len}
-use Rattle.icu_trie_core.proofs.FrontLemmas.{found, none_more, none_past}
+use Rattle.icu_trie_core.proofs.CallerLemmas.{found, none_more, none_past}
 use Rattle.icu_trie.proofs.cptrie.fast_block_passes.Goals as goal
 use Rattle.icu_trie.proofs.cptrie.fast_block_passes.Goals.{in-Some+else-len-offset, in_default}
 

@@ -1,11 +1,16 @@
-use Rattle.std.proofs.Common.{◌+◌, ◌≤◌, length, max}
-use Rattle.icu_trie_builder.specs.Chained.{block_from, chained_count, IsChained}
-use Rattle.icu_trie_builder.proofs.Placing.{Placing}
+use Rattle.std.proofs.Common.{◌≡◌, ◌+◌, ◌-◌, ◌<◌, ◌≤◌, max, length}
+use Rattle.std.specs.Prelude.{IfSome}
+use Rattle.icu_trie_core.specs.Blocks.{block}
+use Rattle.icu_trie_builder.specs.Windows.{HasAll, IsLeast, IsTable}
+use Rattle.icu_trie_builder.proofs.Compacting.{Compacting}
 use Rattle.icu_trie_builder.proofs.blocks.place_blocks.Given as goal
 
 abbrev pub invariant-loop-j : goal.invariant-loop-j
 invariant-loop-j l = record {
-  placing : Placing l.size l.first l.start (chained_count l.chains) l.j l.cells l.initial.stored.items l.stored.items l.offsets.items;
+  placed : Compacting l.size l.first l.j (block l.size l.cells) l.initial.stored.items l.stored.items l.offsets.items;
+  last : IfSome l.last (λ at. (0 < l.first + l.j) × IsLeast l.size at l.stored.items (block l.size l.cells (l.first + l.j - 1)));
+  size : l.table.size ≡ l.size;
+  table : IsTable l.stored.items l.table;
+  whole : HasAll l.stored.items l.table;
   capped : length l.stored.items ≤ max (length l.initial.stored.items) (l.limit + l.size);
-  chained : IsChained (block_from l.size l.start l.stored.items) l.chains;
 }

@@ -22,7 +22,7 @@ push_index3-requires c =
     let held2 : c.deref-2.result.now ≡ c.place_blocks.new.stored.items = search rules in
     let none : length c.new-index3.result.items ≡ 0 = search rules in
     let below : AllBelow 0x10000 c.deref.result.now = packed-below c.args.small.now c.deref.result.now c.requires.small_fit (rw held c.in_ok-packed.ensures) in
-    rw held2 (drawn-below 0x10000 c.deref.result.now c.place_blocks.new.stored.items (λ i l. c.in_ok-offsets.ensures.placed.drawn i (omega (arith, none)) l) below)
+    rw held2 (drawn-below 0x10000 36 c.deref.result.now c.new-index3.result.items c.place_blocks.new.stored.items c.in_ok-offsets.offsets.items c.in_ok-offsets.ensures.placed none below)
 
 pub returns-clause-upper : goal.returns-clause-upper
 returns-clause-upper c =

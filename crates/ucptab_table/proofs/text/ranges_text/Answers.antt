@@ -1,6 +1,6 @@
 -- The lines of the ranges of a coherent trie are those of its map's maximal runs.
 use Rattle.std.proofs.Common.{map, rules}
-use Rattle.icu_trie_core.proofs.RunLemmas.{AreMaximalRuns-some}
+use Rattle.icu_trie_core.proofs.CallerLemmas.{AreMaximalRuns-some}
 use Rattle.icu_trie.specs.Ranges.{answers}
 use Rattle.ucptab_table.specs.TableText.{run_of_values}
 use Rattle.ucptab_table.proofs.RangeRuns.{runs-of-ranges}

@@ -1,7 +1,8 @@
 use Rattle.std.proofs.Common.{refl}
 use Rattle.icu_trie.specs.MappedRanges.{iter_mapped_source, iter_mapped_steps, GivesMapped}
 use Rattle.icu_trie.specs.Coalescer.{coalescer_steps}
-use Rattle.icu_trie.proofs.MappedLemmas.{Drains-inside, Drains-behind, answered-from_run, AreAnswered-by, AreOfCodePoints-from_ranges, AreOfCodePoints-answered, All-joined, joined-maximal}
+use Rattle.icu_trie.proofs.GivenRanges.{AreOfCodePoints-from_ranges}
+use Rattle.icu_trie.proofs.MappedLemmas.{Drains-inside, Drains-behind, answered-from_run, AreAnswered-by, AreOfCodePoints-answered, All-joined, joined-maximal}
 use Rattle.icu_trie.proofs.cptrie.CodePointTrie.iter_ranges_mapped.Goals as goal
 
 pub returns-clause-ranges : goal.returns-clause-ranges

@@ -2,7 +2,7 @@
 use Rattle.std.proofs.Common.{◌≡◌, ◌∙◌, sym, Ok, Err, subst}
 use Rattle.icu_zerovec.specs.Cells.{IsConverted}
 use Rattle.icu_zerovec.specs.declared.ule.UleError.TheVariants as bytes
-use Rattle.icu_zerovec.proofs.Converted.{converted_ok, converted_err}
+use Rattle.icu_zerovec.proofs.CallerLemmas.{converted_ok, converted_err}
 use Rattle.icu_trie.proofs.ConversionLemmas.{length-converted, fault-kept}
 use Rattle.icu_trie.proofs.cptrie.CodePointTrie.try_into_converted.Goals as goal
 

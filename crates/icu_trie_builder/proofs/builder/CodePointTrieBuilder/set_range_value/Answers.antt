@@ -8,8 +8,8 @@ use Rattle.icu_trie_builder.proofs.builder.CodePointTrieBuilder.set_range_value.
 pub returns-clause-ok : goal.returns-clause-ok
 returns-clause-ok g c =
     let inside = c.self.inside in
-    rw (← c.self.view_is) (IsAfter-filled g.T.PartialEq.eq (Range c.args.range c.args.value) inside.cells.items c.make_cells.new.cells.items c.fill_range.new.cells.items inside.default inside.error inside.trie_type c.min-end.result
-    (search rules) (search rules) (search rules) (search rules) (search rules) (λ k e a b. c.fill_range.ensures.inside k e (omega (arith, c.start.ensures)) b) (λ k e a. c.fill_range.ensures.before k e (omega (arith, c.start.ensures))) c.fill_range.ensures.behind)
+    rw (← c.self.view_is) (IsAfter-filled (Range c.args.range c.args.value) inside.cells.items c.make_cells.new.cells.items c.fill_range.new.cells.items inside.default inside.error inside.trie_type c.min-end.result
+    (search rules) (search rules) (search rules) (search rules) (λ k e a b. c.fill_range.ensures.inside k e (omega (arith, c.start.ensures)) b) (λ k e a. c.fill_range.ensures.before k e (omega (arith, c.start.ensures))) c.fill_range.ensures.behind)
 
 pub invariant_of-self-2 : goal.invariant_of-self-2
 invariant_of-self-2 g c =

@@ -4,11 +4,11 @@ use Rattle.icu_invlist.specs.InversionList.{ranges_of}
 use Rattle.icu_invlist.proofs.MemberLemmas.{nth, same_range, length-ranges}
 use Rattle.icu_invlist.proofs.codepointinvlist.cpinvlist.CodePointInversionList.get_nth_range.Goals as goal
 
-pub returns-then-index-count : goal.returns-then-index-count
-returns-then-index-count c = sym (slice_get_past (ranges_of c.args.self.now) c.args.index (let e = length-ranges c.args.self.now in omega (arith, c.count.ensures.count)))
+pub returns-then-index-count-clause-nth : goal.returns-then-index-count-clause-nth
+returns-then-index-count-clause-nth c = sym (slice_get_past (ranges_of c.args.self.now) c.args.index (let e = length-ranges c.args.self.now in omega (arith, c.count.ensures.count)))
 
-pub returns : goal.returns
-returns c =
+pub returns-clause-nth : goal.returns-clause-nth
+returns-clause-nth c =
     let n : 2 * c.args.index ≡ c.args.index * 2 = omega arith in
     let m : 2 * c.args.index + 1 ≡ c.args.index * 2 + 1 = omega arith in
     let s : c.new.result.start ≡ get_or c.args.self.now (c.args.index * 2) 0 = c.new.ensures.start ∙ (c.end_at.ensures.end ∙ ap (λ (k : ℕ). get_or c.args.self.now k 0) n) in

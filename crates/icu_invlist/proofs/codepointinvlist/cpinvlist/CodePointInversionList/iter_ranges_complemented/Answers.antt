@@ -1,9 +1,17 @@
-use Rattle.std.proofs.Common.{◌≡◌, ◌∙◌, sym, ap, ℕ, List, ◌∷◌}
-use Rattle.icu_invlist.specs.InversionList.{complement_of, toggle_back}
+use Rattle.std.proofs.Common.{◌≡◌, ◌∙◌, ◌<◌, sym, ap, ℕ, List, ◌∷◌}
+use Rattle.std.specs.Prelude.{not}
+use Rattle.icu_invlist.specs.InversionList.{AreApart, IsValid, complement_of, holds, in_ranges, limit, ranges_of, toggle_back}
 use Rattle.icu_invlist.specs.StillGiven.{gaps_left}
 use Rattle.icu_invlist.proofs.MemberLemmas.{ranges_within}
+use Rattle.icu_invlist.proofs.HeldRanges.{ranges_hold, ranges_apart}
 use Rattle.icu_invlist.proofs.Complements.{complement_valid, complement-holds, gaps_from_zero, gaps_from_start}
 use Rattle.icu_invlist.proofs.codepointinvlist.cpinvlist.CodePointInversionList.iter_ranges_complemented.Goals as goal
+
+gaps_apart : (ends : List ℕ) → IsValid ends → AreApart (ranges_of (complement_of ends))
+gaps_apart ends v = ranges_apart (complement_of ends) (complement_valid ends v)
+
+gaps_hold : (ends : List ℕ) (n : ℕ) → IsValid ends → n < limit → in_ranges (ranges_of (complement_of ends)) n ≡ not (holds ends n)
+gaps_hold ends n v h = ranges_hold (complement_of ends) n (complement_valid ends v) ∙ complement-holds ends n v h
 
 from_zero : (c : goal.After-start_of_gap-start) → gaps_left c.start_of_gap-start.result c.next-then-contains32.new.self ≡ complement_of c.self.inside.ends
 from_zero c = rw c.start_of_gap-start.ensures
@@ -52,3 +60,15 @@ returns-then-contains32-clause-within c = rw (← c.self.view_is) (ranges_within
 
 pub returns-clause-within : goal.returns-clause-within
 returns-clause-within c = rw (← c.self.view_is) (ranges_within (complement_of c.self.inside.ends) (complement_valid c.self.inside.ends c.self.invariant))
+
+pub returns-then-contains32-clause-apart : goal.returns-then-contains32-clause-apart
+returns-then-contains32-clause-apart c = rw (← c.self.view_is) (gaps_apart c.self.inside.ends c.self.invariant)
+
+pub returns-clause-apart : goal.returns-clause-apart
+returns-clause-apart c = rw (← c.self.view_is) (gaps_apart c.self.inside.ends c.self.invariant)
+
+pub returns-then-contains32-clause-held : goal.returns-then-contains32-clause-held
+returns-then-contains32-clause-held c = λ n h. rw (← c.self.view_is) (gaps_hold c.self.inside.ends n c.self.invariant h)
+
+pub returns-clause-held : goal.returns-clause-held
+returns-clause-held c = λ n h. rw (← c.self.view_is) (gaps_hold c.self.inside.ends n c.self.invariant h)

@@ -13,8 +13,8 @@ overflow_add-size c =
     let b = total-le 0 (suc limit) c.args.self.now (omega arith) (run_from_valid _ v) in
     omega (arith, c.end_at.ensures.end, c.end_at-in-loop-i.ensures.end)
 
-pub returns : goal.returns
-returns c =
+pub returns-clause-size : goal.returns-clause-size
+returns-clause-size c =
     let e : drop c.loop-i.i c.args.self.now ≡ [] = drop_all c.loop-i.i c.args.self.now (omega (arith, c.count-count.ensures.count)) in
     let s : c.loop-i.size + total [] ≡ total c.args.self.now = rw e at c.loop-i.invariant.so_far in
     (let z : c.loop-i.size ≡ total c.args.self.now = omega arith in z) ∙ sym (size-valid c.args.self.now c.count-count.ensures.valid)

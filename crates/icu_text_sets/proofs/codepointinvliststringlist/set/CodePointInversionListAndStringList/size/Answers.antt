@@ -16,4 +16,4 @@ overflow_add-result c =
     let points = at_most c.self.inside.cp_inv_list limit in
     let within = c.self.inside.str_list.ok.1 in
     let small = c.self.inside.str_list.small in
-    omega (arith, c.size.ensures, c.len.ensures)
+    omega (arith, c.size.ensures.size, c.len.ensures)

@@ -1,0 +1,104 @@
+//! Data whose blocks share cells: the null block, and blocks that begin with the end of the one before.
+
+use crate::tests::support::{BOTH, built, expect, expect_numbers, expect_ranges};
+use icu_collections::codepointtrie::{CodePointTrie, TrieType, TrieValue, Write};
+use std::alloc::{AllocError, Global};
+use std::process::Abort;
+use std::test::Fail;
+
+/// The trie has at most so many cells of data.
+fn expect_data<T: TrieValue>(rt: &impl Abort, trie: CodePointTrie<'_, T>, most: usize) {
+    let (_, _, data) = trie.parts();
+    let found = data.len();
+    assert!(rt; found <= most, "{found} cells of data");
+}
+
+/// The null block of the trie holds this number.
+fn expect_null(rt: &impl Abort, trie: CodePointTrie<'_, u8>, null_value: u32) {
+    let (header, _, _) = trie.parts();
+    assert_eq!(rt; header.null_value, null_value);
+    assert!(rt; header.data_null_offset != 0xfffff, "no null block");
+}
+
+/// Fives below 0x10000, and zeros behind.
+#[test]
+fn one_number_on_each_side_of_a_limit(rt: HostRuntime) {
+    for trie_type in BOTH {
+        let writes = [Write::Range(0..=0xFFFF, 5)];
+        let expected = [(0, 0xFFFF, 5), (0x10000, 0x10FFFF, 0)];
+        expect_ranges(&rt, built(&rt, trie_type, (0, 9), &writes), &expected);
+    }
+}
+
+/// A block of 64 that begins with sixteen zeros, and zeros in the blocks of 16 that are the most.
+fn zeros_behind_a_fast_block(
+    rt: &(impl Abort + AllocGlobal),
+    trie_type: TrieType,
+) -> CodePointTrie<'static, u8> {
+    let writes = [
+        Write::Range(0x400..=0x40F, 0),
+        Write::Range(0x10000..=0x10FFFE, 0),
+        Write::One(0x10FFFF, 3),
+    ];
+    built(rt, trie_type, (5, 9), &writes)
+}
+
+/// The null block does not start where a block of 64 starts that only begins like it: a walk would take that
+/// for the null block, and go on over its fives.
+#[test]
+fn null_block_behind_a_fast_block(rt: HostRuntime) {
+    for trie_type in BOTH {
+        let expected = [
+            (0, 0x3FF, 5),
+            (0x400, 0x40F, 0),
+            (0x410, 0xFFFF, 5),
+            (0x10000, 0x10FFFE, 0),
+            (0x10FFFF, 0x10FFFF, 3),
+        ];
+        expect_ranges(&rt, zeros_behind_a_fast_block(&rt, trie_type), &expected);
+        expect_null(&rt, zeros_behind_a_fast_block(&rt, trie_type), 0);
+        expect_data(&rt, zeros_behind_a_fast_block(&rt, trie_type), 320);
+    }
+}
+
+/// A hundred blocks of 16, each of which begins with the last eight numbers of the one before.
+fn overlapping_writes(alloc: Global) -> Result<Vec<Write<u16>>, AllocError> {
+    let mut writes = Vec::new(alloc);
+    for k in 0..100u16 {
+        for j in 0..16u16 {
+            let c = 0x10000 + 16 * u32::from(k) + u32::from(j);
+            writes.push(Write::One(c, 8 * k + j + 1))?;
+        }
+    }
+    Ok(writes)
+}
+
+/// Blocks that overlap take the cells that they have in common once.
+#[test]
+fn overlapping_data_blocks(rt: HostRuntime) -> Result<(), Fail> {
+    let writes = overlapping_writes(rt.alloc())?;
+    let expected = [(0x10000, 1), (0x10010, 9), (0x1063F, 808), (0x10640, 0)];
+    for trie_type in BOTH {
+        expect_data(&rt, built(&rt, trie_type, (0, 9), &writes), 1000);
+        expect_numbers(&rt, built(&rt, trie_type, (0, 9), &writes), &expected);
+    }
+    Ok(())
+}
+
+/// Blocks of 16 that stand in a block of 64 below the fast limit, at places that are no multiple of 16, take
+/// no cells.
+#[test]
+fn small_blocks_in_a_fast_block(rt: HostRuntime) -> Result<(), Fail> {
+    let mut writes = Vec::new(rt.alloc());
+    for j in 0..64u32 {
+        writes.push(Write::One(0x400 + j, j + 1))?;
+    }
+    for j in 0..16u32 {
+        writes.push(Write::One(0x20000 + j, j + 8))?;
+    }
+    expect_data(&rt, built(&rt, TrieType::Fast, (0, 9), &writes), 194);
+    let expected = [(0x43F, 64), (0x20000, 8), (0x2000F, 23), (0x20010, 0)];
+    expect_numbers(&rt, built(&rt, TrieType::Fast, (0, 9), &writes), &expected);
+    expect(&rt, writes.len() == 80, "writes");
+    Ok(())
+}

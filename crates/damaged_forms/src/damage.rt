@@ -1,0 +1,176 @@
+//! Damage to bytes and to headers.
+ghost use Rattle.std.specs.Prelude.{◌<◌};
+
+use icu_trie_core::header::{CodePointTrieHeader, TrieType};
+use rand_core::Rng;
+use rand_pcg::Pcg32;
+use std::alloc::{AllocError, Global};
+
+/// A number below `count`, 0 where there is none.
+pub fn below(dice: &mut Pcg32, count: usize) -> usize
+    ensures { 0 < count → result < count }
+{
+    let drawn = dice.next_u32() as usize;
+    if count == 0 { 0 } else { drawn % count }
+}
+
+/// One bit of the byte at a place is flipped.
+fn flip(bytes: &mut Vec<u8>, place: usize, dice: &mut Pcg32) {
+    let bit = 1u8.wrapping_shl(dice.next_u32());
+    if let Some(byte) = bytes.get_mut(place) {
+        *byte ^= bit;
+    }
+}
+
+/// The byte at a place becomes the least one, the greatest or one beside the middle.
+fn put_extreme(bytes: &mut Vec<u8>, place: usize, dice: &mut Pcg32) {
+    let extremes = [0, 1, 0x7F, 0x80, 0xFF];
+    let extreme = extremes.get(below(dice, 5)).copied();
+    if let Some(byte) = bytes.get_mut(place) {
+        *byte = extreme.unwrap_or(0);
+    }
+}
+
+/// The first decimal digit from a place on becomes another one.
+fn change_digit(bytes: &mut Vec<u8>, place: usize, dice: &mut Pcg32) {
+    let digits = b"0123456789";
+    let digit = digits.get(below(dice, 10)).copied();
+    for byte in bytes.iter_mut().skip(place) {
+        if byte.is_ascii_digit() {
+            *byte = digit.unwrap_or(b'0');
+            return;
+        }
+    }
+}
+
+/// The bytes at two places are exchanged.
+fn exchange(bytes: &mut Vec<u8>, place: usize, other: usize) {
+    let (Some(a), Some(b)) = (bytes.get(place).copied(), bytes.get(other).copied()) else {
+        return;
+    };
+    if let Some(byte) = bytes.get_mut(place) {
+        *byte = b;
+    }
+    if let Some(byte) = bytes.get_mut(other) {
+        *byte = a;
+    }
+}
+
+/// The bytes from a place on, as far as the next comma or `width` of them where there is none, are doubled.
+fn double(
+    alloc: Global,
+    bytes: &mut Vec<u8>,
+    place: usize,
+    width: usize,
+) -> Result<(), AllocError> {
+    let mut item = Vec::new(alloc);
+    for byte in bytes.iter().skip(place).take(width) {
+        item.push(*byte)?;
+        if *byte == b',' {
+            break;
+        }
+    }
+    for byte in item.iter().rev() {
+        if place <= bytes.len() {
+            bytes.insert(place, *byte)?;
+        }
+    }
+    Ok(())
+}
+
+/// What bytes are damaged as.
+#[derive(Clone, Copy, PartialEq, Eq)]
+pub enum Form {
+    /// A text, mostly in its digits.
+    Text,
+    /// Packed cells, in any byte.
+    Packed,
+}
+
+/// Damages the bytes once.
+fn damage_once(
+    alloc: Global,
+    bytes: &mut Vec<u8>,
+    form: Form,
+    dice: &mut Pcg32,
+) -> Result<(), AllocError> {
+    let place = below(dice, bytes.len());
+    match below(dice, 8) {
+        0 => bytes.truncate(place),
+        1 => flip(bytes, place, dice),
+        2 => exchange(bytes, place, below(dice, bytes.len())),
+        3 | 4 => double(alloc, bytes, place, 1 + below(dice, 8))?,
+        _ if form == Form::Text => change_digit(bytes, place, dice),
+        5 => put_extreme(bytes, place, dice),
+        _ => flip(bytes, place, dice),
+    }
+    Ok(())
+}
+
+/// A copy of the bytes, damaged once to three times.
+pub fn damaged(
+    alloc: Global,
+    bytes: &[u8],
+    form: Form,
+    dice: &mut Pcg32,
+) -> Result<Vec<u8>, AllocError> {
+    let mut copy = Vec::from_slice(alloc, bytes)?;
+    for _ in 0..=below(dice, 3) {
+        damage_once(alloc, &mut copy, form, dice)?;
+    }
+    Ok(copy)
+}
+
+/// A number at an end of something, or beside one.
+fn extreme_number(dice: &mut Pcg32) -> u32 {
+    let extremes = [
+        0,
+        1,
+        6,
+        0x1FF,
+        0x200,
+        0xFFF,
+        0x1000,
+        0x7FFF,
+        0x8000,
+        0xFFFF,
+        0x1_0000,
+        0x1_F800,
+        0xF_FFFF,
+        0x10_FE00,
+        0x11_0000,
+        0x11_0200,
+        0x7FFF_FFFF,
+        0xFFFF_FFFF,
+    ];
+    extremes.get(below(dice, 18)).copied().unwrap_or(0)
+}
+
+/// The header with one field changed, or two of them exchanged.
+pub fn damaged_header(header: CodePointTrieHeader, dice: &mut Pcg32) -> CodePointTrieHeader {
+    let mut damaged = header;
+    match below(dice, 10) {
+        0 => damaged.high_start = extreme_number(dice),
+        1 => damaged.high_start = header.high_start.wrapping_add(0x200),
+        2 => damaged.high_start = header.high_start.wrapping_sub(0x200),
+        3 => damaged.index3_null_offset ^= 0x8000,
+        4 => damaged.index3_null_offset = below(dice, 0x100) as u16,
+        5 => damaged.data_null_offset = extreme_number(dice),
+        6 => damaged.data_null_offset = below(dice, 0x200) as u32,
+        7 => damaged.null_value = extreme_number(dice),
+        8 => (damaged.high_start, damaged.data_null_offset) = (
+            header.data_null_offset,
+            header.high_start,
+        ),
+        _ => damaged.trie_type = other_type(header.trie_type),
+    }
+    damaged
+}
+
+/// The type that this isn't.
+fn other_type(trie_type: TrieType) -> TrieType {
+    match trie_type {
+        TrieType::Fast => TrieType::Small,
+        TrieType::Small => TrieType::Fast,
+    }
+}

@@ -1,0 +1,116 @@
+//! Damages stored forms of tries, sets and unit tries, reads what came of them, and asks all that is taken.
+//!
+//! Usage: `damaged_forms COUNT [FOLDER]`, the folder being that of the stored forms. The damage comes from a
+//! fixed seed, so that each run of one count does the same. The last line says how many forms were tried,
+//! taken and refused; the status is 1 where a form that was taken answered wrongly, or took more than a
+//! second of processor time.
+#![tactic(auto)]
+
+mod damage;
+mod names;
+mod outcome;
+mod sets;
+mod stored;
+mod tries;
+mod units;
+
+use crate::outcome::{Counts, Outcome};
+use crate::stored::Stored;
+use anyhow::{Context, Result, bail};
+use icu_trie::cptrie::CodePointTrie;
+use rand_pcg::Pcg32;
+use std::env;
+use std::process::ExitCode;
+use std::time::CpuClock;
+
+/// The words behind the program's name.
+fn words(rt: &HostRuntime) -> Result<Vec<String>> {
+    Ok(env::args(rt)?.skip(1).collect(rt.alloc())?)
+}
+
+/// The number that the first word says.
+fn count_of(words: &[String]) -> Result<u32> {
+    let word = words.first().context("a count is missing")?;
+    let count = word.as_str().parse::<u32>();
+    count.ok().context("the count is no number")
+}
+
+/// The folder of the stored forms.
+fn folder_of(words: &[String]) -> &str {
+    match words.get(1) {
+        Some(folder) => folder.as_str(),
+        None => ".",
+    }
+}
+
+/// Tries form number `number`, and says what is wrong with it where something is.
+fn tried(rt: &HostRuntime, stored: Stored<'_>, dice: &mut Pcg32, number: u32) -> Result<Outcome> {
+    let begun = rt.process_cpu_time()?;
+    let outcome = stored.tried(rt.alloc(), dice, number)?;
+    let took = rt.process_cpu_time()?.saturating_sub(begun);
+    if took.as_secs() > 0 {
+        return Ok(Outcome::Wrong("more than a second"));
+    }
+    Ok(outcome)
+}
+
+/// Tries so many damaged forms. It answers whether all went well.
+fn tried_all(rt: &HostRuntime, stored: Stored<'_>, count: u32) -> Result<bool> {
+    let mut dice = Pcg32::new(0x1F600, 7);
+    let mut counts = Counts::new(rt.alloc());
+    for number in 0..count {
+        let outcome = tried(rt, stored, &mut dice, number)?;
+        if let Outcome::Wrong(what) = outcome {
+            println!(rt; "form {number}: {what}")?;
+        }
+        counts.add(outcome)?;
+    }
+    println!(rt; "{counts}")?;
+    Ok(counts.is_well())
+}
+
+/// Makes the packed forms of a set and of units, and tries all.
+fn run_with_tries(
+    rt: &HostRuntime,
+    texts: &[String],
+    small: &CodePointTrie<'static, u8>,
+    fast: &CodePointTrie<'static, u8>,
+    count: u32,
+) -> Result<bool> {
+    let (Some(set), Some(unit_trie)) = (texts.get(3), texts.get(5)) else {
+        bail!("a stored form is missing");
+    };
+    let ends = sets::stored_ends(rt.alloc(), set.as_bytes())?;
+    let units = units::stored_units(rt.alloc(), unit_trie.as_bytes())?;
+    let stored = Stored {
+        texts,
+        small,
+        fast,
+        ends: &ends,
+        units: &units,
+    };
+    tried_all(rt, stored, count)
+}
+
+/// Reads the stored forms, and tries them damaged.
+fn run(rt: &HostRuntime) -> Result<bool> {
+    let words = words(rt)?;
+    let texts = stored::texts(rt, folder_of(&words))?;
+    let (Some(small), Some(fast)) = (texts.first(), texts.get(1)) else {
+        bail!("a stored form is missing");
+    };
+    let small = tries::stored_trie(rt.alloc(), small.as_str()).context("no small trie")?;
+    let fast = tries::stored_trie(rt.alloc(), fast.as_str()).context("no fast trie")?;
+    run_with_tries(rt, &texts, &small, &fast, count_of(&words)?)
+}
+
+fn main(rt: HostRuntime) -> ExitCode {
+    match run(&rt) {
+        Ok(true) => ExitCode::from(0),
+        Ok(false) => ExitCode::from(1),
+        Err(error) => {
+            let _ = eprintln!(rt; "damaged_forms: {error}");
+            ExitCode::from(2)
+        }
+    }
+}

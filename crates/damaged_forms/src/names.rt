@@ -1,0 +1,95 @@
+//! Names of the errors by which forms are refused.
+use crate::outcome::Outcome;
+use icu_char16trie::char16trie::Char16JsonError;
+use icu_invlist::codepointinvlist::{SetError, SetJsonError};
+use icu_text_sets::codepointinvliststringlist::StringListJsonError;
+use icu_trie::error::CodePointTrieError;
+use icu_trie_formats::json::TrieJsonError;
+use icu_trie_formats::trie_toml::{TomlError, TrieFromTomlError};
+use icu_zerovec::ule::UleError;
+
+/// Refused as bytes.
+pub fn by_bytes(error: UleError) -> Outcome {
+    Outcome::Refused(match error {
+        UleError::Length => "Length",
+        UleError::Cell(_) => "Cell",
+    })
+}
+
+/// Refused as the parts of a trie.
+pub fn by_parts(error: CodePointTrieError) -> Outcome {
+    Outcome::Refused(match error {
+        CodePointTrieError::FromDeserialized { .. } => "FromDeserialized",
+        CodePointTrieError::EmptyDataVector => "EmptyDataVector",
+        CodePointTrieError::IndexTooShortForFastAccess => "IndexTooShortForFastAccess",
+        CodePointTrieError::DataTooShortForFastAccess => "DataTooShortForFastAccess",
+        CodePointTrieError::InvalidNullValue => "InvalidNullValue",
+    })
+}
+
+/// Refused as the JSON of a trie.
+pub fn by_trie_json(error: TrieJsonError) -> Outcome {
+    match error {
+        TrieJsonError::Shape(_) => Outcome::Refused("TrieJson::Shape"),
+        TrieJsonError::Number(_) => Outcome::Refused("TrieJson::Number"),
+        TrieJsonError::Value(_) => Outcome::Refused("TrieJson::Value"),
+        TrieJsonError::Trie(error) => by_parts(error),
+        TrieJsonError::Memory => Outcome::Wrong("memory was refused"),
+    }
+}
+
+/// Refused as the table of a trie.
+pub fn by_table(error: TomlError) -> Outcome {
+    match error {
+        TomlError::Missing(_) => Outcome::Refused("Toml::Missing"),
+        TomlError::OutOfRange(_) => Outcome::Refused("Toml::OutOfRange"),
+        TomlError::Memory => Outcome::Wrong("memory was refused"),
+    }
+}
+
+/// Refused as what a table says of a trie.
+pub fn by_table_parts(error: TrieFromTomlError) -> Outcome {
+    match error {
+        TrieFromTomlError::Trie(error) => by_parts(error),
+        TrieFromTomlError::Memory => Outcome::Wrong("memory was refused"),
+    }
+}
+
+/// Refused as the ends of a set.
+pub fn by_ends(error: SetError) -> Outcome {
+    match error {
+        SetError::Invalid(_) => Outcome::Refused("Invalid"),
+        SetError::Memory => Outcome::Wrong("memory was refused"),
+    }
+}
+
+/// Refused as the JSON of a set.
+pub fn by_set_json(error: SetJsonError) -> Outcome {
+    match error {
+        SetJsonError::NotAnArray => Outcome::Refused("SetJson::NotAnArray"),
+        SetJsonError::NotAString(_) => Outcome::Refused("SetJson::NotAString"),
+        SetJsonError::NotARange(_) => Outcome::Refused("SetJson::NotARange"),
+        SetJsonError::InvalidSet => Outcome::Refused("SetJson::InvalidSet"),
+        SetJsonError::Memory => Outcome::Wrong("memory was refused"),
+    }
+}
+
+/// Refused as the JSON of a set with strings.
+pub fn by_text_set_json(error: &StringListJsonError) -> Outcome {
+    match error {
+        StringListJsonError::Shape(_) => Outcome::Refused("StringListJson::Shape"),
+        StringListJsonError::Set(error) => by_set_json(*error),
+        StringListJsonError::NotAString(_) => Outcome::Refused("StringListJson::NotAString"),
+        StringListJsonError::Strings(_) => Outcome::Refused("StringListJson::Strings"),
+        StringListJsonError::Memory => Outcome::Wrong("memory was refused"),
+    }
+}
+
+/// Refused as the JSON of a unit trie.
+pub fn by_unit_json(error: Char16JsonError) -> Outcome {
+    match error {
+        Char16JsonError::Shape => Outcome::Refused("Char16Json::Shape"),
+        Char16JsonError::Number(_) => Outcome::Refused("Char16Json::Number"),
+        Char16JsonError::Memory => Outcome::Wrong("memory was refused"),
+    }
+}

@@ -1,0 +1,99 @@
+//! What became of a damaged form, and of how many.
+use std::alloc::{AllocError, Global};
+use std::fmt;
+
+/// What became of a damaged form.
+#[derive(Clone, Copy, Debug, PartialEq, Eq)]
+pub enum Outcome {
+    /// It was taken, and answered as it has to.
+    Taken,
+    /// It was taken as a coherent trie, and its ranges were those of its look-ups.
+    Coherent,
+    /// It was refused, by an error of this name.
+    Refused(&'static str),
+    /// It was taken, and this is wrong.
+    Wrong(&'static str),
+}
+
+/// How often each outcome came.
+#[derive(Drop)]
+pub struct Counts {
+    taken: u32,
+    coherent: u32,
+    wrong: u32,
+    refused: Vec<Refusals>,
+}
+
+/// How often an error came.
+#[derive(Clone, Copy)]
+struct Refusals {
+    name: &'static str,
+    count: u32,
+}
+
+impl Counts {
+    /// Nothing was tried yet.
+    pub fn new(alloc: Global) -> Counts {
+        Counts {
+            taken: 0,
+            coherent: 0,
+            wrong: 0,
+            refused: Vec::new(alloc),
+        }
+    }
+
+    /// One form more with this outcome.
+    pub fn add(&mut self, outcome: Outcome) -> Result<(), AllocError> {
+        match outcome {
+            Outcome::Taken => self.taken = self.taken.saturating_add(1),
+            Outcome::Coherent => self.coherent = self.coherent.saturating_add(1),
+            Outcome::Wrong(_) => self.wrong = self.wrong.saturating_add(1),
+            Outcome::Refused(name) => add_refusal(&mut self.refused, name)?,
+        }
+        Ok(())
+    }
+
+    /// No outcome was wrong, and all kinds of outcomes came.
+    pub fn is_well(&self) -> bool {
+        self.wrong == 0 && self.taken > 0 && self.coherent > 0
+    }
+}
+
+/// One refusal more by the error of this name.
+fn add_refusal(refused: &mut Vec<Refusals>, name: &'static str) -> Result<(), AllocError> {
+    for refusals in refused.iter_mut() {
+        if refusals.name == name {
+            refusals.count = refusals.count.saturating_add(1);
+            return Ok(());
+        }
+    }
+    refused.push(Refusals { name, count: 1 })?;
+    Ok(())
+}
+
+/// How many were refused in all.
+fn refused_in_all(refused: &[Refusals]) -> u32 {
+    let mut all = 0u32;
+    for refusals in refused {
+        all = all.saturating_add(refusals.count);
+    }
+    all
+}
+
+impl fmt::Display for Counts {
+    fn fmt<W: fmt::Write>(&self, f: &mut fmt::Formatter<W>) -> fmt::Result {
+        let refused = refused_in_all(&self.refused);
+        let taken = self.taken.saturating_add(self.coherent);
+        let (coherent, wrong) = (self.coherent, self.wrong);
+        let tried = taken.saturating_add(refused).saturating_add(wrong);
+        write!(
+            f,
+            "{tried} damaged forms tried, {wrong} wrong: {taken} taken, {coherent} of them as coherent tries, {refused} refused:"
+        )?;
+        for refusals in &self.refused {
+            let (name, count) = (refusals.name, refusals.count);
+            write!(f, " {name} {count}")?;
+        }
+        Ok(())
+    }
+}

@@ -1,0 +1,140 @@
+//! Sets of code points, and of code points and texts.
+use crate::names::{by_bytes, by_ends, by_set_json, by_text_set_json};
+use crate::outcome::Outcome;
+use crate::stored::value_of;
+use icu_invlist::codepointinvlist::CodePointInversionList;
+use icu_text_sets::codepointinvliststringlist::CodePointInversionListAndStringList;
+use icu_zerovec::ZeroVec;
+use std::alloc::{AllocError, Global};
+use std::ops::RangeInclusive;
+
+/// The range starts behind the one before it, and ends within the code points.
+fn follows(range: &RangeInclusive<u32>, start: u32) -> bool {
+    let (first, last) = (*range.start(), *range.end());
+    start <= first && first <= last && last < 0x11_0000
+}
+
+/// How many code points the ranges of a set have. `None` where they aren't ascending ranges that the set
+/// holds.
+fn count_in_ranges(set: &CodePointInversionList<'_>) -> Option<usize> {
+    let mut next = 0u32;
+    let mut count = 0usize;
+    for range in set.iter_ranges() {
+        let (first, last) = (*range.start(), *range.end());
+        if !follows(&range, next) || !set.contains32(first) || !set.contains32(last) {
+            return None;
+        }
+        count = count.saturating_add(last.saturating_sub(first) as usize + 1);
+        next = last.saturating_add(2);
+    }
+    Some(count)
+}
+
+/// The ranges that a set doesn't hold are ascending, and it holds none of their ends.
+fn has_gaps(set: &CodePointInversionList<'_>) -> bool {
+    let mut next = 0u32;
+    for range in set.iter_ranges_complemented() {
+        let (first, last) = (*range.start(), *range.end());
+        if !follows(&range, next) || set.contains32(first) || set.contains32(last) {
+            return false;
+        }
+        next = last.saturating_add(2);
+    }
+    true
+}
+
+/// How many characters a set gives.
+fn count_of_chars(set: &CodePointInversionList<'_>) -> usize {
+    let mut count = 0usize;
+    for _ in set.iter_chars() {
+        count = count.saturating_add(1);
+    }
+    count
+}
+
+/// Whether a set answers as it has to.
+fn is_right(set: &CodePointInversionList<'_>) -> bool {
+    let size = set.size();
+    count_in_ranges(set) == Some(size) && has_gaps(set) && count_of_chars(set) <= size
+}
+
+/// Asks a set for all that it answers.
+fn asked(set: &CodePointInversionList<'_>) -> Outcome {
+    if is_right(set) {
+        Outcome::Taken
+    } else {
+        Outcome::Wrong("a set of other ranges")
+    }
+}
+
+/// What becomes of bytes as the ends of a set.
+pub fn of_bytes(alloc: Global, bytes: &[u8]) -> Outcome {
+    let ends = match ZeroVec::parse_bytes(bytes) {
+        Ok(ends) => ends,
+        Err(error) => return by_bytes(error),
+    };
+    match CodePointInversionList::try_from_inversion_list(alloc, ends) {
+        Ok(set) => asked(&set),
+        Err(error) => by_ends(error),
+    }
+}
+
+/// What becomes of a text as the JSON of a set.
+pub fn of_json(alloc: Global, text: &[u8]) -> Outcome {
+    let value = match value_of(alloc, text) {
+        Ok(value) => value,
+        Err(outcome) => return outcome,
+    };
+    match CodePointInversionList::from_json(alloc, &value) {
+        Ok(set) => asked(&set),
+        Err(error) => by_set_json(error),
+    }
+}
+
+/// Whether each string of a set is a member, and stands before the next one by its bytes.
+fn has_strings(set: &CodePointInversionListAndStringList<'_>) -> bool {
+    let mut before: Option<&str> = None;
+    for string in set.strings() {
+        let text = string.as_str();
+        let is_behind = match before {
+            Some(other) => other < text,
+            None => true,
+        };
+        if !is_behind || !set.contains_str(text) {
+            return false;
+        }
+        before = Some(text);
+    }
+    true
+}
+
+/// What becomes of a text as the JSON of a set with strings.
+pub fn of_text_json(alloc: Global, text: &[u8]) -> Outcome {
+    let value = match value_of(alloc, text) {
+        Ok(value) => value,
+        Err(outcome) => return outcome,
+    };
+    match CodePointInversionListAndStringList::from_json(alloc, &value) {
+        Ok(set) if has_strings(&set) => asked(set.code_points()),
+        Ok(_) => Outcome::Wrong("strings that are out of order"),
+        Err(error) => by_text_set_json(&error),
+    }
+}
+
+/// The packed ends of the set that a JSON text says.
+pub fn stored_ends(alloc: Global, text: &[u8]) -> Result<Vec<u8>, AllocError> {
+    let mut bytes = Vec::new(alloc);
+    let Ok(value) = value_of(alloc, text) else {
+        return Ok(bytes);
+    };
+    let Ok(set) = CodePointInversionList::from_json(alloc, &value) else {
+        return Ok(bytes);
+    };
+    for range in set.iter_ranges() {
+        for end in [*range.start(), range.end().saturating_add(1)] {
+            let [low, middle, high, _] = end.to_le_bytes();
+            bytes.extend_from_slice(&[low, middle, high])?;
+        }
+    }
+    Ok(bytes)
+}

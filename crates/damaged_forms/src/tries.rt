@@ -1,0 +1,211 @@
+//! Tries: what a damaged one is refused with, and whether one that is taken answers as it has to.
+use crate::damage::{Form, below, damaged, damaged_header};
+use crate::names::{by_bytes, by_parts, by_table, by_table_parts, by_trie_json};
+use crate::outcome::Outcome;
+use crate::stored::value_of;
+use icu_invlist::codepointinvlist::CodePointInversionList;
+use icu_trie::cptrie::CodePointTrie;
+use icu_trie::ranges::CodePointMapRange;
+use icu_trie_core::header::CodePointTrieHeader;
+use icu_trie_formats::json::from_json;
+use icu_trie_formats::trie_toml::CodePointTrieToml;
+use icu_zerovec::ZeroVec;
+use rand_pcg::Pcg32;
+use std::alloc::{AllocError, Global};
+use std::str;
+use toml::Table;
+
+/// Code points at the ends of what the format tells apart, and numbers above them.
+const SAMPLE: [u32; 14] = [
+    0,
+    0x41,
+    0x3FF,
+    0xFFF,
+    0x1000,
+    0x1FFF,
+    0xD7FF,
+    0xFFFF,
+    0x1_0000,
+    0x1_F600,
+    0x1_F800,
+    0x10_FFFF,
+    0x11_0000,
+    0xFFFF_FFFF,
+];
+
+/// All ways to ask for the value of `c` agree.
+fn is_asked_alike(trie: &CodePointTrie<'_, u8>, c: u32) -> bool {
+    let value = trie.get32(c);
+    let packed = match trie.get32_ule(c) {
+        Some(bytes) => bytes == [value].as_slice(),
+        None => value == trie.error_value(),
+    };
+    packed && trie.get32_u32(c) == u32::from(value) && trie.get32_supplementary(c) == value
+}
+
+/// The range starts where the one before it ended, and ends within the code points.
+fn follows(range: &CodePointMapRange<u8>, start: u32) -> bool {
+    let (first, last) = (*range.range.start(), *range.range.end());
+    first == start && first <= last && last < 0x11_0000
+}
+
+/// Look-ups answer the value of the range at its ends and in its middle.
+fn is_as_looked_up(trie: &CodePointTrie<'_, u8>, range: &CodePointMapRange<u8>) -> bool {
+    let (first, last) = (*range.range.start(), *range.range.end());
+    let middle = first.midpoint(last);
+    trie.get32(first) == range.value
+        && trie.get32(middle) == range.value
+        && trie.get32(last) == range.value
+}
+
+/// What is wrong with the ranges of a trie. Those of a coherent one are the longest runs of its answers.
+fn fault_of_ranges(trie: &CodePointTrie<'_, u8>, is_coherent: bool) -> Option<&'static str> {
+    let mut next = 0u32;
+    let mut before = None;
+    for range in trie.iter_ranges() {
+        if !follows(&range, next) {
+            return Some("a range that doesn't follow the one before it");
+        }
+        if is_coherent && (before == Some(range.value) || !is_as_looked_up(trie, &range)) {
+            return Some("a range that is no longest run of what look-ups answer");
+        }
+        next = range.range.end().saturating_add(1);
+        before = Some(range.value);
+    }
+    if is_coherent && next != 0x11_0000 {
+        return Some("ranges that end before the code points");
+    }
+    None
+}
+
+/// The set holds those code points of the sample at which the trie has the value.
+fn is_set_of(set: &CodePointInversionList<'_>, trie: &CodePointTrie<'_, u8>, value: u8) -> bool {
+    for c in SAMPLE {
+        if set.contains32(c) != (c < 0x11_0000 && trie.get32(c) == value) {
+            return false;
+        }
+    }
+    true
+}
+
+/// What is wrong with the set of a value of a coherent trie.
+fn fault_of_set(alloc: Global, trie: &CodePointTrie<'_, u8>) -> Option<&'static str> {
+    let value = trie.get32(0x41);
+    match trie.get_set_for_value(alloc, value) {
+        Ok(set) if is_set_of(&set, trie, value) => None,
+        Ok(_) => Some("a set that is not that of the value"),
+        Err(_) => Some("memory was refused"),
+    }
+}
+
+/// Asks a trie for all that it answers.
+fn asked(alloc: Global, trie: &CodePointTrie<'_, u8>) -> Outcome {
+    for c in SAMPLE {
+        if !is_asked_alike(trie, c) {
+            return Outcome::Wrong("look-ups that differ");
+        }
+    }
+    let is_coherent = trie.is_coherent();
+    if let Some(what) = fault_of_ranges(trie, is_coherent) {
+        return Outcome::Wrong(what);
+    }
+    if !is_coherent {
+        return Outcome::Taken;
+    }
+    match fault_of_set(alloc, trie) {
+        None => Outcome::Coherent,
+        Some(what) => Outcome::Wrong(what),
+    }
+}
+
+/// What becomes of these parts.
+fn of_parts(alloc: Global, header: CodePointTrieHeader, index: &[u8], data: &[u8]) -> Outcome {
+    let index = match ZeroVec::parse_bytes(index) {
+        Ok(index) => index,
+        Err(error) => return by_bytes(error),
+    };
+    let data = match ZeroVec::parse_bytes(data) {
+        Ok(data) => data,
+        Err(error) => return by_bytes(error),
+    };
+    match CodePointTrie::try_new(header, index, data) {
+        Ok(trie) => asked(alloc, &trie),
+        Err(error) => by_parts(error),
+    }
+}
+
+/// What becomes of the packed parts of a trie, one of them damaged.
+pub fn tried_parts(
+    alloc: Global,
+    trie: &CodePointTrie<'_, u8>,
+    dice: &mut Pcg32,
+) -> Result<Outcome, AllocError> {
+    let (header, index, data) = trie.parts();
+    let (index, data) = (index.as_bytes(), data.as_bytes());
+    Ok(match below(dice, 4) {
+        0 => of_parts(
+            alloc,
+            header,
+            &damaged(alloc, index, Form::Packed, dice)?,
+            data,
+        ),
+        1 => of_parts(
+            alloc,
+            header,
+            index,
+            &damaged(alloc, data, Form::Packed, dice)?,
+        ),
+        _ => of_parts(alloc, damaged_header(header, dice), index, data),
+    })
+}
+
+/// What becomes of a text as the JSON of a trie.
+pub fn of_json(alloc: Global, text: &[u8]) -> Outcome {
+    let value = match value_of(alloc, text) {
+        Ok(value) => value,
+        Err(outcome) => return outcome,
+    };
+    match from_json::<u8>(alloc, &value) {
+        Ok(trie) => asked(alloc, &trie),
+        Err(error) => by_trie_json(error),
+    }
+}
+
+/// The table of the first property's trie, in a file as ICU's `icuexportdata` writes it.
+fn trie_table(file: &Table) -> Option<&Table> {
+    let property = file.get("enum_property")?.as_array()?.first()?;
+    property.as_table()?.get("code_point_trie")?.as_table()
+}
+
+/// What becomes of what a table says of a trie.
+fn of_table(alloc: Global, table: &Table) -> Outcome {
+    let read = match CodePointTrieToml::from_table(alloc, table) {
+        Ok(read) => read,
+        Err(error) => return by_table(error),
+    };
+    match CodePointTrie::<u8>::try_from(&read) {
+        Ok(trie) => asked(alloc, &trie),
+        Err(error) => by_table_parts(error),
+    }
+}
+
+/// What becomes of a text as the file of a trie in TOML.
+pub fn of_toml(alloc: Global, text: &[u8]) -> Outcome {
+    let Ok(text) = str::from_utf8(text) else {
+        return Outcome::Refused("UTF-8");
+    };
+    let Ok(file) = toml::table_from_str(alloc, text) else {
+        return Outcome::Refused("TOML");
+    };
+    match trie_table(&file) {
+        Some(table) => of_table(alloc, table),
+        None => Outcome::Refused("no table"),
+    }
+}
+
+/// The trie that a file in TOML says.
+pub fn stored_trie(alloc: Global, text: &str) -> Option<CodePointTrie<'static, u8>> {
+    let file = toml::table_from_str(alloc, text).ok()?;
+    let read = CodePointTrieToml::from_table(alloc, trie_table(&file)?).ok()?;
+    CodePointTrie::try_from(&read).ok()
+}

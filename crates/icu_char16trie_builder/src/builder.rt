@@ -1,0 +1,192 @@
+//! Entries are added, and become a trie.
+ghost use Rattle.std.specs.Prelude.{◌≡◌, ◌↔◌, ℕ, ℤ, ◌+◌, ◌*◌, ◌<◌, ◌≤◌, List, [], ◌∷◌, length, take, IsTrue, IsSome, IsNone, IfOk, OnOk, OnErr, Err, Option, MatchOption, is_some};
+ghost use Rattle.icu_char16trie.specs.Grammar.{IsTrieOf};
+ghost use Rattle.icu_char16trie.specs.UnitMap.{UnitMap, value_of, IsAscendingKeys};
+ghost use Rattle.icu_char16trie_builder.specs.Entries.{with_entry, entry_map, most_units};
+ghost use Rattle.icu_char16trie_builder.specs.Inside.Cuts.{cut, room};
+ghost use Rattle.icu_char16trie_builder.specs.declared.error.AddError.TheVariants.{KeyTooLong, Duplicate};
+ghost use Rattle.icu_char16trie_builder.specs.declared.error.BuildError.TheVariants.{TooLarge};
+
+use crate::entry::Entry;
+use crate::error::{AddError, BuildError};
+use crate::units::units_of;
+use icu_char16trie::char16trie::Char16Trie;
+use icu_zerovec::ZeroVec;
+use std::alloc::{AllocError, Global};
+use std::collections::BTreeMap;
+use std::marker::Model;
+
+/// The most units that a key may have.
+const LONGEST_KEY: usize = 65_535;
+
+/// The most units that a trie may need: a jump over so many has its number.
+const MOST_UNITS: u64 = 0x7FFF_FFFF;
+
+/// Entries, each a key of 16-bit units with a value, on their way into a trie (ICU's `UCharsTrieBuilder`).
+///
+/// A clause sees the map of the entries, in unit order.
+///
+/// ```
+/// let mut builder = Char16TrieBuilder::new(alloc);
+/// builder.add(&[0x61, 0x62], 2)?;
+/// builder.add(&[0x61], 1)?;
+/// builder.add(&[0x61], 3); // Err(AddError::Duplicate)
+/// let trie = builder.build()?; // the trie of "a" to 1 and "ab" to 2
+/// ```
+#[derive(Debug, Drop)]
+pub struct Char16TrieBuilder {
+    alloc: Global,
+    entries: BTreeMap<Vec<u16>, i32>,
+}
+
+impl Model for Char16TrieBuilder {
+    ghost use Rattle.icu_char16trie.specs.UnitMap.{UnitMap, IsAscendingKeys};
+    ghost use Rattle.icu_char16trie_builder.specs.Entries.{entry_map};
+
+    ghost Value = { UnitMap };
+
+    ghost view = { λ b. entry_map b.entries.entries };
+
+    ghost invariant = { λ b. IsAscendingKeys (entry_map b.entries.entries) };
+}
+
+/// Whether a map has a key.
+fn has_key(entries: &BTreeMap<Vec<u16>, i32>, key: &[u16]) -> bool
+    ensures { result ≡ is_some (value_of (entry_map entries.now.entries) key.now) }
+{
+    entries.contains_key(key)
+}
+
+/// Adds an entry to a map. A refused one leaves it as it was.
+fn insert(
+    alloc: Global,
+    entries: &mut BTreeMap<Vec<u16>, i32>,
+    key: &[u16],
+    value: i32,
+) -> Result<(), AllocError>
+    ensures added { OnOk result
+        (entry_map entries.new.entries ≡ with_entry key.now value (entry_map entries.old.entries)) }
+    ensures same { OnErr result (entry_map entries.new.entries ≡ entry_map entries.old.entries) }
+{
+    let key = Vec::from_slice(alloc, key)?;
+    entries.insert(key, value)?;
+    Ok(())
+}
+
+/// The entries of a map, in their order.
+fn entries_of<'a>(
+    alloc: Global,
+    entries: &'a BTreeMap<Vec<u16>, i32>,
+) -> Result<Vec<Entry<'a>>, AllocError>
+    ensures { IfOk result (λ list. cut 0 list.items ≡ entry_map entries.now.entries) }
+{
+    let mut list = Vec::new(alloc);
+    for (key, value) in entries {
+        list.push(Entry {
+            key: key.as_slice(),
+            value: *value,
+        })?;
+    }
+    Ok(list)
+}
+
+/// How many units the key of the first entry has.
+fn first_len(entries: &[Entry<'_>]) -> usize
+    requires { 0 < length entries.now }
+    ensures { room 0 (take 1 entries.now) ≡ 2 * result + 16 }
+{
+    entries[0].key.len()
+}
+
+/// Whether no trie of the entries can need too many units.
+fn fits(entries: &[Entry<'_>]) -> bool
+    ensures { IsTrue result ↔ (room 0 entries.now ≤ 0x7FFF_FFFF) }
+{
+    let mut total: u64 = 0;
+    for i in 0..entries.len() {
+        let len = first_len(entries.split_at(i).1) as u64;
+        if len > MOST_UNITS {
+            return false;
+        }
+        total += 2 * len + 16;
+        if total > MOST_UNITS {
+            return false;
+        }
+    }
+    true
+}
+
+/// The units of a trie of the entries: none, if there are none.
+fn trie_units(alloc: Global, entries: &[Entry<'_>]) -> Result<Vec<u16>, AllocError>
+    requires ascends { IsAscendingKeys (cut 0 entries.now) }
+    requires few { room 0 entries.now ≤ 0x7FFF_FFFF }
+    ensures trie { IfOk result (λ units. IsTrieOf units.items (cut 0 entries.now)) }
+    ensures bound { IfOk result (λ units. length units.items ≤ room 0 entries.now) }
+{
+    if entries.is_empty() {
+        return Ok(Vec::new(alloc));
+    }
+    units_of(alloc, entries)
+}
+
+impl Char16TrieBuilder {
+    /// No entries. It takes no memory: `alloc` is kept for the calls that do.
+    pub fn new(alloc: Global) -> Self
+        ensures { result ≡ [] }
+    {
+        Char16TrieBuilder {
+            alloc,
+            entries: BTreeMap::new(alloc),
+        }
+    }
+
+    /// Adds an entry, in any order of keys. A key may be empty, and may be the front of another one.
+    ///
+    /// # Errors
+    /// `KeyTooLong` exactly where the key has more than 65,535 units, else `Duplicate` exactly where there is
+    /// an entry with this key, and `Memory` where memory was refused. The entries are then as before.
+    pub fn add(&mut self, key: &[u16], value: i32) -> Result<(), AddError>
+        ensures added { OnOk result (self.new ≡ with_entry key.now value self.old) }
+        ensures short { OnOk result (length key.now ≤ 65535) }
+        ensures fresh { OnOk result (IsNone (value_of self.old key.now)) }
+
+        // Of the errors the first one that holds is answered.
+        ensures long { 65535 < length key.now ↔ (result ≡ Err KeyTooLong) }
+        ensures duplicate { length key.now ≤ 65535
+            → (IsSome (value_of self.old key.now) ↔ (result ≡ Err Duplicate)) }
+        ensures same { OnErr result (self.new ≡ self.old) }
+    {
+        if key.len() > LONGEST_KEY {
+            return Err(AddError::KeyTooLong);
+        }
+        if has_key(&self.entries, key) {
+            return Err(AddError::Duplicate);
+        }
+        match insert(self.alloc, &mut self.entries, key, value) {
+            Ok(()) => Ok(()),
+            Err(_) => Err(AddError::Memory),
+        }
+    }
+
+    /// The trie of the entries: the empty list of units, if there are none. With U units in the keys of E
+    /// entries it has at most 2 U + 16 E units. Equal nodes that are jumped to are written once.
+    ///
+    /// # Errors
+    /// `TooLarge` exactly where 2 U + 16 E is more than `0x7FFF_FFFF` and no memory was refused before that
+    /// was found, and `Memory` where memory was refused. The entries are given up.
+    pub fn build(self) -> Result<Char16Trie<'static>, BuildError>
+        ensures trie { IfOk result (λ trie. IsTrieOf trie self) }
+        ensures bound { IfOk result (λ trie. length trie ≤ most_units self) }
+        ensures empty { self ≡ [] → IfOk result (λ trie. trie ≡ []) }
+        ensures too_large { result ≡ Err TooLarge → 0x7FFF_FFFF < most_units self }
+        ensures fits { OnOk result (most_units self ≤ 0x7FFF_FFFF) }
+    {
+        let entries = entries_of(self.alloc, &self.entries)?;
+        if !fits(entries.as_slice()) {
+            return Err(BuildError::TooLarge);
+        }
+        let units = trie_units(self.alloc, entries.as_slice())?;
+        let trie = Char16Trie::new(ZeroVec::alloc_from_slice(self.alloc, units.as_slice())?);
+        Ok(trie)
+    }
+}

@@ -1,0 +1,15 @@
+-- The words of the public contracts, a page for each module of the crate, so that a caller needs no other crate.
+pub mod ZeroVec
+pub mod CodePointInversionList
+pub mod CodePointInversionListAndStringList
+pub mod CodePointTrie
+pub mod CodePointTrieBuilder
+pub mod Char16Trie
+pub mod IteratorUtils
+-- What the JSON and TOML forms are
+pub use Rattle.icu_invlist.specs.SetJson
+pub use Rattle.icu_text_sets.specs.TextSetJson
+pub use Rattle.icu_trie_formats.specs.TrieJson
+pub use Rattle.icu_trie_formats.specs.TrieToml
+pub use Rattle.icu_trie_formats.specs.Planes
+pub use Rattle.icu_char16trie.specs.Char16Json

@@ -1,0 +1,22 @@
+-- The null data block.
+use Rattle.std.specs.Prelude.{◌≡◌, ℕ, ◌+◌, ◌*◌, ◌<◌, ◌≤◌, ◌⊎◌, List, Some}
+use Rattle.icu_trie_core.specs.declared.header.CodePointTrieHeader.{CodePointTrieHeader}
+use Rattle.icu_trie_core.specs.declared.header.TrieType.{TrieType}
+use Rattle.icu_trie_core.specs.Format.{fast_limit, fast_offset, small_offset}
+
+-- the aligned block number b of k code points holds one number
+abbrev pub HoldsOne : (ℕ → ℕ) → ℕ → ℕ → Type 0
+HoldsOne f k b = (i : ℕ) → i < k → f (b * k + i) ≡ f (b * k)
+
+-- an aligned block holds one number, of 64 below the fast limit with P of its number, or of 16 from it on to
+-- before the high start with Q of its number
+abbrev pub SomeHoldsOne : TrieType → ℕ → (ℕ → ℕ) → (ℕ → Type 0) → (ℕ → Type 0) → Type 0
+SomeHoldsOne t high f P Q = ((b : ℕ) × (b * 64 < fast_limit t) × HoldsOne f 64 b × P b)
+    ⊎ ((b : ℕ) × (fast_limit t ≤ b * 16) × (b * 16 < high) × HoldsOne f 16 b × Q b)
+
+-- where an aligned block holds one number, the null data offset is that of such a block
+unfoldable pub NamesNull : CodePointTrieHeader → List ℕ → (ℕ → ℕ) → Type 0
+NamesNull h index f = SomeHoldsOne h.trie_type h.high_start f (λ _. Unit {0}) (λ _. Unit {0})
+    → SomeHoldsOne h.trie_type h.high_start f
+    (λ b. fast_offset index (b * 64) ≡ Some h.data_null_offset)
+    (λ b. small_offset h.trie_type index (b * 16) ≡ Some h.data_null_offset)

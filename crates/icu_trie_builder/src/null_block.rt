@@ -1,0 +1,303 @@
+//! The null block: a block of data that holds one number, by whose offset a walk knows it without a read.
+ghost use Rattle.std.specs.Prelude.{◌≡◌, ◌≢◌, ℕ, ◌+◌, ◌-◌, ◌*◌, ◌/◌, ◌^◌, ◌<◌, ◌≤◌, Bool, true, false, length, max, take, slice_index, Some, None, IfOk, OnOk, IfSome, IfNone};
+ghost use Rattle.std.specs.List.{AllPass};
+ghost use Rattle.icu_trie_builder.specs.FilledBlocks.{IsApart, IsFilled, IsMoved, IsNull, IsOneOf, HasNoNull};
+ghost use Rattle.icu_trie_builder.specs.declared.error.BuildError.TheVariants.{TooLarge};
+
+use crate::error::BuildError;
+use crate::uses::most_used;
+use std::alloc::{AllocError, Global};
+
+/// Where the null block starts, and the number that it holds.
+#[derive(Clone, Copy)]
+pub(crate) struct NullBlock {
+    /// Its offset.
+    pub(crate) offset: usize,
+    /// Its number.
+    pub(crate) value: u32,
+}
+
+/// A block that holds one number, by its number among the blocks of its length.
+#[derive(Clone, Copy)]
+pub(crate) enum FilledBlock {
+    /// A block of 64.
+    Fast(usize),
+    /// A block of 16.
+    Small(usize),
+}
+
+/// Whether the `size` cells from place `at` on are this number.
+fn is_filled_with(cells: &[u32], at: usize, size: usize, value: u32) -> bool
+    requires room { length cells.now < 2 ^ 31 }
+    requires inside { at + size ≤ length cells.now }
+    ensures yes { result ≡ true → IsFilled value size at cells.now }
+    ensures no { result ≡ false → IsFilled value size at cells.now → ⊥ }
+{
+    for i in 0..size {
+        if cells[at + i] != value {
+            return false;
+        }
+    }
+    true
+}
+
+/// Whether the `size` cells from place `at` on are equal.
+pub(crate) fn is_filled(cells: &[u32], at: usize, size: usize) -> bool
+    requires room { length cells.now < 2 ^ 31 }
+    requires inside { at + size ≤ length cells.now }
+    requires some { 0 < size }
+    ensures yes { result ≡ true → IsFilled (slice_index cells.now at) size at cells.now }
+    ensures no { result ≡ false → (value : ℕ) → IsFilled value size at cells.now → ⊥ }
+{
+    is_filled_with(cells, at, size, cells[at])
+}
+
+/// Whether this number is wanted, which any is where none is named.
+fn is_wanted(wanted: Option<u32>, value: u32) -> bool
+    ensures any { wanted ≡ None → result ≡ true }
+    ensures only { (v : ℕ) → wanted ≡ Some v → result ≡ true → value ≡ v }
+{
+    match wanted {
+        None => true,
+        Some(wanted) => wanted == value,
+    }
+}
+
+/// The first of the blocks of `size` cells at these offsets that holds one number, and the wanted one, if one
+/// is named.
+fn find_filled(cells: &[u32], offsets: &[usize], size: usize, wanted: Option<u32>) -> Option<usize>
+    requires room { length cells.now < 2 ^ 31 }
+    requires some { 0 < size }
+    requires inside { (j : ℕ) → j < length offsets.now → slice_index offsets.now j + size ≤ length cells.now }
+    ensures found { IfSome result (λ n. let at = slice_index offsets.now n in
+        (n < length offsets.now) × IsFilled (slice_index cells.now at) size at cells.now) }
+    ensures wanted { (v : ℕ) → wanted ≡ Some v
+        → IfSome result (λ n. slice_index cells.now (slice_index offsets.now n) ≡ v) }
+    ensures none { wanted ≡ None → IfNone result ((j value : ℕ) → j < length offsets.now
+        → IsFilled value size (slice_index offsets.now j) cells.now → ⊥) }
+{
+    for (number, at) in offsets.iter().enumerate() {
+        if is_wanted(wanted, cells[*at]) && is_filled(cells, *at, size) {
+            return Some(number);
+        }
+    }
+    None
+}
+
+/// The first block that holds one number, and the wanted one, if one is named: of 64, or else of 16.
+fn find_either(
+    cells: &[u32],
+    fast: &[usize],
+    small: &[usize],
+    wanted: Option<u32>,
+) -> Option<FilledBlock>
+    requires room { length cells.now < 2 ^ 31 }
+    requires fast { (j : ℕ) → j < length fast.now → slice_index fast.now j + 64 ≤ length cells.now }
+    requires small { (j : ℕ) → j < length small.now → slice_index small.now j + 16 ≤ length cells.now }
+    ensures found { IfSome result (IsOneOf fast.now small.now cells.now) }
+    ensures none { wanted ≡ None → IfNone result (HasNoNull fast.now small.now cells.now) }
+{
+    if let Some(number) = find_filled(cells, fast, 64, wanted) {
+        return Some(FilledBlock::Fast(number));
+    }
+    if let Some(number) = find_filled(cells, small, 16, wanted) {
+        return Some(FilledBlock::Small(number));
+    }
+    None
+}
+
+/// A block that holds one number, where there is one: one that is used much, and of 64 if one of these holds
+/// that number.
+fn choose(
+    alloc: Global,
+    cells: &[u32],
+    fast: &[usize],
+    small: &[usize],
+) -> Result<Option<FilledBlock>, AllocError>
+    requires room { length cells.now < 2 ^ 31 }
+    requires fast { (j : ℕ) → j < length fast.now → slice_index fast.now j + 64 ≤ length cells.now }
+    requires small { (j : ℕ) → j < length small.now → slice_index small.now j + 16 ≤ length cells.now }
+    ensures found { IfOk result (λ r. IfSome r (IsOneOf fast.now small.now cells.now)) }
+    ensures none { IfOk result (λ r. IfNone r (HasNoNull fast.now small.now cells.now)) }
+{
+    let used = most_used(alloc, cells, fast, small)?;
+    match find_either(cells, fast, small, used) {
+        Some(block) => Ok(Some(block)),
+        None => Ok(find_either(cells, fast, small, None)),
+    }
+}
+
+/// Whether `at` is one of the offsets.
+fn is_taken(taken: &[usize], at: usize) -> bool
+    ensures { result ≡ false → IsApart at taken.now }
+{
+    for offset in taken {
+        if *offset == at {
+            return true;
+        }
+    }
+    false
+}
+
+/// A place from `from` on at which 16 cells are this number, and which is none of `taken`.
+fn find_apart(cells: &[u32], value: u32, from: usize, taken: &[usize]) -> Option<usize>
+    requires room { length cells.now < 2 ^ 31 }
+    ensures inside { IfSome result (λ at. at + 16 ≤ length cells.now) }
+    ensures filled { IfSome result (λ at. IsFilled value 16 at cells.now) }
+    ensures apart { IfSome result (λ at. IsApart at taken.now) }
+{
+    for at in from..cells.len().saturating_sub(15) {
+        if is_filled_with(cells, at, 16, value) && !is_taken(taken, at) {
+            return Some(at);
+        }
+    }
+    None
+}
+
+/// How many cells at the end are this number, 15 at most.
+fn filled_tail(cells: &[u32], value: u32) -> usize
+    ensures most { result ≤ 15 }
+    ensures inside { result ≤ length cells.now }
+    ensures filled { IsFilled value result (length cells.now - result) cells.now }
+{
+    let most = cells.len().min(15);
+    let mut count = 0;
+    while count < most && cells[cells.len() - 1 - count] == value {
+        count += 1;
+    }
+    count
+}
+
+/// A place at which 16 cells are this number, and at which no block of 64 starts, whose offsets `taken` has.
+/// It is looked for from `from` on, and made at the end of the cells where there is none.
+fn settle(
+    stored: &mut Vec<u32>,
+    value: u32,
+    from: usize,
+    taken: &[usize],
+    limit: usize,
+) -> Result<usize, BuildError>
+    requires room { length stored.old.items < 2 ^ 31 }
+    requires taken { (j : ℕ) → j < length taken.now → slice_index taken.now j + 64 ≤ length stored.old.items }
+    ensures inside { IfOk result (λ at. at + 16 ≤ length stored.new.items) }
+    ensures filled { IfOk result (λ at. IsFilled value 16 at stored.new.items) }
+    ensures apart { IfOk result (λ at. IsApart at taken.now) }
+    ensures kept { OnOk result (take (length stored.old.items) stored.new.items ≡ stored.old.items) }
+    ensures short { OnOk result (length stored.new.items ≤ length stored.old.items + 16) }
+    ensures capped { OnOk result
+        (length stored.new.items ≤ max (length stored.old.items) (limit + 16)) }
+    ensures drawn { OnOk result ((p : ℕ → Bool) → AllPass p stored.old.items → p value ≡ true
+        → AllPass p stored.new.items) }
+    ensures too_large { result ≡ Err TooLarge → limit < length stored.old.items }
+{
+    if let Some(at) = find_apart(stored, value, from, taken) {
+        return Ok(at);
+    }
+    let at = stored.len() - filled_tail(stored, value);
+    if at > limit {
+        return Err(BuildError::TooLarge);
+    }
+    stored.resize(at + 16, value)?;
+    Ok(at)
+}
+
+/// Writes `to` in the place of each `from`.
+fn rename(offsets: &mut [usize], from: usize, to: usize)
+    ensures renamed { (j : ℕ) → j < length offsets.old → slice_index offsets.old j ≡ from
+        → slice_index offsets.new j ≡ to }
+    ensures others { (j : ℕ) → slice_index offsets.old j ≢ from
+        → slice_index offsets.new j ≡ slice_index offsets.old j }
+{
+    for offset in offsets.iter_mut() {
+        if *offset == from {
+            *offset = to;
+        }
+    }
+}
+
+/// The null block at block number `number` of 64, which holds one number. The blocks of 16 that hold it get
+/// its offset too.
+fn null_of_fast(cells: &[u32], fast: &[usize], small: &mut [usize], number: usize) -> NullBlock
+    requires room { length cells.now < 2 ^ 31 }
+    requires fast { (j : ℕ) → j < length fast.now → slice_index fast.now j + 64 ≤ length cells.now }
+    requires small { (j : ℕ) → j < length small.old → slice_index small.old j + 16 ≤ length cells.now }
+    requires number { number < length fast.now }
+    requires filled { let at = slice_index fast.now number in IsFilled (slice_index cells.now at) 64 at cells.now }
+    ensures moved { IsMoved cells.now cells.now small.old small.new }
+    ensures null { IsNull fast.now small.new cells.now result.offset result.value }
+{
+    let offset = fast[number];
+    let value = cells[offset];
+    if let Some(same) = find_filled(cells, small, 16, Some(value)) {
+        let from = small[same];
+        rename(small, from, offset);
+    }
+    NullBlock { offset, value }
+}
+
+/// The null block at block number `number` of 16, which holds one number. It and the blocks that are equal to
+/// it are moved to where no block of 64 starts.
+fn null_of_small(
+    stored: &mut Vec<u32>,
+    fast: &[usize],
+    small: &mut [usize],
+    number: usize,
+    limit: usize,
+) -> Result<NullBlock, BuildError>
+    requires room { length stored.old.items < 2 ^ 31 }
+    requires fast { (j : ℕ) → j < length fast.now → slice_index fast.now j + 64 ≤ length stored.old.items }
+    requires small { (j : ℕ) → j < length small.old → slice_index small.old j + 16 ≤ length stored.old.items }
+    requires number { number < length small.old }
+    requires filled { let at = slice_index small.old number in
+        IsFilled (slice_index stored.old.items at) 16 at stored.old.items }
+    ensures moved { OnOk result (IsMoved stored.old.items stored.new.items small.old small.new) }
+    ensures null { IfOk result (λ n. IsNull fast.now small.new stored.new.items n.offset n.value) }
+    ensures kept { OnOk result (take (length stored.old.items) stored.new.items ≡ stored.old.items) }
+    ensures short { OnOk result (length stored.new.items ≤ length stored.old.items + 16) }
+    ensures capped { OnOk result
+        (length stored.new.items ≤ max (length stored.old.items) (limit + 16)) }
+    ensures drawn { OnOk result ((p : ℕ → Bool) → AllPass p stored.old.items → AllPass p stored.new.items) }
+    ensures too_large { result ≡ Err TooLarge → limit < length stored.old.items }
+{
+    let from = small[number];
+    let value = stored[from];
+    let offset = settle(stored, value, from, fast, limit)?;
+    rename(small, from, offset);
+    Ok(NullBlock { offset, value })
+}
+
+/// The null block among blocks of 64 at the offsets `fast` and blocks of 16 at the offsets `small`: one that
+/// holds one number, and none where there is no such block. Where it is a block of 16, it is moved to where
+/// no block of 64 starts; otherwise a walk would take a block of 64 for the null block that only begins like it.
+///
+/// # Errors
+///
+/// `TooLarge` where it would start above `limit`.
+pub(crate) fn place_null(
+    alloc: Global,
+    stored: &mut Vec<u32>,
+    fast: &[usize],
+    small: &mut [usize],
+    limit: usize,
+) -> Result<Option<NullBlock>, BuildError>
+    requires room { length stored.old.items < 2 ^ 31 }
+    requires fast { (j : ℕ) → j < length fast.now → slice_index fast.now j + 64 ≤ length stored.old.items }
+    requires small { (j : ℕ) → j < length small.old → slice_index small.old j + 16 ≤ length stored.old.items }
+    ensures moved { OnOk result (IsMoved stored.old.items stored.new.items small.old small.new) }
+    ensures null { IfOk result (λ r. IfSome r (λ n. IsNull fast.now small.new stored.new.items n.offset n.value)) }
+    ensures none { IfOk result (λ r. IfNone r (HasNoNull fast.now small.new stored.new.items)) }
+    ensures kept { OnOk result (take (length stored.old.items) stored.new.items ≡ stored.old.items) }
+    ensures short { OnOk result (length stored.new.items ≤ length stored.old.items + 16) }
+    ensures capped { OnOk result
+        (length stored.new.items ≤ max (length stored.old.items) (limit + 16)) }
+    ensures drawn { OnOk result ((p : ℕ → Bool) → AllPass p stored.old.items → AllPass p stored.new.items) }
+    ensures too_large { result ≡ Err TooLarge → limit < length stored.old.items }
+{
+    match choose(alloc, stored, fast, small)? {
+        None => Ok(None),
+        Some(FilledBlock::Fast(number)) => Ok(Some(null_of_fast(stored, fast, small, number))),
+        Some(FilledBlock::Small(number)) => {
+            Ok(Some(null_of_small(stored, fast, small, number, limit)?))
+        }
+    }
+}

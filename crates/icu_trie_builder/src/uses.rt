@@ -1,0 +1,117 @@
+//! Which number fills the most blocks: a wish, which no contract states.
+ghost use Rattle.std.specs.Prelude.{◌≡◌, ℕ, ◌+◌, ◌^◌, ◌<◌, ◌≤◌, length, slice_index};
+
+use crate::null_block::is_filled;
+use std::alloc::{AllocError, Global};
+
+/// How many numbers are counted at a time. Where there are more, a new one takes the place of the least used.
+const MOST_USES: usize = 32;
+
+/// How many blocks of 16 a number fills.
+#[derive(Clone, Copy)]
+struct Use {
+    value: u32,
+    blocks: usize,
+}
+
+/// The place of a number that is used least.
+fn least_used(uses: &[Use]) -> usize
+    requires { 0 < length uses.now }
+    ensures { result < length uses.now }
+{
+    let mut least = 0;
+    for i in 0..uses.len() {
+        if uses[i].blocks < uses[least].blocks {
+            least = i;
+        }
+    }
+    least
+}
+
+/// Counts so many blocks more for a number.
+fn add_use(uses: &mut Vec<Use>, value: u32, blocks: usize) -> Result<(), AllocError> {
+    for i in 0..uses.len() {
+        if uses[i].value == value {
+            uses[i].blocks = uses[i].blocks.saturating_add(blocks);
+            return Ok(());
+        }
+    }
+    if uses.len() < MOST_USES {
+        uses.push(Use { value, blocks })?;
+    } else {
+        let least = least_used(uses);
+        uses[least] = Use { value, blocks };
+    }
+    Ok(())
+}
+
+/// Counts the `count` blocks of `size` cells at one offset, where they hold one number.
+fn add_blocks(
+    uses: &mut Vec<Use>,
+    cells: &[u32],
+    at: usize,
+    size: usize,
+    count: usize,
+) -> Result<(), AllocError>
+    requires room { length cells.now < 2 ^ 31 }
+    requires some { 0 < size }
+    requires inside { 0 < count → at + size ≤ length cells.now }
+{
+    if count > 0 && is_filled(cells, at, size) {
+        add_use(uses, cells[at], count.saturating_mul(size / 16))?;
+    }
+    Ok(())
+}
+
+/// Counts the blocks of `size` cells at these offsets.
+fn add_offsets(
+    uses: &mut Vec<Use>,
+    cells: &[u32],
+    offsets: &[usize],
+    size: usize,
+) -> Result<(), AllocError>
+    requires room { length cells.now < 2 ^ 31 }
+    requires some { 0 < size }
+    requires inside { (j : ℕ) → j < length offsets.now → slice_index offsets.now j + size ≤ length cells.now }
+{
+    let mut last = 0;
+    let mut count = 0;
+    for offset in offsets {
+        if *offset != last {
+            add_blocks(uses, cells, last, size, count)?;
+            count = 0;
+        }
+        last = *offset;
+        count += 1;
+    }
+    add_blocks(uses, cells, last, size, count)
+}
+
+/// A number that fills more of these blocks than others, weighted by their length.
+pub(crate) fn most_used(
+    alloc: Global,
+    cells: &[u32],
+    fast: &[usize],
+    small: &[usize],
+) -> Result<Option<u32>, AllocError>
+    requires room { length cells.now < 2 ^ 31 }
+    requires fast { (j : ℕ) → j < length fast.now → slice_index fast.now j + 64 ≤ length cells.now }
+    requires small { (j : ℕ) → j < length small.now → slice_index small.now j + 16 ≤ length cells.now }
+{
+    let mut uses = Vec::new(alloc);
+    add_offsets(&mut uses, cells, fast, 64)?;
+    add_offsets(&mut uses, cells, small, 16)?;
+    let mut most = Use {
+        value: 0,
+        blocks: 0,
+    };
+    for used in &uses {
+        if used.blocks > most.blocks {
+            most = *used;
+        }
+    }
+    if most.blocks == 0 {
+        return Ok(None);
+    }
+    Ok(Some(most.value))
+}

@@ -1,0 +1,11 @@
+use Rattle.std.proofs.Common.{◌≡◌, ◌≤◌, ◌+◌, ◌<◌, ℕ, slice_get, IsSomeAnd}
+use Rattle.icu_trie_core.specs.CoherentBlocks.{IsBlock}
+use Rattle.icu_trie_core.proofs.coherent.has_fast_blocks.Given as goal
+
+abbrev pub invariant-loop-block : goal.invariant-loop-block
+invariant-loop-block g l = record {
+  same_index : g.C.Cells.index l.cells ≡ g.C.Cells.index l.fn.cells;
+  same_values : g.C.Cells.values l.cells ≡ g.C.Cells.values l.fn.cells;
+  reads : g.C.Cells.reads l.cells ≤ g.C.Cells.reads l.fn.cells + 64 + l.block;
+  blocks : (b : ℕ) → b < l.block → IsSomeAnd (slice_get (g.C.Cells.index l.fn.cells) b) (IsBlock g.T.TrieValue.of_number l.header (g.C.Cells.values l.fn.cells) 64);
+}

@@ -1,0 +1,113 @@
+//! Tries in TOML, key by key: each number that is missing or out of its range is named, and what the type's number says.
+use super::support::joined;
+use icu_trie::header::{CodePointTrieHeader, TrieType};
+use icu_trie_formats::trie_toml::{CodePointTrieToml, TomlError};
+use std::alloc::Global;
+use std::process::Abort;
+use std::test::Fail;
+
+/// No cell, which is enough where a number is refused.
+const INDEX: &str = "index = []\n";
+
+/// The keys of the numbers in their order, each with a line that gives one, and one whose number is one too many.
+const NUMBERS: [(&str, &str, &str); 7] = [
+    (
+        "highStart",
+        "highStart = 4294967295\n",
+        "highStart = 4294967296\n",
+    ),
+    (
+        "shifted12HighStart",
+        "shifted12HighStart = 65535\n",
+        "shifted12HighStart = 65536\n",
+    ),
+    ("type", "type = 0\n", "type = 256\n"),
+    ("valueWidth", "valueWidth = 255\n", "valueWidth = 256\n"),
+    (
+        "index3NullOffset",
+        "index3NullOffset = 65535\n",
+        "index3NullOffset = 65536\n",
+    ),
+    (
+        "dataNullOffset",
+        "dataNullOffset = 4294967295\n",
+        "dataNullOffset = 4294967296\n",
+    ),
+    (
+        "nullValue",
+        "nullValue = 4294967295\n",
+        "nullValue = 4294967296\n",
+    ),
+];
+
+/// What a table says that has the index and a line for each number, but `line` in place of that of number `place`.
+fn read_with(
+    alloc: Global,
+    place: usize,
+    line: &str,
+) -> Result<Result<CodePointTrieToml, TomlError>, Fail> {
+    let mut lines = [INDEX; 8];
+    for (i, number) in NUMBERS.iter().enumerate() {
+        lines[i + 1] = if i == place { line } else { number.1 };
+    }
+    let text = joined(alloc, &lines).ok_or("no memory")?;
+    let table = toml::table_from_str(alloc, text.as_str())?;
+    Ok(CodePointTrieToml::from_table(alloc, &table))
+}
+
+/// The table is refused with this fault.
+fn expect_fault(rt: &impl Abort, read: Result<CodePointTrieToml, TomlError>, want: TomlError) {
+    let found = read.err();
+    assert_eq!(rt; found, Some(want));
+}
+
+#[test]
+fn numbers_that_are_missing(rt: HostRuntime) -> Result<(), Fail> {
+    for (i, number) in NUMBERS.iter().enumerate() {
+        expect_fault(
+            &rt,
+            read_with(rt.alloc(), i, "")?,
+            TomlError::Missing(number.0),
+        );
+    }
+    Ok(())
+}
+
+#[test]
+fn numbers_that_are_too_large(rt: HostRuntime) -> Result<(), Fail> {
+    for (i, number) in NUMBERS.iter().enumerate() {
+        expect_fault(
+            &rt,
+            read_with(rt.alloc(), i, number.2)?,
+            TomlError::OutOfRange(number.0),
+        );
+    }
+    Ok(())
+}
+
+/// The header that was read, where the table was not refused.
+fn header_in(read: Result<CodePointTrieToml, TomlError>) -> Option<CodePointTrieHeader> {
+    let read = read.ok()?;
+    CodePointTrieHeader::try_from(&read).ok()
+}
+
+/// The greatest numbers are read, and type 0 is `Fast`.
+#[test]
+fn greatest_numbers(rt: HostRuntime) -> Result<(), Fail> {
+    let want = CodePointTrieHeader {
+        high_start: 0xffff_ffff,
+        shifted12_high_start: 0xffff,
+        index3_null_offset: 0xffff,
+        data_null_offset: 0xffff_ffff,
+        null_value: 0xffff_ffff,
+        trie_type: TrieType::Fast,
+    };
+    let found = header_in(read_with(rt.alloc(), 7, "")?);
+    expect_header(&rt, found, want);
+    Ok(())
+}
+
+/// The header is the wanted one.
+fn expect_header(rt: &impl Abort, found: Option<CodePointTrieHeader>, want: CodePointTrieHeader) {
+    assert_eq!(rt; found, Some(want));
+}

@@ -1,0 +1,15 @@
+//! What callers of `icu_collections` prove of their own code, from the contracts of that crate alone: the examples
+//! of the README, and one caller for each promise that others build upon.
+//!
+//! - `tables`: properties of characters in tries that are built, stored and read
+//! - `sets`: sets of code points
+//! - `words`: word lists in unit tries
+//! - `own_cells`: a look-up over cells of the caller's own, which counts its reads
+#![tactic(auto)]
+
+pub mod own_cells;
+pub mod sets;
+pub mod tables;
+#[cfg(test)]
+mod tests;
+pub mod words;

@@ -1,0 +1,92 @@
+//! A look-up over cells of the caller's own. A trie's index and data may lie anywhere, as here in slices: what gives
+//! their cells is a [`Cells`], and [`Steps`] counts the reads for the proof. The count has no bytes at run time.
+ghost use Rattle.std.specs.Prelude.{◌≡◌, ◌+◌, ◌<◌, ◌≤◌, false, length};
+ghost use Rattle.icu_collections.specs.CodePointTrie.{answer, fast_index_len, passes_data};
+
+use icu_collections::codepointtrie::{Cells, CodePointTrieHeader, Steps, look_up, look_up_whole};
+use std::marker::Brand;
+use std::sync::ledger::{Blank, Ledger};
+
+/// Index and values in slices. The four calls below are all that a look-up needs.
+#[derive(Drop)]
+pub struct SliceCells<'a, L: Ledger> {
+    index: &'a [u16],
+    values: &'a [u32],
+    reads: Steps<L>,
+}
+
+impl<'a, L: Ledger> Cells<u32> for SliceCells<'a, L> {
+    ghost index = { λ cells. cells.index.now };
+
+    ghost values = { λ cells. cells.values.now };
+
+    ghost reads = { λ cells. cells.reads };
+
+    fn index_len(&self) -> usize {
+        self.index.len()
+    }
+
+    fn data_len(&self) -> usize {
+        self.values.len()
+    }
+
+    fn index_cell(&mut self, i: usize) -> Option<u16> {
+        self.reads.tick();
+        self.index.get(i).copied()
+    }
+
+    fn data_cell(&mut self, i: usize) -> Option<u32> {
+        self.reads.tick();
+        self.values.get(i).copied()
+    }
+}
+
+/// The value of `c`, counted in the ledger of `blank`.
+fn look_up_counted<L: Ledger>(
+    header: &CodePointTrieHeader,
+    index: &[u16],
+    values: &[u32],
+    c: u32,
+    blank: Blank,
+) -> Option<u32>
+    requires name { blank.name ≡ L.name }
+    requires parts { blank.parts ≡ L.parts }
+    requires some { 0 < blank.parts }
+    ensures { result ≡ answer header.now index.now values.now c }
+{
+    let mut cells = SliceCells {
+        index,
+        values,
+        reads: Steps::<L>::new(blank),
+    };
+    look_up(header, &mut cells, c)
+}
+
+/// The value of `c` in a trie of these parts, whatever they say; none where the error value stands for it. The
+/// counter is made for this one call.
+pub fn look_up_in_slices(
+    header: &CodePointTrieHeader,
+    index: &[u16],
+    values: &[u32],
+    c: u32,
+) -> Option<u32>
+    ensures { result ≡ answer header.now index.now values.now c }
+{
+    look_up_counted::<Brand>(header, index, values, c, Blank::new(1))
+}
+
+/// Where the fast index is whole, `look_up_whole` is `look_up`, over any cells; each makes at most five reads.
+pub fn both_look_ups<C: Cells<u32>>(
+    header: &CodePointTrieHeader,
+    cells: &mut C,
+    c: u32,
+) -> (Option<u32>, Option<u32>)
+    requires fast_index { fast_index_len header.now.trie_type ≤ length (C.index cells.old) }
+    requires blocks { passes_data header.now.trie_type (C.index cells.old) (length (C.values cells.old)) ≡ false }
+    ensures same { result.0 ≡ result.1 }
+    ensures reads { C.reads cells.new ≤ C.reads cells.old + 10 }
+{
+    let any = look_up(header, cells, c);
+    let whole = look_up_whole(header, cells, c);
+    (any, whole)
+}

@@ -1,0 +1,112 @@
+//! Properties of characters in tries that are built, stored and read.
+ghost use Rattle.std.specs.Prelude.{◌≡◌, ◌<◌, ◌≤◌, ◌↔◌, ℕ, [], ◌∷◌, true, false, Some, IfOk, IfSome, List, map};
+ghost use Rattle.std.specs.Option.{option_map};
+ghost use Rattle.icu_collections.specs.CodePointInversionList.{holds};
+ghost use Rattle.icu_collections.specs.CodePointTrie.{AreMaximalRuns, answers, trie_value, value_run};
+ghost use Rattle.icu_collections.specs.CodePointTrieBuilder.{answer_after, value_after};
+
+use icu_collections::codepointinvlist::CodePointInversionList;
+use icu_collections::codepointtrie::{
+    BuildError, CodePointMapRange, CodePointTrie, CodePointTrieBuilder, TrieType, TrieValue, Write,
+    build_from_writes, json,
+};
+use icu_collections::zerovec::MemoryError;
+use std::alloc::Global;
+
+/// The value of `A` where `A` to `Z` have 1.
+pub fn value_of_a(alloc: Global) -> Result<u8, BuildError>
+    ensures { IfOk result (λ v. v ≡ 1) }
+{
+    let writes = [Write::Range(0x41..=0x5A, 1u8), Write::One(0x1F600, 2)];
+    let trie = build_from_writes(alloc, 0, 255, TrieType::Fast, &writes)?;
+    Ok(trie.get32(0x41)) // 1: the last write that covers it
+}
+
+/// The general category of a character by the rows of a table: that of the last row that covers it, else 0.
+pub fn general_category(alloc: Global, rows: &[Write<u8>], c: char) -> Result<u8, BuildError>
+    ensures { IfOk result (λ v. v ≡ value_after rows.now 0 c) }
+{
+    let trie = build_from_writes(alloc, 0, 255, TrieType::Fast, rows)?;
+    Ok(trie.get(c))
+}
+
+/// The same by two calls of a builder, of any type of values, at any number.
+pub fn written_twice<T: TrieValue>(
+    alloc: Global,
+    default: T,
+    error: T,
+    first: (u32, T),
+    second: (u32, T),
+    c: u32,
+) -> Result<T, BuildError>
+    ensures { IfOk result (λ v. v ≡ answer_after default error (Write.One first.0 first.1 ∷ Write.One second.0 second.1 ∷ []) c) }
+{
+    let mut builder = CodePointTrieBuilder::new(alloc, default, error, TrieType::Small);
+    builder.set_value(first.0, first.1)?;
+    builder.set_value(second.0, second.1)?;
+    let trie = builder.build()?;
+    Ok(trie.get32(c))
+}
+
+/// Writes a value, and says whether memory was found for it. Where it was not, the map is as it was.
+pub fn try_to_write<T: TrieValue>(builder: &mut CodePointTrieBuilder<T>, c: u32, value: T) -> bool
+    ensures { result ≡ false → builder.new ≡ builder.old }
+{
+    builder.set_value(c, value).is_ok()
+}
+
+/// A trie that is written to JSON and read back answers as before.
+pub fn stored_value<T: TrieValue>(
+    alloc: Global,
+    trie: &CodePointTrie<'_, T>,
+    c: u32,
+) -> Result<T, MemoryError>
+    ensures { IfOk result (λ v. Some v ≡ trie_value trie.now c) }
+{
+    let text = json::to_json(alloc, trie)?;
+    match json::from_json::<T>(alloc, &text) {
+        Ok(read) => Ok(read.get32(c)),
+        Err(_) => Err(MemoryError),
+    }
+}
+
+/// The set of the characters that have a category.
+pub fn set_of_category(
+    alloc: Global,
+    rows: &[Write<u8>],
+    category: u8,
+) -> Result<CodePointInversionList<'static>, BuildError>
+    ensures { IfOk result (λ s. (c : ℕ) → c < 0x110000 → (holds s c ≡ true) ↔ (value_after rows.now 0 c ≡ category)) }
+{
+    let trie = build_from_writes(alloc, 0, 255, TrieType::Fast, rows)?;
+    let set = trie.get_set_for_value(alloc, category)?;
+    Ok(set)
+}
+
+/// The ranges of a table, collected: they are the maximal runs of what its rows say.
+pub fn runs_of_rows(
+    alloc: Global,
+    rows: &[Write<u8>],
+) -> Result<Vec<CodePointMapRange<u8>>, BuildError>
+    ensures { IfOk result (λ v. AreMaximalRuns (value_after rows.now 0) (map value_run v.items)) }
+{
+    let trie = build_from_writes(alloc, 0, 255, TrieType::Fast, rows)?;
+    let ranges = trie.iter_ranges().collect::<Vec<_>>(alloc)?;
+    Ok(ranges)
+}
+
+/// The set of the code points with a value, by a table from a stranger: only where its ranges can be trusted, and
+/// where memory was found.
+pub fn trusted_set(
+    alloc: Global,
+    trie: &CodePointTrie<'_, u8>,
+    value: u8,
+) -> Option<CodePointInversionList<'static>>
+    ensures { IfSome result (λ s. (c : ℕ) → c < 0x110000 → (holds s c ≡ true) ↔ (answers trie.now c ≡ Some value)) }
+{
+    if !trie.is_coherent() {
+        return None;
+    }
+    let set = trie.get_set_for_value(alloc, value).ok()?;
+    Some(set)
+}

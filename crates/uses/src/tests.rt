@@ -1,0 +1,188 @@
+//! The callers, run.
+
+use crate::{own_cells, sets, tables, words};
+use icu_collections::char16trie::{Char16Trie, TrieResult};
+use icu_collections::codepointinvlist::{CodePointInversionList, CodePointInversionListBuilder};
+use icu_collections::codepointtrie::{
+    CodePointTrieBuilder, CodePointTrieHeader, TrieType, Write, build_from_writes,
+};
+use icu_collections::zerovec::{MemoryError, ZeroVec};
+use std::alloc::Global;
+use std::process::Abort;
+
+/// What is said holds.
+fn expect(rt: &impl Abort, holds: bool, what: &str) {
+    assert!(rt; holds, "{what}");
+}
+
+/// The set of these ends.
+fn set_of(rt: &(impl Abort + AllocGlobal), ends: &[u32]) -> CodePointInversionList<'static> {
+    match CodePointInversionList::try_from_u32_inversion_list_slice(rt.alloc(), ends) {
+        Ok(set) => set,
+        Err(_) => panic!(rt; "no set"),
+    }
+}
+
+/// The set has these ends.
+fn expect_set(
+    rt: &(impl Abort + AllocGlobal),
+    set: CodePointInversionList<'_>,
+    ends: &[u32],
+) -> Result<(), MemoryError> {
+    let found = set.get_inversion_list_vec(rt.alloc())?;
+    assert_eq!(rt; found.as_slice(), ends);
+    Ok(())
+}
+
+#[test]
+fn sets_that_are_asked(rt: HostRuntime) {
+    expect(
+        &rt,
+        !sets::holds_a_far_number(&CodePointInversionList::all()),
+        "far",
+    );
+    let first = sets::first_range(&CodePointInversionList::bmp());
+    expect(&rt, first == Some(0..=0xFFFF), "first");
+    expect(
+        &rt,
+        sets::count_ranges(&CodePointInversionList::bmp()) == 1,
+        "count",
+    );
+}
+
+#[test]
+fn a_set_that_is_stored(rt: HostRuntime) {
+    let Ok(set) = sets::stored(rt.alloc(), &set_of(&rt, &[0x41, 0x5B])) else {
+        panic!(rt; "stored");
+    };
+    let _ = expect_set(&rt, set, &[0x41, 0x5B]);
+}
+
+#[test]
+fn letters_that_are_changed(rt: HostRuntime) {
+    let Ok(set) = sets::changed_letters(rt.alloc(), &set_of(&rt, &[0x41, 0x62])) else {
+        panic!(rt; "changed");
+    };
+    let _ = expect_set(&rt, set, &[0x41, 0x61, 0x62, 0x7B]);
+}
+
+#[test]
+fn a_code_point_that_is_added(rt: HostRuntime) {
+    let mut builder = CodePointInversionListBuilder::new(rt.alloc());
+    expect(&rt, sets::try_to_add(&mut builder, 0x41), "added");
+    let Ok(set) = builder.build() else {
+        panic!(rt; "built");
+    };
+    let _ = expect_set(&rt, set, &[0x41, 0x42]);
+}
+
+/// Two categories, and a row that writes over the first.
+fn rows() -> [Write<u8>; 3] {
+    [
+        Write::Range(0x41..=0x5A, 1),
+        Write::Range(0x61..=0x7A, 2),
+        Write::One(0x5A, 2),
+    ]
+}
+
+#[test]
+fn tables_that_are_built(rt: HostRuntime) {
+    let alloc = rt.alloc();
+    expect(&rt, tables::value_of_a(alloc) == Ok(1), "A");
+    expect(
+        &rt,
+        tables::general_category(alloc, &rows(), 'Z') == Ok(2),
+        "Z",
+    );
+    let twice = tables::written_twice(alloc, 0u16, 9, (0x41, 300), (0x41, 301), 0x41);
+    expect(&rt, twice == Ok(301), "twice");
+    let mut builder = CodePointTrieBuilder::new(alloc, 0u8, 9, TrieType::Fast);
+    expect(&rt, tables::try_to_write(&mut builder, 0x41, 1), "written");
+}
+
+#[test]
+fn a_table_that_is_stored(rt: HostRuntime) {
+    let Ok(trie) = build_from_writes(rt.alloc(), 0u8, 9, TrieType::Small, &rows()) else {
+        panic!(rt; "built");
+    };
+    let found = tables::stored_value(rt.alloc(), &trie, 0x11_0000);
+    expect(&rt, found == Ok(9), "stored");
+}
+
+#[test]
+fn the_set_of_a_category(rt: HostRuntime) {
+    let Ok(set) = tables::set_of_category(rt.alloc(), &rows(), 2) else {
+        panic!(rt; "set");
+    };
+    let _ = expect_set(&rt, set, &[0x5A, 0x5B, 0x61, 0x7B]);
+}
+
+#[test]
+fn the_runs_of_rows(rt: HostRuntime) {
+    let Ok(ranges) = tables::runs_of_rows(rt.alloc(), &rows()) else {
+        panic!(rt; "ranges");
+    };
+    expect(&rt, ranges.len() == 6, "six runs");
+}
+
+/// "a" to 1, "ab" to 2, as ICU writes them.
+fn word_trie(alloc: Global) -> Result<Char16Trie<'static>, MemoryError> {
+    let units = ZeroVec::alloc_from_slice(alloc, &[0x30, 0x61, 0xb0, 0x62, 0x8002])?;
+    Ok(Char16Trie::new(units))
+}
+
+#[test]
+fn words_that_are_looked_up(rt: HostRuntime) {
+    let Ok(trie) = word_trie(rt.alloc()) else {
+        panic!(rt; "trie");
+    };
+    expect(&rt, words::number_of_word(&trie, "ab") == Some(2), "ab");
+    expect(&rt, words::number_of_word(&trie, "b").is_none(), "b");
+    let first = words::first_result(&trie, 'a');
+    expect(&rt, first == TrieResult::Intermediate(1), "a");
+}
+
+/// Whether the list is that of two words.
+fn are_two_words(list: Vec<(String, i32)>) -> bool {
+    if let [(first, one), (second, two)] = list.as_slice() {
+        return first.as_str() == "a" && *one == 1 && second.as_str() == "ab" && *two == 2;
+    }
+    false
+}
+
+#[test]
+fn words_that_are_listed(rt: HostRuntime) {
+    let Some(list) = words::two_words(rt.alloc()) else {
+        panic!(rt; "listed");
+    };
+    expect(&rt, are_two_words(list), "a and ab");
+}
+
+#[test]
+fn a_set_that_can_be_trusted(rt: HostRuntime) {
+    let Ok(trie) = build_from_writes(rt.alloc(), 0u8, 9, TrieType::Small, &rows()) else {
+        panic!(rt; "built");
+    };
+    let Some(set) = tables::trusted_set(rt.alloc(), &trie, 1) else {
+        panic!(rt; "trusted");
+    };
+    let _ = expect_set(&rt, set, &[0x41, 0x5A]);
+}
+
+#[test]
+fn cells_of_ones_own(rt: HostRuntime) {
+    let header = CodePointTrieHeader {
+        high_start: 0,
+        shifted12_high_start: 0,
+        index3_null_offset: 0x7fff,
+        data_null_offset: 0xfffff,
+        null_value: 0,
+        trie_type: TrieType::Small,
+    };
+    let mut values = [7; 66];
+    values[65] = 9;
+    let found = own_cells::look_up_in_slices(&header, &[0; 64], &values, 0x41);
+    expect(&rt, found == Some(7), "below");
+    let found = own_cells::look_up_in_slices(&header, &[0; 64], &values, 0x11_0000);
+    expect(&rt, found.is_none(), "above");
+}
