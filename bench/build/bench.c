@@ -1,4 +1,5 @@
 /* Builds of this repository's code point tries beside ICU4C's, from the same rows in one run: cells and times. */
+#include <malloc.h>
 #include <stdbool.h>
 #include <stdint.h>
 #include <stdio.h>
@@ -24,6 +25,27 @@ static const struct width { const char *name; uint32_t greatest; UCPTrieValueWid
 static struct row *rows;
 static size_t row_count;
 static uint32_t answers[ALL];
+
+/* What is held of the heap, and the most that was: by us and by ICU alike. */
+void *__libc_malloc(size_t), *__libc_calloc(size_t, size_t), *__libc_realloc(void *, size_t);
+void __libc_free(void *);
+static size_t held, peak;
+
+static void *taken(void *it) {
+    held += malloc_usable_size(it);
+    if (held > peak) peak = held;
+    return it;
+}
+
+void *malloc(size_t size) { return taken(__libc_malloc(size)); }
+void *calloc(size_t count, size_t size) { return taken(__libc_calloc(count, size)); }
+void free(void *it) { held -= malloc_usable_size(it); __libc_free(it); }
+void *realloc(void *it, size_t size) {
+    size_t before = malloc_usable_size(it);
+    void *moved = __libc_realloc(it, size);
+    if (moved) held -= before, taken(moved);
+    return moved;
+}
 
 static void fail(const char *what) { fprintf(stderr, "build: %s\n", what); exit(1); }
 
@@ -86,10 +108,15 @@ static void measure(const char *file, const struct width *width, bool fast) {
     static double all[TURNS], alone[TURNS], ms[TURNS];
     struct sizes sizes;
     double icu_alone;
+    size_t before = peak = held;
     UCPTrie *trie = build_icu(fast, width->icu, &icu_alone);
+    size_t icu_peak = peak - before;
     if (!width->build(fast, rows, row_count, ERROR_VALUE, &sizes, answers, ALL)) fail("the trie can't be built");
     for (uint32_t c = 0; c < ALL; c++)
         if (answers[c] != ucptrie_get(trie, c)) fail("a built trie answers what ICU's doesn't");
+    before = peak = held;
+    width->build(fast, rows, row_count, ERROR_VALUE, &sizes, answers, 0);
+    size_t our_peak = peak - before;
     for (int turn = 0; turn < TURNS; turn++) {
         double begun = seconds();
         ucptrie_close(build_icu(fast, width->icu, &icu_alone));
@@ -101,17 +128,18 @@ static void measure(const char *file, const struct width *width, bool fast) {
         alone[turn] = ours / icu_alone;
         ms[turn] = ours * 1e3;
     }
-    printf("%-6s %-8s %8zu %8d %8zu %8d %6.2f %6.2f %8.2f  %s\n", fast ? "fast" : "small", width->name, sizes.data,
-           (int)trie->dataLength, sizes.index, (int)trie->indexLength, median(all), median(alone), median(ms), file);
+    printf("%-6s %-8s %8zu %8d %8zu %8d %6.2f %6.2f %8.2f %6zu %6zu  %s\n", fast ? "fast" : "small", width->name, sizes.data,
+           (int)trie->dataLength, sizes.index, (int)trie->indexLength, median(all), median(alone), median(ms), our_peak / 1000,
+           icu_peak / 1000, file);
     fflush(stdout);
     ucptrie_close(trie);
 }
 
 int main(int count, char **files) {
     if (count < 2) fail("usage: bench TABLE..");
-    printf("cells of data and of index, ours and ICU's; our time by ICU's from the rows on, and by its build alone; our ms\n");
-    printf("%-6s %-8s %8s %8s %8s %8s %6s %6s %8s  table\n", "type", "values", "data", "ICU", "index", "ICU", "/all",
-           "/build", "ms");
+    printf("cells of data and of index, ours and ICU's; our time by ICU's from the rows on, and by its build alone; our ms; the most of the heap, ours and ICU's, in kB\n");
+    printf("%-6s %-8s %8s %8s %8s %8s %6s %6s %8s %6s %6s  table\n", "type", "values", "data", "ICU", "index", "ICU", "/all",
+           "/build", "ms", "kB", "ICU");
     for (int k = 1; k < count; k++) {
         uint32_t greatest = read_rows(files[k]);
         for (size_t w = 0; w < sizeof widths / sizeof *widths; w++)

@@ -1,22 +1,20 @@
 #!/bin/sh
-# Reads tries in TOML as ICU's icuexportdata writes them, and compares their ranges with those that another program found. ICU4C builds and exports them here,
-# from each NAME.txt of the folder TABLES with a NAME.runs.txt beside it. It needs rt, gcc and ICU 72 or newer
-# (libicu-dev), so ./test doesn't call it.
+# Reads tries in TOML as ICU's icuexportdata writes them, and compares their ranges with those that another
+# program found: tests/data/east_asian_width.toml with the ranges that the same file has, and, where gcc and
+# ICU 72 or newer (libicu-dev) are at hand, the tries that ICU4C builds and exports here from each NAME.txt
+# with a NAME.runs.txt beside it, of tests/data and of the folder that the variable TABLES names, if it is set.
 # Its last line is 'all exported tries as expected', with status 0, or says what failed, with status 1.
 set -eu
 here=$(dirname -- "$(readlink -f -- "$0")")
 root=$here/../..
-tables=${TABLES:?the folder of the tables}
 
 stop() { echo "exported: $1" >&2; exit 70; }
 command -v rt >/dev/null || stop "no rt: put the kit's folder bin on PATH"
-echo '#include <unicode/ucptrie.h>' | gcc -E - >/dev/null 2>&1 || stop "no gcc, or no ICU: install libicu-dev"
 
 # The program is no part of the repository, so it is built in a copy.
 work=$(mktemp -d)
 trap 'rm -rf "$work"' EXIT
 trap 'exit 130' INT TERM
-gcc -O2 -o "$work/export" "$here/export.c" -licuuc
 "$root/tests/stage.sh" "$work" "exported: icu_trie icu_trie_formats toml" "$here/main.rt.txt" main.rt
 echo "exported: proves and builds; from a clean clone this takes some minutes" >&2
 cd "$work/crates/exported"
@@ -24,17 +22,41 @@ printf '' >trie.toml
 rt run >"$work/log" 2>&1 || [ -x out/exported ] || { tail -n 20 "$work/log" >&2; stop "rt run failed"; }
 
 failed=
-for runs in "$tables"/*.runs.txt; do
-    name=$(basename "${runs%.runs.txt}")
-    for kind in "fast 32" "small 32" "fast 16" "small 8"; do
-        case "$name $kind" in general_category* | *32) ;; radical_stroke*16) ;; *) continue ;; esac
-        "$work/export" $kind <"$tables/$name.txt" >trie.toml
-        if ./out/exported >"$work/out" && cmp -s "$work/out" "$runs"; then
-            echo "$name, $kind bits: $(wc -l <"$runs") ranges compared"
-        else
-            echo "$name, $kind bits: the first other lines:"; diff "$work/out" "$runs" | head -n 6
-            failed="$failed '$name $kind'"
-        fi
+# compare WHAT RANGES: the ranges of trie.toml are these.
+compare() {
+    if ./out/exported >"$work/out" && cmp -s "$work/out" "$2"; then
+        echo "$1: $(wc -l <"$2") ranges compared"
+    else
+        echo "$1: the first other lines:"; diff "$work/out" "$2" | head -n 6
+        failed="$failed '$1'"
+    fi
+}
+
+# The ranges that icuexportdata wrote beside the trie, as lines HEX;N and HEX..HEX;N. It leaves gaps where the
+# value is 0, and none where the property has a value at every code point.
+ranges() {
+    sed -n 's/^ *{a=0x\([0-9a-f]*\), b=0x\([0-9a-f]*\), v=\([0-9]*\).*/\1 \2 \3/p' "$1" | while read -r a b v; do
+        [ "$a" = "$b" ] && printf '%04X;%d\n' "0x$a" "$v" || printf '%04X..%04X;%d\n' "0x$a" "0x$b" "$v"
     done
-done
+}
+
+cp "$root/tests/data/east_asian_width.toml" trie.toml
+ranges trie.toml >"$work/ranges"
+compare "east_asian_width, as icuexportdata wrote it" "$work/ranges"
+
+if gcc -O2 -o "$work/export" "$here/export.c" -licuuc 2>/dev/null; then
+    for folder in "$root/tests/data" ${TABLES:+"$TABLES"}; do
+        for runs in "$folder"/*.runs.txt; do
+            name=$(basename "${runs%.runs.txt}")
+            for kind in "fast 32" "small 32" "fast 16" "small 8"; do
+                case "$name $kind" in general_category* | *32) ;; radical_stroke*16) ;; *) continue ;; esac
+                # shellcheck disable=SC2086
+                "$work/export" $kind <"$folder/$name.txt" >trie.toml
+                compare "$name, $kind bits" "$runs"
+            done
+        done
+    done
+else
+    echo "exported: no gcc, or no ICU (libicu-dev): ICU4C's own exports were not tried"
+fi
 [ -z "$failed" ] && echo "all exported tries as expected" || { echo "FAILED:$failed"; exit 1; }

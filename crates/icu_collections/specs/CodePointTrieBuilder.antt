@@ -3,5 +3,5 @@ pub use Rattle.icu_trie_builder.specs.Writes.{answer_after, covers, first_of, is
 pub use Rattle.icu_trie_builder.specs.CodePointMap.{CodePointMap, IsAfter, map_answer, map_value}
 pub use Rattle.icu_trie_builder.specs.MapAnswers.{AnswersMap, HasRangesOf, IsWellBuilt}
 pub use Rattle.icu_trie_builder.specs.Built.{IsBuiltHeader}
-pub use Rattle.icu_trie_builder.specs.Bounds.{IsTooLarge, compact_data_bound, data_bound, fast_blocks, index_blocks, index_bound, lone_small_blocks, small_blocks}
-pub use Rattle.icu_trie_builder.specs.NullBlock.{NamesNull}
+pub use Rattle.icu_trie_builder.specs.Bounds.{IsTooLarge, compact_data_bound, data_bound, fast_blocks, index_blocks, index_bound, lone_small_blocks, short_index_bound, small_blocks}
+pub use Rattle.icu_trie_builder.specs.NullBlock.{NamesNull, NamesNullIndex}

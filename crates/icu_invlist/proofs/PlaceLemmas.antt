@@ -1,13 +1,9 @@
 -- Where a code point stands among the ends of a valid list.
-use Rattle.std.proofs.Common.{◌≡◌, ℕ, ◌+◌, ◌-◌, ◌%◌, ◌<◌, ◌≤◌, List, [], ◌∷◌, length, get_or, refl, sym, ◌∙◌, arith, suc, true, false, inl, inr, Result, Ok, Err}
-use Rattle.std.proofs.lemmas.Bool.{cases_eq, eq-eqb, ne_eqb, eqb-true}
-use Rattle.std.proofs.lemmas.List.Sorted.{searched}
-use Rattle.std.specs.List.Sorted.{IsBinarySearchResult}
-use Rattle.std.specs.Ordering.{nat_cmp}
-use Rattle.std.specs.Result.{MatchResult}
+use Rattle.std.proofs.Common.{◌≡◌, ℕ, ◌+◌, ◌-◌, ◌%◌, ◌<◌, ◌≤◌, List, [], ◌∷◌, length, get_or, refl, sym, ◌∙◌, arith, suc, true, false, inl, inr}
+use Rattle.std.proofs.lemmas.Bool.{cases_eq, cases_lt, eq-eqb, ne_eqb, eqb-true}
 use Rattle.icu_invlist.specs.InversionList.{holds, IsValid, limit, HoldsAll, IsSubset}
 use Rattle.icu_invlist.specs.Places.{Run, below}
-use Rattle.icu_invlist.proofs.RunLemmas.{below_is, below-le, below-front, below-stays, run-rises, run-back-least}
+use Rattle.icu_invlist.proofs.RunLemmas.{below_is, below-le, below-front, below-more, below-stays, run-rises, run-back-least}
 use Rattle.icu_invlist.proofs.Parity.{holds-below}
 use Rattle.icu_invlist.proofs.EqualSets.{holds-past}
 use Rattle.icu_invlist.proofs.ValidLists.{run_from_valid}
@@ -35,17 +31,20 @@ run-length lo hi (x ∷ xs) h r = let a = run-length (suc x) hi xs (omega (arith
 pub valid-length : (xs : List ℕ) → IsValid xs → length xs ≤ suc limit
 valid-length xs v = let a = run-length 0 (suc limit) xs (omega arith) (run_from_valid xs v) in omega arith
 
-pub placed : (xs : List ℕ) (c : ℕ) (r : Result ℕ ℕ) → IsValid xs → IsBinarySearchResult (λ y. nat_cmp y c) xs r
-    → MatchResult r (λ i. (i + 1 ≡ below xs (suc c)) × (i < length xs)) (λ i. i ≡ below xs (suc c))
-placed xs c (Ok i) v s =
-    let p = searched xs c (Ok i) s (λ a b. run-rises 0 (suc limit) xs (run_from_valid xs v) a b 0) in
-    let e : i ≡ below xs c = below_is xs i c (omega (arith, p.0))
-    (λ k h. let q = run-rises 0 (suc limit) xs (run_from_valid xs v) (k + 1) i 0 (omega arith) p.0 in let u = v.ascending k (omega (arith, p.0)) in omega (arith, p.1))
-    (λ k h l. let q = run-rises 0 (suc limit) xs (run_from_valid xs v) i k 0 h l in omega (arith, p.1)) in
-    (moves_over xs i c v e p.0 p.1, p.0)
-placed xs c (Err i) v s =
-    let p = searched xs c (Err i) s (λ a b. run-rises 0 (suc limit) xs (run_from_valid xs v) a b 0) in
-    below_is xs i (suc c) p.0 (λ k h. let q = p.1 k h in omega arith) (λ k h l. let q = p.2 k h l in omega arith)
+-- what an end says of the place of c
+pub place_behind : (xs : List ℕ) (m c : ℕ) → IsValid xs → m < length xs → get_or xs m 0 ≤ c → m + 1 ≤ below xs (suc c)
+place_behind xs m c v l h = let b = below-more 0 (suc limit) (suc c) xs (run_from_valid xs v) m (omega arith) l in omega arith
+
+pub place_front : (xs : List ℕ) (m c : ℕ) → IsValid xs → c < get_or xs m 0 → below xs (suc c) ≤ m
+place_front xs m c v h = elim (cases_lt m (below xs (suc c))) [
+  | inl k ↦ absurd (let f = below-front 0 (suc limit) (suc c) xs (run_from_valid xs v) m k in omega arith)
+  | inr k ↦ k
+]
+
+pub all_below : (xs : List ℕ) (n c : ℕ) → Run 0 (suc limit) xs → n ≡ length xs → 0 < n → get_or xs (n - 1) 0 < c → n ≡ below xs c
+all_below xs n c r e some h = below_is xs n c (omega arith)
+    (λ k p. let q = run-rises 0 (suc limit) xs r k (n - 1) 0 (omega arith) (omega arith) in omega arith)
+    (λ k p q. absurd (omega arith))
 
 -- a point in a run of the set
 pub covers_all : (xs : List ℕ) (i s e : ℕ) → IsValid xs → i ≡ below xs (suc s) → i % 2 ≡ 1 → i < length xs → e ≤ get_or xs i 0 → HoldsAll xs s e

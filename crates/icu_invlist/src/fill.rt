@@ -10,12 +10,16 @@ ghost use Rattle.icu_invlist.specs.Places.{Run, below, IsFilled};
 
 use icu_zerovec::MemoryError;
 
-/// How many ends stand below `c`.
+/// How many ends stand below `c`. Behind the last end, where ranges in order are added, nothing is searched.
 fn count_below(ends: &[u32], c: u32) -> usize
     requires { Run 0 (suc limit) ends.now }
     ensures count { result ≡ below ends.now c }
     ensures within { result ≤ length ends.now }
 {
+    let count = ends.len();
+    if count > 0 && ends[count - 1] < c {
+        return count;
+    }
     ends.partition_point(|e| *e < c)
 }
 

@@ -1,12 +1,12 @@
 -- Lemmas on what writes leave.
-use Rattle.std.proofs.Common.{◌≡◌, ℕ, ◌+◌, ◌<◌, ◌≤◌, Bool, false, List, [], ◌∷◌, ◌++◌, length, Option, Some, None, get_or, refl, arith, ◌∙◌, sym, min, ap}
+use Rattle.std.proofs.Common.{◌≡◌, ℕ, ◌+◌, ◌<◌, ◌≤◌, List, [], ◌∷◌, ◌++◌, length, Option, Some, None, get_or, refl, arith, ◌∙◌, sym, min, ap}
 use Rattle.std.specs.Option.{option_or, unwrap_or}
 use Rattle.std.proofs.lemmas.Bool.Decides.{nat_tests}
 use Rattle.icu_trie_builder.specs.declared.writes.Write.{Write}
 use Rattle.icu_trie_core.specs.declared.header.TrieType.{TrieType}
-use Rattle.icu_trie_builder.specs.CodePointMap.{CodePointMap, whole_cells, IsAfter, map_value}
+use Rattle.icu_trie_builder.specs.CodePointMap.{CodePointMap, value_of_number, values_of_numbers, IsAfter, map_value}
 use Rattle.icu_trie_builder.specs.Writes.{first_of, last_of, value_of, value_after, last_written}
-use Rattle.icu_trie_builder.proofs.WholeLemmas.{whole_cells-full}
+use Rattle.icu_trie_builder.proofs.WholeLemmas.{number_value-at}
 
 -- a write that is accepted, and fills its range
 pub value_after-filled : {T : Type 0} (w : Write T) (old new : T) (c : ℕ)
@@ -15,18 +15,20 @@ pub value_after-filled : {T : Type 0} (w : Write T) (old new : T) (c : ℕ)
     → new ≡ value_after (w ∷ []) old c
 value_after-filled w old new c h k l inside before behind = grind (arith, nat_tests)
 
--- cells in which the range of an accepted write is filled
-pub IsAfter-filled : {T : Type 0} (w : Write T) (cells made filled : List T) (d error : T) (trie_type : TrieType) (end : ℕ)
+-- numbers in which the range of an accepted write is filled with the number of its value
+pub IsAfter-filled : {T : Type 0} (of_number : ℕ → Option T) (w : Write T) (numbers filled : List ℕ) (n : ℕ) (d error : T) (trie_type : TrieType) (end : ℕ)
     → first_of w ≤ end → end ≡ min (last_of w) 0x10FFFF
-    → made ≡ whole_cells cells d → length filled ≡ 0x110000
-    → ((k : ℕ) (e : T) → first_of w ≤ k → k < end + 1 → get_or filled k e ≡ value_of w)
-    → ((k : ℕ) (e : T) → k < first_of w → get_or filled k e ≡ get_or made k e)
-    → ((k : ℕ) (e : T) → end + 1 ≤ k → get_or filled k e ≡ get_or made k e)
-    → IsAfter (w ∷ []) (record { values = whole_cells cells d; default = d; error = error; trie_type = trie_type }) (record { values = whole_cells filled d; default = d; error = error; trie_type = trie_type })
-IsAfter-filled w cells made filled d error trie_type end h m q l inside before behind = record {
-  values = λ c lt. let s = whole_cells-full filled d l in
-      rw s (value_after-filled w (get_or (whole_cells cells d) c d) (get_or filled c d) c (omega arith) (omega arith) lt
-      (λ a b. inside c d a (omega arith)) (λ a. before c d a ∙ ap (λ xs. get_or xs c d) q) (λ a. behind c d (omega arith) ∙ ap (λ xs. get_or xs c d) q));
+    → length numbers ≡ 0x110000 → length filled ≡ 0x110000 → value_of_number of_number d n ≡ value_of w
+    → ((k : ℕ) → first_of w ≤ k → k < end + 1 → get_or filled k 0 ≡ n)
+    → ((k : ℕ) → k < first_of w → get_or filled k 0 ≡ get_or numbers k 0)
+    → ((k : ℕ) → end + 1 ≤ k → get_or filled k 0 ≡ get_or numbers k 0)
+    → IsAfter (w ∷ []) (record { values = values_of_numbers of_number d numbers; default = d; error = error; trie_type = trie_type }) (record { values = values_of_numbers of_number d filled; default = d; error = error; trie_type = trie_type })
+IsAfter-filled of_number w numbers filled n d error trie_type end h m len len' is inside before behind = record {
+  values = λ c lt.
+      let V = value_of_number of_number d in
+      rw (number_value-at of_number d numbers c (omega (arith, lt, len)), number_value-at of_number d filled c (omega (arith, lt, len')))
+      (value_after-filled w (V (get_or numbers c 0)) (V (get_or filled c 0)) c (omega arith) (omega arith) lt
+      (λ a b. ap V (inside c a (omega arith)) ∙ is) (λ a. ap V (before c a)) (λ a. ap V (behind c (omega arith))));
   default = refl;
   error = refl;
   trie_type = refl;

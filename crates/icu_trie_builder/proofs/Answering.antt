@@ -4,7 +4,7 @@ use Rattle.std.proofs.lemmas.Bool.{cases_lt, le-ltb}
 use Rattle.std.proofs.lemmas.List.{same_lists, get_or_default, get_or-take, length-take}
 use Rattle.std.proofs.lemmas.List.Folds.{list_any_none}
 use Rattle.std.proofs.lemmas.List.FromFn.{get_or-map-range_with_len}
-use Rattle.std.proofs.lemmas.Option.{slice_get-get_or}
+use Rattle.std.proofs.lemmas.Option.{slice_get-get_or, slice_get_within}
 use Rattle.icu_trie_core.specs.declared.header.TrieType.{TrieType}
 use Rattle.icu_trie_core.specs.declared.header.TrieType.TheVariants.{Fast, Small}
 use Rattle.icu_trie_core.specs.declared.header.CodePointTrieHeader.{CodePointTrieHeader}
@@ -13,12 +13,10 @@ use Rattle.icu_trie_core.specs.Format.{answer, fast_limit, high_value}
 use Rattle.icu_trie_core.specs.FastIndex.{fast_index_len, passes_data}
 use Rattle.icu_trie_core.specs.Coherence.{IsCoherent, IsShared, SameAnswers}
 use Rattle.icu_trie_core.proofs.CallerLemmas.{fast_answer, small_answer}
-use Rattle.icu_trie_builder.specs.Layout.{IsIndex}
+use Rattle.icu_trie_compaction.specs.Layout.{AllBelow, IsIndex, IsNullIndex}
 use Rattle.icu_trie_builder.specs.Data.{IsData, SameNumbers}
-use Rattle.icu_trie_builder.specs.NullBlock.{NamesNull}
-use Rattle.icu_trie_builder.proofs.Different.{different-by, different-within}
-use Rattle.icu_trie_builder.proofs.Laying.{parts}
-use Rattle.icu_trie_builder.proofs.Windows.{length-window, window-read}
+use Rattle.icu_trie_builder.specs.NullBlock.{NamesNull, NamesNullIndex}
+use Rattle.icu_trie_compaction.proofs.CallerLemmas.{different-by, different-within, parts, length-window, window-read}
 
 some-injective : (x y : ℕ) → Some x ≡ Some y → x ≡ y
 some-injective x y e = ap (λ o. unwrap_or o x) e
@@ -82,6 +80,21 @@ module _ (trie_type : TrieType) (high null value : ℕ) (f : ℕ → ℕ) (fast 
       let first : ℕ = fast_limit trie_type / 512 in
       omega (arith, few_offsets, different-within (block_of 512 f) (block_of 512 f) first (2176 - first) 0 2176 (λ j l l'. (j, omega arith, omega (arith, l', t.2), refl)))
 
+  -- blocks of 16 lie within the data
+  pub small_inside : (j : ℕ) → j < length small → get_or small j 0 + 16 ≤ length values
+  small_inside j l =
+      let t = parts trie_type in
+      let u : ℕ = 16 * (j + fast_limit trie_type / 16) + 15 in
+      let cell = p.on_small u (omega (arith, t.1)) (omega (arith, t.1, l, p.small_len, aligned)) in
+      let at : get_or small (u / 16 - fast_limit trie_type / 16) 0 ≡ get_or small j 0 = ap (λ n. get_or small n 0) (omega arith) in
+      let last : u % 16 ≡ 15 = omega arith in
+      let there = slice_get_within values (get_or small (u / 16 - fast_limit trie_type / 16) 0 + u % 16) (f u) cell in
+      omega (arith, there, at, last)
+
+  -- their offsets have 16 bits where the data is small
+  pub small_low : length values ≤ 0x10000 → AllBelow 0x10000 small
+  small_low le = λ j l. omega (arith, small_inside j l, le)
+
 module _ (h : CodePointTrieHeader) (f : ℕ → ℕ) (fast small index values : List ℕ) (aligned : h.high_start % 512 ≡ 0) (within : h.high_start ≤ 1114112)
     (x : IsIndex h.trie_type h.high_start fast small index) (p : IsData h.trie_type h.high_start h.data_null_offset h.null_value f fast small values) where
   pub answers : (c : ℕ) → c < 1114112 → answer h index values c ≡ Some (f c)
@@ -97,8 +110,8 @@ module _ (h : CodePointTrieHeader) (f : ℕ → ℕ) (fast small index values : 
   numbers_same k b d b1 d1 same i l = some-injective (f (b * k + i)) (f (d * k + i)) (sym (answers (b * k + i) (omega (arith, l, b1))) ∙ (same i l ∙ answers (d * k + i) (omega (arith, l, d1))))
 
   -- blocks at the null offset hold the null value
-  pub coherent : h.index3_null_offset ≡ 0x7fff → IsCoherent Some h index values
-  coherent no_index3 =
+  pub coherent : IsNullIndex h.trie_type h.high_start h.data_null_offset small index h.index3_null_offset → IsCoherent Some h index values
+  coherent cells =
       let t = parts h.trie_type in
       record {
         aligned = aligned;
@@ -113,7 +126,12 @@ module _ (h : CodePointTrieHeader) (f : ℕ → ℕ) (fast small index values : 
             let at = some-injective (get_or small (b * 16 / 16 - fast_limit h.trie_type / 16) 0) h.data_null_offset (sym (x.gives.on_small (b * 16) from below) ∙ is) in
             let same : b * 16 / 16 ≡ b = omega arith in
             answers (b * 16 + i) (omega (arith, below, l, aligned, within)) ∙ ap (λ n. Some n) (p.null_small b i (omega (arith, from, t.1)) below l (ap (λ j. get_or small (j - fast_limit h.trie_type / 16) 0) (sym same) ∙ at));
-        null_512 = λ b from below is i l. absurd (x.gives.not_null (b * 512) from below (is ∙ ap (λ n. Some n) no_index3));
+        null_512 = λ b from below is i l.
+            let c : ℕ = 32 * b + i / 16 in
+            let at : get_or small (c - fast_limit h.trie_type / 16) 0 ≡ h.data_null_offset =
+            ap (λ n. get_or small n 0) (omega (arith, t.1, from)) ∙ cells.only b from below is (i / 16) (omega (arith, l)) in
+            let one = p.null_small c (i % 16) (omega (arith, from, t.1)) (omega (arith, below, l, aligned)) (omega arith) at in
+            answers (b * 512 + i) (omega (arith, below, l, aligned, within)) ∙ (ap (λ n. Some (f n)) (omega arith) ∙ ap (λ n. Some n) one);
       }
 
   -- the header names a block of one number
@@ -127,6 +145,16 @@ module _ (h : CodePointTrieHeader) (f : ℕ → ℕ) (fast small index values : 
         let same : w.0 * 16 / 16 ≡ w.0 = omega arith in
         inr (w.0, w.1, w.2, w.3, x.gives.on_small (w.0 * 16) w.1 w.2 ∙ ap (λ n. Some n) (ap (λ j. get_or small (j - fast_limit h.trie_type / 16) 0) same ∙ w.4))
   ]
+
+  -- blocks of 512 that are null throughout have one cell
+  pub names_null_index : IsNullIndex h.trie_type h.high_start h.data_null_offset small index h.index3_null_offset → NamesNullIndex h index
+  unfolding NamesNullIndex
+  names_null_index cells = λ b from below all.
+      let t = parts h.trie_type in
+      cells.has b from below (λ q l.
+      let u : ℕ = b * 512 + 16 * q in
+      let cell = x.gives.on_small u (omega (arith, from)) (omega (arith, below, l, aligned)) in
+      ap (λ n. get_or small n 0) (omega (arith, from, t.1)) ∙ some-injective (get_or small (u / 16 - fast_limit h.trie_type / 16) 0) h.data_null_offset (sym cell ∙ all q l))
 
   pub shared : IsShared h index values
   shared = record {

@@ -1,24 +1,27 @@
 -- The numbers of a builder's map are numbers of values.
-use Rattle.std.proofs.Common.{◌≡◌, ℕ, ◌<◌, List, length, slice_index, slice_index_or, Option, Some, refl, arith, ◌∙◌, Result, Ok, Err, false}
+use Rattle.std.proofs.Common.{◌≡◌, ℕ, ◌<◌, List, length, slice_index, Option, Some, refl, arith, ◌∙◌, ap, sym, Result, Ok, Err, false}
 use Rattle.std.specs.Prelude.{is_some, is_err, IfOk, OnOk}
 use Rattle.std.specs.List.{AllPass}
-use Rattle.std.proofs.lemmas.List.{get_or_default}
-use Rattle.icu_trie_builder.specs.CodePointMap.{IsBuilder, cell_value, whole_cells}
-use Rattle.icu_trie_builder.proofs.WholeLemmas.{All-whole_cells, length-whole_cells}
+use Rattle.icu_trie_builder.specs.CodePointMap.{IsBuilder, number_value}
+use Rattle.icu_trie_builder.proofs.WholeLemmas.{number-back, number_value-at, value-back}
 
 module _ {T : Type 0} (V : T → Type 0) (number : T → ℕ) (of_number : ℕ → Option T) (back : (x : T) → V x → of_number (number x) ≡ Some x)
-    (cells : List T) (default error : T) (sound : IsBuilder V cells default error) where
-  -- the number of a code point's value gives it back
-  pub gives_back : (k : ℕ) → k < 0x110000 → of_number (number (cell_value cells default k)) ≡ Some (cell_value cells default k)
-  gives_back k l = back (cell_value cells default k)
-      (All-whole_cells V cells default sound.all_values sound.default_value k default (omega (arith, l, length-whole_cells cells default sound.whole)))
+    (numbers : List ℕ) (default error : T) (sound : IsBuilder V number numbers default error) where
+  -- the number of a code point is its value's
+  pub number-of_value : (k : ℕ) → k < 0x110000 → slice_index numbers k ≡ number (number_value of_number default numbers k)
+  number-of_value k l =
+      let lt : k < length numbers = omega (arith, l, sound.whole) in
+      sym (ap number (number_value-at of_number default numbers k lt) ∙ number-back of_number default V number back (slice_index numbers k) (sound.all_numbers k 0 lt))
 
-  module _ (numbers : List ℕ) (items : (k : ℕ) (d : T) → k < 0x110000 → slice_index numbers k ≡ number (slice_index_or (whole_cells cells default) k d)) where
-    -- each number is a value's
-    pub all_numbers : length numbers ≡ 0x110000 → AllPass (λ n. is_some (of_number n)) numbers
-    all_numbers len = λ k d l.
-        let at : slice_index_or numbers k d ≡ number (cell_value cells default k) = get_or_default numbers k d 0 l ∙ items k default (omega (arith, l, len)) in
-        rw (at, gives_back k (omega (arith, l, len))) refl
+  -- the number of a code point's value gives it back
+  pub gives_back : (k : ℕ) → k < 0x110000 → of_number (number (number_value of_number default numbers k)) ≡ Some (number_value of_number default numbers k)
+  gives_back k l =
+      let lt : k < length numbers = omega (arith, l, sound.whole) in
+      back (number_value of_number default numbers k) (rw (number_value-at of_number default numbers k lt) (value-back of_number default V number back (slice_index numbers k) (sound.all_numbers k 0 lt)))
+
+  -- each number is a value's
+  pub all_numbers : AllPass (λ n. is_some (of_number n)) numbers
+  all_numbers = λ k d l. let w = sound.all_numbers k d l in rw (← w.2, back w.0 w.1) refl
 
 -- three facts of what a call answered, together
 pub IfOk-three : {X Y : Type 0} (r : Result X Y) (A B C Q : X → Type 0) → ((x : X) → A x → B x → C x → Q x) → IfOk r A → IfOk r B → IfOk r C → IfOk r Q

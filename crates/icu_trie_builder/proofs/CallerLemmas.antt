@@ -1,5 +1,5 @@
 -- What other crates may cite of maps that are written to and built.
-use Rattle.std.proofs.Common.{◌≡◌, ℕ, ◌≤◌, Bool, true, false, List, map, Some, ap, rules, ◌∙◌, nat_le, cond, refl, arith}
+use Rattle.std.proofs.Common.{◌≡◌, ℕ, ◌≤◌, Bool, true, false, List, map, Some, ap, ◌∙◌, nat_le, cond, refl, arith}
 use Rattle.std.proofs.lemmas.Bool.Decides.{nat_tests}
 use Rattle.icu_trie_core.proofs.CallerLemmas.{value_runs-some}
 use Rattle.icu_trie_core.specs.Range.{run_of, value_run}
@@ -7,7 +7,7 @@ use Rattle.icu_trie_core.specs.Runs.{AreMaximalRuns}
 use Rattle.icu_trie_core.specs.declared.range.CodePointMapRange.{CodePointMapRange}
 use Rattle.icu_trie.proofs.CallerLemmas.{AreMappedRunsFrom-same}
 use Rattle.icu_trie.specs.MappedRanges.{AreMappedRunsFrom}
-use Rattle.icu_trie.specs.Parts.{Parts, last_cell, trie_value}
+use Rattle.icu_trie.specs.Parts.{Parts, last_cell}
 use Rattle.icu_trie.specs.Ranges.{answers}
 use Rattle.icu_trie_builder.proofs.RangesOfMap.{answers-at}
 use Rattle.icu_trie_builder.specs.CodePointMap.{CodePointMap, IsAfter, map_answer, map_value}

@@ -9,17 +9,15 @@ use Rattle.icu_trie_core.specs.declared.header.TrieType.{TrieType}
 use Rattle.icu_trie_core.specs.Blocks.{window, block, different}
 use Rattle.icu_trie_core.specs.Format.{fast_limit, high_value}
 use Rattle.icu_trie.specs.Parts.{last_cell}
-use Rattle.icu_trie_builder.specs.Data.{IsData, IsHighFrom, SameNumbers}
+use Rattle.icu_trie_builder.specs.Data.{IsData, SameNumbers}
+use Rattle.icu_trie_map.specs.NumberMap.{IsHighFrom}
 use Rattle.icu_trie_builder.specs.NullBlock.{HoldsOne, SomeHoldsOne}
 use Rattle.icu_trie_builder.specs.FilledBlocks.{IsMoved, IsNull, HasNoNull}
-use Rattle.icu_trie_builder.specs.Layout.{AllBelow}
+use Rattle.icu_trie_compaction.specs.Layout.{AllBelow}
 use Rattle.icu_trie_builder.specs.declared.null_block.NullBlock.{NullBlock}
-use Rattle.icu_trie_builder.specs.Placed.{IsPlaced, IsCopied}
-use Rattle.icu_trie_builder.proofs.Laying.{parts}
-use Rattle.icu_trie_builder.proofs.Growing.{cell_there}
-use Rattle.icu_trie_builder.proofs.Windows.{length-window, window-read}
+use Rattle.icu_trie_compaction.specs.Placed.{IsPlaced, IsCopied}
+use Rattle.icu_trie_compaction.proofs.CallerLemmas.{parts, cell_there, length-window, window-read, different-le_count}
 use Rattle.icu_trie_builder.proofs.NullLemmas.{window-kept}
-use Rattle.icu_trie_builder.proofs.Different.{different-le_count}
 
 -- the last cell but one is the high value
 pub high-end : (xs : List ℕ) (x : ℕ) → 2 ≤ length xs → get_or xs (length xs - 2) 0 ≡ x → high_value xs ≡ Some x

@@ -14,8 +14,7 @@ use Rattle.icu_trie_builder.specs.declared.writes.Write.{Write}
 use Rattle.icu_trie_builder.specs.Bounds.{IsTooLarge}
 use Rattle.icu_trie_builder.specs.Writes.{first_of, last_of, value_of, is_accepted, covers, last_written, value_after}
 use Rattle.icu_trie_builder.proofs.AfterLemmas.{unwrap_or-option_or}
-use Rattle.icu_trie_builder.proofs.Counts.{distinct_count-mono}
-use Rattle.icu_trie_builder.proofs.Windows.{list_laws, list_decides, times-below}
+use Rattle.icu_trie_compaction.proofs.CallerLemmas.{distinct_count-mono, list_laws, list_decides, times-below}
 
 -- p is an element of the list
 abbrev Has : {A : Type 0} → List A → A → Type 0

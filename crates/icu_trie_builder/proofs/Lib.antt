@@ -1,15 +1,7 @@
 pub mod CallerLemmas
-pub mod Windows
-pub mod HashLemmas
-pub mod TableLemmas
-pub mod Compacting
 pub mod NullLemmas
-pub mod Counts
-pub mod Different
+mod SharedLemmas
 mod FewWrites
-pub mod Growing
-pub mod PackingLemmas
-pub mod Laying
 pub mod DataLemmas
 pub mod Answering
 pub mod AboveLemmas
@@ -18,5 +10,6 @@ mod AfterLemmas
 mod WholeLemmas
 mod SameMapLemmas
 mod TypedLemmas
+mod ValuesOfNumbers
 mod BuilderLemmas
 mod RangesOfMap

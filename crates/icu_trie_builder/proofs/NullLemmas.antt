@@ -4,11 +4,10 @@ use Rattle.std.proofs.lemmas.Bool.{cases_eq}
 use Rattle.std.proofs.lemmas.List.{same_lists, get_or_default, length-take}
 use Rattle.icu_trie_core.specs.Blocks.{window}
 use Rattle.icu_trie_builder.specs.FilledBlocks.{IsApart, IsFilled, IsMoved, IsNull}
-use Rattle.icu_trie_builder.proofs.Windows.{length-window, window-read, window-append}
-use Rattle.icu_trie_builder.proofs.TableLemmas.{append-kept}
+use Rattle.icu_trie_compaction.proofs.CallerLemmas.{length-window, window-read, window-append, append-kept}
 
 -- windows of one number are equal
-filled-windows : (k a b v : ℕ) (xs ys : List ℕ) → IsFilled v k a xs → IsFilled v k b ys → a + k ≤ length xs → b + k ≤ length ys → window k a xs ≡ window k b ys
+pub filled-windows : (k a b v : ℕ) (xs ys : List ℕ) → IsFilled v k a xs → IsFilled v k b ys → a + k ≤ length xs → b + k ≤ length ys → window k a xs ≡ window k b ys
 filled-windows k a b v xs ys f g inx iny =
     let la = length-window k a xs inx in
     let lb = length-window k b ys iny in

@@ -1,5 +1,5 @@
 -- Maps that agree in the code space have the same bounds.
-use Rattle.std.proofs.Common.{◌≡◌, ℕ, ◌+◌, ◌*◌, ◌<◌, ◌≤◌, List, map, refl, arith, sym, ◌∙◌, ap, ap₂, inl, inr}
+use Rattle.std.proofs.Common.{◌≡◌, ℕ, ◌+◌, ◌*◌, ◌<◌, ◌≤◌, List, map, refl, arith, sym, ◌∙◌, ap, ap₂, subst, inl, inr}
 use Rattle.std.specs.Prelude.{nat_eq, not, Bool, Some}
 use Rattle.std.specs.List.{range_with_len, list_any, filter}
 use Rattle.std.specs.Set.{distinct_count}
@@ -11,7 +11,8 @@ use Rattle.icu_trie_core.specs.declared.header.TrieType.TheVariants.{Fast, Small
 use Rattle.icu_trie_core.specs.declared.header.CodePointTrieHeader.{CodePointTrieHeader}
 use Rattle.icu_trie_core.specs.Format.{fast_limit, fast_offset, small_offset}
 use Rattle.icu_trie_core.specs.Blocks.{block_of, different}
-use Rattle.icu_trie_builder.specs.Bounds.{data_bound, compact_data_bound, index_bound, fast_blocks, small_blocks, lone_small_blocks, index_blocks, different_but, stands_in, stands_below, IsTooLarge}
+use Rattle.icu_trie_builder.specs.Bounds.{data_bound, compact_data_bound, index_bound, short_index_bound, fast_blocks, small_blocks, lone_small_blocks, index_blocks, stands_in, stands_below, IsTooLarge}
+use Rattle.icu_trie_compaction.specs.Placed.{different_but}
 use Rattle.icu_trie_builder.specs.NullBlock.{HoldsOne, SomeHoldsOne, NamesNull}
 
 -- functions that agree on a range give one list there
@@ -66,6 +67,14 @@ module _ (f g : ℕ → ℕ) (same : (c : ℕ) → c < 0x110000 → f c ≡ g c)
   -- and of index
   pub index_bound-alike : (t : TrieType) → index_bound t f ≡ index_bound t g
   index_bound-alike t = ap (λ n. 36 * n + 3200) (index-alike t)
+
+  -- also where offsets have 16 bits
+  pub short_index_bound-alike : (t : TrieType) → short_index_bound t f ≡ short_index_bound t g
+  short_index_bound-alike t = ap (λ n. 32 * n + 3200) (index-alike t)
+
+  -- so that what bounds the index of small data for one bounds it for the other
+  pub tight-alike : (t : TrieType) (n : ℕ) → (compact_data_bound t f ≤ 0x10000 → n ≤ short_index_bound t f) → compact_data_bound t g ≤ 0x10000 → n ≤ short_index_bound t g
+  tight-alike t n tight small = subst (λ b. n ≤ b) (short_index_bound-alike t) (tight (subst (λ b. b ≤ 0x10000) (sym (compact_data_bound-alike t)) small))
 
   -- and both may be refused for their size, or none
   pub IsTooLarge-alike : IsTooLarge f → IsTooLarge g

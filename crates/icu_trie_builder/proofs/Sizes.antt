@@ -10,12 +10,10 @@ use Rattle.std.proofs.lemmas.List.FromFn.{length-range_with_len, get_or-range_wi
 use Rattle.icu_trie_core.specs.declared.header.TrieType.{TrieType}
 use Rattle.icu_trie_core.specs.Blocks.{window, block, block_of, different}
 use Rattle.icu_trie_core.specs.Format.{fast_limit}
-use Rattle.icu_trie_builder.specs.Bounds.{fast_blocks, small_blocks, lone_small_blocks, different_but, stands_in, stands_below}
-use Rattle.icu_trie_builder.specs.Placed.{AllStandIn, IsCopied}
-use Rattle.icu_trie_builder.proofs.Compacting.{different_but-within, different_but-le}
-use Rattle.icu_trie_builder.proofs.Different.{block-block_of, different-within}
-use Rattle.icu_trie_builder.proofs.Laying.{parts}
-use Rattle.icu_trie_builder.proofs.Windows.{list_decides, length-window, window-window}
+use Rattle.icu_trie_builder.specs.Bounds.{fast_blocks, small_blocks, lone_small_blocks, stands_in, stands_below}
+use Rattle.icu_trie_compaction.specs.Placed.{different_but}
+use Rattle.icu_trie_compaction.specs.Placed.{AllStandIn, IsCopied}
+use Rattle.icu_trie_compaction.proofs.CallerLemmas.{different_but-within, different_but-le, block-block_of, different-within, parts, list_decides, length-window, window-window}
 
 -- the lone small blocks are no more than all small ones
 pub lone_blocks-le : (trie_type : TrieType) (f : ℕ → ℕ) → lone_small_blocks trie_type f ≤ small_blocks trie_type f

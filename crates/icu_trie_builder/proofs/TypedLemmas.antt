@@ -14,7 +14,7 @@ use Rattle.icu_trie_core.specs.Coherence.{IsCoherent, IsShared, SameAnswers}
 use Rattle.icu_trie_builder.specs.Built.{IsBuilt}
 use Rattle.icu_trie_builder.specs.MapAnswers.{AnswersMap, AreValuesOf, IsWellBuilt}
 use Rattle.icu_trie_builder.specs.Bounds.{data_bound, compact_data_bound}
-use Rattle.icu_trie_builder.proofs.SameMapLemmas.{data_bound-alike, compact_data_bound-alike, index_bound-alike, NamesNull-alike}
+use Rattle.icu_trie_builder.proofs.SameMapLemmas.{data_bound-alike, compact_data_bound-alike, index_bound-alike, tight-alike, NamesNull-alike}
 
 -- above the code space there is no answer
 above_answer : {A : Type 0} (h : CodePointTrieHeader) (index : List ℕ) (values : List A) (u : ℕ) → 0x110000 ≤ u → answer h index values u ≡ None
@@ -150,6 +150,8 @@ module _ {T : Type 0} (of_number : ℕ → Option T) (number : T → ℕ) (g : �
         compact_data = subst (λ n. n ≤ compact_data_bound h.trie_type (λ c. number (g c))) (sym (length-values of_number numbers values same))
             (subst (λ n. length numbers ≤ n) (compact_data_bound-alike f (λ c. number (g c)) is h.trie_type) built.compact_data);
         null_block = NamesNull-alike f (λ c. number (g c)) is h index built.header.within built.null_block;
+        null_index = built.null_index;
+        tight = tight-alike f (λ c. number (g c)) is h.trie_type (length index) built.tight;
       }
 
 -- what is well built of one map is so of a map that agrees with it in the code space
@@ -162,4 +164,6 @@ IsWellBuilt-alike of_number f g same t w = record {
   index_cells = subst (λ n. length t.index ≤ n) (index_bound-alike f g same t.header.trie_type) w.index_cells;
   compact_data = subst (λ n. length t.values ≤ n) (compact_data_bound-alike f g same t.header.trie_type) w.compact_data;
   null_block = NamesNull-alike f g same t.header t.index w.header.within w.null_block;
+  null_index = w.null_index;
+  tight = tight-alike f g same t.header.trie_type (length t.index) w.tight;
 }

@@ -1,57 +1,39 @@
--- Lemmas on the cells of a builder.
+-- Lemmas on the values that the numbers of a builder stand for.
 use Rattle.std.specs.List.{All}
 use Rattle.std.proofs.lemmas.Bool.{cases_lt}
-use Rattle.std.proofs.Common.{subst, ◌≡◌, ℕ, ◌<◌, ◌≤◌, List, [], ◌∷◌, length, get_or, replicate, refl, arith, ◌∙◌, inl, inr, sym}
-use Rattle.std.proofs.lemmas.List.{get_or-replicate, length-replicate, same_lists}
-use Rattle.icu_trie_builder.specs.CodePointMap.{code_points, whole_cells, IsWhole}
+use Rattle.std.proofs.Common.{subst, ◌≡◌, ℕ, ◌<◌, ◌≤◌, List, length, get_or, Option, Some, unwrap_or, arith, ap, sym, inl, inr}
+use Rattle.std.proofs.lemmas.List.{get_or-map, get_or_default}
+use Rattle.icu_trie_builder.specs.CodePointMap.{IsNumberOf, number_value, value_of_number, values_of_numbers}
 
-code_points-is : code_points ≡ 0x110000
-unfolding code_points
-code_points-is = refl
+module _ {T : Type 0} (of_number : ℕ → Option T) (default : T) where
+  -- the value of a code point is that of its number
+  pub number_value-at : (numbers : List ℕ) (c : ℕ) → c < length numbers → number_value of_number default numbers c ≡ value_of_number of_number default (get_or numbers c 0)
+  unfolding values_of_numbers
+  number_value-at numbers c l = get_or-map (value_of_number of_number default) numbers c 0 default l
 
-pub whole_cells-empty : {T : Type 0} (cells : List T) (d e : T) (c : ℕ) → length cells ≡ 0 → c ≤ 0x10FFFF → get_or (whole_cells cells d) c e ≡ d
-unfolding whole_cells
-whole_cells-empty [] d e c h l = get_or-replicate code_points c d e (omega (arith, code_points-is))
-whole_cells-empty (x ∷ xs) d e c h l = absurd (omega (arith, h))
+  module _ (V : T → Type 0) (number : T → ℕ) (back : (x : T) → V x → of_number (number x) ≡ Some x) where
+    -- the number of a value stands for it
+    pub value_of_number-back : (x : T) → V x → value_of_number of_number default (number x) ≡ x
+    value_of_number-back x v = ap (λ o. unwrap_or o default) (back x v)
 
-pub whole_cells-full : {T : Type 0} (cells : List T) (d : T) → length cells ≡ 0x110000 → whole_cells cells d ≡ cells
-unfolding whole_cells
-whole_cells-full [] d h = absurd (omega (arith, h))
-whole_cells-full (x ∷ xs) d h = refl
+    -- and a number that is one of a value gives that value's number
+    pub number-back : (n : ℕ) → IsNumberOf V number n → number (value_of_number of_number default n) ≡ n
+    number-back n w = subst (λ m. number (value_of_number of_number default m) ≡ m) w.2 (ap number (value_of_number-back w.0 w.1))
 
-pub length-whole_cells : {T : Type 0} (cells : List T) (d : T) → IsWhole cells → length (whole_cells cells d) ≡ 0x110000
-unfolding whole_cells
-length-whole_cells [] d h = length-replicate code_points d ∙ code_points-is
-length-whole_cells (x ∷ xs) d (inl h) = absurd (omega (arith, h))
-length-whole_cells (x ∷ xs) d (inr h) = h
+    -- what it stands for is a value
+    pub value-back : (n : ℕ) → IsNumberOf V number n → V (value_of_number of_number default n)
+    value-back n w = subst (λ m. V (value_of_number of_number default m)) w.2 (subst V (sym (value_of_number-back w.0 w.1)) w.1)
 
--- cells that are all the default are what no cell stands for
-pub whole_cells-filled : {T : Type 0} (cells filled : List T) (d : T) → length cells ≡ 0 → length filled ≡ 0x110000 → ((k : ℕ) (e : T) → k < 0x110000 → get_or filled k e ≡ d) → filled ≡ whole_cells cells d
-unfolding whole_cells
-whole_cells-filled [] filled d h l f = same_lists filled (replicate code_points d) (l ∙ sym (length-replicate code_points d ∙ code_points-is)) (λ k e lt. f k e (omega arith) ∙ sym (get_or-replicate code_points k d e (omega (arith, code_points-is))))
-whole_cells-filled (x ∷ xs) filled d h l f = absurd (omega (arith, h))
-
--- cells that are there are all of them
-pub whole_cells-some : {T : Type 0} (cells : List T) (d : T) → IsWhole cells → (length cells ≡ 0 → ⊥) → cells ≡ whole_cells cells d
-whole_cells-some cells d (inl h) n = absurd (n h)
-whole_cells-some cells d (inr h) n = sym (whole_cells-full cells d h)
-
--- where each cell and the default are values, so is what the cells stand for
-pub All-whole_cells : {T : Type 0} (V : T → Type 0) (cells : List T) (d : T) → All V cells → V d → All V (whole_cells cells d)
-unfolding whole_cells
-All-whole_cells V [] d h v = λ k e l. subst V (sym (get_or-replicate code_points k d e (omega (arith, l, length-replicate code_points d)))) v
-All-whole_cells V (x ∷ xs) d h v = h
-
--- cells of which a part was filled with a value
-pub All-filled : {T : Type 0} (V : T → Type 0) (made filled : List T) (start end : ℕ) (v : T) → All V made → V v → length filled ≡ length made
-    → ((k : ℕ) (e : T) → start ≤ k → k < end → get_or filled k e ≡ v)
-    → ((k : ℕ) (e : T) → k < start → get_or filled k e ≡ get_or made k e)
-    → ((k : ℕ) (e : T) → end ≤ k → get_or filled k e ≡ get_or made k e)
-    → All V filled
-All-filled V made filled start end v h value len inside before behind = λ k e l. elim (cases_lt k start) [
-  | inl low ↦ subst V (sym (before k e low)) (h k e (omega (arith, l, len)))
+-- numbers of which a part was filled with one of a kind
+pub All-filled : (P : ℕ → Type 0) (made filled : List ℕ) (start end n : ℕ) → All P made → P n → length filled ≡ length made
+    → ((k : ℕ) → start ≤ k → k < end → get_or filled k 0 ≡ n)
+    → ((k : ℕ) → k < start → get_or filled k 0 ≡ get_or made k 0)
+    → ((k : ℕ) → end ≤ k → get_or filled k 0 ≡ get_or made k 0)
+    → All P filled
+All-filled P made filled start end n h value len inside before behind = λ k e l. subst P (get_or_default filled k 0 e l) (elim (cases_lt k start) [
+  | inl low ↦ subst P (sym (before k low)) (h k 0 (omega (arith, l, len)))
   | inr from ↦ elim (cases_lt k end) [
-    | inl below ↦ subst V (sym (inside k e from below)) value
-    | inr past ↦ subst V (sym (behind k e past)) (h k e (omega (arith, l, len)))
+    | inl below ↦ subst P (sym (inside k from below)) value
+    | inr past ↦ subst P (sym (behind k past)) (h k 0 (omega (arith, l, len)))
   ]
-]
+])

@@ -1,12 +1,12 @@
 -- How large a trie may be, and which maps may be refused, by counts of different aligned blocks of
 -- the map. f gives each code point's number.
-use Rattle.std.specs.Prelude.{ℕ, ◌+◌, ◌-◌, ◌*◌, ◌/◌, ◌<◌, ◌⊎◌, not, nat_eq, Bool, List, length, map}
-use Rattle.std.specs.List.{range_with_len, list_any, filter}
-use Rattle.std.specs.Set.{distinct_count}
+use Rattle.std.specs.Prelude.{ℕ, ◌+◌, ◌-◌, ◌*◌, ◌/◌, ◌<◌, ◌⊎◌, nat_eq, Bool, List, length, map}
+use Rattle.std.specs.List.{range_with_len, list_any}
 use Rattle.std.specs.Cmp.Lexicographic.{pointwise}
 use Rattle.icu_trie_core.specs.declared.header.TrieType.{TrieType}
 use Rattle.icu_trie_core.specs.Blocks.{window, block_of, different}
 use Rattle.icu_trie_core.specs.Format.{fast_limit}
+use Rattle.icu_trie_compaction.specs.Placed.{different_but}
 
 -- different fast blocks: among the aligned blocks of 64 below the fast limit
 abbrev pub fast_blocks : TrieType → (ℕ → ℕ) → ℕ
@@ -26,12 +26,6 @@ index_blocks t f = different (block_of 512 f) (fast_limit t / 512) (2176 - fast_
 abbrev pub data_bound : TrieType → (ℕ → ℕ) → ℕ
 data_bound t f = 64 * fast_blocks t f + 16 * small_blocks t f + 160
 
--- how many different lists there are among those that b gives to the numbers from `first` on, `count` of them,
--- and of which the test p does not hold
-unfoldable pub different_but : (List ℕ → Bool) → (ℕ → List ℕ) → ℕ → ℕ → ℕ
-different_but p b first count =
-    distinct_count (pointwise nat_eq) (filter (λ x. not (p x)) (map b (range_with_len first count)))
-
 -- whether the 16 numbers x stand in ys as neighbours
 abbrev pub stands_in : List ℕ → List ℕ → Bool
 stands_in x ys = list_any (λ i. pointwise nat_eq (window 16 i ys) x) (range_with_len 0 (length ys + 1 - 16))
@@ -40,11 +34,12 @@ stands_in x ys = list_any (λ i. pointwise nat_eq (window 16 i ys) x) (range_wit
 unfoldable pub stands_below : (ℕ → List ℕ) → ℕ → List ℕ → Bool
 stands_below b n x = list_any (stands_in x) (map b (range_with_len 0 n))
 
--- those of the different small blocks whose 16 numbers stand as neighbours in no aligned block of 64 below the
--- fast limit
+-- those of the different small blocks whose 16 numbers stand as neighbours in no aligned block of 64 below
+-- the fast limit
 abbrev pub lone_small_blocks : TrieType → (ℕ → ℕ) → ℕ
 lone_small_blocks t f =
-    different_but (stands_below (block_of 64 f) (fast_limit t / 64)) (block_of 16 f) (fast_limit t / 16) (69632 - fast_limit t / 16)
+    different_but (stands_below (block_of 64 f) (fast_limit t / 64)) (block_of 16 f)
+    (fast_limit t / 16) (69632 - fast_limit t / 16)
 
 -- no more cells of data than this either, since small blocks are found in fast ones
 abbrev pub compact_data_bound : TrieType → (ℕ → ℕ) → ℕ
@@ -53,6 +48,10 @@ compact_data_bound t f = 64 * fast_blocks t f + 16 * lone_small_blocks t f + 160
 -- no more cells of index than this
 abbrev pub index_bound : TrieType → (ℕ → ℕ) → ℕ
 index_bound t f = 36 * index_blocks t f + 3200
+
+-- nor than this where the data has no cell from 0x10000 on, so that offsets have 16 bits
+abbrev pub short_index_bound : TrieType → (ℕ → ℕ) → ℕ
+short_index_bound t f = 32 * index_blocks t f + 3200
 
 -- only maps with more than 800 different aligned blocks of 512, or more than 12,000 of 16, may be
 -- refused for their size

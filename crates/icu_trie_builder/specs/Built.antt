@@ -5,8 +5,8 @@ use Rattle.icu_trie_core.specs.Format.{answer}
 use Rattle.icu_trie_core.specs.FastIndex.{fast_index_len, passes_data}
 use Rattle.icu_trie.specs.Parts.{last_cell}
 use Rattle.icu_trie_core.specs.Coherence.{IsCoherent, IsShared}
-use Rattle.icu_trie_builder.specs.Bounds.{data_bound, compact_data_bound, index_bound}
-use Rattle.icu_trie_builder.specs.NullBlock.{NamesNull}
+use Rattle.icu_trie_builder.specs.Bounds.{data_bound, compact_data_bound, index_bound, short_index_bound}
+use Rattle.icu_trie_builder.specs.NullBlock.{NamesNull, NamesNullIndex}
 
 -- the header's high start is a multiple of 512, at most the end of the code space, and stands in
 -- its shifted form too, which is rounded up
@@ -34,3 +34,7 @@ pub record IsBuilt (f : ℕ → ℕ) (error : ℕ) (h : CodePointTrieHeader) (in
   pub compact_data : length values ≤ compact_data_bound h.trie_type f
   -- the null offset is that of a block of one number, where there is one
   pub null_block : NamesNull h index f
+  -- blocks of 512 that are null throughout have the null index-3 offset
+  pub null_index : NamesNullIndex h index
+  -- where small data is certain, the index needs no 18-bit offsets
+  pub tight : compact_data_bound h.trie_type f ≤ 0x10000 → length index ≤ short_index_bound h.trie_type f

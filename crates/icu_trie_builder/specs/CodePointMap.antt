@@ -1,5 +1,5 @@
 -- A map of the code points 0 to 0x10FFFF, as a builder holds it.
-use Rattle.std.specs.Prelude.{◌≡◌, ℕ, ◌≤◌, ◌⊎◌, nat_le, Bool, List, [], ◌∷◌, length, replicate, slice_index_or, if◌then◌else◌}
+use Rattle.std.specs.Prelude.{◌≡◌, ℕ, ◌≤◌, nat_le, List, Option, length, map, slice_index_or, unwrap_or, if◌then◌else◌}
 use Rattle.std.specs.List.{All}
 use Rattle.icu_trie_core.specs.declared.header.TrieType.{TrieType}
 use Rattle.icu_trie_builder.specs.declared.writes.Write.{Write}
@@ -28,27 +28,28 @@ pub record IsAfter {T : Type 0} (ws : List (Write T)) (old new : CodePointMap T)
   pub error : new.error ≡ old.error
   pub trie_type : new.trie_type ≡ old.trie_type
 
--- how many code points there are, under a name, so that no proof counts them one by one
-unfoldable pub code_points : ℕ
-code_points = 0x110000
+-- the value that a number stands for, and the default where it is no value's
+abbrev pub value_of_number : {T : Type 0} → (ℕ → Option T) → T → ℕ → T
+value_of_number of_number default n = unwrap_or (of_number n) default
 
--- the values that the cells of a builder stand for: with no cell yet all code points have the default
-unfoldable pub whole_cells : {T : Type 0} → List T → T → List T
-whole_cells [] default = replicate code_points default
-whole_cells (x ∷ xs) default = x ∷ xs
+-- the values that numbers stand for
+unfoldable pub values_of_numbers : {T : Type 0} → (ℕ → Option T) → T → List ℕ → List T
+values_of_numbers of_number default numbers = map (value_of_number of_number default) numbers
 
--- the value of a code point by the cells and the default
-abbrev pub cell_value : {T : Type 0} → List T → T → ℕ → T
-cell_value cells default c = slice_index_or (whole_cells cells default) c default
+-- the value of a code point by the numbers of all
+abbrev pub number_value : {T : Type 0} → (ℕ → Option T) → T → List ℕ → ℕ → T
+number_value of_number default numbers c =
+    slice_index_or (values_of_numbers of_number default numbers) c default
 
--- no cell, or one for each code point
-abbrev pub IsWhole : {T : Type 0} → List T → Type 0
-IsWhole cells = (length cells ≡ 0) ⊎ (length cells ≡ 0x110000)
+-- n is the number of a value of the type
+abbrev pub IsNumberOf : {T : Type 0} → (T → Type 0) → (T → ℕ) → ℕ → Type 0
+IsNumberOf {T} is_value number n = (x : T) × is_value x × (number x ≡ n)
 
--- the parts of a builder: no cell or all, and each of them, the default and the error value are values of the
--- type
-pub record IsBuilder {T : Type 0} (is_value : T → Type 0) (cells : List T) (default error : T) : Type 0 where
-  pub whole : IsWhole cells
-  pub all_values : All is_value cells
+-- the parts of a builder: a number for each code point, which is that of a value of the type, as the default
+-- and the error value are
+pub record IsBuilder {T : Type 0} (is_value : T → Type 0) (number : T → ℕ) (numbers : List ℕ)
+    (default error : T) : Type 0 where
+  pub whole : length numbers ≡ 0x110000
+  pub all_numbers : All (IsNumberOf is_value number) numbers
   pub default_value : is_value default
   pub error_value : is_value error

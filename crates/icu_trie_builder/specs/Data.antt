@@ -2,13 +2,8 @@
 use Rattle.std.specs.Prelude.{◌≡◌, ℕ, ◌+◌, ◌-◌, ◌*◌, ◌/◌, ◌%◌, ◌<◌, ◌≤◌, List, Some, length, slice_get, slice_index}
 use Rattle.icu_trie_core.specs.declared.header.TrieType.{TrieType}
 use Rattle.icu_trie_core.specs.Format.{fast_limit, high_value}
-use Rattle.icu_trie_builder.specs.Layout.{AllBelow}
+use Rattle.icu_trie_compaction.specs.Layout.{AllBelow}
 use Rattle.icu_trie_builder.specs.NullBlock.{SomeHoldsOne}
-
--- from this code point on all have the last code point's number
-abbrev pub IsHighFrom : List ℕ → ℕ → Type 0
-IsHighFrom numbers start =
-    (c : ℕ) → start ≤ c → c < 0x110000 → slice_index numbers c ≡ slice_index numbers 0x10ffff
 
 -- f has the same numbers in the blocks number b and d of k code points
 abbrev pub SameNumbers : (ℕ → ℕ) → ℕ → ℕ → ℕ → Type 0
@@ -21,23 +16,26 @@ pub record IsData (t : TrieType) (high null null_value : ℕ) (f : ℕ → ℕ) 
     : Type 0 where
   pub fast_len : length fast ≡ fast_limit t / 64
   pub small_len : length small ≡ (high - fast_limit t) / 16
-  pub on_fast : (c : ℕ) → c < fast_limit t → slice_get values (slice_index fast (c / 64) + c % 64) ≡ Some (f c)
+  pub on_fast : (c : ℕ) → c < fast_limit t
+      → slice_get values (slice_index fast (c / 64) + c % 64) ≡ Some (f c)
   pub on_small : (c : ℕ) → fast_limit t ≤ c → c < high
       → slice_get values (slice_index small (c / 16 - fast_limit t / 16) + c % 16) ≡ Some (f c)
   pub on_high : (c : ℕ) → high ≤ c → c < 0x110000 → high_value values ≡ Some (f c)
   -- equal blocks have one offset. The first 128 code points are free
-  pub shared_fast : (b d : ℕ) → 2 ≤ b → 2 ≤ d → b < fast_limit t / 64 → d < fast_limit t / 64 → SameNumbers f 64 b d
-      → slice_index fast b ≡ slice_index fast d
+  pub shared_fast : (b d : ℕ) → 2 ≤ b → 2 ≤ d → b < fast_limit t / 64 → d < fast_limit t / 64
+      → SameNumbers f 64 b d → slice_index fast b ≡ slice_index fast d
   pub shared_small : (b d : ℕ) → fast_limit t / 16 ≤ b → fast_limit t / 16 ≤ d → b * 16 < high → d * 16 < high
       → SameNumbers f 16 b d
       → slice_index small (b - fast_limit t / 16) ≡ slice_index small (d - fast_limit t / 16)
   -- blocks at the null offset hold the null value alone
-  pub null_fast : (b i : ℕ) → b < fast_limit t / 64 → i < 64 → slice_index fast b ≡ null → f (b * 64 + i) ≡ null_value
+  pub null_fast : (b i : ℕ) → b < fast_limit t / 64 → i < 64 → slice_index fast b ≡ null
+      → f (b * 64 + i) ≡ null_value
   pub null_small : (b i : ℕ) → fast_limit t / 16 ≤ b → b * 16 < high → i < 16
       → slice_index small (b - fast_limit t / 16) ≡ null → f (b * 16 + i) ≡ null_value
   -- and where a block holds one number, one such block has the null offset
   pub names_null : SomeHoldsOne t high f (λ _. Unit {0}) (λ _. Unit {0})
-      → SomeHoldsOne t high f (λ b. slice_index fast b ≡ null) (λ b. slice_index small (b - fast_limit t / 16) ≡ null)
+      → SomeHoldsOne t high f (λ b. slice_index fast b ≡ null)
+      (λ b. slice_index small (b - fast_limit t / 16) ≡ null)
   -- offsets of fast blocks have 16 bits, those of small blocks 18
   pub fast_fit : AllBelow 0x10000 fast
   pub small_fit : AllBelow 0x40000 small

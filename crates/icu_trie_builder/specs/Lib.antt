@@ -1,12 +1,8 @@
 pub mod Writes
 pub mod CodePointMap
 pub mod Bounds
-pub mod Hashes
-pub mod Windows
-pub mod Placed
 pub mod NullBlock
 pub mod FilledBlocks
 pub mod Data
-pub mod Layout
 pub mod Built
 pub mod MapAnswers

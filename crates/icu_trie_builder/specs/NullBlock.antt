@@ -1,8 +1,8 @@
--- The null data block.
+-- The null data block, and the null index-3 block.
 use Rattle.std.specs.Prelude.{◌≡◌, ℕ, ◌+◌, ◌*◌, ◌<◌, ◌≤◌, ◌⊎◌, List, Some}
 use Rattle.icu_trie_core.specs.declared.header.CodePointTrieHeader.{CodePointTrieHeader}
 use Rattle.icu_trie_core.specs.declared.header.TrieType.{TrieType}
-use Rattle.icu_trie_core.specs.Format.{fast_limit, fast_offset, small_offset}
+use Rattle.icu_trie_core.specs.Format.{fast_limit, fast_offset, small_offset, index2_cell}
 
 -- the aligned block number b of k code points holds one number
 abbrev pub HoldsOne : (ℕ → ℕ) → ℕ → ℕ → Type 0
@@ -20,3 +20,10 @@ NamesNull h index f = SomeHoldsOne h.trie_type h.high_start f (λ _. Unit {0}) (
     → SomeHoldsOne h.trie_type h.high_start f
     (λ b. fast_offset index (b * 64) ≡ Some h.data_null_offset)
     (λ b. small_offset h.trie_type index (b * 16) ≡ Some h.data_null_offset)
+
+-- blocks of 512, from the fast limit on to before the high start, all of whose data offsets are the null
+-- data offset have the null index-3 offset for an index-2 cell
+unfoldable pub NamesNullIndex : CodePointTrieHeader → List ℕ → Type 0
+NamesNullIndex h index = (b : ℕ) → fast_limit h.trie_type ≤ b * 512 → b * 512 < h.high_start
+    → ((i : ℕ) → i < 32 → small_offset h.trie_type index (b * 512 + 16 * i) ≡ Some h.data_null_offset)
+    → index2_cell h.trie_type index (b * 512) ≡ Some h.index3_null_offset

@@ -1,54 +1,23 @@
 //! A map becomes a trie: its values as numbers, the trie of the numbers, and the values of its cells.
-ghost use Rattle.std.specs.Prelude.{◌≡◌, ◌≢◌, ℕ, ◌<◌, ◌≤◌, List, length, slice_index, slice_index_or, Err, None, IfOk, IfErr, is_some, map};
+ghost use Rattle.std.specs.Prelude.{◌≡◌, ◌≢◌, ℕ, ◌≤◌, List, Err, None, IfOk, IfErr, is_some};
 ghost use Rattle.std.specs.List.{AllPass, count_by};
 ghost use Rattle.icu_trie.specs.Parts.{fault};
 ghost use Rattle.icu_trie_builder.specs.Bounds.{IsTooLarge};
-ghost use Rattle.icu_trie_builder.specs.CodePointMap.{map_value, cell_value, whole_cells, IsBuilder, IsWhole};
+ghost use Rattle.icu_trie_builder.specs.CodePointMap.{map_value, number_value, IsBuilder};
 ghost use Rattle.icu_trie_builder.specs.MapAnswers.{AnswersMap, AreValuesOf, HasRangesOf, IsWellBuilt};
 ghost use Rattle.icu_trie_builder.specs.Writes.{is_accepted, value_after};
-ghost use Rattle.icu_trie_builder.specs.declared.error.BuildError.TheVariants.{TooLarge};
+ghost use Rattle.icu_trie_compaction.specs.declared.error.BuildError.TheVariants.{TooLarge};
 
-use crate::builder::{CODE_POINTS, CodePointTrieBuilder};
+use crate::builder::CodePointTrieBuilder;
 use crate::error::BuildError;
 use crate::numbers::{NumberTrie, build_numbers};
 use crate::writes::Write;
 use icu_trie::cptrie::CodePointTrie;
 use icu_trie::header::TrieType;
 use icu_trie::value::TrieValue;
+use icu_trie_map::number_map::NumberMap;
 use icu_zerovec::ZeroVec;
 use std::alloc::{AllocError, Global};
-
-/// `n` times this number.
-fn repeated(alloc: Global, number: u32, n: usize) -> Result<Vec<u32>, AllocError>
-    ensures len { IfOk result (λ v. length v.items ≡ n) }
-    ensures items { IfOk result (λ v. (c : ℕ) → c < n → slice_index v.items c ≡ number) }
-{
-    vec![in alloc; number; n]
-}
-
-/// The number of each value.
-fn numbers_of_cells<T: TrieValue>(alloc: Global, cells: &[T]) -> Result<Vec<u32>, AllocError>
-    ensures { IfOk result (λ v. v.items ≡ map T.number cells.now) }
-{
-    // Room first: `collect` would go on without it where it is refused.
-    let mut numbers = Vec::with_capacity(alloc, cells.len())?;
-    for value in cells {
-        numbers.push(value.to_u32())?;
-    }
-    Ok(numbers)
-}
-
-/// The number of each code point's value.
-fn numbers_of<T: TrieValue>(alloc: Global, cells: &[T], default: T) -> Result<Vec<u32>, AllocError>
-    requires { IsWhole cells.now }
-    ensures len { IfOk result (λ v. length v.items ≡ 0x110000) }
-    ensures items { IfOk result (λ v. (c : ℕ) (d : T) → c < 0x110000 → slice_index v.items c ≡ T.number (slice_index_or (whole_cells cells.now default) c d)) }
-{
-    if cells.is_empty() {
-        return repeated(alloc, default.to_u32(), CODE_POINTS);
-    }
-    numbers_of_cells(alloc, cells)
-}
 
 /// The value of each number, where each is a value's.
 fn values_of<T: TrieValue>(alloc: Global, numbers: &[u32]) -> Result<Vec<T>, AllocError>
@@ -71,7 +40,8 @@ fn trie_of<T: TrieValue>(
     trie: NumberTrie,
 ) -> Result<CodePointTrie<'static, T>, BuildError>
     requires numbers { AllPass (λ n. is_some (T.of_number n)) trie.values.items }
-    requires sound { (values : List T) → AreValuesOf T.of_number trie.values.items values → fault T.of_number trie.header trie.index.items values ≡ None }
+    requires sound { (values : List T) → AreValuesOf T.of_number trie.values.items values
+        → fault T.of_number trie.header trie.index.items values ≡ None }
     ensures header { IfOk result (λ t. t.header ≡ trie.header) }
     ensures index { IfOk result (λ t. t.index ≡ trie.index.items) }
     ensures values { IfOk result (λ t. AreValuesOf T.of_number trie.values.items t.values) }
@@ -86,22 +56,23 @@ fn trie_of<T: TrieValue>(
     }
 }
 
-/// The trie of a map in cells: none, where every code point has the default, or one for each code point.
-fn build_cells<T: TrieValue>(
+/// The trie of a map that is given by the number of each code point's value.
+fn build_map<T: TrieValue>(
     alloc: Global,
-    cells: &[T],
+    numbers: &NumberMap,
     default: T,
     error: T,
     trie_type: TrieType,
 ) -> Result<CodePointTrie<'static, T>, BuildError>
-    requires { IsBuilder T.is_value cells.now default error }
-    ensures answers { IfOk result (AnswersMap (cell_value cells.now default) error) }
+    requires { IsBuilder T.is_value T.number numbers.now default error }
+    ensures answers { IfOk result (AnswersMap (number_value T.of_number default numbers.now) error) }
     ensures trie_type { IfOk result (λ t. t.header.trie_type ≡ trie_type) }
-    ensures built { IfOk result (IsWellBuilt T.of_number (λ c. T.number (cell_value cells.now default c))) }
-    ensures too_large { result ≡ Err TooLarge → IsTooLarge (λ c. T.number (cell_value cells.now default c)) }
+    ensures built { IfOk result (IsWellBuilt T.of_number
+        (λ c. T.number (number_value T.of_number default numbers.now c))) }
+    ensures too_large { result ≡ Err TooLarge
+        → IsTooLarge (λ c. T.number (number_value T.of_number default numbers.now c)) }
 {
-    let numbers = numbers_of(alloc, cells, default)?;
-    let trie = build_numbers(alloc, &numbers, error.to_u32(), default.to_u32(), trie_type)?;
+    let trie = build_numbers(alloc, numbers, error.to_u32(), default.to_u32(), trie_type)?;
     trie_of(alloc, trie)
 }
 
@@ -120,9 +91,9 @@ impl<T: TrieValue> CodePointTrieBuilder<T> {
         ensures built { IfOk result (IsWellBuilt T.of_number (λ c. T.number (map_value self c))) }
         ensures too_large { result ≡ Err TooLarge → IsTooLarge (λ c. T.number (map_value self c)) }
     {
-        build_cells(
+        build_map(
             self.alloc,
-            &self.cells,
+            &self.numbers,
             self.default,
             self.error,
             self.trie_type,

@@ -1,18 +1,19 @@
 //! A map of the code points that is written to, and then built into a trie.
-ghost use Rattle.std.specs.Prelude.{◌≡◌, ℕ, ◌<◌, ◌≤◌, [], ◌∷◌, length, slice_index_or, OnOk, OnErr, IfErr, vec_len, take, slice_get, Some, true, false};
+ghost use Rattle.std.specs.Prelude.{◌≡◌, ℕ, ◌<◌, ◌≤◌, [], ◌∷◌, length, OnOk, OnErr, IfErr, take, slice_get, Some, true, false};
 ghost use Rattle.icu_trie_builder.specs.Writes.{is_accepted};
-ghost use Rattle.icu_trie_builder.specs.CodePointMap.{map_value, whole_cells, IsWhole, IsAfter};
+ghost use Rattle.icu_trie_builder.specs.CodePointMap.{map_value, IsAfter};
 
 use crate::writes::{ApplyRefused, Write};
 use icu_trie::header::TrieType;
 use icu_trie::value::TrieValue;
+use icu_trie_map::number_map::NumberMap;
 use icu_zerovec::MemoryError;
-use std::alloc::{AllocError, Global};
+use std::alloc::Global;
 use std::marker::Model;
 use std::ops::RangeInclusive;
 
 /// How many code points there are.
-pub(crate) const CODE_POINTS: usize = 0x110000;
+const CODE_POINTS: usize = 0x110000;
 
 /// A map from code points to values that can be written to, and then built into a trie (UMutableCPTrie).
 ///
@@ -20,8 +21,8 @@ pub(crate) const CODE_POINTS: usize = 0x110000;
 /// build.
 #[derive(Debug, Drop)]
 pub struct CodePointTrieBuilder<T: TrieValue> {
-    // No cell until the first write that needs them, then one for each code point.
-    pub(crate) cells: Vec<T>,
+    // The number of each code point's value.
+    pub(crate) numbers: NumberMap,
     pub(crate) default: T,
     pub(crate) error: T,
     pub(crate) trie_type: TrieType,
@@ -29,50 +30,18 @@ pub struct CodePointTrieBuilder<T: TrieValue> {
 }
 
 impl<T: TrieValue> Model for CodePointTrieBuilder<T> {
-    ghost use Rattle.icu_trie_builder.specs.CodePointMap.{CodePointMap, IsBuilder, whole_cells};
+    ghost use Rattle.icu_trie_builder.specs.CodePointMap.{CodePointMap, IsBuilder, values_of_numbers};
 
     ghost Value = { CodePointMap T };
 
-    ghost view = { λ b. record { values = whole_cells b.cells.items b.default; default = b.default; error = b.error; trie_type = b.trie_type } };
+    ghost view = { λ b. record {
+      values = values_of_numbers T.of_number b.default b.numbers;
+      default = b.default;
+      error = b.error;
+      trie_type = b.trie_type;
+    } };
 
-    ghost invariant = { λ b. IsBuilder T.is_value b.cells.items b.default b.error };
-}
-
-/// `n` copies of the value in a vector that has none.
-fn fill<T: Copy>(cells: &mut Vec<T>, n: usize, value: T) -> Result<(), AllocError>
-    requires { vec_len cells.old ≡ 0 }
-    ensures len { OnOk result (length cells.new.items ≡ n) }
-    ensures items { OnOk result ((k : ℕ) (d : T) → k < n → slice_index_or cells.new.items k d ≡ value) }
-    ensures err { OnErr result (cells.new.items ≡ cells.old.items) }
-{
-    cells.resize(n, value)
-}
-
-/// Makes the cells, where there are none yet.
-fn make_cells<T: Copy>(cells: &mut Vec<T>, default: T) -> Result<(), AllocError>
-    requires { IsWhole cells.old.items }
-    ensures len { OnOk result (length cells.new.items ≡ 0x110000) }
-    ensures items { OnOk result (cells.new.items ≡ whole_cells cells.old.items default) }
-    ensures err { OnErr result (cells.new.items ≡ cells.old.items) }
-{
-    if cells.is_empty() {
-        fill(cells, CODE_POINTS, default)?;
-    }
-    Ok(())
-}
-
-/// Writes the value from place `start` on to before `end`.
-fn fill_range<T: Copy>(cells: &mut Vec<T>, start: usize, end: usize, value: T)
-    requires range { start ≤ end }
-    requires end { end ≤ length cells.old.items }
-    ensures inside { (k : ℕ) (d : T) → start ≤ k → k < end → slice_index_or cells.new.items k d ≡ value }
-    ensures before { (k : ℕ) (d : T) → k < start → slice_index_or cells.new.items k d ≡ slice_index_or cells.old.items k d }
-    ensures behind { (k : ℕ) (d : T) → end ≤ k → slice_index_or cells.new.items k d ≡ slice_index_or cells.old.items k d }
-    ensures len { length cells.new.items ≡ length cells.old.items }
-{
-    for i in start..end {
-        cells[i] = value;
-    }
+    ghost invariant = { λ b. IsBuilder T.is_value T.number b.numbers b.default b.error };
 }
 
 impl<T: TrieValue> CodePointTrieBuilder<T> {
@@ -87,7 +56,7 @@ impl<T: TrieValue> CodePointTrieBuilder<T> {
         default.shown();
         error.shown();
         CodePointTrieBuilder {
-            cells: Vec::new(alloc),
+            numbers: NumberMap::new(alloc, default.to_u32()),
             default,
             error,
             trie_type,
@@ -131,8 +100,7 @@ impl<T: TrieValue> CodePointTrieBuilder<T> {
             return Ok(());
         }
         value.shown();
-        make_cells(&mut self.cells, self.default)?;
-        fill_range(&mut self.cells, start, end + 1, value);
+        self.numbers.set_range(start, end + 1, value.to_u32())?;
         Ok(())
     }
 

@@ -4,21 +4,23 @@ ghost use Rattle.std.specs.List.{AllPass};
 ghost use Rattle.icu_trie_core.specs.Format.{fast_limit, high_value};
 ghost use Rattle.icu_trie.specs.Parts.{last_cell};
 ghost use Rattle.icu_trie_builder.specs.Bounds.{compact_data_bound, IsTooLarge};
-ghost use Rattle.icu_trie_builder.specs.Data.{IsData, IsHighFrom};
-ghost use Rattle.icu_trie_builder.specs.declared.error.BuildError.TheVariants.{TooLarge};
+ghost use Rattle.icu_trie_builder.specs.Data.{IsData};
+ghost use Rattle.icu_trie_map.specs.NumberMap.{IsHighFrom};
+ghost use Rattle.icu_trie_compaction.specs.declared.error.BuildError.TheVariants.{TooLarge};
 
-use crate::blocks::place_blocks;
 use crate::error::BuildError;
-use crate::index::fast_limit_of;
+use crate::map_blocks::place_map_blocks;
 use crate::null_block::{NullBlock, place_null};
 use icu_trie::header::TrieType;
+use icu_trie_compaction::index::fast_limit_of;
+use icu_trie_map::number_map::NumberMap;
 use std::alloc::{AllocError, Global};
 
 /// The greatest offset of a block, of 18 bits.
 const MAX_DATA_OFFSET: usize = 0x3ffff;
 
 /// The data offset that says that there is no null block, and that no block can have.
-const NO_DATA_NULL_OFFSET: usize = 0xfffff;
+const NO_DATA_NULL_OFFSET: u32 = 0xfffff;
 
 /// The cells of the data, and where the blocks start in them.
 #[derive(Drop)]
@@ -26,28 +28,18 @@ pub(crate) struct PlacedData {
     /// The cells, the high value and the error value last.
     pub(crate) values: Vec<u32>,
     /// The offset of each block of 64 below the fast limit.
-    pub(crate) fast: Vec<usize>,
+    pub(crate) fast: Vec<u32>,
     /// The offset of each block of 16 from the fast limit on to before the high start.
-    pub(crate) small: Vec<usize>,
+    pub(crate) small: Vec<u32>,
     /// The null block.
     pub(crate) null: NullBlock,
 }
 
-/// The first 128 cells.
-fn first_cells(alloc: Global, cells: &[u32]) -> Result<Vec<u32>, AllocError>
-    requires { 128 ≤ length cells.now }
-    ensures { IfOk result (λ v. v.items ≡ take 128 cells.now) }
-{
-    let mut first = Vec::new(alloc);
-    first.extend_from_slice(&cells[..128])?;
-    Ok(first)
-}
-
 /// The offsets of all blocks of 64, where `rest` has those of the third and the following.
-fn with_first_offsets(alloc: Global, rest: &[usize]) -> Result<Vec<usize>, AllocError>
+fn with_first_offsets(alloc: Global, rest: &[u32]) -> Result<Vec<u32>, AllocError>
     ensures { IfOk result (λ v. v.items ≡ 0 ∷ 64 ∷ rest.now) }
 {
-    let mut fast = Vec::new(alloc);
+    let mut fast = Vec::with_capacity(alloc, rest.len() + 2)?;
     fast.push(0)?;
     fast.push(64)?;
     fast.extend_from_slice(rest)?;
@@ -111,7 +103,7 @@ fn null_or(null: Option<NullBlock>, default: u32) -> NullBlock
 /// `TooLarge` at the first block of 16 whose offset has more than 18 bits.
 pub(crate) fn place_data(
     alloc: Global,
-    numbers: &[u32],
+    numbers: &NumberMap,
     error: u32,
     default: u32,
     trie_type: TrieType,
@@ -136,8 +128,9 @@ pub(crate) fn place_data(
 {
     let limit = fast_limit_of(trie_type);
     let small_len = high_start.saturating_sub(limit) / 16;
-    let mut values = first_cells(alloc, numbers)?;
-    let rest = place_blocks(
+    let mut values = Vec::new(alloc);
+    numbers.copy_block(128, 0, &mut values)?;
+    let rest = place_map_blocks(
         alloc,
         &mut values,
         numbers,
@@ -147,7 +140,7 @@ pub(crate) fn place_data(
         MAX_DATA_OFFSET,
     )?;
     let fast = with_first_offsets(alloc, &rest)?;
-    let mut small = place_blocks(
+    let mut small = place_map_blocks(
         alloc,
         &mut values,
         numbers,
@@ -157,7 +150,7 @@ pub(crate) fn place_data(
         MAX_DATA_OFFSET,
     )?;
     let null = place_null(alloc, &mut values, &fast, &mut small, MAX_DATA_OFFSET)?;
-    push_end(&mut values, numbers[0x10ffff], error)?;
+    push_end(&mut values, numbers.last(), error)?;
     Ok(PlacedData {
         values,
         fast,

@@ -6,30 +6,26 @@
 //! - `build`: the map becomes a trie: [`build_from_writes`]
 //! - `error`: why a trie could not be built
 //!
-//! The trie itself is built of numbers, one for each code point:
+//! The trie itself is built of numbers, one for each code point, which `icu_trie_map` keeps:
 //!
 //! - `numbers`: the build as a whole, from the numbers to header, index and data
-//! - `high_start`: where the high value begins
 //! - `data`: the cells of the data, and the offsets of its blocks
-//! - `index`: the index that gives each block its offset; `packing` has the 18-bit form of an index-3 block
+//! - `map_blocks`: the blocks of the map find their places
+//! - `filled_blocks`: blocks of 16 of one number that stand in a block of 64 of it
 //! - `null_block`: the block of one number that a walk knows by its offset; `uses` wishes for a frequent one
-//! - `blocks`: blocks found among the cells so far or put behind them, which data and index-3 share;
-//!   `window_table` finds a block by its hash, which `hashing` computes
+//!
+//! Blocks find their places, and the index is made, in `icu_trie_compaction`.
 #![tactic(auto)]
 
-mod blocks;
 mod build;
 pub mod builder;
 mod data;
 pub mod error;
-mod hashing;
-mod high_start;
-mod index;
+mod filled_blocks;
+mod map_blocks;
 mod null_block;
 mod numbers;
-mod packing;
 mod uses;
-mod window_table;
 pub mod writes;
 
 pub use build::build_from_writes;

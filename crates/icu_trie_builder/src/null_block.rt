@@ -2,9 +2,10 @@
 ghost use Rattle.std.specs.Prelude.{◌≡◌, ◌≢◌, ℕ, ◌+◌, ◌-◌, ◌*◌, ◌/◌, ◌^◌, ◌<◌, ◌≤◌, Bool, true, false, length, max, take, slice_index, Some, None, IfOk, OnOk, IfSome, IfNone};
 ghost use Rattle.std.specs.List.{AllPass};
 ghost use Rattle.icu_trie_builder.specs.FilledBlocks.{IsApart, IsFilled, IsMoved, IsNull, IsOneOf, HasNoNull};
-ghost use Rattle.icu_trie_builder.specs.declared.error.BuildError.TheVariants.{TooLarge};
+ghost use Rattle.icu_trie_compaction.specs.declared.error.BuildError.TheVariants.{TooLarge};
 
 use crate::error::BuildError;
+use crate::filled_blocks::{filled_places, share_filled};
 use crate::uses::most_used;
 use std::alloc::{AllocError, Global};
 
@@ -12,7 +13,7 @@ use std::alloc::{AllocError, Global};
 #[derive(Clone, Copy)]
 pub(crate) struct NullBlock {
     /// Its offset.
-    pub(crate) offset: usize,
+    pub(crate) offset: u32,
     /// Its number.
     pub(crate) value: u32,
 }
@@ -65,7 +66,7 @@ fn is_wanted(wanted: Option<u32>, value: u32) -> bool
 
 /// The first of the blocks of `size` cells at these offsets that holds one number, and the wanted one, if one
 /// is named.
-fn find_filled(cells: &[u32], offsets: &[usize], size: usize, wanted: Option<u32>) -> Option<usize>
+fn find_filled(cells: &[u32], offsets: &[u32], size: usize, wanted: Option<u32>) -> Option<usize>
     requires room { length cells.now < 2 ^ 31 }
     requires some { 0 < size }
     requires inside { (j : ℕ) → j < length offsets.now → slice_index offsets.now j + size ≤ length cells.now }
@@ -77,7 +78,8 @@ fn find_filled(cells: &[u32], offsets: &[usize], size: usize, wanted: Option<u32
         → IsFilled value size (slice_index offsets.now j) cells.now → ⊥) }
 {
     for (number, at) in offsets.iter().enumerate() {
-        if is_wanted(wanted, cells[*at]) && is_filled(cells, *at, size) {
+        let at = *at as usize;
+        if is_wanted(wanted, cells[at]) && is_filled(cells, at, size) {
             return Some(number);
         }
     }
@@ -87,8 +89,8 @@ fn find_filled(cells: &[u32], offsets: &[usize], size: usize, wanted: Option<u32
 /// The first block that holds one number, and the wanted one, if one is named: of 64, or else of 16.
 fn find_either(
     cells: &[u32],
-    fast: &[usize],
-    small: &[usize],
+    fast: &[u32],
+    small: &[u32],
     wanted: Option<u32>,
 ) -> Option<FilledBlock>
     requires room { length cells.now < 2 ^ 31 }
@@ -111,8 +113,8 @@ fn find_either(
 fn choose(
     alloc: Global,
     cells: &[u32],
-    fast: &[usize],
-    small: &[usize],
+    fast: &[u32],
+    small: &[u32],
 ) -> Result<Option<FilledBlock>, AllocError>
     requires room { length cells.now < 2 ^ 31 }
     requires fast { (j : ℕ) → j < length fast.now → slice_index fast.now j + 64 ≤ length cells.now }
@@ -128,11 +130,11 @@ fn choose(
 }
 
 /// Whether `at` is one of the offsets.
-fn is_taken(taken: &[usize], at: usize) -> bool
+fn is_taken(taken: &[u32], at: usize) -> bool
     ensures { result ≡ false → IsApart at taken.now }
 {
     for offset in taken {
-        if *offset == at {
+        if *offset as usize == at {
             return true;
         }
     }
@@ -140,7 +142,7 @@ fn is_taken(taken: &[usize], at: usize) -> bool
 }
 
 /// A place from `from` on at which 16 cells are this number, and which is none of `taken`.
-fn find_apart(cells: &[u32], value: u32, from: usize, taken: &[usize]) -> Option<usize>
+fn find_apart(cells: &[u32], value: u32, from: usize, taken: &[u32]) -> Option<usize>
     requires room { length cells.now < 2 ^ 31 }
     ensures inside { IfSome result (λ at. at + 16 ≤ length cells.now) }
     ensures filled { IfSome result (λ at. IsFilled value 16 at cells.now) }
@@ -174,7 +176,7 @@ fn settle(
     stored: &mut Vec<u32>,
     value: u32,
     from: usize,
-    taken: &[usize],
+    taken: &[u32],
     limit: usize,
 ) -> Result<usize, BuildError>
     requires room { length stored.old.items < 2 ^ 31 }
@@ -202,7 +204,7 @@ fn settle(
 }
 
 /// Writes `to` in the place of each `from`.
-fn rename(offsets: &mut [usize], from: usize, to: usize)
+fn rename(offsets: &mut [u32], from: u32, to: u32)
     ensures renamed { (j : ℕ) → j < length offsets.old → slice_index offsets.old j ≡ from
         → slice_index offsets.new j ≡ to }
     ensures others { (j : ℕ) → slice_index offsets.old j ≢ from
@@ -217,17 +219,18 @@ fn rename(offsets: &mut [usize], from: usize, to: usize)
 
 /// The null block at block number `number` of 64, which holds one number. The blocks of 16 that hold it get
 /// its offset too.
-fn null_of_fast(cells: &[u32], fast: &[usize], small: &mut [usize], number: usize) -> NullBlock
+fn null_of_fast(cells: &[u32], fast: &[u32], small: &mut [u32], number: usize) -> NullBlock
     requires room { length cells.now < 2 ^ 31 }
     requires fast { (j : ℕ) → j < length fast.now → slice_index fast.now j + 64 ≤ length cells.now }
     requires small { (j : ℕ) → j < length small.old → slice_index small.old j + 16 ≤ length cells.now }
     requires number { number < length fast.now }
-    requires filled { let at = slice_index fast.now number in IsFilled (slice_index cells.now at) 64 at cells.now }
+    requires filled { let at = slice_index fast.now number in
+        IsFilled (slice_index cells.now at) 64 at cells.now }
     ensures moved { IsMoved cells.now cells.now small.old small.new }
     ensures null { IsNull fast.now small.new cells.now result.offset result.value }
 {
     let offset = fast[number];
-    let value = cells[offset];
+    let value = cells[offset as usize];
     if let Some(same) = find_filled(cells, small, 16, Some(value)) {
         let from = small[same];
         rename(small, from, offset);
@@ -239,8 +242,8 @@ fn null_of_fast(cells: &[u32], fast: &[usize], small: &mut [usize], number: usiz
 /// it are moved to where no block of 64 starts.
 fn null_of_small(
     stored: &mut Vec<u32>,
-    fast: &[usize],
-    small: &mut [usize],
+    fast: &[u32],
+    small: &mut [u32],
     number: usize,
     limit: usize,
 ) -> Result<NullBlock, BuildError>
@@ -260,31 +263,34 @@ fn null_of_small(
     ensures too_large { result ≡ Err TooLarge → limit < length stored.old.items }
 {
     let from = small[number];
-    let value = stored[from];
-    let offset = settle(stored, value, from, fast, limit)?;
+    let value = stored[from as usize];
+    let at = settle(stored, value, from as usize, fast, limit)?;
+    let offset = at as u32;
     rename(small, from, offset);
     Ok(NullBlock { offset, value })
 }
 
 /// The null block among blocks of 64 at the offsets `fast` and blocks of 16 at the offsets `small`: one that
 /// holds one number, and none where there is no such block. Where it is a block of 16, it is moved to where
-/// no block of 64 starts; otherwise a walk would take a block of 64 for the null block that only begins like it.
+/// no block of 64 starts; otherwise a walk would take a block of 64 for the null block that only begins like
+/// it.
 ///
 /// # Errors
 ///
 /// `TooLarge` where it would start above `limit`.
-pub(crate) fn place_null(
+fn settle_null(
     alloc: Global,
     stored: &mut Vec<u32>,
-    fast: &[usize],
-    small: &mut [usize],
+    fast: &[u32],
+    small: &mut [u32],
     limit: usize,
 ) -> Result<Option<NullBlock>, BuildError>
     requires room { length stored.old.items < 2 ^ 31 }
     requires fast { (j : ℕ) → j < length fast.now → slice_index fast.now j + 64 ≤ length stored.old.items }
     requires small { (j : ℕ) → j < length small.old → slice_index small.old j + 16 ≤ length stored.old.items }
     ensures moved { OnOk result (IsMoved stored.old.items stored.new.items small.old small.new) }
-    ensures null { IfOk result (λ r. IfSome r (λ n. IsNull fast.now small.new stored.new.items n.offset n.value)) }
+    ensures null { IfOk result (λ r. IfSome r (λ n.
+        IsNull fast.now small.new stored.new.items n.offset n.value)) }
     ensures none { IfOk result (λ r. IfNone r (HasNoNull fast.now small.new stored.new.items)) }
     ensures kept { OnOk result (take (length stored.old.items) stored.new.items ≡ stored.old.items) }
     ensures short { OnOk result (length stored.new.items ≤ length stored.old.items + 16) }
@@ -300,4 +306,36 @@ pub(crate) fn place_null(
             Ok(Some(null_of_small(stored, fast, small, number, limit)?))
         }
     }
+}
+
+/// The null block among blocks of 64 at the offsets `fast` and blocks of 16 at the offsets `small`, which are
+/// given the place of a block of 64 first where both hold one number.
+///
+/// # Errors
+///
+/// `TooLarge` where it would start above `limit`.
+pub(crate) fn place_null(
+    alloc: Global,
+    stored: &mut Vec<u32>,
+    fast: &[u32],
+    small: &mut [u32],
+    limit: usize,
+) -> Result<Option<NullBlock>, BuildError>
+    requires room { length stored.old.items < 2 ^ 31 }
+    requires fast { (j : ℕ) → j < length fast.now → slice_index fast.now j + 64 ≤ length stored.old.items }
+    requires small { (j : ℕ) → j < length small.old → slice_index small.old j + 16 ≤ length stored.old.items }
+    ensures moved { OnOk result (IsMoved stored.old.items stored.new.items small.old small.new) }
+    ensures null { IfOk result (λ r. IfSome r (λ n.
+        IsNull fast.now small.new stored.new.items n.offset n.value)) }
+    ensures none { IfOk result (λ r. IfNone r (HasNoNull fast.now small.new stored.new.items)) }
+    ensures kept { OnOk result (take (length stored.old.items) stored.new.items ≡ stored.old.items) }
+    ensures short { OnOk result (length stored.new.items ≤ length stored.old.items + 16) }
+    ensures capped { OnOk result
+        (length stored.new.items ≤ max (length stored.old.items) (limit + 16)) }
+    ensures drawn { OnOk result ((p : ℕ → Bool) → AllPass p stored.old.items → AllPass p stored.new.items) }
+    ensures too_large { result ≡ Err TooLarge → limit < length stored.old.items }
+{
+    let places = filled_places(alloc, stored, fast)?;
+    share_filled(stored, &places, small);
+    settle_null(alloc, stored, fast, small, limit)
 }

@@ -1,15 +1,15 @@
 //! A trie over numbers, built as a whole.
-ghost use Rattle.std.specs.Prelude.{◌≡◌, ℕ, Bool, true, length, slice_index, IfOk};
+ghost use Rattle.std.specs.Prelude.{◌≡◌, ℕ, Bool, true, slice_index, IfOk};
 ghost use Rattle.std.specs.List.{AllPass};
 ghost use Rattle.icu_trie_builder.specs.Bounds.{IsTooLarge};
 ghost use Rattle.icu_trie_builder.specs.Built.{IsBuilt};
-ghost use Rattle.icu_trie_builder.specs.declared.error.BuildError.TheVariants.{TooLarge};
+ghost use Rattle.icu_trie_compaction.specs.declared.error.BuildError.TheVariants.{TooLarge};
 
 use crate::data::{PlacedData, place_data};
 use crate::error::BuildError;
-use crate::high_start::find_high_start;
-use crate::index::{NO_INDEX3_NULL_OFFSET, build_index};
 use icu_trie::header::{CodePointTrieHeader, TrieType};
+use icu_trie_compaction::index::build_index;
+use icu_trie_map::number_map::NumberMap;
 use std::alloc::Global;
 
 /// The parts of a trie whose values are numbers.
@@ -31,12 +31,11 @@ pub(crate) struct NumberTrie {
 /// `TooLarge` at the first offset that does not fit its cell, `Memory` where memory is refused.
 pub(crate) fn build_numbers(
     alloc: Global,
-    numbers: &[u32],
+    numbers: &NumberMap,
     error: u32,
     default: u32,
     trie_type: TrieType,
 ) -> Result<NumberTrie, BuildError>
-    requires { length numbers.now ≡ 0x110000 }
     ensures built { IfOk result (λ t.
         IsBuilt (λ c. slice_index numbers.now c) error t.header t.index.items t.values.items) }
     ensures trie_type { IfOk result (λ t. t.header.trie_type ≡ trie_type) }
@@ -48,25 +47,32 @@ pub(crate) fn build_numbers(
         → AllPass p t.values.items) }
     ensures too_large { result ≡ Err TooLarge → IsTooLarge (λ c. slice_index numbers.now c) }
 {
-    let high_start = find_high_start(numbers);
+    let high_start = numbers.high_start();
     let PlacedData {
         values,
         fast,
         small,
         null,
     } = place_data(alloc, numbers, error, default, trie_type, high_start)?;
-    let index = build_index(alloc, trie_type, high_start, &fast, &small)?;
+    let built = build_index(
+        alloc,
+        trie_type,
+        high_start,
+        &fast,
+        &small,
+        null.offset as usize,
+    )?;
     let header = CodePointTrieHeader {
         high_start: high_start as u32,
         shifted12_high_start: high_start.div_ceil(0x1000) as u16,
-        index3_null_offset: NO_INDEX3_NULL_OFFSET,
-        data_null_offset: null.offset as u32,
+        index3_null_offset: built.null_offset,
+        data_null_offset: null.offset,
         null_value: null.value,
         trie_type,
     };
     Ok(NumberTrie {
         header,
-        index,
+        index: built.cells,
         values,
     })
 }

@@ -67,7 +67,7 @@ fn add_blocks(
 fn add_offsets(
     uses: &mut Vec<Use>,
     cells: &[u32],
-    offsets: &[usize],
+    offsets: &[u32],
     size: usize,
 ) -> Result<(), AllocError>
     requires room { length cells.now < 2 ^ 31 }
@@ -78,21 +78,21 @@ fn add_offsets(
     let mut count = 0;
     for offset in offsets {
         if *offset != last {
-            add_blocks(uses, cells, last, size, count)?;
+            add_blocks(uses, cells, last as usize, size, count)?;
             count = 0;
         }
         last = *offset;
         count += 1;
     }
-    add_blocks(uses, cells, last, size, count)
+    add_blocks(uses, cells, last as usize, size, count)
 }
 
 /// A number that fills more of these blocks than others, weighted by their length.
 pub(crate) fn most_used(
     alloc: Global,
     cells: &[u32],
-    fast: &[usize],
-    small: &[usize],
+    fast: &[u32],
+    small: &[u32],
 ) -> Result<Option<u32>, AllocError>
     requires room { length cells.now < 2 ^ 31 }
     requires fast { (j : ℕ) → j < length fast.now → slice_index fast.now j + 64 ≤ length cells.now }

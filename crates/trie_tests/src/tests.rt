@@ -7,6 +7,7 @@
 mod coherence;
 mod constants;
 mod packed_vectors;
+mod quiet_calls;
 mod reader;
 mod reads;
 mod refused_parts;

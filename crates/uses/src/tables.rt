@@ -76,7 +76,8 @@ pub fn set_of_category(
     rows: &[Write<u8>],
     category: u8,
 ) -> Result<CodePointInversionList<'static>, BuildError>
-    ensures { IfOk result (λ s. (c : ℕ) → c < 0x110000 → (holds s c ≡ true) ↔ (value_after rows.now 0 c ≡ category)) }
+    ensures { IfOk result (λ s. (c : ℕ) → c < 0x110000
+        → (holds s c ≡ true) ↔ (value_after rows.now 0 c ≡ category)) }
 {
     let trie = build_from_writes(alloc, 0, 255, TrieType::Fast, rows)?;
     let set = trie.get_set_for_value(alloc, category)?;

@@ -13,11 +13,19 @@ fn expect_data<T: TrieValue>(rt: &impl Abort, trie: CodePointTrie<'_, T>, most: 
     assert!(rt; found <= most, "{found} cells of data");
 }
 
-/// The null block of the trie holds this number.
+/// The trie has at most so many cells of index.
+fn expect_index(rt: &impl Abort, trie: CodePointTrie<'_, u16>, most: usize) {
+    let (_, index, _) = trie.parts();
+    let found = index.len();
+    assert!(rt; found <= most, "{found} cells of index");
+}
+
+/// The null block of the trie holds this number, and blocks of 512 hold nothing else.
 fn expect_null(rt: &impl Abort, trie: CodePointTrie<'_, u8>, null_value: u32) {
     let (header, _, _) = trie.parts();
     assert_eq!(rt; header.null_value, null_value);
     assert!(rt; header.data_null_offset != 0xfffff, "no null block");
+    assert!(rt; header.index3_null_offset != 0x7fff, "no null block of 512");
 }
 
 /// Fives below 0x10000, and zeros behind.
@@ -100,5 +108,37 @@ fn small_blocks_in_a_fast_block(rt: HostRuntime) -> Result<(), Fail> {
     let expected = [(0x43F, 64), (0x20000, 8), (0x2000F, 23), (0x20010, 0)];
     expect_numbers(&rt, built(&rt, TrieType::Fast, (0, 9), &writes), &expected);
     expect(&rt, writes.len() == 80, "writes");
+    Ok(())
+}
+
+/// A hundred blocks of 512, each of 32 blocks of 16 of one value, of which the first sixteen are the last sixteen
+/// of the block before.
+fn overlapping_index_writes(alloc: Global) -> Result<Vec<Write<u16>>, AllocError> {
+    let mut writes = Vec::new(alloc);
+    for k in 0..100u16 {
+        for p in 0..32u16 {
+            let first = 0x10000 + 512 * u32::from(k) + 16 * u32::from(p);
+            writes.push(Write::Range(first..=first + 15, 16 * k + p + 1))?;
+        }
+    }
+    Ok(writes)
+}
+
+/// Index-3 blocks that overlap take the cells that they have in common once.
+#[test]
+fn overlapping_index_blocks(rt: HostRuntime) -> Result<(), Fail> {
+    let writes = overlapping_index_writes(rt.alloc())?;
+    expect_index(&rt, built(&rt, TrieType::Fast, (0, 9), &writes), 3000);
+    let expected = [
+        (0xFFFF, 0),
+        (0x10000, 1),
+        (0x101FF, 32),
+        (0x10200, 17),
+        (0x1C7FF, 1616),
+        (0x1C800, 0),
+    ];
+    for trie_type in BOTH {
+        expect_numbers(&rt, built(&rt, trie_type, (0, 9), &writes), &expected);
+    }
     Ok(())
 }

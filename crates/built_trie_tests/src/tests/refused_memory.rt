@@ -36,52 +36,150 @@ fn trie_of_one(alloc: Global) -> Option<CodePointTrie<'static, u8>> {
     build_from_writes(alloc, 0, 9, TrieType::Small, &[Write::One(0x41, 1)]).ok()
 }
 
-/// What the builder holds, where there is memory to see it.
-fn expect_held(rt: &impl Abort, builder: CodePointTrieBuilder<u8>, expected: &[(u32, u32)]) {
-    if let Ok(trie) = builder.build() {
-        expect_numbers(rt, trie, expected);
+/// Code points and their values: in many blocks, in both halves of the code space.
+const POINTS: [(u32, u8); 16] = [
+    (0x41, 1),
+    (0x10_FFFF, 2),
+    (0x5000, 3),
+    (0x5001, 1),
+    (0xFFFF, 2),
+    (0x1_0000, 3),
+    (0x41, 0),
+    (0x2_0345, 1),
+    (0x3_0000, 2),
+    (0x4_0777, 3),
+    (0x5_0777, 1),
+    (0x6_0001, 2),
+    (0x6_0011, 3),
+    (0x6_0021, 1),
+    (0x8_00FF, 2),
+    (0xE_01EF, 3),
+];
+
+/// Gives the code points their values, up to the first that is refused, at most `count` of them: how many
+/// were written, and the refusal.
+fn write_points(
+    builder: &mut CodePointTrieBuilder<u8>,
+    count: usize,
+) -> (usize, Result<(), MemoryError>) {
+    for (k, (c, value)) in POINTS.iter().take(count).enumerate() {
+        let written = builder.set_value(*c, *value);
+        if written.is_err() {
+            return (k, written);
+        }
+    }
+    (count, Ok(()))
+}
+
+/// The same with the ranges of 0x334 code points from there on, which begin and end within blocks.
+fn write_ranges(
+    builder: &mut CodePointTrieBuilder<u8>,
+    count: usize,
+) -> (usize, Result<(), MemoryError>) {
+    for (k, (c, value)) in POINTS.iter().take(count).enumerate() {
+        let written = builder.set_range_value(*c..=c.saturating_add(0x333), *value);
+        if written.is_err() {
+            return (k, written);
+        }
+    }
+    (count, Ok(()))
+}
+
+/// The same writes at single code points as a list.
+fn writes_at_points(alloc: Global) -> Option<Vec<Write<u8>>> {
+    let mut writes = Vec::new(alloc);
+    for (c, value) in POINTS {
+        writes.push(Write::One(c, value)).ok()?;
+    }
+    Some(writes)
+}
+
+/// A builder after so many writes at single code points, `None` where memory was refused.
+fn with_points(alloc: Global, count: usize) -> Option<CodePointTrieBuilder<u8>> {
+    let mut builder = builder_of_nothing(alloc);
+    let (_, written) = write_points(&mut builder, count);
+    written.ok()?;
+    Some(builder)
+}
+
+/// A builder after so many writes at ranges, `None` where memory was refused.
+fn with_ranges(alloc: Global, count: usize) -> Option<CodePointTrieBuilder<u8>> {
+    let mut builder = builder_of_nothing(alloc);
+    let (_, written) = write_ranges(&mut builder, count);
+    written.ok()?;
+    Some(builder)
+}
+
+/// Both builders build the same trie, if they find memory.
+fn expect_same_built(
+    rt: &impl Abort,
+    found: CodePointTrieBuilder<u8>,
+    want: Option<CodePointTrieBuilder<u8>>,
+) {
+    let Some(want) = want else {
+        return;
+    };
+    if let (Ok(found), Ok(want)) = (found.build(), want.build()) {
+        expect(rt, found == want, "the writes before the refused one");
     }
 }
 
-/// The first write grows the cells. Refused, it leaves the map as it was.
+/// A refused write leaves the map as it was: that of a builder after the writes before it.
+///
+/// Calls: `CodePointTrieBuilder::set_value`.
 #[test]
 fn set_value_refused(rt: HostRuntime) {
     let mut builder = builder_of_nothing(rt.alloc());
     say(&rt, "call");
-    let answer = builder.set_value(0x41, 1);
+    let (count, answer) = write_points(&mut builder, POINTS.len());
     say(&rt, "done");
     say_if_refused(&rt, answer == Err(MemoryError));
-    let expected = if answer.is_ok() { 1 } else { 0 };
-    expect_held(&rt, builder, &[(0x41, expected), (0x42, 0), (0x110000, 9)]);
+    expect_same_built(&rt, builder, with_points(rt.alloc(), count));
 }
 
+/// Calls: `CodePointTrieBuilder::set_range_value`.
 #[test]
 fn set_range_value_refused(rt: HostRuntime) {
     let mut builder = builder_of_nothing(rt.alloc());
     say(&rt, "call");
-    let answer = builder.set_range_value(0x41..=0x5A, 1);
+    let (count, answer) = write_ranges(&mut builder, POINTS.len());
     say(&rt, "done");
     say_if_refused(&rt, answer == Err(MemoryError));
-    let expected = if answer.is_ok() { 1 } else { 0 };
-    let numbers = [(0x40, 0), (0x41, expected), (0x5A, expected), (0x5B, 0)];
-    expect_held(&rt, builder, &numbers);
+    expect_same_built(&rt, builder, with_ranges(rt.alloc(), count));
 }
 
-/// The place is that of the first write that needs the cells, behind one that is ignored.
+/// The writes before the place that is answered are made, and no other.
+///
+/// Calls: `CodePointTrieBuilder::apply`.
 #[test]
 fn apply_refused(rt: HostRuntime) {
     let mut builder = builder_of_nothing(rt.alloc());
-    let writes = [
-        Write::One(0x110000, 3),
-        Write::One(0x41, 1),
-        Write::One(0x42, 2),
-    ];
+    let Some(writes) = writes_at_points(rt.alloc()) else {
+        return;
+    };
+    say(&rt, "call");
+    let answer = builder.apply(&writes);
+    say(&rt, "done");
+    say_if_refused(&rt, answer.is_err());
+    let count = match answer {
+        Ok(()) => POINTS.len(),
+        Err(ApplyRefused(place)) => place,
+    };
+    expect_same_built(&rt, builder, with_points(rt.alloc(), count));
+}
+
+/// The place is that of the first write that needs memory, behind one that is ignored.
+///
+/// Calls: `CodePointTrieBuilder::apply`.
+#[test]
+fn apply_behind_ignored_refused(rt: HostRuntime) {
+    let mut builder = builder_of_nothing(rt.alloc());
+    let writes = [Write::One(0x110000, 3), Write::One(0x41, 1)];
     say(&rt, "call");
     let answer = builder.apply(&writes);
     say(&rt, "done");
     say_if_refused(&rt, answer == Err(ApplyRefused(1)));
-    let (first, second) = if answer.is_ok() { (1, 2) } else { (0, 0) };
-    expect_held(&rt, builder, &[(0x41, first), (0x42, second), (0x43, 0)]);
+    expect(&rt, answer != Err(ApplyRefused(0)), "the place");
 }
 
 /// A builder that has its cells, with 1 at 0x41 and 2 at 0x10000, so that index-1, index-2 and index-3 are
@@ -109,6 +207,7 @@ fn expect_answer(rt: &(impl Abort + Print), answer: Result<CodePointTrie<'_, u8>
     }
 }
 
+/// Calls: `CodePointTrieBuilder::build`.
 #[test]
 fn build_refused(rt: HostRuntime) {
     let Some(builder) = written(rt.alloc()) else {
@@ -120,6 +219,7 @@ fn build_refused(rt: HostRuntime) {
     expect_answer(&rt, answer);
 }
 
+/// Calls: `codepointtrie::build_from_writes`.
 #[test]
 fn build_from_writes_refused(rt: HostRuntime) {
     let writes = [Write::One(0x41, 1u8), Write::One(0x10000, 2)];
@@ -127,9 +227,14 @@ fn build_from_writes_refused(rt: HostRuntime) {
     let answer = build_from_writes(rt.alloc(), 0, 9, TrieType::Fast, &writes);
     say(&rt, "done");
     expect_answer(&rt, answer);
+    let first = matches!(&writes[0], Write::One(0x41, 1));
+    let second = matches!(&writes[1], Write::One(0x10000, 2));
+    expect(&rt, first && second, "the writes as they were");
 }
 
 /// A copy asks for the memory of its index, then for that of its data.
+///
+/// Calls: `CodePointTrie::try_clone`.
 #[test]
 fn try_clone_refused(rt: HostRuntime) {
     let Some(trie) = trie_of_one(rt.alloc()) else {
@@ -142,6 +247,7 @@ fn try_clone_refused(rt: HostRuntime) {
         Ok(copy) => expect_numbers(&rt, copy, &[(0x41, 1), (0x42, 0), (0x110000, 9)]),
         Err(MemoryError) => say(&rt, "refused"),
     }
+    expect_numbers(&rt, trie, &[(0x41, 1), (0x42, 0), (0x110000, 9)]);
 }
 
 /// All but 0x41, or the want of memory, which is said.
@@ -159,6 +265,8 @@ fn expect_others(
 }
 
 /// The set of a value takes memory. Refused, the trie is as it was.
+///
+/// Calls: `CodePointTrie::get_set_for_value`.
 #[test]
 fn get_set_for_value_refused(rt: HostRuntime) {
     let Some(trie) = trie_of_one(rt.alloc()) else {
@@ -172,17 +280,36 @@ fn get_set_for_value_refused(rt: HostRuntime) {
     expect_ranges(&rt, trie, &ranges);
 }
 
-/// A new builder and an ignored write take no memory.
+/// The builder holds 0 at each code point, where there is memory to see it.
+fn expect_nothing_written(rt: &impl Abort, builder: CodePointTrieBuilder<u8>) {
+    if let Ok(trie) = builder.build() {
+        expect_ranges(rt, trie, &[(0, 0x10FFFF, 0)]);
+    }
+}
+
+/// A new builder takes no memory, and neither do writes above the code points and over a reversed range,
+/// which write nothing.
+///
+/// Calls: `CodePointTrieBuilder::new`, `CodePointTrieBuilder::set_value`,
+/// `CodePointTrieBuilder::set_range_value`.
 #[test]
 fn ignored_write_quiet(rt: HostRuntime) {
     say(&rt, "call");
     let mut builder = CodePointTrieBuilder::new(rt.alloc(), 0u8, 9, TrieType::Small);
-    let ignored = builder.set_value(0x110000, 1);
+    let point = builder.set_value(0x110000, 1);
+    let above = builder.set_range_value(0x110000..=u32::MAX, 1);
+    let reversed = builder.set_range_value(5..=3, 1);
     say(&rt, "done");
-    expect(&rt, ignored == Ok(()), "ignored");
+    let answers = [point, above, reversed];
+    expect(&rt, answers == [Ok(()), Ok(()), Ok(())], "ignored");
+    expect_nothing_written(&rt, builder);
 }
 
 /// Look-ups by every getter take no memory.
+///
+/// Calls: `CodePointTrie::get32`, `CodePointTrie::error_value`, `CodePointTrie::null_value`,
+/// `CodePointTrie::get`, `CodePointTrie::get16`, `CodePointTrie::get32_supplementary`,
+/// `CodePointTrie::get32_u32`.
 #[test]
 fn look_ups_quiet(rt: HostRuntime) {
     let Some(trie) = trie_of_one(rt.alloc()) else {
@@ -207,6 +334,8 @@ fn look_ups_quiet(rt: HostRuntime) {
 }
 
 /// A trie of lent parts takes no memory.
+///
+/// Calls: `CodePointTrie::parts`, `CodePointTrie::try_new`, `ZeroSlice::as_zerovec`.
 #[test]
 fn lent_parts_quiet(rt: HostRuntime) {
     let Some(trie) = trie_of_one(rt.alloc()) else {

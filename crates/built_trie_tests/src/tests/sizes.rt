@@ -1,6 +1,6 @@
 //! How many cells a built trie has, and which maps are too large.
 
-use crate::tests::support::{BOTH, built, expect, expect_numbers, own_numbers};
+use crate::tests::support::{BOTH, built, expect, expect_number, expect_numbers, own_numbers};
 use icu_collections::codepointtrie::{
     BuildError, CodePointTrie, TrieType, Write, build_from_writes,
 };
@@ -15,15 +15,38 @@ fn expect_data(rt: &impl Abort, trie: &CodePointTrie<'_, u32>, most: usize) {
     assert!(rt; found <= most, "{found} cells of data");
 }
 
+/// The trie has at most so many cells of index.
+fn expect_index(rt: &impl Abort, trie: &CodePointTrie<'_, u32>, most: usize) {
+    let (_, index, _) = trie.parts();
+    let found = index.len();
+    assert!(rt; found <= most, "{found} cells of index");
+}
+
+/// Each code point from 0x10000 to 0x3EDEF has itself as its value, and none beside them: data offsets on both
+/// sides of 0xFFFF, so that index-3 blocks of both widths are read.
+fn expect_own_numbers(rt: &impl Abort, trie: CodePointTrie<'_, u32>) {
+    for c in 0x10000u32..0x3EDF0 {
+        expect_number(rt, c, trie.get32(c), c);
+    }
+    let others = [
+        (0, 0),
+        (0xFFFF, 0),
+        (0x3EDF0, 0),
+        (0x3EDF1, 0),
+        (0x110000, 9),
+    ];
+    expect_numbers(rt, trie, &others);
+}
+
 /// 12,000 different blocks of 16 values are no reason to refuse a map, nor does it take long to find which
 /// are equal.
 #[test]
 fn twelve_thousand_small_blocks(rt: HostRuntime) -> Result<(), Fail> {
     let writes = own_numbers(rt.alloc(), 0x10000, 0x3EDEF)?;
-    let trie = built(&rt, TrieType::Fast, (0, 9), &writes);
-    expect_data(&rt, &trie, 192_224);
-    let expected = [(0x10000, 0x10000), (0x3EDEF, 0x3EDEF), (0x3EDF0, 0), (0, 0)];
-    expect_numbers(&rt, trie, &expected);
+    expect_data(&rt, &built(&rt, TrieType::Fast, (0, 9), &writes), 192_224);
+    for trie_type in BOTH {
+        expect_own_numbers(&rt, built(&rt, trie_type, (0, 9), &writes));
+    }
     Ok(())
 }
 
@@ -36,13 +59,16 @@ fn distant_writes(alloc: Global) -> Result<Vec<Write<u32>>, AllocError> {
     Ok(writes)
 }
 
-/// Of 800 different blocks of 512 values each a map is not refused, and its data stay small.
+/// Of 800 different blocks of 512 values each a map is not refused, and its data and its index stay small.
 #[test]
 fn eight_hundred_blocks(rt: HostRuntime) -> Result<(), Fail> {
     let writes = distant_writes(rt.alloc())?;
-    let trie = built(&rt, TrieType::Fast, (0, 9), &writes);
-    expect_data(&rt, &trie, 13_024);
-    expect_numbers(&rt, trie, &[(0x73C00, 799)]);
+    expect_data(&rt, &built(&rt, TrieType::Fast, (0, 9), &writes), 13_024);
+    expect_index(&rt, &built(&rt, TrieType::Fast, (0, 9), &writes), 28_800);
+    let expected = [(0x10000, 1), (0x10001, 0), (0x73C00, 799), (0x73C01, 0)];
+    for trie_type in BOTH {
+        expect_numbers(&rt, built(&rt, trie_type, (0, 9), &writes), &expected);
+    }
     Ok(())
 }
 

@@ -174,22 +174,55 @@ impl<'data> CodePointInversionList<'data> {
         ensures end { result ≡ slice_index self.now i }
         ensures within { result ≤ limit }
     {
-        match self.ends.get(i) {
-            Some(end) => u32::from(end),
-            None => 0,
+        u32::from(self.ends.as_slice().at(i))
+    }
+
+    /// How many ends are not above `c`, which is at least `low` and at most `low + size`. Each step halves what
+    /// is left, whatever it reads, so that the steps of a known size are laid out without a loop.
+    #[inline(always)]
+    fn place_between(&self, low: usize, size: usize, c: u32) -> usize
+        requires from { low ≤ below self.now (suc c) }
+        requires to { below self.now (suc c) ≤ low + size }
+        requires within { low + size ≤ length self.now }
+        ensures place { result ≡ below self.now (suc c) }
+    {
+        // A set is known to be valid where its ends are named.
+        let _ = &self.ends;
+        let mut low = low;
+        let mut size = size;
+        while size > 1 {
+            let half = size / 2;
+            low = if self.end_at(low + half) <= c {
+                low + half
+            } else {
+                low
+            };
+            size -= half;
+        }
+        if size == 1 && self.end_at(low) <= c {
+            low + 1
+        } else {
+            low
         }
     }
 
-    /// How many ends are not above `c`.
+    /// How many ends are not above `c`. Most code points of most texts stand before the first end, behind the
+    /// last or among the first few, where little is searched or nothing.
+    #[inline(always)]
     fn place_of(&self, c: u32) -> usize
-        requires { c ≤ limit }
         ensures valid { IsValid self.now }
         ensures place { result ≡ below self.now (suc c) }
         ensures within { result ≤ length self.now }
     {
-        match self.ends.binary_search(&PotentialCodePoint::from_u24(c)) {
-            Ok(i) => i + 1,
-            Err(i) => i,
+        let count = self.count();
+        if count == 0 || c < self.end_at(0) {
+            0
+        } else if self.end_at(count - 1) <= c {
+            count
+        } else if count > 16 && c < self.end_at(16) {
+            self.place_between(0, 16, c)
+        } else {
+            self.place_between(0, count, c)
         }
     }
 
@@ -220,9 +253,7 @@ impl<'data> CodePointInversionList<'data> {
         ensures held { result ≡ holds self.now c }
         ensures far { limit ≤ c → result ≡ false }
     {
-        // A set is known to be valid where its ends are named.
-        let _ = &self.ends;
-        c < 0x11_0000 && self.place_of(c) % 2 == 1
+        self.place_of(c) % 2 == 1
     }
 
     /// Whether the set holds the character.

@@ -3,7 +3,7 @@
 //! asks for nothing between the lines `call` and `done`.
 use crate::tests::refused_memory::say;
 use crate::tests::support::{expect, expect_same, hash_of};
-use icu_zerovec::ule::UleError;
+use icu_zerovec::ule::{AsULE, UleError};
 use icu_zerovec::{PotentialCodePoint, ZeroSlice, ZeroVec};
 use std::test::Fail;
 
@@ -42,6 +42,10 @@ fn views_of(bytes: &[u8]) -> Result<Reads, UleError> {
     Ok(reads_of_view(lent.as_slice()))
 }
 
+/// Calls: `ZeroVec::parse_bytes`, `ZeroVec::len`, `ZeroVec::is_empty`, `ZeroVec::get`, `ZeroVec::first`,
+/// `ZeroVec::last`, `ZeroVec::iter`, `ZeroSlice::len`, `ZeroSlice::is_empty`, `ZeroSlice::get`,
+/// `ZeroSlice::first`, `ZeroSlice::last`, `ZeroSlice::iter`, `Iter::next`, `ZeroVec::as_bytes`,
+/// `ZeroVec::as_slice`.
 #[test]
 fn reads_quiet(rt: HostRuntime) {
     let Ok(owner) = ZeroVec::alloc_from_slice(rt.alloc(), &[0x41_u32, 0x42]) else {
@@ -65,6 +69,7 @@ fn places_of(bytes: &[u8]) -> Result<(Result<usize, usize>, Result<usize, usize>
     ))
 }
 
+/// Calls: `ZeroVec::binary_search`, `ZeroSlice::binary_search`.
 #[test]
 fn searches_quiet(rt: HostRuntime) {
     let Ok(owner) = ZeroVec::alloc_from_slice(rt.alloc(), &[0x41_u32, 0x42]) else {
@@ -86,6 +91,7 @@ fn is_like_its_owner(owner: &ZeroVec<'_, u32>) -> Result<bool, UleError> {
     Ok(same && hashes && lent.as_bytes() == view.as_bytes())
 }
 
+/// Calls: `ZeroVec::as_slice`, `ZeroSlice::as_zerovec`, `ZeroVec::as_bytes`, `ZeroSlice::as_bytes`.
 #[test]
 fn comparisons_quiet(rt: HostRuntime) {
     let Ok(owner) = ZeroVec::alloc_from_slice(rt.alloc(), &[0x41_u32, 0x42]) else {
@@ -97,6 +103,7 @@ fn comparisons_quiet(rt: HostRuntime) {
     expect_same(&rt, alike, Ok(true), "a vector and its owner");
 }
 
+/// Calls: `ZeroVec::parse_bytes`, `PotentialCodePoint::from_u24`, `PotentialCodePoint::try_from`.
 #[test]
 fn single_values_quiet(rt: HostRuntime) {
     say(&rt, "call");
@@ -115,6 +122,7 @@ fn last_converted(bytes: &[u8]) -> Result<Option<i32>, UleError> {
     Ok(signed.last())
 }
 
+/// Calls: `ZeroVec::try_into_converted`, `ZeroVec::into_owned`.
 #[test]
 fn conversions_quiet(rt: HostRuntime) -> Result<(), Fail> {
     let Ok(owner) = ZeroVec::alloc_from_slice(rt.alloc(), &[0x41_u32, 0x42]) else {
@@ -127,4 +135,54 @@ fn conversions_quiet(rt: HostRuntime) -> Result<(), Fail> {
     expect_same(&rt, owned.first(), Some(0x41), "first");
     expect_same(&rt, last, Ok(Some(0x42)), "last");
     Ok(())
+}
+
+/// The second value of a view, and how many are left behind its first one, counted in two ways.
+fn left_behind_first(bytes: &[u8]) -> Result<(u32, usize, usize), UleError> {
+    let lent = ZeroVec::<u32>::parse_bytes(bytes)?;
+    let view = lent.as_slice();
+    let second = if 1 < view.len() { view.at(1) } else { 0 };
+    let mut values = view.iter();
+    let _ = values.next();
+    Ok((second, values.len(), values.size_hint().0))
+}
+
+/// Calls: `ZeroSlice::at`, `Iter::next`, `Iter::len`, `Iter::size_hint`.
+#[test]
+fn places_quiet(rt: HostRuntime) {
+    let Ok(owner) = ZeroVec::alloc_from_slice(rt.alloc(), &[0x41_u32, 0x42]) else {
+        return;
+    };
+    say(&rt, "call");
+    let found = left_behind_first(owner.as_bytes());
+    say(&rt, "done");
+    expect_same(&rt, found, Ok((0x42, 1, 1)), "behind the first");
+}
+
+/// The packed bytes of a value of any type.
+fn packed<T: AsULE>(value: T) -> [u8; 4] {
+    value.shown();
+    value.to_unaligned()
+}
+
+/// The values of all types are packed, and those of three widths read back.
+///
+/// Calls: `AsULE::shown`, `AsULE::to_unaligned`, `AsULE::from_unaligned`.
+#[test]
+fn packed_values_quiet(rt: HostRuntime) {
+    say(&rt, "call");
+    let unsigned = (packed(7_u8), packed(7_u16), packed(7_u32));
+    let signed = (packed(7_i8), packed(7_i16), packed(7_i32));
+    let points = (packed('\u{7}'), packed(PotentialCodePoint::from_u24(7)));
+    let read = (
+        u8::from_unaligned(&[7]),
+        i16::from_unaligned(&[7, 0]),
+        char::from_unaligned(&[7, 0, 0]),
+    );
+    say(&rt, "done");
+    let want = [7, 0, 0, 0];
+    expect_same(&rt, unsigned, (want, want, want), "unsigned numbers");
+    expect_same(&rt, signed, (want, want, want), "numbers with sign");
+    expect_same(&rt, points, (want, want), "code points");
+    expect_same(&rt, read, (Some(7), Some(7), Some('\u{7}')), "read back");
 }

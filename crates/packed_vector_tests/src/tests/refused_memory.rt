@@ -32,6 +32,7 @@ fn expect_made<T: AsULE>(
     }
 }
 
+/// Calls: `ZeroVec::alloc_from_slice`.
 #[test]
 fn alloc_from_slice_refused(rt: HostRuntime) {
     let values = [0x1234_u16, 255];
@@ -57,6 +58,7 @@ fn expect_numbers(rt: &(impl Abort + Print), made: Result<Vec<u16>, MemoryError>
     }
 }
 
+/// Calls: `MemoryError::from`.
 #[test]
 fn push_refused(rt: HostRuntime) {
     say(&rt, "call");
@@ -78,6 +80,7 @@ fn expect_clone(
     expect_bytes(rt, vector.as_bytes(), &[0x34, 0x12, 255, 0]);
 }
 
+/// Calls: `ZeroVec::try_clone`.
 #[test]
 fn try_clone_refused(rt: HostRuntime) {
     let Ok(vector) = ZeroVec::alloc_from_slice(rt.alloc(), &[0x1234_u16, 255]) else {
@@ -89,6 +92,7 @@ fn try_clone_refused(rt: HostRuntime) {
     expect_clone(&rt, &vector, cloned);
 }
 
+/// Calls: `ZeroVec::into_owned`.
 #[test]
 fn into_owned_refused(rt: HostRuntime) -> Result<(), Fail> {
     let bytes = [0x34, 0x12, 255, 0];
@@ -102,6 +106,8 @@ fn into_owned_refused(rt: HostRuntime) -> Result<(), Fail> {
 }
 
 /// A vector that borrows still does once it is converted, so its own bytes take memory.
+///
+/// Calls: `ZeroVec::into_owned`.
 #[test]
 fn converted_into_owned_refused(rt: HostRuntime) -> Result<(), Fail> {
     let bytes = [0x41, 0, 0, 0x42, 0, 0];

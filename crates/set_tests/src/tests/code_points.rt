@@ -1,6 +1,7 @@
 //! What no clause says: texts, that calls succeed, want of memory. Wanted values are those of ICU's
 //! UnicodeSet and of the Rust crate, or worked out by hand.
 mod builder;
+mod ends_of_types;
 mod errors;
 mod iterators;
 mod json;

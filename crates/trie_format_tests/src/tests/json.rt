@@ -205,6 +205,12 @@ fn expect_written(rt: &(impl Abort + Print), written: Result<Value, MemoryError>
     }
 }
 
+/// The trie is that of the planes.
+fn expect_planes(rt: &impl Abort, trie: CodePointTrie<'_, u8>) {
+    assert!(rt; trie == get_planes_trie());
+}
+
+/// Calls: `json::to_json`.
 #[test]
 fn to_json_refused(rt: HostRuntime) {
     let planes = get_planes_trie();
@@ -212,6 +218,7 @@ fn to_json_refused(rt: HostRuntime) {
     let written = to_json(rt.alloc(), &planes);
     say(&rt, "done");
     expect_written(&rt, written);
+    expect_planes(&rt, planes);
 }
 
 /// The trie has its high value, or the want of memory was told, which is said.
@@ -225,13 +232,26 @@ fn expect_read(rt: &(impl Abort + Print), trie: Result<CodePointTrie<'_, u8>, Tr
     }
 }
 
+/// A value and its copy, `None` where no memory was found.
+fn two_values(alloc: Global) -> Option<(Value, Value)> {
+    let value = value_of(alloc, &WHOLE)?;
+    Some((value, value_of(alloc, &WHOLE)?))
+}
+
+/// The value is as it was copied.
+fn expect_unchanged(rt: &impl Abort, value: Value, copy: Value) {
+    assert!(rt; value == copy);
+}
+
+/// Calls: `json::from_json`.
 #[test]
 fn from_json_refused(rt: HostRuntime) {
-    let Some(value) = value_of(rt.alloc(), &WHOLE) else {
+    let Some((value, copy)) = two_values(rt.alloc()) else {
         return;
     };
     say(&rt, "call");
     let trie = from_json::<u8>(rt.alloc(), &value);
     say(&rt, "done");
     expect_read(&rt, trie);
+    expect_unchanged(&rt, value, copy);
 }

@@ -1,4 +1,5 @@
 //! The trie of the planes.
+use super::support::say;
 use icu_trie::cptrie::CodePointTrie;
 use icu_trie::error::CodePointTrieError;
 use icu_trie::ranges::CodePointMapRange;
@@ -131,4 +132,14 @@ fn coherence_of_fronts(rt: HostRuntime) -> Result<(), Fail> {
         expect_coherent(&rt, trie, want, len);
     }
     Ok(())
+}
+
+/// Calls: `planes::get_planes_trie`.
+#[test]
+fn planes_quiet(rt: HostRuntime) {
+    say(&rt, "call");
+    let planes = get_planes_trie();
+    let found = planes.get32(0x1_F600);
+    say(&rt, "done");
+    expect_number(&rt, u32::from(found), 1, 0x1_F600);
 }

@@ -270,15 +270,28 @@ fn expect_read(rt: &(impl Abort + Print), read: Result<CodePointTrieToml, TomlEr
     }
 }
 
+/// A table and its copy, `None` where no memory was found.
+fn two_tables(alloc: Global) -> Option<(Table, Table)> {
+    let table = table_of(alloc, &WHOLE)?;
+    Some((table, table_of(alloc, &WHOLE)?))
+}
+
+/// The table is as it was copied.
+fn expect_unchanged(rt: &impl Abort, table: Table, copy: Table) {
+    assert!(rt; table == copy);
+}
+
+/// Calls: `CodePointTrieToml::from_table`.
 #[test]
 fn from_table_refused(rt: HostRuntime) {
-    let Some(table) = table_of(rt.alloc(), &WHOLE) else {
+    let Some((table, copy)) = two_tables(rt.alloc()) else {
         return;
     };
     say(&rt, "call");
     let read = CodePointTrieToml::from_table(rt.alloc(), &table);
     say(&rt, "done");
     expect_read(&rt, read);
+    expect_unchanged(&rt, table, copy);
 }
 
 /// The trie has its high value, or the want of memory was told, which is said.
@@ -298,6 +311,7 @@ fn whole_read(alloc: Global) -> Option<CodePointTrieToml> {
     CodePointTrieToml::from_table(alloc, &table).ok()
 }
 
+/// Calls: `CodePointTrie::try_from`.
 #[test]
 fn trie_from_toml_refused(rt: HostRuntime) {
     let Some(read) = whole_read(rt.alloc()) else {
@@ -307,4 +321,42 @@ fn trie_from_toml_refused(rt: HostRuntime) {
     let trie = CodePointTrie::<u8>::try_from(&read);
     say(&rt, "done");
     expect_trie(&rt, trie);
+    expect_parts(&rt, parts_of(&read));
+}
+
+/// How many cells the table has, whether the data are bytes, and its header's number of the first code point
+/// of the high value.
+fn parts_of(read: &CodePointTrieToml) -> (usize, bool, Option<u32>) {
+    let is_bytes = matches!(read.data_slice(), Ok(CodePointDataSlice::U8(_)));
+    let header = CodePointTrieHeader::try_from(read);
+    (
+        read.index_slice().len(),
+        is_bytes,
+        header.map(|header| header.high_start).ok(),
+    )
+}
+
+/// The parts are the wanted ones.
+fn expect_parts(rt: &impl Abort, found: (usize, bool, Option<u32>)) {
+    assert_eq!(rt; found, (64, true, Some(0x1000)));
+}
+
+/// The type is the wanted one.
+fn expect_type(rt: &impl Abort, found: Option<TrieType>, want: TrieType) {
+    assert_eq!(rt; found, Some(want));
+}
+
+/// Calls: `CodePointTrieToml::index_slice`, `CodePointTrieToml::data_slice`, `CodePointTrieHeader::try_from`,
+/// `TrieType::try_from`.
+#[test]
+fn parts_quiet(rt: HostRuntime) {
+    let Some(read) = whole_read(rt.alloc()) else {
+        return;
+    };
+    say(&rt, "call");
+    let found = parts_of(&read);
+    let fast = TrieType::try_from(0);
+    say(&rt, "done");
+    expect_parts(&rt, found);
+    expect_type(&rt, fast.ok(), TrieType::Fast);
 }

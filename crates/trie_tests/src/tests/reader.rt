@@ -158,6 +158,7 @@ fn expect_low_ones_or_refusal(
     }
 }
 
+/// Calls: `CodePointTrie::get_set_for_value`.
 #[test]
 fn get_set_for_value_refused(rt: HostRuntime) {
     let ones = data(1, 2, 3);

@@ -2,9 +2,10 @@
 ghost use Rattle.std.specs.Prelude.{◌≡◌, ◌<◌};
 ghost use Rattle.icu_zerovec.specs.Slice.{slice_values};
 
-use super::{BOTH, built, expect_at};
+use super::{BOTH, ZEROS, built, data, expect_at, say, small_header, trie_of};
 use icu_collections::codepointtrie::{
-    Cells, CodePointMapRange, CodePointTrie, Steps, TrieValue, Write, look_up_whole, walk,
+    Cells, CodePointMapRange, CodePointTrie, Steps, TrieValue, Write, is_coherent, look_up,
+    look_up_whole, walk,
 };
 use icu_collections::zerovec::ZeroSlice;
 use std::alloc::Global;
@@ -224,4 +225,43 @@ fn reads_of_one_walk_over_many_blocks(rt: HostRuntime) -> Result<(), Fail> {
         );
     }
     Ok(())
+}
+
+/// The cell of `c` by `look_up` and by `look_up_whole`, over cells of the test's own, whether the range
+/// from there on is found, and whether the trie is coherent.
+type Found = (Option<u8>, Option<u8>, bool, bool);
+
+fn found_over<L: Ledger>(trie: &CodePointTrie<'_, u8>, c: u32, blank: Blank) -> (Option<u8>, bool)
+    requires name { blank.name ≡ L.name }
+    requires parts { blank.parts ≡ L.parts }
+    requires some { 0 < blank.parts }
+{
+    let (header, index, values) = trie.parts();
+    let mut cells = CountedParts {
+        index,
+        values,
+        reads: Steps::<L>::new(blank),
+        shown: 0,
+    };
+    let value = look_up(&header, &mut cells, c);
+    (value, is_coherent(&header, &mut cells))
+}
+
+fn found_at(trie: &CodePointTrie<'_, u8>, c: u32) -> Found {
+    let (value, coherent) = found_over::<Brand>(trie, c, Blank::new(1));
+    let (whole, _) = looked_up::<u8, Brand>(trie, c, Blank::new(1));
+    let (range, _) = walked::<u8, Brand>(trie, c, Blank::new(1));
+    (value, whole, range.is_some(), coherent)
+}
+
+/// Calls: `codepointtrie::look_up`, `codepointtrie::look_up_whole`, `codepointtrie::walk`,
+/// `codepointtrie::is_coherent`.
+#[test]
+fn cells_quiet(rt: HostRuntime) {
+    let cells = data(1, 2, 3);
+    let trie = trie_of(&rt, small_header(0x1000, 1), &ZEROS, &cells);
+    say(&rt, "call");
+    let found = found_at(&trie, 0x41);
+    say(&rt, "done");
+    expect_at(&rt, found, (Some(1), Some(1), true, true), 0x41);
 }

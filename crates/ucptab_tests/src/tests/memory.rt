@@ -1,7 +1,9 @@
 //! Runs whose requests of memory the script `tests/refused_memory` refuses in turn.
-use super::support::{Ending, Run, expect_bytes, expect_status, outcome, sound};
-use std::alloc::AllocError;
+use super::support::{
+    Ending, Run, Told, USAGE, answer, expect_bytes, expect_status, sound, spoken, usage, words_of,
+};
 use std::process::Abort;
+use ucptab_table::fault::TableError;
 
 /// Prints the line.
 fn say(rt: &(impl Abort + Print), line: &str) {
@@ -9,18 +11,8 @@ fn say(rt: &(impl Abort + Print), line: &str) {
     assert!(rt; printed.is_ok());
 }
 
-/// The run printed these bytes, or it said that memory was refused: by its line and status, or by no end where the
-/// words and what is written found no room.
-fn expect_answered(
-    rt: &(impl Abort + Print),
-    ending: Result<Ending, AllocError>,
-    bytes: &[u8],
-    run: Run<'_>,
-) {
-    let Ok(end) = ending else {
-        say(rt, "refused");
-        return;
-    };
+/// The run printed these bytes, or it said that memory was refused, by its line alone and its status.
+fn expect_answered(rt: &(impl Abort + Print), end: Ending, bytes: &[u8], run: Run<'_>) {
     if end.status == 0 {
         expect_bytes(rt, end.bytes, bytes, run);
     } else {
@@ -30,26 +22,80 @@ fn expect_answered(
     }
 }
 
-#[test]
-fn ranges_refused(rt: HostRuntime) {
+/// A run over this table, of which a read gives up to four bytes, prints these bytes or says that memory
+/// was refused.
+fn expect_spoken(rt: &(impl Abort + AllocGlobal + Print), line: &str, table: &[u8], bytes: &[u8]) {
     let run = Run {
         most: 4,
-        ..sound("fast 0 9", b"0041;1\n")
+        ..sound(line, table)
     };
-    say(&rt, "call");
-    let ending = outcome(rt.alloc(), run);
-    say(&rt, "done");
-    expect_answered(&rt, ending, b"0000..0040;0\n0041;1\n0042..10FFFF;0\n", run);
+    let Ok(words) = words_of(rt.alloc(), line) else {
+        return;
+    };
+    if let Ok(end) = spoken(rt, &words, run) {
+        expect_answered(rt, end, bytes, run);
+    }
 }
 
+/// Calls: `ucptab_table::run_words`.
+#[test]
+fn run_words_of_ranges_refused(rt: HostRuntime) {
+    let lines = b"0000..0040;0\n0041;1\n0042..10FFFF;0\n";
+    expect_spoken(&rt, "fast 0 9", b"0041;1\n", lines);
+}
+
+/// Calls: `ucptab_table::run_words`.
 #[test]
 fn run_words_refused(rt: HostRuntime) {
+    let lines = b"0041;1\n10000;2\n";
+    expect_spoken(&rt, "fast 0 9 41 10000", b"0041;1\n10000;2\n", lines);
+}
+
+/// The fault is that of no memory.
+fn expect_no_memory(rt: &(impl Abort + Print), fault: TableError) {
+    assert_eq!(rt; fault, TableError::Memory);
+    say(rt, "refused");
+}
+
+/// The engine wrote these bytes, or it said that memory was refused and wrote none.
+fn expect_written(rt: &(impl Abort + Print), answer: Told, bytes: &[u8], run: Run<'_>) {
+    match answer.fault {
+        None => expect_bytes(rt, answer.bytes, bytes, run),
+        Some(fault) => {
+            expect_bytes(rt, answer.bytes, b"", run);
+            expect_no_memory(rt, fault);
+        }
+    }
+}
+
+/// Calls: `ucptab_table::run`.
+#[test]
+fn run_of_ranges_refused(rt: HostRuntime) {
     let run = Run {
         most: 4,
-        ..sound("fast 0 9 41 10000", b"0041;1\n10000;2\n")
+        ..sound("", b"0041;1\n")
     };
-    say(&rt, "call");
-    let ending = outcome(rt.alloc(), run);
-    say(&rt, "done");
-    expect_answered(&rt, ending, b"0041;1\n10000;2\n", run);
+    if let Ok(answer) = answer(&rt, &[], run) {
+        expect_written(&rt, answer, b"0000..0040;0\n0041;1\n0042..10FFFF;0\n", run);
+    }
+}
+
+/// Calls: `ucptab_table::run`.
+#[test]
+fn run_refused(rt: HostRuntime) {
+    let run = Run {
+        most: 4,
+        ..sound("", b"0041;1\n10000;2\n")
+    };
+    if let Ok(answer) = answer(&rt, &[0x41, 0x10000, 0x110000], run) {
+        expect_written(&rt, answer, b"0041;1\n10000;2\n110000;9\n", run);
+    }
+}
+
+/// Calls: `ucptab_table::write_usage`.
+#[test]
+fn usage_quiet(rt: HostRuntime) {
+    if let Ok(bytes) = usage(&rt) {
+        expect_bytes(&rt, bytes, USAGE, sound("", b""));
+    }
 }

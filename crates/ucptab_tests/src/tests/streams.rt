@@ -1,13 +1,14 @@
 //! Streams that fail.
-use super::support::{Run, expect_run, expect_status, outcome, sound};
+use super::support::{Run, Told, answer, expect_bytes, expect_run, expect_status, outcome, sound};
 use std::process::Abort;
 use std::test::Fail;
+use ucptab_table::fault::TableError;
 
 const INPUT: &[u8] = b"0041;1\nx\n";
 
 #[test]
 fn failing_reads_are_told(rt: HostRuntime) -> Result<(), Fail> {
-    for failing_read in [1, 2, 3] {
+    for failing_read in [1, 2, 3, 4] {
         let run = Run {
             most: 4,
             failing_read,
@@ -50,6 +51,39 @@ fn failing_writes_keep_the_status(rt: HostRuntime) -> Result<(), Fail> {
             };
             expect_only_status(&rt, run, status)?;
         }
+    }
+    Ok(())
+}
+
+/// The run of the engine has this fault, and wrote nothing that is kept.
+fn expect_fault(rt: &impl Abort, answer: Told, fault: Option<TableError>, run: Run<'_>) {
+    assert_eq!(rt; answer.fault, fault, "the fault of {run:?}");
+    let written: &[u8] = match fault {
+        None => b"0041;1\n",
+        Some(_) => b"",
+    };
+    expect_bytes(rt, answer.bytes, written, run);
+}
+
+/// A table of seven bytes takes three reads of up to four, and its lines take one write: each of them fails
+/// in turn, and then none.
+#[test]
+fn each_call_of_a_stream_fails(rt: HostRuntime) -> Result<(), Fail> {
+    for (failing_read, failing_write, fault) in [
+        (1, 0, Some(TableError::Read)),
+        (2, 0, Some(TableError::Read)),
+        (3, 0, Some(TableError::Read)),
+        (4, 0, None),
+        (0, 1, Some(TableError::Write)),
+        (0, 2, None),
+    ] {
+        let run = Run {
+            most: 4,
+            failing_read,
+            failing_write,
+            ..sound("", b"0041;1\n")
+        };
+        expect_fault(&rt, answer(&rt, &[0x41], run)?, fault, run);
     }
     Ok(())
 }

@@ -2,13 +2,15 @@
 ghost use Rattle.std.specs.Prelude.{◌≡◌, ◌<◌, Some};
 
 use icu_trie_core::cells::Steps;
+use icu_trie_core::header::TrieType;
 use std::alloc::{AllocError, Global};
 use std::marker::Brand;
 use std::process::Abort;
 use std::sync::ledger::{Blank, Ledger};
 use std::test::Fail;
-use ucptab_table::run_words;
+use ucptab_table::fault::TableError;
 use ucptab_table::streams::{Failed, Sink, Source};
+use ucptab_table::{run_words, write_usage};
 
 /// A table in memory, of which each read gives up to `most` bytes. The read number `fails_at`, from 1, fails.
 #[derive(Drop)]
@@ -100,12 +102,23 @@ pub struct Ending {
 }
 
 /// The words of a line, which single spaces part.
-fn words_of(alloc: Global, line: &str) -> Result<Vec<String>, AllocError> {
+pub fn words_of(alloc: Global, line: &str) -> Result<Vec<String>, AllocError> {
     let mut words = Vec::new(alloc);
     for word in line.split(' ') {
         words.push(String::from_str(alloc, word)?)?;
     }
     Ok(words)
+}
+
+/// The table of a run.
+fn table_of<'a, L: Ledger>(run: Run<'a>, failures: Steps<L>) -> Table<'a, L> {
+    Table {
+        rest: run.input,
+        most: run.most,
+        reads: 0,
+        fails_at: run.failing_read,
+        failures,
+    }
 }
 
 fn outcome_over<L: Ledger, K: Ledger>(
@@ -122,14 +135,7 @@ fn outcome_over<L: Ledger, K: Ledger>(
     requires other_parts { writes.parts ≡ K.parts }
     requires other_some { 0 < writes.parts }
 {
-    let mut reader = Table {
-        rest: run.input,
-        most: run.most,
-        reads: 0,
-        fails_at: run.failing_read,
-        failures: Steps::<L>::new(reads),
-    };
-    // Room for what a test may write, so that only the run itself asks for more.
+    let mut reader = table_of(run, Steps::<L>::new(reads));
     let mut writer = Written {
         bytes: Vec::with_capacity(alloc, 4096)?,
         writes: 0,
@@ -145,6 +151,131 @@ fn outcome_over<L: Ledger, K: Ledger>(
 pub fn outcome(alloc: Global, run: Run<'_>) -> Result<Ending, AllocError> {
     let words = words_of(alloc, run.words)?;
     outcome_over::<Brand, Brand>(alloc, &words, run, Blank::new(1), Blank::new(1))
+}
+
+/// Prints the line.
+fn say(rt: &(impl Abort + Print), line: &str) {
+    let printed = println!(rt; "{line}");
+    assert!(rt; printed.is_ok());
+}
+
+fn spoken_over<L: Ledger, K: Ledger>(
+    rt: &(impl Abort + AllocGlobal + Print),
+    words: &[String],
+    run: Run<'_>,
+    reads: Blank,
+    writes: Blank,
+) -> Result<Ending, AllocError>
+    requires name { reads.name ≡ L.name }
+    requires parts { reads.parts ≡ L.parts }
+    requires some { 0 < reads.parts }
+    requires other_name { writes.name ≡ K.name }
+    requires other_parts { writes.parts ≡ K.parts }
+    requires other_some { 0 < writes.parts }
+{
+    let mut reader = table_of(run, Steps::<L>::new(reads));
+    let mut writer = Written {
+        bytes: Vec::with_capacity(rt.alloc(), 4096)?,
+        writes: 0,
+        fails_at: run.failing_write,
+        failures: Steps::<K>::new(writes),
+    };
+    say(rt, "call");
+    let status = run_words(rt.alloc(), words, &mut reader, &mut writer);
+    say(rt, "done");
+    let bytes = Vec::from_slice(rt.alloc(), &writer.bytes)?;
+    Ok(Ending { status, bytes })
+}
+
+/// How the run ends, between the lines `call` and `done`. The words of the run are these, and what it
+/// writes finds room.
+pub fn spoken(
+    rt: &(impl Abort + AllocGlobal + Print),
+    words: &[String],
+    run: Run<'_>,
+) -> Result<Ending, AllocError> {
+    spoken_over::<Brand, Brand>(rt, words, run, Blank::new(1), Blank::new(1))
+}
+
+fn usage_over<K: Ledger>(
+    rt: &(impl Abort + AllocGlobal + Print),
+    writes: Blank,
+) -> Result<Vec<u8>, AllocError>
+    requires name { writes.name ≡ K.name }
+    requires parts { writes.parts ≡ K.parts }
+    requires some { 0 < writes.parts }
+{
+    let mut writer = Written {
+        bytes: Vec::with_capacity(rt.alloc(), 4096)?,
+        writes: 0,
+        fails_at: 0,
+        failures: Steps::<K>::new(writes),
+    };
+    say(rt, "call");
+    write_usage(&mut writer);
+    say(rt, "done");
+    Vec::from_slice(rt.alloc(), &writer.bytes)
+}
+
+/// What the usage line is, written between the lines `call` and `done`.
+pub fn usage(rt: &(impl Abort + AllocGlobal + Print)) -> Result<Vec<u8>, AllocError> {
+    usage_over::<Brand>(rt, Blank::new(1))
+}
+
+/// What the engine answers, and what it wrote.
+#[derive(Drop)]
+pub struct Told {
+    pub fault: Option<TableError>,
+    pub bytes: Vec<u8>,
+}
+
+fn answer_over<L: Ledger, K: Ledger>(
+    rt: &(impl Abort + AllocGlobal + Print),
+    asked: &[u32],
+    run: Run<'_>,
+    reads: Blank,
+    writes: Blank,
+) -> Result<Told, AllocError>
+    requires name { reads.name ≡ L.name }
+    requires parts { reads.parts ≡ L.parts }
+    requires some { 0 < reads.parts }
+    requires other_name { writes.name ≡ K.name }
+    requires other_parts { writes.parts ≡ K.parts }
+    requires other_some { 0 < writes.parts }
+{
+    let mut reader = table_of(run, Steps::<L>::new(reads));
+    let mut writer = Written {
+        bytes: Vec::with_capacity(rt.alloc(), 4096)?,
+        writes: 0,
+        fails_at: run.failing_write,
+        failures: Steps::<K>::new(writes),
+    };
+    say(rt, "call");
+    let answer = ucptab_table::run(
+        rt.alloc(),
+        TrieType::Fast,
+        0,
+        9,
+        asked,
+        &mut reader,
+        &mut writer,
+    );
+    say(rt, "done");
+    let bytes = Vec::from_slice(rt.alloc(), &writer.bytes)?;
+    Ok(Told {
+        fault: answer.err(),
+        bytes,
+    })
+}
+
+/// What the engine answers of a fast trie with the default 0 and the error value 9, between the lines
+/// `call` and `done`. What it writes finds room.
+pub fn answer(
+    rt: &(impl Abort + AllocGlobal + Print),
+    asked: &[u32],
+    run: Run<'_>,
+) -> Result<Told, AllocError> {
+    answer_over::<Brand, Brand>(rt, asked, run, Blank::new(1), Blank::new(1))
 }
 
 /// The run has this status.

@@ -59,6 +59,8 @@ fn expect_memory(rt: &(impl Abort + Print), refusal: Result<(), AddError>) {
 }
 
 /// A refused key leaves the entries as they were: those of a builder to which the keys before it were added.
+///
+/// Calls: `Char16TrieBuilder::add`.
 #[test]
 fn add_refused(rt: HostRuntime) {
     let mut builder = Char16TrieBuilder::new(rt.alloc());
@@ -82,6 +84,7 @@ fn expect_built(rt: &(impl Abort + Print), built: Result<Char16Trie<'_>, BuildEr
     }
 }
 
+/// Calls: `Char16TrieBuilder::build`.
 #[test]
 fn build_refused(rt: HostRuntime) {
     let Some(builder) = with_keys(rt.alloc(), MANY) else {
@@ -94,6 +97,8 @@ fn build_refused(rt: HostRuntime) {
 }
 
 /// A new builder takes no memory.
+///
+/// Calls: `Char16TrieBuilder::new`.
 #[test]
 fn new_quiet(rt: HostRuntime) {
     say(&rt, "call");

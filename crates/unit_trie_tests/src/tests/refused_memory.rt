@@ -3,9 +3,12 @@
 //! between the lines `call` and `done` has to be answered by the line `refused`. In a test whose name ends in
 //! `_quiet` nothing is asked for between the two.
 use crate::tests::support::{SIX, expect, expect_same, last_result, trie_of};
-use icu_char16trie::char16trie::{Char16JsonError, Char16Trie, Iter2, TrieResult};
-use icu_zerovec::MemoryError;
+use icu_char16trie::char16trie::{
+    Char16JsonError, Char16Trie, Char16TrieCursor, Char16TrieIterator, Iter2, TrieResult,
+};
+use icu_zerovec::{MemoryError, ZeroSlice, ZeroVec};
 use serde_json::Value;
+use std::alloc::Global;
 use std::fmt::Write;
 use std::process::Abort;
 
@@ -33,6 +36,7 @@ fn expect_clone(
     }
 }
 
+/// Calls: `Char16Trie::try_clone`.
 #[test]
 fn try_clone_refused(rt: HostRuntime) {
     let Ok(trie) = trie_of(rt.alloc(), &[0x30, 0x61, 0x8001]) else {
@@ -65,6 +69,8 @@ fn expect_six(rt: &(impl Abort + Print), last: Result<Option<i32>, MemoryError>)
 }
 
 /// After want of memory no item comes.
+///
+/// Calls: `Iter2::next`.
 #[test]
 fn iter2_refused(rt: HostRuntime) {
     let Ok(trie) = trie_of(rt.alloc(), &SIX) else {
@@ -86,6 +92,7 @@ fn expect_json(rt: &(impl Abort + Print), written: Result<Value, MemoryError>) {
     }
 }
 
+/// Calls: `Char16Trie::to_json`.
 #[test]
 fn to_json_refused(rt: HostRuntime) {
     let Ok(trie) = trie_of(rt.alloc(), &[0x8007]) else {
@@ -95,6 +102,7 @@ fn to_json_refused(rt: HostRuntime) {
     let written = trie.to_json(rt.alloc());
     say(&rt, "done");
     expect_json(&rt, written);
+    expect_same(&rt, trie.cursor().value(), Some(7), "the trie itself");
 }
 
 /// The trie has the value 7 at its root, or memory was refused.
@@ -108,15 +116,24 @@ fn expect_seven(rt: &(impl Abort + Print), read: Result<Char16Trie<'_>, Char16Js
     }
 }
 
+/// A value and its copy, where there was memory for them.
+fn two_values(alloc: Global) -> Option<(Value, Value)> {
+    let text = r#"{"data":[32775]}"#;
+    let value = Value::from_str(alloc, text).ok()?;
+    Some((value, Value::from_str(alloc, text).ok()?))
+}
+
+/// Calls: `Char16Trie::from_json`.
 #[test]
 fn from_json_refused(rt: HostRuntime) {
-    let Ok(value) = Value::from_str(rt.alloc(), r#"{"data":[32775]}"#) else {
+    let Some((value, copy)) = two_values(rt.alloc()) else {
         return;
     };
     say(&rt, "call");
     let read = Char16Trie::from_json(rt.alloc(), &value);
     say(&rt, "done");
     expect_seven(&rt, read);
+    expect(&rt, value == copy, "the value itself");
 }
 
 /// Whether `c` can be written to a cursor, its value, whether no key goes on beyond it, and what an iterator
@@ -129,6 +146,9 @@ fn look_ups_of(trie: &Char16Trie<'_>) -> (bool, Option<i32>, bool, TrieResult) {
 }
 
 /// Look-ups take no memory, and neither does an iterator that is not asked.
+///
+/// Calls: `Char16Trie::cursor`, `Char16Trie::iter`, `Char16Trie::iter2`, `Char16TrieCursor::write_str`,
+/// `Char16TrieCursor::value`, `Char16TrieCursor::is_empty`, `Char16TrieIterator::next`.
 #[test]
 fn look_ups_quiet(rt: HostRuntime) {
     let Ok(trie) = trie_of(rt.alloc(), &SIX) else {
@@ -141,4 +161,41 @@ fn look_ups_quiet(rt: HostRuntime) {
     let want = (true, Some(3), true, TrieResult::FinalValue(4));
     expect_same(&rt, found, want, "c and d");
     let _ = entries;
+}
+
+/// The values after steps of each kind, by a cursor that is made of a view.
+fn steps_of(units: ZeroSlice<'_, u16>) -> (Option<i32>, Option<i32>, Option<i32>) {
+    let mut by_character = Char16TrieCursor::new(units);
+    by_character.step('a');
+    let mut by_unit = Char16TrieCursor::new(units);
+    by_unit.step16(0x62);
+    let mut by_number = Char16TrieCursor::new(units);
+    by_number.step32(0x63);
+    (by_character.value(), by_unit.value(), by_number.value())
+}
+
+/// What iterators that are made of a view tell of a number and of a unit.
+fn results_of(units: ZeroSlice<'_, u16>) -> (TrieResult, TrieResult) {
+    let by_number = Char16TrieIterator::new(units).next32(0x64);
+    let by_unit = Char16TrieIterator::new(units).next16(0x65);
+    (by_number, by_unit)
+}
+
+/// Calls: `Char16Trie::new`, `Char16TrieCursor::new`, `Char16TrieCursor::step`, `Char16TrieCursor::step16`,
+/// `Char16TrieCursor::step32`, `Char16TrieIterator::new`, `Char16TrieIterator::next32`,
+/// `Char16TrieIterator::next16`.
+#[test]
+fn steps_quiet(rt: HostRuntime) {
+    let Ok(units) = ZeroVec::alloc_from_slice(rt.alloc(), &SIX) else {
+        return;
+    };
+    say(&rt, "call");
+    let values = steps_of(units.as_slice());
+    let results = results_of(units.as_slice());
+    let root = Char16Trie::new(units).cursor().value();
+    say(&rt, "done");
+    expect_same(&rt, values, (Some(1), Some(2), Some(3)), "a, b and c");
+    let want = (TrieResult::FinalValue(4), TrieResult::FinalValue(5));
+    expect_same(&rt, results, want, "d and e");
+    expect_same(&rt, root, None, "the root");
 }

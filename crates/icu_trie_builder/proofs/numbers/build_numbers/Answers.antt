@@ -1,23 +1,23 @@
-use Rattle.std.proofs.Common.{rules, ◌≡◌, ℕ, ◌≤◌, length, Err, get_or, arith, ap, refl, inl}
+use Rattle.std.proofs.Common.{rules, ◌≡◌, ℕ, ◌≤◌, length, Err, get_or, arith, ap, inl}
 use Rattle.icu_trie_core.specs.declared.header.CodePointTrieHeader.{CodePointTrieHeader}
 use Rattle.icu_trie_builder.specs.Bounds.{compact_data_bound}
 use Rattle.icu_trie_builder.specs.Data.{IsData}
-use Rattle.icu_trie_builder.specs.Layout.{IsIndex}
-use Rattle.icu_trie_builder.specs.declared.error.BuildError.TheVariants.{TooLarge}
-use Rattle.icu_trie_builder.proofs.Answering.{answers, coherent, shared, few_offsets, few_all, fast_within, names_null, fast_index_len-limit}
-use Rattle.icu_trie_builder.proofs.Laying.{parts}
+use Rattle.icu_trie_compaction.specs.Layout.{IsIndex, IsNullIndex}
+use Rattle.icu_trie_compaction.specs.declared.error.BuildError.TheVariants.{TooLarge}
+use Rattle.icu_trie_builder.proofs.Answering.{answers, coherent, shared, few_offsets, few_all, small_low, fast_within, names_null, names_null_index, fast_index_len-limit}
+use Rattle.icu_trie_compaction.proofs.CallerLemmas.{parts}
 use Rattle.icu_trie_builder.proofs.Sizes.{lone_blocks-le}
 use Rattle.icu_trie_builder.proofs.numbers.build_numbers.Goals as goal
 
-pub returns-in_err-index-clause-too_large : goal.returns-in_err-index-clause-too_large
-returns-in_err-index-clause-too_large c = λ e.
-    let is : c.in_err-index.field-0.0 ≡ TooLarge = search rules in
-    let high = c.find_high_start-high_start in
+pub returns-in_err-built-clause-too_large : goal.returns-in_err-built-clause-too_large
+returns-in_err-built-clause-too_large c = λ e.
+    let is : c.in_err-built.field-0.0 ≡ TooLarge = search rules in
+    let high = c.high_start-high_start in
     let fast = c.in_ok-values.field-0.fast.items in
     let small = c.in_ok-values.field-0.small.items in
     let null = c.in_ok-values.field-0.null in
     let held : c.deref-2.result.now ≡ small = search rules in
-    let t = rw held at (c.in_err-index.ensures.too_large (ap (λ x. Err x) is)) in
+    let t = rw held at (c.in_err-built.ensures.too_large (ap (λ x. Err x) is)) in
     let limit = parts c.args.trie_type in
     inl (omega (
       arith,
@@ -32,26 +32,28 @@ returns-clause-built c =
     let trie_type = c.args.trie_type in
     let numbers = c.args.numbers.now in
     let f : ℕ → ℕ = λ n. get_or numbers n 0 in
-    let high = c.find_high_start-high_start in
+    let high = c.high_start-high_start in
     let fast = c.in_ok-values.field-0.fast.items in
     let small = c.in_ok-values.field-0.small.items in
     let values = c.in_ok-values.field-0.values.items in
     let null = c.in_ok-values.field-0.null in
-    let index = c.in_ok-index.index.items in
-    let header : CodePointTrieHeader = record { high_start = high.result; shifted12_high_start = c.div_ceil.result; index3_null_offset = 0x7fff; data_null_offset = null.offset; null_value = null.value; trie_type = trie_type } in
+    let index = c.in_ok-built.built.cells.items in
+    let header : CodePointTrieHeader = record { high_start = high.result; shifted12_high_start = c.div_ceil.result; index3_null_offset = c.in_ok-built.built.null_offset; data_null_offset = null.offset; null_value = null.value; trie_type = trie_type } in
     let held : c.deref.result.now ≡ fast = search rules in
     let held2 : c.deref-2.result.now ≡ small = search rules in
     let aligned = high.ensures.aligned in
     let within = high.ensures.within in
     let placed : IsData trie_type high.result null.offset null.value f fast small values = c.in_ok-values.ensures.placed in
-    let laid : IsIndex trie_type high.result fast small index = rw (← held, ← held2) c.in_ok-index.ensures.index in
-    let short = rw held2 at c.in_ok-index.ensures.short in
+    let laid : IsIndex trie_type high.result fast small index = rw (← held, ← held2) c.in_ok-built.ensures.index in
+    let cells : IsNullIndex trie_type high.result null.offset small index header.index3_null_offset = rw (← held2) c.in_ok-built.ensures.null in
+    let short = rw held2 at c.in_ok-built.ensures.short in
+    let tight = rw held2 at c.in_ok-built.ensures.tight in
     let compact : length values ≤ compact_data_bound trie_type f = c.in_ok-values.ensures.short in
     record {
       header = record { aligned = aligned; within = within; shifted = omega (arith, c.div_ceil.ensures) };
       answers = answers header f fast small index values aligned within laid placed;
       error_value = c.in_ok-values.ensures.error_value;
-      coherent = coherent header f fast small index values aligned within laid placed refl;
+      coherent = coherent header f fast small index values aligned within laid placed cells;
       shared = shared header f fast small index values aligned within laid placed;
       data_short = omega (arith, compact, lone_blocks-le trie_type f);
       index_short = omega (arith, short, few_offsets trie_type high.result null.offset null.value f fast small values aligned within placed);
@@ -59,4 +61,10 @@ returns-clause-built c =
       fast_data = fast_within header f fast small index values aligned within laid placed;
       compact_data = compact;
       null_block = names_null header f fast small index values aligned within laid placed;
+      null_index = names_null_index header f fast small index values aligned within laid placed cells;
+      tight = λ small_data. omega (
+        arith,
+        tight (small_low trie_type high.result null.offset null.value f fast small values aligned within placed (omega (arith, compact, small_data))),
+        few_offsets trie_type high.result null.offset null.value f fast small values aligned within placed,
+      );
     }

@@ -94,6 +94,7 @@ fn expect_value(rt: &(impl Abort + AllocGlobal), value: Value, want: &str) {
     }
 }
 
+/// Calls: `CodePointInversionList::to_json`.
 #[test]
 fn to_json_refused(rt: HostRuntime) -> Result<(), Fail> {
     println!(rt; "call")?;
@@ -119,11 +120,14 @@ fn expect_read_or_refused(
     Ok(())
 }
 
+/// Calls: `CodePointInversionList::from_json`.
 #[test]
 fn from_json_refused(rt: HostRuntime) -> Result<(), Fail> {
     let Some(value) = json_for_call(&rt, "[\"A-Z\", \"a-z\"]")? else {
         return Ok(());
     };
     let made = CodePointInversionList::from_json(rt.alloc(), &value);
-    expect_read_or_refused(&rt, made, &[0x41, 0x5B, 0x61, 0x7B])
+    let told = expect_read_or_refused(&rt, made, &[0x41, 0x5B, 0x61, 0x7B]);
+    expect_value(&rt, value, "[\"A-Z\",\"a-z\"]");
+    told
 }

@@ -78,6 +78,23 @@ fn expect_left(
     }
 }
 
+/// The call is over, as `expect_answer`, and the set that it was lent has these ends still.
+fn expect_answer_and_lent(
+    rt: &(impl Abort + AllocGlobal + Print),
+    answer: Result<(), MemoryError>,
+    both: (
+        CodePointInversionListBuilder,
+        CodePointInversionList<'static>,
+    ),
+    after: &[u32],
+    lent: &[u32],
+) -> Result<(), Fail> {
+    let (builder, set) = both;
+    let told = expect_answer(rt, answer, builder, after);
+    expect_listed(rt, set, lent);
+    told
+}
+
 /// The call is over: the builder's set is `after`, and where the call was refused it is that of A to Z.
 fn expect_answer(
     rt: &(impl Abort + AllocGlobal + Print),

@@ -3,6 +3,7 @@
 use super::*;
 use crate::tests::{expect, json_for_call, tell};
 use icu_text_sets::codepointinvliststringlist::{InvalidStringList, StringListJsonError};
+use serde_json::Value;
 
 /// The set of all code points and "ab", where there was memory for it; a call that may be refused follows at once.
 fn set_for_call(
@@ -15,6 +16,17 @@ fn set_for_call(
     Ok(Some(set))
 }
 
+/// The set is still that of all code points and "ab", where there is memory to make another.
+fn expect_all_and_ab(
+    rt: &(impl Abort + AllocGlobal),
+    set: CodePointInversionListAndStringList<'static>,
+) {
+    if let Some(want) = all_and_ab(rt.alloc()) {
+        expect(rt, set == want, "as it was");
+    }
+}
+
+/// Calls: `CodePointInversionListAndStringList::from_iter`.
 #[test]
 fn from_iter_refused(rt: HostRuntime) -> Result<(), Fail> {
     let texts = ["xyz", "a", "abc"];
@@ -23,22 +35,28 @@ fn from_iter_refused(rt: HostRuntime) -> Result<(), Fail> {
     tell(&rt, answer.is_err())
 }
 
+/// Calls: `CodePointInversionListAndStringList::try_clone`.
 #[test]
 fn try_clone_refused(rt: HostRuntime) -> Result<(), Fail> {
     let Some(set) = set_for_call(&rt)? else {
         return Ok(());
     };
     let answer = set.try_clone(rt.alloc());
-    tell(&rt, answer.is_err())
+    let told = tell(&rt, answer.is_err());
+    expect_all_and_ab(&rt, set);
+    told
 }
 
+/// Calls: `CodePointInversionListAndStringList::to_json`.
 #[test]
 fn to_json_refused(rt: HostRuntime) -> Result<(), Fail> {
     let Some(set) = set_for_call(&rt)? else {
         return Ok(());
     };
     let answer = set.to_json(rt.alloc());
-    tell(&rt, answer.is_err())
+    let told = tell(&rt, answer.is_err());
+    expect_all_and_ab(&rt, set);
+    told
 }
 
 /// Says that a call is over. It was refused for memory alone.
@@ -53,6 +71,14 @@ fn tell_read(
     }
 }
 
+/// The value has this text, where there is memory for it.
+fn expect_value(rt: &(impl Abort + AllocGlobal), value: Value, want: &str) {
+    if let Ok(text) = value.to_string(rt.alloc()) {
+        expect_text(rt, text, want);
+    }
+}
+
+/// Calls: `CodePointInversionListAndStringList::from_json`.
 #[test]
 fn from_json_refused(rt: HostRuntime) -> Result<(), Fail> {
     let text = "{\"cp_inv_list\":[\"a\"],\"str_list\":[\"abc\",\"xyz\"]}";
@@ -60,7 +86,9 @@ fn from_json_refused(rt: HostRuntime) -> Result<(), Fail> {
         return Ok(());
     };
     let answer = CodePointInversionListAndStringList::from_json(rt.alloc(), &value);
-    tell_read(&rt, answer)
+    let told = tell_read(&rt, answer);
+    expect_value(&rt, value, text);
+    told
 }
 
 /// Sorted and unsorted strings.
@@ -92,6 +120,7 @@ fn expect_one_taken(
     Ok(())
 }
 
+/// Calls: `CodePointInversionListAndStringList::try_from`.
 #[test]
 fn try_from_quiet(rt: HostRuntime) -> Result<(), Fail> {
     let Some((sorted, unsorted)) = lists_for_call(&rt)? else {
@@ -123,6 +152,10 @@ fn expect_answers(
     Ok(())
 }
 
+/// Calls: `CodePointInversionListAndStringList::size`, `CodePointInversionListAndStringList::has_strings`,
+/// `CodePointInversionListAndStringList::strings`, `CodePointInversionListAndStringList::contains`,
+/// `CodePointInversionListAndStringList::contains32`, `CodePointInversionListAndStringList::contains_str`,
+/// `CodePointInversionListAndStringList::contains_utf8`.
 #[test]
 fn queries_quiet(rt: HostRuntime) -> Result<(), Fail> {
     let Some(set) = set_for_call(&rt)? else {
@@ -138,6 +171,7 @@ fn queries_quiet(rt: HostRuntime) -> Result<(), Fail> {
     expect_answers(&rt, counts, points, texts)
 }
 
+/// Calls: `CodePointInversionListAndStringList::code_points`.
 #[test]
 fn equality_quiet(rt: HostRuntime) -> Result<(), Fail> {
     let Some(set) = set_for_call(&rt)? else {

@@ -131,6 +131,7 @@ fn expect_mapped_or_refusal(
     }
 }
 
+/// Calls: `CodePointTrie::try_alloc_map_value`.
 #[test]
 fn try_alloc_map_value_refused(rt: HostRuntime) {
     let ones = data(1, 2, 3);

@@ -1,7 +1,7 @@
 use Rattle.std.proofs.Common.{subst}
 use Rattle.std.proofs.lemmas.Result.{IfOk-weaker}
 use Rattle.std.specs.Prelude.{IfOk}
-use Rattle.icu_trie_builder.specs.CodePointMap.{CodePointMap, cell_value, map_value}
+use Rattle.icu_trie_builder.specs.CodePointMap.{CodePointMap, number_value, map_value}
 use Rattle.icu_trie_builder.specs.Bounds.{IsTooLarge}
 use Rattle.icu_trie_builder.specs.MapAnswers.{AnswersMap, HasRangesOf}
 use Rattle.icu_trie_builder.proofs.RangesOfMap.{HasRangesOf-from_answers}
@@ -10,12 +10,12 @@ use Rattle.icu_trie_builder.proofs.builder.CodePointTrieBuilder.build.Goals as g
 pub returns-clause-too_large : goal.returns-clause-too_large
 returns-clause-too_large g c = λ e.
     let P : CodePointMap g.row.T.Denot → Type 0 = λ m. IsTooLarge (λ k. g.T.TrieValue.number (map_value m k)) in
-    subst P c.self.view_is (rw c.deref.ensures.value at (c.build_cells.ensures.too_large e))
+    subst P c.self.view_is (c.build_map.ensures.too_large e)
 
 pub returns-clause-ranges : goal.returns-clause-ranges
 returns-clause-ranges g c =
-    let P : CodePointMap g.row.T.Denot → Type 0 = λ m. IfOk c.build_cells.result (HasRangesOf (map_value m)) in
-    let f = cell_value c.self.inside.cells.items c.self.inside.default in
-    let answers : IfOk c.build_cells.result (AnswersMap f c.self.inside.error) = rw c.deref.ensures.value at c.build_cells.ensures.answers in
-    subst P c.self.view_is (IfOk-weaker c.build_cells.result (AnswersMap f c.self.inside.error) (HasRangesOf f)
+    let P : CodePointMap g.row.T.Denot → Type 0 = λ m. IfOk c.build_map.result (HasRangesOf (map_value m)) in
+    let f = number_value g.T.TrieValue.of_number c.self.inside.default c.self.inside.numbers in
+    let answers : IfOk c.build_map.result (AnswersMap f c.self.inside.error) = c.build_map.ensures.answers in
+    subst P c.self.view_is (IfOk-weaker c.build_map.result (AnswersMap f c.self.inside.error) (HasRangesOf f)
     (λ t a. HasRangesOf-from_answers f c.self.inside.error t a) answers)

@@ -1,6 +1,7 @@
 //! Additions to a builder.
 use super::*;
 
+/// Calls: `CodePointInversionListBuilder::add_char`.
 #[test]
 fn add_char_refused(rt: HostRuntime) -> Result<(), Fail> {
     let Some(mut builder) = builder_for_call(&rt, &LETTERS)? else {
@@ -10,6 +11,7 @@ fn add_char_refused(rt: HostRuntime) -> Result<(), Fail> {
     expect_answer(&rt, answer, builder, &[0x41, 0x5B, 0x61, 0x62])
 }
 
+/// Calls: `CodePointInversionListBuilder::add32`.
 #[test]
 fn add32_refused(rt: HostRuntime) -> Result<(), Fail> {
     let Some(mut builder) = builder_for_call(&rt, &LETTERS)? else {
@@ -19,6 +21,7 @@ fn add32_refused(rt: HostRuntime) -> Result<(), Fail> {
     expect_answer(&rt, answer, builder, &[0x41, 0x5B, 0x61, 0x62])
 }
 
+/// Calls: `CodePointInversionListBuilder::add_range`.
 #[test]
 fn add_range_refused(rt: HostRuntime) -> Result<(), Fail> {
     let Some(mut builder) = builder_for_call(&rt, &LETTERS)? else {
@@ -28,6 +31,7 @@ fn add_range_refused(rt: HostRuntime) -> Result<(), Fail> {
     expect_answer(&rt, answer, builder, &[0x41, 0x5B, 0x61, 0x63])
 }
 
+/// Calls: `CodePointInversionListBuilder::add_range32`.
 #[test]
 fn add_range32_refused(rt: HostRuntime) -> Result<(), Fail> {
     let Some(mut builder) = builder_for_call(&rt, &LETTERS)? else {
@@ -37,11 +41,14 @@ fn add_range32_refused(rt: HostRuntime) -> Result<(), Fail> {
     expect_answer(&rt, answer, builder, &[0x41, 0x5B, 0x61, 0x63])
 }
 
+/// Calls: `CodePointInversionListBuilder::add_set`.
 #[test]
 fn add_set_refused(rt: HostRuntime) -> Result<(), Fail> {
-    let Some((mut builder, set)) = both_for_call(&rt, &[0x61, 0x63])? else {
+    let lent = [0x61, 0x63, 0x70, 0x71, 0x80, 0x81, 0x90, 0x91];
+    let Some((mut builder, set)) = both_for_call(&rt, &lent)? else {
         return Ok(());
     };
     let answer = builder.add_set(&set);
-    expect_answer(&rt, answer, builder, &[0x41, 0x5B, 0x61, 0x63])
+    let after = [0x41, 0x5B, 0x61, 0x63, 0x70, 0x71, 0x80, 0x81, 0x90, 0x91];
+    expect_answer_and_lent(&rt, answer, (builder, set), &after, &lent)
 }

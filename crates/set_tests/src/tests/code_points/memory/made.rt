@@ -17,6 +17,8 @@ fn expect_made(
 }
 
 /// The builder has room left, which the set that it makes does not keep.
+///
+/// Calls: `CodePointInversionListBuilder::build`.
 #[test]
 fn build_refused(rt: HostRuntime) -> Result<(), Fail> {
     let Some(builder) = roomy_builder_for_call(&rt)? else {
@@ -37,6 +39,7 @@ fn roomy_builder_for_call(
     Ok(Some(builder))
 }
 
+/// Calls: `CodePointInversionListBuilder::try_clone`.
 #[test]
 fn try_clone_of_builder_refused(rt: HostRuntime) -> Result<(), Fail> {
     let Some(builder) = roomy_builder_for_call(&rt)? else {
@@ -48,6 +51,7 @@ fn try_clone_of_builder_refused(rt: HostRuntime) -> Result<(), Fail> {
     }
 }
 
+/// Calls: `CodePointInversionList::try_from_u32_inversion_list_slice`.
 #[test]
 fn try_from_u32_inversion_list_slice_refused(rt: HostRuntime) -> Result<(), Fail> {
     println!(rt; "call")?;
@@ -55,6 +59,7 @@ fn try_from_u32_inversion_list_slice_refused(rt: HostRuntime) -> Result<(), Fail
     expect_made(&rt, made.ok(), &LETTERS)
 }
 
+/// Calls: `CodePointInversionList::try_from`.
 #[test]
 fn try_from_range_refused(rt: HostRuntime) -> Result<(), Fail> {
     println!(rt; "call")?;
@@ -62,6 +67,7 @@ fn try_from_range_refused(rt: HostRuntime) -> Result<(), Fail> {
     expect_made(&rt, made.ok(), &LETTERS)
 }
 
+/// Calls: `CodePointInversionList::from_iter`.
 #[test]
 fn from_iter_refused(rt: HostRuntime) -> Result<(), Fail> {
     println!(rt; "call")?;
@@ -72,6 +78,7 @@ fn from_iter_refused(rt: HostRuntime) -> Result<(), Fail> {
     expect_made(&rt, made.ok(), &LETTERS)
 }
 
+/// Calls: `CodePointInversionList::into_owned`.
 #[test]
 fn into_owned_refused(rt: HostRuntime) -> Result<(), Fail> {
     println!(rt; "call")?;
@@ -79,6 +86,7 @@ fn into_owned_refused(rt: HostRuntime) -> Result<(), Fail> {
     expect_made(&rt, made.ok(), &[0, 0x1_0000])
 }
 
+/// Calls: `CodePointInversionList::try_clone`.
 #[test]
 fn try_clone_refused(rt: HostRuntime) -> Result<(), Fail> {
     println!(rt; "call")?;
@@ -104,6 +112,8 @@ fn expect_two_shown(
 }
 
 /// A refused list is copied for the error.
+///
+/// Calls: `CodePointInversionList::try_from_inversion_list`.
 #[test]
 fn try_from_inversion_list_refused(rt: HostRuntime) -> Result<(), Fail> {
     let list = ZeroVec::<PotentialCodePoint>::parse_bytes(&[1, 0, 0, 1, 0, 0])?;
@@ -124,6 +134,7 @@ fn expect_list_of_bmp(
     Ok(())
 }
 
+/// Calls: `CodePointInversionList::get_inversion_list_vec`.
 #[test]
 fn get_inversion_list_vec_refused(rt: HostRuntime) -> Result<(), Fail> {
     println!(rt; "call")?;

@@ -1,9 +1,14 @@
 //! Calls that ask for no memory.
 use super::*;
 use crate::tests::{expect, expect_number};
+use icu_invlist::codepointinvlist::{RangeOf, deconstruct_range, is_valid_zv};
+use icu_zerovec::{PotentialCodePoint, ZeroVec};
 use std::ops::RangeInclusive;
 
 /// Changes that put no end in, or as many as they take out.
+///
+/// Calls: `CodePointInversionListBuilder::add_range`, `CodePointInversionListBuilder::remove_range32`,
+/// `CodePointInversionListBuilder::complement_range32`.
 #[test]
 fn changes_quiet(rt: HostRuntime) -> Result<(), Fail> {
     let Some(mut builder) = builder_for_call(&rt, &[0x41, 0x5B, 0x61, 0x7B])? else {
@@ -30,6 +35,9 @@ fn expect_changed(
 }
 
 /// Intersection with ranges.
+///
+/// Calls: `CodePointInversionListBuilder::retain_range`, `CodePointInversionListBuilder::retain_range32`,
+/// `CodePointInversionListBuilder::retain_char`, `CodePointInversionListBuilder::retain32`.
 #[test]
 fn retained_quiet(rt: HostRuntime) -> Result<(), Fail> {
     let Some(mut builder) = builder_for_call(&rt, &[0x41, 0x5B, 0x61, 0x7B])? else {
@@ -54,6 +62,9 @@ fn expect_membership(
     Ok(())
 }
 
+/// Calls: `CodePointInversionList::all`, `CodePointInversionList::bmp`, `CodePointInversionList::contains`,
+/// `CodePointInversionList::contains32`, `CodePointInversionList::contains_range`,
+/// `CodePointInversionList::contains_set`, `CodePointInversionList::is_empty`.
 #[test]
 fn membership_quiet(rt: HostRuntime) -> Result<(), Fail> {
     println!(rt; "call")?;
@@ -85,6 +96,9 @@ fn expect_counts(
     Ok(())
 }
 
+/// Calls: `CodePointInversionList::size`, `CodePointInversionList::get_range_count`,
+/// `CodePointInversionList::position`, `CodePointInversionList::position32`, `CodePointInversionList::span`,
+/// `CodePointInversionList::span_back`.
 #[test]
 fn counts_quiet(rt: HostRuntime) -> Result<(), Fail> {
     println!(rt; "call")?;
@@ -109,6 +123,9 @@ fn expect_firsts(
     Ok(())
 }
 
+/// Calls: `CodePointInversionList::iter_ranges`, `CodePointInversionList::iter_ranges_complemented`,
+/// `CodePointInversionList::iter_chars`, `IterRanges::next`, `IterRangesComplemented::next`,
+/// `IterChars::next`.
 #[test]
 fn iterators_quiet(rt: HostRuntime) -> Result<(), Fail> {
     println!(rt; "call")?;
@@ -117,4 +134,71 @@ fn iterators_quiet(rt: HostRuntime) -> Result<(), Fail> {
     let gap = bmp.iter_ranges_complemented().next();
     let first = bmp.iter_chars().next();
     expect_firsts(&rt, range, gap, first)
+}
+
+/// Says that the calls are over.
+fn expect_empty(rt: &(impl Abort + Print), found: bool) -> Result<(), Fail> {
+    tell(rt, false)?;
+    expect(rt, found, "empty");
+    Ok(())
+}
+
+/// Calls: `CodePointInversionListBuilder::new`, `CodePointInversionListBuilder::is_empty`.
+#[test]
+fn new_builder_quiet(rt: HostRuntime) -> Result<(), Fail> {
+    println!(rt; "call")?;
+    let builder = CodePointInversionListBuilder::new(rt.alloc());
+    expect_empty(&rt, builder.is_empty())
+}
+
+/// The calls are over, and these are their answers.
+fn expect_named(
+    rt: &(impl Abort + Print),
+    ends: ((u32, u32), (u32, u32)),
+    valid: bool,
+    made: Result<CodePointInversionList<'_>, SetError>,
+) -> Result<(), Fail> {
+    tell(rt, false)?;
+    expect(rt, ends == ((0x41, 0x5B), (5, u32::MAX)), "ends of ranges");
+    expect(rt, valid, "a valid list");
+    expect(rt, made.is_ok(), "a set over the list");
+    Ok(())
+}
+
+/// A valid list is taken as it is.
+///
+/// Calls: `codepointinvlist::deconstruct_range`, `RangeOf::deconstruct`, `codepointinvlist::is_valid_zv`,
+/// `CodePointInversionList::try_from_inversion_list`.
+#[test]
+fn lists_and_ranges_quiet(rt: HostRuntime) -> Result<(), Fail> {
+    let list = ZeroVec::<PotentialCodePoint>::parse_bytes(&[0x41, 0, 0, 0x5B, 0, 0])?;
+    println!(rt; "call")?;
+    let ends = (deconstruct_range('A'..='Z'), (5..=u32::MAX).deconstruct());
+    let valid = is_valid_zv(&list);
+    let made = CodePointInversionList::try_from_inversion_list(rt.alloc(), list);
+    expect_named(&rt, ends, valid, made)
+}
+
+/// The calls are over, and these are their answers.
+fn expect_ranges(
+    rt: &(impl Abort + Print),
+    first: Option<RangeInclusive<u32>>,
+    second: Option<RangeInclusive<u32>>,
+    counts: (usize, usize),
+) -> Result<(), Fail> {
+    tell(rt, false)?;
+    expect(rt, first == Some(0..=0xFFFF), "the first range");
+    expect(rt, second == None, "no second range");
+    expect(rt, counts == (1, 1), "the counts");
+    Ok(())
+}
+
+/// Calls: `CodePointInversionList::get_nth_range`, `IterRanges::len`, `IterRanges::size_hint`.
+#[test]
+fn counted_ranges_quiet(rt: HostRuntime) -> Result<(), Fail> {
+    println!(rt; "call")?;
+    let bmp = CodePointInversionList::bmp();
+    let (first, second) = (bmp.get_nth_range(0), bmp.get_nth_range(1));
+    let ranges = bmp.iter_ranges();
+    expect_ranges(&rt, first, second, (ranges.len(), ranges.size_hint().0))
 }

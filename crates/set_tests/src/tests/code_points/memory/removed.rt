@@ -1,6 +1,7 @@
 //! Removals from a builder, and its intersection with a set.
 use super::*;
 
+/// Calls: `CodePointInversionListBuilder::remove_char`.
 #[test]
 fn remove_char_refused(rt: HostRuntime) -> Result<(), Fail> {
     let Some(mut builder) = builder_for_call(&rt, &LETTERS)? else {
@@ -10,6 +11,7 @@ fn remove_char_refused(rt: HostRuntime) -> Result<(), Fail> {
     expect_answer(&rt, answer, builder, &[0x41, 0x43, 0x44, 0x5B])
 }
 
+/// Calls: `CodePointInversionListBuilder::remove32`.
 #[test]
 fn remove32_refused(rt: HostRuntime) -> Result<(), Fail> {
     let Some(mut builder) = builder_for_call(&rt, &LETTERS)? else {
@@ -19,6 +21,7 @@ fn remove32_refused(rt: HostRuntime) -> Result<(), Fail> {
     expect_answer(&rt, answer, builder, &[0x41, 0x43, 0x44, 0x5B])
 }
 
+/// Calls: `CodePointInversionListBuilder::remove_range`.
 #[test]
 fn remove_range_refused(rt: HostRuntime) -> Result<(), Fail> {
     let Some(mut builder) = builder_for_call(&rt, &LETTERS)? else {
@@ -28,6 +31,7 @@ fn remove_range_refused(rt: HostRuntime) -> Result<(), Fail> {
     expect_answer(&rt, answer, builder, &[0x41, 0x43, 0x45, 0x5B])
 }
 
+/// Calls: `CodePointInversionListBuilder::remove_range32`.
 #[test]
 fn remove_range32_refused(rt: HostRuntime) -> Result<(), Fail> {
     let Some(mut builder) = builder_for_call(&rt, &LETTERS)? else {
@@ -37,20 +41,26 @@ fn remove_range32_refused(rt: HostRuntime) -> Result<(), Fail> {
     expect_answer(&rt, answer, builder, &[0x41, 0x43, 0x45, 0x5B])
 }
 
+/// Calls: `CodePointInversionListBuilder::remove_set`.
 #[test]
 fn remove_set_refused(rt: HostRuntime) -> Result<(), Fail> {
-    let Some((mut builder, set)) = both_for_call(&rt, &[0x43, 0x45])? else {
+    let lent = [0x43, 0x45, 0x47, 0x48, 0x4A, 0x4B, 0x50, 0x52];
+    let Some((mut builder, set)) = both_for_call(&rt, &lent)? else {
         return Ok(());
     };
     let answer = builder.remove_set(&set);
-    expect_answer(&rt, answer, builder, &[0x41, 0x43, 0x45, 0x5B])
+    let after = [0x41, 0x43, 0x45, 0x47, 0x48, 0x4A, 0x4B, 0x50, 0x52, 0x5B];
+    expect_answer_and_lent(&rt, answer, (builder, set), &after, &lent)
 }
 
+/// Calls: `CodePointInversionListBuilder::retain_set`.
 #[test]
 fn retain_set_refused(rt: HostRuntime) -> Result<(), Fail> {
-    let Some((mut builder, set)) = both_for_call(&rt, &[0x43, 0x45])? else {
+    let lent = [0x43, 0x45, 0x47, 0x48, 0x4A, 0x4B, 0x50, 0x52];
+    let Some((mut builder, set)) = both_for_call(&rt, &lent)? else {
         return Ok(());
     };
     let answer = builder.retain_set(&set);
-    expect_answer(&rt, answer, builder, &[0x43, 0x45])
+    let after = [0x43, 0x45, 0x47, 0x48, 0x4A, 0x4B, 0x50, 0x52];
+    expect_answer_and_lent(&rt, answer, (builder, set), &after, &lent)
 }

@@ -1,0 +1,13 @@
+use Rattle.std.proofs.Common.{ℕ, suc, ◌+◌, ◌≤◌, length}
+use Rattle.icu_invlist.specs.Places.{below}
+use Rattle.icu_invlist.proofs.codepointinvlist.cpinvlist.CodePointInversionList.place_between.Given as goal
+
+abbrev pub invariant-loop-size : goal.invariant-loop-size
+invariant-loop-size l = record {
+  from : l.low ≤ below l.self (suc l.c);
+  to : below l.self (suc l.c) ≤ l.low + l.size;
+  within : l.low + l.size ≤ length l.self;
+}
+
+abbrev pub decreases-loop-size : goal.decreases-loop-size
+decreases-loop-size l = l.size

@@ -1,0 +1,68 @@
+//! Blocks of 16 that hold one number are given the place of a block of 64 that holds it: so the offsets of
+//! neighbouring blocks are more often equal below and above the fast limit, and index-3 blocks of them are
+//! found in the fast index.
+ghost use Rattle.std.specs.Prelude.{◌≡◌, ℕ, ◌+◌, ◌^◌, ◌<◌, ◌≤◌, length, slice_index, IfOk};
+ghost use Rattle.icu_trie_builder.specs.FilledBlocks.{AreFilledPlaces, IsMoved, IsSharedPlace};
+
+use crate::null_block::is_filled;
+use std::alloc::{AllocError, Global};
+
+/// An offset that no block has.
+const NO_OFFSET: u32 = u32::MAX;
+
+/// The offsets of blocks of 64 that hold one number.
+pub(crate) fn filled_places(
+    alloc: Global,
+    cells: &[u32],
+    fast: &[u32],
+) -> Result<Vec<u32>, AllocError>
+    requires room { length cells.now < 2 ^ 31 }
+    requires fast { (j : ℕ) → j < length fast.now → slice_index fast.now j + 64 ≤ length cells.now }
+    ensures { IfOk result (λ places. AreFilledPlaces cells.now places.items) }
+{
+    let mut places = Vec::new(alloc);
+    let mut last = NO_OFFSET;
+    for offset in fast {
+        if *offset != last && is_filled(cells, *offset as usize, 64) {
+            places.push(*offset)?;
+        }
+        last = *offset;
+    }
+    Ok(places)
+}
+
+/// The first of these places whose cell is that at `at`, where 16 cells from there on are equal, else `at`.
+fn shared_place(cells: &[u32], places: &[u32], at: u32) -> u32
+    requires room { length cells.now < 2 ^ 31 }
+    requires inside { at + 16 ≤ length cells.now }
+    requires places { AreFilledPlaces cells.now places.now }
+    ensures { IsSharedPlace cells.now places.now at result }
+{
+    if !is_filled(cells, at as usize, 16) {
+        return at;
+    }
+    for place in places {
+        if cells[*place as usize] == cells[at as usize] {
+            return *place;
+        }
+    }
+    at
+}
+
+/// Gives each block of 16 that holds one number the first of these places that has it, if there is one.
+pub(crate) fn share_filled(cells: &[u32], places: &[u32], small: &mut [u32])
+    requires room { length cells.now < 2 ^ 31 }
+    requires places { AreFilledPlaces cells.now places.now }
+    requires small { (j : ℕ) → j < length small.old → slice_index small.old j + 16 ≤ length cells.now }
+    ensures { IsMoved cells.now cells.now small.old small.new }
+{
+    let mut from = NO_OFFSET;
+    let mut to = NO_OFFSET;
+    for offset in small.iter_mut() {
+        if *offset != from {
+            from = *offset;
+            to = shared_place(cells, places, from);
+        }
+        *offset = to;
+    }
+}

@@ -1,0 +1,9 @@
+-- What other crates may cite of windows, of how many blocks are different, and of how the index is laid out.
+pub use Rattle.icu_trie_compaction.proofs.Windows.{length-window, list_decides, list_laws, times-below, window-append, window-read, window-window}
+pub use Rattle.icu_trie_compaction.proofs.TableLemmas.{append-kept}
+pub use Rattle.icu_trie_compaction.proofs.Counts.{distinct_count-mono}
+pub use Rattle.icu_trie_compaction.proofs.Different.{block-block_of, different-by, different-le_count, different-within}
+pub use Rattle.icu_trie_compaction.proofs.Compacting.{different_but-le, different_but-within, Compacting, compacting-none, compacting-step, compacting-done, compacting-short, compacting-full}
+pub use Rattle.icu_trie_compaction.proofs.Growing.{cell_there}
+pub use Rattle.icu_trie_compaction.proofs.Laying.{parts}
+pub use Rattle.icu_trie_compaction.proofs.NullIndex.{null-blocks, offset_of}

@@ -1,0 +1,190 @@
+-- Placing blocks anywhere among some cells.
+use Rattle.std.proofs.Common.{◌≡◌, ℕ, ◌+◌, ◌-◌, ◌*◌, ◌<◌, ◌≤◌, ◌≢◌, ◌&&◌, ◌||◌, Bool, true, false, not, true≢false, List, [], ◌∷◌, ◌++◌, length, get_or, take, drop, map, refl, arith, ◌∙◌, sym, ap, subst, below_more, ◌⊎◌, inl, inr}
+use Rattle.std.specs.Prelude.{nat_eq}
+use Rattle.std.specs.Cmp.Lexicographic.{pointwise}
+use Rattle.std.specs.List.{range_with_len, filter, Contains, IsDistinct, AllPass}
+use Rattle.std.specs.Set.{unique_keys, is_member}
+use Rattle.std.proofs.lemmas.Map.Made.{is_member-filter, is_member-Decides}
+use Rattle.std.proofs.lemmas.List.FromFn.{length-map-range_with_len, get_or-map-range_with_len}
+use Rattle.std.proofs.Math.Nat.{mul-le-mul_left}
+use Rattle.std.proofs.lemmas.List.{take_all, take-take, length-append, length-take, length-drop, get_or_append_left, get_or_at}
+use Rattle.icu_trie_core.specs.Blocks.{window, different}
+use Rattle.icu_trie_compaction.specs.Placed.{different_but}
+use Rattle.icu_trie_compaction.specs.Placed.{AllStandIn, IsPlaced}
+use Rattle.icu_trie_compaction.specs.Windows.{IsLeast}
+use Rattle.icu_trie_compaction.proofs.Counts.{length-le-distinct_count, unique_keys-member, unique_keys-apart, absent-apart, distinct_count-mono}
+use Rattle.icu_trie_compaction.proofs.Windows.{list_laws, list_decides, window-append, times-below}
+use Rattle.icu_trie_compaction.proofs.TableLemmas.{append-kept, least-same, least-kept}
+
+and-both : (a b : Bool) → a ≡ true → b ≡ false → (a && not b) ≡ true
+and-both true false h g = refl
+and-both true true h g = sym g
+and-both false b h g = h
+
+and-parts : (a b : Bool) → (a && not b) ≡ true → (a ≡ true) × (b ≡ false)
+and-parts true false h = (refl, refl)
+and-parts true true h = absurd (true≢false (sym h))
+and-parts false b h = absurd (true≢false (sym h))
+
+not-true : (a : Bool) → (a ≡ true → ⊥) → a ≡ false
+not-true true h = absurd (h refl)
+not-true false h = refl
+
+or-parts : (a b : Bool) → (a || b) ≡ true → (a ≡ true) ⊎ (b ≡ true)
+or-parts true b h = inl refl
+or-parts false b h = inr h
+
+-- the blocks that p leaves out, in a list
+abbrev left_out : (List ℕ → Bool) → (ℕ → List ℕ) → ℕ → ℕ → List (List ℕ)
+left_out p b first count = filter (λ x. not (p x)) (map b (range_with_len first count))
+
+filtered : (p : List ℕ → Bool) (xs : List (List ℕ)) (q : List ℕ) → is_member (pointwise nat_eq) (filter (λ x. not (p x)) xs) q ≡ (is_member (pointwise nat_eq) xs q && not (p q))
+filtered p xs q = is_member-filter list_laws (λ x. not (p x)) q (λ x e. ap (λ y. not (p y)) ((list_decides q x).0 e)) xs
+
+in-left_out : (p : List ℕ → Bool) (b : ℕ → List ℕ) (first count j : ℕ) → first ≤ j → j < first + count → p (b j) ≡ false → is_member (pointwise nat_eq) (left_out p b first count) (b j) ≡ true
+in-left_out p b first count j le lt h =
+    let i : ℕ = j - first in
+    let is : first + i ≡ j = omega (arith, le) in
+    let l : i < count = omega (arith, le, lt) in
+    let there : Contains (map b (range_with_len first count)) (b j) = (i, omega (arith, l, length-map-range_with_len b first count), get_or-map-range_with_len b first count i j (b j) l is) in
+    let m = (is_member-Decides list_decides (map b (range_with_len first count)) (b j)).1 there in
+    filtered p (map b (range_with_len first count)) (b j) ∙ and-both (is_member (pointwise nat_eq) (map b (range_with_len first count)) (b j)) (p (b j)) m h
+
+-- one that is in it
+of-left_out : (p : List ℕ → Bool) (b : ℕ → List ℕ) (first count : ℕ) (q : List ℕ) → is_member (pointwise nat_eq) (left_out p b first count) q ≡ true → (j : ℕ) × (first ≤ j) × (j < first + count) × (b j ≡ q) × (p q ≡ false)
+of-left_out p b first count q h =
+    let both = and-parts (is_member (pointwise nat_eq) (map b (range_with_len first count)) q) (p q) (sym (filtered p (map b (range_with_len first count)) q) ∙ h) in
+    let w = (is_member-Decides list_decides (map b (range_with_len first count)) q).0 both.0 in
+    let l : w.0 < count = omega (arith, w.1, length-map-range_with_len b first count) in
+    (first + w.0, omega arith, omega (arith, l), sym (get_or-map-range_with_len b first count w.0 (first + w.0) q l refl) ∙ w.2, both.1)
+
+-- fewer blocks, or the same ones by another name, none of which p leaves out and p' does not
+pub different_but-within : (p p' : List ℕ → Bool) (b b' : ℕ → List ℕ) (first count first' count' : ℕ)
+    → ((j : ℕ) → first ≤ j → j < first + count → p (b j) ≡ false → (j' : ℕ) × (first' ≤ j') × (j' < first' + count') × (b j ≡ b' j') × (p' (b' j') ≡ false))
+    → different_but p b first count ≤ different_but p' b' first' count'
+unfolding different_but
+different_but-within p p' b b' first count first' count' h = distinct_count-mono list_laws list_decides (left_out p b first count) (left_out p' b' first' count')
+    (λ q m.
+    let w = of-left_out p b first count q ((is_member-Decides list_decides (left_out p b first count) q).1 m) in
+    let v = h w.0 w.1 w.2 (ap p w.3 ∙ w.4) in
+    (is_member-Decides list_decides (left_out p' b' first' count') q).0 (subst (λ x. is_member (pointwise nat_eq) (left_out p' b' first' count') x ≡ true) (sym v.3 ∙ w.3) (in-left_out p' b' first' count' v.0 v.1 v.2 v.4)))
+
+-- those that p leaves are no more than all
+pub different_but-le : (p : List ℕ → Bool) (b : ℕ → List ℕ) (first count : ℕ) → different_but p b first count ≤ different b first count
+unfolding different_but different
+different_but-le p b first count = distinct_count-mono list_laws list_decides (left_out p b first count) (map b (range_with_len first count))
+    (λ q m.
+    let t = (is_member-Decides list_decides (left_out p b first count) q).1 m in
+    (is_member-Decides list_decides (map b (range_with_len first count)) q).0 (and-parts (is_member (pointwise nat_eq) (map b (range_with_len first count)) q) (p q) (sym (filtered p (map b (range_with_len first count)) q) ∙ t)).0)
+
+pub different_but-mono : (p : List ℕ → Bool) (b : ℕ → List ℕ) (first count count' : ℕ) → count ≤ count' → different_but p b first count ≤ different_but p b first count'
+different_but-mono p b first count count' le = different_but-within p p b b first count first count' (λ j l l' h. (j, l, omega (arith, l', le), refl, h))
+
+-- a block that p does not leave out and that is unlike the earlier ones
+pub different_but-more : (p : List ℕ → Bool) (b : ℕ → List ℕ) (first j : ℕ) → p (b (first + j)) ≡ false → ((i : ℕ) → i < j → b (first + i) ≢ b (first + j)) → different_but p b first j < different_but p b first (j + 1)
+unfolding different_but IsDistinct
+different_but-more p b first j h fresh =
+    let x : List ℕ = b (first + j) in
+    let xs : List (List ℕ) = left_out p b first j in
+    let us : List (List ℕ) = unique_keys (pointwise nat_eq) xs in
+    let ys : List (List ℕ) = left_out p b first (j + 1) in
+    let absent : is_member (pointwise nat_eq) us x ≡ false = not-true (is_member (pointwise nat_eq) us x) (λ t.
+    let w = of-left_out p b first j x (unique_keys-member list_laws list_decides xs x t) in
+    let is : first + (w.0 - first) ≡ w.0 = omega (arith, w.1) in
+    fresh (w.0 - first) (omega (arith, w.1, w.2)) (ap b is ∙ w.3)) in
+    length-le-distinct_count list_laws list_decides (x ∷ us) ys (absent-apart list_laws list_decides x us absent, unique_keys-apart list_laws list_decides xs)
+    (λ q m. elim (or-parts (pointwise nat_eq q x) (is_member (pointwise nat_eq) us q) m) [
+      | inl t ↦ subst (λ y. is_member (pointwise nat_eq) ys y ≡ true) (sym ((list_decides q x).0 t)) (in-left_out p b first (j + 1) (first + j) (omega arith) (omega arith) h)
+      | inr t ↦ let w = of-left_out p b first j q (unique_keys-member list_laws list_decides xs q t) in
+          subst (λ y. is_member (pointwise nat_eq) ys y ≡ true) w.3 (in-left_out p b first (j + 1) w.0 w.1 (omega (arith, w.2)) (ap p w.3 ∙ w.4))
+    ])
+
+-- j blocks of k cells, which b gives to the numbers from `first` on, stand in `stored`, each at the first place
+-- of its cells
+pub record Compacting (k first j : ℕ) (b : ℕ → List ℕ) (before stored offsets : List ℕ) : Type 0 where
+  pub kept : take (length before) stored ≡ before
+  pub count : length offsets ≡ j
+  pub least : (i : ℕ) → i < j → IsLeast k (get_or offsets i 0) stored (b (first + i))
+  pub short : (p : List ℕ → Bool) → AllStandIn k before p → length stored ≤ length before + k * different_but p b first j
+  pub drawn : (p : ℕ → Bool) → ((i : ℕ) → i < j → AllPass p (b (first + i))) → AllPass p before → AllPass p stored
+
+-- no block yet
+pub compacting-none : (k first : ℕ) (b : ℕ → List ℕ) (before offsets : List ℕ) → offsets ≡ [] → Compacting k first 0 b before before offsets
+compacting-none k first b before offsets none = record {
+  kept = take_all (length before) before (omega arith);
+  count = ap length none;
+  least = λ i lt. absurd (omega (arith, lt));
+  short = λ p st. omega arith;
+  drawn = λ p all pass. pass;
+}
+
+-- a block that stands in the cells still stands there when they have grown
+stands-kept : (k q : ℕ) (before stored x : List ℕ) → take (length before) stored ≡ before → length x ≡ k → 0 < k → window k q before ≡ x → window k q stored ≡ x
+stands-kept k q before stored x h len pos is =
+    let fits : q + k ≤ length before = omega (arith, ap length is, length-take k (drop q before), length-drop q before, len, pos) in
+    sym (ap (λ ys. window k q ys) (append-kept before stored h)) ∙ window-append k q before (drop (length before) stored) fits ∙ is
+
+module _ (k first j : ℕ) (b : ℕ → List ℕ) (before stored offsets : List ℕ) (l : Compacting k first j b before stored offsets) (pos : 0 < k) (len : length (b (first + j)) ≡ k) where
+  -- a block that stands nowhere counts
+  compacting-fresh : ((q : ℕ) → window k q stored ≢ b (first + j))
+      → (p : List ℕ → Bool) → AllStandIn k before p → length stored + k ≤ length before + k * different_but p b first (j + 1)
+  compacting-fresh none p st =
+      let x : List ℕ = b (first + j) in
+      let out : p x ≡ false = not-true (p x) (λ t. let w = st x t in none w.0 (stands-kept k w.0 before stored x l.kept len pos w.1)) in
+      let more = different_but-more p b first j out (λ i lt e. none (get_or offsets i 0) ((l.least i lt).here ∙ e)) in
+      omega (arith, l.short p st, times-below k (different_but p b first j) (different_but p b first (j + 1)) more)
+
+  -- one turn
+  pub compacting-step : (at : ℕ) (stored' offsets' : List ℕ) → IsLeast k at stored' (b (first + j)) → take (length stored) stored' ≡ stored
+      → (length stored < length stored' → (length stored' ≤ length stored + k) × ((q : ℕ) → window k q stored ≢ b (first + j)))
+      → ((p : ℕ → Bool) → AllPass p (b (first + j)) → AllPass p stored → AllPass p stored')
+      → offsets' ≡ offsets ++ at ∷ [] → Compacting k first (j + 1) b before stored' offsets'
+  compacting-step at stored' offsets' here kept grown drawn o =
+      let longer : length before ≤ length stored = omega (arith, ap length l.kept, length-take (length before) stored) in
+      record {
+        kept = sym (take-take (length before) (length stored) stored' longer) ∙ ap (λ xs. take (length before) xs) kept ∙ l.kept;
+        count = omega (arith, ap length o, length-append offsets (at ∷ []), l.count);
+        least = below_more (λ i. IsLeast k (get_or offsets' i 0) stored' (b (first + i))) j
+            (λ i lt. rw (ap (λ os. get_or os i 0) o, get_or_append_left offsets (at ∷ []) 0 i (omega (arith, lt, l.count))) (least-kept k (get_or offsets i 0) stored stored' (b (first + i)) kept (l.least i lt)))
+            (rw (ap (λ os. get_or os j 0) o, get_or_at offsets at [] 0 j l.count) here);
+        short = λ p st. elim (split (length stored) (length stored')) [
+          | inl lt ↦ let g = grown lt in omega (arith, g.0, compacting-fresh g.1 p st)
+          | inr ge ↦
+              let m = different_but-mono p b first j (j + 1) (omega arith) in
+              let t : k * different_but p b first j ≤ k * different_but p b first (j + 1) = mul-le-mul_left k m in
+              omega (arith, ge, l.short p st, t)
+        ];
+        drawn = λ p all pass. drawn p (all j (omega arith)) (l.drawn p (λ i lt. all i (omega (arith, lt))) pass);
+      }
+    where
+      split : (a b : ℕ) → (a < b) ⊎ (b ≤ a)
+      split a b = search arith
+
+  -- where the limit is passed
+  pub compacting-full : (m limit : ℕ) → j < m → ((q : ℕ) → window k q stored ≢ b (first + j)) → limit < length stored → limit + k < length before + k * different b first m
+  compacting-full m limit lt none over =
+      let no : List ℕ → Bool = λ x. false in
+      let one = compacting-fresh none no (λ x t. absurd (true≢false (sym t))) in
+      let a = mul-le-mul_left k (different_but-mono no b first (j + 1) m (omega (arith, lt))) in
+      let c = mul-le-mul_left k (different_but-le no b first m) in
+      omega (arith, one, a, c, over)
+
+-- every block of the range is placed
+pub compacting-done : (k first j : ℕ) (b : ℕ → List ℕ) (before stored offsets : List ℕ) → Compacting k first j b before stored offsets → IsPlaced k first b before stored offsets
+compacting-done k first j b before stored offsets l = record {
+  kept = l.kept;
+  copied = record {
+    inside = λ i h. (l.least i (omega (arith, h, l.count))).inside;
+    copies = λ i h. (l.least i (omega (arith, h, l.count))).here;
+  };
+  shared = λ i i' h h' e. least-same k (get_or offsets i 0) (get_or offsets i' 0) stored (b (first + i'))
+      (subst (λ x. IsLeast k (get_or offsets i 0) stored x) e (l.least i (omega (arith, h, l.count)))) (l.least i' (omega (arith, h', l.count)));
+  drawn = λ p all. l.drawn p (λ i lt. all i (omega (arith, lt, l.count)));
+}
+
+-- no more cells are added than different blocks have
+pub compacting-short : (k first j : ℕ) (b : ℕ → List ℕ) (before stored offsets : List ℕ) → Compacting k first j b before stored offsets → length stored ≤ length before + k * different b first j
+compacting-short k first j b before stored offsets l =
+    let none : List ℕ → Bool = λ x. false in
+    let m = mul-le-mul_left k (different_but-le none b first j) in
+    omega (arith, m, l.short none (λ x t. absurd (true≢false (sym t))))

@@ -1,0 +1,15 @@
+pub mod CallerLemmas
+pub mod Windows
+pub mod HashLemmas
+pub mod TableLemmas
+pub mod Compacting
+pub mod Counts
+pub mod Different
+pub mod Growing
+pub mod PackingLemmas
+pub mod Laying
+pub mod NullIndex
+pub mod Shared
+pub mod Indexing
+pub mod Tails
+pub mod Upper

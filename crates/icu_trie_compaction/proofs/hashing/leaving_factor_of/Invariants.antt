@@ -1,0 +1,5 @@
+use Rattle.std.proofs.Common.{◌≡◌, ◌*◌, ◌%◌, ◌^◌}
+use Rattle.icu_trie_compaction.proofs.hashing.leaving_factor_of.Given as goal
+
+abbrev pub invariant-loop : goal.invariant-loop
+invariant-loop l = l.factor ≡ (0xffffffff * 0x9e3779b1 ^ l.counter) % 2 ^ 32

@@ -1,0 +1,31 @@
+use Rattle.std.proofs.Common.{rules, ◌≡◌, ◌+◌, ℕ, [], ◌∷◌, ◌++◌, set, get_or, length, ◌∙◌, ap, sym, refl}
+use Rattle.std.proofs.lemmas.List.{get_or_read, length-append}
+use Rattle.icu_trie_core.specs.Blocks.{window}
+use Rattle.icu_trie_compaction.proofs.TableLemmas.{table-again, table-added, bucket-is, part-window}
+use Rattle.icu_trie_compaction.proofs.window_table.WindowTable.enter.Goals as goal
+
+pub returns-in-Some-clause-table : goal.returns-in-Some-clause-table
+returns-in-Some-clause-table c =
+    let f = c.in-Some.ensures.found in
+    let t = c.args.self.now in
+    let w = c.requires.table.all c.in-Some._first f.0 in
+    table-again c.args.cells.now t (t.entered + 1) c.requires.table refl c.requires.inside
+    (w.0, w.1, w.2 ∙ (f.1.here ∙ part-window t.size t.entered c.args.cells.now))
+
+pub returns-clause-table : goal.returns-clause-table
+returns-clause-table c =
+    let t = c.args.self.now in
+    let cells = c.args.cells.now in
+    let heads = t.heads.items in
+    let i : ℕ = c.bucket_of-bucket.result in
+    let part = part-window t.size t.entered cells in
+    let head : c.index-newest.result.now ≡ get_or heads i 0 = get_or_read heads i c.index-newest.result.now c.bucket_of-bucket.ensures.below c.index-newest.ensures 0 in
+    let starts : c.push.new.self.items ≡ t.starts.items ++ t.entered ∷ [] = c.in_ok-push.ensures.items in
+    let next : c.push-2.new.self.items ≡ t.next.items ++ (get_or heads i 0) ∷ [] = c.in_ok-push-2.ensures.items ∙ ap (λ x. t.next.items ++ x ∷ []) head in
+    let held : c.len.result ≡ length c.push.new.self.items = search rules in
+    let len : c.len.result ≡ length t.starts.items + 1 = held ∙ ap length starts ∙ length-append t.starts.items (t.entered ∷ []) in
+    let heads' : c.set_head.new.heads.items ≡ set heads i (length t.starts.items + 1) = c.set_head.ensures ∙ ap (λ x. set heads i x) len in
+    table-added cells t _ i c.requires.table refl refl refl starts heads' next c.requires.inside
+    (λ q lt e. c.in_default.ensures.none q lt (e ∙ sym part))
+    (bucket-is (length heads) i c.args.hash (window t.size t.entered cells) c.bucket_of-bucket.ensures.value c.requires.hash)
+    c.bucket_of-bucket.ensures.below

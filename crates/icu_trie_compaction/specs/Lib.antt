@@ -1,0 +1,5 @@
+pub mod Hashes
+pub mod Windows
+pub mod Placed
+pub mod Layout
+pub mod Index3Cells

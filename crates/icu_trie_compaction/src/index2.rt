@@ -1,0 +1,59 @@
+//! The index-2 blocks: the index-2 cells of 32 blocks of 512 code points. Equal blocks stand once, and a
+//! block stands anywhere among the index-3 and index-2 cells so far or over the tail of what is written.
+ghost use Rattle.std.specs.Prelude.{◌≡◌, ℕ, ◌+◌, ◌*◌, ◌<◌, ◌≤◌, length, take, slice_index, IfOk, OnOk};
+ghost use Rattle.std.specs.Int.{div_ceil};
+ghost use Rattle.icu_trie_compaction.specs.Layout.{AllBelow, Index2At};
+ghost use Rattle.icu_trie_compaction.specs.declared.error.BuildError.TheVariants.{TooLarge};
+
+use crate::blocks::place_blocks;
+use crate::error::BuildError;
+use std::alloc::{AllocError, Global};
+
+/// Above each place that an index-2 block may take.
+const MOST_CELLS: usize = 0x10000;
+
+/// The index-2 cells with `count` before them that no look-up reads: cells like the first one, so that they
+/// share most places.
+pub(crate) fn with_unread(
+    alloc: Global,
+    cells: &[u32],
+    count: usize,
+) -> Result<Vec<u32>, AllocError>
+    requires some { 0 < length cells.now }
+    ensures len { IfOk result (λ v. length v.items ≡ count + length cells.now) }
+    ensures cells { IfOk result (λ v. (i : ℕ) → i < length cells.now
+        → slice_index v.items (count + i) ≡ slice_index cells.now i) }
+    ensures fit { IfOk result (λ v. AllBelow 0x10000 cells.now → AllBelow 0x10000 v.items) }
+{
+    let mut all = vec![in alloc; cells[0]; count]?;
+    all.extend_from_slice(cells)?;
+    Ok(all)
+}
+
+/// Places the blocks of 32 cells, the last one as short as it is, and gives the place of each in `stored`.
+pub(crate) fn place_index2(
+    alloc: Global,
+    stored: &mut Vec<u32>,
+    cells: &[u32],
+) -> Result<Vec<usize>, BuildError>
+    requires cells { length cells.now ≤ 2176 }
+    requires stored { length stored.old.items ≤ 0x8100 }
+    requires cells_fit { AllBelow 0x10000 cells.now }
+    requires stored_fit { AllBelow 0x10000 stored.old.items }
+    ensures count { IfOk result (λ places. length places.items ≡ div_ceil (length cells.now) 32) }
+    ensures kept { OnOk result (take (length stored.old.items) stored.new.items ≡ stored.old.items) }
+    ensures placed { IfOk result (λ places. Index2At cells.now stored.new.items places.items) }
+    ensures short { OnOk result
+        (length stored.new.items ≤ length stored.old.items + length cells.now) }
+    ensures fit { OnOk result (AllBelow 0x10000 stored.new.items) }
+    ensures never { result ≡ Err TooLarge → ⊥ }
+{
+    let whole = cells.len() / 32;
+    let mut places = place_blocks(alloc, stored, cells, 32, 0, whole, MOST_CELLS)?;
+    let rest = cells.len() % 32;
+    if rest > 0 {
+        let last = place_blocks(alloc, stored, &cells[32 * whole..], rest, 0, 1, MOST_CELLS)?;
+        places.push(last[0])?;
+    }
+    Ok(places)
+}

@@ -1,0 +1,196 @@
+//! A table of the windows of some cells: of windows that are equal it has the first one. Windows are found by
+//! their hash, without a comparison with every other one.
+ghost use Rattle.std.specs.Prelude.{◌≡◌, ◌≢◌, ℕ, ◌+◌, ◌-◌, ◌*◌, ◌/◌, ◌^◌, ◌<◌, ◌≤◌, List, length, slice_index, slice_set, IfOk, OnOk, IfSome, IfNone};
+ghost use Rattle.icu_trie_core.specs.Blocks.{window};
+ghost use Rattle.icu_trie_compaction.specs.Hashes.{bucket, cells_hash};
+ghost use Rattle.icu_trie_compaction.specs.Windows.{HasAll, IsLeast, IsTable};
+
+use crate::hashing::{hash_behind, hash_of, leaving_factor_of};
+use std::alloc::{AllocError, Global};
+
+/// How many buckets a table has at first.
+const FIRST_BUCKETS: usize = 256;
+
+/// The most buckets that a table takes.
+const MOST_BUCKETS: usize = 0x100000;
+
+/// The different windows of some cells, by their hash.
+#[derive(Drop)]
+pub struct WindowTable {
+    /// How many cells a window has.
+    size: usize,
+    /// What a cell that leaves a window is multiplied by.
+    leaving: u32,
+    /// The windows that start before this place are in the table.
+    entered: usize,
+    /// For each different window, the first place where it stands.
+    starts: Vec<u32>,
+    /// For each bucket, the number of its newest window plus one, or 0.
+    heads: Vec<u32>,
+    /// For each window, the number of the one before it in its bucket plus one, or 0.
+    next: Vec<u32>,
+}
+
+impl WindowTable {
+    /// The table of no window, for windows of `size` cells.
+    pub fn new(alloc: Global, size: usize) -> Result<WindowTable, AllocError>
+        requires { 0 < size }
+        ensures size { IfOk result (λ t. t.size ≡ size) }
+        ensures table { IfOk result (λ t. (cells : List ℕ) → IsTable cells t) }
+    {
+        WindowTable::with_buckets(alloc, size, FIRST_BUCKETS)
+    }
+
+    /// The table of no window, with room for the windows of so many cells.
+    pub fn for_cells(alloc: Global, size: usize, cells: usize) -> Result<WindowTable, AllocError>
+        requires { 0 < size }
+        ensures size { IfOk result (λ t. t.size ≡ size) }
+        ensures table { IfOk result (λ t. (cells : List ℕ) → IsTable cells t) }
+    {
+        let buckets = cells.max(FIRST_BUCKETS).min(MOST_BUCKETS);
+        WindowTable::with_buckets(alloc, size, buckets)
+    }
+
+    /// The table of no window, with so many buckets.
+    fn with_buckets(alloc: Global, size: usize, buckets: usize) -> Result<WindowTable, AllocError>
+        requires some_cells { 0 < size }
+        requires some_buckets { 0 < buckets }
+        requires few_buckets { buckets ≤ 2 ^ 24 }
+        ensures size { IfOk result (λ t. t.size ≡ size) }
+        ensures table { IfOk result (λ t. (cells : List ℕ) → IsTable cells t) }
+    {
+        Ok(WindowTable {
+            size,
+            leaving: leaving_factor_of(size),
+            entered: 0,
+            starts: Vec::new(alloc),
+            heads: zeros(alloc, buckets)?,
+            next: Vec::new(alloc),
+        })
+    }
+
+    /// How many cells a window has.
+    pub fn size(&self) -> usize
+        ensures { result ≡ self.now.size }
+    {
+        self.size
+    }
+
+    /// The bucket of windows with this hash.
+    fn bucket_of(&self, hash: u32) -> usize
+        requires some { 0 < length self.now.heads.items }
+        requires few { length self.now.heads.items ≤ 2 ^ 24 }
+        ensures value { result ≡ hash * length self.now.heads.items / 2 ^ 32 }
+        ensures below { result < length self.now.heads.items }
+    {
+        (u64::from(hash) * self.heads.len() as u64 / 0x1_0000_0000) as usize
+    }
+
+    /// The first place where `wanted`, whose hash this is, stands in `cells`.
+    pub(crate) fn find(&self, cells: &[u32], wanted: &[u32], hash: u32) -> Option<usize>
+        requires size { length wanted.now ≡ self.now.size }
+        requires hash { hash ≡ cells_hash wanted.now }
+        requires table { IsTable cells.now self.now }
+        ensures found { IfSome result (λ at. (at < self.now.entered)
+            × IsLeast self.now.size at cells.now wanted.now) }
+        ensures none { IfNone result ((q : ℕ) → q < self.now.entered
+            → window self.now.size q cells.now ≢ wanted.now) }
+    {
+        let mut at = self.heads[self.bucket_of(hash)] as usize;
+        while at > 0 {
+            let start = self.starts[at - 1] as usize;
+            if &cells[start..start + self.size] == wanted {
+                return Some(start);
+            }
+            at = self.next[at - 1] as usize;
+        }
+        None
+    }
+
+    /// Puts the next window, whose hash this is, into the table, where no equal one is in it.
+    fn enter(&mut self, cells: &[u32], hash: u32) -> Result<(), AllocError>
+        requires inside { self.old.entered + self.old.size ≤ length cells.now }
+        requires room { length cells.now < 2 ^ 31 }
+        requires hash { hash ≡ cells_hash (window self.old.size self.old.entered cells.now) }
+        requires table { IsTable cells.now self.old }
+        ensures size { OnOk result (self.new.size ≡ self.old.size) }
+        ensures entered { OnOk result (self.new.entered ≡ self.old.entered + 1) }
+        ensures table { OnOk result (IsTable cells.now self.new) }
+    {
+        let at = self.entered;
+        if let Some(_first) = self.find(cells, &cells[at..at + self.size], hash) {
+            self.entered = at + 1;
+            return Ok(());
+        }
+        let bucket = self.bucket_of(hash);
+        let newest = self.heads[bucket];
+        self.starts.push(at as u32)?;
+        self.next.push(newest)?;
+        set_head(&mut self.heads, bucket, self.starts.len() as u32);
+        self.entered = at + 1;
+        Ok(())
+    }
+
+    /// Puts all windows of `cells` into the table.
+    pub fn enter_all(&mut self, cells: &[u32]) -> Result<(), AllocError>
+        requires room { length cells.now < 2 ^ 31 }
+        requires table { IsTable cells.now self.old }
+        ensures size { OnOk result (self.new.size ≡ self.old.size) }
+        ensures table { OnOk result (IsTable cells.now self.new) }
+        ensures whole { OnOk result (HasAll cells.now self.new) }
+    {
+        let size = self.size;
+        let from = self.entered;
+        let count = window_count(cells.len(), size);
+        if from == count {
+            return Ok(());
+        }
+        let mut hash = hash_of(&cells[from..from + size]);
+        for at in from..count {
+            self.enter(cells, hash)?;
+            hash = hash_behind(cells, at, size, self.leaving, hash);
+        }
+        Ok(())
+    }
+
+    /// Empties a full table and gives it more buckets.
+    pub(crate) fn grow(&mut self, alloc: Global) -> Result<(), AllocError>
+        requires some_cells { 0 < self.old.size }
+        requires some_buckets { 0 < length self.old.heads.items }
+        ensures size { OnOk result (self.new.size ≡ self.old.size) }
+        ensures table { OnOk result ((cells : List ℕ) → IsTable cells self.old → IsTable cells self.new) }
+    {
+        let buckets = self.heads.len();
+        if self.starts.len() > buckets && buckets < MOST_BUCKETS {
+            *self = WindowTable::with_buckets(alloc, self.size, 4 * buckets)?;
+        }
+        Ok(())
+    }
+}
+
+/// Makes this the head of a bucket.
+fn set_head(heads: &mut Vec<u32>, bucket: usize, head: u32)
+    requires { bucket < length heads.old.items }
+    ensures { heads.new.items ≡ slice_set heads.old.items bucket head }
+{
+    heads[bucket] = head;
+}
+
+/// So many zeros.
+fn zeros(alloc: Global, count: usize) -> Result<Vec<u32>, AllocError>
+    ensures len { IfOk result (λ v. length v.items ≡ count) }
+    ensures zero { IfOk result (λ v. (i : ℕ) → slice_index v.items i ≡ 0) }
+{
+    vec![in alloc; 0; count]
+}
+
+/// How many windows of `size` cells `len` cells have.
+fn window_count(len: usize, size: usize) -> usize
+    requires { 0 < size }
+    ensures { result ≡ len + 1 - size }
+{
+    if len < size {
+        return 0;
+    }
+    len - size + 1
+}
