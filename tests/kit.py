@@ -1,9 +1,12 @@
-"""The kit's command rt as a module, for the scripts beside: it knows with which words the gate checks a crate."""
+"""The kit's command rt as a module, for the scripts beside: it knows with which words the gate checks a crate, and which of what is built is still of the files as they are."""
 import importlib.machinery
 import importlib.util
 import os
+import re
 import shutil
+import subprocess
 import sys
+import time
 
 
 def top():
@@ -26,3 +29,38 @@ def crates(rt):
     os.chdir(top())
     found = sorted(rt.rtlib.crates_below(os.getcwd()), key=lambda it: len(it.below()))
     return {it.name: it for it in found}
+
+
+def sources(crate):
+    """All that a crate's program is made from: files, and the folders that they lie in."""
+    yield f"{top()}/crates.txt"
+    for it in [crate, *crate.below()]:
+        for part in ("src", "specs", "proofs"):
+            for folder, _, files in os.walk(f"{it.folder}/{part}"):
+                yield folder
+                yield from (f"{folder}/{file}" for file in files)
+
+
+def is_fresh(crate, program):
+    """Whether the program is built, and nothing that it is made from was changed since."""
+    if not os.access(program, os.X_OK):
+        return False
+    made = os.stat(program).st_mtime_ns
+    return all(os.stat(it).st_mtime_ns <= made for it in sources(crate))
+
+
+def built(crate):
+    """The path of the crate's program, or of its tests where it is a library, or None where it can't be built. What rt ci left is taken, and nothing is proved again; where it
+    isn't of the files as they are, it is proved and built."""
+    program = f"{crate.folder}/out/{crate.name}{'' if crate.is_program else '_tests'}"
+    if is_fresh(crate, program):
+        return program
+    begun = time.time_ns()
+    words = ["rt", "run" if crate.is_program else "test"]
+    ran = subprocess.run(words, cwd=crate.folder, stdin=subprocess.DEVNULL, stdout=subprocess.PIPE, stderr=subprocess.STDOUT, text=True, errors="replace")
+    if not os.access(program, os.X_OK) or not re.search(r"^(linked |rt: nothing has changed)", ran.stdout, re.M):
+        print("\n".join(ran.stdout.split("\n")[-20:]), file=sys.stderr)
+        return None
+    # A file that is edited while rt builds stays newer than the program.
+    os.utime(program, ns=(begun, begun))
+    return program

@@ -9,22 +9,17 @@ here=$(dirname -- "$(readlink -f -- "$0")")
 root=$here/../..
 
 stop() { echo "exported: $1" >&2; exit 70; }
-command -v rt >/dev/null || stop "no rt: put the kit's folder bin on PATH"
 
-# The program is no part of the repository, so it is built in a copy.
 work=$(mktemp -d)
 trap 'rm -rf "$work"' EXIT
 trap 'exit 130' INT TERM
-"$root/tests/stage.sh" "$work" "exported: icu_trie icu_trie_formats toml" "$here/main.rt.txt" main.rt
-echo "exported: proves and builds; from a clean clone this takes some minutes" >&2
-cd "$work/crates/exported"
-printf '' >trie.toml
-rt run >"$work/log" 2>&1 || [ -x out/exported ] || { tail -n 20 "$work/log" >&2; stop "rt run failed"; }
+program=$("$root/tests/build" exported_tries) || stop "exported_tries is not proved and built"
+cd "$work"
 
 failed=
 # compare WHAT RANGES: the ranges of trie.toml are these.
 compare() {
-    if ./out/exported >"$work/out" && cmp -s "$work/out" "$2"; then
+    if "$program" >"$work/out" && cmp -s "$work/out" "$2"; then
         echo "$1: $(wc -l <"$2") ranges compared"
     else
         echo "$1: the first other lines:"; diff "$work/out" "$2" | head -n 6

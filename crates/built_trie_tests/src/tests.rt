@@ -1,10 +1,11 @@
-//! What no clause says of built tries: examples whose answers come from outside, printed texts, sizes, each
-//! public call on its happy path, and refused memory.
+//! What no clause says of built tries: examples whose answers come from outside, printed texts,
+//! sizes, each public call on its happy path, and refused memory.
 
 mod built_tries;
 mod compaction;
 mod getters;
 mod mapped;
+mod maps_of_both_widths;
 mod random_maps;
 mod ranges;
 mod refused_memory;

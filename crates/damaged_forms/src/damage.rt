@@ -56,7 +56,8 @@ fn exchange(bytes: &mut Vec<u8>, place: usize, other: usize) {
     }
 }
 
-/// The bytes from a place on, as far as the next comma or `width` of them where there is none, are doubled.
+/// The bytes from a place on, as far as the next comma or `width` of them where there is none, are
+/// doubled.
 fn double(
     alloc: Global,
     bytes: &mut Vec<u8>,

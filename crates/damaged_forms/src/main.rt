@@ -1,9 +1,10 @@
-//! Damages stored forms of tries, sets and unit tries, reads what came of them, and asks all that is taken.
+//! Damages stored forms of tries, sets and unit tries, reads what came of them, and asks all that
+//! is taken.
 //!
-//! Usage: `damaged_forms COUNT [FOLDER]`, the folder being that of the stored forms. The damage comes from a
-//! fixed seed, so that each run of one count does the same. The last line says how many forms were tried,
-//! taken and refused; the status is 1 where a form that was taken answered wrongly, or took more than a
-//! second of processor time.
+//! Usage: `damaged_forms COUNT [FOLDER]`, the folder being that of the stored forms. The damage
+//! comes from a fixed seed, so that each run of one count does the same. The last line says how
+//! many forms were tried, taken and refused; the status is 1 where a form that was taken answered
+//! wrongly, or took more than a second of processor time.
 #![tactic(auto)]
 
 mod damage;

@@ -14,8 +14,8 @@ fn follows(range: &RangeInclusive<u32>, start: u32) -> bool {
     start <= first && first <= last && last < 0x11_0000
 }
 
-/// How many code points the ranges of a set have. `None` where they aren't ascending ranges that the set
-/// holds.
+/// How many code points the ranges of a set have. `None` where they aren't ascending ranges that
+/// the set holds.
 fn count_in_ranges(set: &CodePointInversionList<'_>) -> Option<usize> {
     let mut next = 0u32;
     let mut count = 0usize;

@@ -9,9 +9,11 @@ use serde_json::Value;
 use std::alloc::{AllocError, Global};
 use std::{fs, io, str};
 
-/// The files of the stored forms that are texts: the tries that ICU builds of `tests/excerpt/table.txt`, as
-/// `tests/exported/export.c` writes them, and the first of them in JSON; the first upper-case letters; the
-/// letters of Hungarian; and what ICU's builder writes for six keys, each with a longer one.
+/// The files of the stored forms that are texts: the tries that ICU builds of
+/// `tests/excerpt/table.txt`, as
+/// `tests/exported/export.c` writes them, and the first of them in JSON; the first upper-case
+/// letters; the letters of Hungarian; and what ICU's builder writes for six keys, each with a
+/// longer one.
 const FILES: [&str; 6] = [
     "small_trie.toml",
     "fast_trie.toml",
@@ -47,7 +49,8 @@ pub fn value_of(alloc: Global, text: &[u8]) -> Result<Value, Outcome> {
     }
 }
 
-/// The stored forms: texts, the tries that the first two say, and packed ends of a set and units of a trie.
+/// The stored forms: texts, the tries that the first two say, and packed ends of a set and units of
+/// a trie.
 #[derive(Clone, Copy)]
 pub struct Stored<'a> {
     pub texts: &'a [String],

@@ -58,7 +58,8 @@ fn is_as_looked_up(trie: &CodePointTrie<'_, u8>, range: &CodePointMapRange<u8>) 
         && trie.get32(last) == range.value
 }
 
-/// What is wrong with the ranges of a trie. Those of a coherent one are the longest runs of its answers.
+/// What is wrong with the ranges of a trie. Those of a coherent one are the longest runs of its
+/// answers.
 fn fault_of_ranges(trie: &CodePointTrie<'_, u8>, is_coherent: bool) -> Option<&'static str> {
     let mut next = 0u32;
     let mut before = None;

@@ -6,8 +6,8 @@ use icu_char16trie::char16trie::{Char16Trie, TrieResult};
 use icu_zerovec::ZeroVec;
 use std::alloc::{AllocError, Global};
 
-/// How many entries are asked for at most: nodes may be shared, so that a few units can have more entries
-/// than there is time.
+/// How many entries are asked for at most: nodes may be shared, so that a few units can have more
+/// entries than there is time.
 const MOST: usize = 1000;
 
 /// Whether after no match nothing matches, for the characters of a text.

@@ -59,7 +59,7 @@ pub under_nil : (m : List (List ℕ × ℤ)) → under [] m ≡ m
 under_nil [] = refl
 under_nil (e ∷ m) = ap (λ t. e ∷ t) (under_nil m)
 
--- the keys of a run, behind its first unit
+-- the keys of a run, after its first unit
 run_keys : (units : List ℕ) (p k x : ℕ) (m rest : List (List ℕ × ℤ)) → m ≡ under (take (k + 1) (drop p units)) rest → slice_get units p ≡ Some x
     → m ≡ under (x ∷ []) (under (take k (drop (p + 1) units)) rest)
 run_keys units p k x m rest e g =

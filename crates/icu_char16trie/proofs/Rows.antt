@@ -62,7 +62,7 @@ jump : IsTrieOf jump_units ((0x61 ∷ [], pos 1) ∷ (0x62 ∷ [], pos 2) ∷ []
 jump = grammar.node (plain 0 1 _ refl (lit< tt) (branch 1 1 1 ((0x61, 5) ∷ (0x62, 4) ∷ []) _ (lit< tt) refl (lit≤ tt) jump_arms ((lit≤ tt, tt), (tt, tt))
     (more 0x61 5 ((0x62, 4) ∷ []) _ _ ((0x62 ∷ [], pos 2) ∷ []) _ refl jump_a (more 0x62 4 [] _ _ [] _ refl jump_b (none [] [] refl refl) refl) refl)))
 
--- an intermediate value, and a linear match behind it
+-- an intermediate value, and a linear match after it
 abbrev valued_units : List ℕ
 valued_units = 0x30 ∷ 0x61 ∷ 0xB0 ∷ 0x62 ∷ 0x8002 ∷ []
 

@@ -86,7 +86,7 @@ pending_push units key task tasks m first others w len e p =
     let whole : take task.key_len key ≡ key = take_all task.key_len key (omega arith) in
     (first, others, w, rw whole e, omega arith, rw whole p)
 
--- what comes behind a longer key
+-- what comes after a longer key
 pub pending_longer : (units key more' : List ℕ) (tasks : List Task) (m : List (List ℕ × ℤ)) → Pending units key tasks m → Pending units (key ++ more') tasks m
 pending_longer units key more' [] m p = p
 pending_longer units key more' (task ∷ tasks) m p =
@@ -222,7 +222,7 @@ pub last_opens : (units key key' : List ℕ) (p n u : ℕ) (old new : List Task)
 last_opens units key key' p n u old new m first others child a k w e pend few hu ck cw cp =
     rw (one_pushed old new child a, k) (last_gives units key p n u (reverse old) m first others child w e pend few hu ck cw cp)
 
--- a node behind more units of the key
+-- a node after more units of the key
 pub node_opens : (units key key' run : List ℕ) (old new : List Task) (m rest others : List (List ℕ × ℤ)) (child : Task)
     → new ≡ old ++ child ∷ [] → key' ≡ key ++ run → child.work ≡ work.Node → length key' ≡ child.key_len → Holds units child.place rest
     → m ≡ under key (under run rest) ++ others → Pending units key (reverse old) others → Pending units key' (reverse new) m

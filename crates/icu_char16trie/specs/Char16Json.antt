@@ -1,4 +1,5 @@
--- The units that a JSON value says: an object with an array of whole numbers up to 65535 at the key `data` or
+-- The units that a JSON value says: an object with an array of whole numbers up to 65535 at the key
+-- `data` or
 -- `trie_data`.
 use Rattle.std.specs.Prelude.{ℕ, ◌+◌, List, [], ◌∷◌, Option, Some, None, Result, Ok, Err, nat_lt, if◌then◌else◌, option_and_then, map, codes}
 use Rattle.serde_json.specs.Data.{Data, null, boolean, number, string, array, object, unsigned, Items, no_items, item, no_members, member}
@@ -9,10 +10,12 @@ use Rattle.icu_char16trie.specs.declared.json.Char16JsonError.TheVariants as err
 
 -- a whole number up to 65535, written without a fraction
 abbrev pub unit_of : Data → Option ℕ
-unit_of d = option_and_then (λ n. if nat_lt n 0x1_0000 then Some n else None) (option_and_then as_u64 (as_number d))
+unit_of d = option_and_then (λ n. if nat_lt n 0x1_0000 then Some n else None)
+    (option_and_then as_u64 (as_number d))
 
 -- the unit that stands at i, if it is one, before the others
-abbrev pub unit_before : ℕ → Option ℕ → Result (List ℕ) Char16JsonError → Result (List ℕ) Char16JsonError
+abbrev pub unit_before : ℕ → Option ℕ → Result (List ℕ) Char16JsonError
+    → Result (List ℕ) Char16JsonError
 unit_before i None others = Err (errors.Number i)
 unit_before i (Some u) (Ok units) = Ok (u ∷ units)
 unit_before i (Some u) (Err e) = Err e
@@ -43,4 +46,5 @@ units_of d = units_in_one (get (codes "data") d) (get (codes "trie_data") d)
 
 -- units as JSON
 abbrev pub json_of : List ℕ → Data
-json_of units = object (member (codes "data") (array (items_of (map (λ u. number (unsigned u)) units))) no_members)
+json_of units = object
+    (member (codes "data") (array (items_of (map (λ u. number (unsigned u)) units))) no_members)

@@ -21,4 +21,5 @@ result_of None false = NoValue
 
 -- what is told at a place, on all units
 abbrev pub answer_at : At → TrieResult
-answer_at cursor = result_of (value_at cursor.units cursor.place) (is_empty_at cursor.units cursor.place)
+answer_at cursor =
+    result_of (value_at cursor.units cursor.place) (is_empty_at cursor.units cursor.place)

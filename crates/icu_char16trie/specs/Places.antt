@@ -7,16 +7,16 @@ use Rattle.icu_char16trie.specs.UnitMap.{UnitMap, after_all, under}
 use Rattle.icu_char16trie.specs.declared.place.Place.{Place}
 use Rattle.icu_char16trie.specs.declared.place.Place.TheVariants.{Nowhere, Node, Run}
 
--- so many units of a linear match are left at p, and behind them a node: the keys of m are these units and a
--- key of the node
+-- so many units of a linear match are left at p, and after them a node: the keys of m are these
+-- units and a key of the node
 pub record InRun (units : List ℕ) (p left : ℕ) (m : UnitMap) : Type 0 where
   pub rest : UnitMap
   pub within : p + left ≤ length units
   pub node : Holds units (p + left) rest
   pub keys : m ≡ under (take left (drop p units)) rest
 
--- what can be passed from the place on are the keys of m: nothing after no match; the keys of a node, also of
--- one whose lead unit is not there; the rest of a linear match
+-- what can be passed from the place on are the keys of m: nothing after no match; the keys of a
+-- node, also of one whose lead unit is not there; the rest of a linear match
 abbrev pub Stands : List ℕ → Place → UnitMap → Type 0
 Stands units Nowhere m = m ≡ []
 Stands units (Node p) m = Holds units p m ⊎ ((slice_get units p ≡ None) × (m ≡ []))
@@ -28,8 +28,8 @@ IsNear Nowhere = Unit {0}
 IsNear (Node p) = p < 2 ^ 63
 IsNear (Run p left) = p < 2 ^ 63
 
--- the value of the node whose lead unit stands before p, if it has one: 0 where the units of the value are
--- cut off
+-- the value of the node whose lead unit stands before p, if it has one: 0 where the units of the
+-- value are cut off
 abbrev pub value_by : List ℕ → ℕ → ℕ → Option ℤ
 value_by units p lead =
     if nat_lt lead 0x40 then None
@@ -58,7 +58,7 @@ pub record At : Type 0 where
   pub units : List ℕ
   pub place : Place
 
--- the cursor has passed the units w from the root of a trie of m: it stands at the entries whose keys begin
--- with w, without w
+-- the cursor has passed the units w from the root of a trie of m: it stands at the entries whose
+-- keys begin with w, without w
 abbrev pub IsAfter : At → UnitMap → List ℕ → Type 0
 IsAfter cursor m w = Stands cursor.units cursor.place (after_all w m)

@@ -12,7 +12,8 @@ use icu_zerovec::ZeroSlice;
 fn child_in_row(units: ZeroSlice<'_, u16>, place: usize, length: usize, unit: u16) -> Option<usize>
     requires short { length ≤ 5 }
     requires far { place < 2 ^ 63 }
-    ensures found { (arms : Arms) → Part (slice_values units.entry) place length arms → result ≡ arm_of arms unit }
+    ensures found { (arms : Arms) → Part (slice_values units.entry) place length arms
+        → result ≡ arm_of arms unit }
     ensures exact { InRow (slice_values units.entry) unit place length result }
     ensures near { IfSome result (λ child. child < 2 ^ 63) }
 {
@@ -41,7 +42,8 @@ pub fn child_in_part(
     unit: u16,
 ) -> Option<usize>
     requires { place < 2 ^ 63 }
-    ensures found { (arms : Arms) → Part (slice_values units.entry) place length arms → result ≡ arm_of arms unit }
+    ensures found { (arms : Arms) → Part (slice_values units.entry) place length arms
+        → result ≡ arm_of arms unit }
     ensures exact { InPart (slice_values units.entry) unit place length result }
     ensures near { IfSome result (λ child. child < 2 ^ 63) }
 {

@@ -17,10 +17,11 @@ use std::marker::Model;
 
 /// A cursor into the units of a trie, for look-up unit by unit.
 ///
-/// A clause sees the units and the place where the cursor stands, and says what it has passed: after the units
-/// `w` from the root of the map `m` its value is that of the key `w`, and it is empty where no key goes on
-/// beyond `w`. On all units its steps are those of the format, where a unit that is needed and is not there is
-/// no match.
+/// A clause sees the units and the place where the cursor stands, and says what it has passed:
+/// after the units
+/// `w` from the root of the map `m` its value is that of the key `w`, and it is empty where no key
+/// goes on beyond `w`. On all units its steps are those of the format, where a unit that is needed
+/// and is not there is no match.
 #[derive(Clone, Debug, Drop)]
 pub struct Char16TrieCursor<'a> {
     units: ZeroSlice<'a, u16>,
@@ -57,20 +58,23 @@ impl<'a> Char16TrieCursor<'a> {
     pub fn step16(&mut self, unit: u16)
         ensures units { self.new.units ≡ self.old.units }
         ensures exact { StepsTo self.old.units self.old.place unit self.new.place }
-        ensures only { (q : Place) → StepsTo self.old.units self.old.place unit q → q ≡ self.new.place }
-        ensures after { (m : UnitMap) (w : List ℕ) → IsAfter self.old m w → IsAfter self.new m (w ++ unit ∷ []) }
+        ensures only { (q : Place) → StepsTo self.old.units self.old.place unit q
+            → q ≡ self.new.place }
+        ensures after { (m : UnitMap) (w : List ℕ) → IsAfter self.old m w
+            → IsAfter self.new m (w ++ unit ∷ []) }
         ensures nowhere { self.old.place ≡ Nowhere → self.new.place ≡ Nowhere }
     {
         self.place = step(self.units, self.place, unit);
     }
 
-    /// The units of one more code point up to 0x10FFFF: one below 0x10000, surrogates among them, and otherwise
-    /// two. A number above 0x10FFFF matches nothing.
+    /// The units of one more code point up to 0x10FFFF: one below 0x10000, surrogates among them,
+    /// and otherwise two. A number above 0x10FFFF matches nothing.
     pub fn step32(&mut self, c: u32)
         ensures units { self.new.units ≡ self.old.units }
         ensures within { c ≤ 0x10FFFF → Passes self.old (encode_utf16 c) self.new }
         ensures only { c ≤ 0x10FFFF
-            → (q : Place) → StepsAlong self.old.units self.old.place (encode_utf16 c) q → q ≡ self.new.place }
+            → (q : Place) → StepsAlong self.old.units self.old.place (encode_utf16 c) q
+            → q ≡ self.new.place }
         ensures above { 0x10FFFF < c → self.new.place ≡ Nowhere }
         ensures nowhere { self.old.place ≡ Nowhere → self.new.place ≡ Nowhere }
     {
@@ -89,13 +93,15 @@ impl<'a> Char16TrieCursor<'a> {
     #[inline]
     pub fn step(&mut self, c: char)
         ensures passes { Passes self.old (encode_utf16 c) self.new }
-        ensures only { (q : Place) → StepsAlong self.old.units self.old.place (encode_utf16 c) q → q ≡ self.new.place }
+        ensures only { (q : Place) → StepsAlong self.old.units self.old.place (encode_utf16 c) q
+            → q ≡ self.new.place }
         ensures nowhere { self.old.place ≡ Nowhere → self.new.place ≡ Nowhere }
     {
         self.step32(c as u32);
     }
 
-    /// The value of the units so far, if they are a key. 0 where the units of the value are cut off.
+    /// The value of the units so far, if they are a key. 0 where the units of the value are cut
+    /// off.
     #[inline]
     pub fn value(&self) -> Option<i32>
         ensures value { (m : UnitMap) (w : List ℕ) → IsAfter self.now m w → result ≡ value_of m w }
@@ -104,11 +110,12 @@ impl<'a> Char16TrieCursor<'a> {
         value_at(self.units, self.place)
     }
 
-    /// Whether no key goes on beyond the units so far: after no match, at a final value, and at a node whose
-    /// lead unit is not there.
+    /// Whether no key goes on beyond the units so far: after no match, at a final value, and at a
+    /// node whose lead unit is not there.
     #[inline]
     pub fn is_empty(&self) -> bool
-        ensures empty { (m : UnitMap) (w : List ℕ) → IsAfter self.now m w → result ≡ not (goes_on m w) }
+        ensures empty { (m : UnitMap) (w : List ℕ) → IsAfter self.now m w
+            → result ≡ not (goes_on m w) }
         ensures exact { result ≡ is_empty_at self.now.units self.now.place }
     {
         is_empty_at(self.units, self.place)

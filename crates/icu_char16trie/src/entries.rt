@@ -11,10 +11,11 @@ use crate::tasks::next_item;
 use icu_zerovec::{MemoryError, ZeroSlice};
 use std::alloc::Global;
 
-/// The entries of a trie in unit order: each key as text, a lone surrogate as U+FFFD, with its value.
+/// The entries of a trie in unit order: each key as text, a lone surrogate as U+FFFD, with its
+/// value.
 ///
-/// After an `Err`, and after the last entry, no item comes. On units that are no trie the items are what their
-/// nodes say as far as they go, and they end.
+/// After an `Err`, and after the last entry, no item comes. On units that are no trie the items are
+/// what their nodes say as far as they go, and they end.
 #[derive(Debug, Drop)]
 pub struct Iter2<'a> {
     alloc: Global,
@@ -54,7 +55,8 @@ impl<'a> Iterator for Iter2<'a> {
 
     ghost next_gives = { GivesNext };
 
-    ghost remaining = { λ s. at_most (work_left (length (slice_values s.units)) (with_root s.tasks.items s.root)) };
+    ghost remaining = { λ s. at_most
+        (work_left (length (slice_values s.units)) (with_root s.tasks.items s.root)) };
 
     fn next(&mut self) -> Option<Result<(String, i32), MemoryError>> {
         match next_item(

@@ -12,7 +12,8 @@ use std::marker::Model;
 /// What is told of the units so far.
 #[derive(Clone, Copy, Debug, PartialEq)]
 pub enum TrieResult {
-    /// They match nothing, or lead to a node that is not there. From then on more units match nothing either.
+    /// They match nothing, or lead to a node that is not there. From then on more units match
+    /// nothing either.
     NoMatch,
     /// They are no key, and a key goes on beyond them.
     NoValue,
@@ -58,10 +59,18 @@ impl<'a> Char16TrieIterator<'a> {
     }
 
     /// One more character, as its units.
+    ///
+    /// ```
+    /// // of the map of "a" to 1 and "ab" to 2
+    /// let mut iterator = trie.iter();
+    /// // iterator.next('a') is TrieResult::Intermediate(1), then iterator.next('b') is TrieResult::FinalValue(2),
+    /// // and from then on iterator.next('b') is TrieResult::NoMatch
+    /// ```
     #[inline]
     pub fn next(&mut self, c: char) -> TrieResult
         ensures passes { Passes self.old (encode_utf16 c) self.new }
-        ensures only { (q : Place) → StepsAlong self.old.units self.old.place (encode_utf16 c) q → q ≡ self.new.place }
+        ensures only { (q : Place) → StepsAlong self.old.units self.old.place (encode_utf16 c) q
+            → q ≡ self.new.place }
         ensures nowhere { self.old.place ≡ Nowhere → self.new.place ≡ Nowhere }
         ensures answer { result ≡ answer_at self.new }
         ensures told { (m : UnitMap) (w : List ℕ) → IsAfter self.new m w
@@ -71,14 +80,15 @@ impl<'a> Char16TrieIterator<'a> {
         self.next32(c as u32)
     }
 
-    /// One more code point up to 0x10FFFF, as [`Char16TrieCursor::step32`]. A number above 0x10FFFF matches
-    /// nothing.
+    /// One more code point up to 0x10FFFF, as [`Char16TrieCursor::step32`]. A number above 0x10FFFF
+    /// matches nothing.
     #[tactic(auto, using(crate::proofs::PlaceLaws::answer_is_after))]
     pub fn next32(&mut self, c: u32) -> TrieResult
         ensures units { self.new.units ≡ self.old.units }
         ensures within { c ≤ 0x10FFFF → Passes self.old (encode_utf16 c) self.new }
         ensures only { c ≤ 0x10FFFF
-            → (q : Place) → StepsAlong self.old.units self.old.place (encode_utf16 c) q → q ≡ self.new.place }
+            → (q : Place) → StepsAlong self.old.units self.old.place (encode_utf16 c) q
+            → q ≡ self.new.place }
         ensures above { 0x10FFFF < c → self.new.place ≡ Nowhere }
         ensures nowhere { self.old.place ≡ Nowhere → self.new.place ≡ Nowhere }
         ensures answer { result ≡ answer_at self.new }
@@ -96,8 +106,10 @@ impl<'a> Char16TrieIterator<'a> {
     pub fn next16(&mut self, c: u16) -> TrieResult
         ensures units { self.new.units ≡ self.old.units }
         ensures exact { StepsTo self.old.units self.old.place c self.new.place }
-        ensures only { (q : Place) → StepsTo self.old.units self.old.place c q → q ≡ self.new.place }
-        ensures after { (m : UnitMap) (w : List ℕ) → IsAfter self.old m w → IsAfter self.new m (w ++ c ∷ []) }
+        ensures only { (q : Place) → StepsTo self.old.units self.old.place c q
+            → q ≡ self.new.place }
+        ensures after { (m : UnitMap) (w : List ℕ) → IsAfter self.old m w
+            → IsAfter self.new m (w ++ c ∷ []) }
         ensures nowhere { self.old.place ≡ Nowhere → self.new.place ≡ Nowhere }
         ensures answer { result ≡ answer_at self.new }
         ensures told { (m : UnitMap) (w : List ℕ) → IsAfter self.new m w

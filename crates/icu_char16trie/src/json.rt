@@ -13,7 +13,8 @@ use thiserror::Error;
 /// Why a JSON value is no trie.
 #[derive(Clone, Copy, Debug, PartialEq, Eq, Error)]
 pub enum Char16JsonError {
-    /// It is no object, it has neither or both of the keys `data` and `trie_data`, or no array stands there.
+    /// It is no object, it has neither or both of the keys `data` and `trie_data`, or no array
+    /// stands there.
     #[error("no object with one array `data` or `trie_data`")]
     Shape,
     /// This item of the array, counted from 0, is the first that is no whole number up to 65535.
@@ -44,7 +45,8 @@ fn unit_of(item: &Value) -> Option<u16>
 /// The units that the items are, in their order.
 fn units_of_items(alloc: Global, items: &[Value]) -> Result<Vec<u16>, Char16JsonError>
     ensures ok { IfOk result (λ units. units_from 0 (items_view items.now) ≡ Ok units.items) }
-    ensures err { IfErr result (λ e. (e ≡ Char16JsonError.Memory) ⊎ (units_from 0 (items_view items.now) ≡ Err e)) }
+    ensures err { IfErr result
+        (λ e. (e ≡ Char16JsonError.Memory) ⊎ (units_from 0 (items_view items.now) ≡ Err e)) }
 {
     let Ok(mut units) = Vec::with_capacity(alloc, items.len()) else {
         return Err(Char16JsonError::Memory);
@@ -73,8 +75,8 @@ fn object_of(alloc: Global, units: ZeroSlice<'_, u16>) -> Result<Value, MemoryEr
 }
 
 impl<'data> Char16Trie<'data> {
-    /// The trie that a JSON value says: an object whose key `data`, or `trie_data` in its place, is an array of
-    /// whole numbers up to 65535. Other keys are ignored, and the units are not tested.
+    /// The trie that a JSON value says: an object whose key `data`, or `trie_data` in its place, is
+    /// an array of whole numbers up to 65535. Other keys are ignored, and the units are not tested.
     ///
     /// ```
     /// let trie = Char16Trie::from_json(alloc, &Value::from_str(alloc, r#"{"data":[49,97,98,32771]}"#)?)?;
@@ -82,12 +84,13 @@ impl<'data> Char16Trie<'data> {
     /// ```
     ///
     /// # Errors
-    /// In this order: `Shape` where it is no object, has neither or both of the keys, or where no array stands
-    /// there; `Number` with the first item that is no whole number up to 65535. `Memory` where no memory was
-    /// found.
+    /// In this order: `Shape` where it is no object, has neither or both of the keys, or where no
+    /// array stands there; `Number` with the first item that is no whole number up to 65535.
+    /// `Memory` where no memory was found.
     pub fn from_json(alloc: Global, value: &Value) -> Result<Char16Trie<'static>, Char16JsonError>
         ensures ok { IfOk result (λ trie. units_of (view value.now) ≡ Ok trie) }
-        ensures err { IfErr result (λ e. (e ≡ Char16JsonError.Memory) ⊎ (units_of (view value.now) ≡ Err e)) }
+        ensures err { IfErr result
+            (λ e. (e ≡ Char16JsonError.Memory) ⊎ (units_of (view value.now) ≡ Err e)) }
     {
         let items = match (value.get("data"), value.get("trie_data")) {
             (Some(items), None) | (None, Some(items)) => items,
@@ -100,7 +103,8 @@ impl<'data> Char16Trie<'data> {
         Ok(Char16Trie::new(ZeroVec::alloc_from_slice(alloc, &units)?))
     }
 
-    /// The trie as a JSON value: an object whose one key `data` has the units as an array of numbers.
+    /// The trie as a JSON value: an object whose one key `data` has the units as an array of
+    /// numbers.
     ///
     /// # Errors
     /// `MemoryError` where no memory was found.

@@ -7,14 +7,15 @@
 //! cursor.step('b'); // cursor.value() is Some(2), and cursor.is_empty()
 //! ```
 //!
-//! The list may come from a stranger: every call answers on all units, where a unit that is needed and is not
-//! there is no match.
+//! The list may come from a stranger: every call answers on all units, where a unit that is needed
+//! and is not there is no match.
 //!
 //! - `char16trie`: all public items, as in the Rust crate
 //! - `trie`: [`Char16Trie`](trie::Char16Trie)
-//! - `cursor`: [`Char16TrieCursor`](cursor::Char16TrieCursor), for look-up unit by unit; `write`: of a text that is
-//!   written to it
-//! - `iterator`: [`Char16TrieIterator`](iterator::Char16TrieIterator), the same with a result for each step
+//! - `cursor`: [`Char16TrieCursor`](cursor::Char16TrieCursor), for look-up unit by unit; `write`:
+//! of a text that is written to it
+//! - `iterator`: [`Char16TrieIterator`](iterator::Char16TrieIterator), the same with a result for
+//! each step
 //! - `entries`: [`Iter2`](entries::Iter2), the entries in unit order
 //! - `task`, `tasks`: what the entries have still to go through
 //! - `json`: a trie from and to JSON

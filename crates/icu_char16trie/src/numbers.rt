@@ -8,9 +8,11 @@ use icu_zerovec::ZeroSlice;
 /// The unit at a place, counted from 0. `None` at or past the end.
 pub fn unit_at(units: ZeroSlice<'_, u16>, place: usize) -> Option<u16>
     ensures unit { result ≡ slice_get (slice_values units.entry) place }
-    ensures within { IfSome result (λ _. (place < 2 ^ 62) × (place < length (slice_values units.entry))) }
+    ensures within { IfSome result
+        (λ _. (place < 2 ^ 62) × (place < length (slice_values units.entry))) }
 {
-    // A packed vector has fewer than 2^63 bytes, so that counting on from a place that was read never wraps.
+    // A packed vector has fewer than 2^63 bytes, so that counting on from a place that was read
+    // never wraps.
     prove!(units.len() < 1 << 62);
     units.get(place)
 }
@@ -52,7 +54,7 @@ pub fn short_number(units: ZeroSlice<'_, u16>, place: usize, low_bits: u16) -> O
     }
 }
 
-/// The place behind it.
+/// The place after it.
 #[tactic(auto, unfolding(crate::specs::Numbers::short_end))]
 pub fn short_end(place: usize, low_bits: u16) -> usize
     requires { place < 2 ^ 63 }
@@ -84,7 +86,7 @@ pub fn node_number(units: ZeroSlice<'_, u16>, place: usize, lead: u16) -> Option
     }
 }
 
-/// The place behind it.
+/// The place after it.
 #[tactic(auto, unfolding(crate::specs::Numbers::node_end))]
 pub fn node_end(place: usize, lead: u16) -> usize
     requires { place < 2 ^ 63 }
@@ -115,7 +117,7 @@ pub fn delta_number(units: ZeroSlice<'_, u16>, place: usize, delta: u16) -> Opti
     }
 }
 
-/// The place behind it.
+/// The place after it.
 #[tactic(auto, unfolding(crate::specs::Numbers::delta_end))]
 pub fn delta_end(place: usize, delta: u16) -> usize
     requires { place < 2 ^ 63 }

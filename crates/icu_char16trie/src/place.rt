@@ -1,4 +1,4 @@
-//! Where a cursor stands.
+//! The places of a cursor in the units of a trie.
 
 /// Where a cursor stands.
 #[derive(Clone, Copy, Debug, PartialEq, Eq)]

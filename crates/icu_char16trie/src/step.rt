@@ -17,7 +17,8 @@ fn step_in_run(units: ZeroSlice<'_, u16>, place: usize, left: u8, unit: u16) -> 
     requires { place < 2 ^ 63 }
     ensures stands { let all = slice_values units.entry in
         (m : UnitMap) → InRun all place (left + 1) m → Stands all result (after unit m) }
-    ensures exact { result ≡ run_place place left unit (slice_get (slice_values units.entry) place) }
+    ensures exact { result
+        ≡ run_place place left unit (slice_get (slice_values units.entry) place) }
     ensures near { IsNear result }
 {
     let Some(next) = unit_at(units, place) else {
@@ -36,9 +37,11 @@ fn step_in_run(units: ZeroSlice<'_, u16>, place: usize, left: u8, unit: u16) -> 
 fn step_in_branch(units: ZeroSlice<'_, u16>, place: usize, length: usize, unit: u16) -> Place
     requires { place < 2 ^ 63 }
     ensures stands { let all = slice_values units.entry in
-        (arms : Arms) (m : UnitMap) → Part all place length arms → IsAscending arms → Children all arms m
+        (arms : Arms) (m : UnitMap) → Part all place length arms → IsAscending arms
+        → Children all arms m
         → Stands all result (after unit m) }
-    ensures exact { (r : Option ℕ) × InPart (slice_values units.entry) unit place length r × (result ≡ child_place r) }
+    ensures exact { (r : Option ℕ) × InPart (slice_values units.entry) unit place length r
+        × (result ≡ child_place r) }
     ensures near { IsNear result }
 {
     match child_in_part(units, place, length, unit) {
@@ -47,7 +50,8 @@ fn step_in_branch(units: ZeroSlice<'_, u16>, place: usize, length: usize, unit: 
     }
 }
 
-/// The place after a unit at a match node, by its low six bits; `place` is behind its lead and its value.
+/// The place after a unit at a match node, by its low six bits; `place` is after its lead and its
+/// value.
 fn step_in_match(units: ZeroSlice<'_, u16>, place: usize, low: u16, unit: u16) -> Place
     requires place { place < 2 ^ 63 }
     requires low { low < 0x40 }

@@ -26,8 +26,10 @@ fn open_split(
     requires place { place < 2 ^ 63 }
     requires long { 5 < count }
     ensures gives { let all = slice_values units.entry in
-        OnOk result (Adds all (WorkHolds all place (work.Part count)) key.now tasks.old.items key.now tasks.new.items) }
-    ensures work { OnOk result (IsLessWork (length (slice_values units.entry)) place tasks.old.items tasks.new.items) }
+        OnOk result (Adds all
+        (WorkHolds all place (work.Part count)) key.now tasks.old.items key.now tasks.new.items) }
+    ensures work { OnOk result
+        (IsLessWork (length (slice_values units.entry)) place tasks.old.items tasks.new.items) }
 {
     let Some(_split) = unit_at(units, place) else {
         return Ok(());
@@ -63,8 +65,11 @@ fn open_row(
     requires place { place < 2 ^ 63 }
     requires short { count ≤ 5 }
     ensures gives { let all = slice_values units.entry in
-        OnOk result (Adds all (WorkHolds all place (work.Part count)) key.old.items tasks.old.items key.new.items tasks.new.items) }
-    ensures work { OnOk result (IsLessWork (length (slice_values units.entry)) place tasks.old.items tasks.new.items) }
+        OnOk result (Adds all
+        (WorkHolds all place (work.Part count)) key.old.items tasks.old.items key.new.items
+        tasks.new.items) }
+    ensures work { OnOk result
+        (IsLessWork (length (slice_values units.entry)) place tasks.old.items tasks.new.items) }
 {
     let Some(first) = unit_at(units, place) else {
         return Ok(());
@@ -98,7 +103,7 @@ fn open_row(
     Ok(())
 }
 
-/// Adds the task of a match node, by its low six bits; `place` is behind its lead and its value.
+/// Adds the task of a match node, by its low six bits; `place` is after its lead and its value.
 fn open_match(
     units: ZeroSlice<'_, u16>,
     key: &mut Vec<u16>,
@@ -109,9 +114,11 @@ fn open_match(
     requires place { place < 2 ^ 63 }
     requires low { low < 0x40 }
     ensures gives { let all = slice_values units.entry in
-        OnOk result (Adds all (Matches all place low) key.old.items tasks.old.items key.new.items tasks.new.items) }
+        OnOk result (Adds all
+        (Matches all place low) key.old.items tasks.old.items key.new.items tasks.new.items) }
     ensures work { let len = length (slice_values units.entry) in
-        OnOk result ((p : ℕ) → p < place → p < len → IsLessWork len p tasks.old.items tasks.new.items) }
+        OnOk result ((p : ℕ) → p < place → p < len
+        → IsLessWork len p tasks.old.items tasks.new.items) }
 {
     if low >= 0x30 {
         open_run(units, key, tasks, place, low as usize - 0x2f)?;
@@ -145,7 +152,8 @@ fn push_units(
 ) -> Result<(), AllocError>
     requires place { place < 2 ^ 63 }
     requires within { place + count ≤ length (slice_values units) }
-    ensures { OnOk result (key.new.items ≡ key.old.items ++ take count (drop place (slice_values units.entry))) }
+    ensures { OnOk result
+        (key.new.items ≡ key.old.items ++ take count (drop place (slice_values units.entry))) }
 {
     for i in 0..count {
         if let Some(unit) = units.get(place + i) {
@@ -155,7 +163,7 @@ fn push_units(
     Ok(())
 }
 
-/// Adds the units of a run to the key, and the task of the node behind them.
+/// Adds the units of a run to the key, and the task of the node after them.
 fn open_run(
     units: ZeroSlice<'_, u16>,
     key: &mut Vec<u16>,
@@ -167,9 +175,11 @@ fn open_run(
     requires short { count < 0x20 }
     requires some { 0 < count }
     ensures gives { let all = slice_values units.entry in
-        OnOk result (Adds all (InRun all place count) key.old.items tasks.old.items key.new.items tasks.new.items) }
+        OnOk result (Adds all
+        (InRun all place count) key.old.items tasks.old.items key.new.items tasks.new.items) }
     ensures work { let len = length (slice_values units.entry) in
-        OnOk result ((p : ℕ) → p < place → p < len → IsLessWork len p tasks.old.items tasks.new.items) }
+        OnOk result ((p : ℕ) → p < place → p < len
+        → IsLessWork len p tasks.old.items tasks.new.items) }
 {
     if units.len() < place + count {
         return Ok(());
@@ -194,10 +204,13 @@ fn open_node(
     requires { place < 2 ^ 63 }
     ensures gives { let all = slice_values units.entry in
         IfOk result (λ item. (m first others : UnitMap) → WorkHolds all place work.Node first
-        → m ≡ under key.old.items first ++ others → Pending all key.old.items (reverse tasks.old.items) others
+        → m ≡ under key.old.items first ++ others
+        → Pending all key.old.items (reverse tasks.old.items) others
         → Opens all key.new.items (reverse tasks.new.items) m (shown_item item)) }
-    ensures value { IfOk result (λ item. option_map (λ x. x.1) item ≡ value_at (slice_values units.entry) (Node place)) }
-    ensures work { OnOk result (IsLessWork (length (slice_values units.entry)) place tasks.old.items tasks.new.items) }
+    ensures value { IfOk result
+        (λ item. option_map (λ x. x.1) item ≡ value_at (slice_values units.entry) (Node place)) }
+    ensures work { OnOk result
+        (IsLessWork (length (slice_values units.entry)) place tasks.old.items tasks.new.items) }
 {
     let Some(lead) = unit_at(units, place) else {
         return Ok(None);
@@ -229,10 +242,14 @@ fn open_task(
     task: Task,
 ) -> Result<Option<(String, i32)>, AllocError>
     ensures gives { let all = slice_values units.entry in
-        IfOk result (λ item. (m : UnitMap) → Pending all key.old.items (task ∷ reverse tasks.old.items) m
+        IfOk result (λ item. (m : UnitMap)
+        → Pending all key.old.items (task ∷ reverse tasks.old.items) m
         → Opens all key.new.items (reverse tasks.new.items) m (shown_item item)) }
-    ensures value { IfOk result (λ item. IfSome item (λ x. IsNodeValue (slice_values units.entry) x.1)) }
-    ensures work { OnOk result (IsLessWork (length (slice_values units.entry)) task.place tasks.old.items tasks.new.items) }
+    ensures value { IfOk result
+        (λ item. IfSome item (λ x. IsNodeValue (slice_values units.entry) x.1)) }
+    ensures work { OnOk result
+        (IsLessWork (length (slice_values units.entry)) task.place tasks.old.items
+        tasks.new.items) }
 {
     key.truncate(task.key_len);
     match task.work {
@@ -262,8 +279,10 @@ fn next_of_tasks(
         IfOk result (λ item. (m : UnitMap) → Pending all key.old.items (reverse tasks.old.items) m
         → GivesOrEnds all key.new.items tasks.new.items m (shown_item item)) }
     ensures work { let len = length (slice_values units.entry) in
-        IfOk result (λ item. OnSome item (work_left len tasks.new.items < work_left len tasks.old.items)) }
-    ensures value { IfOk result (λ item. IfSome item (λ x. IsNodeValue (slice_values units.entry) x.1)) }
+        IfOk result (λ item. OnSome item
+        (work_left len tasks.new.items < work_left len tasks.old.items)) }
+    ensures value { IfOk result
+        (λ item. IfSome item (λ x. IsNodeValue (slice_values units.entry) x.1)) }
     ensures done { tasks.old.items ≡ [] → result ≡ Ok None }
     ensures ended { result ≡ Ok None → tasks.new.items ≡ [] }
 {
@@ -296,11 +315,15 @@ pub fn next_item(
     root: &mut Option<Task>,
 ) -> Result<Option<(String, i32)>, AllocError>
     ensures gives { let all = slice_values units.entry in
-        IfOk result (λ item. (m : UnitMap) → Pending all key.old.items (reverse (with_root tasks.old.items root.old)) m
+        IfOk result (λ item. (m : UnitMap)
+        → Pending all key.old.items (reverse (with_root tasks.old.items root.old)) m
         → GivesOrEnds all key.new.items (with_root tasks.new.items root.new) m (shown_item item)) }
     ensures work { let len = length (slice_values units.entry) in
-        IfOk result (λ item. OnSome item (work_left len (with_root tasks.new.items root.new) < work_left len (with_root tasks.old.items root.old))) }
-    ensures value { IfOk result (λ item. IfSome item (λ x. IsNodeValue (slice_values units.entry) x.1)) }
+        IfOk result (λ item. OnSome item
+        (work_left len (with_root tasks.new.items root.new)
+        < work_left len (with_root tasks.old.items root.old))) }
+    ensures value { IfOk result
+        (λ item. IfSome item (λ x. IsNodeValue (slice_values units.entry) x.1)) }
     ensures done { (with_root tasks.old.items root.old) ≡ [] → result ≡ Ok None }
     ensures ended { result ≡ Ok None → (with_root tasks.new.items root.new) ≡ [] }
 {

@@ -20,8 +20,8 @@ use icu_zerovec::{MemoryError, ZeroVec};
 use std::alloc::Global;
 use std::marker::Model;
 
-/// A map from lists of 16-bit units, mostly texts in UTF-16, to numbers of 32 bits with sign, in the format of
-/// ICU's `UCharsTrie`. A clause sees the list of its units.
+/// A map from lists of 16-bit units, mostly texts in UTF-16, to numbers of 32 bits with sign, in
+/// the format of ICU's `UCharsTrie`. A clause sees the list of its units.
 ///
 /// ```
 /// let trie = Char16Trie::new(ZeroVec::alloc_from_slice(alloc, &[0x31, 0x61, 0x62, 0x8003])?);
@@ -85,9 +85,11 @@ impl<'data> Char16Trie<'data> {
         Char16TrieIterator::new(self.data.as_slice())
     }
 
-    /// The entries, in unit order: each key as text, with its value. It takes no memory before its first item.
+    /// The entries, in unit order: each key as text, with its value. It takes no memory before its
+    /// first item.
     ///
-    /// It is not named `iter`, since in the Rust crate that call gives what looks up and does not list.
+    /// It is not named `iter`, since in the Rust crate that call gives what looks up and does not
+    /// list.
     ///
     /// ```
     /// // of the map of "a" to 1 and "ab" to 2
@@ -101,8 +103,10 @@ impl<'data> Char16Trie<'data> {
         ensures map { (m : UnitMap) → IsTrieOf self.now m → IsAscendingKeys m }
         ensures one { (m m' : UnitMap) → IsTrieOf self.now m → IsTrieOf self.now m' → m ≡ m' }
 
-        // Until the want of memory, if there is one, the items are the entries; only then are they cut short.
-        ensures drained { (m : UnitMap) (xs : List (Result (String Global × ℤ) MemoryError)) → IsTrieOf self.now m
+        // Until the want of memory, if there is one, the items are the entries; only then are they
+        // cut short.
+        ensures drained { (m : UnitMap) (xs : List (Result (String Global × ℤ) MemoryError))
+            → IsTrieOf self.now m
             → Drains GivesNext result xs → AreEntries xs m ⊎ AreCutShort xs m }
     {
         Iter2::new(alloc, self.data.as_slice())

@@ -10,7 +10,8 @@ use std::fmt;
 
 /// What is written is looked up: its units in UTF-16 are passed, and every write answers `Ok`.
 impl<'a> fmt::Write for Char16TrieCursor<'a> {
-    ghost write_str_gives = { λ old bytes new. Passes old (flat_map encode_utf16 (chars bytes)) new };
+    ghost write_str_gives = { λ old bytes new. Passes old
+        (flat_map encode_utf16 (chars bytes)) new };
 
     fn write_str(&mut self, s: &str) -> fmt::Result
         ensures ok { IsOk result → Passes self.old (flat_map encode_utf16 (chars s.now)) self.new }

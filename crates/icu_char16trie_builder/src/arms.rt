@@ -1,5 +1,5 @@
-//! The arms of a branch: its entries by the unit that their keys go on with. What stands before `depth` in
-//! the keys has been passed.
+//! The arms of a branch: its entries by the unit that their keys go on with. What stands before
+//! `depth` in the keys has been passed.
 ghost use Rattle.std.specs.Prelude.{◌≡◌, ℕ, ◌+◌, ◌-◌, ◌*◌, ◌^◌, ◌<◌, ◌≤◌, List, [], ◌∷◌, ◌++◌, Some, None, length, take, drop, slice_get, OnOk, IfOk};
 ghost use Rattle.icu_char16trie.specs.UnitMap.{IsAscendingKeys};
 ghost use Rattle.icu_char16trie_builder.specs.Inside.Cuts.{cut, room, AllLonger, AllShare, IsGroup, unit_of, ArmsSoFar};

@@ -22,7 +22,8 @@ const LONGEST_KEY: usize = 65_535;
 /// The most units that a trie may need: a jump over so many has its number.
 const MOST_UNITS: u64 = 0x7FFF_FFFF;
 
-/// Entries, each a key of 16-bit units with a value, on their way into a trie (ICU's `UCharsTrieBuilder`).
+/// Entries, each a key of 16-bit units with a value, on their way into a trie (ICU's
+/// `UCharsTrieBuilder`).
 ///
 /// A clause sees the map of the entries, in unit order.
 ///
@@ -140,11 +141,13 @@ impl Char16TrieBuilder {
         }
     }
 
-    /// Adds an entry, in any order of keys. A key may be empty, and may be the front of another one.
+    /// Adds an entry, in any order of keys. A key may be empty, and may be the front of another
+    /// one.
     ///
     /// # Errors
-    /// `KeyTooLong` exactly where the key has more than 65,535 units, else `Duplicate` exactly where there is
-    /// an entry with this key, and `Memory` where memory was refused. The entries are then as before.
+    /// `KeyTooLong` exactly where the key has more than 65,535 units, else `Duplicate` exactly
+    /// where there is an entry with this key, and `Memory` where memory was refused. The entries
+    /// are then as before.
     pub fn add(&mut self, key: &[u16], value: i32) -> Result<(), AddError>
         ensures added { OnOk result (self.new ≡ with_entry key.now value self.old) }
         ensures short { OnOk result (length key.now ≤ 65535) }
@@ -168,12 +171,13 @@ impl Char16TrieBuilder {
         }
     }
 
-    /// The trie of the entries: the empty list of units, if there are none. With U units in the keys of E
-    /// entries it has at most 2 U + 16 E units. Equal nodes that are jumped to are written once.
+    /// The trie of the entries: the empty list of units, if there are none. With U units in the
+    /// keys of E entries it has at most 2 U + 16 E units. Equal nodes that are jumped to are
+    /// written once.
     ///
     /// # Errors
-    /// `TooLarge` exactly where 2 U + 16 E is more than `0x7FFF_FFFF` and no memory was refused before that
-    /// was found, and `Memory` where memory was refused. The entries are given up.
+    /// `TooLarge` exactly where 2 U + 16 E is more than `0x7FFF_FFFF` and no memory was refused
+    /// before that was found, and `Memory` where memory was refused. The entries are dropped.
     pub fn build(self) -> Result<Char16Trie<'static>, BuildError>
         ensures trie { IfOk result (λ trie. IsTrieOf trie self) }
         ensures bound { IfOk result (λ trie. length trie ≤ most_units self) }

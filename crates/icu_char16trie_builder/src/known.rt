@@ -12,8 +12,8 @@ use std::marker::Model;
 /// How many entries, and how many units of a key, make up a hash.
 const HASHED: usize = 16;
 
-/// A node that was written: its entries, whose keys have passed `depth` units, and where it stands, counted
-/// from the end.
+/// A node that was written: its entries, whose keys have passed `depth` units, and where it stands,
+/// counted from the end.
 #[derive(Clone, Copy)]
 pub(crate) struct KnownNode<'a> {
     pub(crate) entries: &'a [Entry<'a>],
@@ -121,7 +121,8 @@ impl<'a> Known<'a> {
         place: usize,
     ) -> Result<(), AllocError>
         ensures { OnOk result
-            (self.new ≡ self.old ++ record { entries = entries.entry; depth = depth; place = place } ∷ []) }
+            (self.new ≡ self.old
+            ++ record { entries = entries.entry; depth = depth; place = place } ∷ []) }
     {
         self.last.insert(hash_of(entries, depth), self.nodes.len())?;
         self.nodes.push(KnownNode {

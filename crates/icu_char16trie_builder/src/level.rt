@@ -1,5 +1,5 @@
-//! One level of a trie, written in front of what it leads to. A place is counted from the end of the units,
-//! so that it stays the same while more are written.
+//! One level of a trie, written in front of what it leads to. A place is counted from the end of
+//! the units, so that it stays the same while more are written.
 ghost use Rattle.std.specs.Prelude.{◌≡◌, ℕ, ℤ, ◌+◌, ◌-◌, ◌*◌, ◌/◌, ◌%◌, ◌^◌, ◌<◌, ◌≤◌, List, [], ◌∷◌, ◌++◌, length, reverse, OnOk, IfOk};
 ghost use Rattle.icu_char16trie.specs.Grammar.{Holds, Matches};
 ghost use Rattle.icu_char16trie.specs.UnitMap.{UnitMap, under};
@@ -34,8 +34,8 @@ pub(crate) fn write_last(out: &mut Vec<u16>, unit: u16) -> Result<(), AllocError
     Ok(())
 }
 
-/// Writes an entry of a row in front of the others: its unit, and a jump to its node, which stands `from_end`
-/// units before the end.
+/// Writes an entry of a row in front of the others: its unit, and a jump to its node, which stands
+/// `from_end` units before the end.
 pub(crate) fn write_jump(out: &mut Vec<u16>, unit: u16, from_end: usize) -> Result<(), AllocError>
     requires { length out.old.items < 2 ^ 32 }
     ensures part { OnOk result ((n : ℕ) (us : List ℕ) (m1 m2 : UnitMap) → 1 < n → n ≤ 5
@@ -50,7 +50,8 @@ pub(crate) fn write_jump(out: &mut Vec<u16>, unit: u16, from_end: usize) -> Resu
     Ok(())
 }
 
-/// Writes an entry of a row in front of the others: its unit, and the value of the key that ends there.
+/// Writes an entry of a row in front of the others: its unit, and the value of the key that ends
+/// there.
 pub(crate) fn write_value(out: &mut Vec<u16>, unit: u16, value: i32) -> Result<(), AllocError>
     ensures part { OnOk result ((n : ℕ) (us : List ℕ) (m : UnitMap) → 1 < n → n ≤ 5
         → PartAt (reverse out.old.items) 0 (n - 1) us m
@@ -62,8 +63,8 @@ pub(crate) fn write_value(out: &mut Vec<u16>, unit: u16, value: i32) -> Result<(
     Ok(())
 }
 
-/// Writes a split unit in front of the part of the upper entries, with a delta to that of the lower ones,
-/// which stands `from_end` units before the end.
+/// Writes a split unit in front of the part of the upper entries, with a delta to that of the lower
+/// ones, which stands `from_end` units before the end.
 pub(crate) fn write_split(out: &mut Vec<u16>, unit: u16, from_end: usize) -> Result<(), AllocError>
     requires { length out.old.items < 2 ^ 32 }
     ensures part { OnOk result ((n : ℕ) (us1 us2 : List ℕ) (m1 m2 : UnitMap) → 5 < n
@@ -78,12 +79,14 @@ pub(crate) fn write_split(out: &mut Vec<u16>, unit: u16, from_end: usize) -> Res
     Ok(())
 }
 
-/// Writes the lead of a match node with these low six bits, and the value of the empty key, if there is one.
+/// Writes the lead of a match node with these low six bits, and the value of the empty key, if
+/// there is one.
 fn write_lead(out: &mut Vec<u16>, low: u16, value: Option<i32>) -> Result<(), AllocError>
     requires { low < 0x40 }
     ensures node { OnOk result ((m : UnitMap) → Matches (reverse out.old.items) 0 low m
         → Holds (reverse out.new.items) 0 (own_entry value ++ m)) }
-    ensures grew { OnOk result (Grew (lead_cost value) (reverse out.old.items) (reverse out.new.items)) }
+    ensures grew { OnOk result
+        (Grew (lead_cost value) (reverse out.old.items) (reverse out.new.items)) }
 {
     match value {
         Some(value) => put_value(out, value.cast_unsigned(), low)?,
@@ -92,14 +95,15 @@ fn write_lead(out: &mut Vec<u16>, low: u16, value: Option<i32>) -> Result<(), Al
     Ok(())
 }
 
-/// Writes the length of a branch in front of its part, if it needs a unit, and answers the low six bits of
-/// its lead.
+/// Writes the length of a branch in front of its part, if it needs a unit, and answers the low six
+/// bits of its lead.
 fn write_length(out: &mut Vec<u16>, count: usize) -> Result<u16, AllocError>
     requires some { 2 ≤ count }
     requires few { count ≤ 2 ^ 16 }
     ensures low { IfOk result (λ low. low < 0x40) }
     ensures node { IfOk result (λ low. (us : List ℕ) (m : UnitMap)
-        → PartAt (reverse out.old.items) 0 count us m → Ascends us → Matches (reverse out.new.items) 0 low m) }
+        → PartAt (reverse out.old.items) 0 count us m → Ascends us
+        → Matches (reverse out.new.items) 0 low m) }
     ensures grew { OnOk result (Grew 1 (reverse out.old.items) (reverse out.new.items)) }
 {
     if count <= LONGEST_SHORT_BRANCH {
@@ -109,8 +113,8 @@ fn write_length(out: &mut Vec<u16>, count: usize) -> Result<u16, AllocError>
     Ok(0)
 }
 
-/// Writes what stands in front of the part of a branch of so many entries: its lead, the value of the empty
-/// key, if there is one, and its length.
+/// Writes what stands in front of the part of a branch of so many entries: its lead, the value of
+/// the empty key, if there is one, and its length.
 pub(crate) fn write_branch(
     out: &mut Vec<u16>,
     count: usize,
@@ -121,7 +125,8 @@ pub(crate) fn write_branch(
     ensures node { OnOk result ((us : List ℕ) (m : UnitMap)
         → PartAt (reverse out.old.items) 0 count us m → Ascends us
         → Holds (reverse out.new.items) 0 (own_entry value ++ m)) }
-    ensures grew { OnOk result (Grew (lead_cost value + 1) (reverse out.old.items) (reverse out.new.items)) }
+    ensures grew { OnOk result
+        (Grew (lead_cost value + 1) (reverse out.old.items) (reverse out.new.items)) }
 {
     let low = write_length(out, count)?;
     write_lead(out, low, value)?;
@@ -139,14 +144,16 @@ pub(crate) fn write_run(
     ensures node { OnOk result ((m : UnitMap) → Holds (reverse out.old.items) 0 m
         → Holds (reverse out.new.items) 0 (own_entry value ++ under units.now m)) }
     ensures grew { OnOk result
-        (Grew (lead_cost value + length units.now) (reverse out.old.items) (reverse out.new.items)) }
+        (Grew (lead_cost value + length units.now) (reverse out.old.items)
+        (reverse out.new.items)) }
 {
     put_all(out, units)?;
     write_lead(out, 0x2f + units.len() as u16, value)?;
     Ok(())
 }
 
-/// Writes the node of a single entry whose key has these units: linear matches, and the value behind them.
+/// Writes the node of a single entry whose key has these units: linear matches, and the value after
+/// them.
 pub(crate) fn write_tail(out: &mut Vec<u16>, units: &[u16], value: i32) -> Result<(), AllocError>
     ensures node { OnOk result (Holds (reverse out.new.items) 0 ((units.now, value) ∷ [])) }
     ensures grew { OnOk result

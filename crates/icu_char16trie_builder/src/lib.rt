@@ -12,12 +12,14 @@
 //! - `builder`: [`Char16TrieBuilder`](builder::Char16TrieBuilder), the entries and their trie
 //! - `error`: why an entry was refused, or a trie could not be built
 //!
-//! A trie is written from its last unit to its first, so that what was written last stands in front, and a
-//! jump is the difference of two lengths:
+//! A trie is written from its last unit to its first, so that what was written last stands in
+//! front, and a jump is the difference of two lengths:
 //!
 //! - `units`: the units of a trie, step by step
-//! - `step`: the steps, and what each of them writes; `open` makes the steps of a node from its entries
-//! - `entry`, `arms`: entries on their way down, and those of a branch by the unit that they go on with
+//! - `step`: the steps, and what each of them writes; `open` makes the steps of a node from its
+//! entries
+//! - `entry`, `arms`: entries on their way down, and those of a branch by the unit that they go on
+//! with
 //! - `known`: nodes that were written, so that an equal one is jumped to and not written again
 //! - `level`: one level of a trie; `write`: its numbers
 #![tactic(auto)]

@@ -48,16 +48,18 @@ fn first_arm<'a>(arms: &[Arm<'a>]) -> Arm<'a>
 
 /// Adds the steps of the part of a branch with these arms, whose keys have passed `depth` units.
 ///
-/// More than five arms are split in halves, and of five or fewer one is taken at a time: so its calls are at
-/// most 18 deep, since there are no more than 65,536 arms.
+/// More than five arms are split in halves, and of five or fewer one is taken at a time: so its
+/// calls are at most 18 deep, since there are no more than 65,536 arms.
 fn push_part<'a>(
     steps: &mut Vec<Step<'a>>,
     arms: &[Arm<'a>],
     depth: usize,
 ) -> Result<(), AllocError>
     requires { IsPart depth arms.now }
-    ensures gives { OnOk result (PutsInFront steps.old.items steps.new.items (part_of depth arms.now)) }
-    ensures cost { OnOk result (cost steps.new.items + 5 ≤ cost steps.old.items + arm_room depth arms.now) }
+    ensures gives { OnOk result
+        (PutsInFront steps.old.items steps.new.items (part_of depth arms.now)) }
+    ensures cost { OnOk result
+        (cost steps.new.items + 5 ≤ cost steps.old.items + arm_room depth arms.now) }
 {
     if arms.len() > LONGEST_ROW {
         let (lower, upper) = arms.split_at(arms.len() / 2);
@@ -85,8 +87,8 @@ fn push_part<'a>(
     Ok(())
 }
 
-/// Adds the steps of a linear match: of the unit that all keys go on with at `depth`, and up to fifteen more
-/// that they share.
+/// Adds the steps of a linear match: of the unit that all keys go on with at `depth`, and up to
+/// fifteen more that they share.
 fn push_run<'a>(
     steps: &mut Vec<Step<'a>>,
     first: &Entry<'a>,
@@ -112,7 +114,8 @@ fn push_run<'a>(
     Ok(())
 }
 
-/// Adds the steps of a match node: of a branch, or of a linear match where all keys go on with one unit.
+/// Adds the steps of a match node: of a branch, or of a linear match where all keys go on with one
+/// unit.
 /// `value` is that of the key that ends at `depth`.
 fn push_match<'a>(
     alloc: Global,
@@ -176,7 +179,8 @@ fn push_node<'a>(
     requires ascends { IsAscendingKeys (cut depth entries.now) }
     ensures gives { OnOk result
         (PutsInFront steps.old.items steps.new.items (node_of None depth entries.now)) }
-    ensures cost { OnOk result (cost steps.new.items + 7 ≤ cost steps.old.items + room depth entries.now) }
+    ensures cost { OnOk result
+        (cost steps.new.items + 7 ≤ cost steps.old.items + room depth entries.now) }
 {
     if let Some((first, rest)) = entries.split_first() {
         if first.key.len() <= depth {
@@ -188,8 +192,8 @@ fn push_node<'a>(
     Ok(())
 }
 
-/// Opens the node of entries whose keys have passed `depth` units: writes it, if it has one entry, and else
-/// adds its steps.
+/// Opens the node of entries whose keys have passed `depth` units: writes it, if it has one entry,
+/// and else adds its steps.
 pub(crate) fn open_node<'a>(
     alloc: Global,
     out: &mut Vec<u16>,
@@ -199,11 +203,13 @@ pub(crate) fn open_node<'a>(
 ) -> Result<(), AllocError>
     requires below { IsBelow depth entries.now }
     ensures leads { OnOk result ((places : List ℕ) (known : List KnownNode) (goal : UnitMap)
-        → Leads (reverse out.old.items) places known (Node entries.entry depth ∷ reverse steps.old.items) goal
+        → Leads (reverse out.old.items) places known
+        (Node entries.entry depth ∷ reverse steps.old.items) goal
         → Leads (reverse out.new.items) places known (reverse steps.new.items) goal) }
     ensures spent { OnOk result (length out.new.items + cost steps.new.items + 6
         ≤ length out.old.items + cost steps.old.items + room depth entries.now) }
-    ensures less { OnOk result (cost steps.new.items + 7 ≤ cost steps.old.items + room depth entries.now) }
+    ensures less { OnOk result
+        (cost steps.new.items + 7 ≤ cost steps.old.items + room depth entries.now) }
 {
     if let Some((first, rest)) = entries.split_first() {
         if rest.is_empty() {

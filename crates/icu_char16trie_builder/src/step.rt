@@ -1,7 +1,7 @@
 //! The steps in which a trie is written, last unit first.
 //!
-//! The steps that are left stand on a stack, so that no call is nested for each unit of a key; beside it are
-//! the units so far, a stack of places in them, and the nodes that are known.
+//! The steps that are left stand on a stack, so that no call is nested for each unit of a key;
+//! beside it are the units so far, a stack of places in them, and the nodes that are known.
 ghost use Rattle.std.specs.Prelude.{◌≡◌, ℕ, ℤ, ◌+◌, ◌-◌, ◌*◌, ◌^◌, ◌<◌, ◌≤◌, List, [], ◌∷◌, ◌++◌, length, reverse, OnOk, IfOk};
 ghost use Rattle.icu_char16trie.specs.UnitMap.{UnitMap};
 ghost use Rattle.icu_char16trie_builder.specs.Inside.Steps.{IsReady, Leads, cost, step_cost};
@@ -13,14 +13,16 @@ use crate::level::{write_branch, write_jump, write_last, write_run, write_split,
 use crate::open::open_node;
 use std::alloc::{AllocError, Global};
 
-/// One step of writing. It finds what it needs in front of the units so far, or at the place saved last.
+/// One step of writing. It finds what it needs in front of the units so far, or at the place saved
+/// last.
 #[derive(Clone, Copy)]
 pub(crate) enum Step<'a> {
     /// The node of these entries, whose keys have passed so many units, is put in front.
     Node(&'a [Entry<'a>], usize),
     /// The place of what stands in front is saved.
     Save,
-    /// The place of a node of these entries is saved: of one that was written, or else of a new one.
+    /// The place of a node of these entries is saved: of one that was written, or else of a new
+    /// one.
     Place(&'a [Entry<'a>], usize),
     /// The node of these entries, which stands in front, is known from now on, and its place saved.
     Keep(&'a [Entry<'a>], usize),
@@ -30,12 +32,13 @@ pub(crate) enum Step<'a> {
     Jump(u16),
     /// An entry of a row, in front of the others, with its final value.
     Value(u16, i32),
-    /// A split, in front of the part of the upper entries; that of the lower ones stands at the place saved
-    /// last.
+    /// A split, in front of the part of the upper entries; that of the lower ones stands at the
+    /// place saved last.
     Split(u16),
     /// A linear match of these units, in front of its node, and the value that it has itself.
     Run(&'a [u16], Option<i32>),
-    /// The lead of a branch of so many entries, in front of its part, and the value that it has itself.
+    /// The lead of a branch of so many entries, in front of its part, and the value that it has
+    /// itself.
     Branch(usize, Option<i32>),
 }
 
@@ -81,7 +84,8 @@ pub(crate) fn take_step<'a>(
         (reverse steps.new.items) goal) }
     ensures spent { OnOk result (length out.new.items + cost steps.new.items
         ≤ length out.old.items + (step_cost step.entry + cost steps.old.items)) }
-    ensures less { OnOk result (cost steps.new.items < step_cost step.entry + cost steps.old.items) }
+    ensures less { OnOk result
+        (cost steps.new.items < step_cost step.entry + cost steps.old.items) }
 {
     match step {
         Step::Node(entries, depth) => open_node(alloc, out, steps, entries, depth)?,

@@ -1,5 +1,5 @@
-//! The numbers of a trie as units, written from the end of the trie to its front: what is pushed later stands
-//! earlier.
+//! The numbers of a trie as units, written from the end of the trie to its front: what is pushed
+//! later stands earlier.
 ghost use Rattle.std.specs.Prelude.{◌≡◌, ℕ, ◌+◌, ◌-◌, ◌*◌, ◌/◌, ◌%◌, ◌^◌, ◌<◌, ◌≤◌, List, [], ◌∷◌, ◌++◌, length, reverse, OnOk};
 ghost use Rattle.icu_char16trie_builder.specs.Inside.Encoding.{short_units, delta_units, node_units, final_units};
 
@@ -75,8 +75,8 @@ pub(crate) fn put_delta(out: &mut Vec<u16>, number: u32) -> Result<(), AllocErro
     Ok(())
 }
 
-/// Writes the lead of a match node with these low six bits and a value: one unit below 0x100, two below
-/// 0xFE_0000, and else three.
+/// Writes the lead of a match node with these low six bits and a value: one unit below 0x100, two
+/// below 0xFE_0000, and else three.
 #[tactic(auto, unfolding(crate::specs::Inside::Encoding::node_units))]
 pub(crate) fn put_value(out: &mut Vec<u16>, number: u32, low: u16) -> Result<(), AllocError>
     requires { low < 0x40 }

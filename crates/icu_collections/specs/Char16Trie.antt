@@ -1,4 +1,5 @@
--- The words of unit tries: maps from lists of units, the grammar of their units, what cursors and entries give, and what a builder holds.
+-- The words of unit tries: maps from lists of units, the grammar of their units, what cursors and
+-- entries give, and what a builder holds.
 pub use Rattle.icu_char16trie.specs.UnitMap.{IsAscendingKeys, UnitMap, after, after_all, goes_on, under, value_of}
 pub use Rattle.icu_char16trie.specs.Grammar.{IsTrieOf}
 pub use Rattle.icu_char16trie.specs.Places.{At, IsAfter}

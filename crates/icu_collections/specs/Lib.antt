@@ -1,4 +1,5 @@
--- The words of the public contracts, a page for each module of the crate, so that a caller needs no other crate.
+-- The words of the public contracts, a page for each module of the crate, so that a caller needs no
+-- other crate.
 pub mod ZeroVec
 pub mod CodePointInversionList
 pub mod CodePointInversionListAndStringList

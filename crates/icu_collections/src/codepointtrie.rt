@@ -1,12 +1,12 @@
 //! Maps from code points to values that are read in place (ICU's code point tries).
 //!
-//! [`CodePointTrieBuilder`] or [`build_from_writes`] makes a trie, [`CodePointTrie::get32`] asks it. A trie
-//! from a file is made of its parts by [`CodePointTrie::try_new`], which borrows them.
+//! [`CodePointTrieBuilder`] or [`build_from_writes`] makes a trie, [`CodePointTrie::get32`] asks
+//! it. A trie from a file is made of its parts by [`CodePointTrie::try_new`], which borrows them.
 
 pub use icu_trie::cells::{Cells, Steps};
 pub use icu_trie::coherent::is_coherent;
 pub use icu_trie::cptrie::CodePointTrie;
-pub use icu_trie::error::{CodePointTrieError, ConvertError};
+pub use icu_trie::error::{CodePointTrieError, ConvertError, PartsError};
 pub use icu_trie::header::{CodePointTrieHeader, TrieType};
 pub use icu_trie::impl_const;
 pub use icu_trie::lookup::{look_up, look_up_whole};

@@ -1,6 +1,7 @@
 //! Collections for Unicode data: the crate `icu_collections` of ICU4X, with contracts.
 //!
-//! All items lie in crates of their own, one for each layer, and are shown here under the Rust crate's paths:
+//! All items lie in crates of their own, one for each layer, and are shown here under the Rust
+//! crate's paths:
 //!
 //! - [`codepointtrie`]: maps from code points to values
 //! - [`codepointinvlist`]: sets of code points

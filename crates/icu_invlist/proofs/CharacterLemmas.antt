@@ -7,7 +7,7 @@ use Rattle.std.proofs.Math.Utf8.{scalar}
 use Rattle.std.proofs.lemmas.Bool.{cond-true, cond-false, false≢true, true≢false, false_from_ne_true}
 use Rattle.std.proofs.lemmas.List.Elements.{filter-append}
 use Rattle.icu_invlist.specs.InversionList.{members}
-use Rattle.icu_invlist.specs.StillGiven.{characters_left}
+use Rattle.icu_invlist.specs.Inside.StillGiven.{characters_left}
 
 -- the characters from n to before e
 abbrev pub between_chars : ℕ → ℕ → List ℕ

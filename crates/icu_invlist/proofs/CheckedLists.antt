@@ -2,7 +2,7 @@
 use Rattle.std.proofs.Common.{◌≡◌, ◌∙◌, sym, ap, refl, ℕ, ◌+◌, ◌%◌, ◌<◌, ◌≤◌, suc, List, [], ◌∷◌, ◌++◌, length, get_or, subst, ◌⊎◌, inl, inr, arith}
 use Rattle.std.proofs.lemmas.List.{length-append, length_push, get_or_append_left, get_or_at, get_or_push, append_assoc, append-nil}
 use Rattle.icu_invlist.specs.InversionList.{IsValid, limit}
-use Rattle.icu_invlist.specs.Places.{Run}
+use Rattle.icu_invlist.specs.Inside.Places.{Run}
 use Rattle.icu_invlist.proofs.RunLemmas.{run-append, run-wider}
 use Rattle.icu_invlist.proofs.ValidLists.{valid_from_run}
 

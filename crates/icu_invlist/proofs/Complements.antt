@@ -3,8 +3,8 @@ use Rattle.std.proofs.Common.{◌≡◌, ℕ, ◌+◌, ◌%◌, ◌<◌, ◌≤�
 use Rattle.std.specs.Option.{MatchOption}
 use Rattle.std.proofs.lemmas.Bool.{cases_lt, cases_order, cases_eq, both_ways, eq-eqb, ne_eqb, cond-true, cond-false, lt-ltb, le-ltb}
 use Rattle.icu_invlist.specs.InversionList.{holds, is_odd, IsValid, limit, toggle_front, toggle_back, complement_of}
-use Rattle.icu_invlist.specs.Places.{Run, below}
-use Rattle.icu_invlist.specs.StillGiven.{gaps_left, start_at}
+use Rattle.icu_invlist.specs.Inside.Places.{Run, below}
+use Rattle.icu_invlist.specs.Inside.StillGiven.{gaps_left, start_at}
 use Rattle.icu_invlist.proofs.RunLemmas.{below-before, below-yes, below-no, run-wider}
 use Rattle.icu_invlist.proofs.Parity.{holds-below}
 use Rattle.icu_invlist.proofs.Toggles.{odd_next, odd_before}

@@ -2,7 +2,7 @@
 use Rattle.std.proofs.Common.{◌≡◌, ℕ, ◌%◌, ◌<◌, ◌≤◌, List, [], ◌∷◌, refl, ap, sym, ◌∙◌, arith, suc, true, false, inl, inr}
 use Rattle.std.proofs.lemmas.Bool.{cases_lt, cases_order, cases_eq, eq-eqb, ne_eqb, eqb-true, eqb-false}
 use Rattle.icu_invlist.specs.InversionList.{holds, is_odd, IsValid, limit}
-use Rattle.icu_invlist.specs.Places.{Run, below}
+use Rattle.icu_invlist.specs.Inside.Places.{Run, below}
 use Rattle.icu_invlist.proofs.RunLemmas.{below-before, below-past, below-yes}
 use Rattle.icu_invlist.proofs.Parity.{holds-below}
 use Rattle.icu_invlist.proofs.ValidLists.{run_from_valid}
@@ -36,7 +36,7 @@ same lo hi (x ∷ xs) (y ∷ ys) r s a = elim (cases_order x y) [
 pub holds-past : (xs : List ℕ) (c : ℕ) → IsValid xs → limit ≤ c → below xs (suc c) % 2 ≡ 0
 holds-past xs c v h = let a = below-past 0 (suc limit) xs (suc c) (run_from_valid xs v) (omega arith) in let b = v.even in omega arith
 
-parity : (m n : ℕ) → is_odd m ≡ is_odd n → m % 2 ≡ n % 2
+pub parity : (m n : ℕ) → is_odd m ≡ is_odd n → m % 2 ≡ n % 2
 parity m n e = elim (cases_eq (m % 2) 1) [
   | inl h ↦ let k : is_odd n ≡ true = sym e ∙ eq-eqb _ _ h in let q = eqb-true _ _ k in omega arith
   | inr h ↦ let k : is_odd n ≡ false = sym e ∙ ne_eqb _ _ h in let q = eqb-false _ _ k in omega arith

@@ -5,7 +5,8 @@ use Rattle.std.specs.Global.{Vec}
 use Rattle.std.specs.Str.{chars}
 use Rattle.serde_json.specs.Data.{Data, null, boolean, number, string, array, object, Items, no_items, item}
 use Rattle.icu_invlist.specs.InversionList.{IsValid}
-use Rattle.icu_invlist.specs.SetJson.{FailsFirst, GivesEnds, IsRefusedJson, SaysNone, SpellsNoRange, ends_from, ends_of, in_front, range_at}
+use Rattle.icu_invlist.specs.SetJson.{FailsFirst, IsRefusedJson, SaysNone, SpellsNoRange, ends_from, ends_of, in_front, range_at}
+use Rattle.icu_invlist.specs.Inside.GivenEnds.{GivesEnds}
 use Rattle.icu_invlist.specs.declared.codepointinvlist.error.SetJsonError.{SetJsonError}
 use Rattle.icu_invlist.specs.declared.codepointinvlist.error.SetJsonError.TheVariants as errors
 use Rattle.icu_invlist.proofs.JsonLemmas.{ends_found}

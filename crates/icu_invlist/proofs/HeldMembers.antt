@@ -8,7 +8,7 @@ use Rattle.std.specs.List.{All, Contains, filter, range_with_len}
 use Rattle.std.specs.List.Sorted.{IsStrictlyIncreasing}
 use Rattle.std.proofs.Math.Utf8.{scalar}
 use Rattle.icu_invlist.specs.InversionList.{holds, is_odd, IsValid, limit, members, characters}
-use Rattle.icu_invlist.specs.Places.{Run}
+use Rattle.icu_invlist.specs.Inside.Places.{Run}
 use Rattle.icu_invlist.proofs.RunLemmas.{below-before, run-append, run-wider}
 use Rattle.icu_invlist.proofs.Parity.{holds-below}
 use Rattle.icu_invlist.proofs.MemberLemmas.{pair_past, pair_in, pair_before}

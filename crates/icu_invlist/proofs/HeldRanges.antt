@@ -2,7 +2,7 @@
 use Rattle.std.proofs.Common.{◌≡◌, ℕ, ◌+◌, ◌-◌, ◌%◌, ◌<◌, ◌≤◌, List, [], ◌∷◌, length, refl, sym, ◌∙◌, arith, suc, inl, inr}
 use Rattle.std.proofs.lemmas.Bool.{cases_lt, le-leb, lt-leb}
 use Rattle.icu_invlist.specs.InversionList.{AreApart, IsValid, StartsBehind, holds, in_ranges, is_odd, limit, ranges_of}
-use Rattle.icu_invlist.specs.Places.{Run, below}
+use Rattle.icu_invlist.specs.Inside.Places.{Run, below}
 use Rattle.icu_invlist.proofs.RunLemmas.{below-before, below-yes, below-no}
 use Rattle.icu_invlist.proofs.Parity.{holds-below, odd_same}
 use Rattle.icu_invlist.proofs.ValidLists.{run_from_valid}

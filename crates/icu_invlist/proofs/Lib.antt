@@ -5,6 +5,7 @@ pub mod Parity
 pub mod Splices
 pub mod EqualSets
 pub mod PlaceLemmas
+pub mod PackedEnds
 pub mod CheckedLists
 pub mod Toggles
 pub mod Merging

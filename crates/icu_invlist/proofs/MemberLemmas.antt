@@ -7,7 +7,7 @@ use Rattle.std.proofs.lemmas.List.{drop_more, drop_all}
 use Rattle.std.proofs.lemmas.List.Elements.{All-cons, All-nil}
 use Rattle.std.specs.List.{All}
 use Rattle.icu_invlist.specs.InversionList.{holds, is_odd, IsOfCodePoints, IsValid, limit, ranges_of, members_below}
-use Rattle.icu_invlist.specs.Places.{Run, below}
+use Rattle.icu_invlist.specs.Inside.Places.{Run, below}
 use Rattle.icu_invlist.proofs.RunLemmas.{below-before, below-yes, below-no, run-wider}
 use Rattle.icu_invlist.proofs.Parity.{holds-below, odd_same}
 use Rattle.icu_invlist.proofs.ValidLists.{run_from_valid, valid_from_run}
@@ -159,9 +159,6 @@ module _ (xs : List ℕ) (i c before s e : ℕ) (v : IsValid xs) (w : Walked xs 
   pub walked_room : before + (e - s) ≤ suc limit
   walked_room = let t = ap total parts in let q = total-le 0 (suc limit) xs (omega arith) (run_from_valid xs v) in let u = w.small in omega arith
 
-  pub walked_before : c < s → holds xs c ≡ false
-  walked_before k = w.held ∙ rw parts (pair_before 0 (suc limit) s e c (drop (i + 2) xs) rises k)
-
   pub walked_in : s ≤ c → c < e → (holds xs c ≡ true) × (members_below xs c ≡ before + (c - s))
   walked_in k l = let p = pair_in 0 (suc limit) s e c (drop (i + 2) xs) rises k l in
       (w.held ∙ rw parts p.0, w.so_far ∙ rw parts (ap (λ (n : ℕ). before + n) p.1))
@@ -173,9 +170,6 @@ module _ (xs : List ℕ) (i c before s e : ℕ) (v : IsValid xs) (w : Walked xs 
     so_far = (let t = ap (λ (ys : List ℕ). members_below ys c) parts in let q = p.1 in let u = w.so_far in omega arith);
     small = (let t = ap total parts in let u = w.small in omega arith);
   }
-
-pub walked_all : (xs : List ℕ) (i c before : ℕ) → Walked xs i c before → length xs ≤ i → holds xs c ≡ false
-walked_all xs i c before w h = w.held ∙ rw (drop_all i xs h) (holds-below [] c)
 
 -- ---- the range at a place
 pub nth : (xs : List ℕ) (k : ℕ) → k * 2 + 1 < length xs

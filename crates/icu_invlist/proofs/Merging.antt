@@ -1,24 +1,18 @@
--- The step of a walk over two lists of ends.
-use Rattle.std.proofs.Common.{◌≡◌, ℕ, ◌+◌, ◌%◌, ◌<◌, ◌≤◌, List, [], ◌++◌, length, refl, ap, sym, ◌∙◌, arith, suc, Bool, true, false, not, nat_eq, inl, inr}
-use Rattle.std.proofs.lemmas.Bool.{cases_lt, cases_eq, cases_Bool, both_ways, eq-eqb, ne_eqb, eqb-false}
+-- A walk over two lists of ends.
+use Rattle.std.proofs.Common.{◌≡◌, ℕ, ◌+◌, ◌-◌, ◌%◌, ◌<◌, ◌≤◌, List, [], ◌∷◌, ◌++◌, length, set, take, drop, refl, ap, sym, ◌∙◌, add-zero, subst, arith, suc, Bool, true, false, not, cond, inl, inr}
+use Rattle.std.specs.Prelude.{if◌then◌else◌, ◌⊎◌}
+use Rattle.std.proofs.lemmas.Bool.{cases_lt, cases_eq, cases_Bool, cond-true, cond-false, eq-eqb, ne_eqb, eqb-true, eqb-false}
+use Rattle.std.proofs.lemmas.List.{append-nil, drop_all, length-append, length-drop, length-take-le, length_push, take-append-drop, take_all, take-set, take_more_set}
 use Rattle.icu_invlist.specs.InversionList.{holds, is_odd, IsValid, limit, Acts}
-use Rattle.icu_invlist.specs.Places.{Run, below}
-use Rattle.icu_invlist.specs.Blends.{blend}
-use Rattle.icu_invlist.specs.declared.merge.Blend.{Blend}
-use Rattle.icu_invlist.specs.declared.merge.Blend.TheVariants.{Union, Difference, Intersection, Symmetric}
+use Rattle.icu_invlist.specs.Inside.Merging.{Merging, Merged, MovesOver}
+use Rattle.icu_invlist.specs.Inside.Places.{Run, below}
 use mathlib.Core.Bool.{beq}
-use Rattle.icu_invlist.proofs.RunLemmas.{below-append, below-before, below-past, below-mono, below-le, below-zero, run-append, run-wider}
-use Rattle.icu_invlist.proofs.Parity.{holds-below}
-use Rattle.icu_invlist.proofs.ValidLists.{valid_from_run}
-
--- the walk has passed all ends below `passed`
-pub record Merging (f : Bool → Bool → Bool) (a b out : List ℕ) (passed i j : ℕ) : Type 0 where
-  pub first : i ≡ below a passed
-  pub second : j ≡ below b passed
-  pub run : Run 0 passed out
-  pub small : passed ≤ suc limit
-  pub parity : is_odd (length out) ≡ f (is_odd i) (is_odd j)
-  pub set : (c : ℕ) → c < passed → holds out c ≡ f (holds a c) (holds b c)
+use mir.Val.{bool_byte}
+use Rattle.icu_invlist.proofs.RunLemmas.{below-append, below-before, below-past, below-mono, below-le, below-zero, run-append, run-wider, run-front, run-back}
+use Rattle.icu_invlist.proofs.PlaceLemmas.{least_at, stays_at, moves_over, stays_over}
+use Rattle.icu_invlist.proofs.EqualSets.{parity}
+use Rattle.icu_invlist.proofs.Parity.{holds-below, odd_same}
+use Rattle.icu_invlist.proofs.ValidLists.{valid_from_run, run_from_valid}
 
 pub none_yet : (f : Bool → Bool → Bool) (a b : List ℕ) → f false false ≡ false → Merging f a b [] 0 0 0
 none_yet f a b e = record {
@@ -55,50 +49,171 @@ module _ (f : Bool → Bool → Bool) (a b out r : List ℕ) (passed i j n p q :
     ]
   ]
 
-  pub merged_more : Merging f a b (out ++ r) (suc n) p q
+  merged_more : Merging f a b (out ++ r) (suc n) p q
   merged_more = record { first = pa; second = qb; run = grown-run; small = omega arith; parity = odd; set = set_at }
 
--- both lists are passed
-pub merged_all : (f : Bool → Bool → Bool) (a b out : List ℕ) (passed i j : ℕ) → f false false ≡ false → IsValid a → IsValid b → Merging f a b out passed i j
-    → length a ≤ i → length b ≤ j → IsValid out × Acts f a (holds b) out
-merged_all f a b out passed i j e v w m h k =
-    let ea : is_odd i ≡ false = is_even a i v (omega (arith, m.first, below-le a passed)) in
-    let eb : is_odd j ≡ false = is_even b j w (omega (arith, m.second, below-le b passed)) in
-    let eo : is_odd (length out) ≡ false = m.parity ∙ rw (ea, eb) e in (
+-- a list whose ends below `passed` are i, over an end n that is not below `passed`
+over : (xs : List ℕ) (i passed n p : ℕ) → IsValid xs → i ≡ below xs passed → i < length xs → passed ≤ n → MovesOver n xs i p → (i ≡ below xs n) × (p ≡ below xs (suc n))
+over xs i passed n p v e h l o =
+    let s : i ≡ below xs n = stays_at xs i passed n v e l (λ _. o.least) in (
+      s,
+      elim o.place [
+        | inl k ↦ k.1 ∙ moves_over xs i n v s h k.0
+        | inr k ↦ k.1 ∙ stays_over xs i n v s (λ _ u. omega (arith, k.0))
+      ],
+    )
+
+-- one step: the end n is written or not, as the answer past it asks
+pub merged_step : (f : Bool → Bool → Bool) (a b out r : List ℕ) (passed i j n p q : ℕ) → Merging f a b out passed i j → IsValid a → IsValid b
+    → i < length a → j < length b → MovesOver n a i p → MovesOver n b j q → i + j < p + q
+    → Run n (suc n) r → is_odd (length (out ++ r)) ≡ f (is_odd p) (is_odd q) → Merging f a b (out ++ r) (suc n) p q
+merged_step f a b out r passed i j n p q m v w hi hj s t on inside odd =
+    let after : passed ≤ n = elim s.place [
+      | inl x ↦ (let l = least_at a i passed v m.first hi in omega (arith, x.0))
+      | inr x ↦ elim t.place [
+        | inl y ↦ (let l = least_at b j passed w m.second hj in omega (arith, y.0))
+        | inr y ↦ absurd (omega (arith, x.1, y.1))
+      ]
+    ] in
+    let within : n ≤ limit = (let l = v.within i 0 hi in omega (arith, s.least)) in
+    let x = over a i passed n p v m.first hi after s in
+    let y = over b j passed n q w m.second hj after t in
+    merged_more f a b out r passed i j n p q m after within x.0 y.0 x.1 y.1 inside odd
+
+-- the parity past one end more
+odd_more : (n : ℕ) (v : Bool) → is_odd n ≡ not v → is_odd (n + 1) ≡ v
+odd_more n true h = eq-eqb _ _ (let k = eqb-false _ _ h in omega arith)
+odd_more n false h = ne_eqb _ _ (λ u. let k = eqb-true _ _ h in omega arith)
+
+-- one step, with what is written to place k of a longer list
+pub written_step : (f : Bool → Bool → Bool) (a b out : List ℕ) (k i j n p q : ℕ) (held now : Bool) → Merged f a b (take k out) i j → held ≡ f (is_odd i) (is_odd j)
+    → now ≡ f (is_odd p) (is_odd q) → k < length out → IsValid a → IsValid b → i < length a → j < length b → MovesOver n a i p → MovesOver n b j q → i + j < p + q
+    → Merged f a b (take (k + bool_byte (not (beq now held))) (set out k n)) p q
+written_step f a b out k i j n p q held now m e o h v w hi hj s t on =
+    let x = merged_step f a b (take k out) [] m.passed i j n p q m.so_far v w hi hj s t on tt in
+    let y = merged_step f a b (take k out) (n ∷ []) m.passed i j n p q m.so_far v w hi hj s t on (omega arith, omega arith, tt) in
+    both held now (m.so_far.parity ∙ sym e) x y o
+  where
+    stays : (v : Bool) → is_odd (length (take k out)) ≡ v → v ≡ f (is_odd p) (is_odd q)
+        → (is_odd (length (take k out ++ [])) ≡ f (is_odd p) (is_odd q) → Merging f a b (take k out ++ []) (suc n) p q)
+        → Merged f a b (take (k + 0) (set out k n)) p q
+    stays v z c x = record { passed = suc n; so_far = rw (add-zero k, take-set out k n, ← append-nil (take k out)) (x (rw (append-nil (take k out)) (z ∙ c))) }
+
+    grows : (v : Bool) → is_odd (length (take k out)) ≡ not v → v ≡ f (is_odd p) (is_odd q)
+        → (is_odd (length (take k out ++ n ∷ [])) ≡ f (is_odd p) (is_odd q) → Merging f a b (take k out ++ n ∷ []) (suc n) p q)
+        → Merged f a b (take (k + 1) (set out k n)) p q
+    grows v z c y = record { passed = suc n; so_far = rw (take_more_set out k n h) (y (ap is_odd (length_push (take k out) n) ∙ (odd_more _ v z ∙ c))) }
+
+    both : (held now : Bool) → is_odd (length (take k out)) ≡ held
+        → (is_odd (length (take k out ++ [])) ≡ f (is_odd p) (is_odd q) → Merging f a b (take k out ++ []) (suc n) p q)
+        → (is_odd (length (take k out ++ n ∷ [])) ≡ f (is_odd p) (is_odd q) → Merging f a b (take k out ++ n ∷ []) (suc n) p q)
+        → now ≡ f (is_odd p) (is_odd q)
+        → Merged f a b (take (k + bool_byte (not (beq now held))) (set out k n)) p q
+    both true true z x y c = stays true z c x
+    both false false z x y c = stays false z c x
+    both true false z x y c = grows false z c y
+    both false true z x y c = grows true z c y
+
+pub byte_small : (v : Bool) → bool_byte v ≤ 1
+byte_small true = omega arith
+byte_small false = omega arith
+
+pub moves_within : (n : ℕ) (xs : List ℕ) (i p : ℕ) → MovesOver n xs i p → i < length xs → p ≤ length xs
+moves_within n xs i p o h = elim o.place [ inl k ↦ omega (arith, k.1) | inr k ↦ omega (arith, k.1) ]
+
+is_even : (xs : List ℕ) (n : ℕ) → IsValid xs → n ≡ length xs → is_odd n ≡ false
+is_even xs n v e = rw e (ne_eqb _ _ (λ k. let t = v.even in omega arith))
+
+-- past all ends of a list its set holds nothing
+holds_none : (xs : List ℕ) (i passed c : ℕ) → IsValid xs → i ≡ below xs passed → i ≡ length xs → passed ≤ c → holds xs c ≡ false
+holds_none xs i passed c v e h l = holds-below xs c ∙ is_even xs (below xs (suc c)) v
+    (let s = below-mono xs passed (suc c) (omega arith) in let t = below-le xs (suc c) in omega arith)
+
+-- the second list is passed, and the operation leaves the rest of the first out
+rest_left : (f : Bool → Bool → Bool) (a b out : List ℕ) (passed i j : ℕ) → Merging f a b out passed i j → IsValid a → IsValid b → j ≡ length b
+    → ((x : Bool) → f x false ≡ false) → IsValid out × Acts f a (holds b) out
+rest_left f a b out passed i j m v w e none =
+    let eo : is_odd (length out) ≡ false = m.parity ∙ rw (is_even b j w e) (none (is_odd i)) in (
       valid_from_run out (run-wider 0 passed 0 (suc limit) out (omega arith) m.small m.run) (even_from out eo),
       λ c l. elim (cases_lt c passed) [
         | inl p ↦ m.set c p
-        | inr p ↦ rw (holds-below out c, holds-below a c, holds-below b c)
-            (let x : below out (suc c) ≡ length out = below-past 0 passed out (suc c) m.run (omega arith) in
-            let y : below a (suc c) ≡ i = (let s = below-mono a passed (suc c) (omega arith) in let t = below-le a (suc c) in let u = m.first in omega arith) in
-            let z : below b (suc c) ≡ j = (let s = below-mono b passed (suc c) (omega arith) in let t = below-le b (suc c) in let u = m.second in omega arith) in
-            rw (x, y, z) m.parity)
+        | inr p ↦ rw (holds_none b j passed c w m.second e p, none (holds a c))
+            (holds-below out c ∙ rw (below-past 0 passed out (suc c) m.run (omega arith)) eo)
       ],
     )
   where
-    is_even : (xs : List ℕ) (n : ℕ) → IsValid xs → n ≡ length xs → is_odd n ≡ false
-    is_even xs n v e = rw e (ne_eqb _ _ (λ k. let t = v.even in omega arith))
-
     even_from : (xs : List ℕ) → is_odd (length xs) ≡ false → length xs % 2 ≡ 0
-    even_from xs e = let k = eqb-false _ _ e in omega arith
+    even_from xs h = let k = eqb-false _ _ h in omega arith
 
-pub blend_none : (how : Blend) → blend how false false ≡ false
-blend_none Union = refl
-blend_none Difference = refl
-blend_none Intersection = refl
-blend_none Symmetric = refl
+-- the second list is passed, and the operation keeps the rest of the first
+rest_kept : (f : Bool → Bool → Bool) (a b out : List ℕ) (passed i j : ℕ) → Merging f a b out passed i j → IsValid a → IsValid b → j ≡ length b
+    → ((x : Bool) → f x false ≡ x) → IsValid (out ++ drop i a) × Acts f a (holds b) (out ++ drop i a)
+rest_kept f a b out passed i j m v w e keep =
+    let r = run_from_valid a v in
+    let k = m.first in
+    let back : Run passed (suc limit) (drop i a) = rw k (run-back 0 (suc limit) passed a r) in
+    let front : Run 0 passed (take i a) = rw k (run-front 0 (suc limit) passed a r) in
+    let il : i ≤ length a = (let t = below-le a passed in omega arith) in
+    let lt : length (take i a) ≡ i = length-take-le i a il in
+    let ld : length (drop i a) + i ≡ length a = (let t = length-drop i a in omega arith) in
+    let po : length out % 2 ≡ i % 2 = parity _ _ (m.parity ∙ rw (is_even b j w e) (keep (is_odd i))) in
+    let lo = length-append out (drop i a) in
+    let whole : Run 0 (suc limit) (out ++ drop i a) = run-append 0 passed (suc limit) out (drop i a) (omega arith) m.small m.run back in (
+      valid_from_run (out ++ drop i a) whole (let t = v.even in omega arith),
+      λ c l. elim (cases_lt c passed) [
+        | inl p ↦ rw (holds-below (out ++ drop i a) c) (ap is_odd
+            (let s = below-append out (drop i a) (suc c) in let t = below-before passed (suc limit) (drop i a) (suc c) back (omega arith) in
+            let z : below (out ++ drop i a) (suc c) ≡ below out (suc c) = omega arith in z) ∙ (sym (holds-below out c) ∙ m.set c p))
+        | inr p ↦ rw (holds_none b j passed c w m.second e p, keep (holds a c), holds-below (out ++ drop i a) c, holds-below a c)
+            (odd_same _ _
+            (let s = below-append out (drop i a) (suc c) in
+            let t = below-past 0 passed out (suc c) m.run (omega arith) in
+            let u : below a (suc c) ≡ below (take i a) (suc c) + below (drop i a) (suc c) =
+            subst (λ (xs : List ℕ). below xs (suc c) ≡ below (take i a) (suc c) + below (drop i a) (suc c)) (take-append-drop i a) (below-append (take i a) (drop i a) (suc c)) in
+            let x = below-past 0 passed (take i a) (suc c) front (omega arith) in omega arith))
+      ],
+    )
 
--- whether an end is needed
-pub needs : (n : ℕ) (v : Bool) → not (beq v (nat_eq (n % 2) 1)) ≡ true → is_odd (n + 1) ≡ v
-needs n true h = elim (cases_eq (n % 2) 1) [
-  | inl e ↦ absurd (both_ways _ (rw (eq-eqb _ _ e) refl) h)
-  | inr e ↦ eq-eqb _ _ (omega arith)
+-- an operation with its sides exchanged
+exchanged : (f : Bool → Bool → Bool) (a b out : List ℕ) (passed i j : ℕ) → Merging f a b out passed i j → Merging (λ x y. f y x) b a out passed j i
+exchanged f a b out passed i j m = record { first = m.second; second = m.first; run = m.run; small = m.small; parity = m.parity; set = m.set }
+
+keeps : (f : Bool → Bool) → f false ≡ false → f true ≡ true → (x : Bool) → f x ≡ x
+keeps f n h false = n
+keeps f n h true = h
+
+leaves : (f : Bool → Bool) → f false ≡ false → f true ≡ false → (x : Bool) → f x ≡ false
+leaves f n h false = n
+leaves f n h true = h
+
+-- the second list is passed
+after_second : (f : Bool → Bool → Bool) (a b out : List ℕ) (i j p : ℕ) → f false false ≡ false → Merged f a b out i j → IsValid a → IsValid b → i ≤ length a → j ≡ length b
+    → p ≡ (if f true false then i else length a) → IsValid (out ++ drop p a) × Acts f a (holds b) (out ++ drop p a)
+after_second f a b out i j p none m v w h e k = elim (cases_Bool (f true false)) [
+  | inl t ↦ rw (k ∙ cond-true _ _ _ t) (rest_kept f a b out m.passed i j m.so_far v w e (keeps (λ x. f x false) none t))
+  | inr t ↦ rw (k ∙ cond-false _ _ _ t, drop_all (length a) a (omega arith), append-nil out) (rest_left f a b out m.passed i j m.so_far v w e (leaves (λ x. f x false) none t))
 ]
-needs n false h = elim (cases_eq (n % 2) 1) [
-  | inl e ↦ ne_eqb _ _ (λ k. omega arith)
-  | inr e ↦ absurd (both_ways _ (rw (ne_eqb _ _ e) refl) h)
-]
 
-pub has : (n : ℕ) (v : Bool) → not (beq v (nat_eq (n % 2) 1)) ≡ false → is_odd n ≡ v
-has n true h = elim (cases_Bool (is_odd n)) [ inl e ↦ e | inr e ↦ absurd (both_ways _ h (rw e refl)) ]
-has n false h = elim (cases_Bool (is_odd n)) [ inl e ↦ absurd (both_ways _ h (rw e refl)) | inr e ↦ e ]
+same_cond : (t : Bool) (x y : ℕ) → x ≡ y → (if t then x else y) ≡ y
+same_cond true x y e = e
+same_cond false x y e = refl
+
+-- one of the lists is passed, and what is wanted of the rest of either is appended
+pub merged_all : (f : Bool → Bool → Bool) (a b out : List ℕ) (i j p q : ℕ) → f false false ≡ false → Merged f a b out i j → IsValid a → IsValid b
+    → (i ≡ length a) × (j ≤ length b) ⊎ (i ≤ length a) × (j ≡ length b)
+    → p ≡ (if f true false then i else length a) → q ≡ (if f false true then j else length b)
+    → IsValid ((out ++ drop p a) ++ drop q b) × Acts f a (holds b) ((out ++ drop p a) ++ drop q b)
+merged_all f a b out i j p q none m v w (inl h) k l =
+    let z : p ≡ length a = k ∙ same_cond (f true false) i (length a) h.0 in
+    rw (z, drop_all (length a) a (omega arith), append-nil out)
+    (after_second (λ x y. f y x) b a out j i q none (record { passed = m.passed; so_far = exchanged f a b out m.passed i j m.so_far }) w v h.1 h.0 l)
+merged_all f a b out i j p q none m v w (inr h) k l =
+    let z : q ≡ length b = l ∙ same_cond (f false true) j (length b) h.1 in
+    rw (z, drop_all (length b) b (omega arith), append-nil (out ++ drop p a))
+    (after_second f a b out i j p none m v w h.0 h.1 k)
+
+-- what a list is after its rests are appended
+pub joined : (a b out cut more whole : List ℕ) (p q : ℕ) → cut ≡ out → more ≡ cut ++ take (length a - p) (drop p a) → whole ≡ more ++ drop q b → whole ≡ (out ++ drop p a) ++ drop q b
+joined a b out cut more whole p q x y z =
+    z ∙ ap (λ (ys : List ℕ). ys ++ drop q b) (y ∙ (ap (λ (ys : List ℕ). ys ++ take (length a - p) (drop p a)) x
+    ∙ ap (λ (ys : List ℕ). out ++ ys) (take_all (length a - p) (drop p a) (omega (arith, length-drop p a)))))

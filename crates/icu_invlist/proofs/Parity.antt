@@ -2,7 +2,7 @@
 use Rattle.std.proofs.Common.{◌≡◌, ℕ, ◌%◌, List, [], refl, ap, arith, suc, Bool, true, false, cond}
 use Rattle.std.proofs.lemmas.Bool.{eq-eqb, ne_eqb}
 use Rattle.icu_invlist.specs.InversionList.{holds, is_odd}
-use Rattle.icu_invlist.specs.Places.{below}
+use Rattle.icu_invlist.specs.Inside.Places.{below}
 use Rattle.icu_invlist.proofs.RunLemmas.{up_to-below}
 
 pub odd_same : (m n : ℕ) → m % 2 ≡ n % 2 → is_odd m ≡ is_odd n

@@ -2,7 +2,7 @@
 use Rattle.std.proofs.Common.{◌≡◌, ℕ, ◌+◌, ◌-◌, ◌%◌, ◌<◌, ◌≤◌, List, [], ◌∷◌, length, get_or, refl, sym, ◌∙◌, arith, suc, true, false, inl, inr}
 use Rattle.std.proofs.lemmas.Bool.{cases_eq, cases_lt, eq-eqb, ne_eqb, eqb-true}
 use Rattle.icu_invlist.specs.InversionList.{holds, IsValid, limit, HoldsAll, IsSubset}
-use Rattle.icu_invlist.specs.Places.{Run, below}
+use Rattle.icu_invlist.specs.Inside.Places.{Run, below}
 use Rattle.icu_invlist.proofs.RunLemmas.{below_is, below-le, below-front, below-more, below-stays, run-rises, run-back-least}
 use Rattle.icu_invlist.proofs.Parity.{holds-below}
 use Rattle.icu_invlist.proofs.EqualSets.{holds-past}

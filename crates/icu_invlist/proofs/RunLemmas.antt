@@ -5,7 +5,7 @@ use Rattle.std.proofs.lemmas.List.Sums.{sum_by-cons}
 use Rattle.std.specs.Prelude.{nat_lt, nat_le}
 use Rattle.std.specs.List.{count_by}
 use Rattle.icu_invlist.specs.InversionList.{ends_up_to}
-use Rattle.icu_invlist.specs.Places.{Run, below}
+use Rattle.icu_invlist.specs.Inside.Places.{Run, below}
 
 pub below-yes : (x c : ℕ) (xs : List ℕ) → x < c → below (x ∷ xs) c ≡ suc (below xs c)
 below-yes x c xs h = cond-true _ _ _ (lt-ltb x c h)

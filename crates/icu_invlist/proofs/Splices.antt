@@ -5,7 +5,7 @@ use Rattle.std.proofs.lemmas.Bool.{cases_lt, cases_eq, lt-ltb, le-ltb, le-leb, l
 use Rattle.std.proofs.lemmas.List.{length-append, length-take-le, length-drop, take-append-drop}
 use Rattle.std.specs.List.{splice}
 use Rattle.icu_invlist.specs.InversionList.{holds, is_odd, between, IsValid, limit, Acts, either, without}
-use Rattle.icu_invlist.specs.Places.{IsFilled, Run, below}
+use Rattle.icu_invlist.specs.Inside.Places.{IsFilled, Run, below}
 use Rattle.icu_invlist.proofs.RunLemmas.{below-append, below-before, below-past, below-le, below-yes, below-no, run-append, run-front, run-back, below-mono, below-zero}
 use Rattle.icu_invlist.proofs.Parity.{odd_same, odd_is, holds-below}
 use Rattle.icu_invlist.proofs.ValidLists.{run_from_valid, valid_from_run}

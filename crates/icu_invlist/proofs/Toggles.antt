@@ -8,7 +8,7 @@ use Rattle.std.proofs.lemmas.Bool.{false≢true, cases_lt, cases_eq, eq-eqb, ne_
 use Rattle.std.specs.List.{splice, insert, remove}
 use Rattle.std.specs.Prelude.{nat_le}
 use Rattle.icu_invlist.specs.InversionList.{holds, is_odd, IsValid, limit, one_of}
-use Rattle.icu_invlist.specs.Places.{Run, below}
+use Rattle.icu_invlist.specs.Inside.Places.{Run, below}
 use Rattle.icu_invlist.proofs.RunLemmas.{below-mono, below-step, below-more, below_is, run-rises}
 use Rattle.icu_invlist.proofs.Splices.{spliced-run, spliced-before, spliced-past}
 use Rattle.icu_invlist.proofs.Parity.{holds-below}

@@ -3,7 +3,7 @@ use Rattle.std.proofs.Common.{◌≡◌, ℕ, ◌+◌, ◌%◌, ◌<◌, ◌≤�
 use Rattle.std.specs.List.Sorted.{IsStrictlyIncreasing}
 use Rattle.std.specs.List.{All}
 use Rattle.icu_invlist.specs.InversionList.{IsValid, limit}
-use Rattle.icu_invlist.specs.Places.{Run}
+use Rattle.icu_invlist.specs.Inside.Places.{Run}
 
 run_from : (lo hi : ℕ) (xs : List ℕ) → IsStrictlyIncreasing xs → (0 < length xs → lo ≤ get_or xs 0 0) → ((k : ℕ) → k < length xs → get_or xs k 0 < hi) → Run lo hi xs
 run_from lo hi [] up low high = tt

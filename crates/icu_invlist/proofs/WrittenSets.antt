@@ -12,8 +12,9 @@ use Rattle.serde_json.specs.Data.{Data, null, boolean, number, string, array, ob
 use Rattle.serde_json.specs.View.{items_of, view}
 use Rattle.serde_json.specs.declared.value.Value.{Value}
 use Rattle.icu_invlist.specs.InversionList.{IsValid, limit}
-use Rattle.icu_invlist.specs.Places.{Run}
-use Rattle.icu_invlist.specs.SetJson.{IsHex, IsPoint, IsRange, SayEnds, IsSaid, GivesEnds, upper_hex, upper_hex4, spelled, range_text, texts_of, written_of, ends_of}
+use Rattle.icu_invlist.specs.Inside.Places.{Run}
+use Rattle.icu_invlist.specs.SetJson.{IsHex, IsPoint, IsRange, SayEnds, IsSaid, upper_hex, upper_hex4, spelled, range_text, texts_of, written_of, ends_of}
+use Rattle.icu_invlist.specs.Inside.GivenEnds.{GivesEnds}
 use Rattle.icu_invlist.specs.declared.codepointinvlist.error.SetJsonError.{SetJsonError}
 use Rattle.icu_invlist.specs.declared.codepointinvlist.error.SetJsonError.TheVariants as errors
 use Rattle.icu_invlist.proofs.JsonLemmas.{ends_found, ends_only}

@@ -1,5 +1,6 @@
--- Inversion lists, as ICU's UnicodeSet has them: a set of code points is the ascending list of its ends. The
--- set begins at the first end, stops before the second, begins again at the third, and so on.
+-- Inversion lists, as ICU's UnicodeSet has them: a set of code points is the ascending list of its
+-- ends. The set begins at the first end, stops before the second, begins again at the third, and so
+-- on.
 use Rattle.std.specs.Prelude.{ℕ, zero, suc, ◌+◌, ◌-◌, ◌%◌, ◌<◌, ◌≤◌, ◌≡◌, List, [], ◌∷◌, ◌++◌, length, Bool, true, false, cond, if◌then◌else◌, not, nat_le, nat_lt, ◌==◌, ◌&&◌, ◌||◌}
 use Rattle.std.specs.List.{count_by, All, filter, range_with_len}
 use Rattle.std.proofs.Math.Utf8.{scalar}
@@ -67,7 +68,8 @@ IsSubset part whole = (c : ℕ) → c < limit → holds part c ≡ true → hold
 abbrev pub ranges_of : List ℕ → List (RangeInclusive ℕ)
 ranges_of [] = []
 ranges_of (start ∷ []) = []
-ranges_of (start ∷ end ∷ ends) = record { start = start; end = end - 1; exhausted = false } ∷ ranges_of ends
+ranges_of (start ∷ end ∷ ends) =
+    record { start = start; end = end - 1; exhausted = false } ∷ ranges_of ends
 
 -- the range has a code point, and none that is no code point
 abbrev pub IsOfCodePoints : RangeInclusive ℕ → Type 0

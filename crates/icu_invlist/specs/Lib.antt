@@ -1,7 +1,6 @@
 pub mod InversionList
+pub mod Changes
 pub mod NamedCodePoints
-pub mod Places
-pub mod Blends
 pub mod Refusals
-pub mod StillGiven
 pub mod SetJson
+pub mod Inside

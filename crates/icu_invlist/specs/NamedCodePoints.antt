@@ -1,5 +1,5 @@
--- The numbers that a range names: those from its start to before its end. An empty or reversed range names
--- none.
+-- The numbers that a range names: those from its start to before its end. An empty or reversed
+-- range names none.
 use Rattle.std.specs.Prelude.{ℕ, ◌+◌, ◌-◌, ◌^◌, ◌<◌, ◌≡◌, ◌&&◌, Bool, List, min, nat_le, if◌then◌else◌}
 use Rattle.std.specs.List.{list_any}
 use Rattle.std.specs.Range.{range_inclusive_start, range_inclusive_end, range_inclusive_exhausted}
@@ -14,21 +14,24 @@ open_start = 0
 abbrev pub open_end : ℕ
 open_end = limit
 
--- the end of a range that includes e as its last number. There is no number after `u32::MAX`, so a range up
--- to that one ends before it
+-- the end of a range that includes e as its last number. There is no number after `u32::MAX`, so a
+-- range up to that one ends before it
 abbrev pub end_of_included : ℕ → ℕ
 end_of_included e = min (e + 1) (2 ^ 32 - 1)
 
--- the end of `a..=b`. One that was iterated to its last number, from which nothing more comes, keeps that
--- number as its start, and names none
+-- the end of `a..=b`. One that was iterated to its last number, from which nothing more comes,
+-- keeps that number as its start, and names none
 abbrev pub end_of_inclusive : RangeInclusive ℕ → ℕ
 end_of_inclusive r =
-    if range_inclusive_exhausted r && nat_le (range_inclusive_start r) (range_inclusive_end r) then range_inclusive_end r
+    if range_inclusive_exhausted r && nat_le (range_inclusive_start r) (range_inclusive_end r)
+    then range_inclusive_end r
     else end_of_included (range_inclusive_end r)
 
--- whether a range that is added to a set brings c into it: one whose end passes the code space brings nothing
+-- whether a range that is added to a set brings c into it: one whose end passes the code space
+-- brings nothing
 abbrev pub adds : RangeInclusive ℕ → ℕ → Bool
-adds r c = nat_le (end_of_inclusive r) limit && between (range_inclusive_start r) (end_of_inclusive r) c
+adds r c = nat_le (end_of_inclusive r) limit
+    && between (range_inclusive_start r) (end_of_inclusive r) c
 
 -- the set holds what one of the ranges adds, and nothing else
 abbrev pub IsUnionOf : List (RangeInclusive ℕ) → List ℕ → Type 0

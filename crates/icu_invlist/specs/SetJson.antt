@@ -1,8 +1,8 @@
--- A set in JSON: an array with one string for each range, ascending. A range of one code point is the point,
--- a longer one its first and its last point with `-` between them. A point is written as the character
--- itself, and a surrogate, which is none, as `U+` and its four upper-case hexadecimal digits.
+-- A set in JSON: an array with one string for each range, ascending. A range of one code point is
+-- the point, a longer one its first and its last point with `-` between them. A point is written as
+-- the character itself, and a surrogate, which is none, as `U+` and its four upper-case hexadecimal
+-- digits.
 use Rattle.std.specs.Prelude.{◌≡◌, ◌≢◌, ℕ, zero, suc, ◌+◌, ◌*◌, ◌/◌, ◌%◌, ◌<◌, List, [], ◌∷◌, ◌++◌, map, Option, Some, None, Result, Ok, Err, ◌==◌, ◌&&◌, nat_le, nat_lt, if◌then◌else◌, option_and_then, ◌⊎◌}
-use Rattle.std.specs.Global.{Vec}
 use Rattle.std.specs.Str.{chars, encode_utf8_all}
 use Rattle.std.specs.Char.{digit_value}
 use Rattle.serde_json.specs.Data.{Data, string, array, Items, no_items, item}
@@ -18,7 +18,8 @@ upper_hex d = if nat_lt d 10 then 0x30 + d else 0x37 + d
 
 -- the four digits of a number below 0x10000
 abbrev pub upper_hex4 : ℕ → List ℕ
-upper_hex4 p = upper_hex (p / 4096 % 16) ∷ upper_hex (p / 256 % 16) ∷ upper_hex (p / 16 % 16) ∷ upper_hex (p % 16) ∷ []
+upper_hex4 p = upper_hex (p / 4096 % 16) ∷ upper_hex (p / 256 % 16) ∷ upper_hex (p / 16 % 16)
+    ∷ upper_hex (p % 16) ∷ []
 
 -- a point
 abbrev pub spelled : ℕ → List ℕ
@@ -44,26 +45,31 @@ pub record IsHex (text : List ℕ) (n : ℕ) : Type 0 where
   pub c : ℕ
   pub d : ℕ
   pub is : text ≡ a ∷ b ∷ c ∷ d ∷ []
-  pub digits : (digit_value a < 16) × (digit_value b < 16) × (digit_value c < 16) × (digit_value d < 16)
+  pub digits : (digit_value a < 16) × (digit_value b < 16) × (digit_value c < 16)
+      × (digit_value d < 16)
   pub value : n ≡ ((digit_value a * 16 + digit_value b) * 16 + digit_value c) * 16 + digit_value d
 
--- the text of a point: the character itself, or `U+` and four digits, which is the only way to spell a
--- surrogate
+-- the text of a point: the character itself, or `U+` and four digits, which is the only way to
+-- spell a surrogate
 abbrev pub IsPoint : List ℕ → ℕ → Type 0
-IsPoint text p = (text ≡ p ∷ []) ⊎ ((digits : List ℕ) × (text ≡ 0x55 ∷ 0x2B ∷ digits) × IsHex digits p)
+IsPoint text p =
+    (text ≡ p ∷ []) ⊎ ((digits : List ℕ) × (text ≡ 0x55 ∷ 0x2B ∷ digits) × IsHex digits p)
 
--- the text of a range from a through b: one point, or two with a third between them, which is read as 0x2D,
--- the minus sign
+-- the text of a range from a through b: one point, or two with a third between them, which is read
+-- as 0x2D, the minus sign
 abbrev pub IsRange : List ℕ → ℕ → ℕ → Type 0
 IsRange text a b =
     (IsPoint text a × (b ≡ a))
-    ⊎ ((front : List ℕ) × (middle : List ℕ) × (back : List ℕ) × (text ≡ front ++ (middle ++ back)) × IsPoint front a × IsPoint middle 0x2D × IsPoint back b)
+    ⊎ ((front : List ℕ) × (middle : List ℕ) × (back : List ℕ) × (text ≡ front ++ (middle ++ back))
+    × IsPoint front a × IsPoint middle 0x2D × IsPoint back b)
 
--- the items of an array are strings, whose ranges have these ends: each first point, and each last point plus
--- one
+-- the items of an array are strings, whose ranges have these ends: each first point, and each last
+-- point plus one
 abbrev pub SayEnds : Items → List ℕ → Type 0
 SayEnds no_items ends = ends ≡ []
-SayEnds (item (string text) items) ends = (a : ℕ) × (b : ℕ) × (rest : List ℕ) × IsRange (chars text) a b × (ends ≡ a ∷ (b + 1) ∷ rest) × SayEnds items rest
+SayEnds (item (string text) items) ends =
+    (a : ℕ) × (b : ℕ) × (rest : List ℕ) × IsRange (chars text) a b × (ends ≡ a ∷ (b + 1) ∷ rest)
+    × SayEnds items rest
 SayEnds (item _ items) ends = ⊥
 
 -- ---- how a reader goes on
@@ -74,18 +80,23 @@ first_of (c ∷ cs) = Some (c, cs)
 
 -- the number so far with a digit behind it, and what follows
 unfoldable pub digit_at : ℕ → List ℕ → Option (ℕ × List ℕ)
-digit_at n cs = option_and_then (λ (x : ℕ × List ℕ). if nat_lt (digit_value x.0) 16 then Some (n * 16 + digit_value x.0, x.1) else None) (first_of cs)
+digit_at n cs = option_and_then
+    (λ (x : ℕ × List ℕ). if nat_lt (digit_value x.0) 16 then Some (n * 16 + digit_value x.0, x.1)
+    else None) (first_of cs)
 
 -- the number of four digits at the front, and what follows
 unfoldable pub hex_at : List ℕ → Option (ℕ × List ℕ)
 hex_at cs =
-    option_and_then (λ (x : ℕ × List ℕ). option_and_then (λ (y : ℕ × List ℕ). option_and_then (λ (z : ℕ × List ℕ). digit_at z.0 z.1) (digit_at y.0 y.1)) (digit_at x.0 x.1)) (digit_at 0 cs)
+    option_and_then (λ (x : ℕ × List ℕ). option_and_then
+    (λ (y : ℕ × List ℕ). option_and_then (λ (z : ℕ × List ℕ). digit_at z.0 z.1)
+    (digit_at y.0 y.1)) (digit_at x.0 x.1)) (digit_at 0 cs)
 
 -- a point at the front, and what follows
 unfoldable pub point_at : List ℕ → Option (ℕ × List ℕ)
 point_at [] = None
 point_at (c ∷ []) = Some (c, [])
-point_at (c ∷ d ∷ cs) = if c == 0x55 then (if d == 0x2B then hex_at cs else Some (c, d ∷ cs)) else Some (c, d ∷ cs)
+point_at (c ∷ d ∷ cs) =
+    if c == 0x55 then (if d == 0x2B then hex_at cs else Some (c, d ∷ cs)) else Some (c, d ∷ cs)
 
 -- a last point, which ends the text
 abbrev pub last_point : ℕ → Option (ℕ × List ℕ) → Option (ℕ × ℕ)
@@ -115,7 +126,8 @@ with_front front (Ok ends) = Ok (front ++ ends)
 with_front front (Err e) = Err e
 
 -- the ends of item i, a range, in front of those of the others
-abbrev pub in_front : ℕ → Option (ℕ × ℕ) → Result (List ℕ) SetJsonError → Result (List ℕ) SetJsonError
+abbrev pub in_front : ℕ → Option (ℕ × ℕ) → Result (List ℕ) SetJsonError
+    → Result (List ℕ) SetJsonError
 in_front i None others = Err (NotARange i)
 in_front i (Some r) others = with_front (r.0 ∷ (r.1 + 1) ∷ []) others
 
@@ -139,8 +151,8 @@ ends_of _ = Err NotAnArray
 abbrev pub IsSaid : Data → List ℕ → Type 0
 IsSaid d ends = (items : Items) × (d ≡ array items) × SayEnds items ends
 
--- each refusal comes where it is the first fault, and `InvalidSet` where there is none but the ends are no
--- inversion list. Want of memory may come in place of any answer
+-- each refusal comes where it is the first fault, and `InvalidSet` where there is none but the ends
+-- are no inversion list. Want of memory may come in place of any answer
 abbrev pub IsRefusedJson : Data → SetJsonError → Type 0
 IsRefusedJson d NotAnArray = ends_of d ≡ Err NotAnArray
 IsRefusedJson d (NotAString i) = ends_of d ≡ Err (NotAString i)
@@ -162,20 +174,15 @@ FailsFirst Fault i no_items = ⊥
 FailsFirst Fault zero (item d items) = Fault d
 FailsFirst Fault (suc i) (item d items) = SpellsRange d × FailsFirst Fault i items
 
--- the same refusals by what the strings spell, without a reader: the value is no array, its first item that
--- spells no range is no string or such a string, or the ends that they all say are no inversion list
+-- the same refusals by what the strings spell, without a reader: the value is no array, its first
+-- item that spells no range is no string or such a string, or the ends that they all say are no
+-- inversion list
 abbrev pub SaysNone : Data → SetJsonError → Type 0
 SaysNone d NotAnArray = (items : Items) → d ≢ array items
-SaysNone d (NotAString i) = (items : Items) × (d ≡ array items) × FailsFirst (λ x. (text : List ℕ) → x ≢ string text) i items
+SaysNone d (NotAString i) =
+    (items : Items) × (d ≡ array items)
+    × FailsFirst (λ x. (text : List ℕ) → x ≢ string text) i items
 SaysNone d (NotARange i) = (items : Items) × (d ≡ array items) × FailsFirst SpellsNoRange i items
-SaysNone d InvalidSet = (items : Items) × (ends : List ℕ) × (d ≡ array items) × SayEnds items ends × (¬ (IsValid ends))
+SaysNone d InvalidSet =
+    (items : Items) × (ends : List ℕ) × (d ≡ array items) × SayEnds items ends × (¬ (IsValid ends))
 SaysNone d Memory = Unit {0}
-
--- what a reader of the ends answers. No public contract has this word
-abbrev pub GivesEnds : Result (Vec ℕ) SetJsonError → Result (List ℕ) SetJsonError → Type 0
-GivesEnds (Ok v) read = read ≡ Ok v.items
-GivesEnds (Err Memory) read = Unit {0}
-GivesEnds (Err NotAnArray) read = read ≡ Err NotAnArray
-GivesEnds (Err (NotAString i)) read = read ≡ Err (NotAString i)
-GivesEnds (Err (NotARange i)) read = read ≡ Err (NotARange i)
-GivesEnds (Err InvalidSet) read = ⊥

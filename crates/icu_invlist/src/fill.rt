@@ -1,16 +1,18 @@
-//! Changes of a list of ends in place, range by range: searches for the borders, and the ends between them changed.
+//! Changes of a list of ends in place, range by range: searches for the borders, and the ends
+//! between them changed.
 //!
-//! Between the ends that stand below a range and those that stand above it, at most the two borders of the
-//! range are left: its start where the answer changes there, and its end likewise.
+//! Between the ends that stand below a range and those that stand above it, at most the two borders
+//! of the range are left: its start where the answer changes there, and its end likewise.
 ghost use Rattle.std.specs.Prelude.{◌≡◌, ℕ, suc, false, true, ◌+◌, ◌-◌, ◌<◌, ◌≤◌, ◌++◌, List, [], ◌∷◌, length, cond, not, nat_le, vec_len, ◌⊎◌, OnOk, OnErr, IsTrue, ◌↔◌};
 ghost use Rattle.std.specs.List.{splice};
 ghost use Rattle.std.specs.Vec.{vec_capacity};
 ghost use Rattle.icu_invlist.specs.InversionList.{IsValid, limit, Acts, either, without, both, one_of, between, holds, is_odd};
-ghost use Rattle.icu_invlist.specs.Places.{Run, below, IsFilled};
+ghost use Rattle.icu_invlist.specs.Inside.Places.{Run, below, IsFilled};
 
 use icu_zerovec::MemoryError;
 
-/// How many ends stand below `c`. Behind the last end, where ranges in order are added, nothing is searched.
+/// How many ends stand below `c`. Behind the last end, where ranges in order are added, nothing is
+/// searched.
 fn count_below(ends: &[u32], c: u32) -> usize
     requires { Run 0 (suc limit) ends.now }
     ensures count { result ≡ below ends.now c }
@@ -23,7 +25,8 @@ fn count_below(ends: &[u32], c: u32) -> usize
     ends.partition_point(|e| *e < c)
 }
 
-/// Writes the borders that are wanted over the ends from `lower` to before `upper`, and takes the rest out.
+/// Writes the borders that are wanted over the ends from `lower` to before `upper`, and takes the
+/// rest out.
 fn overwrite(
     ends: &mut Vec<u32>,
     lower: usize,
@@ -35,7 +38,9 @@ fn overwrite(
 )
     requires room { lower + (cond first 1 0 + cond second 1 0) ≤ upper }
     requires within { upper ≤ length ends.old.items }
-    ensures { ends.new.items ≡ splice ends.old.items lower upper (cond first (start ∷ []) [] ++ cond second (end ∷ []) []) }
+    ensures { ends.new.items
+        ≡ splice ends.old.items lower upper
+        (cond first (start ∷ []) [] ++ cond second (end ∷ []) []) }
 {
     let mut place = lower;
     if first {
@@ -52,7 +57,8 @@ fn overwrite(
 /// Puts two ends in at `place`.
 fn insert_two(ends: &mut Vec<u32>, place: usize, start: u32, end: u32) -> Result<(), MemoryError>
     requires { place ≤ length ends.old.items }
-    ensures ok { OnOk result (ends.new.items ≡ splice ends.old.items place place (start ∷ end ∷ [])) }
+    ensures ok { OnOk result
+        (ends.new.items ≡ splice ends.old.items place place (start ∷ end ∷ [])) }
     ensures err { OnErr result (ends.new.items ≡ ends.old.items) }
 {
     ends.reserve(2)?;
@@ -61,8 +67,8 @@ fn insert_two(ends: &mut Vec<u32>, place: usize, start: u32, end: u32) -> Result
     Ok(())
 }
 
-/// Gives all code points from `start` to before `end` the answer `value`. The list grows only where the range
-/// lies between two neighbouring ends and both borders are put in.
+/// Gives all code points from `start` to before `end` the answer `value`. The list grows only where
+/// the range lies between two neighbouring ends and both borders are put in.
 fn fill(ends: &mut Vec<u32>, start: u32, end: u32, value: bool) -> Result<(), MemoryError>
     requires valid { IsValid ends.old.items }
     requires rises { start < end }
@@ -83,8 +89,8 @@ fn fill(ends: &mut Vec<u32>, start: u32, end: u32, value: bool) -> Result<(), Me
     }
 }
 
-/// Takes out all code points from `start` to before `end`, of which one is an end of the code space, so that
-/// the list does not grow.
+/// Takes out all code points from `start` to before `end`, of which one is an end of the code
+/// space, so that the list does not grow.
 fn clear_side(ends: &mut Vec<u32>, start: u32, end: u32)
     requires valid { IsValid ends.old.items }
     requires rises { start < end }
@@ -167,12 +173,14 @@ fn is_new(ends: &[u32], x: u32) -> bool
 fn toggle(ends: &mut Vec<u32>, x: u32)
     requires rises { Run 0 (suc limit) ends.old.items }
     requires within { x ≤ limit }
-    requires room { below ends.old.items x ≡ below ends.old.items (x + 1) → vec_len ends.old < vec_capacity ends.old }
+    requires room { below ends.old.items x ≡ below ends.old.items (x + 1)
+        → vec_len ends.old < vec_capacity ends.old }
     ensures rises { Run 0 (suc limit) ends.new.items }
     ensures length { is_odd (length ends.new.items) ≡ not (is_odd (length ends.old.items)) }
     ensures set { (c : ℕ) → holds ends.new.items c ≡ one_of (nat_le x c) (holds ends.old.items c) }
     ensures grows { vec_len ends.new ≤ vec_len ends.old + 1 }
-    ensures shrinks { (below ends.old.items x ≡ below ends.old.items (x + 1) → ⊥) → vec_len ends.new + 1 ≡ vec_len ends.old }
+    ensures shrinks { (below ends.old.items x ≡ below ends.old.items (x + 1) → ⊥)
+        → vec_len ends.new + 1 ≡ vec_len ends.old }
     ensures capacity { vec_capacity ends.old ≤ vec_capacity ends.new }
 {
     match ends.binary_search(&x) {
@@ -196,7 +204,7 @@ fn reserve_two(ends: &mut Vec<u32>, wanted: bool) -> Result<(), MemoryError>
     Ok(())
 }
 
-/// Turns round the code points from `start` to before `end`. The list grows only where neither is an end:
+/// Flips the code points from `start` to before `end`. The list grows only where neither is an end:
 /// else the one that is an end is taken out first.
 fn toggle_both(ends: &mut Vec<u32>, start: u32, end: u32) -> Result<(), MemoryError>
     requires valid { IsValid ends.old.items }
@@ -219,8 +227,8 @@ fn toggle_both(ends: &mut Vec<u32>, start: u32, end: u32) -> Result<(), MemoryEr
     Ok(())
 }
 
-/// Turns round the code points from `start` to before `end`: those that were in the set are not in it, and
-/// the others are.
+/// Flips the code points from `start` to before `end`: those that were in the set are not in it,
+/// and the others are.
 pub(crate) fn flip(ends: &mut Vec<u32>, start: u32, end: u32) -> Result<(), MemoryError>
     requires { IsValid ends.old.items }
     ensures valid { IsValid ends.new.items }

@@ -20,7 +20,8 @@ fn first_of(text: &str) -> Option<(char, &str)>
 #[tactic(auto, unfolding(crate::specs::SetJson::digit_at))]
 fn digit_at(number: u32, text: &str) -> Option<(u32, &str)>
     requires { number < 2 ^ 24 }
-    ensures digit { option_map (λ x. (x.0, chars x.1.now)) result ≡ digit_at number (chars text.now) }
+    ensures digit { option_map (λ x. (x.0, chars x.1.now)) result
+        ≡ digit_at number (chars text.now) }
     ensures small { IfSome result (λ x. x.0 < number * 16 + 16) }
 {
     let (digit, rest) = first_of(text)?;
@@ -40,8 +41,8 @@ fn hex_at(text: &str) -> Option<(u32, &str)>
     digit_at(third, rest)
 }
 
-/// The point at the front of a text, and what follows: `U+` and four hexadecimal digits of either case, or a
-/// character.
+/// The point at the front of a text, and what follows: `U+` and four hexadecimal digits of either
+/// case, or a character.
 #[tactic(auto, unfolding(crate::specs::SetJson::point_at))]
 fn point_at(text: &str) -> Option<(u32, &str)>
     ensures point { option_map (λ x. (x.0, chars x.1.now)) result ≡ point_at (chars text.now) }
@@ -101,9 +102,10 @@ fn upper_digit(digit: u32) -> char
     }
 }
 
-/// Writes the four hexadecimal digits of a number below 0x10000 behind the text.
+/// Appends the four hexadecimal digits of a number below 0x10000 to the text.
 fn push_hex(text: &mut String, number: u32) -> Result<(), MemoryError>
-    ensures { OnOk result (string_bytes text.new ≡ string_bytes text.old ++ encode_utf8_all (upper_hex4 number)) }
+    ensures { OnOk result
+        (string_bytes text.new ≡ string_bytes text.old ++ encode_utf8_all (upper_hex4 number)) }
 {
     text.push(upper_digit(number / 4096 % 16))?;
     text.push(upper_digit(number / 256 % 16))?;
@@ -112,10 +114,11 @@ fn push_hex(text: &mut String, number: u32) -> Result<(), MemoryError>
     Ok(())
 }
 
-/// Writes a point behind the text.
+/// Appends a point to the text.
 fn push_point(text: &mut String, point: u32) -> Result<(), MemoryError>
     requires { point < limit }
-    ensures { OnOk result (string_bytes text.new ≡ string_bytes text.old ++ encode_utf8_all (spelled point)) }
+    ensures { OnOk result
+        (string_bytes text.new ≡ string_bytes text.old ++ encode_utf8_all (spelled point)) }
 {
     match char::from_u32(point) {
         Some(c) => text.push(c)?,

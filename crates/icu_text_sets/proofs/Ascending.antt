@@ -18,7 +18,7 @@ use Rattle.std.proofs.Math.Bool.{or_comm}
 use Rattle.std.proofs.lemmas.List.Folds.{list_any_none, list_any_at}
 use Rattle.std.proofs.lemmas.List.Sorted.{IsNonDecreasingBy-from_all_adjacent, IsPermutation-insert, list_any-IsPermutation}
 use Rattle.icu_text_sets.specs.TextSet.{only_char, text_cmp, is_among, texts_of, IsStringList}
-use Rattle.icu_text_sets.specs.Places.{IsPlaceOf}
+use Rattle.icu_text_sets.specs.Inside.StringPlaces.{IsPlaceOf}
 
 -- ---- the order of texts
 total : IsTotalOrder text_cmp
@@ -83,38 +83,15 @@ found_place strings text (Err i) s b p =
 same_as : (t text : List ℕ) (o : Ordering) → text_cmp t text ≡ o → bytes_eq t text ≡ is_eq o
 same_as t text o h = texts_ties t text ∙ ap is_eq h
 
-before_or_behind : (ts : List (List ℕ)) (text : List ℕ) (i k : ℕ) → k < length ts → IsPlaceOf ts text (Err i) → bytes_eq (get_or ts k []) text ≡ false
-before_or_behind ts text i k h p = elim (cases_lt k i) [
+before_or_after : (ts : List (List ℕ)) (text : List ℕ) (i k : ℕ) → k < length ts → IsPlaceOf ts text (Err i) → bytes_eq (get_or ts k []) text ≡ false
+before_or_after ts text i k h p = elim (cases_lt k i) [
   | inl g ↦ same_as (get_or ts k []) text Less (p.1 k g)
   | inr g ↦ same_as (get_or ts k []) text Greater (p.2 k g h)
 ]
 
 pub found_among : (ts : List (List ℕ)) (text : List ℕ) (r : Result ℕ ℕ) → IsPlaceOf ts text r → is_ok r ≡ is_among ts text
 found_among ts text (Ok i) p = sym (list_any_at (λ t. bytes_eq t text) ts i [] p.0 (same_as (get_or ts i []) text Equal p.1))
-found_among ts text (Err i) p = sym (list_any_none (λ t. bytes_eq t text) ts (λ k d h. rw (get_or_default ts k d [] h) (before_or_behind ts text i k h p)))
-
--- ---- one more
-place_behind : (x : List ℕ) (ts : List (List ℕ)) (t : List ℕ) (i : ℕ) → IsPlaceOf (x ∷ ts) t (Err (suc i)) → IsPlaceOf ts t (Err i)
-place_behind x ts t i p = let h = p.0 in (omega arith, λ k g. p.1 (suc k) (omega arith), λ k g j. p.2 (suc k) (omega arith) (omega arith))
-
-pub list_with : (ts : List (List ℕ)) (i : ℕ) (t : List ℕ) → IsStringList ts → only_char t ≡ None → IsPlaceOf ts t (Err i) → IsStringList (insert ts i t)
-list_with [] zero t s n p = n
-list_with [] (suc i) t s n p = let h = p.0 in absurd (omega arith)
-list_with (x ∷ []) zero t s n p = (n, turned x t (p.2 0 (omega arith) (omega arith)), s)
-list_with (x ∷ y ∷ ts) zero t s n p = (n, turned x t (p.2 0 (omega arith) (omega arith)), s)
-list_with (x ∷ []) (suc zero) t s n p = (s, p.1 0 (omega arith), n)
-list_with (x ∷ []) (suc (suc i)) t s n p = let h = p.0 in absurd (omega arith)
-list_with (x ∷ y ∷ ts) (suc zero) t s n p = (s.0, p.1 0 (omega arith), list_with (y ∷ ts) zero t s.2 n (place_behind x (y ∷ ts) t zero p))
-list_with (x ∷ y ∷ ts) (suc (suc i)) t s n p = (s.0, s.1, list_with (y ∷ ts) (suc i) t s.2 n (place_behind x (y ∷ ts) t (suc i) p))
-
-pub texts-insert : (strings : List (String Global)) (i : ℕ) (s : String Global) → texts_of (insert strings i s) ≡ insert (texts_of strings) i (string_bytes s)
-texts-insert [] zero s = refl
-texts-insert [] (suc i) s = refl
-texts-insert (x ∷ strings) zero s = refl
-texts-insert (x ∷ strings) (suc i) s = ap (λ (ts : List (List ℕ)). string_bytes x ∷ ts) (texts-insert strings i s)
-
-pub among_with : (ts : List (List ℕ)) (i : ℕ) (t text : List ℕ) → is_among (insert ts i t) text ≡ (is_among ts text || bytes_eq t text)
-among_with ts i t text = sym (list_any-IsPermutation (λ u. bytes_eq u text) (t ∷ ts) (insert ts i t) (IsPermutation-insert ts i t)) ∙ or_comm (bytes_eq t text) (is_among ts text)
+found_among ts text (Err i) p = sym (list_any_none (λ t. bytes_eq t text) ts (λ k d h. rw (get_or_default ts k d [] h) (before_or_after ts text i k h p)))
 
 -- ---- a closure that each call leaves as it was
 each_call : {F X R : Type 0} (g : Mut F X R) (P : X → R → Type 0) (f : F) → ((a : X) (r : R) (f' : F) → Called g f a r f' → P a r × (f' ≡ f)) → (xs : List X) → ReturnsEach g P f xs

@@ -2,7 +2,7 @@
 use Rattle.std.proofs.Common.{◌≡◌, ℕ, ◌+◌, ◌<◌, ◌≤◌, List, [], ◌∷◌, ◌++◌, refl, sym, ap, ◌∙◌, length, get_or, drop, drop-cons, append_assoc, append-nil, add-one, String, Global}
 use Rattle.std.proofs.lemmas.List.{drop_all}
 
--- what g makes of the strings from i on stands behind what was made so far, and h makes the next
+-- what g makes of the strings from i on stands after what was made so far, and h makes the next
 pub copy_step : {Y : Type 0} (g : List (String Global) → List Y) (h : String Global → Y) → ((x : String Global) (xs : List (String Global)) → g (x ∷ xs) ≡ h x ∷ g xs)
     → (strings : List (String Global)) (i : ℕ) (x : String Global) (front front' whole : List Y) → i < length strings → x ≡ get_or strings i x
     → front ++ g (drop i strings) ≡ whole → front' ≡ front ++ h x ∷ [] → front' ++ g (drop (i + 1) strings) ≡ whole

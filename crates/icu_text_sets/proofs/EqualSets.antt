@@ -9,6 +9,7 @@ use Rattle.std.specs.declared.cmp.Ordering.{Ordering}
 use Rattle.std.specs.declared.cmp.Ordering.TheVariants.{Less, Equal, Greater}
 use Rattle.std.proofs.lemmas.Cmp.{nat_list_cmp_total, tied_itself}
 use Rattle.std.proofs.lemmas.Slice.Eq.{bytes_eq-Decides}
+use Rattle.std.proofs.lemmas.Bool.{or_cases, false_from_ne_true}
 use Rattle.std.proofs.lemmas.Bool.Decides.{Decides-and}
 use Rattle.icu_text_sets.specs.TextSet.{TextSet, text_cmp, is_among, texts_of, IsStringList, same_set}
 
@@ -19,10 +20,6 @@ equal : (x y : List ℕ) → bytes_eq x y ≡ true → x ≡ y
 equal x y h = (bytes_eq-Decides x y).0 h
 
 -- ---- what a list holds
-or_cases : (a b : Bool) → (a || b) ≡ true → (a ≡ true) ⊎ (b ≡ true)
-or_cases true b h = inl refl
-or_cases false b h = inr h
-
 first_among : (x : List ℕ) (xs : List (List ℕ)) → is_among (x ∷ xs) x ≡ true
 first_among x xs = ap (λ z. z || is_among xs x) ((bytes_eq-Decides x x).1 refl)
 
@@ -48,18 +45,14 @@ not_before x y ys s h a = elim (or_cases (bytes_eq y x) (is_among ys x) a) [
   | inr g ↦ let k : Greater ≡ Less = sym (total.antisymm y x ∙ ap ordering_reverse h) ∙ leads y ys x s g in cc
 ]
 
-false_of : (b : Bool) → (b ≡ true → ⊥) → b ≡ false
-false_of true n = absurd (n refl)
-false_of false n = refl
-
 -- ---- equal lists
-behind : (x : List ℕ) (xs ys : List (List ℕ)) → IsStringList (x ∷ xs) → IsStringList (x ∷ ys) → ((t : List ℕ) → is_among (x ∷ xs) t ≡ is_among (x ∷ ys) t) → (t : List ℕ) (b : Bool)
+same_rest : (x : List ℕ) (xs ys : List (List ℕ)) → IsStringList (x ∷ xs) → IsStringList (x ∷ ys) → ((t : List ℕ) → is_among (x ∷ xs) t ≡ is_among (x ∷ ys) t) → (t : List ℕ) (b : Bool)
     → bytes_eq x t ≡ b → is_among xs t ≡ is_among ys t
-behind x xs ys s r a t true e =
+same_rest x xs ys s r a t true e =
     let gone : (zs : List (List ℕ)) → IsStringList (x ∷ zs) → is_among zs t ≡ false =
-    λ zs q. false_of (is_among zs t) (λ h. no_less_equal x t (leads x zs t q h) (ap (text_cmp x) (sym (equal x t e)) ∙ tied_itself total x)) in
+    λ zs q. false_from_ne_true (is_among zs t) (λ h. no_less_equal x t (leads x zs t q h) (ap (text_cmp x) (sym (equal x t e)) ∙ tied_itself total x)) in
     gone xs s ∙ sym (gone ys r)
-behind x xs ys s r a t false e = sym (ap (λ z. z || is_among xs t) e) ∙ a t ∙ ap (λ z. z || is_among ys t) e
+same_rest x xs ys s r a t false e = sym (ap (λ z. z || is_among xs t) e) ∙ a t ∙ ap (λ z. z || is_among ys t) e
 
 same_first : (x : List ℕ) (xs : List (List ℕ)) (y : List ℕ) (ys : List (List ℕ)) → IsStringList (x ∷ xs) → IsStringList (y ∷ ys)
     → ((t : List ℕ) → is_among (x ∷ xs) t ≡ is_among (y ∷ ys) t) → (o : Ordering) → text_cmp x y ≡ o → x ≡ y
@@ -75,7 +68,7 @@ same_strings (x ∷ xs) (y ∷ ys) s r a =
     let e : x ≡ y = same_first x xs y ys s r a (text_cmp x y) refl in
     rw e (ap (λ (zs : List (List ℕ)). y ∷ zs)
     (same_strings xs ys (tail x xs s) (tail y ys r)
-    (λ t. behind y xs ys (subst (λ z. IsStringList (z ∷ xs)) e s) r (λ u. subst (λ z. is_among (z ∷ xs) u ≡ is_among (y ∷ ys) u) e (a u)) t (bytes_eq y t) refl)))
+    (λ t. same_rest y xs ys (subst (λ z. IsStringList (z ∷ xs)) e s) r (λ u. subst (λ z. is_among (z ∷ xs) u ≡ is_among (y ∷ ys) u) e (a u)) t (bytes_eq y t) refl)))
 
 -- ---- equal sets
 pub texts_decide : (xs ys : List (List ℕ)) → Decides (pointwise bytes_eq xs ys) (xs ≡ ys)

@@ -4,14 +4,16 @@ use Rattle.std.specs.Str.{chars, bytes_eq, IsUtf8, encode_utf8_all, all_scalars}
 use Rattle.std.proofs.Math.Utf8.{scalar, scalar_cases}
 use Rattle.std.proofs.lemmas.List.Folds.{list_any-append}
 use Rattle.std.proofs.lemmas.Slice.Eq.{bytes_eq-Decides}
+use Rattle.std.proofs.lemmas.Option.{same_Some}
+use Rattle.std.proofs.lemmas.Bool.{or_cases}
 use Rattle.std.proofs.lemmas.Bool.Decides.{same_from_decides, Decides-eqb, Decides-like}
 use Rattle.std.proofs.lemmas.Str.{encodes-chars, scalars-chars}
 use Rattle.icu_invlist.specs.InversionList.{holds, limit, ends_up_to, Acts, either}
-use Rattle.icu_text_sets.specs.TextSet.{TextSet, only_of, only_char, is_among, member_as, IsStringList, HoldsTexts}
+use Rattle.icu_text_sets.specs.TextSet.{TextSet, only_of, only_char, is_among, member_as, HoldsTexts}
 
 -- the ends and the texts hold what was given so far
 pub record IsGathered (given : List (List ℕ)) (ends : List ℕ) (texts : List (List ℕ)) : Type 0 where
-  pub list : IsStringList texts
+  pub plain : (t : List ℕ) → is_among texts t ≡ true → only_char t ≡ None
   pub strings : (t : List ℕ) → only_char t ≡ None → is_among texts t ≡ is_among given t
   pub points : (t : List ℕ) (c : ℕ) → IsUtf8 t → only_char t ≡ Some c → holds ends c ≡ is_among given t
   pub scalars : (c : ℕ) → c < limit → holds ends c ≡ true → scalar c ≡ true
@@ -19,7 +21,7 @@ pub record IsGathered (given : List (List ℕ)) (ends : List ℕ) (texts : List 
 pub gathered_none : IsGathered [] [] []
 unfolding ends_up_to
 gathered_none = record {
-  list = tt;
+  plain = λ t h. absurd cc;
   strings = λ t n. refl;
   points = λ t c u n. refl;
   scalars = λ c h n. absurd cc;
@@ -30,9 +32,6 @@ only_is : (cs : List ℕ) (c : ℕ) → only_of cs ≡ Some c → cs ≡ c ∷ [
 only_is [] c h = absurd cc
 only_is (d ∷ []) c h = let e : d ≡ c = cc in ap (λ z. z ∷ []) e
 only_is (d ∷ e ∷ cs) c h = absurd cc
-
-some_is : (a b : ℕ) → ◌≡◌ {A = Option ℕ} (Some a) (Some b) → a ≡ b
-some_is a b h = cc
 
 and_first : (a b : Bool) → (a && b) ≡ true → a ≡ true
 and_first true b h = refl
@@ -55,7 +54,7 @@ same_char x t d c u v o p =
     same_from_decides (bytes_eq x t) (c == d) (bytes_eq-Decides x t)
     (Decides-like (c == d)
     (λ e. spelled x d u o ∙ ap (λ z. encode_utf8_all (z ∷ [])) (sym e) ∙ sym (spelled t c v p))
-    (λ e. some_is c d (sym p ∙ sym (ap only_char e) ∙ o))
+    (λ e. same_Some c d (sym p ∙ sym (ap only_char e) ∙ o))
     (Decides-eqb c d))
 
 -- texts of different kinds are different
@@ -77,11 +76,18 @@ among_one x t = or_none (bytes_eq x t) false refl
 among_more : (given : List (List ℕ)) (x t : List ℕ) → is_among (given ++ x ∷ []) t ≡ (is_among given t || bytes_eq x t)
 among_more given x t = list_any-append (λ y. bytes_eq y t) given (x ∷ []) ∙ ap (λ z. is_among given t || z) (among_one x t)
 
-pub with_string : (given : List (List ℕ)) (ends : List ℕ) (texts texts' : List (List ℕ)) (x : List ℕ) → IsGathered given ends texts → only_char x ≡ None
-    → IsStringList texts' → ((t : List ℕ) → is_among texts' t ≡ (is_among texts t || bytes_eq x t)) → IsGathered (given ++ x ∷ []) ends texts'
-with_string given ends texts texts' x g o s a = record {
-  list = s;
-  strings = λ t n. a t ∙ ap (λ z. z || bytes_eq x t) (g.strings t n) ∙ sym (among_more given x t);
+-- a text among strings and one more that is no character
+plain_more : (texts : List (List ℕ)) (x t : List ℕ) → ((t : List ℕ) → is_among texts t ≡ true → only_char t ≡ None) → only_char x ≡ None → is_among (texts ++ x ∷ []) t ≡ true → only_char t ≡ None
+plain_more texts x t p o h = elim (or_cases (is_among texts t) (bytes_eq x t) (sym (among_more texts x t) ∙ h)) [
+  | inl a ↦ p t a
+  | inr e ↦ sym (ap only_char ((bytes_eq-Decides x t).0 e)) ∙ o
+]
+
+pub with_string : (given : List (List ℕ)) (ends : List ℕ) (texts : List (List ℕ)) (x : List ℕ) → IsGathered given ends texts → only_char x ≡ None
+    → IsGathered (given ++ x ∷ []) ends (texts ++ x ∷ [])
+with_string given ends texts x g o = record {
+  plain = λ t. plain_more texts x t g.plain o;
+  strings = λ t n. among_more texts x t ∙ ap (λ z. z || bytes_eq x t) (g.strings t n) ∙ sym (among_more given x t);
   points = λ t c u n. g.points t c u n ∙ sym (among_more given x t ∙ or_none (is_among given t) (bytes_eq x t) (other_kind x t 0 None (Some c) o n (λ e. cc)));
   scalars = g.scalars;
 }
@@ -89,7 +95,7 @@ with_string given ends texts texts' x g o s a = record {
 pub with_char : (given : List (List ℕ)) (ends ends' : List ℕ) (texts : List (List ℕ)) (x : List ℕ) (d : ℕ) → IsGathered given ends texts → IsUtf8 x → only_char x ≡ Some d
     → Acts either ends (λ n. n == d) ends' → IsGathered (given ++ x ∷ []) ends' texts
 with_char given ends ends' texts x d g v o a = record {
-  list = g.list;
+  plain = g.plain;
   strings = λ t n. g.strings t n ∙ sym (among_more given x t ∙ or_none (is_among given t) (bytes_eq x t) (other_kind x t d (Some d) None o n (λ e. cc)));
   points = λ t c u n.
       a c (scalar_small c (scalar_of t c u n)) ∙ ap (λ z. z || (c == d)) (g.points t c u n) ∙ ap (λ z. is_among given t || z) (sym (same_char x t d c v u o n)) ∙ sym (among_more given x t);
@@ -105,5 +111,16 @@ holds_as : (given : List (List ℕ)) (set : TextSet) (t : List ℕ) (o : Option 
 holds_as given set t None g u e = g.strings t e
 holds_as given set t (Some c) g u e = g.points t c u e
 
-pub holds_texts : (given : List (List ℕ)) (set : TextSet) → IsGathered given set.code_points set.strings → HoldsTexts given set
-holds_texts given set g = (λ t u. holds_as given set t (only_char t) g u refl, g.scalars)
+-- the strings in another order, each once
+sorted_as : (given : List (List ℕ)) (ends : List ℕ) (texts texts' : List (List ℕ)) → IsGathered given ends texts → ((t : List ℕ) → is_among texts' t ≡ is_among texts t) → IsGathered given ends texts'
+sorted_as given ends texts texts' g a = record {
+  plain = λ t h. g.plain t (sym (a t) ∙ h);
+  strings = λ t n. a t ∙ g.strings t n;
+  points = g.points;
+  scalars = g.scalars;
+}
+
+pub holds_texts : (given : List (List ℕ)) (set : TextSet) (texts : List (List ℕ)) → IsGathered given set.code_points texts → ((t : List ℕ) → is_among set.strings t ≡ is_among texts t) → HoldsTexts given set
+holds_texts given set texts g a =
+    let h = sorted_as given set.code_points texts set.strings g a in
+    (λ t u. holds_as given set t (only_char t) h u refl, g.scalars)

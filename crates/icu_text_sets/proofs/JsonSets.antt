@@ -8,7 +8,8 @@ use Rattle.icu_invlist.specs.declared.codepointinvlist.error.SetJsonError.{SetJs
 use Rattle.icu_invlist.specs.declared.codepointinvlist.error.SetJsonError.TheVariants.{NotAnArray, NotAString, NotARange, InvalidSet, Memory}
 use Rattle.icu_text_sets.specs.TextSet.{TextSet}
 use Rattle.icu_text_sets.specs.TextFaults.{TextFault, fault}
-use Rattle.icu_text_sets.specs.TextSetJson.{JsonFault, no_set, text_fault, texts_said, set_fault_of, set_unless, set_with, IsReadWith, IsReadAt, IsRead, IsRefusedAs, GivesTexts}
+use Rattle.icu_text_sets.specs.TextSetJson.{JsonFault, no_set, text_fault, texts_said, set_unless, set_with, IsReadWith, IsReadAt, IsRead, IsRefusedAs}
+use Rattle.icu_text_sets.specs.Inside.JsonParts.{set_fault_of, GivesTexts}
 
 -- ---- the parts
 abbrev pub PointsAt : Data → Data → Type 0

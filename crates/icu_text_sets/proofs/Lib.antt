@@ -5,3 +5,4 @@ pub mod EqualSets
 pub mod JsonTexts
 pub mod Copies
 pub mod JsonSets
+pub mod Sorting

@@ -2,14 +2,16 @@
 use Rattle.std.proofs.Common.{◌≡◌, ℕ, zero, suc, ◌+◌, ◌<◌, ◌≤◌, List, [], ◌∷◌, Option, Some, None, refl, sym, ap, ◌∙◌, arith, length, get_or, drop, drop-cons, add-one, Bor, String, Global, string_bytes, option_map}
 use Rattle.std.specs.Slice.{IsItemAt}
 use Rattle.std.proofs.lemmas.List.{drop_all}
+use Rattle.std.proofs.lemmas.Option.{same_Some}
 use Rattle.std.specs.declared.cmp.Ordering.{Ordering}
 use Rattle.std.specs.declared.cmp.Ordering.TheVariants.{Less, Equal, Greater}
 use Rattle.icu_text_sets.specs.TextSet.{only_char, text_cmp, texts_of, IsStringList}
-use Rattle.icu_text_sets.specs.TextFaults.{TextFault, one_code_point, repeated, unsorted, alone, neighbours, fault, fault_at, extent, next_kind, kind_as, kind_of}
+use Rattle.icu_text_sets.specs.TextFaults.{TextFault, one_code_point, repeated, unsorted, fault_of_one, fault_of_two, fault}
+use Rattle.icu_text_sets.specs.Inside.StringFaults.{fault_at, fault_length, next_kind, kind_as, kind_of}
 use Rattle.icu_text_sets.specs.declared.codepointinvliststringlist.make.Fault.{Fault}
 use Rattle.icu_text_sets.specs.declared.codepointinvliststringlist.make.Fault.TheVariants.{OneCodePoint, Repeated, Unsorted}
 
--- ---- a text and those behind it
+-- ---- a text and those after it
 abbrev first_text : List (String Global) → Option (List ℕ)
 first_text [] = None
 first_text (s ∷ strings) = Some (string_bytes s)
@@ -23,22 +25,19 @@ shown t u OneCodePoint = one_code_point t
 shown t u Repeated = repeated t
 shown t u Unsorted = unsorted t u
 
-some_same : (a b : Fault) → ◌≡◌ {A = Option Fault} (Some a) (Some b) → a ≡ b
-some_same a b h = cc
-
 -- no fault
-neighbours_on : (t u : List ℕ) (o : Ordering) (behind : Option TextFault) → next_kind o ≡ None → neighbours t u o behind ≡ behind
-neighbours_on t u Less behind h = refl
-neighbours_on t u Equal behind h = absurd cc
-neighbours_on t u Greater behind h = absurd cc
+neighbours_on : (t u : List ℕ) (o : Ordering) (later : Option TextFault) → next_kind o ≡ None → fault_of_two t u o later ≡ later
+neighbours_on t u Less later h = refl
+neighbours_on t u Equal later h = absurd cc
+neighbours_on t u Greater later h = absurd cc
 
-alone_on : (t : List ℕ) (o : Option ℕ) → kind_as t None o ≡ None → alone t o None ≡ None
+alone_on : (t : List ℕ) (o : Option ℕ) → kind_as t None o ≡ None → fault_of_one t o None ≡ None
 alone_on t None h = refl
 alone_on t (Some c) h = absurd cc
 
-before_on : (t u : List ℕ) (o : Option ℕ) (behind : Option TextFault) → kind_as t (Some u) o ≡ None → alone t o (neighbours t u (text_cmp t u) behind) ≡ behind
-before_on t u None behind h = neighbours_on t u (text_cmp t u) behind h
-before_on t u (Some c) behind h = absurd cc
+before_on : (t u : List ℕ) (o : Option ℕ) (later : Option TextFault) → kind_as t (Some u) o ≡ None → fault_of_one t o (fault_of_two t u (text_cmp t u) later) ≡ later
+before_on t u None later h = neighbours_on t u (text_cmp t u) later h
+before_on t u (Some c) later h = absurd cc
 
 on : (t : List ℕ) (rest : List (String Global)) → kind_of t (first_text rest) ≡ None → fault (t ∷ texts_of rest) ≡ fault (texts_of rest)
 unfolding fault
@@ -46,22 +45,22 @@ on t [] h = alone_on t (only_char t) h
 on t (s ∷ rest) h = before_on t (string_bytes s) (only_char t) (fault (texts_of (s ∷ rest))) h
 
 -- a fault
-neighbours_at : (t u : List ℕ) (o : Ordering) (behind : Option TextFault) (f : Fault) → next_kind o ≡ Some f → (neighbours t u o behind ≡ Some (shown t u f)) × (extent f ≤ 2)
-neighbours_at t u Less behind f h = absurd cc
-neighbours_at t u Equal behind f h = let e = some_same Repeated f h in rw (← e) (refl, omega arith)
-neighbours_at t u Greater behind f h = let e = some_same Unsorted f h in rw (← e) (refl, omega arith)
+neighbours_at : (t u : List ℕ) (o : Ordering) (later : Option TextFault) (f : Fault) → next_kind o ≡ Some f → (fault_of_two t u o later ≡ Some (shown t u f)) × (fault_length f ≤ 2)
+neighbours_at t u Less later f h = absurd cc
+neighbours_at t u Equal later f h = let e = same_Some Repeated f h in rw (← e) (refl, omega arith)
+neighbours_at t u Greater later f h = let e = same_Some Unsorted f h in rw (← e) (refl, omega arith)
 
-alone_at : (t : List ℕ) (o : Option ℕ) (f : Fault) → kind_as t None o ≡ Some f → (alone t o None ≡ Some (shown t [] f)) × (extent f ≤ 1)
+alone_at : (t : List ℕ) (o : Option ℕ) (f : Fault) → kind_as t None o ≡ Some f → (fault_of_one t o None ≡ Some (shown t [] f)) × (fault_length f ≤ 1)
 alone_at t None f h = absurd cc
-alone_at t (Some c) f h = let e = some_same OneCodePoint f h in rw (← e) (refl, omega arith)
+alone_at t (Some c) f h = let e = same_Some OneCodePoint f h in rw (← e) (refl, omega arith)
 
-before_at : (t u : List ℕ) (o : Option ℕ) (behind : Option TextFault) (f : Fault) → kind_as t (Some u) o ≡ Some f
-    → (alone t o (neighbours t u (text_cmp t u) behind) ≡ Some (shown t u f)) × (extent f ≤ 2)
-before_at t u None behind f h = neighbours_at t u (text_cmp t u) behind f h
-before_at t u (Some c) behind f h = let e = some_same OneCodePoint f h in rw (← e) (refl, omega arith)
+before_at : (t u : List ℕ) (o : Option ℕ) (later : Option TextFault) (f : Fault) → kind_as t (Some u) o ≡ Some f
+    → (fault_of_one t o (fault_of_two t u (text_cmp t u) later) ≡ Some (shown t u f)) × (fault_length f ≤ 2)
+before_at t u None later f h = neighbours_at t u (text_cmp t u) later f h
+before_at t u (Some c) later f h = let e = same_Some OneCodePoint f h in rw (← e) (refl, omega arith)
 
 stop : (t : List ℕ) (rest : List (String Global)) (f : Fault) → kind_of t (first_text rest) ≡ Some f
-    → (fault (t ∷ texts_of rest) ≡ Some (shown t (text_or_empty rest) f)) × (extent f ≤ suc (length rest))
+    → (fault (t ∷ texts_of rest) ≡ Some (shown t (text_or_empty rest) f)) × (fault_length f ≤ suc (length rest))
 unfolding fault
 stop t [] f h = alone_at t (only_char t) f h
 stop t (s ∷ rest) f h = let p = before_at t (string_bytes s) (only_char t) (fault (texts_of (s ∷ rest))) f h in (p.0, omega (arith, p.1))
@@ -112,21 +111,21 @@ unfolding fault
 at_end strings i whole h w = sym w ∙ ap (λ z. fault (texts_of z)) (drop_all i strings h)
 
 -- ---- a list with no fault is one of a set
-only_none : (t : List ℕ) (o : Option ℕ) (behind : Option TextFault) → alone t o behind ≡ None → (o ≡ None) × (behind ≡ None)
-only_none t None behind h = (refl, h)
-only_none t (Some c) behind h = absurd cc
+only_none : (t : List ℕ) (o : Option ℕ) (later : Option TextFault) → fault_of_one t o later ≡ None → (o ≡ None) × (later ≡ None)
+only_none t None later h = (refl, h)
+only_none t (Some c) later h = absurd cc
 
-less_none : (t u : List ℕ) (o : Ordering) (behind : Option TextFault) → neighbours t u o behind ≡ None → (o ≡ Less) × (behind ≡ None)
-less_none t u Less behind h = (refl, h)
-less_none t u Equal behind h = absurd cc
-less_none t u Greater behind h = absurd cc
+less_none : (t u : List ℕ) (o : Ordering) (later : Option TextFault) → fault_of_two t u o later ≡ None → (o ≡ Less) × (later ≡ None)
+less_none t u Less later h = (refl, h)
+less_none t u Equal later h = absurd cc
+less_none t u Greater later h = absurd cc
 
 pub faultless : (ts : List (List ℕ)) → fault ts ≡ None → IsStringList ts
 unfolding fault
 faultless [] h = tt
 faultless (t ∷ []) h = (only_none t (only_char t) None h).0
 faultless (t ∷ u ∷ ts) h =
-    let p = only_none t (only_char t) (neighbours t u (text_cmp t u) (fault (u ∷ ts))) h in
+    let p = only_none t (only_char t) (fault_of_two t u (text_cmp t u) (fault (u ∷ ts))) h in
     let q = less_none t u (text_cmp t u) (fault (u ∷ ts)) p.1 in
     (p.0, q.0, faultless (u ∷ ts) q.1)
 

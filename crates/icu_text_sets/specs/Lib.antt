@@ -1,5 +1,5 @@
 pub mod TextSet
 pub mod TextFaults
-pub mod Places
 pub mod TextSetLaws
 pub mod TextSetJson
+pub mod Inside

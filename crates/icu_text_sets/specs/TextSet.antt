@@ -1,5 +1,5 @@
--- Sets of code points and texts. A text is its bytes in UTF-8. A text of exactly one character is held where
--- the code points have this character, any other text where the strings have it.
+-- Sets of code points and texts. A text is its bytes in UTF-8. A text of exactly one character is
+-- held where the code points have this character, any other text where the strings have it.
 use Rattle.std.specs.Prelude.{◌≡◌, ℕ, ◌+◌, ◌<◌, ◌&&◌, List, [], ◌∷◌, map, length, nat_eq, Bool, true, Option, Some, None, String}
 use Rattle.std.specs.Global.{Global}
 use Rattle.std.specs.List.{list_any}
@@ -62,9 +62,11 @@ member_count set = members_below set.code_points limit + length set.strings
 -- the set holds these texts and no other one, and no surrogate
 abbrev pub HoldsTexts : List (List ℕ) → TextSet → Type 0
 HoldsTexts texts set =
-    ((text : List ℕ) → IsUtf8 text → member set text ≡ is_among texts text) × ((c : ℕ) → c < limit → holds set.code_points c ≡ true → scalar c ≡ true)
+    ((text : List ℕ) → IsUtf8 text → member set text ≡ is_among texts text)
+    × ((c : ℕ) → c < limit → holds set.code_points c ≡ true → scalar c ≡ true)
 
 -- ---- equality
 -- the sets have the same ends and the same strings
 abbrev pub same_set : TextSet → TextSet → Bool
-same_set a b = pointwise nat_eq a.code_points b.code_points && pointwise bytes_eq a.strings b.strings
+same_set a b = pointwise nat_eq a.code_points b.code_points
+    && pointwise bytes_eq a.strings b.strings

@@ -1,13 +1,15 @@
--- A set of code points and texts in JSON: an object whose member `cp_inv_list` has the code points as a set of
--- code points is written, and whose member `str_list` is the array of the strings.
-use Rattle.std.specs.Prelude.{◌≡◌, ℕ, ◌+◌, ◌⊎◌, List, [], ◌∷◌, map, codes, Option, Some, None, Result, Ok, Err}
+-- A set of code points and texts in JSON: an object whose member `cp_inv_list` has the code points
+-- as a set of code points is written, and whose member `str_list` is the array of the strings.
+use Rattle.std.specs.Prelude.{◌≡◌, ℕ, ◌⊎◌, List, [], ◌∷◌, map, codes, Option, Some, None, option_and_then, Result, Ok, Err}
+use Rattle.std.specs.Option.{ok_or}
 use Rattle.serde_json.specs.Data.{Data, string, array, object, Items, no_items, item, Members, no_members, member}
 use Rattle.serde_json.specs.Find.{get, as_object, as_array, as_str}
 use Rattle.serde_json.specs.View.{items_of}
 use Rattle.icu_invlist.specs.InversionList.{IsValid}
 use Rattle.icu_invlist.specs.SetJson.{ends_of, written_of}
 use Rattle.icu_invlist.specs.declared.codepointinvlist.error.SetJsonError.{SetJsonError}
-use Rattle.icu_invlist.specs.declared.codepointinvlist.error.SetJsonError.TheVariants.{NotAnArray, NotAString, NotARange, InvalidSet, Memory}
+use Rattle.icu_invlist.specs.declared.codepointinvlist.error.SetJsonError.TheVariants.{InvalidSet}
+use Rattle.icu_zerovec.specs.FirstFault.{and_then, read_from}
 use Rattle.icu_text_sets.specs.TextSet.{TextSet}
 use Rattle.icu_text_sets.specs.TextFaults.{TextFault, fault, fault_of}
 use Rattle.icu_text_sets.specs.declared.codepointinvliststringlist.error.StringListJsonError.{StringListJsonError}
@@ -15,7 +17,9 @@ use Rattle.icu_text_sets.specs.declared.codepointinvliststringlist.error.StringL
 
 -- the object with these code points and strings, each as it is written
 abbrev pub object_of : Data → List Data → Data
-object_of points strings = object (member (codes "cp_inv_list") points (member (codes "str_list") (array (items_of strings)) no_members))
+object_of points strings =
+    object (member (codes "cp_inv_list") points
+    (member (codes "str_list") (array (items_of strings)) no_members))
 
 -- what is written of a set
 abbrev pub json_of : TextSet → Data
@@ -36,37 +40,25 @@ json_fault_of (errors.NotAString i) = Some (no_string i)
 json_fault_of (errors.Strings e) = Some (text_fault (fault_of e))
 json_fault_of errors.Memory = None
 
--- what a refused set of code points says
-abbrev pub set_fault_of : SetJsonError → Option JsonFault
-set_fault_of Memory = None
-set_fault_of NotAnArray = Some (no_set NotAnArray)
-set_fault_of (NotAString i) = Some (no_set (NotAString i))
-set_fault_of (NotARange i) = Some (no_set (NotARange i))
-set_fault_of InvalidSet = Some (no_set InvalidSet)
-
 -- ---- the strings
--- the text that stands at i, if it is one, before the others
-abbrev pub text_before : ℕ → Option (List ℕ) → Result (List (List ℕ)) JsonFault → Result (List (List ℕ)) JsonFault
-text_before i None others = Err (no_string i)
-text_before i (Some t) (Ok texts) = Ok (t ∷ texts)
-text_before i (Some t) (Err f) = Err f
+-- items as a list
+abbrev pub list_of : Items → List Data
+list_of no_items = []
+list_of (item d items) = d ∷ list_of items
 
--- the texts that items are, of which the first stands at i, or the first item that is none
-unfoldable pub texts_from : ℕ → Items → Result (List (List ℕ)) JsonFault
-texts_from i no_items = Ok []
-texts_from i (item d items) = text_before i (as_str d) (texts_from (i + 1) items)
+-- the text that item i is
+abbrev pub text_or : ℕ → Data → Result (List ℕ) JsonFault
+text_or i d = ok_or (as_str d) (no_string i)
 
-abbrev pub texts_in : Option Items → Result (List (List ℕ)) JsonFault
-texts_in None = Err (no_shape (codes "str_list"))
-texts_in (Some items) = texts_from 0 items
-
-abbrev pub texts_at : Option Data → Result (List (List ℕ)) JsonFault
-texts_at None = Err (no_shape (codes "str_list"))
-texts_at (Some d) = texts_in (as_array d)
+-- the texts that items are, or the first item that is none
+abbrev pub texts_in : Items → Result (List (List ℕ)) JsonFault
+texts_in items = read_from text_or 0 (list_of items)
 
 -- the texts at the key `str_list`, or their first fault
 abbrev pub texts_said : Data → Result (List (List ℕ)) JsonFault
-texts_said d = texts_at (get (codes "str_list") d)
+texts_said d = and_then
+    (ok_or (option_and_then as_array (get (codes "str_list") d)) (no_shape (codes "str_list")))
+    texts_in
 
 -- ---- the set
 -- the set of these ends and texts, where the texts have no fault
@@ -75,13 +67,15 @@ set_unless ends texts None = Ok (record { code_points = ends; strings = texts })
 set_unless ends texts (Some f) = Err (text_fault f)
 
 abbrev pub set_with : List ℕ → Result (List (List ℕ)) JsonFault → Result TextSet JsonFault
-set_with ends (Err f) = Err f
-set_with ends (Ok texts) = set_unless ends texts (fault texts)
+set_with ends said = and_then said (λ texts. set_unless ends texts (fault texts))
 
 -- the ends are tested before the texts are looked for
-abbrev pub IsReadWith : Result (List ℕ) SetJsonError → Result (List (List ℕ)) JsonFault → Result TextSet JsonFault → Type 0
+abbrev pub IsReadWith : Result (List ℕ) SetJsonError → Result (List (List ℕ)) JsonFault
+    → Result TextSet JsonFault → Type 0
 IsReadWith (Err e) texts read = read ≡ Err (no_set e)
-IsReadWith (Ok ends) texts read = (IsValid ends × (read ≡ set_with ends texts)) ⊎ ((IsValid ends → ⊥) × (read ≡ Err (no_set InvalidSet)))
+IsReadWith (Ok ends) texts read =
+    (IsValid ends × (read ≡ set_with ends texts))
+    ⊎ ((IsValid ends → ⊥) × (read ≡ Err (no_set InvalidSet)))
 
 abbrev pub IsReadAt : Option Data → Data → Result TextSet JsonFault → Type 0
 IsReadAt None d read = read ≡ Err (no_shape (codes "cp_inv_list"))
@@ -91,17 +85,13 @@ abbrev pub IsReadIn : Option Members → Data → Result TextSet JsonFault → T
 IsReadIn None d read = read ≡ Err (no_shape [])
 IsReadIn (Some ms) d read = IsReadAt (get (codes "cp_inv_list") d) d read
 
--- what a value is read as: one set or one fault, the first in the order of the tests. The ends are either an
--- inversion list or none, so no value is read as two things
+-- what a value is read as: one set or one fault, the first in the order of the tests. The ends are
+-- either an inversion list or none, so no value is read as two things
 abbrev pub IsRead : Data → Result TextSet JsonFault → Type 0
 IsRead d read = IsReadIn (as_object d) d read
 
--- an error tells the fault that the value is read as, or want of memory, which may come in place of any answer
+-- an error tells the fault that the value is read as, or want of memory, which may come in place of
+-- any answer
 abbrev pub IsRefusedAs : Data → Option JsonFault → Type 0
 IsRefusedAs d None = Unit {0}
 IsRefusedAs d (Some f) = IsRead d (Err f)
-
--- what a reader of the strings answers
-abbrev pub GivesTexts : Result (List (List ℕ)) JsonFault → Option JsonFault → Type 0
-GivesTexts texts None = Unit {0}
-GivesTexts texts (Some f) = texts ≡ Err f

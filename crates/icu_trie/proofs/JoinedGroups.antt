@@ -5,7 +5,7 @@ use Rattle.icu_trie_core.specs.declared.range.CodePointMapRange.{CodePointMapRan
 use Rattle.icu_trie.specs.JoinedRanges.{AreJoined, GoOn, StopsAt, continues, group_of, joined, joined_from, merged}
 
 module _ {A : Type 0} (eq : A → A → Bool) where
-  -- the first group: r and the ranges that go on with it, and what stands behind them
+  -- the first group: r and the ranges that go on with it, and what comes after them
   record FirstGroup (r : CodePointMapRange A) (xs : List (CodePointMapRange A)) : Type 0 where
     pub others : List (CodePointMapRange A)
     pub rest : List (CodePointMapRange A)

@@ -1,5 +1,5 @@
 pub mod CallerLemmas
-mod PackedCellLemmas
+mod CellBytesLemmas
 mod ConversionLemmas
 pub mod IteratorLemmas
 pub mod SetLemmas

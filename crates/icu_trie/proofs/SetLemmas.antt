@@ -48,7 +48,7 @@ module _ {X : Type 0} (P : X → Type 0) where
     | inr q ↦ elim (any-push_cases xs y q) [ inl r ↦ inl (any-there x xs r) | inr p ↦ inr p ]
   ]
 
--- ---- one more end behind the others
+-- ---- one more end after the others
 ends_up_to-push : (ends : List ℕ) (e c : ℕ) → ends_up_to (ends ++ e ∷ []) c ≡ ends_up_to ends c + cond (nat_le e c) 1 0
 unfolding ends_up_to
 ends_up_to-push ends e c = sum_by-append (λ x. cond (nat_le x c) 1 0) ends (e ∷ []) ∙ ap (λ n. ends_up_to ends c + n) one
@@ -67,7 +67,7 @@ ends_up_to-past (x ∷ xs) c low =
 rises-push : (ends : List ℕ) (m : ℕ) → IsStrictlyIncreasing ends → All (λ e. e < m) ends → IsStrictlyIncreasing (ends ++ m ∷ [])
 rises-push ends m up low k h = all_pairs_push (λ x y. x < y) ends m (AllPairs-from_increasing ends up) low k (k + 1) 0 (omega arith) h
 
--- what the ends say behind all of them
+-- what the ends say past all of them
 holds-past : (ends : List ℕ) (c : ℕ) → All (λ e. e ≤ c) ends → holds ends c ≡ is_odd (length ends)
 holds-past ends c low = ap is_odd (ends_up_to-past ends c low)
 

@@ -16,9 +16,13 @@ module _ {S A : Type 0} where
   coalescer_peek s = s.peek
 
   -- what it gives from a state on, where the iterator inside goes on to give xs
-  abbrev pub coalescer_gives : (A → A → Bool) → RangeListIteratorCoalescer S A → List (CodePointMapRange A) → List (CodePointMapRange A)
+  abbrev pub coalescer_gives : (A → A → Bool) → RangeListIteratorCoalescer S A
+      → List (CodePointMapRange A) → List (CodePointMapRange A)
   coalescer_gives eq s xs = joined eq (option_to_list (coalescer_peek s) ++ xs)
 
   -- a call: it took ranges of the iterator inside, and gave the first of the joined ranges
-  abbrev pub coalescer_steps : (S → Option (CodePointMapRange A) → S → Type 0) → (A → A → Bool) → RangeListIteratorCoalescer S A → Option (CodePointMapRange A) → RangeListIteratorCoalescer S A → Type 0
-  coalescer_steps steps eq = Adapts true steps coalescer_source (λ s (k : ⊤). ⊤) (λ k. coalescer_gives eq)
+  abbrev pub coalescer_steps : (S → Option (CodePointMapRange A) → S → Type 0) → (A → A → Bool)
+      → RangeListIteratorCoalescer S A → Option (CodePointMapRange A)
+      → RangeListIteratorCoalescer S A → Type 0
+  coalescer_steps steps eq =
+      Adapts true steps coalescer_source (λ s (k : ⊤). ⊤) (λ k. coalescer_gives eq)

@@ -19,15 +19,17 @@ with_null_value h number = record {
   trie_type = h.trie_type;
 }
 
--- what becomes of the trie t, from what became of its data and of its null value: the first bad cell is
--- refused, then a null value of which the other type has none, and else header and index are kept, but for the
--- number of the null value
-abbrev pub Becomes : {T P : Type 0} → (P → ℕ) → Parts T → Result (List P) UleError → Option P → Result (Parts P) ConvertError → Type 0
+-- what becomes of the trie t, from what became of its data and of its null value: the first bad
+-- cell is refused, then a null value of which the other type has none, and else header and index
+-- are kept, but for the number of the null value
+abbrev pub Becomes : {T P : Type 0} → (P → ℕ) → Parts T → Result (List P) UleError → Option P
+    → Result (Parts P) ConvertError → Type 0
 Becomes number t (Err Length) null result = ⊥
 Becomes number t (Err (Cell i)) null result = result ≡ Err (errors.Cell i)
 Becomes number t (Ok values) None result = result ≡ Err errors.ErrorOrNull
 Becomes number t (Ok values) (Some p) result =
-    result ≡ Ok (record { header = with_null_value t.header (number p); index = t.index; values = values })
+    result ≡ Ok (record
+    { header = with_null_value t.header (number p); index = t.index; values = values })
 
 -- a value of one type as the value of the other that has the same packed bytes, if there is one
 abbrev pub same_packed : {T P : Type 0} → (T → List ℕ) → (List ℕ → Option P) → Option T → Option P

@@ -14,7 +14,9 @@ module _ {A : Type 0} {m : _} where
   iterator_next s = s.next
 
   -- a call gave the range from where the one before it ended, or none, and then none for ever
-  pub record GivesNextRange (of_number : ℕ → Option A) (s : CodePointMapRangeIterator A m) (r : Option (CodePointMapRange A)) (t : CodePointMapRangeIterator A m) : Type 0 where
+  pub record GivesNextRange (of_number : ℕ → Option A) (s : CodePointMapRangeIterator A m)
+      (r : Option (CodePointMapRange A)) (t : CodePointMapRangeIterator A m) : Type 0 where
     pub same : t.trie ≡ s.trie
-    pub gives : GivesWalk of_number (iterator_trie s).header (iterator_trie s).index (iterator_trie s).values (iterator_next s) r
+    pub gives : GivesWalk of_number (iterator_trie s).header (iterator_trie s).index
+        (iterator_trie s).values (iterator_next s) r
     pub moves : MatchOption r (iterator_next t ≡ 0x110000) (λ x. iterator_next t ≡ last_of x + 1)

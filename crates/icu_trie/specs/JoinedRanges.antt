@@ -4,22 +4,27 @@ use Rattle.icu_trie_core.specs.declared.range.CodePointMapRange.{CodePointMapRan
 use Rattle.icu_trie_core.specs.Range.{first_of, last_of}
 
 module _ {A : Type 0} (eq : A → A → Bool) where
-  -- x goes on with r: it starts at the last code point of r plus one, and its value equals that of r. Nothing
-  -- goes on behind the greatest number of 32 bits
+  -- x goes on with r: it starts at the last code point of r plus one, and its value equals that of
+  -- r. Nothing goes on after the greatest number of 32 bits
   abbrev pub continues : CodePointMapRange A → CodePointMapRange A → Bool
-  continues r x = nat_lt (last_of r) 0xFFFFFFFF && (first_of x == last_of r + 1) && eq x.value r.value
+  continues r x = nat_lt (last_of r) 0xFFFFFFFF && (first_of x == last_of r + 1)
+      && eq x.value r.value
 
   -- from the start of r to the end of x, with the value of r
   abbrev pub merged : CodePointMapRange A → CodePointMapRange A → CodePointMapRange A
-  merged r x = record { range = record { start = first_of r; end = last_of x; exhausted = false }; value = r.value }
+  merged r x = record
+      { range = record { start = first_of r; end = last_of x; exhausted = false }; value = r.value }
 
-  -- the joined ranges behind r, what was joined so far: a range that goes on with r is joined to it, and the
-  -- first one that does not is the start of the next group
-  abbrev pub joined_from : CodePointMapRange A → List (CodePointMapRange A) → List (CodePointMapRange A)
+  -- the joined ranges after r, what was joined so far: a range that goes on with r is joined to it,
+  -- and the first one that does not is the start of the next group
+  abbrev pub joined_from : CodePointMapRange A → List (CodePointMapRange A)
+      → List (CodePointMapRange A)
   joined_from r [] = r ∷ []
-  joined_from r (x ∷ xs) = if continues r x then joined_from (merged r x) xs else r ∷ joined_from x xs
+  joined_from r (x ∷ xs) =
+      if continues r x then joined_from (merged r x) xs else r ∷ joined_from x xs
 
-  -- the joined ranges: one for each group of ranges that go on with one another, with the first one's value
+  -- the joined ranges: one for each group of ranges that go on with one another, with the first
+  -- one's value
   abbrev pub joined : List (CodePointMapRange A) → List (CodePointMapRange A)
   joined [] = []
   joined (x ∷ xs) = joined_from x xs
@@ -40,10 +45,12 @@ module _ {A : Type 0} (eq : A → A → Bool) where
   StopsAt r [] = Unit {0}
   StopsAt r (x ∷ xs) = continues r x ≡ false
 
-  -- xs is cut into consecutive groups of ranges that go on with one another, a group stops where the next range
-  -- doesn't go on with it, and each group is one range of ys
+  -- xs is cut into consecutive groups of ranges that go on with one another, a group stops where
+  -- the next range doesn't go on with it, and each group is one range of ys
   abbrev pub AreJoined : List (CodePointMapRange A) → List (CodePointMapRange A) → Type 0
   AreJoined xs [] = xs ≡ []
   AreJoined xs (y ∷ ys) =
-      (r : CodePointMapRange A) × (others : List (CodePointMapRange A)) × (rest : List (CodePointMapRange A))
-      × (xs ≡ r ∷ (others ++ rest)) × GoOn r others × (y ≡ group_of r others) × StopsAt y rest × AreJoined rest ys
+      (r : CodePointMapRange A) × (others : List (CodePointMapRange A))
+      × (rest : List (CodePointMapRange A))
+      × (xs ≡ r ∷ (others ++ rest)) × GoOn r others × (y ≡ group_of r others) × StopsAt y rest
+      × AreJoined rest ys

@@ -11,7 +11,8 @@ use Rattle.icu_trie_core.specs.Range.{first_of, last_of}
 use Rattle.icu_trie.specs.Ranges.{AreRangesFrom}
 use Rattle.icu_trie.specs.Iterators.{GivesNextRange}
 use Rattle.icu_trie.specs.JoinedRanges.{joined}
-use Rattle.icu_trie.specs.Coalescer.{coalescer_steps}
+use Rattle.itertools.specs.Adaptor.{fuse_can}
+use Rattle.icu_trie.specs.Coalescer.{coalescer_source, coalescer_steps}
 
 module _ {A B : Type 0} (eq : B → B → Bool) (h : A → B) (map : ℕ → Option A) where
   -- from `first` to `last` the mapped values equal `value`, which is the mapped value at `first`
@@ -26,11 +27,13 @@ module _ {A B : Type 0} (eq : B → B → Bool) (h : A → B) (map : ℕ → Opt
     pub maps : MapsTo first last value
     pub ends : (x : A) → last + 1 < 0x110000 → map (last + 1) ≡ Some x → eq (h x) value ≡ false
 
-  -- from c on these are the maximal runs of the values of `map` under h, where values are equal by eq
+  -- from c on these are the maximal runs of the values of `map` under h, where values are equal by
+  -- eq
   abbrev pub AreMappedRunsFrom : ℕ → List (CodePointMapRange B) → Type 0
   AreMappedRunsFrom c [] = c ≡ 0x110000
   AreMappedRunsFrom c (r ∷ rs) =
-      (first_of r ≡ c) × (range_inclusive_exhausted r.range ≡ false) × LongestMappedRun c (last_of r) r.value × AreMappedRunsFrom (last_of r + 1) rs
+      (first_of r ≡ c) × (range_inclusive_exhausted r.range ≡ false)
+      × LongestMappedRun c (last_of r) r.value × AreMappedRunsFrom (last_of r + 1) rs
 
 module _ {F A B : Type 0} (post : F → A → B → Type 0) (f : F) where
   -- f answers h of its argument
@@ -52,7 +55,8 @@ module _ {F A B : Type 0} (post : F → A → B → Type 0) (f : F) where
   IsAnswered (Some x) (Some y) = (y.range ≡ x.range) × post f x.value y.value
 
 -- the joined ranges of those that a trie gives, each with an answer of f to its value
-pub record AreMappedRangesOf {F A B : Type 0} (of_number : ℕ → Option A) (post : F → A → B → Type 0) (eq : B → B → Bool) (f : F) (p : Parts A) (ranges : List (CodePointMapRange B)) : Type 0 where
+pub record AreMappedRangesOf {F A B : Type 0} (of_number : ℕ → Option A) (post : F → A → B → Type 0)
+    (eq : B → B → Bool) (f : F) (p : Parts A) (ranges : List (CodePointMapRange B)) : Type 0 where
   pub all : List (CodePointMapRange A)
   pub given : AreRangesFrom of_number p 0 all
   pub answered : List (CodePointMapRange B)
@@ -67,16 +71,30 @@ module _ {F A : Type 0} {m : _} where
   abbrev pub mapped_callee : MappedRanges A F m → F
   mapped_callee s = s.map
 
-  -- a call gave the next range with an answer of the closure to its value, or none where there is none
-  pub record GivesMapped {B : Type 0} (of_number : ℕ → Option A) (post : F → A → B → Type 0) (s : MappedRanges A F m) (r : Option (CodePointMapRange B)) (t : MappedRanges A F m) : Type 0 where
+  -- a call gave the next range with an answer of the closure to its value, or none where there is
+  -- none
+  pub record GivesMapped {B : Type 0} (of_number : ℕ → Option A) (post : F → A → B → Type 0)
+      (s : MappedRanges A F m) (r : Option (CodePointMapRange B))
+      (t : MappedRanges A F m) : Type 0 where
     pub same : mapped_callee t ≡ mapped_callee s
     pub taken : Option (CodePointMapRange A)
     pub step : GivesNextRange of_number (mapped_source s) taken (mapped_source t)
     pub gives : IsAnswered post (mapped_callee s) taken r
 
   -- the coalescer inside the iterator, and its steps
-  abbrev pub iter_mapped_source : {B : Type 0} → IterRangesMapped A B F m → RangeListIteratorCoalescer (MappedRanges A F m) B
+  abbrev pub iter_mapped_source : {B : Type 0} → IterRangesMapped A B F m
+      → RangeListIteratorCoalescer (MappedRanges A F m) B
   iter_mapped_source s = s.ranges
 
-  abbrev pub iter_mapped_steps : {B : Type 0} → (ℕ → Option A) → (F → A → B → Type 0) → (B → B → Bool) → IterRangesMapped A B F m → Option (CodePointMapRange B) → IterRangesMapped A B F m → Type 0
-  iter_mapped_steps of_number post eq s r t = coalescer_steps (GivesMapped of_number post) eq (iter_mapped_source s) r (iter_mapped_source t)
+  -- the iterator may be asked for its next range: its closure may be called, or the ranges have
+  -- come to their end
+  abbrev pub CanFuse : {B : Type 0} → (F → Type 0) → IterRangesMapped A B F m → Type 0
+  CanFuse callable s =
+      fuse_can (λ r. callable (mapped_callee r)) (coalescer_source (iter_mapped_source s))
+
+  abbrev pub iter_mapped_steps : {B : Type 0} → (ℕ → Option A) → (F → A → B → Type 0)
+      → (B → B → Bool) → IterRangesMapped A B F m → Option (CodePointMapRange B)
+      → IterRangesMapped A B F m → Type 0
+  iter_mapped_steps of_number post eq s r t =
+      coalescer_steps (GivesMapped of_number post) eq (iter_mapped_source s) r
+      (iter_mapped_source t)

@@ -1,10 +1,16 @@
 -- What a trie consists of, when its parts are refused, and the value that it has at a number.
-use Rattle.std.specs.Prelude.{ℕ, ◌-◌, nat_lt, List, length, slice_get, Option, Some, None, is_none, if◌then◌else◌}
+use Rattle.std.specs.Prelude.{◌≡◌, ℕ, ◌-◌, nat_lt, Bool, List, length, slice_get, Option, Some, None, is_none, if◌then◌else◌, ⊤}
+use Rattle.std.specs.Cmp.Lexicographic.{pointwise}
 use Rattle.std.specs.Option.{option_or}
+use Rattle.std.specs.Ordering.{on, eq_of_both}
+use Rattle.icu_zerovec.specs.Cells.{same_bytes}
+use Rattle.icu_zerovec.specs.PackedBytes.{low_bytes}
 use Rattle.icu_trie_core.specs.declared.header.CodePointTrieHeader.{CodePointTrieHeader}
 use Rattle.icu_trie_core.specs.declared.error.CodePointTrieError.{CodePointTrieError}
 use Rattle.icu_trie_core.specs.declared.error.CodePointTrieError.TheVariants.{EmptyDataVector, InvalidNullValue, IndexTooShortForFastAccess, DataTooShortForFastAccess}
 use Rattle.icu_trie_core.specs.Format.{answer}
+use Rattle.icu_trie.specs.declared.error.PartsError.{PartsError}
+use Rattle.icu_trie.specs.declared.error.PartsError.TheVariants.{Trie, Memory}
 use Rattle.icu_trie_core.specs.FastIndex.{fast_index_len, passes_data}
 
 -- the parts of a trie, which are what a contract sees of it
@@ -22,10 +28,24 @@ abbrev pub trie_value : {T : Type 0} → Parts T → ℕ → Option T
 trie_value t u = option_or (answer t.header t.index t.values u) (last_cell t.values)
 
 -- the first fault of the parts of a trie, where of_number gives the value of a number
-abbrev pub fault : {T : Type 0} → (ℕ → Option T) → CodePointTrieHeader → List ℕ → List T → Option CodePointTrieError
+abbrev pub fault : {T : Type 0} → (ℕ → Option T) → CodePointTrieHeader → List ℕ → List T
+    → Option CodePointTrieError
 fault of_number h index values =
     if nat_lt (length values) 1 then Some EmptyDataVector
     else (if is_none (of_number h.null_value) then Some InvalidNullValue
     else (if nat_lt (length index) (fast_index_len h.trie_type) then Some IndexTooShortForFastAccess
     else (if passes_data h.trie_type index (length values) then Some DataTooShortForFastAccess
     else None)))
+
+-- why no trie was made of parts that were to be copied: their first fault, or want of memory
+abbrev pub IsWhyNoTrie : Option CodePointTrieError → PartsError → Type 0
+IsWhyNoTrie first (Trie e) = first ≡ Some e
+IsWhyNoTrie first Memory = ⊤
+
+-- two tries are one: by their headers, and by the packed bytes of their indices and of their values
+abbrev pub same_trie : {T : Type 0} → (CodePointTrieHeader → CodePointTrieHeader → Bool)
+    → (T → List ℕ) → Parts T → Parts T → Bool
+same_trie {T} same_header pack =
+    eq_of_both (on (λ (t : Parts T). t.header) same_header)
+    (eq_of_both (on (λ (t : Parts T). t.index) (pointwise (same_bytes (low_bytes 2))))
+    (on (λ (t : Parts T). t.values) (pointwise (same_bytes pack))))

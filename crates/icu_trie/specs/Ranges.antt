@@ -4,14 +4,15 @@ use Rattle.std.specs.Range.{range_inclusive_start, range_inclusive_end, range_in
 use Rattle.std.specs.declared.ops.RangeInclusive.{RangeInclusive}
 use Rattle.icu_trie_core.specs.declared.range.CodePointMapRange.{CodePointMapRange}
 use Rattle.icu_trie_core.specs.Format.{answer}
-use Rattle.icu_trie_core.specs.Coherence.{IsCoherent, IsShared}
+use Rattle.icu_trie_core.specs.Coherence.{IsCoherent}
 use Rattle.icu_trie.specs.Parts.{Parts}
 use Rattle.icu_trie_core.specs.Range.{first_of, last_of, GivesWalk}
 
 -- a range of code points: not empty, within the code points, and not used up
 abbrev pub HasCodePoints : RangeInclusive ℕ → Type 0
 HasCodePoints r =
-    (range_inclusive_start r ≤ range_inclusive_end r) × (range_inclusive_end r < 0x110000) × (range_inclusive_exhausted r ≡ false)
+    (range_inclusive_start r ≤ range_inclusive_end r) × (range_inclusive_end r < 0x110000)
+    × (range_inclusive_exhausted r ≡ false)
 
 module _ {A : Type 0} where
   -- the same of a range with a value
@@ -29,12 +30,11 @@ module _ {A : Type 0} where
   abbrev pub IsCoherentTrie : (ℕ → Option A) → Parts A → Type 0
   IsCoherentTrie of_number p = IsCoherent of_number p.header p.index p.values
 
-  abbrev pub IsSharedTrie : Parts A → Type 0
-  IsSharedTrie p = IsShared p.header p.index p.values
-
--- from c on, these are the ranges that a trie gives: each begins behind the one before it, and after the last
--- one there is none
-abbrev pub AreRangesFrom : {A : Type 0} → (ℕ → Option A) → Parts A → ℕ → List (CodePointMapRange A) → Type 0
+-- from c on, these are the ranges that a trie gives: each begins after the one before it, and after
+-- the last one there is none
+abbrev pub AreRangesFrom : {A : Type 0} → (ℕ → Option A) → Parts A → ℕ → List (CodePointMapRange A)
+    → Type 0
 AreRangesFrom of_number p c [] = GivesWalk of_number p.header p.index p.values c None
 AreRangesFrom of_number p c (x ∷ xs) =
-    GivesWalk of_number p.header p.index p.values c (Some x) × AreRangesFrom of_number p (last_of x + 1) xs
+    GivesWalk of_number p.header p.index p.values c (Some x)
+    × AreRangesFrom of_number p (last_of x + 1) xs

@@ -17,13 +17,16 @@ module _ {A : Type 0} (eq : A → A → Bool) where
   with_value value xs = filter (λ x. eq x.value value) xs
 
   -- the code points are those of the ranges that the trie gives and that have the value, in order
-  pub record AreRangesOfValue (of_number : ℕ → Option A) (p : Parts A) (value : A) (ranges : List (RangeInclusive ℕ)) : Type 0 where
+  pub record AreRangesOfValue (of_number : ℕ → Option A) (p : Parts A) (value : A)
+      (ranges : List (RangeInclusive ℕ)) : Type 0 where
     pub all : List (CodePointMapRange A)
     pub given : AreRangesFrom of_number p 0 all
     pub selected : ranges ≡ map (λ x. x.range) (with_value value all)
 
-  -- the code points are those of the maximal runs of the trie's answers that have the value, in order
-  pub record AreRunsOfValue (p : Parts A) (value : A) (ranges : List (RangeInclusive ℕ)) : Type 0 where
+  -- the code points are those of the maximal runs of the trie's answers that have the value, in
+  -- order
+  pub record AreRunsOfValue (p : Parts A) (value : A)
+      (ranges : List (RangeInclusive ℕ)) : Type 0 where
     pub all : List (CodePointMapRange A)
     pub maximal : AreMaximalRuns (answers p) (map run_of all)
     pub selected : ranges ≡ map (λ x. x.range) (with_value value all)
@@ -36,13 +39,16 @@ module _ {A : Type 0} {m : _} where
   abbrev pub value_iterator_value : IterRangesForValue A m → A
   value_iterator_value s = s.value
 
-  -- a call passed over the ranges with other values, and then gave the next one, which has the value, or none
-  -- where there is no further range
-  pub record GivesNextOfValue (of_number : ℕ → Option A) (eq : A → A → Bool) (s : IterRangesForValue A m) (r : Option (RangeInclusive ℕ)) (t : IterRangesForValue A m) : Type 0 where
+  -- a call passed over the ranges with other values, and then gave the next one, which has the
+  -- value, or none where there is no further range
+  pub record GivesNextOfValue (of_number : ℕ → Option A) (eq : A → A → Bool)
+      (s : IterRangesForValue A m) (r : Option (RangeInclusive ℕ))
+      (t : IterRangesForValue A m) : Type 0 where
     pub same : value_iterator_value t ≡ value_iterator_value s
     pub passed : List (CodePointMapRange A)
     pub last : Option (CodePointMapRange A)
-    pub calls : YieldsThen (GivesNextRange of_number) (value_iterator_source s) passed last (value_iterator_source t)
+    pub calls : YieldsThen (GivesNextRange of_number) (value_iterator_source s) passed last
+        (value_iterator_source t)
     pub others : with_value eq (value_iterator_value s) passed ≡ []
     pub gives : r ≡ option_map (λ x. x.range) last
     pub has : IfSome last (λ x. eq x.value (value_iterator_value s) ≡ true)

@@ -13,6 +13,7 @@ IsTyped t (Fast s) = (s ≡ t) × (t.header.trie_type ≡ kinds.Fast)
 IsTyped t (Small s) = (s ≡ t) × (t.header.trie_type ≡ kinds.Small)
 
 -- a trie of this type was taken as it is, and one of the other type refused
-abbrev pub IsOfType : {T : Type 0} → TrieType → Parts T → Result (Parts T) TypedCodePointTrieError → Type 0
+abbrev pub IsOfType : {T : Type 0} → TrieType → Parts T → Result (Parts T) TypedCodePointTrieError
+    → Type 0
 IsOfType kind t (Ok s) = (s ≡ t) × (t.header.trie_type ≡ kind)
 IsOfType kind t (Err e) = t.header.trie_type ≢ kind

@@ -3,7 +3,8 @@ ghost use Rattle.std.specs.Prelude.{◌≡◌, ◌<◌, ◌↔◌, IsTrue};
 ghost use Rattle.icu_trie_core.specs.Coherence.{IsCoherent};
 ghost use Rattle.icu_zerovec.specs.Slice.{slice_values};
 
-use crate::cptrie::{CodePointTrie, PackedCells};
+use crate::cptrie::CodePointTrie;
+use crate::packed_cells::PackedCells;
 use icu_trie_core::cells::Steps;
 use icu_trie_core::coherent::is_coherent;
 use icu_trie_core::header::CodePointTrieHeader;
@@ -33,7 +34,7 @@ fn is_coherent_counted<T: TrieValue, L: Ledger>(
     is_coherent(header, &mut cells)
 }
 
-/// `is_coherent` over packed vectors. Nobody reads its count, so that it makes one of its own.
+/// `is_coherent` over packed vectors. Counts in a ledger of its own, which is then dropped.
 fn is_coherent_in<T: TrieValue>(
     header: &CodePointTrieHeader,
     index: ZeroSlice<'_, u16>,
@@ -48,18 +49,21 @@ fn is_coherent_in<T: TrieValue>(
 impl<'trie, T: TrieValue> CodePointTrie<'trie, T> {
     ghost use Rattle.icu_trie.specs.Ranges.{IsCoherentTrie};
 
-    /// Whether the trie is coherent: whether what its header says of the high value and of null blocks is so.
+    /// Whether the trie is coherent: whether what its header says of the high value and of null
+    /// blocks is so.
     ///
-    /// `try_new` takes any header over cells that look-ups can read, since a look-up answers whatever the
-    /// header says. Ranges trust it: they skip each block that it names as null, by `data_null_offset` or
-    /// `index3_null_offset`, and all code points from `high_start` on. In a coherent trie what they skip is
-    /// what look-ups answer, so that `get_range`, `iter_ranges` and `get_set_for_value` are exact. Every
-    /// built trie is coherent, and a trie read from a file may be tested once:
+    /// `try_new` takes any header over cells that look-ups can read, since a look-up answers
+    /// whatever the header says. Ranges trust it: they skip each block that it names as null, by
+    /// `data_null_offset` or
+    /// `index3_null_offset`, and all code points from `high_start` on. In a coherent trie what they
+    /// skip is what look-ups answer, so that `get_range`, `iter_ranges` and `get_set_for_value` are
+    /// exact. Every built trie is coherent, and a trie read from a file may be tested once:
     ///
     /// ```text
     /// let trie = CodePointTrie::try_new(header, index, data)?;
     /// if trie.is_coherent() {
-    ///     let letters = trie.get_set_for_value(alloc, 1)?; // exactly the code points at which get32 answers 1
+    ///     // exactly the code points at which get32 answers 1
+    ///     let letters = trie.get_set_for_value(alloc, 1)?;
     /// }
     /// ```
     ///
@@ -67,7 +71,8 @@ impl<'trie, T: TrieValue> CodePointTrie<'trie, T> {
     /// - `high_start` is a multiple of 512 and at most 0x110000;
     /// - each code point from it on has the last cell of data but one as its answer;
     /// - for a code point below it no read falls outside index or data;
-    /// - blocks of 64, of 16 and of 512 that the header names as null have the null value throughout.
+    /// - blocks of 64, of 16 and of 512 that the header names as null have the null value
+    /// throughout.
     ///
     /// It takes no memory, and reads a few cells for each aligned block, on whatever trie.
     pub fn is_coherent(&self) -> bool

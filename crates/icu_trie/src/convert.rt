@@ -25,22 +25,24 @@ fn same_packed<T: AsULE, P: AsULE>(value: T) -> Option<P>
 }
 
 impl<'trie, T: TrieValue> CodePointTrie<'trie, T> {
-    /// The same trie over values of another type of the same width: its index and the bytes of its data are kept,
-    /// borrowed or owned as they were, none of them copied. The header's null value becomes the other type's
-    /// number for the same packed bytes.
+    /// The same trie over values of another type of the same width: its index and the bytes of its
+    /// data are kept, borrowed or owned as they were, none of them copied. The header's null value
+    /// becomes the other type's number for the same packed bytes.
     ///
-    /// The clauses speak of some bytes that give the values, which are known exactly where each value has one
-    /// encoding.
+    /// The clauses speak of some bytes that give the values, which are known exactly where each
+    /// value has one encoding.
     ///
     /// # Errors
-    /// In this order: `Width` where values of the two types take different numbers of bytes; `Cell` with the
-    /// first cell of the data that is no value of the other type, the error value among them; `ErrorOrNull` where
-    /// the null value's packed bytes are no value of the other type. The trie is then given up.
+    /// In this order: `Width` where values of the two types take different numbers of bytes; `Cell`
+    /// with the first cell of the data that is no value of the other type, the error value among
+    /// them; `ErrorOrNull` where the null value's packed bytes are no value of the other type. The
+    /// trie is then dropped.
     pub fn try_into_converted<P: TrieValue>(self) -> Result<CodePointTrie<'trie, P>, ConvertError>
         ensures width { T.WIDTH ≢ P.WIDTH → result ≡ Err Width }
         ensures becomes { T.WIDTH ≡ P.WIDTH → (values : Result (List P) UleError)
             × (IsConverted T.unpack T.WIDTH P.unpack P.WIDTH self.entry.values values
-            × Becomes P.number self.entry values (same_packed T.pack P.unpack (T.of_number self.entry.header.null_value)) result) }
+            × Becomes P.number self.entry values
+            (same_packed T.pack P.unpack (T.of_number self.entry.header.null_value)) result) }
         ensures ok { IsCanonical T.pack T.unpack T.WIDTH → IfOk result (λ t. (i : ℕ)
             → slice_get t.values i ≡ same_packed T.pack P.unpack (slice_get self.entry.values i)) }
         ensures err { IsCanonical T.pack T.unpack T.WIDTH → (i : ℕ) → result ≡ Err (Cell i)
@@ -78,7 +80,13 @@ impl<'trie, T: TrieValue> CodePointTrie<'trie, T> {
         null: T,
     ) -> Self
         requires { fault T.of_number (with_null_value header (T.number null)) index «data» ≡ None }
-        ensures { result ≡ record { header = with_null_value header (T.number null); index = index.entry; values = «data».entry } }
+        ensures { result
+            ≡ record {
+              header = with_null_value header (T.number null);
+              index =
+                  index.entry;
+              values = «data».entry;
+            } }
     {
         let Some(error_value) = data.last() else {
             unreachable!()

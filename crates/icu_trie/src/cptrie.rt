@@ -1,169 +1,28 @@
 //! The trie over packed vectors.
-ghost use Rattle.std.specs.Prelude.{◌≡◌, ℕ, ◌<◌, ◌≤◌, List, length, Some, None, IfOk, IfErr, IsSomeAnd, is_some, false};
+ghost use Rattle.std.specs.Prelude.{◌≡◌, ℕ, ◌<◌, ◌≤◌, length, Some, None, IfOk, IfErr, is_some};
 ghost use Rattle.std.specs.Option.{option_map};
-ghost use Rattle.icu_trie_core.specs.Format.{answer};
+ghost use Rattle.icu_trie_core.specs.Format.{fast_limit};
 ghost use Rattle.icu_trie_core.specs.FastIndex.{passes_data, fast_index_len};
-ghost use Rattle.icu_trie.specs.Parts.{fault, last_cell};
-ghost use Rattle.icu_trie_core.specs.Coherence.{IsCoherent};
-ghost use Rattle.icu_trie_core.specs.Range.{GivesWalk, last_of};
-ghost use Rattle.icu_trie_core.specs.Runs.{LongestRun};
+ghost use Rattle.icu_trie.specs.Parts.{fault, last_cell, IsWhyNoTrie};
 ghost use Rattle.icu_zerovec.specs.Slice.{slice_values};
 
-use icu_trie_core::cells::{Cells, Steps};
+use crate::error::PartsError;
+use crate::packed_cells::{look_up_far_in, look_up_near_in};
 use icu_trie_core::error::CodePointTrieError;
 use icu_trie_core::header::{CodePointTrieHeader, TrieType};
-use icu_trie_core::lookup::look_up_whole;
-use icu_trie_core::range::CodePointMapRange;
+use icu_trie_core::impl_const::FAST_TYPE_DATA_BLOCK_LENGTH;
 use icu_trie_core::value::TrieValue;
-use icu_trie_core::walk::walk;
 use icu_zerovec::{MemoryError, ZeroSlice, ZeroVec};
 use std::alloc::Global;
-use std::marker::{Brand, Model};
-use std::sync::ledger::{Blank, Ledger};
-
-/// The cells of two packed vectors.
-#[derive(Drop)]
-pub(crate) struct PackedCells<'a, T: TrieValue, L: Ledger> {
-    pub(crate) index: ZeroSlice<'a, u16>,
-    pub(crate) values: ZeroSlice<'a, T>,
-    pub(crate) reads: Steps<L>,
-}
-
-impl<'a, T: TrieValue, L: Ledger> Cells<T> for PackedCells<'a, T, L> {
-    ghost index = { λ cells. slice_values cells.index };
-
-    ghost values = { λ cells. slice_values cells.values };
-
-    ghost reads = { λ cells. cells.reads };
-
-    #[inline(always)]
-    fn index_len(&self) -> usize {
-        self.index.len()
-    }
-
-    #[inline(always)]
-    fn data_len(&self) -> usize {
-        self.values.len()
-    }
-
-    #[inline(always)]
-    fn index_cell(&mut self, i: usize) -> Option<u16> {
-        self.reads.tick();
-        self.index.get(i)
-    }
-
-    #[inline(always)]
-    fn data_cell(&mut self, i: usize) -> Option<T> {
-        self.reads.tick();
-        self.values.get(i)
-    }
-
-    #[inline(always)]
-    fn index_at(&mut self, i: usize) -> u16 {
-        self.reads.tick();
-        self.index.at(i)
-    }
-
-    #[inline(always)]
-    fn data_at(&mut self, i: usize) -> T {
-        self.reads.tick();
-        self.values.at(i)
-    }
-}
-
-/// `look_up_whole` over packed vectors, with a count in the ledger of `blank`.
-#[inline(always)]
-fn look_up_counted<T: TrieValue, L: Ledger>(
-    header: &CodePointTrieHeader,
-    index: ZeroSlice<'_, u16>,
-    values: ZeroSlice<'_, T>,
-    c: u32,
-    blank: Blank,
-) -> Option<T>
-    requires name { blank.name ≡ L.name }
-    requires parts { blank.parts ≡ L.parts }
-    requires some { 0 < blank.parts }
-    requires fast_index { fast_index_len header.now.trie_type ≤ length (slice_values index) }
-    requires blocks { passes_data header.now.trie_type (slice_values index) (length (slice_values values)) ≡ false }
-    ensures { result ≡ answer header.now (slice_values index.entry) (slice_values values.entry) c }
-{
-    let mut cells = PackedCells {
-        index,
-        values,
-        reads: Steps::<L>::new(blank),
-    };
-    look_up_whole(header, &mut cells, c)
-}
-
-/// `look_up_whole` over packed vectors. Nobody reads its count, so that it makes one of its own.
-#[inline(always)]
-pub(crate) fn look_up_in<T: TrieValue>(
-    header: &CodePointTrieHeader,
-    index: ZeroSlice<'_, u16>,
-    values: ZeroSlice<'_, T>,
-    c: u32,
-) -> Option<T>
-    requires fast_index { fast_index_len header.now.trie_type ≤ length (slice_values index) }
-    requires blocks { passes_data header.now.trie_type (slice_values index) (length (slice_values values)) ≡ false }
-    ensures { result ≡ answer header.now (slice_values index.entry) (slice_values values.entry) c }
-{
-    look_up_counted::<T, Brand>(header, index, values, c, Blank::new(1))
-}
-
-/// `walk` over packed vectors, with a count in the ledger of `blank`.
-fn walk_counted<T: TrieValue, L: Ledger>(
-    header: &CodePointTrieHeader,
-    index: ZeroSlice<'_, u16>,
-    values: ZeroSlice<'_, T>,
-    c: u32,
-    blank: Blank,
-) -> Option<CodePointMapRange<T>>
-    requires name { blank.name ≡ L.name }
-    requires parts { blank.parts ≡ L.parts }
-    requires some { 0 < blank.parts }
-    ensures gives { GivesWalk T.of_number header.now (slice_values index.entry) (slice_values values.entry) c result }
-    ensures longest { IsCoherent T.of_number header.now (slice_values index.entry) (slice_values values.entry) → c < 0x110000
-        → IsSomeAnd result (λ r. LongestRun (answer header.now (slice_values index.entry) (slice_values values.entry)) c (last_of r) (Some r.value)) }
-{
-    let mut cells = PackedCells {
-        index,
-        values,
-        reads: Steps::<L>::new(blank),
-    };
-    walk(header, &mut cells, c)
-}
-
-/// `walk` over packed vectors. Nobody reads its count, so that it makes one of its own.
-pub(crate) fn walk_in<T: TrieValue>(
-    header: &CodePointTrieHeader,
-    index: ZeroSlice<'_, u16>,
-    values: ZeroSlice<'_, T>,
-    c: u32,
-) -> Option<CodePointMapRange<T>>
-    ensures gives { GivesWalk T.of_number header.now (slice_values index.entry) (slice_values values.entry) c result }
-    ensures longest { IsCoherent T.of_number header.now (slice_values index.entry) (slice_values values.entry) → c < 0x110000
-        → IsSomeAnd result (λ r. LongestRun (answer header.now (slice_values index.entry) (slice_values values.entry)) c (last_of r) (Some r.value)) }
-{
-    walk_counted::<T, Brand>(header, index, values, c, Blank::new(1))
-}
-
-/// How many cells the fast index has.
-fn fast_index_len_of(trie_type: TrieType) -> usize
-    ensures { result ≡ fast_index_len trie_type }
-{
-    match trie_type {
-        TrieType::Fast => 1024,
-        TrieType::Small => 64,
-    }
-}
+use std::marker::Model;
 
 /// Whether a block of 64 that the fast index names ends outside data of this length.
 fn fast_block_passes(trie_type: TrieType, index: ZeroSlice<'_, u16>, len: usize) -> bool
     ensures { result ≡ passes_data trie_type (slice_values index.entry) len }
 {
-    for i in 0..fast_index_len_of(trie_type) {
+    for i in 0..trie_type.fast_index_len() {
         if let Some(offset) = index.get(i) {
-            if len < offset as usize + 64 {
+            if len < offset as usize + FAST_TYPE_DATA_BLOCK_LENGTH as usize {
                 return true;
             }
         }
@@ -178,12 +37,17 @@ fn is_number_of_value<T: TrieValue>(number: u32) -> bool
     T::try_from_u32(number).is_ok()
 }
 
-/// A map from all code points to values, kept in two packed vectors by the format of ICU's code point tries
-/// (UCPTrie).
+/// A map from all code points to values, kept in two packed vectors by the format of ICU's code
+/// point tries (UCPTrie).
 ///
-/// A clause sees its header, its index and its data. What a trie was tested for when it was made holds of it
-/// from then on, so every look-up is total: a trie from a stranger's file may answer nonsense, but it
-/// answers.
+/// A clause sees its header, its index and its data. What a trie was tested for when it was made
+/// holds of it from then on, so every look-up is total: a trie from a stranger's file may answer
+/// nonsense, but it answers.
+///
+/// ```
+/// let letters = build_from_writes(alloc, 0u8, 9, TrieType::Small, &[Write::Range(0x41..=0x5A, 1)])?;
+/// // letters.get32(0x41) is 1, letters.get32(0x5B) is 0, and letters.get32(0x110000) is 9
+/// ```
 #[derive(Debug, Drop)]
 pub struct CodePointTrie<'trie, T: TrieValue> {
     pub(crate) header: CodePointTrieHeader,
@@ -201,7 +65,8 @@ impl<'trie, T: TrieValue> Model for CodePointTrie<'trie, T> {
 
     ghost view = { λ t. record { header = t.header; index = t.index; values = t.«data» } };
 
-    ghost invariant = { λ t. (last_cell t.«data» ≡ Some t.error_value) × (fault T.of_number t.header t.index t.«data» ≡ None) };
+    ghost invariant = { λ t. (last_cell t.«data» ≡ Some t.error_value)
+        × (fault T.of_number t.header t.index t.«data» ≡ None) };
 }
 
 impl<'trie, T: TrieValue> CodePointTrie<'trie, T> {
@@ -210,18 +75,29 @@ impl<'trie, T: TrieValue> CodePointTrie<'trie, T> {
     /// The trie of these parts.
     ///
     /// # Errors
-    /// In this order: `EmptyDataVector`; `InvalidNullValue` where the header's null value is the number of no
-    /// `T`; `IndexTooShortForFastAccess` where the index has fewer than 1,024 cells (`Fast`) or 64 (`Small`);
-    /// `DataTooShortForFastAccess` where the data have fewer cells than the greatest offset of the fast index
-    /// plus 64. All else that a header may say wrongly is answered for by the look-up.
+    /// In this order: `EmptyDataVector`; `InvalidNullValue` where the header's null value is the
+    /// number of no
+    /// `T`; `IndexTooShortForFastAccess` where the index has fewer than 1,024 cells (`Fast`) or 64
+    /// (`Small`);
+    /// `DataTooShortForFastAccess` where the data have fewer cells than the greatest offset of the
+    /// fast index plus 64. All else that a header may say wrongly is answered for by the look-up.
+    ///
+    /// ```
+    /// // index has 64 zeros and data has 64 values; the header says `Small`, and 0x1000 as the high start
+    /// let trie = CodePointTrie::try_new(header, index, data)?;
+    /// // trie.get32(0x41) is value 1, trie.get32(0x1000) is value 62, and trie.get32(0x110000) is value 63
+    /// ```
     pub fn try_new(
         header: CodePointTrieHeader,
         index: ZeroVec<'trie, u16>,
         data: ZeroVec<'trie, T>,
     ) -> Result<Self, CodePointTrieError>
-        ensures trie { IfOk result (λ trie. trie ≡ record { header = header; index = index.entry; values = «data».entry }) }
+        ensures trie { IfOk result
+            (λ trie. trie ≡ record
+            { header = header; index = index.entry; values = «data».entry }) }
         ensures ok { IfOk result (λ _. fault T.of_number header index.entry «data».entry ≡ None) }
-        ensures err { IfErr result (λ e. fault T.of_number header index.entry «data».entry ≡ Some e) }
+        ensures err { IfErr result
+            (λ e. fault T.of_number header index.entry «data».entry ≡ Some e) }
     {
         let Some(error_value) = data.last() else {
             return Err(CodePointTrieError::EmptyDataVector);
@@ -229,7 +105,7 @@ impl<'trie, T: TrieValue> CodePointTrie<'trie, T> {
         if !is_number_of_value::<T>(header.null_value) {
             return Err(CodePointTrieError::InvalidNullValue);
         }
-        if index.len() < fast_index_len_of(header.trie_type) {
+        if index.len() < header.trie_type.fast_index_len() {
             return Err(CodePointTrieError::IndexTooShortForFastAccess);
         }
         if fast_block_passes(header.trie_type, index.as_slice(), data.len()) {
@@ -243,13 +119,35 @@ impl<'trie, T: TrieValue> CodePointTrie<'trie, T> {
         })
     }
 
+    /// The trie of these parts, which are copied: index and values are packed, each into memory
+    /// that is asked for once.
+    ///
+    /// # Errors
+    /// `Memory` where memory was refused; `Trie` with the error that `try_new` has for these parts.
+    pub fn alloc_from_slices(
+        alloc: Global,
+        header: CodePointTrieHeader,
+        index: &[u16],
+        values: &[T],
+    ) -> Result<CodePointTrie<'static, T>, PartsError>
+        ensures trie { IfOk result
+            (λ trie. trie ≡ record { header = header; index = index.now; values = values.now }) }
+        ensures ok { IfOk result (λ _. fault T.of_number header index.now values.now ≡ None) }
+        ensures err { IfErr result (IsWhyNoTrie (fault T.of_number header index.now values.now)) }
+    {
+        let index = ZeroVec::alloc_from_slice(alloc, index)?;
+        let data = ZeroVec::alloc_from_slice(alloc, values)?;
+        let trie = CodePointTrie::try_new(header, index, data)?;
+        Ok(trie)
+    }
+
     /// What stands in where the format gives no answer: the last cell, which is the error value.
     ///
-    /// It stays a call, and reads the cell, so that the path of those who have an answer has neither its load
-    /// nor its jump: a read of the field would be drawn into that path.
+    /// It stays a call, and reads the cell, so that the path of those who have an answer has
+    /// neither its load nor its jump: a read of the field would be drawn into that path.
     #[cold]
     #[inline(never)]
-    pub(crate) fn without_answer(&self) -> T
+    fn without_answer(&self) -> T
         ensures { Some result ≡ last_cell self.now.values }
     {
         match self.data.last() {
@@ -258,14 +156,38 @@ impl<'trie, T: TrieValue> CodePointTrie<'trie, T> {
         }
     }
 
-    /// The value of the code point `c`. The error value above 0x10FFFF, and where the trie lacks a cell.
+    /// The value of `c` from the fast limit on, with each place tested: what `get32` calls where
+    /// one read or two are not enough.
+    ///
+    /// It stays a call, told apart as the rarer one, so that the short path is short and keeps all
+    /// that it needs in registers.
+    #[cold]
+    #[inline(never)]
+    pub(crate) fn far_value(&self, c: u32) -> T
+        requires { fast_limit self.now.header.trie_type ≤ c }
+        ensures { Some result ≡ trie_value self.now c }
+    {
+        match look_up_far_in(&self.header, self.index.as_slice(), self.data.as_slice(), c) {
+            Some(value) => value,
+            None => self.without_answer(),
+        }
+    }
+
+    /// The value of the code point `c`. The error value above 0x10FFFF, and where the trie lacks a
+    /// cell.
+    ///
+    /// ```
+    /// let builder = CodePointTrieBuilder::new(alloc, 0u8, 9, TrieType::Fast);
+    /// let trie = builder.build()?;
+    /// // trie.get32(0x10FFFF) is 0, the default, and trie.get32(u32::MAX) is 9, the error value
+    /// ```
     #[inline]
     pub fn get32(&self, c: u32) -> T
         ensures { Some result ≡ trie_value self.now c }
     {
-        match look_up_in(&self.header, self.index.as_slice(), self.data.as_slice(), c) {
+        match look_up_near_in(&self.header, self.index.as_slice(), self.data.as_slice(), c) {
             Some(value) => value,
-            None => self.without_answer(),
+            None => self.far_value(c),
         }
     }
 
@@ -301,7 +223,8 @@ impl<'trie, T: TrieValue> CodePointTrie<'trie, T> {
         self.get32(c).to_u32()
     }
 
-    /// The header, and index and data lent: what the trie was made of by `try_new`, which takes them again.
+    /// The header, and index and data lent: what the trie was made of by `try_new`, which takes
+    /// them again.
     pub fn parts(&self) -> (CodePointTrieHeader, ZeroSlice<'_, u16>, ZeroSlice<'_, T>)
         ensures header { result.0 ≡ self.now.header }
         ensures index { slice_values result.1 ≡ self.now.index }
@@ -334,8 +257,8 @@ impl<'trie, T: TrieValue> CodePointTrie<'trie, T> {
         self.error_value
     }
 
-    /// The value whose number the header keeps as the null value. Which one that is in a built trie is left
-    /// open.
+    /// The value whose number the header keeps as the null value. Which one that is in a built trie
+    /// is left open.
     pub fn null_value(&self) -> T
         ensures { T.of_number self.now.header.null_value ≡ Some result }
     {

@@ -11,10 +11,10 @@ use std::iter::Fuse;
 
 /// An iterator over ranges with values that joins the ranges which touch and have equal values.
 ///
-/// A range goes on with the one before it where it starts at that one's last code point plus one and has an
-/// equal value. Of ranges that are joined the first one's value is kept, and each further one is compared
-/// with it. A range that ends at `u32::MAX` has nothing behind it. Ranges that do not touch, or overlap, stay
-/// as they are.
+/// A range goes on with the one before it where it starts at that one's last code point plus one
+/// and has an equal value. Of ranges that are joined the first one's value is kept, and each
+/// further one is compared with it. Nothing comes after a range that ends at `u32::MAX`. Ranges
+/// that do not touch, or overlap, stay as they are.
 ///
 /// Over (0..=3, 1), (4..=6, 1), (8..=9, 1) it gives (0..=6, 1), (8..=9, 1).
 #[derive(Debug, Drop)]
@@ -24,11 +24,13 @@ pub struct RangeListIteratorCoalescer<I, U> {
 }
 
 impl<I: Iterator<Item = CodePointMapRange<U>>, U: Eq> RangeListIteratorCoalescer<I, U> {
-    /// The joined ranges of what `iter` gives. Once `iter` has answered `None` it is not asked again.
+    /// The joined ranges of what `iter` gives. Once `iter` has answered `None` it is not asked
+    /// again.
     pub fn new(iter: I) -> Self
         ensures source { IsFresh (coalescer_source result) iter }
         ensures peek { coalescer_peek result ≡ None }
-        ensures runs { EachRunBehind (coalescer_steps I.next_gives U.PartialEq.eq) result I.next_gives iter
+        ensures runs { EachRunBehind
+            (coalescer_steps I.next_gives U.PartialEq.eq) result I.next_gives iter
             (λ p q. Gives p q (joined U.PartialEq.eq)) }
     {
         Self {
@@ -38,7 +40,7 @@ impl<I: Iterator<Item = CodePointMapRange<U>>, U: Eq> RangeListIteratorCoalescer
     }
 }
 
-/// Whether `next` starts right behind `range` and has an equal value.
+/// Whether `next` starts right after `range` and has an equal value.
 fn is_continued<U: Eq>(range: &CodePointMapRange<U>, next: &CodePointMapRange<U>) -> bool
     ensures { result ≡ continues U.PartialEq.eq range.now next.now }
 {

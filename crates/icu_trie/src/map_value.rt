@@ -60,14 +60,15 @@ impl<E> From<MemoryError> for MapError<E> {
     }
 }
 
-/// The answers of a closure at these values in turn. Behind the first refusal it is not called.
+/// The answers of a closure at these values in turn. After the first refusal it is not called.
 fn map_cells<T: AsULE, P: Drop, E, F: FnMut(T) -> Result<P, E>>(
     alloc: Global,
     values: ZeroSlice<'_, T>,
     mut f: F,
 ) -> Result<Vec<P>, MapError<E>>
     requires { F.IsAlwaysCallable f }
-    ensures ok { IfOk result (λ answers. AnswersAll F.step f (slice_values values.entry) answers.items) }
+    ensures ok { IfOk result
+        (λ answers. AnswersAll F.step f (slice_values values.entry) answers.items) }
     ensures err { IfErr result (BreaksOffAt F.step f (slice_values values.entry)) }
 {
     let mut answers = Vec::with_capacity(alloc, values.len())?;
@@ -81,13 +82,14 @@ fn map_cells<T: AsULE, P: Drop, E, F: FnMut(T) -> Result<P, E>>(
 }
 
 impl<'trie, T: TrieValue> CodePointTrie<'trie, T> {
-    /// The trie of the same format whose values are the answers of `f`, for a trie that is kept as the
-    /// answers of one kind and asked for another.
+    /// The trie of the same format whose values are the answers of `f`, for a trie that is kept as
+    /// the answers of one kind and asked for another.
     ///
-    /// The closure is called for the error value, for the null value, and then for each cell of the data in
-    /// order, so for a value as often as it stands there. The header gets the number of the answer at the
-    /// null value, and the index is copied. The error value of the new trie is the answer at the last cell:
-    /// a closure whose answer depends on its argument alone gives the same one at the first call.
+    /// The closure is called for the error value, for the null value, and then for each cell of the
+    /// data in order, so for a value as often as it stands there. The header gets the number of the
+    /// answer at the null value, and the index is copied. The error value of the new trie is the
+    /// answer at the last cell: a closure whose answer depends on its argument alone gives the same
+    /// one at the first call.
     ///
     /// ```
     /// let next = trie.try_alloc_map_value(alloc, |x: u8| Ok::<u16, Infallible>(u16::from(x) + 1))?;
@@ -95,8 +97,8 @@ impl<'trie, T: TrieValue> CodePointTrie<'trie, T> {
     /// ```
     ///
     /// # Errors
-    /// `Closure` with the first error that `f` answers, behind which it is not called; `Memory` where memory
-    /// was refused. The trie is unchanged.
+    /// `Closure` with the first error that `f` answers, after which it is not called; `Memory`
+    /// where memory was refused. The trie is unchanged.
     pub fn try_alloc_map_value<P: TrieValue, E, F: FnMut(T) -> Result<P, E>>(
         &self,
         alloc: Global,
@@ -107,13 +109,15 @@ impl<'trie, T: TrieValue> CodePointTrie<'trie, T> {
         ensures same { (h : T → Result P E) → AnswersAlways F.step h → IfOk result (λ t. (u : ℕ)
             → option_map (answered {E = E}) (answers t u) ≡ option_map h (answers self.now u)) }
         ensures value { (h : T → Result P E) → AnswersAlways F.step h → IfOk result (λ t. (u : ℕ)
-            → option_map (answered {E = E}) (trie_value t u) ≡ option_map h (trie_value self.now u)) }
-        ensures coherent { (h : T → Result P E) → AnswersAlways F.step h → IsCoherentTrie T.of_number self.now
+            → option_map (answered {E = E}) (trie_value t u)
+            ≡ option_map h (trie_value self.now u)) }
+        ensures coherent { (h : T → Result P E) → AnswersAlways F.step h
+            → IsCoherentTrie T.of_number self.now
             → IfOk result (λ t. IsCoherentTrie P.of_number t) }
     {
         let null_value = self.null_value();
-        // Asked first, so that the closure may refuse it before it comes to any other value. The answer is not
-        // kept: the error value of a trie is the last cell of its data.
+        // Asked first, so that the closure may refuse it before it comes to any other value. The
+        // answer is not kept: the error value of a trie is the last cell of its data.
         match f(self.error_value) {
             Ok(_) => {}
             Err(error) => return Err(MapError::Closure(error)),

@@ -9,17 +9,15 @@ impl<'trie, T: TrieValue> CodePointTrie<'trie, T> {
     ghost use Rattle.std.specs.Prelude.{List};
     ghost use Rattle.std.specs.List.{All};
     ghost use Rattle.std.specs.Iterator.{Drains};
-    ghost use Rattle.itertools.specs.Adaptor.{fuse_can};
     ghost use Rattle.icu_trie.specs.Ranges.{IsCoherentTrie, IsRangeOfCodePoints, answers};
-    ghost use Rattle.icu_trie.specs.Coalescer.{coalescer_source};
-    ghost use Rattle.icu_trie.specs.MappedRanges.{Answers, AreMappedRangesOf, AreMappedRunsFrom, mapped_callee, iter_mapped_source, iter_mapped_steps};
+    ghost use Rattle.icu_trie.specs.MappedRanges.{Answers, AreMappedRangesOf, AreMappedRunsFrom, CanFuse, iter_mapped_steps};
 
-    /// The ranges of equal values under `map`: each range that `iter_ranges` gives with the answer of `map`
-    /// to its value, and those that touch and have equal answers joined.
+    /// The ranges of equal values under `map`: each range that `iter_ranges` gives with the answer
+    /// of `map` to its value, and those that touch and have equal answers joined.
     ///
-    /// Nothing is computed before the iterator is asked: `map` is called once for each range that it comes
-    /// to. Over a coherent trie, as every built one is, and a map whose answer depends on its argument alone,
-    /// these are the maximal runs of the mapped values.
+    /// Nothing is computed before the iterator is asked: `map` is called once for each range that
+    /// it comes to. Over a coherent trie, as every built one is, and a map whose answer depends on
+    /// its argument alone, these are the maximal runs of the mapped values.
     ///
     /// ```
     /// for range in trie.iter_ranges_mapped(|x| x != 0) {
@@ -31,12 +29,15 @@ impl<'trie, T: TrieValue> CodePointTrie<'trie, T> {
         map: F,
     ) -> IterRangesMapped<'_, T, U, F>
         requires { F.IsAlwaysCallable map }
-        ensures can { fuse_can (λ m. F.IsAlwaysCallable (mapped_callee m)) (coalescer_source (iter_mapped_source result)) }
-        ensures ranges { (xs : List _) → Drains (iter_mapped_steps T.of_number F.post U.PartialEq.eq) result xs
+        ensures can { CanFuse F.IsAlwaysCallable result }
+        ensures ranges { (xs : List _)
+            → Drains (iter_mapped_steps T.of_number F.post U.PartialEq.eq) result xs
             → AreMappedRangesOf T.of_number F.post U.PartialEq.eq map self.now xs }
-        ensures shape { (xs : List _) → Drains (iter_mapped_steps T.of_number F.post U.PartialEq.eq) result xs
+        ensures shape { (xs : List _)
+            → Drains (iter_mapped_steps T.of_number F.post U.PartialEq.eq) result xs
             → All IsRangeOfCodePoints xs }
-        ensures runs { (h : T → U) → Answers F.post map h → IsCoherentTrie T.of_number self.now → (xs : List _)
+        ensures runs { (h : T → U) → Answers F.post map h → IsCoherentTrie T.of_number self.now
+            → (xs : List _)
             → Drains (iter_mapped_steps T.of_number F.post U.PartialEq.eq) result xs
             → AreMappedRunsFrom U.PartialEq.eq h (answers self.now) 0 xs }
     {
@@ -49,8 +50,8 @@ impl<'trie, T: TrieValue> CodePointTrie<'trie, T> {
     }
 }
 
-/// The ranges of a trie, each with the answer of a closure to its value. Ranges of equal answers are not
-/// joined. Part of [`IterRangesMapped`], which joins them.
+/// The ranges of a trie, each with the answer of a closure to its value. Ranges of equal answers
+/// are not joined. Part of [`IterRangesMapped`], which joins them.
 #[derive(Drop)]
 pub struct MappedRanges<'a, T: TrieValue, F> {
     ranges: CodePointMapRangeIterator<'a, T>,
@@ -80,8 +81,8 @@ impl<'a, T: TrieValue, U, F: Fn(T) -> U> Iterator for MappedRanges<'a, T, F> {
     }
 }
 
-/// The ranges of a trie under a map of its values, those that touch and have equal answers joined. Once there
-/// is none it gives none for ever.
+/// The ranges of a trie under a map of its values, those that touch and have equal answers joined.
+/// Once there is none it gives none for ever.
 #[derive(Drop)]
 pub struct IterRangesMapped<'a, T: TrieValue, U, F> {
     ranges: RangeListIteratorCoalescer<MappedRanges<'a, T, F>, U>,
@@ -91,19 +92,20 @@ impl<'a, T: TrieValue, U: Eq + Drop, F: Fn(T) -> U> Iterator for IterRangesMappe
     ghost use Rattle.std.specs.Prelude.{◌+◌, ◌-◌};
     ghost use Rattle.std.specs.Iterator.{at_most, count_map};
     ghost use Rattle.std.specs.Option.{option_len};
-    ghost use Rattle.itertools.specs.Adaptor.{fuse_can, fuse_left};
+    ghost use Rattle.itertools.specs.Adaptor.{fuse_left};
     ghost use Rattle.icu_trie.specs.Coalescer.{coalescer_source, coalescer_peek};
     ghost use Rattle.icu_trie.specs.Iterators.{iterator_next};
-    ghost use Rattle.icu_trie.specs.MappedRanges.{mapped_source, mapped_callee, iter_mapped_source, iter_mapped_steps};
+    ghost use Rattle.icu_trie.specs.MappedRanges.{CanFuse, mapped_source, iter_mapped_source, iter_mapped_steps};
 
     type Item = CodePointMapRange<U>;
 
-    ghost can_next = { λ s. fuse_can (λ m. F.IsAlwaysCallable (mapped_callee m)) (coalescer_source (iter_mapped_source s)) };
+    ghost can_next = { λ s. CanFuse F.IsAlwaysCallable s };
 
     ghost next_gives = { iter_mapped_steps T.of_number F.post U.PartialEq.eq };
 
     ghost remaining = { λ s. count_map (λ n. n + option_len (coalescer_peek (iter_mapped_source s)))
-        (fuse_left (λ m. at_most (0x110000 - iterator_next (mapped_source m))) (coalescer_source (iter_mapped_source s))) };
+        (fuse_left (λ m. at_most (0x110000 - iterator_next (mapped_source m)))
+        (coalescer_source (iter_mapped_source s))) };
 
     fn next(&mut self) -> Option<CodePointMapRange<U>> {
         self.ranges.next()

@@ -2,12 +2,13 @@
 ghost use Rattle.std.specs.Prelude.{◌≡◌, ◌≢◌, ℕ, ◌+◌, ◌-◌, ◌<◌, ◌≤◌, List, Some, None, MatchOption, IfOk, map, true, ◌↔◌};
 ghost use Rattle.icu_invlist.specs.InversionList.{IsValid, holds};
 
-use crate::cptrie::{CodePointTrie, walk_in};
-use icu_invlist::codepointinvlist::{CodePointInversionList, SetError};
+use crate::cptrie::CodePointTrie;
+use crate::packed_cells::walk_in;
+use icu_invlist::codepointinvlist::CodePointInversionList;
 pub use icu_trie_core::range::CodePointMapRange;
 use icu_trie_core::value::TrieValue;
-use icu_trie_core::walk::{CODE_POINTS, is_same};
-use icu_zerovec::MemoryError;
+use icu_trie_core::walk::is_same;
+use icu_zerovec::{CODE_POINT_LIMIT, MemoryError};
 use std::alloc::Global;
 
 impl<'trie, T: TrieValue> CodePointTrie<'trie, T> {
@@ -20,17 +21,27 @@ impl<'trie, T: TrieValue> CodePointTrie<'trie, T> {
 
     /// The range of one value from the code point `c` on, as far as it goes.
     ///
-    /// Over a coherent trie, as every built one is, it is the longest run of equal answers from `c` on. `None`
-    /// above 0x10FFFF, and where the trie lacks a cell that the walk comes to ([`walk`](icu_trie_core::walk::walk)).
+    /// Over a coherent trie, as every built one is, it is the longest run of equal answers from `c`
+    /// on. `None` above 0x10FFFF, and where the trie lacks a cell that the walk comes to
+    /// ([`walk`](icu_trie_core::walk::walk)).
     pub fn get_range(&self, c: u32) -> Option<CodePointMapRange<T>>
-        ensures gives { GivesWalk T.of_number self.now.header self.now.index self.now.values c result }
+        ensures gives { GivesWalk T.of_number self.now.header self.now.index self.now.values c
+            result }
         ensures longest { IsCoherentTrie T.of_number self.now
-            → MatchOption result (0x110000 ≤ c) (λ x. LongestRun (answers self.now) c (last_of x) (Some x.value)) }
+            → MatchOption result (0x110000 ≤ c)
+            (λ x. LongestRun (answers self.now) c (last_of x) (Some x.value)) }
     {
         walk_in(&self.header, self.index.as_slice(), self.data.as_slice(), c)
     }
 
     /// The ranges of equal values from 0 on, each of which begins where the one before it ended.
+    ///
+    /// ```
+    /// let trie = build_from_writes(alloc, 0u8, 9, TrieType::Small, &[Write::Range(0x41..=0x5A, 1)])?;
+    /// for range in trie.iter_ranges() {
+    ///     // 0..=0x40 with 0, then 0x41..=0x5A with 1, then 0x5B..=0x10FFFF with 0
+    /// }
+    /// ```
     pub fn iter_ranges(&self) -> CodePointMapRangeIterator<'_, T>
         ensures of { iterator_trie result ≡ self.now }
         ensures start { iterator_next result ≡ 0 }
@@ -39,7 +50,8 @@ impl<'trie, T: TrieValue> CodePointTrie<'trie, T> {
         ensures shape { (xs : List _) → Drains (GivesNextRange T.of_number) result xs
             → All IsRangeOfCodePoints xs }
         ensures runs { IsCoherentTrie T.of_number self.now → (xs : List _)
-            → Drains (GivesNextRange T.of_number) result xs → AreMaximalRuns (answers self.now) (map run_of xs) }
+            → Drains (GivesNextRange T.of_number) result xs
+            → AreMaximalRuns (answers self.now) (map run_of xs) }
         ensures only { IsCoherentTrie T.of_number self.now → (xs : List _)
             → Drains (GivesNextRange T.of_number) result xs
             → (runs : List _) → AreMaximalRuns (answers self.now) runs → runs ≡ map run_of xs }
@@ -50,8 +62,8 @@ impl<'trie, T: TrieValue> CodePointTrie<'trie, T> {
         }
     }
 
-    /// The ends of the ranges with the value, each start and each exclusive end in turn. Ranges of the value that
-    /// touch are one.
+    /// The ends of the ranges with the value, each start and each exclusive end in turn. Ranges of
+    /// the value that touch are one.
     fn ends_of_value(&self, alloc: Global, value: T) -> Result<Vec<u32>, MemoryError>
         ensures valid { IfOk result (λ v. IsValid v.items) }
         ensures set { IfOk result (λ v. (xs : List _) × AreRangesFrom T.of_number self.now 0 xs
@@ -73,11 +85,17 @@ impl<'trie, T: TrieValue> CodePointTrie<'trie, T> {
         Ok(ends)
     }
 
-    /// The code points whose range has the value, as `iter_ranges` gives them. Over a coherent trie, as every
-    /// built one is, these are the code points that have the value.
+    /// The code points whose range has the value, as `iter_ranges` gives them. Over a coherent
+    /// trie, as every built one is, these are the code points that have the value.
     ///
     /// # Errors
     /// `MemoryError` where memory was refused.
+    ///
+    /// ```
+    /// let trie = build_from_writes(alloc, 0u8, 9, TrieType::Small, &[Write::Range(0x41..=0x5A, 1)])?;
+    /// let letters = trie.get_set_for_value(alloc, 1)?;
+    /// // letters.contains32(0x5A) is true, and letters.contains32(0x5B) is false
+    /// ```
     pub fn get_set_for_value(
         &self,
         alloc: Global,
@@ -87,21 +105,19 @@ impl<'trie, T: TrieValue> CodePointTrie<'trie, T> {
         ensures set { IfOk result (λ s. (xs : List _) × AreRangesFrom T.of_number self.now 0 xs
             × ((c : ℕ) → c < 0x110000 → (holds s c ≡ true) ↔ IsInRangeOf value xs c)) }
         ensures preimage { IsCoherentTrie T.of_number self.now
-            → IfOk result (λ s. (c : ℕ) → c < 0x110000 → (holds s c ≡ true) ↔ (answers self.now c ≡ Some value)) }
+            → IfOk result (λ s. (c : ℕ) → c < 0x110000
+            → (holds s c ≡ true) ↔ (answers self.now c ≡ Some value)) }
     {
         let ends = self.ends_of_value(alloc, value)?;
-        match CodePointInversionList::try_from_u32_inversion_list_slice(alloc, &ends) {
-            Ok(set) => Ok(set),
-            Err(SetError::Memory) => Err(MemoryError),
-            Err(SetError::Invalid(_)) => unreachable!(),
-        }
+        let set = CodePointInversionList::from_valid_slice(alloc, &ends)?;
+        Ok(set)
     }
 }
 
 /// The ranges of a trie, from 0 on.
 ///
-/// It gives what `get_range` gives at 0, and then what it gives behind the end of the last range. Once there is
-/// none, it gives none for ever.
+/// It gives what `get_range` gives at 0, and then what it gives after the end of the last range.
+/// Once there is none, it gives none for ever.
 #[derive(Debug, Drop)]
 pub struct CodePointMapRangeIterator<'a, T: TrieValue> {
     trie: &'a CodePointTrie<'a, T>,
@@ -122,7 +138,7 @@ impl<'a, T: TrieValue> Iterator for CodePointMapRangeIterator<'a, T> {
         let range = self.trie.get_range(self.next);
         self.next = match &range {
             Some(x) => *x.range.end() + 1,
-            None => CODE_POINTS,
+            None => CODE_POINT_LIMIT,
         };
         range
     }

@@ -11,15 +11,17 @@ impl<'trie, T: TrieValue> CodePointTrie<'trie, T> {
     ghost use Rattle.icu_trie.specs.Ranges.{HasCodePoints, IsCoherentTrie};
     ghost use Rattle.icu_trie.specs.RangesOfValue.{GivesNextOfValue, AreRangesOfValue, AreRunsOfValue};
 
-    /// The ranges that have the value, in order: of those that `iter_ranges` gives, the ones whose value is
-    /// equal to it.
+    /// The ranges that have the value, in order: of those that `iter_ranges` gives, the ones whose
+    /// value is equal to it.
     ///
-    /// Over a coherent trie, as every built one is, these are the maximal runs of the value. Where no code
-    /// point has it there is none.
+    /// Over a coherent trie, as every built one is, these are the maximal runs of the value. Where
+    /// no code point has it there is none.
     pub fn iter_ranges_for_value(&self, value: T) -> IterRangesForValue<'_, T>
-        ensures ranges { (xs : List _) → Drains (GivesNextOfValue T.of_number T.PartialEq.eq) result xs
+        ensures ranges { (xs : List _)
+            → Drains (GivesNextOfValue T.of_number T.PartialEq.eq) result xs
             → AreRangesOfValue T.PartialEq.eq T.of_number self.now value xs }
-        ensures shape { (xs : List _) → Drains (GivesNextOfValue T.of_number T.PartialEq.eq) result xs
+        ensures shape { (xs : List _)
+            → Drains (GivesNextOfValue T.of_number T.PartialEq.eq) result xs
             → All HasCodePoints xs }
         ensures runs { IsCoherentTrie T.of_number self.now → (xs : List _)
             → Drains (GivesNextOfValue T.of_number T.PartialEq.eq) result xs

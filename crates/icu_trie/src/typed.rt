@@ -7,17 +7,23 @@ ghost use Rattle.icu_trie_core.specs.declared.header.TrieType.{TrieType};
 ghost use Rattle.icu_trie_core.specs.declared.header.TrieType.TheVariants.{Fast, Small};
 ghost use Rattle.icu_trie.specs.Typed.{IsTyped, IsOfType};
 
-use crate::cptrie::{CodePointTrie, look_up_in};
+use crate::cptrie::CodePointTrie;
+use crate::packed_cells::look_up_near_in;
 use icu_trie_core::header::{CodePointTrieHeader, TrieType};
-use icu_trie_core::lookup::fast_limit_of;
 use icu_trie_core::value::TrieValue;
 use std::marker::Model;
 use thiserror::Error;
 
 /// A trie whose type is known where it is compiled, so that no look-up tests it.
 ///
-/// A type of your own is lawful where the type of its trie is the constant: contracts name it `trie_type`, since
-/// they can't name a constant of a type that borrows.
+/// ```
+/// if let Typed::Small(trie) = trie.as_typed_ref() {
+///     // trie.get32_by_fast_index(0xFFF) is Some(trie.get32(0xFFF)), and of 0x1000 it is None
+/// }
+/// ```
+///
+/// A type of your own is lawful where the type of its trie is the constant: contracts name it
+/// `trie_type`, since they can't name a constant of a type that borrows.
 pub trait TypedCodePointTrie<'trie, T: TrieValue> {
     /// The type of the trie.
     const TRIE_TYPE: TrieType;
@@ -40,8 +46,8 @@ pub trait TypedCodePointTrie<'trie, T: TrieValue> {
     fn get(&self, c: char) -> T
         ensures { Some result ≡ trie_value (parts self.now) c };
 
-    /// The value of a code point of the basic multilingual plane, surrogates among them. In a fast trie it takes
-    /// two reads.
+    /// The value of a code point of the basic multilingual plane, surrogates among them. In a fast
+    /// trie it takes two reads.
     fn get16(&self, bmp: u16) -> T
         ensures { Some result ≡ trie_value (parts self.now) bmp };
 
@@ -53,13 +59,15 @@ pub trait TypedCodePointTrie<'trie, T: TrieValue> {
     fn get32_u32(&self, c: u32) -> u32
         ensures { Some result ≡ option_map T.number (trie_value (parts self.now) c) };
 
-    /// The value of a code point below the fast limit, which is 0x10000 for a fast trie and 0x1000 for a small
-    /// one. `None` from it on.
+    /// The value of a code point below the fast limit, which is 0x10000 for a fast trie and 0x1000
+    /// for a small one. `None` from it on.
     fn get32_by_fast_index(&self, c: u32) -> Option<T>
-        ensures { result ≡ (if nat_lt c (fast_limit trie_type) then trie_value (parts self.now) c else None) };
+        ensures { result
+            ≡ (if nat_lt c (fast_limit trie_type) then trie_value (parts self.now) c else None) };
 }
 
-/// The value of `c` in a trie of this type. The type in the header is known then, and no code tests it.
+/// The value of `c` in a trie of this type. The type in the header is known then, and no code tests
+/// it.
 #[inline(always)]
 fn value_of<T: TrieValue>(trie: &CodePointTrie<'_, T>, trie_type: TrieType, c: u32) -> T
     requires { trie.now.header.trie_type ≡ trie_type }
@@ -69,9 +77,9 @@ fn value_of<T: TrieValue>(trie: &CodePointTrie<'_, T>, trie_type: TrieType, c: u
         trie_type,
         ..trie.header
     };
-    match look_up_in(&header, trie.index.as_slice(), trie.data.as_slice(), c) {
+    match look_up_near_in(&header, trie.index.as_slice(), trie.data.as_slice(), c) {
         Some(value) => value,
-        None => trie.without_answer(),
+        None => trie.far_value(c),
     }
 }
 
@@ -85,7 +93,7 @@ fn fast_value_of<T: TrieValue>(
     requires { trie.now.header.trie_type ≡ trie_type }
     ensures { result ≡ (if nat_lt c (fast_limit trie_type) then trie_value trie.now c else None) }
 {
-    if c < fast_limit_of(trie_type) {
+    if c < trie_type.fast_limit() {
         Some(value_of(trie, trie_type, c))
     } else {
         None

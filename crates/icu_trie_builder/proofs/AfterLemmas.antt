@@ -13,7 +13,7 @@ pub value_after-filled : {T : Type 0} (w : Write T) (old new : T) (c : ℕ)
     → first_of w ≤ last_of w → first_of w ≤ 0x10FFFF → c ≤ 0x10FFFF
     → (first_of w ≤ c → c ≤ last_of w → new ≡ value_of w) → (c < first_of w → new ≡ old) → (last_of w < c → new ≡ old)
     → new ≡ value_after (w ∷ []) old c
-value_after-filled w old new c h k l inside before behind = grind (arith, nat_tests)
+value_after-filled w old new c h k l inside before after = grind (arith, nat_tests)
 
 -- numbers in which the range of an accepted write is filled with the number of its value
 pub IsAfter-filled : {T : Type 0} (of_number : ℕ → Option T) (w : Write T) (numbers filled : List ℕ) (n : ℕ) (d error : T) (trie_type : TrieType) (end : ℕ)
@@ -23,12 +23,12 @@ pub IsAfter-filled : {T : Type 0} (of_number : ℕ → Option T) (w : Write T) (
     → ((k : ℕ) → k < first_of w → get_or filled k 0 ≡ get_or numbers k 0)
     → ((k : ℕ) → end + 1 ≤ k → get_or filled k 0 ≡ get_or numbers k 0)
     → IsAfter (w ∷ []) (record { values = values_of_numbers of_number d numbers; default = d; error = error; trie_type = trie_type }) (record { values = values_of_numbers of_number d filled; default = d; error = error; trie_type = trie_type })
-IsAfter-filled of_number w numbers filled n d error trie_type end h m len len' is inside before behind = record {
+IsAfter-filled of_number w numbers filled n d error trie_type end h m len len' is inside before after = record {
   values = λ c lt.
       let V = value_of_number of_number d in
       rw (number_value-at of_number d numbers c (omega (arith, lt, len)), number_value-at of_number d filled c (omega (arith, lt, len')))
       (value_after-filled w (V (get_or numbers c 0)) (V (get_or filled c 0)) c (omega arith) (omega arith) lt
-      (λ a b. ap V (inside c a (omega arith)) ∙ is) (λ a. ap V (before c a)) (λ a. ap V (behind c (omega arith))));
+      (λ a b. ap V (inside c a (omega arith)) ∙ is) (λ a. ap V (before c a)) (λ a. ap V (after c (omega arith))));
   default = refl;
   error = refl;
   trie_type = refl;

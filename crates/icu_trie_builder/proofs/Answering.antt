@@ -8,15 +8,15 @@ use Rattle.std.proofs.lemmas.Option.{slice_get-get_or, slice_get_within}
 use Rattle.icu_trie_core.specs.declared.header.TrieType.{TrieType}
 use Rattle.icu_trie_core.specs.declared.header.TrieType.TheVariants.{Fast, Small}
 use Rattle.icu_trie_core.specs.declared.header.CodePointTrieHeader.{CodePointTrieHeader}
-use Rattle.icu_trie_core.specs.Blocks.{window, block, block_of, different}
+use Rattle.icu_trie_core.specs.Blocks.{window, block, block_of, count_different}
 use Rattle.icu_trie_core.specs.Format.{answer, fast_limit, high_value}
 use Rattle.icu_trie_core.specs.FastIndex.{fast_index_len, passes_data}
 use Rattle.icu_trie_core.specs.Coherence.{IsCoherent, IsShared, SameAnswers}
 use Rattle.icu_trie_core.proofs.CallerLemmas.{fast_answer, small_answer}
 use Rattle.icu_trie_compaction.specs.Layout.{AllBelow, IsIndex, IsNullIndex}
-use Rattle.icu_trie_builder.specs.Data.{IsData, SameNumbers}
+use Rattle.icu_trie_builder.specs.Inside.Data.{IsData, SameNumbers}
 use Rattle.icu_trie_builder.specs.NullBlock.{NamesNull, NamesNullIndex}
-use Rattle.icu_trie_compaction.proofs.CallerLemmas.{different-by, different-within, parts, length-window, window-read}
+use Rattle.icu_trie_compaction.proofs.CallerLemmas.{count_different-by, count_different-within, parts, length-window, window-read}
 
 some-injective : (x y : ℕ) → Some x ≡ Some y → x ≡ y
 some-injective x y e = ap (λ o. unwrap_or o x) e
@@ -62,23 +62,23 @@ module _ (trie_type : TrieType) (high null value : ℕ) (f : ℕ → ℕ) (fast 
       ∙ (get_or_default small (32 * (d - first) + q) 0 z (omega (arith, long, t.1, d0, d1, aligned, lt)) ∙ sym (window-read 32 (32 * (d - first)) q small z lt)))))))
 
   -- the different lists of 32 offsets are no more than the different blocks of 512 from the fast limit on
-  pub few_offsets : different (block 32 small) 0 (length small / 32) ≤ different (block_of 512 f) (fast_limit trie_type / 512) (2176 - fast_limit trie_type / 512)
+  pub few_offsets : count_different (block 32 small) 0 (length small / 32) ≤ count_different (block_of 512 f) (fast_limit trie_type / 512) (2176 - fast_limit trie_type / 512)
   few_offsets =
       let t = parts trie_type in
       let first : ℕ = fast_limit trie_type / 512 in
       let long = p.small_len in
-      different-by (block 32 small) (block_of 512 f) 0 first (length small / 32) (2176 - first) (omega (arith, long, within, aligned, t.1, t.2))
+      count_different-by (block 32 small) (block_of 512 f) 0 first (length small / 32) (2176 - first) (omega (arith, long, within, aligned, t.1, t.2))
       (λ i j li lj e.
       let same : SameNumbers f 512 (first + i) (first + j) = λ n l. block_read f 512 (first + i) (first + j) n l e in
       let one = offsets_same (first + i) (first + j) (omega (arith, t.1)) (omega (arith, li, long, aligned, t.1)) (omega (arith, t.1)) (omega (arith, lj, long, aligned, t.1)) same in
       ap (λ n. window 32 (32 * n) small) (omega arith) ∙ (one ∙ ap (λ n. window 32 (32 * n) small) (omega arith)))
 
   -- nor than all different blocks of 512
-  pub few_all : different (block 32 small) 0 (length small / 32) ≤ different (block_of 512 f) 0 2176
+  pub few_all : count_different (block 32 small) 0 (length small / 32) ≤ count_different (block_of 512 f) 0 2176
   few_all =
       let t = parts trie_type in
       let first : ℕ = fast_limit trie_type / 512 in
-      omega (arith, few_offsets, different-within (block_of 512 f) (block_of 512 f) first (2176 - first) 0 2176 (λ j l l'. (j, omega arith, omega (arith, l', t.2), refl)))
+      omega (arith, few_offsets, count_different-within (block_of 512 f) (block_of 512 f) first (2176 - first) 0 2176 (λ j l l'. (j, omega arith, omega (arith, l', t.2), refl)))
 
   -- blocks of 16 lie within the data
   pub small_inside : (j : ℕ) → j < length small → get_or small j 0 + 16 ≤ length values

@@ -2,7 +2,8 @@
 use Rattle.std.proofs.Common.{◌≡◌, ℕ, ◌<◌, List, length, slice_index, Option, Some, refl, arith, ◌∙◌, ap, sym, Result, Ok, Err, false}
 use Rattle.std.specs.Prelude.{is_some, is_err, IfOk, OnOk}
 use Rattle.std.specs.List.{AllPass}
-use Rattle.icu_trie_builder.specs.CodePointMap.{IsBuilder, number_value}
+use Rattle.icu_trie_builder.specs.CodePointMap.{IsBuilder}
+use Rattle.icu_trie_builder.specs.Inside.ValuesOfNumbers.{number_value}
 use Rattle.icu_trie_builder.proofs.WholeLemmas.{number-back, number_value-at, value-back}
 
 module _ {T : Type 0} (V : T → Type 0) (number : T → ℕ) (of_number : ℕ → Option T) (back : (x : T) → V x → of_number (number x) ≡ Some x)

@@ -6,17 +6,17 @@ use Rattle.std.proofs.lemmas.Bool.{le-ltb}
 use Rattle.std.proofs.lemmas.List.{same_lists, get_or_default, get_or-take, get_or_append_left, get_or_at, length-append, length-take, length-take-le, take_all, take-append-le, take-take, drop-take}
 use Rattle.std.proofs.lemmas.List.Elements.{All-take, All-drop}
 use Rattle.icu_trie_core.specs.declared.header.TrieType.{TrieType}
-use Rattle.icu_trie_core.specs.Blocks.{window, block, different}
+use Rattle.icu_trie_core.specs.Blocks.{window, block, count_different}
 use Rattle.icu_trie_core.specs.Format.{fast_limit, high_value}
 use Rattle.icu_trie.specs.Parts.{last_cell}
-use Rattle.icu_trie_builder.specs.Data.{IsData, SameNumbers}
+use Rattle.icu_trie_builder.specs.Inside.Data.{IsData, SameNumbers}
 use Rattle.icu_trie_map.specs.NumberMap.{IsHighFrom}
 use Rattle.icu_trie_builder.specs.NullBlock.{HoldsOne, SomeHoldsOne}
-use Rattle.icu_trie_builder.specs.FilledBlocks.{IsMoved, IsNull, HasNoNull}
+use Rattle.icu_trie_builder.specs.Inside.FilledBlocks.{IsMoved, IsNull, HasNoNull}
 use Rattle.icu_trie_compaction.specs.Layout.{AllBelow}
 use Rattle.icu_trie_builder.specs.declared.null_block.NullBlock.{NullBlock}
-use Rattle.icu_trie_compaction.specs.Placed.{IsPlaced, IsCopied}
-use Rattle.icu_trie_compaction.proofs.CallerLemmas.{parts, cell_there, length-window, window-read, different-le_count}
+use Rattle.icu_trie_compaction.specs.Inside.Placed.{IsPlaced, IsCopied}
+use Rattle.icu_trie_compaction.proofs.CallerLemmas.{parts, cell_there, length-window, window-read, count_different-le_count}
 use Rattle.icu_trie_builder.proofs.NullLemmas.{window-kept}
 
 -- the last cell but one is the high value
@@ -58,16 +58,16 @@ copied-kept k first b before after offsets p kept =
       copies = λ j l. window-kept k (get_or offsets j 0) before after kept (p.inside j l) ∙ p.copies j l;
     }
 
--- the first two places, and the others behind them
-behind-first : (rest : List ℕ) (n : ℕ) → get_or (0 ∷ 64 ∷ rest) (2 + n) 0 ≡ get_or rest n 0
-behind-first rest n = let e : 2 + n ≡ suc (suc n) = omega arith in ap (λ x. get_or (0 ∷ 64 ∷ rest) x 0) e
+-- the first two places, and the others after them
+after-first : (rest : List ℕ) (n : ℕ) → get_or (0 ∷ 64 ∷ rest) (2 + n) 0 ≡ get_or rest n 0
+after-first rest n = let e : 2 + n ≡ suc (suc n) = omega arith in ap (λ x. get_or (0 ∷ 64 ∷ rest) x 0) e
 
 first-cases : (P : ℕ → Type 0) → P 0 → P 1 → (rest : List ℕ) → ((j : ℕ) → j < length rest → P (suc (suc j))) → (j : ℕ) → j < length (0 ∷ 64 ∷ rest) → P j
 first-cases P one two rest more zero l = one
 first-cases P one two rest more (suc zero) l = two
 first-cases P one two rest more (suc (suc j)) l = more j (omega (arith, l))
 
--- the first 128 cells as they are, and blocks of 64 behind them
+-- the first 128 cells as they are, and blocks of 64 after them
 copied-first : (numbers after rest : List ℕ) → 128 ≤ length numbers → IsPlaced 64 2 (block 64 numbers) (take 128 numbers) after rest → IsCopied 64 0 (block 64 numbers) after (0 ∷ 64 ∷ rest)
 copied-first numbers after rest le p =
     let first : take 128 after ≡ take 128 numbers = ap (λ n. take n after) (sym (length-take-le 128 numbers le)) ∙ p.kept in
@@ -88,11 +88,17 @@ shared-first numbers before after rest p i j a b l m e =
     let is : i ≡ 2 + i' = omega (arith, a) in
     let js : j ≡ 2 + j' = omega (arith, b) in
     let s = p.shared i' j' (omega (arith, l, a)) (omega (arith, m, b)) (ap (block 64 numbers) (sym is) ∙ (e ∙ ap (block 64 numbers) js)) in
-    ap (λ x. get_or (0 ∷ 64 ∷ rest) x 0) is ∙ (behind-first rest i' ∙ (s ∙ (sym (behind-first rest j') ∙ ap (λ x. get_or (0 ∷ 64 ∷ rest) x 0) (sym js))))
+    ap (λ x. get_or (0 ∷ 64 ∷ rest) x 0) is ∙ (after-first rest i' ∙ (s ∙ (sym (after-first rest j') ∙ ap (λ x. get_or (0 ∷ 64 ∷ rest) x 0) (sym js))))
 
 -- the first 128 cells are 128
 pub first_len : (numbers first : List ℕ) → length numbers ≡ 0x110000 → first ≡ take 128 numbers → length first ≡ 128
 first_len numbers first all start = ap length start ∙ length-take-le 128 numbers (omega (arith, all))
+
+-- no more cells than code points below the fast limit: the first 128, and the different blocks of 64
+pub fast_cells : (t : TrieType) (numbers first one : List ℕ) → length numbers ≡ 0x110000 → first ≡ take 128 numbers
+    → length one ≤ length first + 64 * count_different (block 64 numbers) 2 (fast_limit t / 64 - 2) → length one ≤ 0x10000
+fast_cells t numbers first one all start short =
+    omega (arith, short, first_len numbers first all start, (parts t).2, count_different-le_count (block 64 numbers) 2 (fast_limit t / 64 - 2))
 
 -- what a slice was written back to
 pub written-back : (n : ℕ) (old new : List ℕ) → n ≡ length old → length new ≡ length old → take n (new ++ drop (length new) old) ≡ new
@@ -108,8 +114,8 @@ module _ (trie_type : TrieType) (numbers first one rest fast : List ℕ) (all : 
   fast_one = subst (λ os. IsCopied 64 0 (block 64 numbers) one os) (sym list) (copied-first numbers one rest (omega (arith, all)) (subst (λ xs. IsPlaced 64 2 (block 64 numbers) xs one rest) start p))
 
   -- offsets below 0x10000
-  pub offsets_low : length one ≤ 128 + 64 * different (block 64 numbers) 2 (fast_limit trie_type / 64 - 2) → (j : ℕ) → j < length fast → get_or fast j 0 < 0x10000
-  offsets_low short j l = omega (arith, fast_one.inside j l, short, different-le_count (block 64 numbers) 2 (fast_limit trie_type / 64 - 2), (parts trie_type).2, (parts trie_type).3)
+  pub offsets_low : length one ≤ 128 + 64 * count_different (block 64 numbers) 2 (fast_limit trie_type / 64 - 2) → (j : ℕ) → j < length fast → get_or fast j 0 < 0x10000
+  offsets_low short j l = omega (arith, fast_one.inside j l, short, count_different-le_count (block 64 numbers) 2 (fast_limit trie_type / 64 - 2), (parts trie_type).2, (parts trie_type).3)
 
 -- then blocks of 16
 module _ (trie_type : TrieType) (high : ℕ) (numbers first one two rest fast old : List ℕ) (all : length numbers ≡ 0x110000) (start : first ≡ take 128 numbers)

@@ -9,7 +9,7 @@ use Rattle.std.proofs.lemmas.List.{same_lists, length-map, length-replicate, get
 use Rattle.std.proofs.lemmas.List.Sums.{sum_by-cons}
 use Rattle.std.proofs.lemmas.List.FromFn.{length-map-range_with_len, get_or-map-range_with_len}
 use Rattle.std.proofs.lemmas.Map.Made.{distinct_count-le}
-use Rattle.icu_trie_core.specs.Blocks.{block_of, different}
+use Rattle.icu_trie_core.specs.Blocks.{block_of, count_different}
 use Rattle.icu_trie_builder.specs.declared.writes.Write.{Write}
 use Rattle.icu_trie_builder.specs.Bounds.{IsTooLarge}
 use Rattle.icu_trie_builder.specs.Writes.{first_of, last_of, value_of, is_accepted, covers, last_written, value_after}
@@ -162,9 +162,9 @@ module _ {T : Type 0} (number : T → ℕ) (d : T) where
     ]
 
     -- n accepted writes leave at most 3 n + 1 different blocks of any one length
-    different-few : (k first count : ℕ) → 0 < k → different (block_of k (λ c. number (value_after ws d c))) first count ≤ 3 * count_by (is_accepted) ws + 1
-    unfolding different
-    different-few k first count pos =
+    count_different-few : (k first count : ℕ) → 0 < k → count_different (block_of k (λ c. number (value_after ws d c))) first count ≤ 3 * count_by (is_accepted) ws + 1
+    unfolding count_different
+    count_different-few k first count pos =
         let b : ℕ → List ℕ = block_of k (λ c. number (value_after ws d c)) in
         omega (
           arith,
@@ -177,5 +177,5 @@ module _ {T : Type 0} (number : T → ℕ) (d : T) where
 
     -- so at most 256 accepted writes are never too many
     pub few_too_large : count_by (is_accepted) ws ≤ 256 → IsTooLarge (λ c. number (value_after ws d c)) → ⊥
-    few_too_large h (inl l) = omega (arith, h, l, different-few 512 0 2176 (omega arith))
-    few_too_large h (inr l) = omega (arith, h, l, different-few 16 0 69632 (omega arith))
+    few_too_large h (inl l) = omega (arith, h, l, count_different-few 512 0 2176 (omega arith))
+    few_too_large h (inr l) = omega (arith, h, l, count_different-few 16 0 69632 (omega arith))

@@ -3,7 +3,7 @@ use Rattle.std.proofs.Common.{◌≡◌, ◌≢◌, ℕ, ◌+◌, ◌<◌, ◌�
 use Rattle.std.proofs.lemmas.Bool.{cases_eq}
 use Rattle.std.proofs.lemmas.List.{same_lists, get_or_default, length-take}
 use Rattle.icu_trie_core.specs.Blocks.{window}
-use Rattle.icu_trie_builder.specs.FilledBlocks.{IsApart, IsFilled, IsMoved, IsNull}
+use Rattle.icu_trie_builder.specs.Inside.FilledBlocks.{IsApart, IsFilled, IsMoved, IsNull}
 use Rattle.icu_trie_compaction.proofs.CallerLemmas.{length-window, window-read, window-append, append-kept}
 
 -- windows of one number are equal

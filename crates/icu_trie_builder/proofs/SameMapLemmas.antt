@@ -10,9 +10,9 @@ use Rattle.icu_trie_core.specs.declared.header.TrieType.{TrieType}
 use Rattle.icu_trie_core.specs.declared.header.TrieType.TheVariants.{Fast, Small}
 use Rattle.icu_trie_core.specs.declared.header.CodePointTrieHeader.{CodePointTrieHeader}
 use Rattle.icu_trie_core.specs.Format.{fast_limit, fast_offset, small_offset}
-use Rattle.icu_trie_core.specs.Blocks.{block_of, different}
+use Rattle.icu_trie_core.specs.Blocks.{block_of, count_different}
 use Rattle.icu_trie_builder.specs.Bounds.{data_bound, compact_data_bound, index_bound, short_index_bound, fast_blocks, small_blocks, lone_small_blocks, index_blocks, stands_in, stands_below, IsTooLarge}
-use Rattle.icu_trie_compaction.specs.Placed.{different_but}
+use Rattle.icu_trie_compaction.specs.Different.{count_different_but}
 use Rattle.icu_trie_builder.specs.NullBlock.{HoldsOne, SomeHoldsOne, NamesNull}
 
 -- functions that agree on a range give one list there
@@ -23,13 +23,13 @@ same_map f g first count h =
     (λ i d l. let below : i < count = omega (arith, l, lf) in
     get_or-map-range_with_len f first count i (first + i) d below refl ∙ (h (first + i) (omega arith) (omega (arith, below)) ∙ sym (get_or-map-range_with_len g first count i (first + i) d below refl)))
 
-different-alike : (b b' : ℕ → List ℕ) (first count : ℕ) → ((j : ℕ) → first ≤ j → j < first + count → b j ≡ b' j) → different b first count ≡ different b' first count
-unfolding different
-different-alike b b' first count h = ap (distinct_count (pointwise nat_eq)) (same_map b b' first count h)
+count_different-alike : (b b' : ℕ → List ℕ) (first count : ℕ) → ((j : ℕ) → first ≤ j → j < first + count → b j ≡ b' j) → count_different b first count ≡ count_different b' first count
+unfolding count_different
+count_different-alike b b' first count h = ap (distinct_count (pointwise nat_eq)) (same_map b b' first count h)
 
-different_but-alike : (p : List ℕ → Bool) (b b' : ℕ → List ℕ) (first count : ℕ) → ((j : ℕ) → first ≤ j → j < first + count → b j ≡ b' j) → different_but p b first count ≡ different_but p b' first count
-unfolding different_but
-different_but-alike p b b' first count h = ap (λ bs. distinct_count (pointwise nat_eq) (filter (λ x. not (p x)) bs)) (same_map b b' first count h)
+count_different_but-alike : (p : List ℕ → Bool) (b b' : ℕ → List ℕ) (first count : ℕ) → ((j : ℕ) → first ≤ j → j < first + count → b j ≡ b' j) → count_different_but p b first count ≡ count_different_but p b' first count
+unfolding count_different_but
+count_different_but-alike p b b' first count h = ap (λ bs. distinct_count (pointwise nat_eq) (filter (λ x. not (p x)) bs)) (same_map b b' first count h)
 
 module _ (f g : ℕ → ℕ) (same : (c : ℕ) → c < 0x110000 → f c ≡ g c) where
   block_of-alike : (k j : ℕ) → k * j + k ≤ 0x110000 → block_of k f j ≡ block_of k g j
@@ -37,24 +37,24 @@ module _ (f g : ℕ → ℕ) (same : (c : ℕ) → c < 0x110000 → f c ≡ g c)
   block_of-alike k j le = same_map f g (k * j) k (λ c from below. same c (omega (arith, le)))
 
   fast-alike : (t : TrieType) → fast_blocks t f ≡ fast_blocks t g
-  fast-alike Fast = different-alike (block_of 64 f) (block_of 64 g) 0 1024 (λ j from below. block_of-alike 64 j (omega (arith, below)))
-  fast-alike Small = different-alike (block_of 64 f) (block_of 64 g) 0 64 (λ j from below. block_of-alike 64 j (omega (arith, below)))
+  fast-alike Fast = count_different-alike (block_of 64 f) (block_of 64 g) 0 1024 (λ j from below. block_of-alike 64 j (omega (arith, below)))
+  fast-alike Small = count_different-alike (block_of 64 f) (block_of 64 g) 0 64 (λ j from below. block_of-alike 64 j (omega (arith, below)))
 
   small-alike : (t : TrieType) → small_blocks t f ≡ small_blocks t g
-  small-alike Fast = different-alike (block_of 16 f) (block_of 16 g) 4096 65536 (λ j from below. block_of-alike 16 j (omega (arith, below)))
-  small-alike Small = different-alike (block_of 16 f) (block_of 16 g) 256 69376 (λ j from below. block_of-alike 16 j (omega (arith, below)))
+  small-alike Fast = count_different-alike (block_of 16 f) (block_of 16 g) 4096 65536 (λ j from below. block_of-alike 16 j (omega (arith, below)))
+  small-alike Small = count_different-alike (block_of 16 f) (block_of 16 g) 256 69376 (λ j from below. block_of-alike 16 j (omega (arith, below)))
 
   stands-alike : (n : ℕ) → 64 * n ≤ 0x110000 → stands_below (block_of 64 f) n ≡ stands_below (block_of 64 g) n
   unfolding stands_below
   stands-alike n le = ap (λ bs x. list_any (stands_in x) bs) (same_map (block_of 64 f) (block_of 64 g) 0 n (λ j from below. block_of-alike 64 j (omega (arith, below, le))))
 
   lone-alike : (t : TrieType) → lone_small_blocks t f ≡ lone_small_blocks t g
-  lone-alike Fast = ap (λ p. different_but p (block_of 16 f) 4096 65536) (stands-alike 1024 (omega arith)) ∙ different_but-alike (stands_below (block_of 64 g) 1024) (block_of 16 f) (block_of 16 g) 4096 65536 (λ j from below. block_of-alike 16 j (omega (arith, below)))
-  lone-alike Small = ap (λ p. different_but p (block_of 16 f) 256 69376) (stands-alike 64 (omega arith)) ∙ different_but-alike (stands_below (block_of 64 g) 64) (block_of 16 f) (block_of 16 g) 256 69376 (λ j from below. block_of-alike 16 j (omega (arith, below)))
+  lone-alike Fast = ap (λ p. count_different_but p (block_of 16 f) 4096 65536) (stands-alike 1024 (omega arith)) ∙ count_different_but-alike (stands_below (block_of 64 g) 1024) (block_of 16 f) (block_of 16 g) 4096 65536 (λ j from below. block_of-alike 16 j (omega (arith, below)))
+  lone-alike Small = ap (λ p. count_different_but p (block_of 16 f) 256 69376) (stands-alike 64 (omega arith)) ∙ count_different_but-alike (stands_below (block_of 64 g) 64) (block_of 16 f) (block_of 16 g) 256 69376 (λ j from below. block_of-alike 16 j (omega (arith, below)))
 
   index-alike : (t : TrieType) → index_blocks t f ≡ index_blocks t g
-  index-alike Fast = different-alike (block_of 512 f) (block_of 512 g) 128 2048 (λ j from below. block_of-alike 512 j (omega (arith, below)))
-  index-alike Small = different-alike (block_of 512 f) (block_of 512 g) 8 2168 (λ j from below. block_of-alike 512 j (omega (arith, below)))
+  index-alike Fast = count_different-alike (block_of 512 f) (block_of 512 g) 128 2048 (λ j from below. block_of-alike 512 j (omega (arith, below)))
+  index-alike Small = count_different-alike (block_of 512 f) (block_of 512 g) 8 2168 (λ j from below. block_of-alike 512 j (omega (arith, below)))
 
   -- both have one bound on the cells of data
   pub data_bound-alike : (t : TrieType) → data_bound t f ≡ data_bound t g
@@ -78,8 +78,8 @@ module _ (f g : ℕ → ℕ) (same : (c : ℕ) → c < 0x110000 → f c ≡ g c)
 
   -- and both may be refused for their size, or none
   pub IsTooLarge-alike : IsTooLarge f → IsTooLarge g
-  IsTooLarge-alike (inl h) = inl (omega (arith, h, different-alike (block_of 512 f) (block_of 512 g) 0 2176 (λ j from below. block_of-alike 512 j (omega (arith, below)))))
-  IsTooLarge-alike (inr h) = inr (omega (arith, h, different-alike (block_of 16 f) (block_of 16 g) 0 69632 (λ j from below. block_of-alike 16 j (omega (arith, below)))))
+  IsTooLarge-alike (inl h) = inl (omega (arith, h, count_different-alike (block_of 512 f) (block_of 512 g) 0 2176 (λ j from below. block_of-alike 512 j (omega (arith, below)))))
+  IsTooLarge-alike (inr h) = inr (omega (arith, h, count_different-alike (block_of 16 f) (block_of 16 g) 0 69632 (λ j from below. block_of-alike 16 j (omega (arith, below)))))
 
 -- a block of one number is one of the other map too
 HoldsOne-alike : (f g : ℕ → ℕ) → ((c : ℕ) → c < 0x110000 → f c ≡ g c) → (k b : ℕ) → 0 < k → b * k + k ≤ 0x110000 → HoldsOne f k b → HoldsOne g k b

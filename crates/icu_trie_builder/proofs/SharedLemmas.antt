@@ -1,8 +1,8 @@
 -- Blocks of 16 of one number get the place of a block of 64 of it, equal blocks one place.
-use Rattle.std.proofs.Common.{◌≡◌, ◌≢◌, ℕ, ◌+◌, ◌<◌, ◌≤◌, List, length, get_or, refl, arith, ◌∙◌, sym, ap, inl, inr}
-use Rattle.std.proofs.lemmas.Bool.{cases_lt, cases_eq}
+use Rattle.std.proofs.Common.{◌≡◌, ℕ, ◌+◌, ◌<◌, ◌≤◌, List, length, get_or, arith, ◌∙◌, sym, ap, inl, inr}
+use Rattle.std.proofs.lemmas.Bool.{cases_lt}
 use Rattle.icu_trie_core.specs.Blocks.{window}
-use Rattle.icu_trie_builder.specs.FilledBlocks.{AreFilledPlaces, IsFilled, IsMoved, IsSharedPlace}
+use Rattle.icu_trie_builder.specs.Inside.FilledBlocks.{AreFilledPlaces, IsFilled, IsMoved, IsSharedPlace}
 use Rattle.icu_trie_builder.proofs.NullLemmas.{filled-windows}
 
 -- there is one such place

@@ -2,7 +2,7 @@
 use Rattle.std.proofs.Common.{◌≡◌, ℕ, ◌+◌, ◌-◌, ◌*◌, ◌<◌, ◌≤◌, nat_le, nat_lt, true, false, List, [], ◌∷◌, length, Option, Some, None, slice_get, refl, arith, sym, ◌∙◌, ap, subst, inl, inr}
 use Rattle.std.specs.Prelude.{IsSome, is_some, is_none, if◌then◌else◌}
 use Rattle.std.specs.Option.{option_and_then, option_map, option_or}
-use Rattle.std.proofs.lemmas.Bool.{lt-ltb, le-ltb, cases_lt}
+use Rattle.std.proofs.lemmas.Bool.{le-ltb, cases_lt}
 use Rattle.std.proofs.lemmas.Bool.Decides.{nat_tests}
 use Rattle.std.proofs.lemmas.List.{length-map}
 use Rattle.std.proofs.lemmas.Option.{slice_get-map, same_Some}
@@ -11,15 +11,13 @@ use Rattle.icu_trie_core.specs.Format.{answer, high_cell, high_value, place}
 use Rattle.icu_trie_core.specs.FastIndex.{fast_index_len, passes_data}
 use Rattle.icu_trie.specs.Parts.{Parts, last_cell, fault}
 use Rattle.icu_trie_core.specs.Coherence.{IsCoherent, IsShared, SameAnswers}
-use Rattle.icu_trie_builder.specs.Built.{IsBuilt}
-use Rattle.icu_trie_builder.specs.MapAnswers.{AnswersMap, AreValuesOf, IsWellBuilt}
+use Rattle.icu_trie_builder.specs.Inside.NumberTrie.{IsNumberTrie}
+use Rattle.icu_trie_builder.specs.MapAnswers.{AnswersMap}
+use Rattle.icu_trie_builder.specs.Built.{IsWellBuilt}
+use Rattle.icu_trie_builder.specs.Inside.ValuesOfNumbers.{AreValuesOf}
 use Rattle.icu_trie_builder.specs.Bounds.{data_bound, compact_data_bound}
+use Rattle.icu_trie_builder.proofs.AboveLemmas.{above}
 use Rattle.icu_trie_builder.proofs.SameMapLemmas.{data_bound-alike, compact_data_bound-alike, index_bound-alike, tight-alike, NamesNull-alike}
-
--- above the code space there is no answer
-above_answer : {A : Type 0} (h : CodePointTrieHeader) (index : List ℕ) (values : List A) (u : ℕ) → 0x110000 ≤ u → answer h index values u ≡ None
-unfolding answer
-above_answer h index values u above = rw (lt-ltb 1114111 u (omega (arith, above))) refl
 
 option_map-Some : {A B : Type 0} (f : A → Option B) (v : Option B) (n : Option A) → option_map Some v ≡ option_map f n → v ≡ option_and_then f n
 option_map-Some f None None e = refl
@@ -66,7 +64,7 @@ not-none (Some x) e = refl
 module _ {T : Type 0} (of_number : ℕ → Option T) (number : T → ℕ) (g : ℕ → T) (error : T) (f : ℕ → ℕ)
     (h : CodePointTrieHeader) (index numbers : List ℕ) (values : List T) (same : AreValuesOf of_number numbers values)
     (back : (c : ℕ) → c < 0x110000 → of_number (number (g c)) ≡ Some (g c)) (error_back : of_number (number error) ≡ Some error)
-    (is : (c : ℕ) → c < 0x110000 → f c ≡ number (g c)) (built : IsBuilt f (number error) h index numbers) (null_is : is_some (of_number h.null_value) ≡ true) where
+    (is : (c : ℕ) → c < 0x110000 → f c ≡ number (g c)) (built : IsNumberTrie f (number error) h index numbers) (null_is : is_some (of_number h.null_value) ≡ true) where
   -- the number of a code point's value is what the trie of the numbers answers
   number_answer : (c : ℕ) → c < 0x110000 → answer h index numbers c ≡ Some (number (g c))
   number_answer c l = built.answers c l ∙ ap (λ n. Some n) (is c l)
@@ -80,13 +78,13 @@ module _ {T : Type 0} (of_number : ℕ → Option T) (number : T → ℕ) (g : �
   look_up_is : (u : ℕ) → answer h index values u ≡ (if nat_le u 0x10FFFF then Some (g u) else None)
   look_up_is u = elim (cases_lt u 0x110000) [
     | inl below ↦ (let t : nat_le u 0x10FFFF ≡ true = grind (arith, nat_tests) in rw t (value_answer u below))
-    | inr above ↦ (let t : nat_le u 0x10FFFF ≡ false = grind (arith, nat_tests) in rw t (above_answer h index values u above))
+    | inr past ↦ (let t : nat_le u 0x10FFFF ≡ false = grind (arith, nat_tests) in rw t (above h index values u past))
   ]
 
   value_is : (u : ℕ) → option_or (answer h index values u) (last_cell values) ≡ Some (if nat_le u 0x10FFFF then g u else error)
   value_is u = elim (cases_lt u 0x110000) [
     | inl below ↦ (let t : nat_le u 0x10FFFF ≡ true = grind (arith, nat_tests) in rw (t, value_answer u below) refl)
-    | inr above ↦ (let t : nat_le u 0x10FFFF ≡ false = grind (arith, nat_tests) in rw (t, above_answer h index values u above) error_cell)
+    | inr past ↦ (let t : nat_le u 0x10FFFF ≡ false = grind (arith, nat_tests) in rw (t, above h index values u past) error_cell)
   ]
 
   -- the trie of the values answers the map
@@ -105,7 +103,7 @@ module _ {T : Type 0} (of_number : ℕ → Option T) (number : T → ℕ) (g : �
   -- null blocks and the high value are as with the numbers
   pub coherent_values : IsCoherent of_number h index values
   coherent_values =
-      let numbers_coherent = built.coherent in
+      let numbers_coherent = built.well_built.coherent in
       let by = answer-values of_number numbers values same h index in
       record {
         aligned = numbers_coherent.aligned;
@@ -129,9 +127,9 @@ module _ {T : Type 0} (of_number : ℕ → Option T) (number : T → ℕ) (g : �
 
   pub shared_values : IsShared h index values
   shared_values =
-      let numbers_shared = built.shared in
-      let aligned = built.header.aligned in
-      let within = built.header.within in
+      let numbers_shared = built.well_built.shared in
+      let aligned = built.well_built.header.aligned in
+      let within = built.well_built.header.within in
       record {
         fast = λ b d sb sd alike. numbers_shared.fast b d sb sd (same_numbers 64 b d (omega (arith, sb.2, aligned, within)) (omega (arith, sd.2, aligned, within)) alike);
         small = λ b d sb sd alike. numbers_shared.small b d sb sd (same_numbers 16 b d (omega (arith, sb.2, aligned, within)) (omega (arith, sd.2, aligned, within)) alike);
@@ -140,18 +138,18 @@ module _ {T : Type 0} (of_number : ℕ → Option T) (number : T → ℕ) (g : �
 
   pub well_built : IsWellBuilt of_number (λ c. number (g c)) (record { header = h; index = index; values = values })
   well_built =
-      let bound : length numbers ≤ data_bound h.trie_type (λ c. number (g c)) = subst (λ n. length numbers ≤ n) (data_bound-alike f (λ c. number (g c)) is h.trie_type) built.data_short in
+      let bound : length numbers ≤ data_bound h.trie_type (λ c. number (g c)) = subst (λ n. length numbers ≤ n) (data_bound-alike f (λ c. number (g c)) is h.trie_type) built.well_built.data_cells in
       record {
-        header = built.header;
+        header = built.well_built.header;
         coherent = coherent_values;
         shared = shared_values;
         data_cells = subst (λ n. n ≤ data_bound h.trie_type (λ c. number (g c))) (sym (length-values of_number numbers values same)) bound;
-        index_cells = subst (λ n. length index ≤ n) (index_bound-alike f (λ c. number (g c)) is h.trie_type) built.index_short;
+        index_cells = subst (λ n. length index ≤ n) (index_bound-alike f (λ c. number (g c)) is h.trie_type) built.well_built.index_cells;
         compact_data = subst (λ n. n ≤ compact_data_bound h.trie_type (λ c. number (g c))) (sym (length-values of_number numbers values same))
-            (subst (λ n. length numbers ≤ n) (compact_data_bound-alike f (λ c. number (g c)) is h.trie_type) built.compact_data);
-        null_block = NamesNull-alike f (λ c. number (g c)) is h index built.header.within built.null_block;
-        null_index = built.null_index;
-        tight = tight-alike f (λ c. number (g c)) is h.trie_type (length index) built.tight;
+            (subst (λ n. length numbers ≤ n) (compact_data_bound-alike f (λ c. number (g c)) is h.trie_type) built.well_built.compact_data);
+        null_block = NamesNull-alike f (λ c. number (g c)) is h index built.well_built.header.within built.well_built.null_block;
+        null_index = built.well_built.null_index;
+        tight = tight-alike f (λ c. number (g c)) is h.trie_type (length index) built.well_built.tight;
       }
 
 -- what is well built of one map is so of a map that agrees with it in the code space

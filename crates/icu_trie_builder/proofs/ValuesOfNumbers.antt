@@ -4,16 +4,18 @@ use Rattle.std.specs.Prelude.{is_some}
 use Rattle.std.specs.List.{AllPass}
 use Rattle.icu_trie_core.specs.declared.header.CodePointTrieHeader.{CodePointTrieHeader}
 use Rattle.icu_trie.specs.Parts.{Parts, fault}
-use Rattle.icu_trie_builder.specs.CodePointMap.{IsBuilder, number_value}
-use Rattle.icu_trie_builder.specs.Built.{IsBuilt}
-use Rattle.icu_trie_builder.specs.MapAnswers.{AnswersMap, AreValuesOf, IsWellBuilt}
+use Rattle.icu_trie_builder.specs.CodePointMap.{IsBuilder}
+use Rattle.icu_trie_builder.specs.Inside.ValuesOfNumbers.{number_value, AreValuesOf}
+use Rattle.icu_trie_builder.specs.Inside.NumberTrie.{IsNumberTrie}
+use Rattle.icu_trie_builder.specs.MapAnswers.{AnswersMap}
+use Rattle.icu_trie_builder.specs.Built.{IsWellBuilt}
 use Rattle.icu_trie_builder.proofs.BuilderLemmas.{gives_back, all_numbers, number-of_value}
 use Rattle.icu_trie_builder.proofs.TypedLemmas.{answers_map, no_fault, well_built}
 
 module _ {T : Type 0} (V : T → Type 0) (number : T → ℕ) (of_number : ℕ → Option T) (back : (x : T) → V x → of_number (number x) ≡ Some x)
     (numbers : List ℕ) (default error : T) (sound : IsBuilder V number numbers default error)
     (h : CodePointTrieHeader) (index cells : List ℕ) (error_number default_number : ℕ) (is_error : error_number ≡ number error) (is_default : default_number ≡ number default)
-    (built : IsBuilt (λ c. slice_index numbers c) error_number h index cells)
+    (built : IsNumberTrie (λ c. slice_index numbers c) error_number h index cells)
     (null : (p : ℕ → Bool) → AllPass p numbers → p default_number ≡ true → p h.null_value ≡ true) where
   abbrev f : ℕ → T
   f = number_value of_number default numbers
@@ -25,8 +27,8 @@ module _ {T : Type 0} (V : T → Type 0) (number : T → ℕ) (of_number : ℕ �
   is : (c : ℕ) → c < 0x110000 → slice_index numbers c ≡ number (f c)
   is = number-of_value V number of_number back numbers default error sound
 
-  built_is : IsBuilt (λ c. slice_index numbers c) (number error) h index cells
-  built_is = subst (λ n. IsBuilt (λ c. slice_index numbers c) n h index cells) is_error built
+  built_is : IsNumberTrie (λ c. slice_index numbers c) (number error) h index cells
+  built_is = subst (λ n. IsNumberTrie (λ c. slice_index numbers c) n h index cells) is_error built
 
   back_is : (c : ℕ) → c < 0x110000 → of_number (number (f c)) ≡ Some (f c)
   back_is = gives_back V number of_number back numbers default error sound

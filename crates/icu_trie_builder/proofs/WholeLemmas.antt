@@ -3,7 +3,8 @@ use Rattle.std.specs.List.{All}
 use Rattle.std.proofs.lemmas.Bool.{cases_lt}
 use Rattle.std.proofs.Common.{subst, ◌≡◌, ℕ, ◌<◌, ◌≤◌, List, length, get_or, Option, Some, unwrap_or, arith, ap, sym, inl, inr}
 use Rattle.std.proofs.lemmas.List.{get_or-map, get_or_default}
-use Rattle.icu_trie_builder.specs.CodePointMap.{IsNumberOf, number_value, value_of_number, values_of_numbers}
+use Rattle.icu_trie_builder.specs.CodePointMap.{IsNumberOf, value_of_number, values_of_numbers}
+use Rattle.icu_trie_builder.specs.Inside.ValuesOfNumbers.{number_value}
 
 module _ {T : Type 0} (of_number : ℕ → Option T) (default : T) where
   -- the value of a code point is that of its number
@@ -30,10 +31,10 @@ pub All-filled : (P : ℕ → Type 0) (made filled : List ℕ) (start end n : �
     → ((k : ℕ) → k < start → get_or filled k 0 ≡ get_or made k 0)
     → ((k : ℕ) → end ≤ k → get_or filled k 0 ≡ get_or made k 0)
     → All P filled
-All-filled P made filled start end n h value len inside before behind = λ k e l. subst P (get_or_default filled k 0 e l) (elim (cases_lt k start) [
+All-filled P made filled start end n h value len inside before after = λ k e l. subst P (get_or_default filled k 0 e l) (elim (cases_lt k start) [
   | inl low ↦ subst P (sym (before k low)) (h k 0 (omega (arith, l, len)))
   | inr from ↦ elim (cases_lt k end) [
     | inl below ↦ subst P (sym (inside k from below)) value
-    | inr past ↦ subst P (sym (behind k past)) (h k 0 (omega (arith, l, len)))
+    | inr past ↦ subst P (sym (after k past)) (h k 0 (omega (arith, l, len)))
   ]
 ])

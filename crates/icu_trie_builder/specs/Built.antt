@@ -1,10 +1,9 @@
--- What a built trie is.
-use Rattle.std.specs.Prelude.{◌≡◌, ℕ, ◌+◌, ◌/◌, ◌%◌, ◌<◌, ◌≤◌, false, List, Some, length}
+-- What a built trie is beside its answers.
+use Rattle.std.specs.Prelude.{◌≡◌, ℕ, ◌+◌, ◌/◌, ◌%◌, ◌≤◌, Option, length}
+use Rattle.icu_zerovec.specs.CodePoints.{code_point_limit}
 use Rattle.icu_trie_core.specs.declared.header.CodePointTrieHeader.{CodePointTrieHeader}
-use Rattle.icu_trie_core.specs.Format.{answer}
-use Rattle.icu_trie_core.specs.FastIndex.{fast_index_len, passes_data}
-use Rattle.icu_trie.specs.Parts.{last_cell}
 use Rattle.icu_trie_core.specs.Coherence.{IsCoherent, IsShared}
+use Rattle.icu_trie.specs.Parts.{Parts}
 use Rattle.icu_trie_builder.specs.Bounds.{data_bound, compact_data_bound, index_bound, short_index_bound}
 use Rattle.icu_trie_builder.specs.NullBlock.{NamesNull, NamesNullIndex}
 
@@ -12,29 +11,28 @@ use Rattle.icu_trie_builder.specs.NullBlock.{NamesNull, NamesNullIndex}
 -- its shifted form too, which is rounded up
 pub record IsBuiltHeader (h : CodePointTrieHeader) : Type 0 where
   pub aligned : h.high_start % 512 ≡ 0
-  pub within : h.high_start ≤ 0x110000
+  pub within : h.high_start ≤ code_point_limit
   pub shifted : h.shifted12_high_start ≡ (h.high_start + 0xfff) / 0x1000
 
--- header, index and values are a trie of the map f with this error value
-pub record IsBuilt (f : ℕ → ℕ) (error : ℕ) (h : CodePointTrieHeader) (index values : List ℕ)
+-- the trie t is well built of a map whose values have the numbers f, and of_number gives a number's
+-- value
+pub record IsWellBuilt {T : Type 0} (of_number : ℕ → Option T) (f : ℕ → ℕ) (t : Parts T)
     : Type 0 where
-  pub header : IsBuiltHeader h
-  -- each code point's answer is its number
-  pub answers : (c : ℕ) → c < 0x110000 → answer h index values c ≡ Some (f c)
-  pub error_value : last_cell values ≡ Some error
-  -- a walk may trust the null offsets, and is short. A number is its own value
-  pub coherent : IsCoherent Some h index values
-  pub shared : IsShared h index values
-  pub data_short : length values ≤ data_bound h.trie_type f
-  pub index_short : length index ≤ index_bound h.trie_type f
-  -- the fast index is whole, and its blocks lie within the data
-  pub fast_index : fast_index_len h.trie_type ≤ length index
-  pub fast_data : passes_data h.trie_type index (length values) ≡ false
+  -- the header has the format's form
+  pub header : IsBuiltHeader t.header
+  -- a walk may trust the null offsets and the high start
+  pub coherent : IsCoherent of_number t.header t.index t.values
+  -- equal blocks have one offset or index-2 cell, so that a walk is short
+  pub shared : IsShared t.header t.index t.values
+  -- no more cells than the map has different blocks for
+  pub data_cells : length t.values ≤ data_bound t.header.trie_type f
+  pub index_cells : length t.index ≤ index_bound t.header.trie_type f
   -- small blocks that stand in fast ones take no cells
-  pub compact_data : length values ≤ compact_data_bound h.trie_type f
-  -- the null offset is that of a block of one number, where there is one
-  pub null_block : NamesNull h index f
+  pub compact_data : length t.values ≤ compact_data_bound t.header.trie_type f
+  -- the null offset is that of a block of one value, where there is one
+  pub null_block : NamesNull t.header t.index f
   -- blocks of 512 that are null throughout have the null index-3 offset
-  pub null_index : NamesNullIndex h index
-  -- where small data is certain, the index needs no 18-bit offsets
-  pub tight : compact_data_bound h.trie_type f ≤ 0x10000 → length index ≤ short_index_bound h.trie_type f
+  pub null_index : NamesNullIndex t.header t.index
+  -- where few cells of data are certain, the index needs no offset of 18 bits
+  pub tight : compact_data_bound t.header.trie_type f ≤ 0x10000
+      → length t.index ≤ short_index_bound t.header.trie_type f

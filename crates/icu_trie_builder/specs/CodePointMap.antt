@@ -1,12 +1,13 @@
 -- A map of the code points 0 to 0x10FFFF, as a builder holds it.
 use Rattle.std.specs.Prelude.{◌≡◌, ℕ, ◌≤◌, nat_le, List, Option, length, map, slice_index_or, unwrap_or, if◌then◌else◌}
 use Rattle.std.specs.List.{All}
+use Rattle.icu_zerovec.specs.CodePoints.{code_point_limit}
 use Rattle.icu_trie_core.specs.declared.header.TrieType.{TrieType}
 use Rattle.icu_trie_builder.specs.declared.writes.Write.{Write}
 use Rattle.icu_trie_builder.specs.Writes.{value_after}
 
--- what a contract sees of a builder: the value of each code point in order, the default, the error value and
--- the type of the trie to build
+-- what a contract sees of a builder: the value of each code point in order, the default, the error
+-- value and the type of the trie to build
 pub record CodePointMap (T : Type 0) : Type 0 where
   pub values : List T
   pub default : T
@@ -17,7 +18,8 @@ pub record CodePointMap (T : Type 0) : Type 0 where
 abbrev pub map_value : {T : Type 0} → CodePointMap T → ℕ → T
 map_value m c = slice_index_or m.values c m.default
 
--- the map's answer at any number: the value of a code point, and the error value above the code space
+-- the map's answer at any number: the value of a code point, and the error value above the code
+-- space
 abbrev pub map_answer : {T : Type 0} → CodePointMap T → ℕ → T
 map_answer m u = if nat_le u 0x10FFFF then map_value m u else m.error
 
@@ -36,20 +38,15 @@ value_of_number of_number default n = unwrap_or (of_number n) default
 unfoldable pub values_of_numbers : {T : Type 0} → (ℕ → Option T) → T → List ℕ → List T
 values_of_numbers of_number default numbers = map (value_of_number of_number default) numbers
 
--- the value of a code point by the numbers of all
-abbrev pub number_value : {T : Type 0} → (ℕ → Option T) → T → List ℕ → ℕ → T
-number_value of_number default numbers c =
-    slice_index_or (values_of_numbers of_number default numbers) c default
-
 -- n is the number of a value of the type
 abbrev pub IsNumberOf : {T : Type 0} → (T → Type 0) → (T → ℕ) → ℕ → Type 0
 IsNumberOf {T} is_value number n = (x : T) × is_value x × (number x ≡ n)
 
--- the parts of a builder: a number for each code point, which is that of a value of the type, as the default
--- and the error value are
+-- the parts of a builder: a number for each code point, which is that of a value of the type, as
+-- the default and the error value are
 pub record IsBuilder {T : Type 0} (is_value : T → Type 0) (number : T → ℕ) (numbers : List ℕ)
     (default error : T) : Type 0 where
-  pub whole : length numbers ≡ 0x110000
+  pub whole : length numbers ≡ code_point_limit
   pub all_numbers : All (IsNumberOf is_value number) numbers
   pub default_value : is_value default
   pub error_value : is_value error

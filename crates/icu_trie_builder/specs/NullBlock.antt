@@ -8,8 +8,8 @@ use Rattle.icu_trie_core.specs.Format.{fast_limit, fast_offset, small_offset, in
 abbrev pub HoldsOne : (ℕ → ℕ) → ℕ → ℕ → Type 0
 HoldsOne f k b = (i : ℕ) → i < k → f (b * k + i) ≡ f (b * k)
 
--- an aligned block holds one number, of 64 below the fast limit with P of its number, or of 16 from it on to
--- before the high start with Q of its number
+-- an aligned block holds one number, of 64 below the fast limit with P of its number, or of 16 from
+-- it on to before the high start with Q of its number
 abbrev pub SomeHoldsOne : TrieType → ℕ → (ℕ → ℕ) → (ℕ → Type 0) → (ℕ → Type 0) → Type 0
 SomeHoldsOne t high f P Q = ((b : ℕ) × (b * 64 < fast_limit t) × HoldsOne f 64 b × P b)
     ⊎ ((b : ℕ) × (fast_limit t ≤ b * 16) × (b * 16 < high) × HoldsOne f 16 b × Q b)
@@ -21,9 +21,10 @@ NamesNull h index f = SomeHoldsOne h.trie_type h.high_start f (λ _. Unit {0}) (
     (λ b. fast_offset index (b * 64) ≡ Some h.data_null_offset)
     (λ b. small_offset h.trie_type index (b * 16) ≡ Some h.data_null_offset)
 
--- blocks of 512, from the fast limit on to before the high start, all of whose data offsets are the null
--- data offset have the null index-3 offset for an index-2 cell
+-- blocks of 512, from the fast limit on to before the high start, all of whose data offsets are the
+-- null data offset have the null index-3 offset for an index-2 cell
 unfoldable pub NamesNullIndex : CodePointTrieHeader → List ℕ → Type 0
 NamesNullIndex h index = (b : ℕ) → fast_limit h.trie_type ≤ b * 512 → b * 512 < h.high_start
-    → ((i : ℕ) → i < 32 → small_offset h.trie_type index (b * 512 + 16 * i) ≡ Some h.data_null_offset)
+    → ((i : ℕ) → i < 32 → small_offset h.trie_type index (b * 512 + 16 * i)
+    ≡ Some h.data_null_offset)
     → index2_cell h.trie_type index (b * 512) ≡ Some h.index3_null_offset

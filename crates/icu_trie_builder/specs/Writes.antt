@@ -1,4 +1,5 @@
--- Writes into a map of the code points: which are accepted, what each covers, and what a list of them leaves.
+-- Writes into a map of the code points: which are accepted, what each covers, and what a list of
+-- them leaves.
 use Rattle.std.specs.Prelude.{ℕ, Bool, ◌&&◌, nat_le, List, [], ◌∷◌, Option, Some, None, if◌then◌else◌, unwrap_or}
 use Rattle.std.specs.Option.{option_or}
 use Rattle.std.specs.Range.{range_inclusive_start, range_inclusive_end}
@@ -32,13 +33,14 @@ module _ {T : Type 0} where
   -- what the last of the writes that cover c writes, if any does
   abbrev pub last_written : List (Write T) → ℕ → Option T
   last_written [] c = None
-  last_written (w ∷ ws) c = option_or (last_written ws c) (if covers w c then Some (value_of w) else None)
+  last_written (w ∷ ws) c =
+      option_or (last_written ws c) (if covers w c then Some (value_of w) else None)
 
   -- the value of c after the writes, where it was `old` before them
   abbrev pub value_after : List (Write T) → T → ℕ → T
   value_after ws old c = unwrap_or (last_written ws c) old
 
-  -- the answer that a list of writes over the default asks for at any number: the last write's value, and
-  -- the error value above the code space
+  -- the answer that a list of writes over the default asks for at any number: the last write's
+  -- value, and the error value above the code space
   abbrev pub answer_after : T → T → List (Write T) → ℕ → T
   answer_after default error ws u = if nat_le u 0x10FFFF then value_after ws default u else error

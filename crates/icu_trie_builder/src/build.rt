@@ -1,22 +1,25 @@
-//! A map becomes a trie: its values as numbers, the trie of the numbers, and the values of its cells.
+//! A map becomes a trie: its values as numbers, the trie of the numbers, and the values of its
+//! cells.
 ghost use Rattle.std.specs.Prelude.{◌≡◌, ◌≢◌, ℕ, ◌≤◌, List, Err, None, IfOk, IfErr, is_some};
 ghost use Rattle.std.specs.List.{AllPass, count_by};
 ghost use Rattle.icu_trie.specs.Parts.{fault};
 ghost use Rattle.icu_trie_builder.specs.Bounds.{IsTooLarge};
-ghost use Rattle.icu_trie_builder.specs.CodePointMap.{map_value, number_value, IsBuilder};
-ghost use Rattle.icu_trie_builder.specs.MapAnswers.{AnswersMap, AreValuesOf, HasRangesOf, IsWellBuilt};
+ghost use Rattle.icu_trie_builder.specs.CodePointMap.{map_value, IsBuilder};
+ghost use Rattle.icu_trie_builder.specs.Inside.ValuesOfNumbers.{number_value, AreValuesOf};
+ghost use Rattle.icu_trie_builder.specs.MapAnswers.{AnswersMap, HasRangesOf};
+ghost use Rattle.icu_trie_builder.specs.Built.{IsWellBuilt};
 ghost use Rattle.icu_trie_builder.specs.Writes.{is_accepted, value_after};
 ghost use Rattle.icu_trie_compaction.specs.declared.error.BuildError.TheVariants.{TooLarge};
 
 use crate::builder::CodePointTrieBuilder;
 use crate::error::BuildError;
-use crate::numbers::{NumberTrie, build_numbers};
+use crate::number_trie::{NumberTrie, build_numbers};
 use crate::writes::Write;
 use icu_trie::cptrie::CodePointTrie;
+use icu_trie::error::PartsError;
 use icu_trie::header::TrieType;
 use icu_trie::value::TrieValue;
 use icu_trie_map::number_map::NumberMap;
-use icu_zerovec::ZeroVec;
 use std::alloc::{AllocError, Global};
 
 /// The value of each number, where each is a value's.
@@ -48,11 +51,10 @@ fn trie_of<T: TrieValue>(
     ensures memory { IfErr result (λ e. e ≡ BuildError.Memory) }
 {
     let values = values_of::<T>(alloc, &trie.values)?;
-    let index = ZeroVec::alloc_from_slice(alloc, &trie.index)?;
-    let data = ZeroVec::alloc_from_slice(alloc, &values)?;
-    match CodePointTrie::try_new(trie.header, index, data) {
+    match CodePointTrie::alloc_from_slices(alloc, trie.header, &trie.index, &values) {
         Ok(trie) => Ok(trie),
-        Err(_) => unreachable!(),
+        Err(PartsError::Memory) => Err(BuildError::Memory),
+        Err(PartsError::Trie(_)) => unreachable!(),
     }
 }
 
@@ -65,7 +67,8 @@ fn build_map<T: TrieValue>(
     trie_type: TrieType,
 ) -> Result<CodePointTrie<'static, T>, BuildError>
     requires { IsBuilder T.is_value T.number numbers.now default error }
-    ensures answers { IfOk result (AnswersMap (number_value T.of_number default numbers.now) error) }
+    ensures answers { IfOk result
+        (AnswersMap (number_value T.of_number default numbers.now) error) }
     ensures trie_type { IfOk result (λ t. t.header.trie_type ≡ trie_type) }
     ensures built { IfOk result (IsWellBuilt T.of_number
         (λ c. T.number (number_value T.of_number default numbers.now c))) }
@@ -79,11 +82,18 @@ fn build_map<T: TrieValue>(
 impl<T: TrieValue> CodePointTrieBuilder<T> {
     /// The trie of the map, of the builder's type, which owns its index and its data.
     ///
+    /// ```
+    /// let mut builder = CodePointTrieBuilder::new(alloc, 0u16, 9, TrieType::Small);
+    /// builder.set_value(0x20000, 10)?;
+    /// let trie = builder.build()?;
+    /// // trie.get32(0x20000) is 10, and trie.get32(0x1FFFF) is 0
+    /// ```
+    ///
     /// # Errors
-    /// `BuildError::TooLarge` where a data block's offset would need more than 18 bits or an index-3 block's
-    /// offset would reach 0x7fff, which takes more than 800 different aligned blocks of 512 values, or more
-    /// than 12,000 of 16. `BuildError::Memory` where memory was refused. The builder is given up in both
-    /// cases.
+    /// `BuildError::TooLarge` where a data block's offset would need more than 18 bits or an
+    /// index-3 block's offset would reach 0x7fff, which takes more than 800 different aligned
+    /// blocks of 512 values, or more than 12,000 of 16. `BuildError::Memory` where memory was
+    /// refused. The builder is consumed in both cases.
     pub fn build(self) -> Result<CodePointTrie<'static, T>, BuildError>
         ensures answers { IfOk result (AnswersMap (map_value self) self.error) }
         ensures ranges { IfOk result (HasRangesOf (map_value self)) }
@@ -101,12 +111,19 @@ impl<T: TrieValue> CodePointTrieBuilder<T> {
     }
 }
 
-/// The trie that these writes, the first one first, make of a map of the default: each code point has the
-/// value of the last accepted write that covers it.
+/// The trie that these writes, the first one first, make of a map of the default: each code point
+/// has the value of the last accepted write that covers it.
+///
+/// ```
+/// let writes = [Write::Range(0x41..=0x5A, 1u8), Write::One(0x41, 0)];
+/// let trie = build_from_writes(alloc, 0, 9, TrieType::Fast, &writes)?;
+/// // trie.get32(0x41) is 0, trie.get32(0x5A) is 1, and trie.get32(0x110000) is 9
+/// ```
 ///
 /// # Errors
-/// `BuildError::TooLarge` and `BuildError::Memory` as for [`CodePointTrieBuilder::build`]; `Memory` too where
-/// a write was refused, and `TooLarge` only where none was, and never after at most 256 accepted writes.
+/// `BuildError::TooLarge` and `BuildError::Memory` as for [`CodePointTrieBuilder::build`]; `Memory`
+/// too where a write was refused, and `TooLarge` only where none was, and never after at most 256
+/// accepted writes.
 pub fn build_from_writes<T: TrieValue>(
     alloc: Global,
     default: T,
@@ -117,8 +134,10 @@ pub fn build_from_writes<T: TrieValue>(
     ensures answers { IfOk result (AnswersMap (value_after writes.now default) error) }
     ensures ranges { IfOk result (HasRangesOf (value_after writes.now default)) }
     ensures trie_type { IfOk result (λ t. t.header.trie_type ≡ trie_type) }
-    ensures built { IfOk result (IsWellBuilt T.of_number (λ c. T.number (value_after writes.now default c))) }
-    ensures too_large { result ≡ Err TooLarge → IsTooLarge (λ c. T.number (value_after writes.now default c)) }
+    ensures built { IfOk result (IsWellBuilt T.of_number
+        (λ c. T.number (value_after writes.now default c))) }
+    ensures too_large { result ≡ Err TooLarge → IsTooLarge
+        (λ c. T.number (value_after writes.now default c)) }
     ensures few { count_by (is_accepted) writes.now ≤ 256 → result ≢ Err TooLarge }
 {
     let mut builder = CodePointTrieBuilder::new(alloc, default, error, trie_type);

@@ -7,18 +7,24 @@ use crate::writes::{ApplyRefused, Write};
 use icu_trie::header::TrieType;
 use icu_trie::value::TrieValue;
 use icu_trie_map::number_map::NumberMap;
-use icu_zerovec::MemoryError;
+use icu_zerovec::{CODE_POINT_LIMIT, MemoryError};
 use std::alloc::Global;
 use std::marker::Model;
 use std::ops::RangeInclusive;
 
-/// How many code points there are.
-const CODE_POINTS: usize = 0x110000;
-
-/// A map from code points to values that can be written to, and then built into a trie (UMutableCPTrie).
+/// A map from code points to values that can be written to, and then built into a trie
+/// (UMutableCPTrie).
 ///
-/// A clause sees the value of each code point, the default, the error value and the type of the trie to
-/// build.
+/// A clause sees the value of each code point, the default, the error value and the type of the
+/// trie to build.
+///
+/// ```
+/// let mut builder = CodePointTrieBuilder::new(alloc, 0u8, 9, TrieType::Fast);
+/// builder.set_range_value(0x41..=0x5A, 1)?;
+/// builder.set_value(0x41, 0)?;
+/// let trie = builder.build()?;
+/// // trie.get32(0x41) is 0, trie.get32(0x42) is 1, and trie.get32(0x110000) the error value, 9
+/// ```
 #[derive(Debug, Drop)]
 pub struct CodePointTrieBuilder<T: TrieValue> {
     // The number of each code point's value.
@@ -45,8 +51,8 @@ impl<T: TrieValue> Model for CodePointTrieBuilder<T> {
 }
 
 impl<T: TrieValue> CodePointTrieBuilder<T> {
-    /// The map that has the default at every code point. It takes no memory: `alloc` is kept for the calls
-    /// that do.
+    /// The map that has the default at every code point. It takes no memory: `alloc` is kept for
+    /// the calls that do.
     pub fn new(alloc: Global, default: T, error: T, trie_type: TrieType) -> Self
         ensures map { (c : ℕ) → c ≤ 0x10FFFF → map_value result c ≡ default }
         ensures default { result.default ≡ default }
@@ -66,9 +72,14 @@ impl<T: TrieValue> CodePointTrieBuilder<T> {
 
     /// Gives the code point `c` this value. A number above 0x10FFFF writes nothing.
     ///
+    /// ```
+    /// builder.set_value(0x1234, 7)?;
+    /// builder.set_value(0x110000, 8)?; // Ok, and nothing is written
+    /// ```
+    ///
     /// # Errors
-    /// `MemoryError` where memory for the cells was refused, which only a write can meet that is accepted.
-    /// The map stays as it was.
+    /// `MemoryError` where memory for the cells was refused, which only a write can meet that is
+    /// accepted. The map stays as it was.
     pub fn set_value(&mut self, c: u32, value: T) -> Result<(), MemoryError>
         ensures ok { OnOk result (IsAfter (Write.One c value ∷ []) self.old self.new) }
         ensures ignored { is_accepted (Write.One c value) ≡ false → self.new ≡ self.old }
@@ -78,12 +89,18 @@ impl<T: TrieValue> CodePointTrieBuilder<T> {
         self.set_range_value(c..=c, value)
     }
 
-    /// Gives each code point of the range this value. A reversed range writes nothing, nor does one wholly above
-    /// 0x10FFFF; a range that passes 0x10FFFF is cut there.
+    /// Gives each code point of the range this value. A reversed range writes nothing, nor does one
+    /// that starts above 0x10FFFF; a range that passes 0x10FFFF is cut there.
+    ///
+    /// ```
+    /// builder.set_range_value(0x1000..=0x1FFF, 8)?;
+    /// builder.set_range_value(3..=2, 9)?; // Ok, and nothing is written
+    /// builder.set_range_value(0x10FFFF..=0x110005, 1)?; // writes at 0x10FFFF
+    /// ```
     ///
     /// # Errors
-    /// `MemoryError` where memory for the cells was refused, which only a write can meet that is accepted.
-    /// The map stays as it was.
+    /// `MemoryError` where memory for the cells was refused, which only a write can meet that is
+    /// accepted. The map stays as it was.
     pub fn set_range_value(
         &mut self,
         range: RangeInclusive<u32>,
@@ -95,7 +112,7 @@ impl<T: TrieValue> CodePointTrieBuilder<T> {
         ensures accepted { OnErr result (is_accepted (Write.Range range value) ≡ true) }
     {
         let start = *range.start() as usize;
-        let end = (*range.end() as usize).min(CODE_POINTS - 1);
+        let end = (*range.end() as usize).min(CODE_POINT_LIMIT as usize - 1);
         if start > end {
             return Ok(());
         }
@@ -106,14 +123,19 @@ impl<T: TrieValue> CodePointTrieBuilder<T> {
 
     /// Makes these writes, from the first on.
     ///
+    /// ```
+    /// builder.apply(&[Write::One(0x20000, 10), Write::Range(0x1FFF..=0x2000, 11)])?;
+    /// ```
+    ///
     /// # Errors
-    /// `ApplyRefused` with the place of the first write that memory was refused for. The writes before it are
-    /// made then, and no other.
+    /// `ApplyRefused` with the place of the first write that memory was refused for. The writes
+    /// before it are made then, and no other.
     pub fn apply(&mut self, writes: &[Write<T>]) -> Result<(), ApplyRefused>
         ensures ok { OnOk result (IsAfter writes.now self.old self.new) }
         ensures err { IfErr result (λ e. IsAfter (take e.0 writes.now) self.old self.new) }
         ensures place { IfErr result (λ e. e.0 < length writes.now) }
-        ensures accepted { IfErr result (λ e. (w : _) → slice_get writes.now e.0 ≡ Some w → is_accepted w ≡ true) }
+        ensures accepted { IfErr result (λ e. (w : _) → slice_get writes.now e.0 ≡ Some w
+            → is_accepted w ≡ true) }
     {
         for (i, write) in writes.iter().enumerate() {
             if self.write(write).is_err() {

@@ -1,18 +1,20 @@
-//! The data: the first 128 cells, the different blocks of 64 and of 16, the high value and the error value.
+//! The data: the first 128 cells, the different blocks of 64 and of 16, the high value and the
+//! error value.
 ghost use Rattle.std.specs.Prelude.{◌≡◌, ℕ, ◌+◌, ◌-◌, ◌*◌, ◌/◌, ◌%◌, ◌^◌, ◌<◌, ◌≤◌, ◌∷◌, Bool, true, length, slice_index, take, Some, IfOk, OnOk, MatchOption};
 ghost use Rattle.std.specs.List.{AllPass};
+ghost use Rattle.icu_zerovec.specs.CodePoints.{code_point_limit};
 ghost use Rattle.icu_trie_core.specs.Format.{fast_limit, high_value};
 ghost use Rattle.icu_trie.specs.Parts.{last_cell};
 ghost use Rattle.icu_trie_builder.specs.Bounds.{compact_data_bound, IsTooLarge};
-ghost use Rattle.icu_trie_builder.specs.Data.{IsData};
+ghost use Rattle.icu_trie_builder.specs.Inside.Data.{IsData};
 ghost use Rattle.icu_trie_map.specs.NumberMap.{IsHighFrom};
 ghost use Rattle.icu_trie_compaction.specs.declared.error.BuildError.TheVariants.{TooLarge};
 
 use crate::error::BuildError;
+use crate::lengths::{FAST_BLOCK, SMALL_BLOCK};
 use crate::map_blocks::place_map_blocks;
 use crate::null_block::{NullBlock, place_null};
 use icu_trie::header::TrieType;
-use icu_trie_compaction::index::fast_limit_of;
 use icu_trie_map::number_map::NumberMap;
 use std::alloc::{AllocError, Global};
 
@@ -41,15 +43,16 @@ fn with_first_offsets(alloc: Global, rest: &[u32]) -> Result<Vec<u32>, AllocErro
 {
     let mut fast = Vec::with_capacity(alloc, rest.len() + 2)?;
     fast.push(0)?;
-    fast.push(64)?;
+    fast.push(FAST_BLOCK as u32)?;
     fast.extend_from_slice(rest)?;
     Ok(fast)
 }
 
-/// Puts the high value behind the data, where it is not their last cell already.
+/// Appends the high value to the data, where it is not their last cell already.
 fn push_high(values: &mut Vec<u32>, high: u32) -> Result<(), AllocError>
     requires { 0 < length values.old.items }
-    ensures kept { OnOk result (take (length values.old.items) values.new.items ≡ values.old.items) }
+    ensures kept { OnOk result (take (length values.old.items) values.new.items
+        ≡ values.old.items) }
     ensures short { OnOk result (length values.new.items ≤ length values.old.items + 1) }
     ensures last { OnOk result (slice_index values.new.items (length values.new.items - 1) ≡ high) }
     ensures drawn { OnOk result ((p : ℕ → Bool) → AllPass p values.old.items → p high ≡ true
@@ -62,10 +65,11 @@ fn push_high(values: &mut Vec<u32>, high: u32) -> Result<(), AllocError>
     Ok(())
 }
 
-/// Puts the high value and the error value behind the data, where they do not end so already.
+/// Appends the high value and the error value to the data, where they do not end so already.
 fn push_end(values: &mut Vec<u32>, high: u32, error: u32) -> Result<(), AllocError>
     requires { 2 ≤ length values.old.items }
-    ensures kept { OnOk result (take (length values.old.items) values.new.items ≡ values.old.items) }
+    ensures kept { OnOk result (take (length values.old.items) values.new.items
+        ≡ values.old.items) }
     ensures short { OnOk result (length values.new.items ≤ length values.old.items + 2) }
     ensures high { OnOk result (high_value values.new.items ≡ Some high) }
     ensures error { OnOk result (last_cell values.new.items ≡ Some error) }
@@ -109,9 +113,9 @@ pub(crate) fn place_data(
     trie_type: TrieType,
     high_start: usize,
 ) -> Result<PlacedData, BuildError>
-    requires all { length numbers.now ≡ 0x110000 }
+    requires all { length numbers.now ≡ code_point_limit }
     requires aligned { high_start % 512 ≡ 0 }
-    requires within { high_start ≤ 0x110000 }
+    requires within { high_start ≤ code_point_limit }
     requires high { IsHighFrom numbers.now high_start }
     ensures placed { IfOk result (λ d.
         IsData trie_type high_start d.null.offset d.null.value (slice_index numbers.now)
@@ -126,17 +130,17 @@ pub(crate) fn place_data(
         → AllPass p d.values.items) }
     ensures too_large { result ≡ Err TooLarge → IsTooLarge (slice_index numbers.now) }
 {
-    let limit = fast_limit_of(trie_type);
-    let small_len = high_start.saturating_sub(limit) / 16;
+    let limit = trie_type.fast_limit() as usize;
+    let small_len = high_start.saturating_sub(limit) / SMALL_BLOCK;
     let mut values = Vec::new(alloc);
-    numbers.copy_block(128, 0, &mut values)?;
+    numbers.copy_block(2 * FAST_BLOCK, 0, &mut values)?;
     let rest = place_map_blocks(
         alloc,
         &mut values,
         numbers,
-        64,
+        FAST_BLOCK,
         2,
-        limit / 64 - 2,
+        limit / FAST_BLOCK - 2,
         MAX_DATA_OFFSET,
     )?;
     let fast = with_first_offsets(alloc, &rest)?;
@@ -144,8 +148,8 @@ pub(crate) fn place_data(
         alloc,
         &mut values,
         numbers,
-        16,
-        limit / 16,
+        SMALL_BLOCK,
+        limit / SMALL_BLOCK,
         small_len,
         MAX_DATA_OFFSET,
     )?;

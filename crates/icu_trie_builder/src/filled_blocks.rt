@@ -1,9 +1,10 @@
-//! Blocks of 16 that hold one number are given the place of a block of 64 that holds it: so the offsets of
-//! neighbouring blocks are more often equal below and above the fast limit, and index-3 blocks of them are
-//! found in the fast index.
+//! Blocks of 16 that hold one number are given the place of a block of 64 that holds it: so the
+//! offsets of neighbouring blocks are more often equal below and above the fast limit, and index-3
+//! blocks of them are found in the fast index.
 ghost use Rattle.std.specs.Prelude.{◌≡◌, ℕ, ◌+◌, ◌^◌, ◌<◌, ◌≤◌, length, slice_index, IfOk};
-ghost use Rattle.icu_trie_builder.specs.FilledBlocks.{AreFilledPlaces, IsMoved, IsSharedPlace};
+ghost use Rattle.icu_trie_builder.specs.Inside.FilledBlocks.{AreFilledPlaces, IsMoved, IsSharedPlace};
 
+use crate::lengths::{FAST_BLOCK, SMALL_BLOCK};
 use crate::null_block::is_filled;
 use std::alloc::{AllocError, Global};
 
@@ -23,7 +24,7 @@ pub(crate) fn filled_places(
     let mut places = Vec::new(alloc);
     let mut last = NO_OFFSET;
     for offset in fast {
-        if *offset != last && is_filled(cells, *offset as usize, 64) {
+        if *offset != last && is_filled(cells, *offset as usize, FAST_BLOCK) {
             places.push(*offset)?;
         }
         last = *offset;
@@ -31,14 +32,15 @@ pub(crate) fn filled_places(
     Ok(places)
 }
 
-/// The first of these places whose cell is that at `at`, where 16 cells from there on are equal, else `at`.
+/// The first of these places whose cell is that at `at`, where 16 cells from there on are equal,
+/// else `at`.
 fn shared_place(cells: &[u32], places: &[u32], at: u32) -> u32
     requires room { length cells.now < 2 ^ 31 }
     requires inside { at + 16 ≤ length cells.now }
     requires places { AreFilledPlaces cells.now places.now }
     ensures { IsSharedPlace cells.now places.now at result }
 {
-    if !is_filled(cells, at as usize, 16) {
+    if !is_filled(cells, at as usize, SMALL_BLOCK) {
         return at;
     }
     for place in places {
@@ -49,11 +51,13 @@ fn shared_place(cells: &[u32], places: &[u32], at: u32) -> u32
     at
 }
 
-/// Gives each block of 16 that holds one number the first of these places that has it, if there is one.
+/// Gives each block of 16 that holds one number the first of these places that has it, if there is
+/// one.
 pub(crate) fn share_filled(cells: &[u32], places: &[u32], small: &mut [u32])
     requires room { length cells.now < 2 ^ 31 }
     requires places { AreFilledPlaces cells.now places.now }
-    requires small { (j : ℕ) → j < length small.old → slice_index small.old j + 16 ≤ length cells.now }
+    requires small { (j : ℕ) → j < length small.old
+        → slice_index small.old j + 16 ≤ length cells.now }
     ensures { IsMoved cells.now cells.now small.old small.new }
 {
     let mut from = NO_OFFSET;

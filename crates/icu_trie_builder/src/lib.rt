@@ -8,11 +8,13 @@
 //!
 //! The trie itself is built of numbers, one for each code point, which `icu_trie_map` keeps:
 //!
-//! - `numbers`: the build as a whole, from the numbers to header, index and data
+//! - `number_trie`: the build as a whole, from the numbers to header, index and data
 //! - `data`: the cells of the data, and the offsets of its blocks
 //! - `map_blocks`: the blocks of the map find their places
 //! - `filled_blocks`: blocks of 16 of one number that stand in a block of 64 of it
-//! - `null_block`: the block of one number that a walk knows by its offset; `uses` wishes for a frequent one
+//! - `lengths`: how long the blocks of the data are
+//! - `null_block`: the block of one number that a walk knows by its offset; `uses` wishes for a
+//!   frequent one
 //!
 //! Blocks find their places, and the index is made, in `icu_trie_compaction`.
 #![tactic(auto)]
@@ -22,9 +24,10 @@ pub mod builder;
 mod data;
 pub mod error;
 mod filled_blocks;
+mod lengths;
 mod map_blocks;
 mod null_block;
-mod numbers;
+mod number_trie;
 mod uses;
 pub mod writes;
 

@@ -1,8 +1,10 @@
 //! Blocks of a map find their places among the cells of the data.
 ghost use Rattle.std.specs.Prelude.{◌≡◌, ◌≢◌, ℕ, ◌+◌, ◌-◌, ◌*◌, ◌%◌, ◌^◌, ◌<◌, ◌≤◌, Bool, true, Err, List, length, max, take, IfOk, OnOk, IfSome};
 ghost use Rattle.std.specs.List.{AllPass};
-ghost use Rattle.icu_trie_core.specs.Blocks.{window, block, different};
-ghost use Rattle.icu_trie_compaction.specs.Placed.{AllStandIn, IsPlaced, different_but};
+ghost use Rattle.icu_zerovec.specs.CodePoints.{code_point_limit};
+ghost use Rattle.icu_trie_core.specs.Blocks.{window, block, count_different};
+ghost use Rattle.icu_trie_compaction.specs.Different.{count_different_but};
+ghost use Rattle.icu_trie_compaction.specs.Inside.Placed.{AllStandIn, IsPlaced};
 ghost use Rattle.icu_trie_compaction.specs.Windows.{HasAll, IsLeast, IsTable};
 ghost use Rattle.icu_trie_compaction.specs.declared.error.BuildError.TheVariants.{TooLarge};
 
@@ -12,8 +14,8 @@ use icu_trie_compaction::window_table::WindowTable;
 use icu_trie_map::number_map::NumberMap;
 use std::alloc::Global;
 
-/// Places block number `number` of the map, where `last` is the place of the block before it, if that is
-/// placed. What `room` holds is lost.
+/// Places block number `number` of the map, where `last` is the place of the block before it, if
+/// that is placed. What `room` holds is lost.
 fn place_next(
     alloc: Global,
     stored: &mut Vec<u32>,
@@ -25,8 +27,8 @@ fn place_next(
     limit: usize,
 ) -> Result<usize, BuildError>
     requires multiple { table.old.size % 16 ≡ 0 }
-    requires inside { table.old.size * number + table.old.size ≤ 0x110000 }
-    requires whole_map { length map.now ≡ 0x110000 }
+    requires inside { table.old.size * number + table.old.size ≤ code_point_limit }
+    requires whole_map { length map.now ≡ code_point_limit }
     requires last { IfSome last (λ at. (0 < number)
         × IsLeast table.old.size at stored.old.items (block table.old.size map.now (number - 1))) }
     requires room { length stored.old.items < 2 ^ 30 }
@@ -38,16 +40,19 @@ fn place_next(
     ensures size { OnOk result (table.new.size ≡ table.old.size) }
     ensures table { OnOk result (IsTable stored.new.items table.new) }
     ensures whole { OnOk result (HasAll stored.new.items table.new) }
-    ensures kept { OnOk result (take (length stored.old.items) stored.new.items ≡ stored.old.items) }
+    ensures kept { OnOk result (take (length stored.old.items) stored.new.items
+        ≡ stored.old.items) }
     ensures grown { OnOk result (length stored.old.items < length stored.new.items
         → (length stored.new.items ≤ length stored.old.items + table.old.size)
-        × ((q : ℕ) → window table.old.size q stored.old.items ≢ block table.old.size map.now number)) }
+        × ((q : ℕ) → window table.old.size q stored.old.items
+        ≢ block table.old.size map.now number)) }
     ensures capped { OnOk result (length stored.new.items
         ≤ max (length stored.old.items) (limit + table.old.size)) }
     ensures drawn { OnOk result ((p : ℕ → Bool) → AllPass p (block table.old.size map.now number)
         → AllPass p stored.old.items → AllPass p stored.new.items) }
     ensures too_large { result ≡ Err TooLarge → (limit < length stored.old.items)
-        × ((q : ℕ) → window table.old.size q stored.old.items ≢ block table.old.size map.now number) }
+        × ((q : ℕ) → window table.old.size q stored.old.items
+        ≢ block table.old.size map.now number) }
 {
     let size = table.size();
     if let Some(at) = last {
@@ -59,9 +64,9 @@ fn place_next(
     place_block(alloc, stored, table, room, limit)
 }
 
-/// The offset in `stored` of each block of `size` code points of the map, from the block numbered `first` on,
-/// `count` of them: the first place where its numbers stand. Those that stand nowhere are put behind what
-/// `stored` holds, each over the longest tail that equals its front.
+/// The offset in `stored` of each block of `size` code points of the map, from the block numbered
+/// `first` on, `count` of them: the first place where its numbers stand. Those that stand nowhere
+/// are appended to `stored`, each over the longest tail that equals its front.
 ///
 /// # Errors
 ///
@@ -77,8 +82,8 @@ pub(crate) fn place_map_blocks(
 ) -> Result<Vec<u32>, BuildError>
     requires nonzero { 0 < size }
     requires multiple { size % 16 ≡ 0 }
-    requires range { size * (first + count) ≤ 0x110000 }
-    requires whole_map { length map.now ≡ 0x110000 }
+    requires range { size * (first + count) ≤ code_point_limit }
+    requires whole_map { length map.now ≡ code_point_limit }
     requires room { length stored.old.items < 2 ^ 30 }
     requires limit { limit + size < 2 ^ 30 }
     ensures count { IfOk result (λ offsets. length offsets.items ≡ count) }
@@ -87,14 +92,14 @@ pub(crate) fn place_map_blocks(
     ensures capped { OnOk result
         (length stored.new.items ≤ max (length stored.old.items) (limit + size)) }
     ensures short { OnOk result (length stored.new.items
-        ≤ length stored.old.items + size * different (block size map.now) first count) }
+        ≤ length stored.old.items + size * count_different (block size map.now) first count) }
 
     // Blocks that stand in the cells already add none.
     ensures shorter { OnOk result ((p : List ℕ → Bool) → AllStandIn size stored.old.items p
         → length stored.new.items
-        ≤ length stored.old.items + size * different_but p (block size map.now) first count) }
+        ≤ length stored.old.items + size * count_different_but p (block size map.now) first count) }
     ensures too_large { result ≡ Err TooLarge → limit + size
-        < length stored.old.items + size * different (block size map.now) first count }
+        < length stored.old.items + size * count_different (block size map.now) first count }
 {
     let mut table = WindowTable::for_cells(alloc, size, stored.len())?;
     table.enter_all(stored)?;

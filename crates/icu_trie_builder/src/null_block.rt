@@ -1,11 +1,13 @@
-//! The null block: a block of data that holds one number, by whose offset a walk knows it without a read.
+//! The null block: a block of data that holds one number, by whose offset a walk knows it without a
+//! read.
 ghost use Rattle.std.specs.Prelude.{◌≡◌, ◌≢◌, ℕ, ◌+◌, ◌-◌, ◌*◌, ◌/◌, ◌^◌, ◌<◌, ◌≤◌, Bool, true, false, length, max, take, slice_index, Some, None, IfOk, OnOk, IfSome, IfNone};
 ghost use Rattle.std.specs.List.{AllPass};
-ghost use Rattle.icu_trie_builder.specs.FilledBlocks.{IsApart, IsFilled, IsMoved, IsNull, IsOneOf, HasNoNull};
+ghost use Rattle.icu_trie_builder.specs.Inside.FilledBlocks.{IsApart, IsFilled, IsMoved, IsNull, IsOneOf, HasNoNull};
 ghost use Rattle.icu_trie_compaction.specs.declared.error.BuildError.TheVariants.{TooLarge};
 
 use crate::error::BuildError;
 use crate::filled_blocks::{filled_places, share_filled};
+use crate::lengths::{FAST_BLOCK, SMALL_BLOCK};
 use crate::uses::most_used;
 use std::alloc::{AllocError, Global};
 
@@ -64,12 +66,13 @@ fn is_wanted(wanted: Option<u32>, value: u32) -> bool
     }
 }
 
-/// The first of the blocks of `size` cells at these offsets that holds one number, and the wanted one, if one
-/// is named.
+/// The first of the blocks of `size` cells at these offsets that holds one number, and the wanted
+/// one, if one is named.
 fn find_filled(cells: &[u32], offsets: &[u32], size: usize, wanted: Option<u32>) -> Option<usize>
     requires room { length cells.now < 2 ^ 31 }
     requires some { 0 < size }
-    requires inside { (j : ℕ) → j < length offsets.now → slice_index offsets.now j + size ≤ length cells.now }
+    requires inside { (j : ℕ) → j < length offsets.now
+        → slice_index offsets.now j + size ≤ length cells.now }
     ensures found { IfSome result (λ n. let at = slice_index offsets.now n in
         (n < length offsets.now) × IsFilled (slice_index cells.now at) size at cells.now) }
     ensures wanted { (v : ℕ) → wanted ≡ Some v
@@ -86,7 +89,8 @@ fn find_filled(cells: &[u32], offsets: &[u32], size: usize, wanted: Option<u32>)
     None
 }
 
-/// The first block that holds one number, and the wanted one, if one is named: of 64, or else of 16.
+/// The first block that holds one number, and the wanted one, if one is named: of 64, or else of
+/// 16.
 fn find_either(
     cells: &[u32],
     fast: &[u32],
@@ -95,21 +99,22 @@ fn find_either(
 ) -> Option<FilledBlock>
     requires room { length cells.now < 2 ^ 31 }
     requires fast { (j : ℕ) → j < length fast.now → slice_index fast.now j + 64 ≤ length cells.now }
-    requires small { (j : ℕ) → j < length small.now → slice_index small.now j + 16 ≤ length cells.now }
+    requires small { (j : ℕ) → j < length small.now
+        → slice_index small.now j + 16 ≤ length cells.now }
     ensures found { IfSome result (IsOneOf fast.now small.now cells.now) }
     ensures none { wanted ≡ None → IfNone result (HasNoNull fast.now small.now cells.now) }
 {
-    if let Some(number) = find_filled(cells, fast, 64, wanted) {
+    if let Some(number) = find_filled(cells, fast, FAST_BLOCK, wanted) {
         return Some(FilledBlock::Fast(number));
     }
-    if let Some(number) = find_filled(cells, small, 16, wanted) {
+    if let Some(number) = find_filled(cells, small, SMALL_BLOCK, wanted) {
         return Some(FilledBlock::Small(number));
     }
     None
 }
 
-/// A block that holds one number, where there is one: one that is used much, and of 64 if one of these holds
-/// that number.
+/// A block that holds one number, where there is one: one that is used much, and of 64 if one of
+/// these holds that number.
 fn choose(
     alloc: Global,
     cells: &[u32],
@@ -118,7 +123,8 @@ fn choose(
 ) -> Result<Option<FilledBlock>, AllocError>
     requires room { length cells.now < 2 ^ 31 }
     requires fast { (j : ℕ) → j < length fast.now → slice_index fast.now j + 64 ≤ length cells.now }
-    requires small { (j : ℕ) → j < length small.now → slice_index small.now j + 16 ≤ length cells.now }
+    requires small { (j : ℕ) → j < length small.now
+        → slice_index small.now j + 16 ≤ length cells.now }
     ensures found { IfOk result (λ r. IfSome r (IsOneOf fast.now small.now cells.now)) }
     ensures none { IfOk result (λ r. IfNone r (HasNoNull fast.now small.now cells.now)) }
 {
@@ -148,8 +154,8 @@ fn find_apart(cells: &[u32], value: u32, from: usize, taken: &[u32]) -> Option<u
     ensures filled { IfSome result (λ at. IsFilled value 16 at cells.now) }
     ensures apart { IfSome result (λ at. IsApart at taken.now) }
 {
-    for at in from..cells.len().saturating_sub(15) {
-        if is_filled_with(cells, at, 16, value) && !is_taken(taken, at) {
+    for at in from..cells.len().saturating_sub(SMALL_BLOCK - 1) {
+        if is_filled_with(cells, at, SMALL_BLOCK, value) && !is_taken(taken, at) {
             return Some(at);
         }
     }
@@ -162,7 +168,7 @@ fn filled_tail(cells: &[u32], value: u32) -> usize
     ensures inside { result ≤ length cells.now }
     ensures filled { IsFilled value result (length cells.now - result) cells.now }
 {
-    let most = cells.len().min(15);
+    let most = cells.len().min(SMALL_BLOCK - 1);
     let mut count = 0;
     while count < most && cells[cells.len() - 1 - count] == value {
         count += 1;
@@ -170,8 +176,9 @@ fn filled_tail(cells: &[u32], value: u32) -> usize
     count
 }
 
-/// A place at which 16 cells are this number, and at which no block of 64 starts, whose offsets `taken` has.
-/// It is looked for from `from` on, and made at the end of the cells where there is none.
+/// A place at which 16 cells are this number, and at which no block of 64 starts, whose offsets
+/// `taken` has. It is looked for from `from` on, and made at the end of the cells where there is
+/// none.
 fn settle(
     stored: &mut Vec<u32>,
     value: u32,
@@ -180,11 +187,13 @@ fn settle(
     limit: usize,
 ) -> Result<usize, BuildError>
     requires room { length stored.old.items < 2 ^ 31 }
-    requires taken { (j : ℕ) → j < length taken.now → slice_index taken.now j + 64 ≤ length stored.old.items }
+    requires taken { (j : ℕ) → j < length taken.now
+        → slice_index taken.now j + 64 ≤ length stored.old.items }
     ensures inside { IfOk result (λ at. at + 16 ≤ length stored.new.items) }
     ensures filled { IfOk result (λ at. IsFilled value 16 at stored.new.items) }
     ensures apart { IfOk result (λ at. IsApart at taken.now) }
-    ensures kept { OnOk result (take (length stored.old.items) stored.new.items ≡ stored.old.items) }
+    ensures kept { OnOk result (take (length stored.old.items) stored.new.items
+        ≡ stored.old.items) }
     ensures short { OnOk result (length stored.new.items ≤ length stored.old.items + 16) }
     ensures capped { OnOk result
         (length stored.new.items ≤ max (length stored.old.items) (limit + 16)) }
@@ -199,7 +208,7 @@ fn settle(
     if at > limit {
         return Err(BuildError::TooLarge);
     }
-    stored.resize(at + 16, value)?;
+    stored.resize(at + SMALL_BLOCK, value)?;
     Ok(at)
 }
 
@@ -217,12 +226,13 @@ fn rename(offsets: &mut [u32], from: u32, to: u32)
     }
 }
 
-/// The null block at block number `number` of 64, which holds one number. The blocks of 16 that hold it get
-/// its offset too.
+/// The null block at block number `number` of 64, which holds one number. The blocks of 16 that
+/// hold it get its offset too.
 fn null_of_fast(cells: &[u32], fast: &[u32], small: &mut [u32], number: usize) -> NullBlock
     requires room { length cells.now < 2 ^ 31 }
     requires fast { (j : ℕ) → j < length fast.now → slice_index fast.now j + 64 ≤ length cells.now }
-    requires small { (j : ℕ) → j < length small.old → slice_index small.old j + 16 ≤ length cells.now }
+    requires small { (j : ℕ) → j < length small.old
+        → slice_index small.old j + 16 ≤ length cells.now }
     requires number { number < length fast.now }
     requires filled { let at = slice_index fast.now number in
         IsFilled (slice_index cells.now at) 64 at cells.now }
@@ -231,15 +241,15 @@ fn null_of_fast(cells: &[u32], fast: &[u32], small: &mut [u32], number: usize) -
 {
     let offset = fast[number];
     let value = cells[offset as usize];
-    if let Some(same) = find_filled(cells, small, 16, Some(value)) {
+    if let Some(same) = find_filled(cells, small, SMALL_BLOCK, Some(value)) {
         let from = small[same];
         rename(small, from, offset);
     }
     NullBlock { offset, value }
 }
 
-/// The null block at block number `number` of 16, which holds one number. It and the blocks that are equal to
-/// it are moved to where no block of 64 starts.
+/// The null block at block number `number` of 16, which holds one number. It and the blocks that
+/// are equal to it are moved to where no block of 64 starts.
 fn null_of_small(
     stored: &mut Vec<u32>,
     fast: &[u32],
@@ -248,18 +258,22 @@ fn null_of_small(
     limit: usize,
 ) -> Result<NullBlock, BuildError>
     requires room { length stored.old.items < 2 ^ 31 }
-    requires fast { (j : ℕ) → j < length fast.now → slice_index fast.now j + 64 ≤ length stored.old.items }
-    requires small { (j : ℕ) → j < length small.old → slice_index small.old j + 16 ≤ length stored.old.items }
+    requires fast { (j : ℕ) → j < length fast.now
+        → slice_index fast.now j + 64 ≤ length stored.old.items }
+    requires small { (j : ℕ) → j < length small.old
+        → slice_index small.old j + 16 ≤ length stored.old.items }
     requires number { number < length small.old }
     requires filled { let at = slice_index small.old number in
         IsFilled (slice_index stored.old.items at) 16 at stored.old.items }
     ensures moved { OnOk result (IsMoved stored.old.items stored.new.items small.old small.new) }
     ensures null { IfOk result (λ n. IsNull fast.now small.new stored.new.items n.offset n.value) }
-    ensures kept { OnOk result (take (length stored.old.items) stored.new.items ≡ stored.old.items) }
+    ensures kept { OnOk result (take (length stored.old.items) stored.new.items
+        ≡ stored.old.items) }
     ensures short { OnOk result (length stored.new.items ≤ length stored.old.items + 16) }
     ensures capped { OnOk result
         (length stored.new.items ≤ max (length stored.old.items) (limit + 16)) }
-    ensures drawn { OnOk result ((p : ℕ → Bool) → AllPass p stored.old.items → AllPass p stored.new.items) }
+    ensures drawn { OnOk result ((p : ℕ → Bool) → AllPass p stored.old.items
+        → AllPass p stored.new.items) }
     ensures too_large { result ≡ Err TooLarge → limit < length stored.old.items }
 {
     let from = small[number];
@@ -270,46 +284,11 @@ fn null_of_small(
     Ok(NullBlock { offset, value })
 }
 
-/// The null block among blocks of 64 at the offsets `fast` and blocks of 16 at the offsets `small`: one that
-/// holds one number, and none where there is no such block. Where it is a block of 16, it is moved to where
-/// no block of 64 starts; otherwise a walk would take a block of 64 for the null block that only begins like
-/// it.
-///
-/// # Errors
-///
-/// `TooLarge` where it would start above `limit`.
-fn settle_null(
-    alloc: Global,
-    stored: &mut Vec<u32>,
-    fast: &[u32],
-    small: &mut [u32],
-    limit: usize,
-) -> Result<Option<NullBlock>, BuildError>
-    requires room { length stored.old.items < 2 ^ 31 }
-    requires fast { (j : ℕ) → j < length fast.now → slice_index fast.now j + 64 ≤ length stored.old.items }
-    requires small { (j : ℕ) → j < length small.old → slice_index small.old j + 16 ≤ length stored.old.items }
-    ensures moved { OnOk result (IsMoved stored.old.items stored.new.items small.old small.new) }
-    ensures null { IfOk result (λ r. IfSome r (λ n.
-        IsNull fast.now small.new stored.new.items n.offset n.value)) }
-    ensures none { IfOk result (λ r. IfNone r (HasNoNull fast.now small.new stored.new.items)) }
-    ensures kept { OnOk result (take (length stored.old.items) stored.new.items ≡ stored.old.items) }
-    ensures short { OnOk result (length stored.new.items ≤ length stored.old.items + 16) }
-    ensures capped { OnOk result
-        (length stored.new.items ≤ max (length stored.old.items) (limit + 16)) }
-    ensures drawn { OnOk result ((p : ℕ → Bool) → AllPass p stored.old.items → AllPass p stored.new.items) }
-    ensures too_large { result ≡ Err TooLarge → limit < length stored.old.items }
-{
-    match choose(alloc, stored, fast, small)? {
-        None => Ok(None),
-        Some(FilledBlock::Fast(number)) => Ok(Some(null_of_fast(stored, fast, small, number))),
-        Some(FilledBlock::Small(number)) => {
-            Ok(Some(null_of_small(stored, fast, small, number, limit)?))
-        }
-    }
-}
-
-/// The null block among blocks of 64 at the offsets `fast` and blocks of 16 at the offsets `small`, which are
-/// given the place of a block of 64 first where both hold one number.
+/// The null block among blocks of 64 at the offsets `fast` and blocks of 16 at the offsets `small`:
+/// one that holds one number, and none where there is no such block. A block of 16 is given the
+/// place of a block of 64 first where both hold one number. Where the null block is one of 16, it
+/// is moved to where no block of 64 starts; otherwise a walk would take a block of 64 for the null
+/// block that only begins like it.
 ///
 /// # Errors
 ///
@@ -322,20 +301,30 @@ pub(crate) fn place_null(
     limit: usize,
 ) -> Result<Option<NullBlock>, BuildError>
     requires room { length stored.old.items < 2 ^ 31 }
-    requires fast { (j : ℕ) → j < length fast.now → slice_index fast.now j + 64 ≤ length stored.old.items }
-    requires small { (j : ℕ) → j < length small.old → slice_index small.old j + 16 ≤ length stored.old.items }
+    requires fast { (j : ℕ) → j < length fast.now
+        → slice_index fast.now j + 64 ≤ length stored.old.items }
+    requires small { (j : ℕ) → j < length small.old
+        → slice_index small.old j + 16 ≤ length stored.old.items }
     ensures moved { OnOk result (IsMoved stored.old.items stored.new.items small.old small.new) }
     ensures null { IfOk result (λ r. IfSome r (λ n.
         IsNull fast.now small.new stored.new.items n.offset n.value)) }
     ensures none { IfOk result (λ r. IfNone r (HasNoNull fast.now small.new stored.new.items)) }
-    ensures kept { OnOk result (take (length stored.old.items) stored.new.items ≡ stored.old.items) }
+    ensures kept { OnOk result (take (length stored.old.items) stored.new.items
+        ≡ stored.old.items) }
     ensures short { OnOk result (length stored.new.items ≤ length stored.old.items + 16) }
     ensures capped { OnOk result
         (length stored.new.items ≤ max (length stored.old.items) (limit + 16)) }
-    ensures drawn { OnOk result ((p : ℕ → Bool) → AllPass p stored.old.items → AllPass p stored.new.items) }
+    ensures drawn { OnOk result ((p : ℕ → Bool) → AllPass p stored.old.items
+        → AllPass p stored.new.items) }
     ensures too_large { result ≡ Err TooLarge → limit < length stored.old.items }
 {
     let places = filled_places(alloc, stored, fast)?;
     share_filled(stored, &places, small);
-    settle_null(alloc, stored, fast, small, limit)
+    match choose(alloc, stored, fast, small)? {
+        None => Ok(None),
+        Some(FilledBlock::Fast(number)) => Ok(Some(null_of_fast(stored, fast, small, number))),
+        Some(FilledBlock::Small(number)) => {
+            Ok(Some(null_of_small(stored, fast, small, number, limit)?))
+        }
+    }
 }

@@ -1,10 +1,12 @@
 //! Which number fills the most blocks: a wish, which no contract states.
 ghost use Rattle.std.specs.Prelude.{◌≡◌, ℕ, ◌+◌, ◌^◌, ◌<◌, ◌≤◌, length, slice_index};
 
+use crate::lengths::{FAST_BLOCK, SMALL_BLOCK};
 use crate::null_block::is_filled;
 use std::alloc::{AllocError, Global};
 
-/// How many numbers are counted at a time. Where there are more, a new one takes the place of the least used.
+/// How many numbers are counted at a time. Where there are more, a new one takes the place of the
+/// least used.
 const MOST_USES: usize = 32;
 
 /// How many blocks of 16 a number fills.
@@ -28,7 +30,7 @@ fn least_used(uses: &[Use]) -> usize
     least
 }
 
-/// Counts so many blocks more for a number.
+/// Counts `blocks` blocks more for a number.
 fn add_use(uses: &mut Vec<Use>, value: u32, blocks: usize) -> Result<(), AllocError> {
     for i in 0..uses.len() {
         if uses[i].value == value {
@@ -58,7 +60,7 @@ fn add_blocks(
     requires inside { 0 < count → at + size ≤ length cells.now }
 {
     if count > 0 && is_filled(cells, at, size) {
-        add_use(uses, cells[at], count.saturating_mul(size / 16))?;
+        add_use(uses, cells[at], count.saturating_mul(size / SMALL_BLOCK))?;
     }
     Ok(())
 }
@@ -72,7 +74,8 @@ fn add_offsets(
 ) -> Result<(), AllocError>
     requires room { length cells.now < 2 ^ 31 }
     requires some { 0 < size }
-    requires inside { (j : ℕ) → j < length offsets.now → slice_index offsets.now j + size ≤ length cells.now }
+    requires inside { (j : ℕ) → j < length offsets.now
+        → slice_index offsets.now j + size ≤ length cells.now }
 {
     let mut last = 0;
     let mut count = 0;
@@ -96,11 +99,12 @@ pub(crate) fn most_used(
 ) -> Result<Option<u32>, AllocError>
     requires room { length cells.now < 2 ^ 31 }
     requires fast { (j : ℕ) → j < length fast.now → slice_index fast.now j + 64 ≤ length cells.now }
-    requires small { (j : ℕ) → j < length small.now → slice_index small.now j + 16 ≤ length cells.now }
+    requires small { (j : ℕ) → j < length small.now
+        → slice_index small.now j + 16 ≤ length cells.now }
 {
     let mut uses = Vec::new(alloc);
-    add_offsets(&mut uses, cells, fast, 64)?;
-    add_offsets(&mut uses, cells, small, 16)?;
+    add_offsets(&mut uses, cells, fast, FAST_BLOCK)?;
+    add_offsets(&mut uses, cells, small, SMALL_BLOCK)?;
     let mut most = Use {
         value: 0,
         blocks: 0,

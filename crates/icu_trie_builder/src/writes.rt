@@ -5,9 +5,9 @@ use thiserror::Error;
 
 /// One write into a map of the code points.
 ///
-/// It is accepted where its range isn't reversed and it starts in the code space; any other write changes
-/// nothing. What lies above 0x10FFFF is left out. The default is a value like any other: written last, it takes
-/// back what was written before.
+/// It is accepted where its range isn't reversed and it starts in the code space; any other write
+/// changes nothing. What lies above 0x10FFFF is left out. The default is a value like any other:
+/// written last, it takes back what was written before.
 #[derive(Debug, Drop)]
 pub enum Write<T> {
     /// This value at this code point.
@@ -16,8 +16,8 @@ pub enum Write<T> {
     Range(RangeInclusive<u32>, T),
 }
 
-/// Memory was refused for the write at this place of the list, counted from 0. The writes before it are made,
-/// and no other.
+/// Memory was refused for the write at this place of the list, counted from 0. The writes before it
+/// are made, and no other.
 #[derive(Clone, Copy, Debug, PartialEq, Eq, Error)]
 #[error("no memory for write {0}")]
 pub struct ApplyRefused(pub usize);

@@ -1,5 +1,5 @@
 -- Placing blocks anywhere among some cells.
-use Rattle.std.proofs.Common.{◌≡◌, ℕ, ◌+◌, ◌-◌, ◌*◌, ◌<◌, ◌≤◌, ◌≢◌, ◌&&◌, ◌||◌, Bool, true, false, not, true≢false, List, [], ◌∷◌, ◌++◌, length, get_or, take, drop, map, refl, arith, ◌∙◌, sym, ap, subst, below_more, ◌⊎◌, inl, inr}
+use Rattle.std.proofs.Common.{◌≡◌, ℕ, ◌+◌, ◌-◌, ◌*◌, ◌<◌, ◌≤◌, ◌≢◌, ◌&&◌, Bool, true, false, not, true≢false, List, [], ◌∷◌, ◌++◌, length, get_or, take, drop, map, refl, arith, ◌∙◌, sym, ap, subst, below_more, ◌⊎◌, inl, inr}
 use Rattle.std.specs.Prelude.{nat_eq}
 use Rattle.std.specs.Cmp.Lexicographic.{pointwise}
 use Rattle.std.specs.List.{range_with_len, filter, Contains, IsDistinct, AllPass}
@@ -7,10 +7,11 @@ use Rattle.std.specs.Set.{unique_keys, is_member}
 use Rattle.std.proofs.lemmas.Map.Made.{is_member-filter, is_member-Decides}
 use Rattle.std.proofs.lemmas.List.FromFn.{length-map-range_with_len, get_or-map-range_with_len}
 use Rattle.std.proofs.Math.Nat.{mul-le-mul_left}
+use Rattle.std.proofs.lemmas.Bool.{false_from_ne_true, or_cases}
 use Rattle.std.proofs.lemmas.List.{take_all, take-take, length-append, length-take, length-drop, get_or_append_left, get_or_at}
-use Rattle.icu_trie_core.specs.Blocks.{window, different}
-use Rattle.icu_trie_compaction.specs.Placed.{different_but}
-use Rattle.icu_trie_compaction.specs.Placed.{AllStandIn, IsPlaced}
+use Rattle.icu_trie_core.specs.Blocks.{window, count_different}
+use Rattle.icu_trie_compaction.specs.Different.{count_different_but}
+use Rattle.icu_trie_compaction.specs.Inside.Placed.{AllStandIn, IsPlaced}
 use Rattle.icu_trie_compaction.specs.Windows.{IsLeast}
 use Rattle.icu_trie_compaction.proofs.Counts.{length-le-distinct_count, unique_keys-member, unique_keys-apart, absent-apart, distinct_count-mono}
 use Rattle.icu_trie_compaction.proofs.Windows.{list_laws, list_decides, window-append, times-below}
@@ -25,14 +26,6 @@ and-parts : (a b : Bool) → (a && not b) ≡ true → (a ≡ true) × (b ≡ fa
 and-parts true false h = (refl, refl)
 and-parts true true h = absurd (true≢false (sym h))
 and-parts false b h = absurd (true≢false (sym h))
-
-not-true : (a : Bool) → (a ≡ true → ⊥) → a ≡ false
-not-true true h = absurd (h refl)
-not-true false h = refl
-
-or-parts : (a b : Bool) → (a || b) ≡ true → (a ≡ true) ⊎ (b ≡ true)
-or-parts true b h = inl refl
-or-parts false b h = inr h
 
 -- the blocks that p leaves out, in a list
 abbrev left_out : (List ℕ → Bool) → (ℕ → List ℕ) → ℕ → ℕ → List (List ℕ)
@@ -59,41 +52,41 @@ of-left_out p b first count q h =
     (first + w.0, omega arith, omega (arith, l), sym (get_or-map-range_with_len b first count w.0 (first + w.0) q l refl) ∙ w.2, both.1)
 
 -- fewer blocks, or the same ones by another name, none of which p leaves out and p' does not
-pub different_but-within : (p p' : List ℕ → Bool) (b b' : ℕ → List ℕ) (first count first' count' : ℕ)
+pub count_different_but-within : (p p' : List ℕ → Bool) (b b' : ℕ → List ℕ) (first count first' count' : ℕ)
     → ((j : ℕ) → first ≤ j → j < first + count → p (b j) ≡ false → (j' : ℕ) × (first' ≤ j') × (j' < first' + count') × (b j ≡ b' j') × (p' (b' j') ≡ false))
-    → different_but p b first count ≤ different_but p' b' first' count'
-unfolding different_but
-different_but-within p p' b b' first count first' count' h = distinct_count-mono list_laws list_decides (left_out p b first count) (left_out p' b' first' count')
+    → count_different_but p b first count ≤ count_different_but p' b' first' count'
+unfolding count_different_but
+count_different_but-within p p' b b' first count first' count' h = distinct_count-mono list_laws list_decides (left_out p b first count) (left_out p' b' first' count')
     (λ q m.
     let w = of-left_out p b first count q ((is_member-Decides list_decides (left_out p b first count) q).1 m) in
     let v = h w.0 w.1 w.2 (ap p w.3 ∙ w.4) in
     (is_member-Decides list_decides (left_out p' b' first' count') q).0 (subst (λ x. is_member (pointwise nat_eq) (left_out p' b' first' count') x ≡ true) (sym v.3 ∙ w.3) (in-left_out p' b' first' count' v.0 v.1 v.2 v.4)))
 
 -- those that p leaves are no more than all
-pub different_but-le : (p : List ℕ → Bool) (b : ℕ → List ℕ) (first count : ℕ) → different_but p b first count ≤ different b first count
-unfolding different_but different
-different_but-le p b first count = distinct_count-mono list_laws list_decides (left_out p b first count) (map b (range_with_len first count))
+pub count_different_but-le : (p : List ℕ → Bool) (b : ℕ → List ℕ) (first count : ℕ) → count_different_but p b first count ≤ count_different b first count
+unfolding count_different_but count_different
+count_different_but-le p b first count = distinct_count-mono list_laws list_decides (left_out p b first count) (map b (range_with_len first count))
     (λ q m.
     let t = (is_member-Decides list_decides (left_out p b first count) q).1 m in
     (is_member-Decides list_decides (map b (range_with_len first count)) q).0 (and-parts (is_member (pointwise nat_eq) (map b (range_with_len first count)) q) (p q) (sym (filtered p (map b (range_with_len first count)) q) ∙ t)).0)
 
-pub different_but-mono : (p : List ℕ → Bool) (b : ℕ → List ℕ) (first count count' : ℕ) → count ≤ count' → different_but p b first count ≤ different_but p b first count'
-different_but-mono p b first count count' le = different_but-within p p b b first count first count' (λ j l l' h. (j, l, omega (arith, l', le), refl, h))
+pub count_different_but-mono : (p : List ℕ → Bool) (b : ℕ → List ℕ) (first count count' : ℕ) → count ≤ count' → count_different_but p b first count ≤ count_different_but p b first count'
+count_different_but-mono p b first count count' le = count_different_but-within p p b b first count first count' (λ j l l' h. (j, l, omega (arith, l', le), refl, h))
 
 -- a block that p does not leave out and that is unlike the earlier ones
-pub different_but-more : (p : List ℕ → Bool) (b : ℕ → List ℕ) (first j : ℕ) → p (b (first + j)) ≡ false → ((i : ℕ) → i < j → b (first + i) ≢ b (first + j)) → different_but p b first j < different_but p b first (j + 1)
-unfolding different_but IsDistinct
-different_but-more p b first j h fresh =
+pub count_different_but-more : (p : List ℕ → Bool) (b : ℕ → List ℕ) (first j : ℕ) → p (b (first + j)) ≡ false → ((i : ℕ) → i < j → b (first + i) ≢ b (first + j)) → count_different_but p b first j < count_different_but p b first (j + 1)
+unfolding count_different_but IsDistinct
+count_different_but-more p b first j h fresh =
     let x : List ℕ = b (first + j) in
     let xs : List (List ℕ) = left_out p b first j in
     let us : List (List ℕ) = unique_keys (pointwise nat_eq) xs in
     let ys : List (List ℕ) = left_out p b first (j + 1) in
-    let absent : is_member (pointwise nat_eq) us x ≡ false = not-true (is_member (pointwise nat_eq) us x) (λ t.
+    let absent : is_member (pointwise nat_eq) us x ≡ false = false_from_ne_true (is_member (pointwise nat_eq) us x) (λ t.
     let w = of-left_out p b first j x (unique_keys-member list_laws list_decides xs x t) in
     let is : first + (w.0 - first) ≡ w.0 = omega (arith, w.1) in
     fresh (w.0 - first) (omega (arith, w.1, w.2)) (ap b is ∙ w.3)) in
     length-le-distinct_count list_laws list_decides (x ∷ us) ys (absent-apart list_laws list_decides x us absent, unique_keys-apart list_laws list_decides xs)
-    (λ q m. elim (or-parts (pointwise nat_eq q x) (is_member (pointwise nat_eq) us q) m) [
+    (λ q m. elim (or_cases (pointwise nat_eq q x) (is_member (pointwise nat_eq) us q) m) [
       | inl t ↦ subst (λ y. is_member (pointwise nat_eq) ys y ≡ true) (sym ((list_decides q x).0 t)) (in-left_out p b first (j + 1) (first + j) (omega arith) (omega arith) h)
       | inr t ↦ let w = of-left_out p b first j q (unique_keys-member list_laws list_decides xs q t) in
           subst (λ y. is_member (pointwise nat_eq) ys y ≡ true) w.3 (in-left_out p b first (j + 1) w.0 w.1 (omega (arith, w.2)) (ap p w.3 ∙ w.4))
@@ -105,7 +98,7 @@ pub record Compacting (k first j : ℕ) (b : ℕ → List ℕ) (before stored of
   pub kept : take (length before) stored ≡ before
   pub count : length offsets ≡ j
   pub least : (i : ℕ) → i < j → IsLeast k (get_or offsets i 0) stored (b (first + i))
-  pub short : (p : List ℕ → Bool) → AllStandIn k before p → length stored ≤ length before + k * different_but p b first j
+  pub short : (p : List ℕ → Bool) → AllStandIn k before p → length stored ≤ length before + k * count_different_but p b first j
   pub drawn : (p : ℕ → Bool) → ((i : ℕ) → i < j → AllPass p (b (first + i))) → AllPass p before → AllPass p stored
 
 -- no block yet
@@ -127,12 +120,12 @@ stands-kept k q before stored x h len pos is =
 module _ (k first j : ℕ) (b : ℕ → List ℕ) (before stored offsets : List ℕ) (l : Compacting k first j b before stored offsets) (pos : 0 < k) (len : length (b (first + j)) ≡ k) where
   -- a block that stands nowhere counts
   compacting-fresh : ((q : ℕ) → window k q stored ≢ b (first + j))
-      → (p : List ℕ → Bool) → AllStandIn k before p → length stored + k ≤ length before + k * different_but p b first (j + 1)
+      → (p : List ℕ → Bool) → AllStandIn k before p → length stored + k ≤ length before + k * count_different_but p b first (j + 1)
   compacting-fresh none p st =
       let x : List ℕ = b (first + j) in
-      let out : p x ≡ false = not-true (p x) (λ t. let w = st x t in none w.0 (stands-kept k w.0 before stored x l.kept len pos w.1)) in
-      let more = different_but-more p b first j out (λ i lt e. none (get_or offsets i 0) ((l.least i lt).here ∙ e)) in
-      omega (arith, l.short p st, times-below k (different_but p b first j) (different_but p b first (j + 1)) more)
+      let out : p x ≡ false = false_from_ne_true (p x) (λ t. let w = st x t in none w.0 (stands-kept k w.0 before stored x l.kept len pos w.1)) in
+      let more = count_different_but-more p b first j out (λ i lt e. none (get_or offsets i 0) ((l.least i lt).here ∙ e)) in
+      omega (arith, l.short p st, times-below k (count_different_but p b first j) (count_different_but p b first (j + 1)) more)
 
   -- one turn
   pub compacting-step : (at : ℕ) (stored' offsets' : List ℕ) → IsLeast k at stored' (b (first + j)) → take (length stored) stored' ≡ stored
@@ -150,8 +143,8 @@ module _ (k first j : ℕ) (b : ℕ → List ℕ) (before stored offsets : List 
         short = λ p st. elim (split (length stored) (length stored')) [
           | inl lt ↦ let g = grown lt in omega (arith, g.0, compacting-fresh g.1 p st)
           | inr ge ↦
-              let m = different_but-mono p b first j (j + 1) (omega arith) in
-              let t : k * different_but p b first j ≤ k * different_but p b first (j + 1) = mul-le-mul_left k m in
+              let m = count_different_but-mono p b first j (j + 1) (omega arith) in
+              let t : k * count_different_but p b first j ≤ k * count_different_but p b first (j + 1) = mul-le-mul_left k m in
               omega (arith, ge, l.short p st, t)
         ];
         drawn = λ p all pass. drawn p (all j (omega arith)) (l.drawn p (λ i lt. all i (omega (arith, lt))) pass);
@@ -161,12 +154,12 @@ module _ (k first j : ℕ) (b : ℕ → List ℕ) (before stored offsets : List 
       split a b = search arith
 
   -- where the limit is passed
-  pub compacting-full : (m limit : ℕ) → j < m → ((q : ℕ) → window k q stored ≢ b (first + j)) → limit < length stored → limit + k < length before + k * different b first m
+  pub compacting-full : (m limit : ℕ) → j < m → ((q : ℕ) → window k q stored ≢ b (first + j)) → limit < length stored → limit + k < length before + k * count_different b first m
   compacting-full m limit lt none over =
       let no : List ℕ → Bool = λ x. false in
       let one = compacting-fresh none no (λ x t. absurd (true≢false (sym t))) in
-      let a = mul-le-mul_left k (different_but-mono no b first (j + 1) m (omega (arith, lt))) in
-      let c = mul-le-mul_left k (different_but-le no b first m) in
+      let a = mul-le-mul_left k (count_different_but-mono no b first (j + 1) m (omega (arith, lt))) in
+      let c = mul-le-mul_left k (count_different_but-le no b first m) in
       omega (arith, one, a, c, over)
 
 -- every block of the range is placed
@@ -183,8 +176,8 @@ compacting-done k first j b before stored offsets l = record {
 }
 
 -- no more cells are added than different blocks have
-pub compacting-short : (k first j : ℕ) (b : ℕ → List ℕ) (before stored offsets : List ℕ) → Compacting k first j b before stored offsets → length stored ≤ length before + k * different b first j
+pub compacting-short : (k first j : ℕ) (b : ℕ → List ℕ) (before stored offsets : List ℕ) → Compacting k first j b before stored offsets → length stored ≤ length before + k * count_different b first j
 compacting-short k first j b before stored offsets l =
     let none : List ℕ → Bool = λ x. false in
-    let m = mul-le-mul_left k (different_but-le none b first j) in
+    let m = mul-le-mul_left k (count_different_but-le none b first j) in
     omega (arith, m, l.short none (λ x t. absurd (true≢false (sym t))))

@@ -7,7 +7,7 @@ use Rattle.std.proofs.lemmas.List.{get_or-take, get_or-drop, length-take, length
 use Rattle.std.proofs.lemmas.List.FromFn.{length-map-range_with_len, get_or-map-range_with_len}
 use Rattle.std.proofs.lemmas.Map.Made.{distinct_count-le, is_member-Decides, AllPairs-from_IsDistinct}
 use Rattle.std.specs.Prelude.{nat_eq}
-use Rattle.icu_trie_core.specs.Blocks.{block, block_of, different}
+use Rattle.icu_trie_core.specs.Blocks.{block, block_of, count_different}
 use Rattle.icu_trie_compaction.proofs.Counts.{apart-le-distinct_count, distinct_count-mono, unique_keys-apart, unique_keys-member}
 use Rattle.icu_trie_compaction.proofs.Windows.{list_laws, list_decides}
 
@@ -21,9 +21,9 @@ block-block_of f k j xs h is =
     get_or-take k (drop (k * j) xs) i d lt ∙ get_or-drop (k * j) xs i d ∙ is (k * j + i) d (omega arith) ∙ sym (get_or-map-range_with_len f (k * j) k i (k * j + i) d lt refl))
 
 -- fewer blocks, or the same ones by another name
-pub different-within : (b b' : ℕ → List ℕ) (first count first' count' : ℕ) → ((j : ℕ) → first ≤ j → j < first + count → (j' : ℕ) × (first' ≤ j') × (j' < first' + count') × (b j ≡ b' j')) → different b first count ≤ different b' first' count'
-unfolding different
-different-within b b' first count first' count' h = distinct_count-mono list_laws list_decides
+pub count_different-within : (b b' : ℕ → List ℕ) (first count first' count' : ℕ) → ((j : ℕ) → first ≤ j → j < first + count → (j' : ℕ) × (first' ≤ j') × (j' < first' + count') × (b j ≡ b' j')) → count_different b first count ≤ count_different b' first' count'
+unfolding count_different
+count_different-within b b' first count first' count' h = distinct_count-mono list_laws list_decides
     (map b (range_with_len first count)) (map b' (range_with_len first' count'))
     (λ q w.
     let lt : w.0 < count = omega (arith, w.1, length-map-range_with_len b first count) in
@@ -35,9 +35,9 @@ different-within b b' first count first' count' h = distinct_count-mono list_law
     (i, omega (arith, lt', length-map-range_with_len b' first' count'), here))
 
 -- no more blocks are different than there are
-pub different-le_count : (b : ℕ → List ℕ) (first count : ℕ) → different b first count ≤ count
-unfolding different
-different-le_count b first count = omega (arith, distinct_count-le (pointwise nat_eq) (map b (range_with_len first count)), length-map-range_with_len b first count)
+pub count_different-le_count : (b : ℕ → List ℕ) (first count : ℕ) → count_different b first count ≤ count
+unfolding count_different
+count_different-le_count b first count = omega (arith, distinct_count-le (pointwise nat_eq) (map b (range_with_len first count)), length-map-range_with_len b first count)
 
 -- where the elements of us stand in the range of g
 places : (us : List (List ℕ)) (g : ℕ → List ℕ) (a m : ℕ) → ((q : List ℕ) → Contains us q → Contains (map g (range_with_len a m)) q)
@@ -56,10 +56,10 @@ places (u ∷ us) g a m h =
     by i is lt here more (suc p) d l = more p d (omega (arith, l))
 
 -- where equal blocks c make equal blocks b, no more blocks b are different than blocks c
-pub different-by : (b c : ℕ → List ℕ) (a a' m m' : ℕ) → m ≤ m' → ((i j : ℕ) → i < m → j < m → c (a' + i) ≡ c (a' + j) → b (a + i) ≡ b (a + j))
-    → different b a m ≤ different c a' m'
-unfolding different
-different-by b c a a' m m' le h =
+pub count_different-by : (b c : ℕ → List ℕ) (a a' m m' : ℕ) → m ≤ m' → ((i j : ℕ) → i < m → j < m → c (a' + i) ≡ c (a' + j) → b (a + i) ≡ b (a + j))
+    → count_different b a m ≤ count_different c a' m'
+unfolding count_different
+count_different-by b c a a' m m' le h =
     let xs : List (List ℕ) = map b (range_with_len a m) in
     let us : List (List ℕ) = unique_keys (pointwise nat_eq) xs in
     let r = places us b a m (λ q w. (is_member-Decides list_decides xs q).0 (unique_keys-member list_laws list_decides xs q ((is_member-Decides list_decides us q).1 w))) in

@@ -1,9 +1,9 @@
--- Lists that grow behind their end.
+-- Lists that grow at their end.
 use Rattle.std.proofs.Common.{◌≡◌, ℕ, ◌+◌, ◌-◌, ◌<◌, List, [], ◌∷◌, ◌++◌, length, get_or, arith, ap, ◌∙◌, below_more, refl, Some, slice_get, inl, inr}
 use Rattle.std.proofs.lemmas.Bool.{cases_lt}
 use Rattle.std.proofs.lemmas.List.{length-append, get_or_append_left, get_or_at}
 use Rattle.std.proofs.lemmas.Option.{slice_get-get_or}
-use Rattle.icu_trie_compaction.specs.Layout.{IsGrown}
+use Rattle.icu_trie_compaction.specs.Inside.IndexParts.{IsGrown}
 
 -- a list is itself with no more cells
 pub grown-none : (f : ℕ → ℕ) (old : List ℕ) → IsGrown 0 f old old
@@ -22,7 +22,7 @@ grown-push n x f old now new g is value =
           (ap (λ xs. get_or xs (length old + n) 0) is ∙ (get_or_at now x [] 0 (length old + n) g.len ∙ value));
     }
 
--- m more cells behind n more
+-- m more cells after n more
 pub grown-more : (n m : ℕ) (f g : ℕ → ℕ) (old now new : List ℕ) → IsGrown n f old now → IsGrown m g now new → ((j : ℕ) → j < m → g j ≡ f (n + j)) → IsGrown (n + m) f old new
 grown-more n m f g old now new a b same = record {
   len = omega (arith, a.len, b.len);

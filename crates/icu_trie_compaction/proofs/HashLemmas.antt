@@ -8,7 +8,7 @@ use Rattle.std.proofs.lemmas.List.Sums.{fold-append}
 use Rattle.icu_trie_core.specs.Blocks.{window}
 use Rattle.icu_trie_compaction.specs.Hashes.{cells_hash, leaving_factor}
 
--- the sum of some cells, behind a sum of others
+-- the sum of some cells, after a sum of others
 abbrev sum_from : ℕ → List ℕ → ℕ
 sum_from a xs = fold (λ sum x. (sum + x) * 0x9e3779b1) a xs
 
@@ -54,7 +54,7 @@ roll x y v p =
     ∙ (ap (λ n. n % 4294967296) (omega arith) ∙ add-mul-mod_self_left v 4294967296 (x * p)))) in
     ap (λ n. ((n + y) % 4294967296 * 0x9e3779b1) % 4294967296) out ∙ step v y
 
--- the window behind another one
+-- the window after another one
 pub hash-roll : (n at : ℕ) (cells : List ℕ) → at + suc n < length cells
     → (((cells_hash (window (suc n) at cells) + (get_or cells at 0 * leaving_factor (suc n)) % 4294967296) % 4294967296 + get_or cells (at + suc n) 0) % 4294967296 * 0x9e3779b1) % 4294967296
     ≡ cells_hash (window (suc n) (at + 1) cells)
@@ -68,10 +68,10 @@ hash-roll n at cells below =
     let here : at < length cells = omega (arith, below) in
     let rest : n < length (drop (at + 1) cells) = omega (arith, length-drop (at + 1) cells, below) in
     let len : length xs ≡ n = omega (arith, length-take n (drop (at + 1) cells), rest) in
-    let behind : suc at ≡ at + 1 = omega arith in
+    let after : suc at ≡ at + 1 = omega arith in
     let next : at + 1 + n ≡ at + suc n = omega arith in
     let more : n + 1 ≡ suc n = omega arith in
-    let first : window (suc n) at cells ≡ x ∷ xs = ap (take (suc n)) (drop-cons cells at 0 here) ∙ ap (λ i. x ∷ take n (drop i cells)) behind in
+    let first : window (suc n) at cells ≡ x ∷ xs = ap (take (suc n)) (drop-cons cells at 0 here) ∙ ap (λ i. x ∷ take n (drop i cells)) after in
     let last : xs ++ y ∷ [] ≡ window (suc n) (at + 1) cells =
     ap (λ z. xs ++ z ∷ []) (ap (λ i. get_or cells i 0) (sym next) ∙ sym (get_or-drop (at + 1) cells n 0))
     ∙ (sym (take_more (drop (at + 1) cells) n 0 rest) ∙ ap (λ i. take i (drop (at + 1) cells)) more) in

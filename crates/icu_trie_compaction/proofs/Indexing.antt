@@ -4,13 +4,14 @@ use Rattle.std.specs.List.{AllPass}
 use Rattle.std.proofs.lemmas.Bool.{lt-ltb}
 use Rattle.std.proofs.lemmas.Bool.Decides.{nat_tests}
 use Rattle.std.proofs.lemmas.List.{length-append, length-take, length-drop, get_or_append_left, get_or_at, get_or_default}
-use Rattle.icu_trie_core.specs.Blocks.{window, block, different}
+use Rattle.icu_trie_core.specs.Blocks.{window, block, count_different}
 use Rattle.icu_trie_core.specs.Format.{offset_in_block}
-use Rattle.icu_trie_compaction.specs.Placed.{different_but}
+use Rattle.icu_trie_compaction.specs.Different.{count_different_but}
 use Rattle.icu_trie_compaction.specs.Windows.{IsLeast, IsTable}
-use Rattle.icu_trie_compaction.specs.Layout.{AllBelow, packed_cells}
-use Rattle.icu_trie_compaction.specs.Index3Cells.{IsIndex3Cell, IsIndexed, IsUnplaced}
-use Rattle.icu_trie_compaction.proofs.Compacting.{different_but-le, different_but-mono, different_but-more}
+use Rattle.icu_trie_compaction.specs.Layout.{AllBelow}
+use Rattle.icu_trie_compaction.specs.Inside.IndexParts.{packed_cells}
+use Rattle.icu_trie_compaction.specs.Inside.Index3Cells.{IsIndex3Cell, IsIndexed, IsUnplaced}
+use Rattle.icu_trie_compaction.proofs.Compacting.{count_different_but-le, count_different_but-mono, count_different_but-more}
 use Rattle.icu_trie_compaction.proofs.PackingLemmas.{offset_packed, packed-read}
 use Rattle.icu_trie_compaction.proofs.Shared.{short_block}
 use Rattle.icu_trie_compaction.proofs.TableLemmas.{append-kept, least-same, least-kept, table-append}
@@ -101,7 +102,7 @@ nowhere-all k n cells x len pos is none q e =
 
 -- how many of the first j blocks are different
 abbrev apart : List ℕ → ℕ → ℕ
-apart offsets j = different_but (λ x. false) (block 32 offsets) 0 j
+apart offsets j = count_different_but (λ x. false) (block 32 offsets) 0 j
 
 -- the first j blocks of 512 are placed
 pub record Indexing (start : ℕ) (fast offsets : List ℕ) (j : ℕ) (stored cells : List ℕ) : Type 0 where
@@ -131,7 +132,7 @@ module _ (start : ℕ) (fast offsets : List ℕ) (j : ℕ) (stored cells : List 
   -- a block that no cell names counts
   indexing-fresh : IsUnplaced start fast stored (block 32 offsets j) → apart offsets j < apart offsets (j + 1)
   unfolding IsUnplaced
-  indexing-fresh none = different_but-more (λ x. false) (block 32 offsets) 0 j refl (λ i lt e. by i lt (ap (block 32 offsets) (omega arith) ∙ (e ∙ ap (block 32 offsets) (omega arith))))
+  indexing-fresh none = count_different_but-more (λ x. false) (block 32 offsets) 0 j refl (λ i lt e. by i lt (ap (block 32 offsets) (omega arith) ∙ (e ∙ ap (block 32 offsets) (omega arith))))
     where
       by : (i : ℕ) → i < j → block 32 offsets i ≡ block 32 offsets j → ⊥
       by i lt same = none (get_or cells i 0) (subst (λ x. IsIndex3Cell start fast stored x (get_or cells i 0)) same (l.cell i lt))
@@ -152,7 +153,7 @@ module _ (start : ℕ) (fast offsets : List ℕ) (j : ℕ) (stored cells : List 
       let len : length cells' ≡ j + 1 = omega (arith, ap length is, length-append cells (cell ∷ []), l.count) in
       let old : (i : ℕ) → i < j → get_or cells' i 0 ≡ get_or cells i 0 = λ i lt. ap (λ xs. get_or xs i 0) is ∙ get_or_append_left cells (cell ∷ []) 0 i (omega (arith, lt, l.count)) in
       let new : get_or cells' j 0 ≡ cell = ap (λ xs. get_or xs j 0) is ∙ get_or_at cells cell [] 0 j l.count in
-      let more : apart offsets j ≤ apart offsets (j + 1) = different_but-mono (λ x. false) (block 32 offsets) 0 j (j + 1) (omega arith) in
+      let more : apart offsets j ≤ apart offsets (j + 1) = count_different_but-mono (λ x. false) (block 32 offsets) 0 j (j + 1) (omega arith) in
       record {
         count = len;
         cell = below_more (λ i. IsIndex3Cell start fast stored' (block 32 offsets i) (get_or cells' i 0)) j
@@ -175,10 +176,10 @@ module _ (start : ℕ) (fast offsets : List ℕ) (j : ℕ) (stored cells : List 
 
   -- where a block is refused
   pub indexing-full : (m : ℕ) → j < m → IsUnplaced start fast stored (block 32 offsets j) → 0x7fff ≤ start + length stored
-      → 0x7fff + 36 ≤ start + 36 * different (block 32 offsets) 0 m
+      → 0x7fff + 36 ≤ start + 36 * count_different (block 32 offsets) 0 m
   indexing-full m lt none over =
-      let up = different_but-mono (λ x. false) (block 32 offsets) 0 (j + 1) m (omega (arith, lt)) in
-      let all = different_but-le (λ x. false) (block 32 offsets) 0 m in
+      let up = count_different_but-mono (λ x. false) (block 32 offsets) 0 (j + 1) m (omega (arith, lt)) in
+      let all = count_different_but-le (λ x. false) (block 32 offsets) 0 m in
       omega (arith, indexing-fresh none, up, all, over, l.short)
 
 -- all blocks
@@ -221,9 +222,9 @@ cell-never start fast stored x c low few (inr (inl a)) e = omega (arith, a.low, 
 cell-never start fast stored x c low few (inr (inr a)) e = omega (arith, a.from, e)
 
 -- the bounds at the end
-pub indexing-short : (start : ℕ) (fast offsets : List ℕ) (j : ℕ) (stored cells : List ℕ) → Indexing start fast offsets j stored cells → length stored ≤ 36 * different (block 32 offsets) 0 j
-indexing-short start fast offsets j stored cells l = omega (arith, l.short, different_but-le (λ x. false) (block 32 offsets) 0 j)
+pub indexing-short : (start : ℕ) (fast offsets : List ℕ) (j : ℕ) (stored cells : List ℕ) → Indexing start fast offsets j stored cells → length stored ≤ 36 * count_different (block 32 offsets) 0 j
+indexing-short start fast offsets j stored cells l = omega (arith, l.short, count_different_but-le (λ x. false) (block 32 offsets) 0 j)
 
 pub indexing-tight : (start : ℕ) (fast offsets : List ℕ) (j : ℕ) (stored cells : List ℕ) → Indexing start fast offsets j stored cells → AllBelow 0x10000 offsets
-    → length stored ≤ 32 * different (block 32 offsets) 0 j
-indexing-tight start fast offsets j stored cells l below = omega (arith, l.tight below, different_but-le (λ x. false) (block 32 offsets) 0 j)
+    → length stored ≤ 32 * count_different (block 32 offsets) 0 j
+indexing-tight start fast offsets j stored cells l below = omega (arith, l.tight below, count_different_but-le (λ x. false) (block 32 offsets) 0 j)

@@ -1,9 +1,10 @@
--- The parts of the index behind one another.
+-- The parts of the index one after another.
 use Rattle.std.proofs.Common.{◌≡◌, ℕ, ◌+◌, ◌*◌, ◌/◌, ◌%◌, ◌≤◌, List, length, get_or, arith, ap, ◌∙◌}
 use Rattle.icu_trie_core.specs.declared.header.TrieType.{TrieType}
 use Rattle.icu_trie_core.specs.declared.header.TrieType.TheVariants.{Fast, Small}
 use Rattle.icu_trie_core.specs.Format.{fast_limit, index1_start}
-use Rattle.icu_trie_compaction.specs.Layout.{IsGrown, IsIndex, IsUpper}
+use Rattle.icu_trie_compaction.specs.Layout.{IsIndex}
+use Rattle.icu_trie_compaction.specs.Inside.IndexParts.{IsGrown, IsUpper}
 use Rattle.icu_trie_compaction.proofs.Growing.{cell_there}
 
 pub parts : (trie_type : TrieType) → (index1_start trie_type + fast_limit trie_type / 16384 ≡ fast_limit trie_type / 64) × (fast_limit trie_type ≡ 16384 * (fast_limit trie_type / 16384) + 512 * (fast_limit trie_type % 16384 / 512)) × (fast_limit trie_type ≤ 65536) × (4096 ≤ fast_limit trie_type)
@@ -12,7 +13,7 @@ parts Small = (omega arith, omega arith, omega arith, omega arith)
 
 module _ (trie_type : TrieType) (high : ℕ) (fast small empty old : List ℕ) (none : length empty ≡ 0) (len : length fast ≡ fast_limit trie_type / 64)
     (g : IsGrown (length fast) (λ i. get_or fast i 0) empty old) where
-  -- the whole index, where the cells behind the fast index are laid out too
+  -- the whole index, where the cells after the fast index are laid out too
   pub index-upper : (index : List ℕ) → IsUpper trie_type high small old index → IsIndex trie_type high fast small index
   index-upper index u =
       let p = parts trie_type in

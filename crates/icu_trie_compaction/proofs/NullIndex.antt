@@ -1,10 +1,12 @@
 -- The index-2 cell of the blocks of 512 that are null throughout.
-use Rattle.std.proofs.Common.{◌≡◌, ℕ, ◌+◌, ◌-◌, ◌*◌, ◌/◌, ◌%◌, ◌<◌, ◌≤◌, inl, inr, List, length, get_or, arith, sym, ap, ◌∙◌, refl, Some, unwrap_or}
+use Rattle.std.proofs.Common.{◌≡◌, ℕ, ◌+◌, ◌-◌, ◌*◌, ◌/◌, ◌%◌, ◌<◌, ◌≤◌, inl, inr, List, length, get_or, arith, sym, ap, ◌∙◌, refl, Some}
 use Rattle.std.proofs.lemmas.List.{same_lists, get_or_default}
+use Rattle.std.proofs.lemmas.Option.{same_Some}
 use Rattle.icu_trie_core.specs.Blocks.{block}
 use Rattle.icu_trie_core.specs.declared.header.TrieType.{TrieType}
 use Rattle.icu_trie_core.specs.Format.{fast_limit, index2_cell, small_offset, offset_in_block}
-use Rattle.icu_trie_compaction.specs.Layout.{GivesSmall, IsNullBlock, IsNullCell, IsNullIndex}
+use Rattle.icu_trie_compaction.specs.Layout.{GivesSmall, IsNullBlock, IsNullIndex}
+use Rattle.icu_trie_compaction.specs.Inside.IndexParts.{IsNullCell}
 use Rattle.icu_trie_compaction.proofs.Laying.{parts}
 use Rattle.icu_trie_compaction.proofs.Windows.{length-window, window-read}
 
@@ -16,9 +18,6 @@ offset_of t index b q cell l two =
     let e2 : (b * 512 + 16 * q) / 0x200 % 32 ≡ b * 512 / 0x200 % 32 = omega (arith, l) in
     let e3 : (b * 512 + 16 * q) / 16 % 32 ≡ q = omega (arith, l) in
     rw (e1, e2, two, e3) refl
-
-some-same : (x y : ℕ) → Some x ≡ Some y → x ≡ y
-some-same x y e = ap (λ o. unwrap_or o x) e
 
 -- two blocks of 32 offsets that are all null are equal
 pub null-blocks : (null : ℕ) (small : List ℕ) (i j : ℕ) → 32 * i + 32 ≤ length small → 32 * j + 32 ≤ length small → IsNullBlock null small i → IsNullBlock null small j → block 32 small i ≡ block 32 small j
@@ -54,7 +53,7 @@ module _ (t : TrieType) (high null : ℕ) (small index : List ℕ) (aligned : hi
             let same = null-blocks null small (b - fast_limit t / 512) (d - fast_limit t / 512) fits (omega (arith, lt)) null_b (rw wd all) in
             g.on_cells b d from below d0 d1 same ∙ two;
         only = λ b from below is q l.
-            let one = some-same (get_or small (32 * (b - fast_limit t / 512) + q) 0) (get_or small (32 * (d - fast_limit t / 512) + q) 0)
+            let one = same_Some (get_or small (32 * (b - fast_limit t / 512) + q) 0) (get_or small (32 * (d - fast_limit t / 512) + q) 0)
             (sym (offset_is b q cell l from below is) ∙ offset_is d q cell l d0 d1 two) in
             one ∙ (ap (λ n. get_or small (32 * n + q) 0) wd ∙ all q l);
       }

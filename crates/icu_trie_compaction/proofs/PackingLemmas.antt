@@ -8,8 +8,9 @@ use Rattle.std.proofs.lemmas.List.Elements.{All-take, All-drop}
 use Rattle.std.proofs.lemmas.List.FromFn.{get_or-map-range_with_len, length-map-range_with_len}
 use Rattle.icu_trie_core.specs.Blocks.{block}
 use Rattle.icu_trie_core.specs.Format.{long_offset, offset_in_block}
-use Rattle.icu_trie_compaction.specs.Layout.{AllBelow, IsGrown, high_bits, packed_cell, packed_cells}
-use Rattle.icu_trie_compaction.specs.Placed.{IsPlaced}
+use Rattle.icu_trie_compaction.specs.Layout.{AllBelow}
+use Rattle.icu_trie_compaction.specs.Inside.IndexParts.{IsGrown, high_bits, packed_cell, packed_cells}
+use Rattle.icu_trie_compaction.specs.Inside.Placed.{IsPlaced}
 use Rattle.icu_trie_compaction.proofs.Growing.{cell_there}
 
 -- the two high bits and the 16 low ones are the offset

@@ -6,7 +6,8 @@ use Rattle.std.specs.Int.{div_ceil}
 use Rattle.icu_trie_core.specs.Blocks.{block}
 use Rattle.icu_trie_core.specs.declared.header.TrieType.{TrieType}
 use Rattle.icu_trie_core.specs.Format.{fast_limit, index1_start, index2_cell, small_offset, offset_in_block}
-use Rattle.icu_trie_compaction.specs.Layout.{GivesSmall, IsGrown}
+use Rattle.icu_trie_compaction.specs.Layout.{GivesSmall}
+use Rattle.icu_trie_compaction.specs.Inside.IndexParts.{IsGrown}
 use Rattle.icu_trie_compaction.proofs.Growing.{cell_there}
 use Rattle.icu_trie_compaction.proofs.Laying.{parts}
 

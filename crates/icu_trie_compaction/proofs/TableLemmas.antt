@@ -30,7 +30,7 @@ append-kept before after h = ap (λ ys. ys ++ drop (length before) after) (sym h
 pub least-kept : (k at : ℕ) (cells more x : List ℕ) → take (length cells) more ≡ cells → IsLeast k at cells x → IsLeast k at more x
 least-kept k at cells more x h l = subst (λ ys. IsLeast k at ys x) (append-kept cells more h) (least-append k at cells (drop (length cells) more) x l)
 
--- a list put behind the longest tail that equals its front, where it stands nowhere
+-- a list appended over the longest tail that equals its front, where it stands nowhere
 pub least-overlap : (k c : ℕ) (cells wanted : List ℕ) → length wanted ≡ k → c < length wanted → c ≤ length cells
     → drop (length cells - c) cells ≡ take c wanted
     → ((m : ℕ) → c < m → m < length wanted → m ≤ length cells → drop (length cells - m) cells ≢ take m wanted)

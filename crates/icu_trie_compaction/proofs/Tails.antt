@@ -1,27 +1,16 @@
 -- Index-2 blocks, the last one as short as it is.
 use Rattle.std.proofs.Common.{◌≡◌, ℕ, ◌+◌, ◌-◌, ◌*◌, ◌/◌, ◌%◌, ◌<◌, ◌≤◌, true, nat_lt, inl, inr, List, [], ◌∷◌, ◌++◌, length, get_or, take, drop, arith, sym, ap, ◌∙◌}
 use Rattle.std.specs.List.{AllPass}
-use Rattle.std.proofs.Math.Nat.{mul-le-mul_left}
 use Rattle.std.proofs.lemmas.Bool.{cases_lt}
 use Rattle.std.proofs.lemmas.List.{get_or-take, get_or_append_left, get_or_at, length-take}
 use Rattle.std.proofs.lemmas.List.Elements.{All-take, All-drop}
-use Rattle.icu_trie_core.specs.Blocks.{block, different}
-use Rattle.icu_trie_compaction.specs.Layout.{AllBelow, Index2At}
-use Rattle.icu_trie_compaction.specs.Placed.{IsPlaced}
-use Rattle.icu_trie_compaction.proofs.Different.{different-le_count}
+use Rattle.icu_trie_core.specs.Blocks.{block}
+use Rattle.icu_trie_compaction.specs.Layout.{AllBelow}
+use Rattle.icu_trie_compaction.specs.Inside.IndexParts.{Index2At}
+use Rattle.icu_trie_compaction.specs.Inside.Placed.{IsPlaced}
+use Rattle.icu_trie_compaction.specs.Windows.{IsLeast}
 use Rattle.icu_trie_compaction.proofs.Indexing.{all-below, below-all}
 use Rattle.icu_trie_compaction.proofs.Windows.{window-read}
-
--- one block has at most its own cells
-pub one-refused : (b : ℕ → List ℕ) (limit k n : ℕ) → limit + k < n + k * different b 0 1 → limit < n
-one-refused b limit k n h =
-    let m : k * different b 0 1 ≤ k * 1 = mul-le-mul_left k (different-le_count b 0 1) in
-    omega (arith, h, m)
-
-pub one-more : (b : ℕ → List ℕ) (k n m : ℕ) → m ≤ n + k * different b 0 1 → m ≤ n + k
-one-more b k n m h =
-    let t : k * different b 0 1 ≤ k * 1 = mul-le-mul_left k (different-le_count b 0 1) in
-    omega (arith, h, t)
 
 -- cells of placed blocks are below what the blocks' cells and the cells before them are below
 pub drawn-fit : (n k : ℕ) (xs before ys offsets : List ℕ) → IsPlaced k 0 (block k xs) before ys offsets → AllBelow n before → AllBelow n xs → AllBelow n ys
@@ -54,21 +43,20 @@ pub index2-whole : (cells before stored places : List ℕ) → IsPlaced 32 0 (bl
 index2-whole cells before stored places pl count none j q lq inside = placed-read 32 j q cells before stored places pl (omega (arith, count, none, inside, lq)) lq
 
 -- and the last, shorter one
-pub index2-rest : (r : ℕ) (cells tail before stored stored' places last places' : List ℕ) → r ≡ length cells % 32
+pub index2-rest : (r at : ℕ) (cells tail before stored stored' places places' : List ℕ) → r ≡ length cells % 32
     → ((q : ℕ) → q < r → get_or tail q 0 ≡ get_or cells (32 * (length cells / 32) + q) 0)
     → IsPlaced 32 0 (block 32 cells) before stored places → length places ≡ length cells / 32
-    → IsPlaced r 0 (block r tail) stored stored' last → length last ≡ 1 → places' ≡ places ++ get_or last 0 0 ∷ [] → Index2At cells stored' places'
-index2-rest r cells tail before stored stored' places last places' is_r at_tail pl count pl' one is j q lq inside = elim (cases_lt j (length places)) [
+    → IsLeast r at stored' tail → take (length stored) stored' ≡ stored → places' ≡ places ++ at ∷ [] → Index2At cells stored' places'
+index2-rest r at cells tail before stored stored' places places' is_r at_tail pl count least kept is j q lq inside = elim (cases_lt j (length places)) [
   | inl lt ↦
       let w = placed-read 32 j q cells before stored places pl lt lq in
-      let here : get_or places' j 0 ≡ get_or places j 0 = ap (λ xs. get_or xs j 0) is ∙ get_or_append_left places (get_or last 0 0 ∷ []) 0 j lt in
-      let longer : length stored ≤ length stored' = omega (arith, ap length pl'.kept, length-take (length stored) stored') in
-      (omega (arith, here, w.0, longer), ap (λ n. get_or stored' (n + q) 0) here ∙ (sym (get_or-take (length stored) stored' (get_or places j 0 + q) 0 w.0) ∙ (ap (λ xs. get_or xs (get_or places j 0 + q) 0) pl'.kept ∙ w.1)))
+      let here : get_or places' j 0 ≡ get_or places j 0 = ap (λ xs. get_or xs j 0) is ∙ get_or_append_left places (at ∷ []) 0 j lt in
+      let longer : length stored ≤ length stored' = omega (arith, ap length kept, length-take (length stored) stored') in
+      (omega (arith, here, w.0, longer), ap (λ n. get_or stored' (n + q) 0) here ∙ (sym (get_or-take (length stored) stored' (get_or places j 0 + q) 0 w.0) ∙ (ap (λ xs. get_or xs (get_or places j 0 + q) 0) kept ∙ w.1)))
   | inr ge ↦
       let jw : j ≡ length places = omega (arith, ge, count, inside, lq) in
       let qr : q < r = omega (arith, is_r, ge, count, inside, lq) in
-      let w = placed-read r 0 q tail stored stored' last pl' (omega (arith, one)) qr in
-      let here : get_or places' j 0 ≡ get_or last 0 0 = ap (λ xs. get_or xs j 0) is ∙ get_or_at places (get_or last 0 0) [] 0 j (sym jw) in
-      let none : r * 0 + q ≡ q = grind arith in
-      (omega (arith, here, w.0), ap (λ n. get_or stored' (n + q) 0) here ∙ (w.1 ∙ (ap (λ n. get_or tail n 0) none ∙ (at_tail q qr ∙ ap (λ n. get_or cells n 0) (omega (arith, jw, count))))))
+      let here : get_or places' j 0 ≡ at = ap (λ xs. get_or xs j 0) is ∙ get_or_at places at [] 0 j (sym jw) in
+      let read : get_or stored' (at + q) 0 ≡ get_or tail q 0 = sym (window-read r at q stored' 0 qr) ∙ ap (λ zs. get_or zs q 0) least.here in
+      (omega (arith, here, least.inside, qr), ap (λ n. get_or stored' (n + q) 0) here ∙ (read ∙ (at_tail q qr ∙ ap (λ n. get_or cells n 0) (omega (arith, jw, count)))))
 ]

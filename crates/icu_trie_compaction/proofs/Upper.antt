@@ -1,12 +1,13 @@
--- Index-1, and the index-3 and index-2 blocks behind it.
+-- Index-1, and the index-3 and index-2 blocks after it.
 use Rattle.std.proofs.Common.{◌≡◌, ◌≢◌, ℕ, ◌+◌, ◌-◌, ◌*◌, ◌/◌, ◌%◌, ◌<◌, ◌≤◌, List, length, get_or, take, arith, sym, ap, subst, ◌∙◌, Some}
 use Rattle.std.specs.Int.{div_ceil}
 use Rattle.std.proofs.lemmas.List.{get_or-take, length-take}
 use Rattle.icu_trie_core.specs.Blocks.{block}
 use Rattle.icu_trie_core.specs.declared.header.TrieType.{TrieType}
 use Rattle.icu_trie_core.specs.Format.{fast_limit, offset_in_block}
-use Rattle.icu_trie_compaction.specs.Layout.{AllBelow, GivesSmall, Index2At, IsGrown, IsNullCell, IsNullIndex, IsUpper}
-use Rattle.icu_trie_compaction.specs.Index3Cells.{IsIndex3Cell, IsIndexed}
+use Rattle.icu_trie_compaction.specs.Layout.{AllBelow, GivesSmall, IsNullIndex}
+use Rattle.icu_trie_compaction.specs.Inside.IndexParts.{Index2At, IsGrown, IsNullCell, IsUpper}
+use Rattle.icu_trie_compaction.specs.Inside.Index3Cells.{IsIndex3Cell, IsIndexed}
 use Rattle.icu_trie_compaction.proofs.Indexing.{cell-gives, cell-never, cell-same}
 use Rattle.icu_trie_compaction.proofs.Laying.{parts}
 use Rattle.icu_trie_compaction.proofs.NullIndex.{null_index-by}

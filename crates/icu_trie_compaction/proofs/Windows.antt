@@ -47,7 +47,7 @@ window-append k at xs ys h =
     let b : k ≤ length (drop at xs) = omega (arith, length-drop at xs) in
     rw drop-append-le (take-append-le k (drop at xs) ys b)
 
--- what was put behind a list is a window
+-- what was appended to a list is a window
 pub window-end : (k at : ℕ) (xs ys : List ℕ) → length xs ≡ at → length ys ≡ k → window k at (xs ++ ys) ≡ ys
 window-end k at xs ys h l = rw drop_at (take_all k ys (omega arith))
 

@@ -1,5 +1,5 @@
 pub mod Hashes
 pub mod Windows
-pub mod Placed
+pub mod Different
 pub mod Layout
-pub mod Index3Cells
+pub mod Inside

@@ -10,8 +10,8 @@ pub record IsLeast (k at : ℕ) (cells x : List ℕ) : Type 0 where
   pub here : window k at cells ≡ x
   pub least : (q : ℕ) → q < at → window k q cells ≢ x
 
--- the lists that b gives to the numbers below n are in buckets, each bucket a chain from its newest list
--- down; h is the bucket of a list. A link is a list's number plus one, and 0 ends a chain
+-- the lists that b gives to the numbers below n are in buckets, each bucket a chain from its newest
+-- list down; h is the bucket of a list. A link is a list's number plus one, and 0 ends a chain
 pub record IsChained (h : List ℕ → ℕ) (b : ℕ → List ℕ) (n : ℕ) (heads next : List ℕ) : Type 0 where
   pub links : length next ≡ n
   -- no head is above the newest list
@@ -41,12 +41,15 @@ pub record IsTable (cells : List ℕ) (t : WindowTable) : Type 0 where
   pub few_buckets : length t.heads.items ≤ 2 ^ 24
   pub within : t.entered ≤ length cells + 1 - t.size
   pub few : entry_count t ≤ t.entered
-  pub chained : IsChained (bucket (length t.heads.items)) (entry t.size t.starts.items cells) (entry_count t) t.heads.items t.next.items
+  pub chained : IsChained (bucket (length t.heads.items)) (entry t.size t.starts.items cells)
+      (entry_count t) t.heads.items t.next.items
   -- each by the first place where it stands
   pub below : (e : ℕ) → e < entry_count t → slice_index t.starts.items e < t.entered
-  pub least : (e : ℕ) → e < entry_count t → IsLeast t.size (slice_index t.starts.items e) cells (entry t.size t.starts.items cells e)
+  pub least : (e : ℕ) → e < entry_count t → IsLeast t.size (slice_index t.starts.items e) cells
+      (entry t.size t.starts.items cells e)
   -- none is left out
-  pub all : (q : ℕ) → q < t.entered → (e : ℕ) × (e < entry_count t) × (entry t.size t.starts.items cells e ≡ window t.size q cells)
+  pub all : (q : ℕ) → q < t.entered → (e : ℕ) × (e < entry_count t)
+      × (entry t.size t.starts.items cells e ≡ window t.size q cells)
 
 -- it has all windows of the cells
 abbrev pub HasAll : List ℕ → WindowTable → Type 0

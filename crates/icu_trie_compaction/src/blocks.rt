@@ -1,8 +1,7 @@
-//! Blocks of cells that are found among the cells so far, or put behind them.
-ghost use Rattle.std.specs.Prelude.{◌≡◌, ◌≢◌, ℕ, ◌+◌, ◌-◌, ◌*◌, ◌^◌, ◌<◌, ◌≤◌, Bool, true, List, length, max, take, drop, IfOk, OnOk, IfSome};
+//! Blocks of cells that are found among the cells so far, or appended to them.
+ghost use Rattle.std.specs.Prelude.{◌≡◌, ◌≢◌, ℕ, ◌+◌, ◌-◌, ◌*◌, ◌^◌, ◌<◌, ◌≤◌, Bool, true, length, max, take, drop, IfOk, OnOk};
 ghost use Rattle.std.specs.List.{AllPass};
-ghost use Rattle.icu_trie_core.specs.Blocks.{window, block, different};
-ghost use Rattle.icu_trie_compaction.specs.Placed.{AllStandIn, IsPlaced, different_but};
+ghost use Rattle.icu_trie_core.specs.Blocks.{window, block};
 ghost use Rattle.icu_trie_compaction.specs.Windows.{HasAll, IsLeast, IsTable};
 ghost use Rattle.icu_trie_compaction.specs.declared.error.BuildError.TheVariants.{TooLarge};
 
@@ -20,7 +19,8 @@ pub(crate) fn block_at(cells: &[u32], size: usize, number: usize) -> &[u32]
     &cells[size * number..size * number + size]
 }
 
-/// The length of the longest tail of `stored`, shorter than `wanted`, that equals the front of `wanted`.
+/// The length of the longest tail of `stored`, shorter than `wanted`, that equals the front of
+/// `wanted`.
 fn overlap(stored: &[u32], wanted: &[u32]) -> usize
     requires { 0 < length wanted.now }
     ensures below { result < length wanted.now }
@@ -39,8 +39,8 @@ fn overlap(stored: &[u32], wanted: &[u32]) -> usize
     0
 }
 
-/// The first place where `wanted` stands in `stored`. Where it stands nowhere, it is put behind the longest
-/// tail that equals its front.
+/// The first place where `wanted` stands in `stored`. Where it stands nowhere, it is appended over
+/// the longest tail that equals its front.
 ///
 /// # Errors
 ///
@@ -61,7 +61,8 @@ pub fn place_block(
     ensures size { OnOk result (table.new.size ≡ table.old.size) }
     ensures table { OnOk result (IsTable stored.new.items table.new) }
     ensures whole { OnOk result (HasAll stored.new.items table.new) }
-    ensures kept { OnOk result (take (length stored.old.items) stored.new.items ≡ stored.old.items) }
+    ensures kept { OnOk result (take (length stored.old.items) stored.new.items
+        ≡ stored.old.items) }
     ensures grown { OnOk result (length stored.old.items < length stored.new.items
         → (length stored.new.items ≤ length stored.old.items + table.old.size)
         × ((q : ℕ) → window table.old.size q stored.old.items ≢ wanted.now)) }
@@ -101,7 +102,8 @@ pub(crate) fn place_anew(
     ensures least { IfOk result (λ at. IsLeast table.old.size at stored.new.items wanted.now) }
     ensures size { OnOk result (table.new.size ≡ table.old.size) }
     ensures table { OnOk result (IsTable stored.new.items table.new) }
-    ensures kept { OnOk result (take (length stored.old.items) stored.new.items ≡ stored.old.items) }
+    ensures kept { OnOk result (take (length stored.old.items) stored.new.items
+        ≡ stored.old.items) }
     ensures grown { OnOk result (length stored.old.items < length stored.new.items
         → (length stored.new.items ≤ length stored.old.items + table.old.size)
         × ((q : ℕ) → window table.old.size q stored.old.items ≢ wanted.now)) }
@@ -114,96 +116,4 @@ pub(crate) fn place_anew(
 {
     table.enter_all(stored)?;
     place_block(alloc, stored, table, wanted, limit)
-}
-
-/// Places block number `number`, where `last` is the place of the block before it, if that is placed.
-fn place_next(
-    alloc: Global,
-    stored: &mut Vec<u32>,
-    table: &mut WindowTable,
-    cells: &[u32],
-    number: usize,
-    last: Option<usize>,
-    limit: usize,
-) -> Result<usize, BuildError>
-    requires cells { length cells.now < 2 ^ 31 }
-    requires inside { table.old.size * number + table.old.size ≤ length cells.now }
-    requires last { IfSome last (λ at. (0 < number)
-        × IsLeast table.old.size at stored.old.items (block table.old.size cells.now (number - 1))) }
-    requires room { length stored.old.items < 2 ^ 30 }
-    requires limit { limit + table.old.size < 2 ^ 30 }
-    requires table { IsTable stored.old.items table.old }
-    requires whole { HasAll stored.old.items table.old }
-    ensures least { IfOk result (λ at.
-        IsLeast table.old.size at stored.new.items (block table.old.size cells.now number)) }
-    ensures size { OnOk result (table.new.size ≡ table.old.size) }
-    ensures table { OnOk result (IsTable stored.new.items table.new) }
-    ensures whole { OnOk result (HasAll stored.new.items table.new) }
-    ensures kept { OnOk result (take (length stored.old.items) stored.new.items ≡ stored.old.items) }
-    ensures grown { OnOk result (length stored.old.items < length stored.new.items
-        → (length stored.new.items ≤ length stored.old.items + table.old.size)
-        × ((q : ℕ) → window table.old.size q stored.old.items ≢ block table.old.size cells.now number)) }
-    ensures capped { OnOk result (length stored.new.items
-        ≤ max (length stored.old.items) (limit + table.old.size)) }
-    ensures drawn { OnOk result ((p : ℕ → Bool) → AllPass p (block table.old.size cells.now number)
-        → AllPass p stored.old.items → AllPass p stored.new.items) }
-    ensures too_large { result ≡ Err TooLarge → (limit < length stored.old.items)
-        × ((q : ℕ) → window table.old.size q stored.old.items ≢ block table.old.size cells.now number) }
-{
-    let size = table.size();
-    let wanted = block_at(cells, size, number);
-    if let Some(at) = last {
-        if wanted == block_at(cells, size, number - 1) {
-            return Ok(at);
-        }
-    }
-    place_block(alloc, stored, table, wanted, limit)
-}
-
-/// The offset in `stored` of each block of `size` cells of `cells`, from the block numbered `first` on,
-/// `count` of them: the first place where it stands. Those that stand nowhere are put behind what `stored`
-/// holds, each over the longest tail that equals its front.
-///
-/// # Errors
-///
-/// `TooLarge` at the first block that would start above `limit`.
-pub fn place_blocks(
-    alloc: Global,
-    stored: &mut Vec<u32>,
-    cells: &[u32],
-    size: usize,
-    first: usize,
-    count: usize,
-    limit: usize,
-) -> Result<Vec<usize>, BuildError>
-    requires nonzero { 0 < size }
-    requires range { size * (first + count) ≤ length cells.now }
-    requires cells { length cells.now < 2 ^ 31 }
-    requires room { length stored.old.items < 2 ^ 30 }
-    requires limit { limit + size < 2 ^ 30 }
-    ensures count { IfOk result (λ offsets. length offsets.items ≡ count) }
-    ensures placed { IfOk result (λ offsets. IsPlaced size first (block size cells.now)
-        stored.old.items stored.new.items offsets.items) }
-    ensures capped { OnOk result
-        (length stored.new.items ≤ max (length stored.old.items) (limit + size)) }
-    ensures short { OnOk result (length stored.new.items
-        ≤ length stored.old.items + size * different (block size cells.now) first count) }
-
-    // Blocks that stand in the cells already add none.
-    ensures shorter { OnOk result ((p : List ℕ → Bool) → AllStandIn size stored.old.items p
-        → length stored.new.items
-        ≤ length stored.old.items + size * different_but p (block size cells.now) first count) }
-    ensures too_large { result ≡ Err TooLarge → limit + size
-        < length stored.old.items + size * different (block size cells.now) first count }
-{
-    let mut table = WindowTable::for_cells(alloc, size, stored.len())?;
-    table.enter_all(stored)?;
-    let mut offsets = Vec::new(alloc);
-    let mut last = None;
-    for j in 0..count {
-        let offset = place_next(alloc, stored, &mut table, cells, first + j, last, limit)?;
-        offsets.push(offset)?;
-        last = Some(offset);
-    }
-    Ok(offsets)
 }

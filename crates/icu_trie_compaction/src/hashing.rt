@@ -1,4 +1,5 @@
-//! Hashes of windows of cells. A hash rolls from a window to the next one, whatever a window's length.
+//! Hashes of windows of cells. A hash rolls from a window to the next one, whatever a window's
+//! length.
 ghost use Rattle.std.specs.Prelude.{◌≡◌, ℕ, ◌+◌, ◌*◌, ◌%◌, ◌^◌, ◌<◌, ◌≤◌, length};
 ghost use Rattle.icu_trie_core.specs.Blocks.{window};
 ghost use Rattle.icu_trie_compaction.specs.Hashes.{cells_hash, leaving_factor};
@@ -30,8 +31,8 @@ pub(crate) fn leaving_factor_of(size: usize) -> u32
     factor
 }
 
-/// The hash of the window behind the one at `at`, where there is one, from that one's hash.
-pub(crate) fn hash_behind(cells: &[u32], at: usize, size: usize, leaving: u32, hash: u32) -> u32
+/// The hash of the window after the one at `at`, where there is one, from that one's hash.
+pub(crate) fn hash_after(cells: &[u32], at: usize, size: usize, leaving: u32, hash: u32) -> u32
     requires inside { at + size ≤ length cells.now }
     requires some { 0 < size }
     requires factor { leaving ≡ leaving_factor size }

@@ -1,39 +1,36 @@
-//! The index: the offsets of the blocks of 64 below the fast limit, then index-1, the index-3 blocks and
-//! index-2 for the code points from it on.
+//! The index: the offsets of the blocks of 64 below the fast limit, then index-1, the index-3
+//! blocks and index-2 for the code points from it on.
 ghost use Rattle.std.specs.Prelude.{◌≡◌, ◌↔◌, ℕ, ◌+◌, ◌-◌, ◌*◌, ◌/◌, ◌%◌, ◌<◌, ◌≤◌, length, slice_index, IsTrue, IfOk, OnOk, IfSome, None};
-ghost use Rattle.icu_trie_core.specs.Blocks.{block, different};
+ghost use Rattle.icu_zerovec.specs.CodePoints.{code_point_limit};
+ghost use Rattle.icu_trie_core.specs.Blocks.{block, count_different};
 ghost use Rattle.icu_trie_core.specs.Format.{fast_limit};
-ghost use Rattle.icu_trie_compaction.specs.Layout.{AllBelow, IsGrown, IsIndex, IsNullBlock, IsNullCell, IsNullIndex, IsUpper, index3_cells, index3_start};
+ghost use Rattle.icu_trie_compaction.specs.Layout.{AllBelow, IsIndex, IsNullBlock, IsNullIndex, index3_cells, index3_start};
+ghost use Rattle.icu_trie_compaction.specs.Inside.IndexParts.{IsGrown, IsNullCell, IsUpper};
 ghost use Rattle.icu_trie_compaction.specs.declared.error.BuildError.TheVariants.{TooLarge};
 
 use crate::error::BuildError;
 use crate::index2::{place_index2, with_unread};
 pub use crate::index3::NO_INDEX3_NULL_OFFSET;
 use crate::index3::place_index3;
+use crate::lengths::INDEX_3_BLOCK;
 use icu_trie_core::header::TrieType;
+use icu_trie_core::impl_const::{CP_PER_INDEX_2_ENTRY, FAST_TYPE_DATA_BLOCK_LENGTH, SHIFT_1};
 use std::alloc::{AllocError, Global};
+
+/// How many code points an index-1 cell stands for.
+const CP_PER_INDEX_1_ENTRY: usize = 1 << SHIFT_1;
 
 /// The index of a trie, and how a walk knows the blocks of 512 that are null throughout.
 #[derive(Drop)]
 pub struct BuiltIndex {
-    /// The fast index, and behind it the cells for the code points from the fast limit on.
+    /// The fast index, and after it the cells for the code points from the fast limit on.
     pub cells: Vec<u16>,
-    /// The index-2 cell, bit 15 included, of the blocks of 512 all of whose data offsets are the null
-    /// block's; 0x7fff where there is none.
+    /// The index-2 cell, bit 15 included, of the blocks of 512 all of whose data offsets are the
+    /// null block's; 0x7fff where there is none.
     pub null_offset: u16,
 }
 
-/// The first code point that has no cell in the fast index.
-pub fn fast_limit_of(trie_type: TrieType) -> usize
-    ensures { result ≡ fast_limit trie_type }
-{
-    match trie_type {
-        TrieType::Fast => 0x10000,
-        TrieType::Small => 0x1000,
-    }
-}
-
-/// Puts the fast index, the offsets of the blocks of 64, behind `index`.
+/// Appends the fast index, the offsets of the blocks of 64, to `index`.
 fn push_fast(index: &mut Vec<u16>, fast: &[u32]) -> Result<(), AllocError>
     requires { AllBelow 0x10000 fast.now }
     ensures { OnOk result (IsGrown (length fast.now) (slice_index fast.now)
@@ -45,7 +42,7 @@ fn push_fast(index: &mut Vec<u16>, fast: &[u32]) -> Result<(), AllocError>
     Ok(())
 }
 
-/// Puts the index-1 cells behind `index`, for index-2 blocks at these places behind `start`.
+/// Appends the index-1 cells to `index`, for index-2 blocks at these places from `start` on.
 fn push_index1(index: &mut Vec<u16>, start: usize, places: &[usize]) -> Result<(), AllocError>
     requires { (j : ℕ) → j < length places.now → start + slice_index places.now j < 0x10000 }
     ensures { OnOk result (IsGrown (length places.now) (λ j. start + slice_index places.now j)
@@ -57,7 +54,7 @@ fn push_index1(index: &mut Vec<u16>, start: usize, places: &[usize]) -> Result<(
     Ok(())
 }
 
-/// Puts the cells of the index-3 and index-2 blocks behind `index`.
+/// Appends the cells of the index-3 and index-2 blocks to `index`.
 fn push_stored(index: &mut Vec<u16>, cells: &[u32]) -> Result<(), AllocError>
     requires { AllBelow 0x10000 cells.now }
     ensures { OnOk result (IsGrown (length cells.now) (slice_index cells.now)
@@ -83,11 +80,11 @@ fn widened(alloc: Global, cells: &[u16]) -> Result<Vec<u32>, AllocError>
 /// Whether all offsets of block number `number` of 32 are `null`.
 fn is_null(offsets: &[u32], null: usize, number: usize) -> bool
     requires inside { 32 * number + 32 ≤ length offsets.now }
-    requires room { length offsets.now < 0x110000 }
+    requires room { length offsets.now < code_point_limit }
     ensures { IsTrue result ↔ IsNullBlock null offsets.now number }
 {
-    for i in 0..32 {
-        if offsets[32 * number + i] as usize != null {
+    for i in 0..INDEX_3_BLOCK {
+        if offsets[INDEX_3_BLOCK * number + i] as usize != null {
             return false;
         }
     }
@@ -96,12 +93,13 @@ fn is_null(offsets: &[u32], null: usize, number: usize) -> bool
 
 /// The first block of 32 offsets all of which are `null`.
 fn null_block(offsets: &[u32], null: usize) -> Option<usize>
-    requires room { length offsets.now < 0x110000 }
-    ensures some { IfSome result (λ i. (i < length offsets.now / 32) × IsNullBlock null offsets.now i) }
+    requires room { length offsets.now < code_point_limit }
+    ensures some { IfSome result (λ i. (i < length offsets.now / 32)
+        × IsNullBlock null offsets.now i) }
     ensures none { result ≡ None → (i : ℕ) → i < length offsets.now / 32
         → IsNullBlock null offsets.now i → ⊥ }
 {
-    for number in 0..offsets.len() / 32 {
+    for number in 0..offsets.len() / INDEX_3_BLOCK {
         if is_null(offsets, null, number) {
             return Some(number);
         }
@@ -109,10 +107,10 @@ fn null_block(offsets: &[u32], null: usize) -> Option<usize>
     None
 }
 
-/// The index-2 cell, of these, of the first block of 32 offsets all of which are `null`, 0x7fff where there
-/// is none.
+/// The index-2 cell, of these, of the first block of 32 offsets all of which are `null`, 0x7fff
+/// where there is none.
 fn null_cell(small: &[u32], null: usize, cells: &[u32]) -> u16
-    requires room { length small.now < 0x110000 }
+    requires room { length small.now < code_point_limit }
     requires count { length cells.now ≡ length small.now / 32 }
     requires fit { AllBelow 0x10000 cells.now }
     ensures { IsNullCell null small.now (slice_index cells.now) result }
@@ -123,9 +121,9 @@ fn null_cell(small: &[u32], null: usize, cells: &[u32]) -> u16
     }
 }
 
-/// Puts index-1, the index-3 blocks and index-2 behind the fast index, and gives the index-2 cell of the
-/// blocks of 512 all of whose offsets are `null`, 0x7fff where there is none. `small` has the offsets of the
-/// blocks of 16 from the fast limit on to before `high_start`.
+/// Appends index-1, the index-3 blocks and index-2 to the fast index, and gives the index-2 cell of
+/// the blocks of 512 all of whose offsets are `null`, 0x7fff where there is none. `small` has the
+/// offsets of the blocks of 16 from the fast limit on to before `high_start`.
 fn push_upper(
     alloc: Global,
     index: &mut Vec<u16>,
@@ -137,34 +135,36 @@ fn push_upper(
     requires fast { length index.old.items ≡ fast_limit trie_type / 64 }
     requires aligned { high_start % 512 ≡ 0 }
     requires above { fast_limit trie_type < high_start }
-    requires within { high_start ≤ 0x110000 }
+    requires within { high_start ≤ code_point_limit }
     requires small_len { length small.now ≡ (high_start - fast_limit trie_type) / 16 }
     requires small_fit { AllBelow 0x40000 small.now }
     ensures upper { OnOk result
         (IsUpper trie_type high_start small.now index.old.items index.new.items) }
     ensures short { OnOk result (length index.new.items ≤ index3_cells small.now + 3200) }
     ensures tight { OnOk result (AllBelow 0x10000 small.now → length index.new.items
-        ≤ 32 * different (block 32 small.now) 0 (length small.now / 32) + 3200) }
+        ≤ 32 * count_different (block 32 small.now) 0 (length small.now / 32) + 3200) }
     ensures null { IfOk result (λ cell.
         IsNullIndex trie_type high_start null small.now index.new.items cell) }
     ensures too_large { result ≡ Err TooLarge
         → 0x7fff + 36 ≤ index3_start trie_type high_start + index3_cells small.now }
 {
-    let limit = fast_limit_of(trie_type);
-    let start = limit / 64 + (high_start.div_ceil(0x4000) - limit / 0x4000);
+    let limit = trie_type.fast_limit() as usize;
+    let start = limit / FAST_TYPE_DATA_BLOCK_LENGTH as usize
+        + (high_start.div_ceil(CP_PER_INDEX_1_ENTRY) - limit / CP_PER_INDEX_1_ENTRY);
     let fast = widened(alloc, index)?;
     let mut stored = Vec::new(alloc);
     let numbers = place_index3(alloc, &mut stored, &fast, small, start)?;
-    let cells = with_unread(alloc, &numbers, limit % 0x4000 / 512)?;
+    let unread = limit % CP_PER_INDEX_1_ENTRY / CP_PER_INDEX_2_ENTRY as usize;
+    let cells = with_unread(alloc, &numbers, unread)?;
     let places = place_index2(alloc, &mut stored, &cells)?;
     push_index1(index, start, &places)?;
     push_stored(index, &stored)?;
     Ok(null_cell(small, null, &numbers))
 }
 
-/// The index, where `fast` has the offsets of the blocks of 64 below the fast limit, and `small` those of
-/// the blocks of 16 from it on to before `high_start`. `null` is the offset of the null block of the data,
-/// 0xfffff where there is none.
+/// The index, where `fast` has the offsets of the blocks of 64 below the fast limit, and `small`
+/// those of the blocks of 16 from it on to before `high_start`. `null` is the offset of the null
+/// block of the data, 0xfffff where there is none.
 ///
 /// # Errors
 ///
@@ -180,25 +180,26 @@ pub fn build_index(
     requires fast_len { length fast.now ≡ fast_limit trie_type / 64 }
     requires fast_fit { AllBelow 0x10000 fast.now }
     requires aligned { high_start % 512 ≡ 0 }
-    requires within { high_start ≤ 0x110000 }
+    requires within { high_start ≤ code_point_limit }
     requires small_len { length small.now ≡ (high_start - fast_limit trie_type) / 16 }
     requires small_fit { AllBelow 0x40000 small.now }
-    ensures index { IfOk result (λ v. IsIndex trie_type high_start fast.now small.now v.cells.items) }
+    ensures index { IfOk result (λ v.
+        IsIndex trie_type high_start fast.now small.now v.cells.items) }
     ensures short { IfOk result (λ v. length v.cells.items ≤ index3_cells small.now + 3200) }
 
     // Where all offsets have 16 bits, no block needs the 18-bit form.
     ensures tight { IfOk result (λ v. AllBelow 0x10000 small.now → length v.cells.items
-        ≤ 32 * different (block 32 small.now) 0 (length small.now / 32) + 3200) }
+        ≤ 32 * count_different (block 32 small.now) 0 (length small.now / 32) + 3200) }
     ensures null { IfOk result (λ v.
         IsNullIndex trie_type high_start null small.now v.cells.items v.null_offset) }
 
-    // Behind all others, a different index-3 block would stand at 0x7fff or above it.
+    // After all others, a different index-3 block would stand at 0x7fff or above it.
     ensures too_large { result ≡ Err TooLarge
         → 0x7fff + 36 ≤ index3_start trie_type high_start + index3_cells small.now }
 {
     let mut cells = Vec::new(alloc);
     push_fast(&mut cells, fast)?;
-    if high_start <= fast_limit_of(trie_type) {
+    if high_start <= trie_type.fast_limit() as usize {
         return Ok(BuiltIndex {
             cells,
             null_offset: NO_INDEX3_NULL_OFFSET,

@@ -1,19 +1,25 @@
-//! The index-2 blocks: the index-2 cells of 32 blocks of 512 code points. Equal blocks stand once, and a
-//! block stands anywhere among the index-3 and index-2 cells so far or over the tail of what is written.
-ghost use Rattle.std.specs.Prelude.{◌≡◌, ℕ, ◌+◌, ◌*◌, ◌<◌, ◌≤◌, length, take, slice_index, IfOk, OnOk};
+//! The index-2 blocks: the index-2 cells of 32 blocks of 512 code points. Equal blocks stand once,
+//! and a block stands anywhere among the index-3 and index-2 cells so far or over the tail of what
+//! is written.
+ghost use Rattle.std.specs.Prelude.{◌≡◌, ℕ, ◌+◌, ◌*◌, ◌/◌, ◌<◌, ◌≤◌, length, take, slice_index, IfOk, OnOk};
 ghost use Rattle.std.specs.Int.{div_ceil};
-ghost use Rattle.icu_trie_compaction.specs.Layout.{AllBelow, Index2At};
+ghost use Rattle.icu_trie_core.specs.Blocks.{block};
+ghost use Rattle.icu_trie_compaction.specs.Layout.{AllBelow};
+ghost use Rattle.icu_trie_compaction.specs.Inside.IndexParts.{Index2At};
+ghost use Rattle.icu_trie_compaction.specs.Inside.Placed.{IsPlaced};
 ghost use Rattle.icu_trie_compaction.specs.declared.error.BuildError.TheVariants.{TooLarge};
 
-use crate::blocks::place_blocks;
+use crate::blocks::{block_at, place_anew};
 use crate::error::BuildError;
+use crate::lengths::INDEX_2_BLOCK;
+use crate::window_table::WindowTable;
 use std::alloc::{AllocError, Global};
 
 /// Above each place that an index-2 block may take.
 const MOST_CELLS: usize = 0x10000;
 
-/// The index-2 cells with `count` before them that no look-up reads: cells like the first one, so that they
-/// share most places.
+/// The index-2 cells with `count` before them that no look-up reads: cells like the first one, so
+/// that they share most places.
 pub(crate) fn with_unread(
     alloc: Global,
     cells: &[u32],
@@ -30,7 +36,34 @@ pub(crate) fn with_unread(
     Ok(all)
 }
 
-/// Places the blocks of 32 cells, the last one as short as it is, and gives the place of each in `stored`.
+/// Places the whole blocks of 32 cells, and gives the place of each in `stored`.
+fn place_whole(
+    alloc: Global,
+    stored: &mut Vec<u32>,
+    cells: &[u32],
+) -> Result<Vec<usize>, BuildError>
+    requires cells { length cells.now ≤ 2176 }
+    requires stored { length stored.old.items ≤ 0x8100 }
+    ensures count { IfOk result (λ places. length places.items ≡ length cells.now / 32) }
+    ensures placed { IfOk result (λ places. IsPlaced 32 0 (block 32 cells.now)
+        stored.old.items stored.new.items places.items) }
+    ensures short { OnOk result
+        (length stored.new.items ≤ length stored.old.items + 32 * (length cells.now / 32)) }
+    ensures never { result ≡ Err TooLarge → ⊥ }
+{
+    let count = cells.len() / INDEX_2_BLOCK;
+    let mut table = WindowTable::for_cells(alloc, INDEX_2_BLOCK, stored.len())?;
+    let mut places = Vec::with_capacity(alloc, count + 1)?;
+    for number in 0..count {
+        let wanted = block_at(cells, INDEX_2_BLOCK, number);
+        let at = place_anew(alloc, stored, &mut table, wanted, MOST_CELLS)?;
+        places.push(at)?;
+    }
+    Ok(places)
+}
+
+/// Places the blocks of 32 cells, the last one as short as it is, and gives the place of each in
+/// `stored`.
 pub(crate) fn place_index2(
     alloc: Global,
     stored: &mut Vec<u32>,
@@ -41,19 +74,21 @@ pub(crate) fn place_index2(
     requires cells_fit { AllBelow 0x10000 cells.now }
     requires stored_fit { AllBelow 0x10000 stored.old.items }
     ensures count { IfOk result (λ places. length places.items ≡ div_ceil (length cells.now) 32) }
-    ensures kept { OnOk result (take (length stored.old.items) stored.new.items ≡ stored.old.items) }
+    ensures kept { OnOk result (take (length stored.old.items) stored.new.items
+        ≡ stored.old.items) }
     ensures placed { IfOk result (λ places. Index2At cells.now stored.new.items places.items) }
     ensures short { OnOk result
         (length stored.new.items ≤ length stored.old.items + length cells.now) }
     ensures fit { OnOk result (AllBelow 0x10000 stored.new.items) }
     ensures never { result ≡ Err TooLarge → ⊥ }
 {
-    let whole = cells.len() / 32;
-    let mut places = place_blocks(alloc, stored, cells, 32, 0, whole, MOST_CELLS)?;
-    let rest = cells.len() % 32;
+    let mut places = place_whole(alloc, stored, cells)?;
+    let rest = cells.len() % INDEX_2_BLOCK;
     if rest > 0 {
-        let last = place_blocks(alloc, stored, &cells[32 * whole..], rest, 0, 1, MOST_CELLS)?;
-        places.push(last[0])?;
+        let mut table = WindowTable::for_cells(alloc, rest, stored.len())?;
+        let tail = &cells[cells.len() - rest..];
+        let last = place_anew(alloc, stored, &mut table, tail, MOST_CELLS)?;
+        places.push(last)?;
     }
     Ok(places)
 }

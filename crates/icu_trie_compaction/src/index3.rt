@@ -1,15 +1,18 @@
-//! The index-3 blocks: the 32 data offsets of each block of 512 code points, in 16 bits where all of them
-//! fit, else in the 18-bit form. Equal blocks stand once, and a block stands anywhere among the cells so far
-//! or over the tail of what is written; one in 16 bits may stand in the fast index too.
+//! The index-3 blocks: the 32 data offsets of each block of 512 code points, in 16 bits where all
+//! of them fit, else in the 18-bit form. Equal blocks stand once, and a block stands anywhere among
+//! the cells so far or over the tail of what is written; one in 16 bits may stand in the fast index
+//! too.
 ghost use Rattle.std.specs.Prelude.{◌≡◌, ◌↔◌, ℕ, ◌+◌, ◌-◌, ◌*◌, ◌/◌, ◌^◌, ◌<◌, ◌≤◌, [], length, IsTrue, IfOk, IfSome, OnOk, take};
-ghost use Rattle.icu_trie_core.specs.Blocks.{block, different};
-ghost use Rattle.icu_trie_compaction.specs.Index3Cells.{IsIndex3Cell, IsIndexed, IsTables, IsUnplaced};
+ghost use Rattle.icu_zerovec.specs.CodePoints.{code_point_limit};
+ghost use Rattle.icu_trie_core.specs.Blocks.{block, count_different};
+ghost use Rattle.icu_trie_compaction.specs.Inside.Index3Cells.{IsIndex3Cell, IsIndexed, IsTables, IsUnplaced};
 ghost use Rattle.icu_trie_compaction.specs.Layout.{AllBelow};
 ghost use Rattle.icu_trie_compaction.specs.declared.error.BuildError.TheVariants.{TooLarge};
 
 use crate::blocks::{block_at, place_anew};
 use crate::error::BuildError;
 use crate::hashing::hash_of;
+use crate::lengths::{INDEX_3_BLOCK, WIDE_INDEX_3_BLOCK};
 use crate::packing::pack;
 use crate::window_table::WindowTable;
 use std::alloc::{AllocError, Global};
@@ -17,7 +20,7 @@ use std::alloc::{AllocError, Global};
 /// The index-3 offset that says that there is no null block, and that no block may have.
 pub const NO_INDEX3_NULL_OFFSET: u16 = 0x7fff;
 
-/// The windows of the fast index, and those of the cells behind index-1 in both widths.
+/// The windows of the fast index, and those of the cells after index-1 in both widths.
 #[derive(Drop)]
 pub(crate) struct Tables {
     /// The windows of 32 cells of the fast index.
@@ -34,12 +37,12 @@ impl Tables {
         requires { length fast.now < 2 ^ 31 }
         ensures { IfOk result (IsTables fast.now []) }
     {
-        let mut in_fast = WindowTable::for_cells(alloc, 32, fast.len())?;
+        let mut in_fast = WindowTable::for_cells(alloc, INDEX_3_BLOCK, fast.len())?;
         in_fast.enter_all(fast)?;
         Ok(Tables {
             fast: in_fast,
-            narrow: WindowTable::new(alloc, 32)?,
-            wide: WindowTable::new(alloc, 36)?,
+            narrow: WindowTable::new(alloc, INDEX_3_BLOCK)?,
+            wide: WindowTable::new(alloc, WIDE_INDEX_3_BLOCK)?,
         })
     }
 }
@@ -83,9 +86,10 @@ fn place_offsets(
     ensures tables { OnOk result (IsTables fast.now stored.new.items tables.new) }
     ensures fit { OnOk result (AllBelow 0x10000 stored.new.items) }
     ensures room { OnOk result (start + length stored.new.items ≤ 0x7ffe + 36) }
-    ensures kept { OnOk result (take (length stored.old.items) stored.new.items ≡ stored.old.items) }
+    ensures kept { OnOk result (take (length stored.old.items) stored.new.items
+        ≡ stored.old.items) }
 
-    // What is put behind the cells is one block, and no earlier one.
+    // What is appended to the cells is one block, and no earlier one.
     ensures fresh { OnOk result (length stored.old.items < length stored.new.items
         → IsUnplaced start fast.now stored.old.items offsets.now) }
     ensures wide { OnOk result (length stored.new.items ≤ length stored.old.items + 36) }
@@ -110,8 +114,8 @@ fn place_offsets(
     Ok(start + at)
 }
 
-/// Places block number `number` of 512 and gives its index-2 cell, where `last` is that of the block before
-/// it, if that is placed.
+/// Places block number `number` of 512 and gives its index-2 cell, where `last` is that of the
+/// block before it, if that is placed.
 ///
 /// # Errors
 ///
@@ -128,7 +132,7 @@ fn place_next(
 ) -> Result<usize, BuildError>
     requires start { start < 0x7fff }
     requires fast_len { length fast.now ≤ start }
-    requires offsets { length offsets.now < 0x110000 }
+    requires offsets { length offsets.now < code_point_limit }
     requires inside { 32 * number + 32 ≤ length offsets.now }
     requires offsets_fit { AllBelow 0x40000 offsets.now }
     requires last { IfSome last (λ cell. (0 < number) × (cell < 0x10000)
@@ -142,7 +146,8 @@ fn place_next(
     ensures tables { OnOk result (IsTables fast.now stored.new.items tables.new) }
     ensures fit { OnOk result (AllBelow 0x10000 stored.new.items) }
     ensures room { OnOk result (start + length stored.new.items ≤ 0x7ffe + 36) }
-    ensures kept { OnOk result (take (length stored.old.items) stored.new.items ≡ stored.old.items) }
+    ensures kept { OnOk result (take (length stored.old.items) stored.new.items
+        ≡ stored.old.items) }
     ensures fresh { OnOk result (length stored.old.items < length stored.new.items
         → IsUnplaced start fast.now stored.old.items (block 32 offsets.now number)) }
     ensures wide { OnOk result (length stored.new.items ≤ length stored.old.items + 36) }
@@ -151,16 +156,17 @@ fn place_next(
     ensures too_large { result ≡ Err TooLarge → (0x7fff ≤ start + length stored.old.items)
         × IsUnplaced start fast.now stored.old.items (block 32 offsets.now number) }
 {
-    let wanted = block_at(offsets, 32, number);
+    let wanted = block_at(offsets, INDEX_3_BLOCK, number);
     if let Some(cell) = last {
-        if wanted == block_at(offsets, 32, number - 1) {
+        if wanted == block_at(offsets, INDEX_3_BLOCK, number - 1) {
             return Ok(cell);
         }
     }
     place_offsets(alloc, stored, tables, fast, wanted, start)
 }
 
-/// Places all blocks of 512 in `stored`, which is empty and stands at `start`, and gives their index-2 cells.
+/// Places all blocks of 512 in `stored`, which is empty and stands at `start`, and gives their
+/// index-2 cells.
 ///
 /// # Errors
 ///
@@ -174,7 +180,7 @@ pub(crate) fn place_index3(
 ) -> Result<Vec<u32>, BuildError>
     requires start { start < 0x7fff }
     requires fast_len { length fast.now ≤ start }
-    requires offsets { length offsets.now < 0x110000 }
+    requires offsets { length offsets.now < code_point_limit }
     requires offsets_fit { AllBelow 0x40000 offsets.now }
     requires none { stored.old.items ≡ [] }
     ensures count { IfOk result (λ cells. length cells.items ≡ length offsets.now / 32) }
@@ -183,16 +189,18 @@ pub(crate) fn place_index3(
     ensures fit { OnOk result (AllBelow 0x10000 stored.new.items) }
     ensures room { OnOk result (start + length stored.new.items ≤ 0x7ffe + 36) }
     ensures short { OnOk result (length stored.new.items
-        ≤ 36 * different (block 32 offsets.now) 0 (length offsets.now / 32)) }
+        ≤ 36 * count_different (block 32 offsets.now) 0 (length offsets.now / 32)) }
     ensures tight { OnOk result (AllBelow 0x10000 offsets.now → length stored.new.items
-        ≤ 32 * different (block 32 offsets.now) 0 (length offsets.now / 32)) }
+        ≤ 32 * count_different (block 32 offsets.now) 0 (length offsets.now / 32)) }
     ensures too_large { result ≡ Err TooLarge
-        → 0x7fff + 36 ≤ start + 36 * different (block 32 offsets.now) 0 (length offsets.now / 32) }
+        → 0x7fff + 36
+        ≤ start + 36 * count_different (block 32 offsets.now) 0 (length offsets.now / 32) }
 {
     let mut tables = Tables::new(alloc, fast)?;
-    let mut cells = Vec::with_capacity(alloc, offsets.len() / 32)?;
+    let count = offsets.len() / INDEX_3_BLOCK;
+    let mut cells = Vec::with_capacity(alloc, count)?;
     let mut last = None;
-    for number in 0..offsets.len() / 32 {
+    for number in 0..count {
         let cell = place_next(
             alloc,
             stored,

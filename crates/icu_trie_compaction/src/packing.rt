@@ -1,6 +1,8 @@
 //! The 18-bit form of data offsets in an index-3 block: nine cells for each eight offsets.
 ghost use Rattle.std.specs.Prelude.{◌≡◌, ℕ, ◌+◌, ◌*◌, ◌/◌, ◌<◌, ◌≤◌, length, slice_index, IfOk, OnOk};
-ghost use Rattle.icu_trie_compaction.specs.Layout.{AllBelow, IsGrown, high_bits, packed_cell, packed_cells};
+ghost use Rattle.icu_zerovec.specs.CodePoints.{code_point_limit};
+ghost use Rattle.icu_trie_compaction.specs.Layout.{AllBelow};
+ghost use Rattle.icu_trie_compaction.specs.Inside.IndexParts.{IsGrown, high_bits, packed_cell, packed_cells};
 
 use std::alloc::{AllocError, Global};
 
@@ -15,10 +17,10 @@ fn upper_bits(offsets: &[u32], i: usize) -> u32
 }
 
 /// The cell with the high bits of the eight offsets from `at` on, the first one's at its top.
-#[tactic(auto, unfolding(crate::specs::Layout::high_bits))]
+#[tactic(auto, unfolding(crate::specs::Inside::IndexParts::high_bits))]
 fn high_cell(offsets: &[u32], at: usize) -> u32
     requires inside { at + 8 ≤ length offsets.now }
-    requires room { length offsets.now < 0x110000 }
+    requires room { length offsets.now < code_point_limit }
     requires fit { AllBelow 0x40000 offsets.now }
     ensures { result ≡ high_bits offsets.now at }
 {
@@ -33,10 +35,10 @@ fn high_cell(offsets: &[u32], at: usize) -> u32
     front + back
 }
 
-/// Puts the nine cells of the eight offsets from `8 * group` on behind `packed`.
+/// Appends the nine cells of the eight offsets from `8 * group` on to `packed`.
 fn push_group(packed: &mut Vec<u32>, offsets: &[u32], group: usize) -> Result<(), AllocError>
     requires inside { 8 * group + 8 ≤ length offsets.now }
-    requires room { length offsets.now < 0x110000 }
+    requires room { length offsets.now < code_point_limit }
     requires fit { AllBelow 0x40000 offsets.now }
     ensures { OnOk result (IsGrown 9 (λ x. packed_cell offsets.now (9 * group + x))
         packed.old.items packed.new.items) }
@@ -50,7 +52,7 @@ fn push_group(packed: &mut Vec<u32>, offsets: &[u32], group: usize) -> Result<()
 
 /// The offsets in the 18-bit form.
 pub(crate) fn pack(alloc: Global, offsets: &[u32]) -> Result<Vec<u32>, AllocError>
-    requires room { length offsets.now < 0x110000 }
+    requires room { length offsets.now < code_point_limit }
     requires fit { AllBelow 0x40000 offsets.now }
     ensures { IfOk result (λ v. v.items ≡ packed_cells offsets.now) }
 {

@@ -1,11 +1,11 @@
-//! A table of the windows of some cells: of windows that are equal it has the first one. Windows are found by
-//! their hash, without a comparison with every other one.
+//! A table of the windows of some cells: of windows that are equal it has the first one. Windows
+//! are found by their hash, without a comparison with every other one.
 ghost use Rattle.std.specs.Prelude.{◌≡◌, ◌≢◌, ℕ, ◌+◌, ◌-◌, ◌*◌, ◌/◌, ◌^◌, ◌<◌, ◌≤◌, List, length, slice_index, slice_set, IfOk, OnOk, IfSome, IfNone};
 ghost use Rattle.icu_trie_core.specs.Blocks.{window};
 ghost use Rattle.icu_trie_compaction.specs.Hashes.{bucket, cells_hash};
 ghost use Rattle.icu_trie_compaction.specs.Windows.{HasAll, IsLeast, IsTable};
 
-use crate::hashing::{hash_behind, hash_of, leaving_factor_of};
+use crate::hashing::{hash_after, hash_of, leaving_factor_of};
 use std::alloc::{AllocError, Global};
 
 /// How many buckets a table has at first.
@@ -41,7 +41,7 @@ impl WindowTable {
         WindowTable::with_buckets(alloc, size, FIRST_BUCKETS)
     }
 
-    /// The table of no window, with room for the windows of so many cells.
+    /// The table of no window, with room for the windows of `cells` cells.
     pub fn for_cells(alloc: Global, size: usize, cells: usize) -> Result<WindowTable, AllocError>
         requires { 0 < size }
         ensures size { IfOk result (λ t. t.size ≡ size) }
@@ -51,7 +51,7 @@ impl WindowTable {
         WindowTable::with_buckets(alloc, size, buckets)
     }
 
-    /// The table of no window, with so many buckets.
+    /// The table of no window, with `buckets` buckets.
     fn with_buckets(alloc: Global, size: usize, buckets: usize) -> Result<WindowTable, AllocError>
         requires some_cells { 0 < size }
         requires some_buckets { 0 < buckets }
@@ -107,7 +107,7 @@ impl WindowTable {
         None
     }
 
-    /// Puts the next window, whose hash this is, into the table, where no equal one is in it.
+    /// Enters the next window, whose hash this is, into the table, where no equal one is in it.
     fn enter(&mut self, cells: &[u32], hash: u32) -> Result<(), AllocError>
         requires inside { self.old.entered + self.old.size ≤ length cells.now }
         requires room { length cells.now < 2 ^ 31 }
@@ -131,7 +131,7 @@ impl WindowTable {
         Ok(())
     }
 
-    /// Puts all windows of `cells` into the table.
+    /// Enters all windows of `cells` into the table.
     pub fn enter_all(&mut self, cells: &[u32]) -> Result<(), AllocError>
         requires room { length cells.now < 2 ^ 31 }
         requires table { IsTable cells.now self.old }
@@ -148,7 +148,7 @@ impl WindowTable {
         let mut hash = hash_of(&cells[from..from + size]);
         for at in from..count {
             self.enter(cells, hash)?;
-            hash = hash_behind(cells, at, size, self.leaving, hash);
+            hash = hash_after(cells, at, size, self.leaving, hash);
         }
         Ok(())
     }
@@ -158,7 +158,8 @@ impl WindowTable {
         requires some_cells { 0 < self.old.size }
         requires some_buckets { 0 < length self.old.heads.items }
         ensures size { OnOk result (self.new.size ≡ self.old.size) }
-        ensures table { OnOk result ((cells : List ℕ) → IsTable cells self.old → IsTable cells self.new) }
+        ensures table { OnOk result ((cells : List ℕ) → IsTable cells self.old
+            → IsTable cells self.new) }
     {
         let buckets = self.heads.len();
         if self.starts.len() > buckets && buckets < MOST_BUCKETS {
@@ -176,7 +177,7 @@ fn set_head(heads: &mut Vec<u32>, bucket: usize, head: u32)
     heads[bucket] = head;
 }
 
-/// So many zeros.
+/// A list of `count` zeros.
 fn zeros(alloc: Global, count: usize) -> Result<Vec<u32>, AllocError>
     ensures len { IfOk result (λ v. length v.items ≡ count) }
     ensures zero { IfOk result (λ v. (i : ℕ) → slice_index v.items i ≡ 0) }

@@ -7,7 +7,7 @@ use Rattle.icu_trie_core.specs.declared.header.TrieType.{TrieType}
 use Rattle.icu_trie_core.specs.declared.header.CodePointTrieHeader.{CodePointTrieHeader}
 use Rattle.icu_trie_core.specs.Format.{answer, fast_limit, fast_offset, small_offset, index2_cell, offset_in_block, high_value}
 use Rattle.icu_trie_core.specs.Coherence.{IsCoherent}
-use Rattle.icu_trie_core.specs.CoherentBlocks.{AreAll, NamesOffsets, IsNullBlock, IsBlock, IsCell, AreFastBlocks, AreSmallBlocks, AreHighBlocks, HasHighValue, AreCoherentBlocks}
+use Rattle.icu_trie_core.specs.Inside.CoherentBlocks.{AreAll, NamesOffsets, IsNullBlock, IsBlock, IsCell, AreFastBlocks, AreSmallBlocks, AreHighBlocks, HasHighValue, AreCoherentBlocks}
 use Rattle.icu_trie_core.proofs.AnswerLemmas.{none_or_some, fast_limit_most, fast_answer, fast_none, small_answer, small_none, small_offset_at, small_offset_none}
 
 -- what is there, and what holds of it

@@ -1,6 +1,7 @@
 -- What a whole fast index says of the blocks that it names.
-use Rattle.std.proofs.Common.{◌≡◌, ℕ, ◌+◌, ◌/◌, ◌<◌, ◌≤◌, List, slice_get, Some, false, nat_lt, arith}
+use Rattle.std.proofs.Common.{◌≡◌, inl, inr, ℕ, ◌+◌, ◌/◌, ◌<◌, ◌≤◌, List, length, slice_get, Some, false, nat_lt, arith}
 use Rattle.std.proofs.lemmas.Bool.{ltb-false}
+use Rattle.std.proofs.lemmas.Option.{slice_get_cases}
 use Rattle.icu_trie_core.specs.Format.{fast_limit}
 use Rattle.icu_trie_core.specs.FastIndex.{fast_index_len, passes_data}
 use Rattle.icu_trie_core.specs.declared.header.TrieType.{TrieType}
@@ -17,3 +18,14 @@ pub block_inside : (kind : TrieType) (index : List ℕ) (len i offset : ℕ) →
     → i < fast_index_len kind → offset + 64 ≤ len
 block_inside kind index len i offset whole at within =
     ltb-false len (offset + 64) (not_found (λ o. nat_lt len (o + 64)) index i (fast_index_len kind) offset whole at within)
+
+-- so the data have a block of 64 at least
+pub data_at_least : (kind : TrieType) (index : List ℕ) (len : ℕ) → passes_data kind index len ≡ false → fast_index_len kind ≤ length index → 64 ≤ len
+data_at_least kind index len whole fits = elim (slice_get_cases index 0).1 [
+  | inl p ↦ let inside = block_inside kind index len 0 p.0 whole p.2 (some kind) in omega (arith, inside)
+  | inr p ↦ let past = p.0 in let lt = some kind in absurd (omega (arith, past, lt, fits))
+]
+  where
+    some : (t : TrieType) → 0 < fast_index_len t
+    some Fast = omega arith
+    some Small = omega arith

@@ -10,7 +10,7 @@ use Rattle.icu_trie_core.specs.Format.{answer, high_value}
 use Rattle.icu_trie_core.specs.Coherence.{IsCoherent}
 use Rattle.icu_trie_core.specs.Runs.{LongestRun}
 use Rattle.icu_trie_core.specs.Seen.{seen}
-use Rattle.icu_trie_core.specs.Walk.{EndsAt, BreaksOff}
+use Rattle.icu_trie_core.specs.Inside.Walk.{EndsAt, BreaksOff}
 use Rattle.icu_trie_core.specs.Range.{GivesWalk, last_of}
 use Rattle.icu_trie_core.proofs.AnswerLemmas.{none_or_some}
 use Rattle.icu_trie_core.proofs.SeenLemmas.{seen-from_high, seen-below, seen-high}

@@ -1,7 +1,7 @@
 -- How far a value goes, block by block.
 use Rattle.std.proofs.Common.{◌≡◌, inl, inr, ℕ, ◌+◌, ◌-◌, ◌<◌, ◌≤◌, Option, Some, None, ◌∙◌, min, arith}
 use Rattle.std.proofs.lemmas.Bool.{cases_lt}
-use Rattle.icu_trie_core.specs.Walk.{Holds, EndsAt, BreaksOff, Reaches}
+use Rattle.icu_trie_core.specs.Inside.Walk.{Holds, EndsAt, BreaksOff, Reaches}
 
 -- up to a place below the limit
 pub Holds-below_limit : {A : Type 0} {f : ℕ → Option A} {start : ℕ} {value : A} (base limit : ℕ) → base ≤ limit → Holds f start (min base limit) value → Holds f start base value
@@ -79,7 +79,7 @@ Reaches-after f start mid limit value (Some end) before le e =
       differs = e.differs;
     }
 
--- a limit further behind
+-- a greater limit
 pub EndsAt-below : {A : Type 0} {f : ℕ → Option A} {start limit : ℕ} {value : A} {end : ℕ} (next : ℕ) → limit ≤ next → end < limit → EndsAt f start limit value end → EndsAt f start next value end
 EndsAt-below next le lt e = record { begun = e.begun; within = omega (arith, le, lt); equal = e.equal; differs = λ _. e.differs lt }
 

@@ -6,7 +6,7 @@ use Rattle.icu_trie_core.specs.declared.header.CodePointTrieHeader.{CodePointTri
 use Rattle.icu_trie_core.specs.Format.{answer, fast_limit, fast_offset, small_offset, index2_cell, offset_in_block, high_value}
 use Rattle.icu_trie_core.specs.Coherence.{IsCoherent}
 use Rattle.icu_trie_core.specs.Seen.{seen, names_null, is_cell}
-use Rattle.icu_trie_core.specs.Walk.{block_seen, cell_seen}
+use Rattle.icu_trie_core.specs.Inside.Walk.{block_seen, cell_seen}
 use Rattle.icu_trie_core.proofs.AnswerLemmas.{fast_limit_most, fast_answer, fast_none, small_answer, small_none, none_or_some}
 
 module _ {A : Type 0} (of_number : ℕ → Option A) (h : CodePointTrieHeader) (index : List ℕ) (values : List A) where

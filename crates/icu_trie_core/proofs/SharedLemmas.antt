@@ -4,7 +4,7 @@ use Rattle.std.proofs.lemmas.Bool.{cases_lt}
 use Rattle.icu_trie_core.specs.Format.{answer, fast_limit, fast_offset, small_offset, index2_cell, offset_in_block}
 use Rattle.icu_trie_core.specs.Coherence.{IsCoherent, IsShared}
 use Rattle.icu_trie_core.specs.Seen.{seen}
-use Rattle.icu_trie_core.specs.Walk.{Holds, cell_seen, SharesBlocks}
+use Rattle.icu_trie_core.specs.Inside.Walk.{Holds, cell_seen, SharesBlocks}
 use Rattle.icu_trie_core.specs.declared.header.CodePointTrieHeader.{CodePointTrieHeader}
 use Rattle.icu_trie_core.proofs.AnswerLemmas.{small_offset_at}
 use Rattle.icu_trie_core.proofs.SeenLemmas.{seen-below, seen-cell}

@@ -16,6 +16,8 @@ block k xs j = window k (k * j) xs
 unfoldable pub block_of : {T : Type 0} → ℕ → (ℕ → T) → ℕ → List T
 block_of k f j = map f (range_with_len (k * j) k)
 
--- how many different lists there are among those that b gives to the numbers from `first` on, `count` of them
-unfoldable pub different : (ℕ → List ℕ) → ℕ → ℕ → ℕ
-different b first count = distinct_count (pointwise nat_eq) (map b (range_with_len first count))
+-- how many different lists there are among those that b gives to the numbers from `first` on,
+-- `count` of them
+unfoldable pub count_different : (ℕ → List ℕ) → ℕ → ℕ → ℕ
+count_different b first count =
+    distinct_count (pointwise nat_eq) (map b (range_with_len first count))

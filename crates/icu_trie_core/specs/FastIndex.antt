@@ -11,4 +11,5 @@ fast_index_len Small = 64
 
 -- whether a block of 64 that the fast index names ends outside data of this length
 abbrev pub passes_data : TrieType → List ℕ → ℕ → Bool
-passes_data trie_type index len = list_any (λ offset. nat_lt len (offset + 64)) (take (fast_index_len trie_type) index)
+passes_data trie_type index len =
+    list_any (λ offset. nat_lt len (offset + 64)) (take (fast_index_len trie_type) index)

@@ -1,12 +1,11 @@
 pub mod Format
 pub mod FastIndex
 pub mod Coherence
-pub mod CoherentBlocks
 pub mod Blocks
 pub mod Numbers
 pub mod SignedNumbers
 pub mod Runs
 pub mod Seen
-pub mod Walk
 pub mod Range
 pub mod TypeNumbers
+pub mod Inside

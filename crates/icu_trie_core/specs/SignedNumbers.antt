@@ -1,4 +1,5 @@
--- The numbers of signed values and of characters. A signed value has its two's complement of 32 bits.
+-- The numbers of signed values and of characters. A signed value has its two's complement of 32
+-- bits.
 use Rattle.std.specs.Prelude.{◌≡◌, ℕ, ◌^◌, nat_lt, Bool, true, Option, Some, None, if◌then◌else◌, ℤ, pos, negsuc, ◌↔◌, IsTrue, FitsSigned}
 use Rattle.std.specs.Int.{w8, w16, w32, cast_unsigned, cast_signed}
 use Rattle.std.specs.Ordering.{int_eq}
@@ -15,7 +16,8 @@ is_within limit (negsuc n) = nat_lt n limit
 
 -- the value from -limit to limit - 1 that has this number
 abbrev pub signed_fitting : ℕ → ℕ → Option ℤ
-signed_fitting limit i = if is_within limit (cast_signed w32 i) then Some (cast_signed w32 i) else None
+signed_fitting limit i =
+    if is_within limit (cast_signed w32 i) then Some (cast_signed w32 i) else None
 
 -- the character that has this number
 abbrev pub character : ℕ → Option ℕ
@@ -26,10 +28,12 @@ character i = if scalar i then Some i else None
 back : (z : ℤ) → FitsSigned w32 z → cast_signed w32 (cast_unsigned w32 z) ≡ z
 back z h = to_z-of_z w32 z h
 
-fitting_back : (limit : ℕ) (z : ℤ) → is_within limit z ≡ true → FitsSigned w32 z → signed_fitting limit (cast_unsigned w32 z) ≡ Some z
+fitting_back : (limit : ℕ) (z : ℤ) → is_within limit z ≡ true → FitsSigned w32 z
+    → signed_fitting limit (cast_unsigned w32 z) ≡ Some z
 fitting_back limit z w h = rw (back z h, w) refl
 
-equal : (x y : ℤ) → FitsSigned w32 x → FitsSigned w32 y → IsTrue (int_eq x y) ↔ (cast_unsigned w32 x ≡ cast_unsigned w32 y)
+equal : (x y : ℤ) → FitsSigned w32 x → FitsSigned w32 y
+    → IsTrue (int_eq x y) ↔ (cast_unsigned w32 x ≡ cast_unsigned w32 y)
 equal x y hx hy = (
   λ e. ap (cast_unsigned w32) ((Decides-int_eq x y).0 e),
   λ e. (Decides-int_eq x y).1 (sym (back x hx) ∙ ap (cast_signed w32) e ∙ back y hy),
@@ -64,13 +68,16 @@ back_i16 z h = fitting_back (2 ^ 15) z (within-16 z h) (wider-16 z h)
 pub back_i32 : (z : ℤ) → FitsSigned w32 z → signed_fitting (2 ^ 31) (cast_unsigned w32 z) ≡ Some z
 back_i32 z h = fitting_back (2 ^ 31) z (within-32 z h) h
 
-pub equal_i8 : (x y : ℤ) → FitsSigned w8 x → FitsSigned w8 y → IsTrue (int_eq x y) ↔ (cast_unsigned w32 x ≡ cast_unsigned w32 y)
+pub equal_i8 : (x y : ℤ) → FitsSigned w8 x → FitsSigned w8 y
+    → IsTrue (int_eq x y) ↔ (cast_unsigned w32 x ≡ cast_unsigned w32 y)
 equal_i8 x y hx hy = equal x y (wider-8 x hx) (wider-8 y hy)
 
-pub equal_i16 : (x y : ℤ) → FitsSigned w16 x → FitsSigned w16 y → IsTrue (int_eq x y) ↔ (cast_unsigned w32 x ≡ cast_unsigned w32 y)
+pub equal_i16 : (x y : ℤ) → FitsSigned w16 x → FitsSigned w16 y
+    → IsTrue (int_eq x y) ↔ (cast_unsigned w32 x ≡ cast_unsigned w32 y)
 equal_i16 x y hx hy = equal x y (wider-16 x hx) (wider-16 y hy)
 
-pub equal_i32 : (x y : ℤ) → FitsSigned w32 x → FitsSigned w32 y → IsTrue (int_eq x y) ↔ (cast_unsigned w32 x ≡ cast_unsigned w32 y)
+pub equal_i32 : (x y : ℤ) → FitsSigned w32 x → FitsSigned w32 y
+    → IsTrue (int_eq x y) ↔ (cast_unsigned w32 x ≡ cast_unsigned w32 y)
 equal_i32 = equal
 
 pub back_character : (c : ℕ) → IsScalar c → character c ≡ Some c

@@ -13,5 +13,6 @@ type_number Small = 1
 -- the type of the number, or, where it is above 1, the refusal with its reason
 abbrev pub GivesType : ℕ → Result TrieType CodePointTrieError → Type 0
 GivesType n (Ok t) = n ≡ type_number t
-GivesType n (Err (FromDeserialized reason)) = (1 < n) × (reason.now ≡ codes "Cannot parse value for trie_type")
+GivesType n (Err (FromDeserialized reason)) =
+    (1 < n) × (reason.now ≡ codes "Cannot parse value for trie_type")
 GivesType n (Err _) = ⊥

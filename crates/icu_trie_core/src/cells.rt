@@ -6,9 +6,9 @@ use std::sync::ledger::{Blank, Book, Ledger, Share};
 
 /// Index and data of a trie, wherever they are kept.
 ///
-/// [`look_up`](crate::lookup::look_up) reads a trie through these calls alone, so their count is the number
-/// of cells that it read. The count is a ghost: it takes no bytes and no time ([`Steps`] keeps it), and has
-/// no greatest value.
+/// [`look_up`](crate::lookup::look_up) reads a trie through these calls alone, so their count is
+/// the number of cells that it read. The count is a ghost: it takes no bytes and no time ([`Steps`]
+/// keeps it), and has no greatest value.
 pub trait Cells<T> {
     /// The cells of the index.
     ghost index: { Self → List ℕ };
@@ -34,15 +34,16 @@ pub trait Cells<T> {
         ensures same_index { index self.new ≡ index self.old }
         ensures same_values { values self.new ≡ values self.old };
 
-    /// The cell of the data at place `i`, `None` past their end. One read, also where there is none.
+    /// The cell of the data at place `i`, `None` past their end. One read, also where there is
+    /// none.
     fn data_cell(&mut self, i: usize) -> Option<T>
         ensures cell { result ≡ slice_get (values self.old) i }
         ensures counted { reads self.new ≡ reads self.old + 1 }
         ensures same_index { index self.new ≡ index self.old }
         ensures same_values { values self.new ≡ values self.old };
 
-    /// The cell of the index at place `i`, which is there. One read. Cells that know how to read it without a
-    /// test have a body of their own.
+    /// The cell of the index at place `i`, which is there. One read. Cells that know how to read it
+    /// without a test have a body of their own.
     fn index_at(&mut self, i: usize) -> u16
         requires { i < length (index self.old) }
         ensures cell { slice_get (index self.old) i ≡ Some result }
@@ -71,8 +72,8 @@ pub trait Cells<T> {
     }
 }
 
-/// How many steps were taken: a counter that takes no bytes, and that only [`tick`](Steps::tick) changes. A
-/// clause sees the number.
+/// How many steps were taken: a counter that takes no bytes, and that only [`tick`](Steps::tick)
+/// changes. A clause sees the number.
 #[derive(Drop)]
 pub struct Steps<L: Ledger> {
     book: Book<L>,
@@ -88,7 +89,8 @@ impl<L: Ledger> Model for Steps<L> {
 }
 
 impl<L: Ledger> Steps<L> {
-    /// No step yet. Whoever counts makes the counter from a blank one, as `Blank::new(1)`, of the ledger `L`.
+    /// No step yet. Whoever counts makes the counter from a blank one, as `Blank::new(1)`, of the
+    /// ledger `L`.
     #[inline(always)]
     pub fn new(blank: Blank) -> Self
         requires name { blank.name ≡ L.name }

@@ -1,18 +1,23 @@
 //! Whether a trie is coherent.
 //!
-//! The trie is tested block by block, as the format cuts the code space, and no code point is looked up. That
-//! a data block lies in the data is told by its offset; cells are read where the header names a block as
-//! null, and where the fast index goes on above the high start.
+//! The trie is tested block by block, as the format cuts the code space, and no code point is
+//! looked up. That a data block lies in the data is told by its offset; cells are read where the
+//! header names a block as null, and where the fast index goes on above the high start.
 ghost use Rattle.std.specs.Prelude.{◌≡◌, ℕ, ◌+◌, ◌*◌, ◌%◌, ◌<◌, ◌≤◌, ◌↔◌, IsTrue, IsSomeAnd};
 ghost use Rattle.icu_trie_core.specs.Format.{high_value};
 ghost use Rattle.icu_trie_core.specs.Coherence.{IsCoherent};
-ghost use Rattle.icu_trie_core.specs.CoherentBlocks.{AreAll, NamesOffsets, IsNullBlock, IsBlock, IsCell, AreFastBlocks, AreSmallBlocks, AreHighBlocks, HasHighValue, AreCoherentBlocks};
+ghost use Rattle.icu_trie_core.specs.Inside.CoherentBlocks.{AreAll, NamesOffsets, IsNullBlock, IsBlock, IsCell, AreFastBlocks, AreSmallBlocks, AreHighBlocks, HasHighValue, AreCoherentBlocks};
 
 use crate::cells::Cells;
 use crate::header::CodePointTrieHeader;
-use crate::lookup::{fast_limit_of, index2_cell_of, offset_of};
+use crate::impl_const::{
+    CP_PER_INDEX_2_ENTRY, FAST_TYPE_DATA_BLOCK_LENGTH, INDEX_3_BLOCK_LENGTH,
+    SMALL_DATA_BLOCK_LENGTH,
+};
+use crate::lookup::{high_cell_of, index2_cell_of, offset_of};
 use crate::value::TrieValue;
-use crate::walk::{CODE_POINTS, is_same};
+use crate::walk::is_same;
+use icu_zerovec::CODE_POINT_LIMIT;
 
 /// Whether the cells of data from an offset on, `len` of them, are this value.
 fn are_all<T: TrieValue, C: Cells<T>>(cells: &mut C, offset: u32, len: u32, value: T) -> bool
@@ -39,7 +44,8 @@ fn is_null_block<T: TrieValue, C: Cells<T>>(
     offset: u32,
     len: u32,
 ) -> bool
-    ensures null { IsTrue result ↔ IsNullBlock T.of_number header.now (C.values cells.old) len offset }
+    ensures null { IsTrue result
+        ↔ IsNullBlock T.of_number header.now (C.values cells.old) len offset }
     ensures reads { C.reads cells.new ≤ C.reads cells.old + len }
     ensures same_index { C.index cells.new ≡ C.index cells.old }
     ensures same_values { C.values cells.new ≡ C.values cells.old }
@@ -50,8 +56,9 @@ fn is_null_block<T: TrieValue, C: Cells<T>>(
     are_all(cells, offset, len, null)
 }
 
-/// Whether the cells of data from an offset on, `len` of them, are there, and the null value where the header
-/// names the block as null. `null_block` tells whether the block at the null offset is so.
+/// Whether the cells of data from an offset on, `len` of them, are there, and the null value where
+/// the header names the block as null. `null_block` tells whether the block at the null offset is
+/// so.
 fn is_block<T: TrieValue, C: Cells<T>>(
     header: &CodePointTrieHeader,
     cells: &C,
@@ -78,21 +85,32 @@ fn has_fast_blocks<T: TrieValue, C: Cells<T>>(header: &CodePointTrieHeader, cell
     ensures same_index { C.index cells.new ≡ C.index cells.old }
     ensures same_values { C.values cells.new ≡ C.values cells.old }
 {
-    let null_block = is_null_block(header, cells, header.data_null_offset, 64);
-    let limit = header.high_start.min(fast_limit_of(header.trie_type));
-    for block in 0..limit.div_ceil(64) {
+    let null_block = is_null_block(
+        header,
+        cells,
+        header.data_null_offset,
+        FAST_TYPE_DATA_BLOCK_LENGTH,
+    );
+    let limit = header.high_start.min(header.trie_type.fast_limit());
+    for block in 0..limit.div_ceil(FAST_TYPE_DATA_BLOCK_LENGTH) {
         let Some(offset) = cells.index_cell(block as usize) else {
             return false;
         };
-        if !is_block(header, cells, u32::from(offset), 64, null_block) {
+        if !is_block(
+            header,
+            cells,
+            u32::from(offset),
+            FAST_TYPE_DATA_BLOCK_LENGTH,
+            null_block,
+        ) {
             return false;
         }
     }
     true
 }
 
-/// Whether the blocks of 16 that an index-2 cell names are so. `null_block` tells it of the one at the null
-/// offset.
+/// Whether the blocks of 16 that an index-2 cell names are so. `null_block` tells it of the one at
+/// the null offset.
 fn names_blocks<T: TrieValue, C: Cells<T>>(
     header: &CodePointTrieHeader,
     cells: &mut C,
@@ -102,16 +120,17 @@ fn names_blocks<T: TrieValue, C: Cells<T>>(
     requires null { IsTrue null_block
         ↔ IsNullBlock T.of_number header.now (C.values cells.old) 16 header.now.data_null_offset }
     ensures blocks { IsTrue result
-        ↔ NamesOffsets (C.index cells.old) cell (IsBlock T.of_number header.now (C.values cells.old) 16) }
+        ↔ NamesOffsets (C.index cells.old) cell
+        (IsBlock T.of_number header.now (C.values cells.old) 16) }
     ensures reads { C.reads cells.new ≤ C.reads cells.old + 64 }
     ensures same_index { C.index cells.new ≡ C.index cells.old }
     ensures same_values { C.values cells.new ≡ C.values cells.old }
 {
-    for place in 0..32 {
+    for place in 0..INDEX_3_BLOCK_LENGTH {
         let Some(offset) = offset_of(cells, cell, place) else {
             return false;
         };
-        if !is_block(header, cells, offset, 16, null_block) {
+        if !is_block(header, cells, offset, SMALL_DATA_BLOCK_LENGTH, null_block) {
             return false;
         }
     }
@@ -121,23 +140,25 @@ fn names_blocks<T: TrieValue, C: Cells<T>>(
 /// Whether the blocks of 16 that the null index-2 cell names are null.
 fn is_null_cell<T: TrieValue, C: Cells<T>>(header: &CodePointTrieHeader, cells: &mut C) -> bool
     ensures null { IsTrue result
-        ↔ NamesOffsets (C.index cells.old) header.now.index3_null_offset (IsNullBlock T.of_number header.now (C.values cells.old) 16) }
+        ↔ NamesOffsets (C.index cells.old) header.now.index3_null_offset
+        (IsNullBlock T.of_number header.now (C.values cells.old) 16) }
     ensures reads { C.reads cells.new ≤ C.reads cells.old + 576 }
     ensures same_index { C.index cells.new ≡ C.index cells.old }
     ensures same_values { C.values cells.new ≡ C.values cells.old }
 {
-    for place in 0..32 {
+    for place in 0..INDEX_3_BLOCK_LENGTH {
         let Some(offset) = offset_of(cells, header.index3_null_offset, place) else {
             return false;
         };
-        if !is_null_block(header, cells, offset, 16) {
+        if !is_null_block(header, cells, offset, SMALL_DATA_BLOCK_LENGTH) {
             return false;
         }
     }
     true
 }
 
-/// Whether the blocks that an index-2 cell names are so, and null where it is the null one. `null_block` and
+/// Whether the blocks that an index-2 cell names are so, and null where it is the null one.
+/// `null_block` and
 /// `null_cell` tell whether the block at the null offset, and those of the null cell, are null.
 fn is_cell<T: TrieValue, C: Cells<T>>(
     header: &CodePointTrieHeader,
@@ -149,7 +170,8 @@ fn is_cell<T: TrieValue, C: Cells<T>>(
     requires null_block { IsTrue null_block
         ↔ IsNullBlock T.of_number header.now (C.values cells.old) 16 header.now.data_null_offset }
     requires null_cell { IsTrue null_cell
-        ↔ NamesOffsets (C.index cells.old) header.now.index3_null_offset (IsNullBlock T.of_number header.now (C.values cells.old) 16) }
+        ↔ NamesOffsets (C.index cells.old) header.now.index3_null_offset
+        (IsNullBlock T.of_number header.now (C.values cells.old) 16) }
     ensures blocks { IsTrue result
         ↔ IsCell T.of_number header.now (C.index cells.old) (C.values cells.old) cell }
     ensures reads { C.reads cells.new ≤ C.reads cells.old + 64 }
@@ -172,11 +194,20 @@ fn has_small_blocks<T: TrieValue, C: Cells<T>>(header: &CodePointTrieHeader, cel
     ensures same_index { C.index cells.new ≡ C.index cells.old }
     ensures same_values { C.values cells.new ≡ C.values cells.old }
 {
-    let null_block = is_null_block(header, cells, header.data_null_offset, 16);
+    let null_block = is_null_block(
+        header,
+        cells,
+        header.data_null_offset,
+        SMALL_DATA_BLOCK_LENGTH,
+    );
     let null_cell = is_null_cell(header, cells);
     let mut known = None;
-    for block in fast_limit_of(header.trie_type) / 512..header.high_start.div_ceil(512) {
-        let Some(cell) = index2_cell_of(header.trie_type, cells, block * 512) else {
+    for block in header.trie_type.fast_limit() / CP_PER_INDEX_2_ENTRY..header
+        .high_start
+        .div_ceil(CP_PER_INDEX_2_ENTRY)
+    {
+        let Some(cell) = index2_cell_of(header.trie_type, cells, block * CP_PER_INDEX_2_ENTRY)
+        else {
             return false;
         };
         if known != Some(cell) && !is_cell(header, cells, cell, null_block, null_cell) {
@@ -187,23 +218,29 @@ fn has_small_blocks<T: TrieValue, C: Cells<T>>(header: &CodePointTrieHeader, cel
     true
 }
 
-/// Whether the blocks of 64 below the fast limit from the high start on have the high value throughout.
+/// Whether the blocks of 64 below the fast limit from the high start on have the high value
+/// throughout.
 fn has_high_blocks<T: TrieValue, C: Cells<T>>(
     header: &CodePointTrieHeader,
     cells: &mut C,
     high: T,
 ) -> bool
-    ensures blocks { IsTrue result ↔ AreHighBlocks header.now (C.index cells.old) (C.values cells.old) high }
+    ensures blocks { IsTrue result
+        ↔ AreHighBlocks header.now (C.index cells.old) (C.values cells.old) high }
     ensures reads { C.reads cells.new ≤ C.reads cells.old + 66560 }
     ensures same_index { C.index cells.new ≡ C.index cells.old }
     ensures same_values { C.values cells.new ≡ C.values cells.old }
 {
     let mut known = None;
-    for block in header.high_start.div_ceil(64)..fast_limit_of(header.trie_type) / 64 {
+    for block in header.high_start.div_ceil(FAST_TYPE_DATA_BLOCK_LENGTH)
+        ..header.trie_type.fast_limit() / FAST_TYPE_DATA_BLOCK_LENGTH
+    {
         let Some(offset) = cells.index_cell(block as usize) else {
             return false;
         };
-        if known != Some(offset) && !are_all(cells, u32::from(offset), 64, high) {
+        if known != Some(offset)
+            && !are_all(cells, u32::from(offset), FAST_TYPE_DATA_BLOCK_LENGTH, high)
+        {
             return false;
         }
         known = Some(offset);
@@ -214,15 +251,16 @@ fn has_high_blocks<T: TrieValue, C: Cells<T>>(
 /// Whether there is a high value where one is needed, and the fast index agrees with it.
 fn has_high_value<T: TrieValue, C: Cells<T>>(header: &CodePointTrieHeader, cells: &mut C) -> bool
     requires within { header.now.high_start ≤ 0x110000 }
-    ensures high { IsTrue result ↔ HasHighValue header.now (C.index cells.old) (C.values cells.old) }
+    ensures high { IsTrue result
+        ↔ HasHighValue header.now (C.index cells.old) (C.values cells.old) }
     ensures reads { C.reads cells.new ≤ C.reads cells.old + 66561 }
     ensures same_index { C.index cells.new ≡ C.index cells.old }
     ensures same_values { C.values cells.new ≡ C.values cells.old }
 {
-    if header.high_start == CODE_POINTS {
+    if header.high_start == CODE_POINT_LIMIT {
         return true;
     }
-    let Some(place) = cells.data_len().checked_sub(2) else {
+    let Some(place) = high_cell_of(cells.data_len()) else {
         return false;
     };
     let Some(high) = cells.data_cell(place) else {
@@ -252,11 +290,12 @@ fn has_coherent_blocks<T: TrieValue, C: Cells<T>>(
     has_small_blocks(header, cells)
 }
 
-/// Whether a trie is coherent (UCPTrie): whether what its header says of the high value and of null blocks is
-/// so, and no read for a code point below the high start falls outside index or data.
+/// Whether a trie is coherent (UCPTrie): whether what its header says of the high value and of null
+/// blocks is so, and no read for a code point below the high start falls outside index or data.
 ///
-/// A walk over a coherent trie gives the longest runs of what look-ups answer. No code point is looked up:
-/// each aligned block takes a few reads, and one that is named as the block before it none.
+/// A walk over a coherent trie gives the longest runs of what look-ups answer. No code point is
+/// looked up: each aligned block takes a few reads, and one that is named as the block before it
+/// none.
 pub fn is_coherent<T: TrieValue, C: Cells<T>>(header: &CodePointTrieHeader, cells: &mut C) -> bool
     ensures coherent { IsTrue result
         ↔ IsCoherent T.of_number header.now (C.index cells.old) (C.values cells.old) }
@@ -264,7 +303,7 @@ pub fn is_coherent<T: TrieValue, C: Cells<T>>(header: &CodePointTrieHeader, cell
     ensures same_index { C.index cells.new ≡ C.index cells.old }
     ensures same_values { C.values cells.new ≡ C.values cells.old }
 {
-    if header.high_start % 512 != 0 || header.high_start > CODE_POINTS {
+    if header.high_start % CP_PER_INDEX_2_ENTRY != 0 || header.high_start > CODE_POINT_LIMIT {
         return false;
     }
     has_coherent_blocks(header, cells)

@@ -1,7 +1,13 @@
 //! The header of a trie.
+ghost use Rattle.std.specs.Prelude.{◌≡◌, ℕ, ◌≤◌};
+ghost use Rattle.icu_trie_core.specs.Format.{fast_limit};
+ghost use Rattle.icu_trie_core.specs.FastIndex.{fast_index_len};
 ghost use Rattle.icu_trie_core.specs.TypeNumbers.{GivesType};
 
 use crate::error::CodePointTrieError;
+use crate::impl_const::{
+    BMP_INDEX_LENGTH, FAST_TYPE_FAST_INDEXING_MAX, SMALL_INDEX_LENGTH, SMALL_LIMIT,
+};
 
 /// Which part of the code space the fast index covers.
 #[derive(Clone, Copy, Debug, PartialEq, Eq)]
@@ -12,7 +18,34 @@ pub enum TrieType {
     Small = 1,
 }
 
-/// The type of a number in a file: 0 is `Fast` and 1 `Small`. Any other number is refused by `FromDeserialized`.
+impl TrieType {
+    /// The fast limit: the first code point that the fast index doesn't cover, 0x10000 or 0x1000.
+    #[inline(always)]
+    pub fn fast_limit(self) -> u32
+        ensures limit { result ≡ fast_limit self }
+        ensures low { result ≤ 0x10000 }
+    {
+        match self {
+            TrieType::Fast => FAST_TYPE_FAST_INDEXING_MAX + 1,
+            TrieType::Small => SMALL_LIMIT,
+        }
+    }
+
+    /// How many cells the fast index has, 1,024 or 64: one for each block of 64 below the fast
+    /// limit.
+    #[inline(always)]
+    pub fn fast_index_len(self) -> usize
+        ensures { result ≡ fast_index_len self }
+    {
+        match self {
+            TrieType::Fast => BMP_INDEX_LENGTH as usize,
+            TrieType::Small => SMALL_INDEX_LENGTH as usize,
+        }
+    }
+}
+
+/// The type of a number in a file: 0 is `Fast` and 1 `Small`. Any other number is refused by
+/// `FromDeserialized`.
 impl TryFrom<u8> for TrieType {
     type Error = CodePointTrieError;
 
@@ -32,13 +65,16 @@ impl TryFrom<u8> for TrieType {
 /// What a trie says of itself beside its index and its data (UCPTrie's header).
 #[derive(Clone, Copy, Debug, PartialEq, Eq)]
 pub struct CodePointTrieHeader {
-    /// The code point from which on all code points have the high value. In a built trie a multiple of 512.
+    /// The code point from which on all code points have the high value. In a built trie a multiple
+    /// of 512.
     pub high_start: u32,
     /// `high_start` shifted right by 12, rounded up. It is kept and not read.
     pub shifted12_high_start: u16,
-    /// The index-2 cell of a block of 512 that has the null value throughout, or 0x7fff where there is none.
+    /// The index-2 cell of a block of 512 that has the null value throughout, or 0x7fff where there
+    /// is none.
     pub index3_null_offset: u16,
-    /// The data offset of a block that has the null value throughout, or 0xfffff where there is none.
+    /// The data offset of a block that has the null value throughout, or 0xfffff where there is
+    /// none.
     pub data_null_offset: u32,
     /// The number of the null value, which mostly is the most common value.
     pub null_value: u32,

@@ -1,5 +1,5 @@
-//! The numbers of the format, as UCPTrie names them. Lengths count cells, shifts count bits, limits are
-//! exclusive unless they end in `_MAX`.
+//! The numbers of the format, as UCPTrie names them. Lengths count cells, shifts count bits, limits
+//! are exclusive unless they end in `_MAX`.
 
 /// A code point below the fast limit stands in its block of `1 << FAST_TYPE_SHIFT`.
 pub const FAST_TYPE_SHIFT: i32 = 6;

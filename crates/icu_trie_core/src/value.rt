@@ -9,8 +9,8 @@ use thiserror::Error;
 
 /// A value that a trie can hold: a packed value with a number of 32 bits.
 ///
-/// A type of your own is lawful where the number of each value gives the value back, and where values are
-/// equal exactly if their numbers are.
+/// A type of your own is lawful where the number of each value gives the value back, and where
+/// values are equal exactly if their numbers are.
 pub trait TrieValue: AsULE + Eq {
     /// What a number that is no value's is refused with.
     type TryFromU32Error: Drop;
@@ -34,7 +34,8 @@ pub trait TrieValue: AsULE + Eq {
     ghost number_gives_back: { (x : Self) → Self.is_value x → of_number (number x) ≡ Some x };
 
     /// Values are equal exactly if their numbers are.
-    ghost equal_by_number: { (x y : Self) → Self.is_value x → Self.is_value y → IsTrue (Self.eq x y) ↔ (number x ≡ number y) };
+    ghost equal_by_number: { (x y : Self) → Self.is_value x → Self.is_value y
+        → IsTrue (Self.eq x y) ↔ (number x ≡ number y) };
 }
 
 /// The number is no value's.

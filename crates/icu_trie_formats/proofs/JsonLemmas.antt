@@ -1,6 +1,7 @@
 -- The items of a JSON array, and that what is written of a trie is read back.
 use Rattle.std.proofs.Common.{◌≡◌, ℕ, suc, ◌+◌, ◌<◌, ◌^◌, List, [], ◌∷◌, true, Option, Some, None, Result, Ok, refl, ap, subst, ◌∙◌, map, arith}
-use Rattle.std.proofs.lemmas.Bool.Decides.{nat_tests}
+use Rattle.std.proofs.lemmas.Bool.{lt-ltb}
+use Rattle.std.proofs.lemmas.List.{map-id}
 use Rattle.std.specs.Prelude.{All, nat_lt, codes, option_and_then}
 use Rattle.std.specs.Option.{ok_or}
 use Rattle.serde_json.proofs.OnLiterals.{serde_json_on_literals}
@@ -12,15 +13,13 @@ use Rattle.icu_trie.specs.Parts.{Parts, fault}
 use Rattle.icu_trie_core.specs.declared.header.TrieType.{TrieType}
 use Rattle.icu_trie_core.specs.declared.header.TrieType.TheVariants.{Fast, Small}
 use Rattle.icu_trie_core.specs.declared.header.CodePointTrieHeader.{CodePointTrieHeader}
-use Rattle.icu_trie_formats.specs.FirstFault.{and_then, before, read_from}
-use Rattle.icu_trie_formats.specs.TrieJson.{JsonFault, list_of, number_of, number_or, value_of, values_of, cells_of, no_number, no_value, header_of, header_json, json_of, trie_object, numbers_json, IsGivenBack, unless_fault, trie_with, trie_of_json}
+use Rattle.icu_zerovec.specs.FirstFault.{and_then, before, read_from}
+use Rattle.icu_trie_formats.specs.TrieJson.{JsonFault, list_of, number_of, number_or, value_of, values_of, cells_of, no_number, no_value, header_of, header_json, json_of, trie_object, numbers_json, unless_fault, trie_with, trie_of_json}
+use Rattle.icu_trie_formats.specs.Inside.Numbers.{IsGivenBack}
 
 pub list_of-items_view : (vs : List Value) → list_of (items_view vs) ≡ map view vs
 list_of-items_view [] = refl
 list_of-items_view (v ∷ vs) = ap (λ z. view v ∷ z) (list_of-items_view vs)
-
-below_yes : (a b : ℕ) → a < b → nat_lt a b ≡ true
-below_yes a b h = grind (arith, nat_tests)
 
 -- ---- the header
 fields_read : (kind : TrieType) (a b c d e : ℕ) → nat_lt a (2 ^ 32) ≡ true → nat_lt b (2 ^ 32) ≡ true → nat_lt b (2 ^ 16) ≡ true → nat_lt c (2 ^ 32) ≡ true → nat_lt c (2 ^ 16) ≡ true → nat_lt d (2 ^ 32) ≡ true → nat_lt e (2 ^ 32) ≡ true
@@ -32,20 +31,16 @@ fields_read Small a b c d e ha hb hb' hc hc' hd he = rw (ha, ha, hb, hb', hc, hc
 pub header_read : (h : CodePointTrieHeader) → h.high_start < 2 ^ 32 → h.shifted12_high_start < 2 ^ 16 → h.index3_null_offset < 2 ^ 16 → h.data_null_offset < 2 ^ 32 → h.null_value < 2 ^ 32 → header_of (header_json h) ≡ Ok h
 header_read h a b c d e =
     fields_read h.trie_type h.high_start h.shifted12_high_start h.index3_null_offset h.data_null_offset h.null_value
-    (below_yes h.high_start (2 ^ 32) a) (below_yes h.shifted12_high_start (2 ^ 32) (omega arith)) (below_yes h.shifted12_high_start (2 ^ 16) b)
-    (below_yes h.index3_null_offset (2 ^ 32) (omega arith)) (below_yes h.index3_null_offset (2 ^ 16) c) (below_yes h.data_null_offset (2 ^ 32) d) (below_yes h.null_value (2 ^ 32) e)
+    (lt-ltb h.high_start (2 ^ 32) a) (lt-ltb h.shifted12_high_start (2 ^ 32) (omega arith)) (lt-ltb h.shifted12_high_start (2 ^ 16) b)
+    (lt-ltb h.index3_null_offset (2 ^ 32) (omega arith)) (lt-ltb h.index3_null_offset (2 ^ 16) c) (lt-ltb h.data_null_offset (2 ^ 32) d) (lt-ltb h.null_value (2 ^ 32) e)
 
 -- ---- the arrays
 list_back : (ds : List Data) → list_of (items_of ds) ≡ ds
 list_back [] = refl
 list_back (d ∷ ds) = ap (λ z. d ∷ z) (list_back ds)
 
-pub map_same : (ns : List ℕ) → map (λ n. n) ns ≡ ns
-map_same [] = refl
-map_same (n ∷ ns) = ap (λ z. n ∷ z) (map_same ns)
-
 number_read : (n : ℕ) → n < 2 ^ 32 → number_of (number (unsigned n)) ≡ Some n
-number_read n h = rw (below_yes n (2 ^ 32) h)
+number_read n h = rw (lt-ltb n (2 ^ 32) h)
 
 value_read : {T : Type 0} (num : T → ℕ) (range : ℕ → Option T) (i : ℕ) (x : T) → IsGivenBack num range x → value_of range i (number (unsigned (num x))) ≡ Ok x
 value_read num range i x h =
@@ -72,7 +67,7 @@ cells_from i (n ∷ ns) h =
     ∙ ap (before (Ok n)) (cells_from (i + 1) ns (λ k d lt. h (suc k) d (omega arith)))
 
 -- ---- the trie
--- the steps behind the shapes
+-- the steps after the shapes
 abbrev steps : {T : Type 0} → (ℕ → Option T) → Result CodePointTrieHeader JsonFault → List Data → List Data → Result (Parts T) JsonFault
 steps range h index values = and_then h (λ h. and_then (cells_of index) (λ index. and_then (values_of range values) (λ values. trie_with range h index values)))
 
@@ -96,7 +91,7 @@ json_read num range t h index values none =
 pub written : {T : Type 0} (num : T → ℕ) (t : Parts T) (v h i d : Data) (header : CodePointTrieHeader) (index : List ℕ) (values : List T) → header ≡ t.header → index ≡ t.index → values ≡ t.values
     → v ≡ trie_object h i d → h ≡ header_json header → i ≡ numbers_json (map (λ n. n) index) → d ≡ numbers_json (map num values) → v ≡ json_of num t
 written num t v h i d header index values eh ei ev whole hj ij dj =
-    whole ∙ ap (λ z. trie_object z i d) (hj ∙ ap header_json eh) ∙ ap (λ z. trie_object (header_json t.header) z d) (ij ∙ ap numbers_json (map_same index ∙ ei))
+    whole ∙ ap (λ z. trie_object z i d) (hj ∙ ap header_json eh) ∙ ap (λ z. trie_object (header_json t.header) z d) (ij ∙ ap numbers_json (map-id index ∙ ei))
     ∙ ap (λ z. trie_object (header_json t.header) (numbers_json t.index) z) (dj ∙ ap (λ z. numbers_json (map num z)) ev)
 
 pub written_is_read : {T : Type 0} (num : T → ℕ) (range : ℕ → Option T) (t : Parts T) (v : Data) (header : CodePointTrieHeader) (index : List ℕ) (values : List T) → header ≡ t.header → index ≡ t.index → values ≡ t.values

@@ -1,4 +1,3 @@
-mod FirstFaultLemmas
 mod JsonLemmas
 mod PlanesLemmas
 mod TomlLemmas

@@ -2,7 +2,7 @@
 use Rattle.std.proofs.Common.{◌≡◌, ℕ, List, [], ◌∷◌, Option, Result, Ok, Err, IfOk, IfErr, refl, sym, ap, subst, ◌∙◌, map}
 use Rattle.toml.specs.View.{view, items_view}
 use Rattle.toml.specs.declared.value.Value.{Value}
-use Rattle.icu_trie_formats.specs.FirstFault.{and_then}
+use Rattle.icu_zerovec.specs.FirstFault.{and_then}
 use Rattle.icu_trie_formats.specs.TrieToml.{list_of, TrieFault, TomlParts, GivesHeader, header_with, type_of, typed_data, trie_with, trie_of, IsRefusedTrie, GivesTrie}
 use Rattle.icu_trie_formats.specs.declared.trie_toml.TrieFromTomlError.{TrieFromTomlError}
 use Rattle.icu_trie.specs.Parts.{Parts}

@@ -1,4 +1,4 @@
-pub mod FirstFault
 pub mod Planes
 pub mod TrieJson
 pub mod TrieToml
+pub mod Inside

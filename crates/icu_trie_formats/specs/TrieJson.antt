@@ -1,5 +1,5 @@
 -- A trie in JSON: an object with a header, an index and data.
-use Rattle.std.specs.Prelude.{◌≡◌, ℕ, ◌<◌, ◌^◌, List, [], ◌∷◌, codes, map, Option, Some, None, is_some, bytes_eq, option_map, Result, Ok, Err, nat_lt, if◌then◌else◌, option_and_then}
+use Rattle.std.specs.Prelude.{◌≡◌, ℕ, ◌^◌, List, [], ◌∷◌, codes, map, Option, Some, None, is_some, bytes_eq, option_map, Result, Ok, Err, nat_lt, if◌then◌else◌, option_and_then}
 use Rattle.std.specs.Option.{ok_or}
 use Rattle.serde_json.specs.Data.{Data, object, array, number, string, unsigned, Items, no_items, item, no_members, member}
 use Rattle.serde_json.specs.Find.{get, as_object, as_array, as_number, as_str, as_u64}
@@ -10,13 +10,13 @@ use Rattle.icu_trie_core.specs.declared.header.TrieType.{TrieType}
 use Rattle.icu_trie_core.specs.declared.header.TrieType.TheVariants.{Fast, Small}
 use Rattle.icu_trie_core.specs.declared.header.CodePointTrieHeader.{CodePointTrieHeader}
 use Rattle.icu_trie_core.specs.declared.error.CodePointTrieError.{CodePointTrieError}
-use Rattle.icu_trie_formats.specs.FirstFault.{and_then, read_from}
+use Rattle.icu_zerovec.specs.FirstFault.{and_then, read_from}
 use Rattle.icu_trie_formats.specs.declared.json.TrieJsonError.{TrieJsonError}
 use Rattle.icu_trie_formats.specs.declared.json.TrieJsonError.TheVariants.{Shape, Number, Value, Trie, Memory}
 
 -- ---- what a value says
--- the fault of a value: nothing, or something of another kind, stands at the key; a number there is none of
--- its range; a cell of the data is the number of no value; the parts make no trie
+-- the fault of a value: nothing, or something of another kind, stands at the key; a number there is
+-- none of its range; a cell of the data is the number of no value; the parts make no trie
 pub data JsonFault : Type 0 where
   shape : List ℕ → JsonFault
   no_number : List ℕ → JsonFault
@@ -48,26 +48,39 @@ number_at range key d = and_then (member_at key d) (number_or range key)
 
 -- the type of a name
 abbrev pub type_named : List ℕ → Option TrieType
-type_named name = if bytes_eq name (codes "Fast") then Some Fast else (if bytes_eq name (codes "Small") then Some Small else None)
+type_named name =
+    if bytes_eq name (codes "Fast") then Some Fast
+    else (if bytes_eq name (codes "Small") then Some Small else None)
 
 -- the type at its key
 abbrev pub type_at : Data → Result TrieType JsonFault
-type_at d = and_then (member_at (codes "trie_type") d) (λ t. ok_or (option_and_then type_named (as_str t)) (shape (codes "trie_type")))
+type_at d =
+    and_then (member_at (codes "trie_type") d) (λ t.
+    ok_or (option_and_then type_named (as_str t)) (shape (codes "trie_type")))
 
 -- the header that an object says, or its first fault
 abbrev pub header_of : Data → Result CodePointTrieHeader JsonFault
 header_of d =
     and_then (number_at (fitting (2 ^ 32)) (codes "high_start") d) (λ high_start.
-    and_then (number_at (fitting (2 ^ 16)) (codes "shifted12_high_start") d) (λ shifted12_high_start.
+    and_then (number_at (fitting (2 ^ 16)) (codes "shifted12_high_start") d)
+    (λ shifted12_high_start.
     and_then (number_at (fitting (2 ^ 16)) (codes "index3_null_offset") d) (λ index3_null_offset.
     and_then (number_at (fitting (2 ^ 32)) (codes "data_null_offset") d) (λ data_null_offset.
     and_then (number_at (fitting (2 ^ 32)) (codes "null_value") d) (λ null_value.
     and_then (type_at d) (λ trie_type.
-    Ok (record { high_start = high_start; shifted12_high_start = shifted12_high_start; index3_null_offset = index3_null_offset; data_null_offset = data_null_offset; null_value = null_value; trie_type = trie_type })))))))
+    Ok (record {
+      high_start = high_start;
+      shifted12_high_start = shifted12_high_start;
+      index3_null_offset = index3_null_offset;
+      data_null_offset = data_null_offset;
+      null_value = null_value;
+      trie_type = trie_type;
+    })))))))
 
 -- the header at its key
 abbrev pub header_at : Data → Result CodePointTrieHeader JsonFault
-header_at d = and_then (member_at (codes "header") d) (λ h. and_then (object_or (codes "header") h) header_of)
+header_at d = and_then (member_at (codes "header") d)
+    (λ h. and_then (object_or (codes "header") h) header_of)
 
 -- items as a list
 abbrev pub list_of : Items → List Data
@@ -88,21 +101,28 @@ cells_of items = read_from (λ _ d. number_or (fitting (2 ^ 16)) (codes "index")
 
 -- the value that cell i of the data is
 abbrev pub value_of : {T : Type 0} → (ℕ → Option T) → ℕ → Data → Result T JsonFault
-value_of of_number i d = and_then (ok_or (number_of d) (no_number (codes "data"))) (λ n. ok_or (of_number n) (no_value i))
+value_of of_number i d =
+    and_then (ok_or (number_of d) (no_number (codes "data")))
+    (λ n. ok_or (of_number n) (no_value i))
 
 -- the values of the data
 abbrev pub values_of : {T : Type 0} → (ℕ → Option T) → List Data → Result (List T) JsonFault
 values_of of_number items = read_from (value_of of_number) 0 items
 
 -- the parts, unless they have a fault
-abbrev pub unless_fault : {T : Type 0} → Option CodePointTrieError → Parts T → Result (Parts T) JsonFault
+abbrev pub unless_fault : {T : Type 0} → Option CodePointTrieError → Parts T
+    → Result (Parts T) JsonFault
 unless_fault None parts = Ok parts
 unless_fault (Some e) parts = Err (of_parts e)
 
-abbrev pub trie_with : {T : Type 0} → (ℕ → Option T) → CodePointTrieHeader → List ℕ → List T → Result (Parts T) JsonFault
-trie_with of_number h index values = unless_fault (fault of_number h index values) (record { header = h; index = index; values = values })
+abbrev pub trie_with : {T : Type 0} → (ℕ → Option T) → CodePointTrieHeader → List ℕ → List T
+    → Result (Parts T) JsonFault
+trie_with of_number h index values =
+    unless_fault (fault of_number h index values)
+    (record { header = h; index = index; values = values })
 
--- the trie that an object says, or its first fault: of the header, of the index, of the data, of the parts
+-- the trie that an object says, or its first fault: of the header, of the index, of the data, of
+-- the parts
 abbrev pub trie_in : {T : Type 0} → (ℕ → Option T) → Data → Result (Parts T) JsonFault
 trie_in of_number d =
     and_then (header_at d) (λ h.
@@ -141,14 +161,14 @@ header_json h = object (member (codes "data_null_offset") (number (unsigned h.da
 abbrev pub numbers_json : List ℕ → Data
 numbers_json ns = array (items_of (map (λ n. number (unsigned n)) ns))
 
--- the number of a value has 32 bits and gives the value back
-abbrev pub IsGivenBack : {T : Type 0} → (T → ℕ) → (ℕ → Option T) → T → Type 0
-IsGivenBack number_of_value of_number x = (number_of_value x < 2 ^ 32) × (of_number (number_of_value x) ≡ Some x)
-
 -- the object of a header, an index and data. The keys of an object ascend
 abbrev pub trie_object : Data → Data → Data → Data
-trie_object header index values = object (member (codes "data") values (member (codes "header") header (member (codes "index") index no_members)))
+trie_object header index values =
+    object (member (codes "data") values
+    (member (codes "header") header (member (codes "index") index no_members)))
 
 -- a trie as JSON, where number_of_value gives the number of a value
 abbrev pub json_of : {T : Type 0} → (T → ℕ) → Parts T → Data
-json_of number_of_value t = trie_object (header_json t.header) (numbers_json t.index) (numbers_json (map number_of_value t.values))
+json_of number_of_value t =
+    trie_object (header_json t.header) (numbers_json t.index)
+    (numbers_json (map number_of_value t.values))

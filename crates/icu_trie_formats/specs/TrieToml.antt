@@ -10,7 +10,7 @@ use Rattle.icu_trie_core.specs.declared.header.TrieType.TheVariants.{Fast, Small
 use Rattle.icu_trie_core.specs.declared.header.CodePointTrieHeader.{CodePointTrieHeader}
 use Rattle.icu_trie_core.specs.declared.error.CodePointTrieError.{CodePointTrieError}
 use Rattle.icu_trie_core.specs.declared.error.CodePointTrieError.TheVariants.{FromDeserialized}
-use Rattle.icu_trie_formats.specs.FirstFault.{and_then, read_from}
+use Rattle.icu_zerovec.specs.FirstFault.{and_then, read_from}
 use Rattle.icu_trie_formats.specs.declared.trie_toml.TomlError.{TomlError}
 use Rattle.icu_trie_formats.specs.declared.trie_toml.TomlError.TheVariants.{Missing, OutOfRange, Memory}
 use Rattle.icu_trie_formats.specs.declared.trie_toml.TomlFields.{TomlFields}
@@ -20,8 +20,8 @@ use Rattle.icu_trie_formats.specs.declared.trie_toml.CodePointDataSlice.{CodePoi
 use Rattle.icu_trie_formats.specs.declared.trie_toml.CodePointDataSlice.TheVariants.{U8, U16, U32}
 
 -- ---- what a table says
--- the fault of a table: nothing stands at a needed key, or what stands at the key is of another kind or out
--- of its range
+-- the fault of a table: nothing stands at a needed key, or what stands at the key is of another
+-- kind or out of its range
 pub data TomlFault : Type 0 where
   missing : List ℕ → TomlFault
   out_of_range : List ℕ → TomlFault
@@ -48,7 +48,8 @@ abbrev pub number_or : {T : Type 0} → (ℕ → Option T) → List ℕ → Data
 number_or range key d = ok_or (number_of range d) (out_of_range key)
 
 -- the numbers of the items of the array at the key
-abbrev pub numbers_of : {T : Type 0} → (ℕ → Option T) → List ℕ → List Data → Result (List T) TomlFault
+abbrev pub numbers_of : {T : Type 0} → (ℕ → Option T) → List ℕ → List Data
+    → Result (List T) TomlFault
 numbers_of range key items = read_from (λ _ d. number_or range key d) 0 items
 
 -- items as a list
@@ -62,35 +63,48 @@ items_in d = option_map list_of (as_array d)
 
 -- the number at a needed key
 abbrev pub number_at : {T : Type 0} → (ℕ → Option T) → List ℕ → Members → Result T TomlFault
-number_at range key table = and_then (ok_or (get_member key table) (missing key)) (number_or range key)
+number_at range key table =
+    and_then (ok_or (get_member key table) (missing key)) (number_or range key)
 
 -- the numbers of an array
 abbrev pub numbers_in : {T : Type 0} → (ℕ → Option T) → List ℕ → Data → Result (List T) TomlFault
 numbers_in range key d = and_then (ok_or (items_in d) (out_of_range key)) (numbers_of range key)
 
 -- the numbers of the array at a key, if anything stands there
-abbrev pub numbers_if : {T : Type 0} → (ℕ → Option T) → List ℕ → Option Data → Result (Option (List T)) TomlFault
+abbrev pub numbers_if : {T : Type 0} → (ℕ → Option T) → List ℕ → Option Data
+    → Result (Option (List T)) TomlFault
 numbers_if range key None = Ok None
 numbers_if range key (Some d) = and_then (numbers_in range key d) (λ ns. Ok (Some ns))
 
-abbrev pub optional_numbers_at : {T : Type 0} → (ℕ → Option T) → List ℕ → Members → Result (Option (List T)) TomlFault
+abbrev pub optional_numbers_at : {T : Type 0} → (ℕ → Option T) → List ℕ → Members
+    → Result (Option (List T)) TomlFault
 optional_numbers_at range key table = numbers_if range key (get_member key table)
 
 -- the numbers of the array at a needed key
 abbrev pub numbers_at : {T : Type 0} → (ℕ → Option T) → List ℕ → Members → Result (List T) TomlFault
-numbers_at range key table = and_then (optional_numbers_at range key table) (λ o. ok_or o (missing key))
+numbers_at range key table =
+    and_then (optional_numbers_at range key table) (λ o. ok_or o (missing key))
 
 -- the numbers beside the arrays, or the first fault in the order of the keys
 abbrev pub fields_of : Members → Result TomlFields TomlFault
 fields_of table =
     and_then (number_at (fitting (2 ^ 32)) (codes "highStart") table) (λ high_start.
-    and_then (number_at (fitting (2 ^ 16)) (codes "shifted12HighStart") table) (λ shifted12_high_start.
+    and_then (number_at (fitting (2 ^ 16)) (codes "shifted12HighStart") table)
+    (λ shifted12_high_start.
     and_then (number_at (fitting (2 ^ 8)) (codes "type") table) (λ trie_type.
     and_then (number_at (fitting (2 ^ 8)) (codes "valueWidth") table) (λ value_width.
     and_then (number_at (fitting (2 ^ 16)) (codes "index3NullOffset") table) (λ index3_null_offset.
     and_then (number_at (fitting (2 ^ 32)) (codes "dataNullOffset") table) (λ data_null_offset.
     and_then (number_at (fitting (2 ^ 32)) (codes "nullValue") table) (λ null_value.
-    Ok (record { high_start = high_start; shifted12_high_start = shifted12_high_start; trie_type = trie_type; value_width = value_width; index3_null_offset = index3_null_offset; data_null_offset = data_null_offset; null_value = null_value }))))))))
+    Ok (record {
+      high_start = high_start;
+      shifted12_high_start = shifted12_high_start;
+      trie_type = trie_type;
+      value_width = value_width;
+      index3_null_offset = index3_null_offset;
+      data_null_offset = data_null_offset;
+      null_value = null_value;
+    }))))))))
 
 -- what a table says, or its first fault in the order of the keys
 abbrev pub toml_of : Members → Result TomlParts TomlFault
@@ -100,7 +114,14 @@ toml_of table =
     and_then (optional_numbers_at (fitting (2 ^ 16)) (codes "data_16") table) (λ data_16.
     and_then (optional_numbers_at (fitting (2 ^ 32)) (codes "data_32") table) (λ data_32.
     and_then (fields_of table) (λ fields.
-    Ok (record { index = index; data_8 = data_8; data_16 = data_16; data_32 = data_32; fields = fields }))))))
+    Ok (record {
+      index = index;
+      data_8 = data_8;
+      data_16 = data_16;
+      data_32 = data_32;
+      fields =
+          fields;
+    }))))))
 
 -- the refusal names the first fault. Want of memory may come in place of any answer
 abbrev pub IsRefused : {A : Type 0} → Result A TomlFault → TomlError → Type 0
@@ -114,16 +135,26 @@ abbrev pub GivesData : TomlParts → Result CodePointDataSlice CodePointTrieErro
 GivesData t (Ok (U8 cells)) = t.data_8 ≡ Some cells.now
 GivesData t (Ok (U16 cells)) = (t.data_8 ≡ None) × (t.data_16 ≡ Some cells.now)
 GivesData t (Ok (U32 cells)) = (t.data_8 ≡ None) × (t.data_16 ≡ None) × (t.data_32 ≡ Some cells.now)
-GivesData t (Err (FromDeserialized reason)) = (t.data_8 ≡ None) × (t.data_16 ≡ None) × (t.data_32 ≡ None) × (reason.now ≡ codes "Did not find data array for CodePointTrie in TOML")
+GivesData t (Err (FromDeserialized reason)) =
+    (t.data_8 ≡ None) × (t.data_16 ≡ None) × (t.data_32 ≡ None)
+    × (reason.now ≡ codes "Did not find data array for CodePointTrie in TOML")
 GivesData t (Err _) = ⊥
 
 -- the header of these fields, of this type
 abbrev pub header_with : TomlFields → TrieType → CodePointTrieHeader
-header_with f kind = record { high_start = f.high_start; shifted12_high_start = f.shifted12_high_start; index3_null_offset = f.index3_null_offset; data_null_offset = f.data_null_offset; null_value = f.null_value; trie_type = kind }
+header_with f kind = record {
+  high_start = f.high_start;
+  shifted12_high_start = f.shifted12_high_start;
+  index3_null_offset = f.index3_null_offset;
+  data_null_offset = f.data_null_offset;
+  null_value = f.null_value;
+  trie_type = kind;
+}
 
 -- the header has the fields of the table, and the type of its number; another number is refused
 abbrev pub GivesHeader : TomlParts → Result CodePointTrieHeader CodePointTrieError → Type 0
-GivesHeader t (Ok h) = (h ≡ header_with t.fields h.trie_type) × (t.fields.trie_type ≡ type_number h.trie_type)
+GivesHeader t (Ok h) =
+    (h ≡ header_with t.fields h.trie_type) × (t.fields.trie_type ≡ type_number h.trie_type)
 GivesHeader t (Err e) = GivesType t.fields.trie_type (Err e)
 
 -- why what a table holds is no trie: by what is said of the table, or as the parts of a trie
@@ -133,15 +164,20 @@ pub data TrieFault : Type 0 where
 
 -- the type of a number
 abbrev pub type_of : ℕ → Result TrieType TrieFault
-type_of n = if nat_lt n 1 then Ok Fast else (if nat_lt n 2 then Ok Small else Err (unread (codes "Cannot parse value for trie_type")))
+type_of n =
+    if nat_lt n 1 then Ok Fast
+    else (if nat_lt n 2 then Ok Small else Err (unread (codes "Cannot parse value for trie_type")))
 
 -- the data of a table
 abbrev pub data_of : TomlParts → Result (List ℕ) TrieFault
-data_of t = ok_or (option_or t.data_8 (option_or t.data_16 t.data_32)) (unread (codes "Did not find data array for CodePointTrie in TOML"))
+data_of t =
+    ok_or (option_or t.data_8 (option_or t.data_16 t.data_32))
+    (unread (codes "Did not find data array for CodePointTrie in TOML"))
 
 -- the values of numbers
 abbrev pub value_of : {T : Type 0} → (ℕ → Option T) → ℕ → Result T TrieFault
-value_of of_number n = ok_or (of_number n) (unread (codes "Could not parse data array to typed array"))
+value_of of_number n =
+    ok_or (of_number n) (unread (codes "Could not parse data array to typed array"))
 
 abbrev pub values_of : {T : Type 0} → (ℕ → Option T) → List ℕ → Result (List T) TrieFault
 values_of of_number ns = read_from (λ _ n. value_of of_number n) 0 ns
@@ -151,15 +187,20 @@ abbrev pub typed_data : {T : Type 0} → (ℕ → Option T) → TomlParts → Re
 typed_data of_number t = and_then (data_of t) (values_of of_number)
 
 -- the parts, unless they have a fault
-abbrev pub unless_fault : {T : Type 0} → Option CodePointTrieError → Parts T → Result (Parts T) TrieFault
+abbrev pub unless_fault : {T : Type 0} → Option CodePointTrieError → Parts T
+    → Result (Parts T) TrieFault
 unless_fault None parts = Ok parts
 unless_fault (Some e) parts = Err (of_parts e)
 
 -- the trie of these parts, or their first fault
-abbrev pub trie_with : {T : Type 0} → (ℕ → Option T) → CodePointTrieHeader → List ℕ → List T → Result (Parts T) TrieFault
-trie_with of_number h index values = unless_fault (fault of_number h index values) (record { header = h; index = index; values = values })
+abbrev pub trie_with : {T : Type 0} → (ℕ → Option T) → CodePointTrieHeader → List ℕ → List T
+    → Result (Parts T) TrieFault
+trie_with of_number h index values =
+    unless_fault (fault of_number h index values)
+    (record { header = h; index = index; values = values })
 
--- the trie that a table says, or the first fault: of its type, of its data, of a value, of the parts
+-- the trie that a table says, or the first fault: of its type, of its data, of a value, of the
+-- parts
 abbrev pub trie_of : {T : Type 0} → (ℕ → Option T) → TomlParts → Result (Parts T) TrieFault
 trie_of of_number t =
     and_then (type_of t.fields.trie_type) (λ kind.
@@ -173,6 +214,7 @@ IsRefusedTrie r (refusals.Trie e) = r ≡ Err (of_parts e)
 IsRefusedTrie r refusals.Memory = Unit {0}
 
 -- what the conversion gives
-abbrev pub GivesTrie : {T : Type 0} → (ℕ → Option T) → TomlParts → Result (Parts T) TrieFromTomlError → Type 0
+abbrev pub GivesTrie : {T : Type 0} → (ℕ → Option T) → TomlParts
+    → Result (Parts T) TrieFromTomlError → Type 0
 GivesTrie of_number t (Ok trie) = trie_of of_number t ≡ Ok trie
 GivesTrie of_number t (Err e) = IsRefusedTrie (trie_of of_number t) e

@@ -2,13 +2,14 @@
 ghost use Rattle.std.specs.Prelude.{◌≡◌, Ok, None, IfOk, IfErr, All, map, option_map};
 ghost use Rattle.icu_zerovec.specs.Slice.{slice_values};
 ghost use Rattle.serde_json.specs.View.{view};
-ghost use Rattle.icu_trie_formats.specs.TrieJson.{number_of, number_at, member_at, object_or, type_at, header_of, header_at, items_in, items_at, cells_of, values_of, trie_with, trie_of_json, IsRefusedJson, IsGivenBack, type_name, header_json, numbers_json, trie_object, json_of};
+ghost use Rattle.icu_trie_formats.specs.TrieJson.{number_of, number_at, member_at, object_or, type_at, header_of, header_at, items_in, items_at, cells_of, values_of, trie_with, trie_of_json, IsRefusedJson, type_name, header_json, numbers_json, trie_object, json_of};
+ghost use Rattle.icu_trie_formats.specs.Inside.Numbers.{IsGivenBack};
 
 use icu_trie::cptrie::CodePointTrie;
-use icu_trie::error::CodePointTrieError;
+use icu_trie::error::{CodePointTrieError, PartsError};
 use icu_trie::header::{CodePointTrieHeader, TrieType};
 use icu_trie::value::TrieValue;
-use icu_zerovec::{MemoryError, ZeroSlice, ZeroVec};
+use icu_zerovec::{MemoryError, ZeroSlice};
 use serde_json::{Value, json};
 use std::alloc::Global;
 use thiserror::Error;
@@ -16,8 +17,8 @@ use thiserror::Error;
 /// Why a JSON value is no trie.
 #[derive(Clone, Copy, Debug, PartialEq, Error)]
 pub enum TrieJsonError {
-    /// Nothing stands at this key, or something else where an object, an array or the name of a trie type was to
-    /// stand. The key is empty where the value itself is no object.
+    /// Nothing stands at this key, or something else where an object, an array or the name of a
+    /// trie type was to stand. The key is empty where the value itself is no object.
     #[error("no value of the right kind at the key `{0}`")]
     Shape(&'static str),
     /// What stands at this key, or an item of the array there, is no whole number in its range.
@@ -205,16 +206,19 @@ fn trie_with<T: TrieValue>(
     ensures ok { IfOk result (λ t. trie_with T.of_number header index.now values.now ≡ Ok t) }
     ensures err { IfErr result (IsRefusedJson (trie_with T.of_number header index.now values.now)) }
 {
-    let index = ZeroVec::alloc_from_slice(alloc, index)?;
-    let data = ZeroVec::alloc_from_slice(alloc, values)?;
-    let trie = CodePointTrie::try_new(header, index, data)?;
-    Ok(trie)
+    match CodePointTrie::alloc_from_slices(alloc, header, index, values) {
+        Ok(trie) => Ok(trie),
+        Err(PartsError::Trie(error)) => Err(TrieJsonError::Trie(error)),
+        Err(PartsError::Memory) => Err(TrieJsonError::Memory),
+    }
 }
 
 /// The numbers of these values as JSON.
 fn numbers_json<T: TrieValue>(alloc: Global, values: ZeroSlice<'_, T>) -> Result<Value, MemoryError>
-    ensures json { IfOk result (λ v. view v ≡ numbers_json (map T.number (slice_values values.entry))) }
-    ensures back { IfOk result (λ _. All (IsGivenBack T.number T.of_number) (slice_values values.entry)) }
+    ensures json { IfOk result
+        (λ v. view v ≡ numbers_json (map T.number (slice_values values.entry))) }
+    ensures back { IfOk result
+        (λ _. All (IsGivenBack T.number T.of_number) (slice_values values.entry)) }
 {
     let mut items = Vec::with_capacity(alloc, values.len())?;
     for value in values.iter() {
@@ -259,10 +263,12 @@ fn object_of(alloc: Global, header: Value, index: Value, data: Value) -> Result<
 
 /// The trie that a JSON value says: an object with a header, an index and data.
 ///
-/// `header` is an object with the whole numbers `high_start`, `data_null_offset` and `null_value` (32 bits),
-/// `shifted12_high_start` and `index3_null_offset` (16 bits), and `trie_type`, the string `Fast` or `Small`.
-/// `index` is an array of whole numbers up to 65535, and `data` one of the numbers of the values. Other keys
-/// are ignored.
+/// `header` is an object with the whole numbers `high_start`, `data_null_offset` and `null_value`
+/// (32 bits),
+/// `shifted12_high_start` and `index3_null_offset` (16 bits), and `trie_type`, the string `Fast` or
+/// `Small`.
+/// `index` is an array of whole numbers up to 65535, and `data` one of the numbers of the values.
+/// Other keys are ignored.
 ///
 /// ```
 /// let value = to_json(alloc, &get_planes_trie())?;
@@ -271,13 +277,16 @@ fn object_of(alloc: Global, header: Value, index: Value, data: Value) -> Result<
 /// ```
 ///
 /// # Errors
-/// The first fault in this order: `Shape("")` where the value is no object; those of the header, whose keys
-/// are tested as `high_start`, `shifted12_high_start`, `index3_null_offset`, `data_null_offset`,
-/// `null_value`, `trie_type`; those of the index, and of the data, cell by cell. `Shape` with the key where
-/// nothing stands there, or something else where an object, an array or the name of a trie type was to stand;
-/// `Number` with the key where a number, or an item of the array there, is no whole number in its range; `Value`
-/// with the cell of the data that is the number of no value. Then `Trie` where `CodePointTrie::try_new` refuses the parts. `Memory` where no memory
-/// was found.
+/// The first fault in this order: `Shape("")` where the value is no object; those of the header,
+/// whose keys are tested as `high_start`, `shifted12_high_start`, `index3_null_offset`,
+/// `data_null_offset`,
+/// `null_value`, `trie_type`; those of the index, and of the data, cell by cell. `Shape` with the
+/// key where nothing stands there, or something else where an object, an array or the name of a
+/// trie type was to stand;
+/// `Number` with the key where a number, or an item of the array there, is no whole number in its
+/// range;
+/// `Value` with the cell of the data that is the number of no value. Then `Trie` where
+/// `CodePointTrie::try_new` refuses the parts. `Memory` where no memory was found.
 pub fn from_json<T: TrieValue>(
     alloc: Global,
     value: &Value,
@@ -295,7 +304,13 @@ pub fn from_json<T: TrieValue>(
     Ok(trie)
 }
 
-/// The trie as a JSON value, as [`from_json`] reads it: an object with the keys `header`, `index` and `data`.
+/// The trie as a JSON value, as [`from_json`] reads it: an object with the keys `header`, `index`
+/// and `data`.
+///
+/// ```
+/// let value = to_json(alloc, &get_planes_trie())?;
+/// // value["header"]["trie_type"] is "Small"
+/// ```
 ///
 /// # Errors
 /// `MemoryError` where no memory was found.

@@ -1,7 +1,7 @@
 //! Tries as JSON and as TOML, and the trie of the planes.
 //!
-//! A program that only looks up needs none of this, so it stands in a crate of its own, above `icu_trie`, and
-//! uses its public calls alone.
+//! A program that only looks up needs none of this, so it stands in a crate of its own, above
+//! `icu_trie`, and uses its public calls alone.
 //!
 //! - `json`: tries from and to JSON
 //! - `planes`: the trie that maps each code point to the number of its plane

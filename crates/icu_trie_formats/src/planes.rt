@@ -29,7 +29,8 @@ fn data_cells() -> ZeroVec<'static, u8>
     }
 }
 
-/// The trie that maps each code point to the number of its plane, 0 to 16, and numbers above 0x10FFFF to 0.
+/// The trie that maps each code point to the number of its plane, 0 to 16, and numbers above
+/// 0x10FFFF to 0.
 ///
 /// It borrows its cells from the program: making it takes no memory.
 ///

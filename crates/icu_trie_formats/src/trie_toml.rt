@@ -1,15 +1,15 @@
-//! A trie from TOML, as ICU4C exports it: a table with the header, the index, and the data in one of three
-//! widths.
+//! A trie from TOML, as ICU4C exports it: a table with the header, the index, and the data in one
+//! of three widths.
 ghost use Rattle.std.specs.Prelude.{◌≡◌, Ok, IfOk, IfErr, map, option_map};
 ghost use Rattle.toml.specs.Data.{get_member};
 ghost use Rattle.toml.specs.View.{view, table_view};
 ghost use Rattle.icu_trie_formats.specs.TrieToml.{number_of, items_in, numbers_of, number_at, numbers_at, optional_numbers_at, toml_of, IsRefused, GivesData, GivesHeader, fields_of, values_of, typed_data, trie_with, IsRefusedTrie, GivesTrie};
 
 use icu_trie::cptrie::CodePointTrie;
-use icu_trie::error::CodePointTrieError;
+use icu_trie::error::{CodePointTrieError, PartsError};
 use icu_trie::header::{CodePointTrieHeader, TrieType};
 use icu_trie::value::TrieValue;
-use icu_zerovec::{MemoryError, ZeroVec};
+use icu_zerovec::MemoryError;
 use std::alloc::{AllocError, Global};
 use std::marker::Model;
 use thiserror::Error;
@@ -21,7 +21,8 @@ pub enum TomlError {
     /// Nothing stands at this key, which is needed.
     #[error("no value at the key `{0}`")]
     Missing(&'static str),
-    /// The value at this key, or an item of the array there, is of another kind or out of its range.
+    /// The value at this key, or an item of the array there, is of another kind or out of its
+    /// range.
     #[error("the value at the key `{0}` is of another kind or out of its range")]
     OutOfRange(&'static str),
     /// No memory was found.
@@ -155,7 +156,8 @@ fn numbers_of_items<N: TrieValue>(
     items: &[Value],
     key: &'static str,
 ) -> Result<Vec<N>, TomlError>
-    ensures ok { IfOk result (λ v. numbers_of N.of_number key.now (map view items.now) ≡ Ok v.items) }
+    ensures ok { IfOk result
+        (λ v. numbers_of N.of_number key.now (map view items.now) ≡ Ok v.items) }
     ensures err { IfErr result (IsRefused (numbers_of N.of_number key.now (map view items.now))) }
 {
     let Ok(mut numbers) = Vec::with_capacity(alloc, items.len()) else {
@@ -179,8 +181,10 @@ fn optional_numbers_at<N: TrieValue>(
     key: &'static str,
 ) -> Result<Option<Vec<N>>, TomlError>
     ensures ok { IfOk result
-        (λ o. optional_numbers_at N.of_number key.now (table_view table.now) ≡ Ok (option_map (λ v. v.items) o)) }
-    ensures err { IfErr result (IsRefused (optional_numbers_at N.of_number key.now (table_view table.now))) }
+        (λ o. optional_numbers_at N.of_number key.now (table_view table.now)
+        ≡ Ok (option_map (λ v. v.items) o)) }
+    ensures err { IfErr result
+        (IsRefused (optional_numbers_at N.of_number key.now (table_view table.now))) }
 {
     let Some(value) = value_at(table, key) else {
         return Ok(None);
@@ -198,7 +202,8 @@ fn numbers_at<N: TrieValue>(
     table: &Table,
     key: &'static str,
 ) -> Result<Vec<N>, TomlError>
-    ensures ok { IfOk result (λ v. numbers_at N.of_number key.now (table_view table.now) ≡ Ok v.items) }
+    ensures ok { IfOk result
+        (λ v. numbers_at N.of_number key.now (table_view table.now) ≡ Ok v.items) }
     ensures err { IfErr result (IsRefused (numbers_at N.of_number key.now (table_view table.now))) }
 {
     let Some(numbers) = optional_numbers_at(alloc, table, key)? else {
@@ -248,9 +253,11 @@ fn values_of<N: TrieValue, T: TrieValue>(
 }
 
 impl CodePointTrieToml {
-    /// What a table holds of a trie. Its keys are `index`, an array of numbers of 16 bits; the data, an array
-    /// at one of the keys `data_8`, `data_16` and `data_32`, of numbers of so many bits; and the numbers
-    /// `highStart` (32 bits), `shifted12HighStart` (16), `type` (8), `valueWidth` (8, kept and not used),
+    /// What a table holds of a trie. Its keys are `index`, an array of numbers of 16 bits; the
+    /// data, an array at one of the keys `data_8`, `data_16` and `data_32`, of numbers of so many
+    /// bits; and the numbers
+    /// `highStart` (32 bits), `shifted12HighStart` (16), `type` (8), `valueWidth` (8, kept and not
+    /// used),
     /// `index3NullOffset` (16), `dataNullOffset` (32) and `nullValue` (32). Other keys are ignored.
     ///
     /// ```
@@ -259,9 +266,9 @@ impl CodePointTrieToml {
     /// ```
     ///
     /// # Errors
-    /// The first fault in the order of the keys above: `Missing` where a key is not there, which may be so of
-    /// the three of the data alone; `OutOfRange` where the value is of another kind, or a number out of its
-    /// range. `Memory` where no memory was found.
+    /// The first fault in the order of the keys above: `Missing` where a key is not there, which
+    /// may be so of the three of the data alone; `OutOfRange` where the value is of another kind,
+    /// or a number out of its range. `Memory` where no memory was found.
     pub fn from_table(alloc: Global, table: &Table) -> Result<CodePointTrieToml, TomlError>
         ensures ok { IfOk result (λ t. toml_of (table_view table.now) ≡ Ok t) }
         ensures err { IfErr result (IsRefused (toml_of (table_view table.now))) }
@@ -283,7 +290,8 @@ impl CodePointTrieToml {
         self.index.as_slice()
     }
 
-    /// The cells of the data: the first array of `data_8`, `data_16` and `data_32` that the table had.
+    /// The cells of the data: the first array of `data_8`, `data_16` and `data_32` that the table
+    /// had.
     ///
     /// # Errors
     /// `FromDeserialized` where the table had none of them.
@@ -345,15 +353,17 @@ fn trie_with<T: TrieValue>(
     ensures ok { IfOk result (λ t. trie_with T.of_number header index.now values.now ≡ Ok t) }
     ensures err { IfErr result (IsRefusedTrie (trie_with T.of_number header index.now values.now)) }
 {
-    let index = ZeroVec::alloc_from_slice(alloc, index)?;
-    let data = ZeroVec::alloc_from_slice(alloc, values)?;
-    let trie = CodePointTrie::try_new(header, index, data)?;
-    Ok(trie)
+    match CodePointTrie::alloc_from_slices(alloc, header, index, values) {
+        Ok(trie) => Ok(trie),
+        Err(PartsError::Trie(error)) => Err(TrieFromTomlError::Trie(error)),
+        Err(PartsError::Memory) => Err(TrieFromTomlError::Memory),
+    }
 }
 
-/// The trie that the table had, which owns its cells. `Trie` where it is none, by the first fault: its type
-/// is the number of none, it had no data, a cell of the data is the number of no value (`FromDeserialized`),
-/// and then the faults of `CodePointTrie::try_new`. `Memory` where no memory was found.
+/// The trie that the table had, which owns its cells. `Trie` where it is none, by the first fault:
+/// its type is the number of none, it had no data, a cell of the data is the number of no value
+/// (`FromDeserialized`), and then the faults of `CodePointTrie::try_new`. `Memory` where no memory
+/// was found.
 impl<T: TrieValue> TryFrom<&CodePointTrieToml> for CodePointTrie<'static, T> {
     type Error = TrieFromTomlError;
 

@@ -1,13 +1,12 @@
 -- Lemmas on blocks of 16 code points.
-use Rattle.std.proofs.Common.{◌≡◌, ◌≢◌, ℕ, ◌+◌, ◌*◌, ◌/◌, ◌%◌, ◌<◌, ◌≤◌, ◌⊎◌, inl, inr, Bool, true, false, List, length, get_or, set, refl, sym, ◌∙◌, ap, arith}
+use Rattle.std.proofs.Common.{◌≡◌, ◌≢◌, ℕ, ◌+◌, ◌*◌, ◌/◌, ◌%◌, ◌<◌, ◌≤◌, ◌⊎◌, inl, inr, Bool, true, false, List, length, get_or, set, refl, sym, ◌∙◌, ap, arith, [], take, drop, ◌-◌}
 use Rattle.std.proofs.lemmas.Bool.{cases_lt, cases_eq, false≢true}
-use Rattle.std.proofs.lemmas.List.{get_or-set_same, get_or-set_other, length-set, get_or_default, get_or_past}
-use Rattle.std.proofs.Common.{[], take, drop, ◌-◌}
-use Rattle.std.proofs.lemmas.List.{same_lists, length-take, length-drop, get_or-take, get_or-drop}
+use Rattle.std.proofs.lemmas.List.{get_or-set_same, get_or-set_other, length-set, get_or_default, get_or_past, same_lists, length-take, length-drop, get_or-take, get_or-drop}
 use Rattle.std.proofs.Math.Nat.{mul_assoc, mul-add}
 use Rattle.std.proofs.lemmas.List.FromFn.{length-map-range_with_len, get_or-map-range_with_len}
 use Rattle.icu_trie_core.specs.Blocks.{block}
-use Rattle.icu_trie_map.specs.NumberMap.{code_points, numbers_of, IsBlocks, SameNumbers, block_count, number_at, is_mixed}
+use Rattle.icu_trie_map.specs.NumberMap.{code_points, numbers_of, IsBlocks, block_count, number_at, is_mixed}
+use Rattle.icu_trie_map.specs.Inside.Blocks.{SameNumbers}
 use Rattle.icu_trie_map.specs.declared.number_map.Blocks.{Blocks}
 
 -- what the number of a code point is, where its block is mixed and where it is not
@@ -56,7 +55,7 @@ module _ (b b' : Blocks) (rest : ℕ) (none : length b.mixed.items ≡ 0) (sound
   made-same c l = number_at-same b' rest c (never (c / 16)) ∙ filled (c / 16) rest (omega (arith, l))
       ∙ sym (number_at-same b rest c (get_or_past b.mixed.items (c / 16) false (omega (arith, none))) ∙ get_or_past b.numbers.items (c / 16) rest (omega (arith, none, sound.same_count)))
 
--- Block number n, which is not mixed, gets cells of its own behind those so far, with its number
+-- Block number n, which is not mixed, gets cells of its own after those so far, with its number
 module _ (b b' : Blocks) (n : ℕ) (sound : IsBlocks b) (there : n < length b.mixed.items) (whole : is_mixed b n ≡ false)
     (mixed : b'.mixed.items ≡ set b.mixed.items n true)
     (numbers : b'.numbers.items ≡ set b.numbers.items n (length b.cells.items))
@@ -128,7 +127,7 @@ module _ (b b' : Blocks) (n from to number : ℕ) (sound : IsBlocks b) (own : is
     (mixed : b'.mixed.items ≡ b.mixed.items) (numbers : b'.numbers.items ≡ b.numbers.items) (len : length b'.cells.items ≡ length b.cells.items)
     (inside : (k : ℕ) → get_or b.numbers.items n 0 + from ≤ k → k < get_or b.numbers.items n 0 + to → get_or b'.cells.items k 0 ≡ number)
     (before : (k : ℕ) → k < get_or b.numbers.items n 0 + from → get_or b'.cells.items k 0 ≡ get_or b.cells.items k 0)
-    (behind : (k : ℕ) → get_or b.numbers.items n 0 + to ≤ k → get_or b'.cells.items k 0 ≡ get_or b.cells.items k 0) where
+    (after : (k : ℕ) → get_or b.numbers.items n 0 + to ≤ k → get_or b'.cells.items k 0 ≡ get_or b.cells.items k 0) where
   pub fill-sound : IsBlocks b'
   fill-sound = record {
     same_count = rw (mixed, numbers) sound.same_count;
@@ -151,7 +150,7 @@ module _ (b b' : Blocks) (n from to number : ℕ) (sound : IsBlocks b) (own : is
   fill-cell c out h = elim (cases_eq (c / 16) n) [
     | inl e ↦ elim out [
       | inl low ↦ before (get_or b.numbers.items (c / 16) 0 + c % 16) (rw e (omega (arith, e, low)))
-      | inr high ↦ behind (get_or b.numbers.items (c / 16) 0 + c % 16) (rw e (omega (arith, e, high)))
+      | inr high ↦ after (get_or b.numbers.items (c / 16) 0 + c % 16) (rw e (omega (arith, e, high)))
     ]
     | inr ne ↦ elim (cases_lt (c / 16) n) [
       | inl l ↦ apart-cell (c / 16) (c % 16) (omega arith) (sound.apart (c / 16) n h own l)
@@ -165,7 +164,7 @@ module _ (b b' : Blocks) (n from to number : ℕ) (sound : IsBlocks b) (own : is
     apart-cell : (i k : ℕ) → k < 16 → (get_or b.numbers.items i 0 + 16 ≤ get_or b.numbers.items n 0) ⊎ (get_or b.numbers.items n 0 + 16 ≤ get_or b.numbers.items i 0)
         → get_or b'.cells.items (get_or b.numbers.items i 0 + k) 0 ≡ get_or b.cells.items (get_or b.numbers.items i 0 + k) 0
     apart-cell i k l (inl low) = before (get_or b.numbers.items i 0 + k) (omega (arith, l, low))
-    apart-cell i k l (inr high) = behind (get_or b.numbers.items i 0 + k) (omega (arith, high, within))
+    apart-cell i k l (inr high) = after (get_or b.numbers.items i 0 + k) (omega (arith, high, within))
 
   pub fill-outside : (rest c : ℕ) → (c < 16 * n + from) ⊎ (16 * n + to ≤ c) → number_at b' rest c ≡ number_at b rest c
   fill-outside rest c out = elim (mixed-cases b (c / 16)) [

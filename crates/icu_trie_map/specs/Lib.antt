@@ -1,1 +1,2 @@
 pub mod NumberMap
+pub mod Inside

@@ -1,13 +1,16 @@
 //! The map that a trie is built of, in blocks of 16 code points.
 ghost use Rattle.std.specs.Prelude.{◌≡◌, ◌≢◌, ℕ, ◌+◌, ◌-◌, ◌*◌, ◌/◌, ◌%◌, ◌<◌, ◌≤◌, ◌⊎◌, List, IsTrue, IsFalse, true, length, slice_index, slice_index_or, OnOk, OnErr, IfOk};
+ghost use Rattle.icu_zerovec.specs.CodePoints.{code_point_limit};
 ghost use Rattle.icu_trie_core.specs.Blocks.{block};
-ghost use Rattle.icu_trie_map.specs.NumberMap.{IsBlocks, IsHighFrom, SameNumbers, block_count, is_mixed, number_at};
+ghost use Rattle.icu_trie_map.specs.NumberMap.{IsBlocks, IsHighFrom, block_count, is_mixed, number_at};
+ghost use Rattle.icu_trie_map.specs.Inside.Blocks.{SameNumbers};
 
+use icu_zerovec::CODE_POINT_LIMIT;
 use std::alloc::{AllocError, Global};
 use std::marker::Model;
 
 /// How many blocks of 16 code points there are.
-const BLOCK_COUNT: usize = 0x11000;
+const BLOCK_COUNT: usize = CODE_POINT_LIMIT as usize / 16;
 
 /// Blocks below this one are made mixed four at a time.
 const FIRST_SINGLE: usize = 0x1000;
@@ -23,9 +26,11 @@ pub(crate) struct Blocks {
     pub(crate) cells: Vec<u32>,
 }
 
-/// A map from the code points to numbers of 32 bits. A clause sees the list of them, one for each code point.
+/// A map from the code points to numbers of 32 bits. A clause sees the list of them, one for each
+/// code point.
 ///
-/// It keeps blocks of 16 code points: a block of one number keeps that number alone, a mixed block has cells.
+/// It keeps blocks of 16 code points: a block of one number keeps that number alone, a mixed block
+/// has cells.
 #[derive(Debug, Drop)]
 pub struct NumberMap {
     pub(crate) blocks: Blocks,
@@ -45,10 +50,11 @@ impl Model for NumberMap {
     ghost invariant = { λ m. IsBlocks m.blocks };
 }
 
-/// So many copies of a number.
+/// A list of `count` copies of a value.
 fn copies<T: Copy>(alloc: Global, count: usize, value: T) -> Result<Vec<T>, AllocError>
     ensures len { IfOk result (λ v. length v.items ≡ count) }
-    ensures items { IfOk result (λ v. (i : ℕ) (d : T) → i < count → slice_index_or v.items i d ≡ value) }
+    ensures items { IfOk result (λ v. (i : ℕ) (d : T) → i < count
+        → slice_index_or v.items i d ≡ value) }
 {
     let mut made = Vec::with_capacity(alloc, count)?;
     made.resize(count, value)?;
@@ -60,7 +66,8 @@ fn make_blocks(blocks: &mut Blocks, alloc: Global, rest: u32) -> Result<(), Allo
     requires { IsBlocks blocks.old }
     ensures sound { IsBlocks blocks.new }
     ensures all { OnOk result (length blocks.new.mixed.items ≡ block_count) }
-    ensures same { (c : ℕ) → c < 0x110000 → number_at blocks.new rest c ≡ number_at blocks.old rest c }
+    ensures same { (c : ℕ) → c < code_point_limit
+        → number_at blocks.new rest c ≡ number_at blocks.old rest c }
 {
     if !are_there(blocks) {
         let mixed = copies(alloc, BLOCK_COUNT, false)?;
@@ -97,11 +104,13 @@ fn number_of(blocks: &Blocks, number: usize) -> u32
     blocks.numbers[number]
 }
 
-/// Puts 16 cells with this number behind the cells.
+/// Appends 16 cells with this number to the cells.
 fn push_block(cells: &mut Vec<u32>, number: u32) -> Result<(), AllocError>
     ensures len { OnOk result (length cells.new.items ≡ length cells.old.items + 16) }
-    ensures kept { (k : ℕ) → k < length cells.old.items → slice_index cells.new.items k ≡ slice_index cells.old.items k }
-    ensures filled { OnOk result ((k : ℕ) → length cells.old.items ≤ k → k < length cells.old.items + 16 → slice_index cells.new.items k ≡ number) }
+    ensures kept { (k : ℕ) → k < length cells.old.items
+        → slice_index cells.new.items k ≡ slice_index cells.old.items k }
+    ensures filled { OnOk result ((k : ℕ) → length cells.old.items ≤ k
+        → k < length cells.old.items + 16 → slice_index cells.new.items k ≡ number) }
     ensures err { OnErr result (cells.new.items ≡ cells.old.items) }
 {
     // By quarters, since the cells of most maps fill few doublings.
@@ -134,8 +143,8 @@ fn mix(blocks: &mut Blocks, number: usize) -> Result<(), AllocError>
     Ok(())
 }
 
-/// Gives block number `number` cells, where it has none, and below 0x10000 the other blocks of its aligned 64
-/// code points too, so that they stand side by side.
+/// Gives block number `number` cells, where it has none, and below 0x10000 the other blocks of its
+/// aligned 64 code points too, so that they stand side by side.
 fn mix_around(blocks: &mut Blocks, number: usize) -> Result<(), AllocError>
     requires sound { IsBlocks blocks.old }
     requires all { length blocks.old.mixed.items ≡ block_count }
@@ -162,8 +171,10 @@ fn fill_range(cells: &mut Vec<u32>, start: usize, end: usize, number: u32)
     requires range { start ≤ end }
     requires end { end ≤ length cells.old.items }
     ensures inside { (k : ℕ) → start ≤ k → k < end → slice_index cells.new.items k ≡ number }
-    ensures before { (k : ℕ) → k < start → slice_index cells.new.items k ≡ slice_index cells.old.items k }
-    ensures behind { (k : ℕ) → end ≤ k → slice_index cells.new.items k ≡ slice_index cells.old.items k }
+    ensures before { (k : ℕ) → k < start
+        → slice_index cells.new.items k ≡ slice_index cells.old.items k }
+    ensures after { (k : ℕ) → end ≤ k
+        → slice_index cells.new.items k ≡ slice_index cells.old.items k }
     ensures len { length cells.new.items ≡ length cells.old.items }
 {
     for i in start..end {
@@ -171,7 +182,8 @@ fn fill_range(cells: &mut Vec<u32>, start: usize, end: usize, number: u32)
     }
 }
 
-/// Writes a number to the code points of block number `block` from its place `from` on to before `to`.
+/// Writes a number to the code points of block number `block` from its place `from` on to before
+/// `to`.
 fn write_block(blocks: &mut Blocks, block: usize, from: usize, to: usize, number: u32)
     requires sound { IsBlocks blocks.old }
     requires there { block < length blocks.old.mixed.items }
@@ -180,9 +192,12 @@ fn write_block(blocks: &mut Blocks, block: usize, from: usize, to: usize, number
     requires whole_or_mixed { ((from ≡ 0) × (to ≡ 16)) ⊎ (is_mixed blocks.old block ≡ true) }
     ensures sound { IsBlocks blocks.new }
     ensures kept { blocks.new.mixed.items ≡ blocks.old.mixed.items }
-    ensures inside { (rest c : ℕ) → 16 * block + from ≤ c → c < 16 * block + to → number_at blocks.new rest c ≡ number }
-    ensures before { (rest c : ℕ) → c < 16 * block + from → number_at blocks.new rest c ≡ number_at blocks.old rest c }
-    ensures behind { (rest c : ℕ) → 16 * block + to ≤ c → number_at blocks.new rest c ≡ number_at blocks.old rest c }
+    ensures inside { (rest c : ℕ) → 16 * block + from ≤ c → c < 16 * block + to
+        → number_at blocks.new rest c ≡ number }
+    ensures before { (rest c : ℕ) → c < 16 * block + from
+        → number_at blocks.new rest c ≡ number_at blocks.old rest c }
+    ensures after { (rest c : ℕ) → 16 * block + to ≤ c
+        → number_at blocks.new rest c ≡ number_at blocks.old rest c }
 {
     if has_cells(blocks, block) {
         let place = number_of(blocks, block) as usize;
@@ -197,7 +212,7 @@ fn mix_ends(blocks: &mut Blocks, start: usize, end: usize) -> Result<(), AllocEr
     requires sound { IsBlocks blocks.old }
     requires all { length blocks.old.mixed.items ≡ block_count }
     requires range { start < end }
-    requires within { end ≤ 0x110000 }
+    requires within { end ≤ code_point_limit }
     ensures sound { IsBlocks blocks.new }
     ensures len { length blocks.new.mixed.items ≡ length blocks.old.mixed.items }
     ensures first { OnOk result ((start % 16 ≡ 0) ⊎ (is_mixed blocks.new (start / 16) ≡ true)) }
@@ -218,13 +233,15 @@ fn write_blocks(blocks: &mut Blocks, start: usize, end: usize, number: u32)
     requires sound { IsBlocks blocks.old }
     requires all { length blocks.old.mixed.items ≡ block_count }
     requires range { start < end }
-    requires within { end ≤ 0x110000 }
+    requires within { end ≤ code_point_limit }
     requires first { (start % 16 ≡ 0) ⊎ (is_mixed blocks.old (start / 16) ≡ true) }
     requires last { (end % 16 ≡ 0) ⊎ (is_mixed blocks.old (end / 16) ≡ true) }
     ensures sound { IsBlocks blocks.new }
     ensures inside { (rest c : ℕ) → start ≤ c → c < end → number_at blocks.new rest c ≡ number }
-    ensures before { (rest c : ℕ) → c < start → number_at blocks.new rest c ≡ number_at blocks.old rest c }
-    ensures behind { (rest c : ℕ) → end ≤ c → number_at blocks.new rest c ≡ number_at blocks.old rest c }
+    ensures before { (rest c : ℕ) → c < start
+        → number_at blocks.new rest c ≡ number_at blocks.old rest c }
+    ensures after { (rest c : ℕ) → end ≤ c
+        → number_at blocks.new rest c ≡ number_at blocks.old rest c }
 {
     for block in start / 16..end.div_ceil(16) {
         let from = start.saturating_sub(16 * block);
@@ -233,8 +250,8 @@ fn write_blocks(blocks: &mut Blocks, start: usize, end: usize, number: u32)
     }
 }
 
-/// Writes a number to the code points from `start` on to before `end`, where `rest` is the number of all while
-/// there are no blocks. Memory is asked for before anything is written.
+/// Writes a number to the code points from `start` on to before `end`, where `rest` is the number
+/// of all while there are no blocks. Memory is asked for before anything is written.
 fn write_range(
     blocks: &mut Blocks,
     alloc: Global,
@@ -245,12 +262,14 @@ fn write_range(
 ) -> Result<(), AllocError>
     requires sound { IsBlocks blocks.old }
     requires range { start ≤ end }
-    requires within { end ≤ 0x110000 }
+    requires within { end ≤ code_point_limit }
     ensures sound { IsBlocks blocks.new }
-    ensures inside { OnOk result ((c : ℕ) → start ≤ c → c < end → number_at blocks.new rest c ≡ number) }
-    ensures outside { (c : ℕ) → c < 0x110000 → (c < start) ⊎ (end ≤ c)
+    ensures inside { OnOk result ((c : ℕ) → start ≤ c → c < end
+        → number_at blocks.new rest c ≡ number) }
+    ensures outside { (c : ℕ) → c < code_point_limit → (c < start) ⊎ (end ≤ c)
         → number_at blocks.new rest c ≡ number_at blocks.old rest c }
-    ensures err { OnErr result ((c : ℕ) → c < 0x110000 → number_at blocks.new rest c ≡ number_at blocks.old rest c) }
+    ensures err { OnErr result ((c : ℕ) → c < code_point_limit
+        → number_at blocks.new rest c ≡ number_at blocks.old rest c) }
 {
     if start == end {
         return Ok(());
@@ -264,7 +283,7 @@ fn write_range(
 /// The number of the code point `c`.
 fn number_of_code_point(blocks: &Blocks, rest: u32, c: usize) -> u32
     requires sound { IsBlocks blocks.now }
-    requires within { c < 0x110000 }
+    requires within { c < code_point_limit }
     ensures { result ≡ number_at blocks.now rest c }
 {
     if !are_there(blocks) {
@@ -282,7 +301,8 @@ fn cell_of(blocks: &Blocks, block: usize, i: usize) -> u32
     requires mixed { is_mixed blocks.now block ≡ true }
     requires there { block < length blocks.now.mixed.items }
     requires within { i < 16 }
-    ensures { result ≡ slice_index blocks.now.cells.items (slice_index blocks.now.numbers.items block + i) }
+    ensures { result ≡ slice_index blocks.now.cells.items
+        (slice_index blocks.now.numbers.items block + i) }
 {
     let place = number_of(blocks, block) as usize;
     blocks.cells[place + i]
@@ -312,7 +332,7 @@ fn is_filled(blocks: &Blocks, block: usize, number: u32) -> bool
 fn used_blocks(blocks: &Blocks, number: u32) -> usize
     requires { IsBlocks blocks.now }
     ensures within { result ≤ length blocks.now.mixed.items }
-    ensures behind { (rest c : ℕ) → 16 * result ≤ c → c < 16 * length blocks.now.mixed.items
+    ensures after { (rest c : ℕ) → 16 * result ≤ c → c < 16 * length blocks.now.mixed.items
         → number_at blocks.now rest c ≡ number }
     ensures last { 0 < result → (c : ℕ) × (16 * (result - 1) ≤ c) × (c < 16 * result)
         × ((rest : ℕ) → number_at blocks.now rest c ≢ number) }
@@ -342,20 +362,21 @@ fn hold_one(blocks: &Blocks, first: usize, count: usize) -> bool
     true
 }
 
-/// Puts the 16 cells from a place on behind those in `room`.
+/// Appends the 16 cells from a place on to those in `room`.
 fn push_cells(cells: &[u32], place: usize, room: &mut Vec<u32>) -> Result<(), AllocError>
     requires { place + 16 ≤ length cells.now }
     ensures len { OnOk result (length room.new.items ≡ length room.old.items + 16) }
     ensures kept { OnOk result ((i : ℕ) → i < length room.old.items
         → slice_index room.new.items i ≡ slice_index room.old.items i) }
     ensures more { OnOk result ((i : ℕ) → i < 16
-        → slice_index room.new.items (length room.old.items + i) ≡ slice_index cells.now (place + i)) }
+        → slice_index room.new.items (length room.old.items + i)
+        ≡ slice_index cells.now (place + i)) }
 {
     room.extend_from_slice(&cells[place..place + 16])?;
     Ok(())
 }
 
-/// Puts the numbers of block number `block` behind those in `room`.
+/// Appends the numbers of block number `block` to those in `room`.
 fn push_numbers(
     blocks: &Blocks,
     rest: u32,
@@ -368,7 +389,8 @@ fn push_numbers(
     ensures kept { OnOk result ((i : ℕ) → i < length room.old.items
         → slice_index room.new.items i ≡ slice_index room.old.items i) }
     ensures more { OnOk result ((i : ℕ) → i < 16
-        → slice_index room.new.items (length room.old.items + i) ≡ number_at blocks.now rest (16 * block + i)) }
+        → slice_index room.new.items (length room.old.items + i)
+        ≡ number_at blocks.now rest (16 * block + i)) }
 {
     if !are_there(blocks) {
         push_block(room, rest)?;
@@ -384,10 +406,11 @@ fn push_numbers(
 }
 
 impl NumberMap {
-    /// The map that has this number at every code point. It takes no memory: `alloc` is kept for the writes.
+    /// The map that has this number at every code point. It takes no memory: `alloc` is kept for
+    /// the writes.
     pub fn new(alloc: Global, number: u32) -> NumberMap
-        ensures len { length result ≡ 0x110000 }
-        ensures all { (c : ℕ) → c < 0x110000 → slice_index result c ≡ number }
+        ensures len { length result ≡ code_point_limit }
+        ensures all { (c : ℕ) → c < code_point_limit → slice_index result c ≡ number }
     {
         let blocks = Blocks {
             mixed: Vec::new(alloc),
@@ -407,11 +430,12 @@ impl NumberMap {
     /// `AllocError` where memory was refused. The map stays as it was.
     pub fn set_range(&mut self, start: usize, end: usize, number: u32) -> Result<(), AllocError>
         requires range { start ≤ end }
-        requires within { end ≤ 0x110000 }
-        ensures len { length self.new ≡ 0x110000 }
-        ensures inside { OnOk result ((c : ℕ) → start ≤ c → c < end → slice_index self.new c ≡ number) }
+        requires within { end ≤ code_point_limit }
+        ensures len { length self.new ≡ code_point_limit }
+        ensures inside { OnOk result ((c : ℕ) → start ≤ c → c < end
+            → slice_index self.new c ≡ number) }
         ensures before { (c : ℕ) → c < start → slice_index self.new c ≡ slice_index self.old c }
-        ensures behind { (c : ℕ) → end ≤ c → slice_index self.new c ≡ slice_index self.old c }
+        ensures after { (c : ℕ) → end ≤ c → slice_index self.new c ≡ slice_index self.old c }
         ensures err { OnErr result (self.new ≡ self.old) }
     {
         write_range(&mut self.blocks, self.alloc, self.rest, start, end, number)
@@ -421,14 +445,14 @@ impl NumberMap {
     pub fn last(&self) -> u32
         ensures { result ≡ slice_index self.now 0x10ffff }
     {
-        number_of_code_point(&self.blocks, self.rest, 0x10ffff)
+        number_of_code_point(&self.blocks, self.rest, CODE_POINT_LIMIT as usize - 1)
     }
 
     /// The least multiple of 512 from which on all code points have the last code point's number.
     pub fn high_start(&self) -> usize
-        ensures len { length self.now ≡ 0x110000 }
+        ensures len { length self.now ≡ code_point_limit }
         ensures aligned { result % 512 ≡ 0 }
-        ensures within { result ≤ 0x110000 }
+        ensures within { result ≤ code_point_limit }
         ensures high { IsHighFrom self.now result }
         ensures least { (h : ℕ) → h % 512 ≡ 0 → IsHighFrom self.now h → result ≤ h }
     {
@@ -436,12 +460,13 @@ impl NumberMap {
         used.div_ceil(32) * 512
     }
 
-    /// Whether the aligned block number `number` of `size` code points is seen at once to be equal to the one
-    /// before it: the blocks of 16 of both hold one number. Equal blocks that are mixed are not seen.
+    /// Whether the aligned block number `number` of `size` code points is seen at once to be equal
+    /// to the one before it: the blocks of 16 of both hold one number. Equal blocks that are mixed
+    /// are not seen.
     pub fn repeats(&self, size: usize, number: usize) -> bool
         requires multiple { size % 16 ≡ 0 }
         requires some { 0 < number }
-        requires inside { size * number + size ≤ 0x110000 }
+        requires inside { size * number + size ≤ code_point_limit }
         ensures { IsTrue result → block size self.now number ≡ block size self.now (number - 1) }
     {
         if !are_there(&self.blocks) {
@@ -451,8 +476,8 @@ impl NumberMap {
         hold_one(&self.blocks, count * (number - 1), 2 * count)
     }
 
-    /// Puts the numbers of the aligned block number `number` of `size` code points into `room`, in place of
-    /// what it held.
+    /// Puts the numbers of the aligned block number `number` of `size` code points into `room`, in
+    /// place of what it held.
     pub fn copy_block(
         &self,
         size: usize,
@@ -460,7 +485,7 @@ impl NumberMap {
         room: &mut Vec<u32>,
     ) -> Result<(), AllocError>
         requires multiple { size % 16 ≡ 0 }
-        requires inside { size * number + size ≤ 0x110000 }
+        requires inside { size * number + size ≤ code_point_limit }
         ensures { OnOk result (room.new.items ≡ block size self.now number) }
     {
         let count = size / 16;

@@ -10,7 +10,7 @@ use Rattle.icu_zerovec.specs.Canonical.{IsCanonical}
 use Rattle.std.proofs.lemmas.List.{drop-drop}
 use Rattle.std.proofs.lemmas.Option.{slice_get_past}
 use Rattle.std.specs.List.{flat_map, AllByRecursion}
-use Rattle.std.proofs.lemmas.List.{drop_at, take-append-drop, length-take-le, length-drop, length-append}
+use Rattle.std.proofs.lemmas.List.{nil_from_length, drop_at, take-append-drop, length-take-le, length-drop, length-append}
 use Rattle.std.proofs.lemmas.Nat.{div-add-mod', row_fits}
 use Rattle.icu_zerovec.specs.Cells.{cell, values_from, values_of, IsPacked}
 
@@ -102,16 +102,11 @@ AreBytes-drop zero b h = h
 AreBytes-drop (suc n) [] h = h
 AreBytes-drop (suc n) (x ∷ b) h = AreBytes-drop n b (λ j. h (suc j))
 
--- bytes behind bytes are bytes
+-- bytes after bytes are bytes
 AreBytes-append : (a b : List ℕ) → AreBytes a → AreBytes b → AreBytes (a ++ b)
 AreBytes-append [] b g h i = h i
 AreBytes-append (x ∷ a) b g h zero = g 0
 AreBytes-append (x ∷ a) b g h (suc i) = AreBytes-append a b (λ j. g (suc j)) h i
-
--- a list of length 0 is empty
-no_bytes : (b : List ℕ) → length b ≡ 0 → [] ≡ b
-no_bytes [] e = refl
-no_bytes (x ∷ b) e = absurd (omega arith)
 
 -- ---- the bytes of values
 module _ {T : Type 0} (f : List ℕ → Option T) (w : ℕ) (pack : T → List ℕ) (V : T → Type 0) (positive : 0 < w)
@@ -120,7 +115,7 @@ module _ {T : Type 0} (f : List ℕ → Option T) (w : ℕ) (pack : T → List �
   pub take-pack : (x : T) (b : List ℕ) → V x → take w (pack x ++ b) ≡ pack x
   take-pack x b v = subst (λ n. take n (pack x ++ b) ≡ pack x) (long x v) (take-append_seam (pack x) b)
 
-  -- those behind them are those of the others
+  -- those after them are those of the others
   drop-pack : (x : T) (b : List ℕ) → V x → drop w (pack x ++ b) ≡ b
   drop-pack x b v = drop_at (pack x) b w (long x v)
 
@@ -171,7 +166,7 @@ module _ {T : Type 0} (f : List ℕ → Option T) (w : ℕ) (pack : T → List �
   -- the bytes of the values of the first n cells are those cells
   flat_map-values_from : (b : List ℕ) (n : ℕ) → length b ≡ n * w → AreBytes b → ((i : ℕ) → i < n → is_some (f (cell w b i)) ≡ true)
       → flat_map pack (values_from f w b n) ≡ b
-  flat_map-values_from b zero e h s = no_bytes b (e ∙ zero-mul w)
+  flat_map-values_from b zero e h s = sym (nil_from_length b (e ∙ zero-mul w))
   flat_map-values_from b (suc n) e h s =
       let whole : length b ≡ n * w + w = e ∙ suc-mul n w in
       let x = some_value (f (take w b)) (first_some f w b n s) in
@@ -198,7 +193,7 @@ pack-get f w pack one b i p l =
 
 -- ---- the first cell and the others
 module _ {T : Type 0} (f : List ℕ → Option T) (w : ℕ) (positive : 0 < w) (b : List ℕ) (p : IsPacked f w b) (some : 0 < length b) where
-  -- where there are bytes there is a cell, and the bytes behind it are one cell less
+  -- where there are bytes there is a cell, and the bytes after it are one cell less
   one_less : (m : ℕ) × (length b / w ≡ suc m) × (length (drop w b) ≡ m * w)
   one_less = counted (length b / w) (omega (arith, div-add-mod' (length b) w, p.whole))
     where
@@ -206,7 +201,7 @@ module _ {T : Type 0} (f : List ℕ → Option T) (w : ℕ) (positive : 0 < w) (
       counted zero e = absurd (omega (arith, zero-mul w))
       counted (suc m) e = (m, refl, omega (arith, length-drop w b, suc-mul m w))
 
-  -- so many cells are behind the first
+  -- so many cells follow the first
   count-drop : length (drop w b) / w ≡ one_less.0
   count-drop = ap (λ n. n / w) one_less.2 ∙ mul-div_cancel one_less.0 positive
 
@@ -218,7 +213,7 @@ module _ {T : Type 0} (f : List ℕ → Option T) (w : ℕ) (positive : 0 < w) (
   pub first_fits : w ≤ length b
   first_fits = omega (arith, div-add-mod' (length b) w, p.whole, ap (λ n. n * w) one_less.1, suc-mul one_less.0 w)
 
-  -- the bytes behind the first cell are packed
+  -- the bytes after the first cell are packed
   pub IsPacked-drop : IsPacked f w (drop w b)
   IsPacked-drop = record {
     whole = ap (λ n. n % w) one_less.2 ∙ mul-mod_left one_less.0 w;
@@ -226,7 +221,7 @@ module _ {T : Type 0} (f : List ℕ → Option T) (w : ℕ) (positive : 0 < w) (
     small = AreBytes-drop w b p.small;
   }
 
-  -- the values are that of the first cell and those of the bytes behind it
+  -- the values are that of the first cell and those of the bytes after it
   pub values_of-first : (x : T) → f (take w b) ≡ Some x → values_of f w b ≡ x ∷ values_of f w (drop w b)
   unfolding values_of
   values_of-first x e =

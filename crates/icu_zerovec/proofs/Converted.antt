@@ -1,13 +1,13 @@
 -- A conversion value by value, for callers of `ZeroVec::try_into_converted`.
 use Rattle.std.proofs.Common.{◌≡◌, ℕ, ◌/◌, ◌<◌, List, length, slice_get, Option, Result, Ok, Err, arith, sym, ◌∙◌, ap, inl, inr}
 use Rattle.std.specs.Prelude.{IfOk, IfErr}
+use Rattle.std.proofs.lemmas.Bool.{cases_lt}
 use Rattle.std.specs.Option.{option_and_then, option_map}
 use Rattle.icu_zerovec.specs.Canonical.{IsCanonical}
 use Rattle.icu_zerovec.specs.Cells.{cell, IsConverted, IsFirstRefused}
 use Rattle.icu_zerovec.specs.declared.ule.UleError.{UleError}
 use Rattle.icu_zerovec.specs.declared.ule.UleError.TheVariants.{Length, Cell}
 use Rattle.icu_zerovec.proofs.CellsLemmas.{pack-get, get-values_of, get_past-values_of, length-values_of}
-use Rattle.icu_zerovec.proofs.SameLemmas.{either_way}
 
 -- a conversion, value by value, where each value of the first type has one encoding
 module _ {T P : Type 0} (f : List ℕ → Option T) (w : ℕ) (g : List ℕ → Option P) (pack : T → List ℕ) (one : IsCanonical pack f w) (xs : List T) where
@@ -20,7 +20,7 @@ module _ {T P : Type 0} (f : List ℕ → Option T) (w : ℕ) (g : List ℕ → 
   -- value i is what the second type reads from the bytes of value i
   pub converted_ok : (r : Result (List P) UleError) → IsConverted f w g w xs r
       → IfOk r (λ ys. (i : ℕ) → slice_get ys i ≡ option_and_then g (option_map pack (slice_get xs i)))
-  converted_ok (Ok ys) c = λ i. elim (either_way i (length c.bytes / w)) [
+  converted_ok (Ok ys) c = λ i. elim (cases_lt i (length c.bytes / w)) [
     | inl l ↦ ap (λ l. slice_get l i) c.ok.1 ∙ get-values_of g w c.bytes i c.ok.0 l ∙ sym (read_at (Ok ys) c i l)
     | inr l ↦ ap (λ l. slice_get l i) c.ok.1 ∙ get_past-values_of g w c.bytes i c.ok.0 l
         ∙ sym (ap (λ l. option_and_then g (option_map pack (slice_get l i))) (sym c.values)

@@ -1,6 +1,6 @@
 -- Lists of values are the same exactly if the bytes that the values are packed to are, and what a hasher is
 -- fed.
-use Rattle.std.proofs.Common.{◌≡◌, ℕ, zero, suc, ◌+◌, ◌-◌, ◌*◌, ◌/◌, ◌%◌, ◌<◌, ◌≤◌, not, drop, ap₂, inl, inr, ◌⊎◌, add-one, subst, List, [], ◌∷◌, ◌++◌, length, take, slice_get, Option, Some, Bool, true, false, true≢false, ◌&&◌, refl, arith, sym, ◌∙◌, ap, append_assoc}
+use Rattle.std.proofs.Common.{◌≡◌, ℕ, zero, suc, ◌+◌, ◌-◌, ◌*◌, ◌/◌, ◌%◌, ◌<◌, ◌≤◌, not, drop, ap₂, inl, inr, add-one, subst, List, [], ◌∷◌, ◌++◌, length, take, slice_get, Option, Some, Bool, true, false, true≢false, refl, arith, sym, ◌∙◌, ap, append_assoc}
 use Rattle.std.specs.Prelude.{nat_eq, IsTrue, ◌↔◌}
 use Rattle.std.specs.Bool.{MatchBool}
 use Rattle.std.specs.Option.{is_some, unwrap_or}
@@ -8,6 +8,7 @@ use Rattle.std.specs.List.{flat_map, fold}
 use Rattle.std.specs.Hash.{HashWrites, fed_then}
 use Rattle.std.specs.Cmp.Lexicographic.{pointwise, bytes_decides, lists_equiv, nat_list_eq_equiv}
 use Rattle.std.specs.Cmp.{on_equiv}
+use Rattle.std.proofs.lemmas.Bool.{false_from_ne_true, and_right, not-false, cases_lt}
 use Rattle.std.proofs.Math.Seq.{take-suc}
 use Rattle.std.proofs.lemmas.Grind.{flat_map-append}
 use Rattle.std.proofs.lemmas.List.{same_lists, append-nil}
@@ -18,11 +19,6 @@ use Rattle.std.proofs.lemmas.List.{drop-take, take-take}
 use Rattle.std.proofs.lemmas.Nat.{div-add-mod', row_fits}
 use Rattle.icu_zerovec.proofs.CellsLemmas.{take-pack, get-values_of, get_past-values_of, length-values_of}
 
--- what is not true is false
-not_true : (b : Bool) → (b ≡ true → ⊥) → b ≡ false
-not_true true h = absurd (h refl)
-not_true false h = refl
-
 -- ---- values that are packed to the same bytes
 module _ {T : Type 0} (f : List ℕ → Option T) (w : ℕ) (pack : T → List ℕ) (V : T → Type 0) (positive : 0 < w)
     (long : (x : T) → V x → length (pack x) ≡ w) (back : (x : T) → V x → f (pack x) ≡ Some x) where
@@ -30,26 +26,21 @@ module _ {T : Type 0} (f : List ℕ → Option T) (w : ℕ) (pack : T → List �
   pub same_by_bytes : (x y : T) → V x → V y → pack x ≡ pack y → x ≡ y
   same_by_bytes x y p q e = same_Some _ _ (sym (back x p) ∙ ap f e ∙ back y q)
 
-  -- what a comparison of the bytes, with the same bytes z behind them, says
+  -- what a comparison of the bytes, with the same bytes z after them, says
   pub decided : (x y : T) (z : List ℕ) (r : Bool) → V x → V y → r ≡ pointwise nat_eq (pack x ++ z) (pack y ++ z) → MatchBool r (x ≡ y) (same_bytes pack x y ≡ false)
   decided x y z true p q e =
       same_by_bytes x y p q (sym (take-pack f w pack V positive long back x z p) ∙ ap (take w) ((bytes_decides _ _).0 (sym e)) ∙ take-pack f w pack V positive long back y z q)
   decided x y z false p q e =
-      not_true _ (λ t. true≢false (sym ((bytes_decides (pack x ++ z) (pack y ++ z)).1 (ap (λ b. b ++ z) ((bytes_decides (pack x) (pack y)).0 t))) ∙ sym e))
+      false_from_ne_true _ (λ t. true≢false (sym ((bytes_decides (pack x ++ z) (pack y ++ z)).1 (ap (λ b. b ++ z) ((bytes_decides (pack x) (pack y)).0 t))) ∙ sym e))
 
 -- ---- lists
--- both are not true where the second is not
-and_false : (a b : Bool) → b ≡ false → (a && b) ≡ false
-and_false true b e = e
-and_false false b e = refl
-
 -- lists that differ in one place are not equal
 pub differs : {T : Type 0} (E : T → T → Bool) (xs ys : List T) (i : ℕ) (x y : T) → slice_get xs i ≡ Some x → slice_get ys i ≡ Some y → E x y ≡ false
     → pointwise E xs ys ≡ false
 differs E [] ys i x y a b e = absurd (true≢false (sym (ap is_some a)))
 differs E (u ∷ xs) [] i x y a b e = refl
 differs E (u ∷ xs) (v ∷ ys) zero x y a b e = rw (same_Some u x a, same_Some v y b, e) refl
-differs E (u ∷ xs) (v ∷ ys) (suc i) x y a b e = and_false (E u v) _ (differs E xs ys i x y a b e)
+differs E (u ∷ xs) (v ∷ ys) (suc i) x y a b e = and_right (E u v) _ (differs E xs ys i x y a b e)
 
 -- lists with the same elements are the same
 pub same_gets : {T : Type 0} (xs ys : List T) → length xs ≡ length ys → ((j : ℕ) → j < length xs → slice_get xs j ≡ slice_get ys j) → xs ≡ ys
@@ -87,16 +78,11 @@ module _ {T : Type 0} (pack : T → List ℕ) (xs ys : List T) where
   told_same false m = (λ t. absurd (true≢false (sym t)), λ e. absurd (true≢false (sym (along e) ∙ m)))
 
 -- ---- blocks of bytes that are the same
--- what is not false is true
-from_not : (b : Bool) → false ≡ not b → b ≡ true
-from_not true e = refl
-from_not false e = e
-
 -- the same bytes so far, and the next n
 pub block_more : (at n m : ℕ) (a b : List ℕ) → m ≡ n → false ≡ not (pointwise nat_eq (take m (drop at a)) (take m (drop at b))) → take at a ≡ take at b
     → take (at + n) a ≡ take (at + n) b
 block_more at n m a b e h p =
-    let q : take n (drop at a) ≡ take n (drop at b) = subst (λ k. take k (drop at a) ≡ take k (drop at b)) e ((bytes_decides _ _).0 (from_not _ h)) in
+    let q : take n (drop at a) ≡ take n (drop at b) = subst (λ k. take k (drop at a) ≡ take k (drop at b)) e ((bytes_decides _ _).0 (not-false _ (sym h))) in
     take-add at n a ∙ ap₂ ◌++◌ p q ∙ sym (take-add at n b)
 
 -- a cell that lies in the first p bytes
@@ -109,12 +95,6 @@ cell_of_front w p j b l =
 same_length : (w : ℕ) (a b : List ℕ) → length a % w ≡ 0 → length b % w ≡ 0 → length a / w ≡ length b / w → length a ≡ length b
 same_length w a b p q e = omega (arith, div-add-mod' (length a) w, div-add-mod' (length b) w, p, q, ap (λ k. k * w) e)
 
--- a number is below another or not
-pub either_way : (m n : ℕ) → (m < n) ⊎ (n ≤ m)
-either_way m zero = inr (omega arith)
-either_way zero (suc n) = inl (omega arith)
-either_way (suc m) (suc n) = elim (either_way m n) [ inl h ↦ inl (omega arith) | inr h ↦ inr (omega arith) ]
-
 module _ {T : Type 0} (f : List ℕ → Option T) (w : ℕ) (a b : List ℕ) (p : IsPacked f w a) (q : IsPacked f w b) where
   -- as many values take as many bytes
   pub same_count : length (values_of f w a) ≡ length (values_of f w b) → length a ≡ length b
@@ -122,7 +102,7 @@ module _ {T : Type 0} (f : List ℕ → Option T) (w : ℕ) (a b : List ℕ) (p 
 
   -- values in the first n bytes, where these are the same
   pub same_front : (n : ℕ) → length a ≡ length b → take n a ≡ take n b → (j : ℕ) → j < n / w → slice_get (values_of f w a) j ≡ slice_get (values_of f w b) j
-  same_front n e h j l = elim (either_way j (length a / w)) [
+  same_front n e h j l = elim (cases_lt j (length a / w)) [
     | inl k ↦ get-values_of f w a j p k ∙ ap f (sym (cell_of_front w n j a fits) ∙ ap (λ c. cell w c j) h ∙ cell_of_front w n j b fits)
         ∙ sym (get-values_of f w b j q (omega (arith, k, counts)))
     | inr k ↦ get_past-values_of f w a j p k ∙ sym (get_past-values_of f w b j q (omega (arith, k, counts)))

@@ -1,5 +1,6 @@
--- Packed bytes: cells of w bytes each, one for each value, with nothing between them. In these definitions f
--- is the function that reads a cell: it gives the value of w bytes, or `None` where they give none.
+-- Packed bytes: cells of w bytes each, one for each value, with nothing between them. In these
+-- definitions f is the function that reads a cell: it gives the value of w bytes, or `None` where
+-- they give none.
 use Rattle.std.specs.Prelude.{◌≡◌, ℕ, ◌*◌, ◌/◌, ◌%◌, ◌<◌, List, [], ◌++◌, length, take, drop, Option, IsSome, IsNone, ◌≢◌, slice_get, ◌∷◌, Bool, nat_eq, Result, IfOk, IfErr}
 use Rattle.std.specs.Cmp.Lexicographic.{pointwise}
 use Rattle.std.specs.Hash.{HashWrites}
@@ -30,10 +31,13 @@ pub record IsPacked {T : Type 0} (f : List ℕ → Option T) (w : ℕ) (b : List
   pub small : AreBytes b
 
 -- ---- why bytes are not packed
--- the first fault of bytes: their number is no multiple of w, or else cell i is the first that is no value
+-- the first fault of bytes: their number is no multiple of w, or else cell i is the first that is
+-- no value
 abbrev pub IsFault : {T : Type 0} → (List ℕ → Option T) → ℕ → List ℕ → UleError → Type 0
 IsFault f w b Length = length b % w ≢ 0
-IsFault f w b (Cell i) = (length b % w ≡ 0) × (i < length b / w) × IsNone (f (cell w b i)) × ((j : ℕ) → j < i → IsSome (f (cell w b j)))
+IsFault f w b (Cell i) =
+    (length b % w ≡ 0) × (i < length b / w) × IsNone (f (cell w b i))
+    × ((j : ℕ) → j < i → IsSome (f (cell w b j)))
 
 -- the fault is one of a cell
 abbrev pub IsCell : UleError → Type 0
@@ -41,10 +45,11 @@ IsCell Length = ⊥
 IsCell (Cell i) = Unit {0}
 
 -- ---- the same bytes, read as values of another type
--- Some bytes that are the values xs, in cells of w bytes that f reads, were read by g in cells of v bytes:
--- either each cell was a value, or the fault is the first. Where values have one encoding these are the bytes
--- that xs is packed to.
-pub record IsConverted {T P : Type 0} (f : List ℕ → Option T) (w : ℕ) (g : List ℕ → Option P) (v : ℕ) (xs : List T) (r : Result (List P) UleError) : Type 0 where
+-- Some bytes that are the values xs, in cells of w bytes that f reads, were read by g in cells of v
+-- bytes: either each cell was a value, or the fault is the first. Where values have one encoding
+-- these are the bytes that xs is packed to.
+pub record IsConverted {T P : Type 0} (f : List ℕ → Option T) (w : ℕ) (g : List ℕ → Option P)
+    (v : ℕ) (xs : List T) (r : Result (List P) UleError) : Type 0 where
   pub bytes : List ℕ
   pub packed : IsPacked f w bytes
   pub values : values_of f w bytes ≡ xs
@@ -52,13 +57,16 @@ pub record IsConverted {T P : Type 0} (f : List ℕ → Option T) (w : ℕ) (g :
   pub err : IfErr r (IsFault g v bytes)
 
 -- the same fault by values: value i is the first of xs whose packed bytes g does not read
-abbrev pub IsFirstRefused : {T P : Type 0} → (T → List ℕ) → (List ℕ → Option P) → List T → UleError → Type 0
+abbrev pub IsFirstRefused : {T P : Type 0} → (T → List ℕ) → (List ℕ → Option P) → List T → UleError
+    → Type 0
 IsFirstRefused pack g xs Length = ⊥
 IsFirstRefused pack g xs (Cell i) =
-    (i < length xs) × IsNone (option_and_then g (option_map pack (slice_get xs i))) × ((j : ℕ) → j < i → IsSome (option_and_then g (option_map pack (slice_get xs j))))
+    (i < length xs) × IsNone (option_and_then g (option_map pack (slice_get xs i)))
+    × ((j : ℕ) → j < i → IsSome (option_and_then g (option_map pack (slice_get xs j))))
 
 -- ---- equality and hash
--- whether two values are packed to the same bytes, which lawful values are exactly if they are the same
+-- whether two values are packed to the same bytes, which lawful values are exactly if they are the
+-- same
 abbrev pub same_bytes : {T : Type 0} → (T → List ℕ) → T → T → Bool
 same_bytes pack x y = pointwise nat_eq (pack x) (pack y)
 

@@ -4,3 +4,6 @@ pub mod Cells
 pub mod Store
 pub mod Slice
 pub mod Canonical
+pub mod CodePoints
+pub mod FirstFault
+pub mod Inside

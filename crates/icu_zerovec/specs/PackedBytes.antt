@@ -19,6 +19,7 @@ number_of k b = sum_through (λ i. byte_worth i (slice_index b i)) (k - 1)
 abbrev pub if_passes : (ℕ → Bool) → ℕ → Option ℕ
 if_passes p n = if p n then Some n else None
 
--- the code of three bytes, if it is a Unicode scalar value: below 0xD800, or from 0xE000 through 0x10FFFF
+-- the code of three bytes, if it is a Unicode scalar value: below 0xD800, or from 0xE000 through
+-- 0x10FFFF
 abbrev pub scalar_of : List ℕ → Option ℕ
 scalar_of b = if_passes scalar (number_of 3 b)

@@ -1,7 +1,7 @@
--- The bytes of a number give it back, and bytes are those of the number that they make. These are lemmas, and
--- no contract cites them. They stand among the specs since the laws of an `impl`, in `numbers` and
--- `code_point`, and the facts of `Canonical` may cite nothing else of this crate.
-use Rattle.std.specs.Prelude.{◌≡◌, ℕ, ◌/◌, ◌^◌, ◌<◌, List, [], ◌∷◌, length, Some, None, ℤ, FitsSigned, if◌then◌else◌}
+-- The bytes of a number give it back. These are lemmas, and no contract cites them: they stand
+-- among the specs since the laws of an `impl`, in `integers` and `code_point`, may cite nothing
+-- else of this crate.
+use Rattle.std.specs.Prelude.{◌≡◌, ℕ, ◌/◌, ◌^◌, ◌<◌, Some, None, ℤ, FitsSigned, if◌then◌else◌}
 use Rattle.std.specs.Int.{w8, w16, w32, cast_signed, cast_unsigned, bytes_low_first}
 use Rattle.std.specs.Char.{IsScalar}
 use Rattle.std.proofs.Math.Nat.{mod-lt}
@@ -25,14 +25,20 @@ pub number_of-4 : (x : ℕ) → x < 2 ^ 32 → number_of 4 (low_bytes 4 x) ≡ x
 number_of-4 x h = omega arith
 
 -- ---- a signed number is given back by the bytes of its two's complement
-pub signed-1 : (z : ℤ) → FitsSigned w8 z → cast_signed w8 (number_of 1 (low_bytes 1 (cast_unsigned w8 z))) ≡ z
-signed-1 z h = ap (cast_signed w8) (number_of-1 (cast_unsigned w8 z) (Fits-of_z h).fits) ∙ to_z-of_z w8 z h
+pub signed-1 : (z : ℤ) → FitsSigned w8 z
+    → cast_signed w8 (number_of 1 (low_bytes 1 (cast_unsigned w8 z))) ≡ z
+signed-1 z h = ap (cast_signed w8) (number_of-1 (cast_unsigned w8 z) (Fits-of_z h).fits)
+    ∙ to_z-of_z w8 z h
 
-pub signed-2 : (z : ℤ) → FitsSigned w16 z → cast_signed w16 (number_of 2 (low_bytes 2 (cast_unsigned w16 z))) ≡ z
-signed-2 z h = ap (cast_signed w16) (number_of-2 (cast_unsigned w16 z) (Fits-of_z h).fits) ∙ to_z-of_z w16 z h
+pub signed-2 : (z : ℤ) → FitsSigned w16 z
+    → cast_signed w16 (number_of 2 (low_bytes 2 (cast_unsigned w16 z))) ≡ z
+signed-2 z h = ap (cast_signed w16) (number_of-2 (cast_unsigned w16 z) (Fits-of_z h).fits)
+    ∙ to_z-of_z w16 z h
 
-pub signed-4 : (z : ℤ) → FitsSigned w32 z → cast_signed w32 (number_of 4 (low_bytes 4 (cast_unsigned w32 z))) ≡ z
-signed-4 z h = ap (cast_signed w32) (number_of-4 (cast_unsigned w32 z) (Fits-of_z h).fits) ∙ to_z-of_z w32 z h
+pub signed-4 : (z : ℤ) → FitsSigned w32 z
+    → cast_signed w32 (number_of 4 (low_bytes 4 (cast_unsigned w32 z))) ≡ z
+signed-4 z h = ap (cast_signed w32) (number_of-4 (cast_unsigned w32 z) (Fits-of_z h).fits)
+    ∙ to_z-of_z w32 z h
 
 -- ---- a scalar value has 21 bits, so three bytes give it back
 -- the greatest is 0x10FFFF
@@ -40,7 +46,8 @@ scalar_below : (x : ℕ) → IsScalar x → x < 2 ^ 24
 scalar_below x h = let c = scalar_cases x h in grind arith
 
 pub scalar-3 : (x : ℕ) → IsScalar x → scalar_of (low_bytes 3 x) ≡ Some x
-scalar-3 x h = ap (if_passes scalar) (number_of-3 x (scalar_below x h)) ∙ ap (λ b. if b then Some x else None) h
+scalar-3 x h = ap (if_passes scalar) (number_of-3 x (scalar_below x h))
+    ∙ ap (λ b. if b then Some x else None) h
 
 -- ---- the bytes of a number are bytes
 low_first-small : (j k n : ℕ) → AreBytes (bytes_low_first j k n)
@@ -51,57 +58,3 @@ low_first-small j (suc k) n (suc i) = low_first-small (suc j) k n i
 
 pub low_bytes-small : (k n : ℕ) → AreBytes (low_bytes k n)
 low_bytes-small k n = low_first-small 0 k n
-
--- k bytes that are the bytes of the number that they make
-abbrev pub MakesBack : ℕ → Type 0
-MakesBack k = (b : List ℕ) → length b ≡ k → AreBytes b → low_bytes k (number_of k b) ≡ b
-
--- ---- lists that agree part by part
-one_list : (x y : ℕ) → x ≡ y → x ∷ [] ≡ y ∷ []
-one_list x y e = ap (λ k. k ∷ []) e
-
-more_list : (x y : ℕ) (xs ys : List ℕ) → x ≡ y → xs ≡ ys → x ∷ xs ≡ y ∷ ys
-more_list x y xs ys e h = cc
-
--- ---- bytes are the bytes of the number that they make
-pub low_bytes-1 : MakesBack 1
-low_bytes-1 [] e h = absurd (omega arith)
-low_bytes-1 (x ∷ []) e h = let p : x < 256 = h 0 in one_list _ x (omega arith)
-low_bytes-1 (x ∷ y ∷ b) e h = absurd (omega arith)
-
-pub low_bytes-2 : MakesBack 2
-low_bytes-2 [] e h = absurd (omega arith)
-low_bytes-2 (x ∷ []) e h = absurd (omega arith)
-low_bytes-2 (x ∷ y ∷ []) e h =
-    let p : x < 256 = h 0 in let q : y < 256 = h 1 in
-    more_list _ x _ _ (omega arith) (one_list _ y (omega arith))
-low_bytes-2 (x ∷ y ∷ z ∷ b) e h = absurd (omega arith)
-
-pub low_bytes-3 : MakesBack 3
-low_bytes-3 [] e h = absurd (omega arith)
-low_bytes-3 (x ∷ []) e h = absurd (omega arith)
-low_bytes-3 (x ∷ y ∷ []) e h = absurd (omega arith)
-low_bytes-3 (x ∷ y ∷ z ∷ []) e h =
-    let p : x < 256 = h 0 in let q : y < 256 = h 1 in let r : z < 256 = h 2 in
-    more_list _ x _ _ (omega arith) (more_list _ y _ _ (omega arith) (one_list _ z (omega arith)))
-low_bytes-3 (x ∷ y ∷ z ∷ w ∷ b) e h = absurd (omega arith)
-
-pub low_bytes-4 : MakesBack 4
-low_bytes-4 [] e h = absurd (omega arith)
-low_bytes-4 (x ∷ []) e h = absurd (omega arith)
-low_bytes-4 (x ∷ y ∷ []) e h = absurd (omega arith)
-low_bytes-4 (x ∷ y ∷ z ∷ []) e h = absurd (omega arith)
-low_bytes-4 (x ∷ y ∷ z ∷ w ∷ []) e h =
-    let p : x < 256 = h 0 in let q : y < 256 = h 1 in let r : z < 256 = h 2 in let s : w < 256 = h 3 in
-    more_list _ x _ _ (omega arith) (more_list _ y _ _ (omega arith) (more_list _ z _ _ (omega arith) (one_list _ w (omega arith))))
-low_bytes-4 (x ∷ y ∷ z ∷ w ∷ v ∷ b) e h = absurd (omega arith)
-
--- ---- the number of k bytes has 8 * k bits
-pub below-1 : (b : List ℕ) → AreBytes b → number_of 1 b < 2 ^ 8
-below-1 b h = omega (arith, h 0)
-
-pub below-2 : (b : List ℕ) → AreBytes b → number_of 2 b < 2 ^ 16
-below-2 b h = omega (arith, h 0, h 1)
-
-pub below-4 : (b : List ℕ) → AreBytes b → number_of 4 b < 2 ^ 32
-below-4 b h = omega (arith, h 0, h 1, h 2, h 3)

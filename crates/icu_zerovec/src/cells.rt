@@ -1,10 +1,14 @@
 //! The work on packed bytes: cells of `WIDTH` bytes each, one for each value.
-ghost use Rattle.std.specs.Prelude.{◌≡◌, ◌*◌, ◌/◌, ◌^◌, ◌<◌, ◌≤◌, [], ◌∷◌, length, slice_get, OnOk, IfErr, IfOk, IfSome, MatchOption, Some, fold, false, take};
+ghost use Rattle.std.specs.Prelude.{◌≡◌, ◌+◌, ◌*◌, ◌/◌, ◌^◌, ◌<◌, ◌≤◌, List, [], ◌∷◌, length, slice_get, OnOk, IfErr, IfOk, IfSome, MatchOption, Some, fold, false, take};
 ghost use Rattle.std.specs.Bool.{MatchBool};
+ghost use Rattle.std.specs.Iterator.{Drains, IsFinite};
+ghost use Rattle.std.specs.List.{All, HoldsAt, flat_map};
+ghost use Rattle.std.specs.Ordering.{is_le};
 ghost use Rattle.std.specs.Cmp.Lexicographic.{pointwise};
 ghost use Rattle.std.specs.Hash as fed;
 ghost use Rattle.std.specs.List.Sorted.{IsSearchInRange, IsBinarySearchResult};
 ghost use Rattle.icu_zerovec.specs.Cells.{cell, values_of, IsPacked, IsFault, same_bytes, one_write};
+ghost use Rattle.icu_zerovec.specs.Inside.Searches.{IsNarrowed, IsStepCount};
 
 use crate::ule::{AsULE, UleError};
 use std::alloc::{AllocError, Global};
@@ -69,12 +73,19 @@ pub(crate) fn test<T: AsULE>(bytes: &[u8]) -> Result<(), UleError>
     Ok(())
 }
 
-/// The packed bytes of these values, in memory that is asked for once.
-pub(crate) fn pack<T: AsULE>(alloc: Global, values: &[T]) -> Result<Vec<u8>, AllocError>
-    ensures packed { IfOk result (λ v. IsPacked T.unpack T.WIDTH v.items) }
-    ensures values { IfOk result (λ v. values_of T.unpack T.WIDTH v.items ≡ values.now) }
+/// The packed bytes of the values that an iterator gives. Memory is asked for once where it knows
+/// how many there are.
+pub(crate) fn pack<T: AsULE, I: Iterator<Item = T> + Drop>(
+    alloc: Global,
+    values: I,
+) -> Result<Vec<u8>, AllocError>
+    requires can { I.can_next values }
+    requires finite { IsFinite (I.remaining values) }
+    ensures { IfOk result (λ v. (xs : List T) × Drains I.next_gives values xs × All T.is_value xs
+        × (v.items ≡ flat_map T.pack xs)) }
 {
-    let mut bytes = Vec::with_capacity(alloc, values.len().saturating_mul(T::WIDTH))?;
+    let least = values.size_hint().0;
+    let mut bytes = Vec::with_capacity(alloc, least.saturating_mul(T::WIDTH))?;
     for value in values {
         value.shown();
         let cell = value.to_unaligned();
@@ -112,24 +123,74 @@ pub(crate) fn at<T: AsULE>(bytes: &[u8], i: usize) -> T
     }
 }
 
-/// The place of an equal value of ascending packed bytes as `Ok`, or as `Err` the place where it could be
-/// inserted.
+/// Whether the value at place `i` is `x` or less.
+#[inline(always)]
+fn is_at_most<T: AsULE + Ord>(bytes: &[u8], i: usize, x: &T) -> bool
+    requires packed { IsPacked T.unpack T.WIDTH bytes.now }
+    requires within { i < length (values_of T.unpack T.WIDTH bytes.now) }
+    ensures { HoldsAt (λ y. is_le (T.cmp y x.now) ≡ result)
+        (values_of T.unpack T.WIDTH bytes.now) i }
+{
+    at::<T>(bytes, i).cmp(x).is_le()
+}
+
+/// How many of the three values that follow `low` in steps are `x` or less.
+#[inline(always)]
+fn count_at_most<T: AsULE + Ord>(bytes: &[u8], low: usize, step: usize, x: &T) -> usize
+    requires packed { IsPacked T.unpack T.WIDTH bytes.now }
+    requires within { low + 3 * step < length (values_of T.unpack T.WIDTH bytes.now) }
+    requires fits { low + 3 * step < 2 ^ 64 }
+    ensures { IsStepCount (λ y. T.cmp y x.now)
+        (values_of T.unpack T.WIDTH bytes.now) low step result }
+{
+    let first = is_at_most(bytes, low + step, x);
+    let second = is_at_most(bytes, low + 2 * step, x);
+    let third = is_at_most(bytes, low + 3 * step, x);
+    usize::from(first) + usize::from(second) + usize::from(third)
+}
+
+/// Where at most three values are left among which `x` may stand, and how many. Each step leaves a
+/// quarter. It counts what it reads, so that no jump depends on a value.
+#[inline(always)]
+fn narrowed<T: AsULE + Ord>(bytes: &[u8], x: &T) -> (usize, usize)
+    requires packed { IsPacked T.unpack T.WIDTH bytes.now }
+    requires some { 0 < length (values_of T.unpack T.WIDTH bytes.now) }
+    ensures some { 0 < result.1 }
+    ensures within { result.0 + result.1 ≤ length (values_of T.unpack T.WIDTH bytes.now) }
+    ensures left { IsNarrowed (λ y. T.cmp y x.now) (values_of T.unpack T.WIDTH bytes.now)
+        result.0 (result.0 + result.1) }
+{
+    let mut low = 0;
+    let mut size = len::<T>(bytes);
+    while size > 3 {
+        let step = size / 4;
+        low += step * count_at_most(bytes, low, step, x);
+        size -= 3 * step;
+    }
+    (low, size)
+}
+
+/// The place of an equal value of ascending packed bytes as `Ok`, or as `Err` the place where it
+/// could be inserted.
 pub(crate) fn binary_search<T: AsULE + Ord>(bytes: &[u8], x: &T) -> Result<usize, usize>
     requires { IsPacked T.unpack T.WIDTH bytes.now }
     ensures bound { IsSearchInRange result (length (values_of T.unpack T.WIDTH bytes.now)) }
-    ensures position { IsBinarySearchResult (λ y. T.cmp y x.now) (values_of T.unpack T.WIDTH bytes.now) result }
+    ensures position { IsBinarySearchResult (λ y. T.cmp y x.now)
+        (values_of T.unpack T.WIDTH bytes.now) result }
 {
-    let mut low = 0;
-    let mut high = len::<T>(bytes);
-    while low < high {
-        let middle = low + (high - low) / 2;
-        match at::<T>(bytes, middle).cmp(x) {
-            Ordering::Less => low = middle + 1,
-            Ordering::Greater => high = middle,
-            Ordering::Equal => return Ok(middle),
-        }
+    if len::<T>(bytes) == 0 {
+        return Err(0);
     }
-    Err(low)
+    let (mut low, mut size) = narrowed(bytes, x);
+    while size > 1 {
+        low += usize::from(is_at_most(bytes, low + 1, x));
+        size -= 1;
+    }
+    match at::<T>(bytes, low).cmp(x) {
+        Ordering::Less => Err(low + 1),
+        Ordering::Equal => Ok(low),
+        Ordering::Greater => Err(low),
+    }
 }
 
 /// Whether two values are the same, by their bytes.
@@ -141,8 +202,8 @@ fn alike<T: AsULE>(x: T, y: T) -> bool
     x.to_unaligned() == y.to_unaligned()
 }
 
-/// How many bytes to compare next. A block is compared as memory, which is fast, and only one that differs is
-/// gone through value by value.
+/// How many bytes to compare next. A block is compared as memory, which is fast, and only one that
+/// differs is gone through value by value.
 fn block(left: usize) -> usize
     requires { 0 < left }
     ensures some { 0 < result }
@@ -151,7 +212,8 @@ fn block(left: usize) -> usize
     if left < 1024 { left } else { 1024 }
 }
 
-/// How many of the first bytes are the same, in whole blocks: all of them, where the bytes are the same.
+/// How many of the first bytes are the same, in whole blocks: all of them, where the bytes are the
+/// same.
 fn same_blocks(a: &[u8], b: &[u8]) -> usize
     requires { length a.now ≡ length b.now }
     ensures { take result a.now ≡ take result b.now }
@@ -167,13 +229,14 @@ fn same_blocks(a: &[u8], b: &[u8]) -> usize
     at
 }
 
-/// Whether two lists of values are the same. Bytes are compared, and values only from the first block of
-/// bytes that differ.
+/// Whether two lists of values are the same. Bytes are compared, and values only from the first
+/// block of bytes that differ.
 pub(crate) fn same<T: AsULE>(a: &[u8], b: &[u8]) -> bool
     requires a_packed { IsPacked T.unpack T.WIDTH a.now }
     requires b_packed { IsPacked T.unpack T.WIDTH b.now }
     ensures { MatchBool result (values_of T.unpack T.WIDTH a.now ≡ values_of T.unpack T.WIDTH b.now)
-        (pointwise (same_bytes T.pack) (values_of T.unpack T.WIDTH a.now) (values_of T.unpack T.WIDTH b.now) ≡ false) }
+        (pointwise (same_bytes T.pack) (values_of T.unpack T.WIDTH a.now)
+        (values_of T.unpack T.WIDTH b.now) ≡ false) }
 {
     let len = len::<T>(a);
     if len != self::len::<T>(b) {
@@ -199,7 +262,9 @@ fn feed_one<T: AsULE, H: Hasher>(value: T, state: &mut H)
 /// Writes how many values there are, and the bytes of each.
 pub(crate) fn feed<T: AsULE, H: Hasher>(bytes: &[u8], state: &mut H)
     requires { IsPacked T.unpack T.WIDTH bytes.now }
-    ensures { state.new ≡ fold H.write state.old (fed.slice (one_write T.pack) (values_of T.unpack T.WIDTH bytes.now)) }
+    ensures { state.new
+        ≡ fold H.write state.old
+        (fed.slice (one_write T.pack) (values_of T.unpack T.WIDTH bytes.now)) }
 {
     let len = len::<T>(bytes);
     state.write_usize(len);

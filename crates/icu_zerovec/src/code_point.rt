@@ -8,8 +8,11 @@ ghost use Rattle.icu_zerovec.specs.PackedLaws.{number_of-3, scalar-3, low_bytes-
 use crate::ule::AsULE;
 use std::marker::Model;
 
-/// A number of 24 bits, which may be a code point: what a file claims to be one, kept in three bytes. It is
-/// compared and hashed by its number, and a clause sees the number.
+/// One more than the last code point: the exclusive end of the code space, 0 to 0x10FFFF.
+pub const CODE_POINT_LIMIT: u32 = 0x11_0000;
+
+/// A number of 24 bits, which may be a code point: what a file claims to be one, kept in three
+/// bytes. It is compared and hashed by its number, and a clause sees the number.
 ///
 /// ```
 /// let last = PotentialCodePoint::from_u24(0x10ffff);
@@ -99,8 +102,8 @@ impl AsULE for PotentialCodePoint {
     fn shown(self) {}
 }
 
-/// Three bytes give a `char` where their number is a Unicode scalar value: 0 to 0xD7FF or 0xE000 to 0x10FFFF.
-/// A surrogate is none.
+/// Three bytes give a `char` where their number is a Unicode scalar value: 0 to 0xD7FF or 0xE000 to
+/// 0x10FFFF. A surrogate is none.
 impl AsULE for char {
     const WIDTH: usize = 3;
 

@@ -31,7 +31,8 @@ impl<'a, T: AsULE> Eq for ZeroVec<'a, T> {
 impl<'a, T: AsULE> Hash for ZeroVec<'a, T> {
     ghost hash_input = { fed.slice (one_write T.pack) };
 
-    ghost respects_eq = { (items_Alike (on_Alike T.pack (same_Alike (λ b. b ∷ []) bytes_decides))).fed };
+    ghost respects_eq = { (items_Alike
+        (on_Alike T.pack (same_Alike (λ b. b ∷ []) bytes_decides))).fed };
 
     fn hash<H: Hasher>(&self, state: &mut H) {
         cells::feed::<T, H>(self.bytes(), state);

@@ -8,7 +8,8 @@ use crate::ule::AsULE;
 use std::fmt;
 use std::marker::{Model, PhantomData};
 
-/// The values of a packed vector from the first that was not given yet to the last, as `ZeroVec::iter` and
+/// The values of a packed vector from the first that was not given yet to the last, as
+/// `ZeroVec::iter` and
 /// `ZeroSlice::iter` give them. It knows how many are left, and a clause sees their list.
 #[derive(Drop)]
 pub struct Iter<'a, T: AsULE> {

@@ -9,7 +9,7 @@ use thiserror::Error;
 #[error("no memory")]
 pub struct MemoryError;
 
-/// For `?` behind a call that allocates.
+/// For `?` after a call that allocates.
 impl From<AllocError> for MemoryError {
     ghost from_gives = { λ _ e. e ≡ record {} };
 
@@ -18,8 +18,8 @@ impl From<AllocError> for MemoryError {
     }
 }
 
-/// For `?` behind a call that gives back the value for which there was no room, as `Vec::push`. The value is
-/// let go.
+/// For `?` after a call that gives back the value for which there was no room, as `Vec::push`. The
+/// value is dropped.
 impl<T: Drop> From<AllocFailed<T>> for MemoryError {
     ghost from_gives = { λ _ e. e ≡ record {} };
 

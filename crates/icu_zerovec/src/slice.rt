@@ -17,8 +17,8 @@ use std::fmt;
 use std::hash::{Hash, Hasher};
 use std::marker::PhantomData;
 
-/// A view of a packed vector, `Copy` as a `&[T]` is, with the reads of [`ZeroVec`]. A clause sees the list of
-/// its values as `slice_values`.
+/// A view of a packed vector, `Copy` as a `&[T]` is, with the reads of [`ZeroVec`]. A clause sees
+/// the list of its values as `slice_values`.
 ///
 /// ```
 /// let numbers = ZeroVec::<u16>::parse_bytes(&[1, 0, 2, 0])?;
@@ -88,8 +88,8 @@ impl<'a, T: AsULE> ZeroSlice<'a, T> {
         cells::get(self.bytes, i)
     }
 
-    /// The value at place `i`, counted from 0, which has to be there: for callers who know that it is, and so
-    /// need no test.
+    /// The value at place `i`, counted from 0, which has to be there: for callers who know that it
+    /// is, and so need no test.
     #[inline]
     pub fn at(&self, i: usize) -> T
         requires { i < length (slice_values self.now) }
@@ -115,7 +115,7 @@ impl<'a, T: AsULE> ZeroSlice<'a, T> {
         if len == 0 { None } else { self.get(len - 1) }
     }
 
-    /// The values, one after another. They can be gone through after the view is let go.
+    /// The values, one after another. They can be gone through after the view is dropped.
     #[inline]
     pub fn iter(&self) -> Iter<'a, T>
         ensures items { result ≡ slice_values self.now }
@@ -127,12 +127,14 @@ impl<'a, T: AsULE> ZeroSlice<'a, T> {
     /// The place of a value that is equal to `x`, as [`ZeroVec::binary_search`] gives it.
     ///
     /// # Errors
-    /// The place at which `x` could be inserted so that the values still ascend, where none is equal to it.
+    /// The place at which `x` could be inserted so that the values still ascend, where none is
+    /// equal to it.
     pub fn binary_search(&self, x: &T) -> Result<usize, usize>
     where
         T: Ord,
         ensures bound { IsSearchInRange result (length (slice_values self.now)) }
-        ensures position { IsBinarySearchResult (λ y. T.cmp y x.now) (slice_values self.now) result }
+        ensures position { IsBinarySearchResult (λ y. T.cmp y x.now)
+            (slice_values self.now) result }
     {
         cells::binary_search(self.bytes, x)
     }
@@ -142,7 +144,8 @@ impl<'a, T: AsULE> ZeroSlice<'a, T> {
     pub fn as_bytes(&self) -> &'a [u8]
         ensures packed { IsPacked T.unpack T.WIDTH result.now }
         ensures values { slice_values self.now ≡ values_of T.unpack T.WIDTH result.now }
-        ensures canonical { IsCanonical T.pack T.unpack T.WIDTH → result.now ≡ flat_map T.pack (slice_values self.now) }
+        ensures canonical { IsCanonical T.pack T.unpack T.WIDTH
+            → result.now ≡ flat_map T.pack (slice_values self.now) }
     {
         self.bytes
     }
@@ -161,10 +164,12 @@ impl<'a, T: AsULE> PartialEq for ZeroSlice<'a, T> {
 
     ghost eq = { on slice_values (pointwise (same_bytes T.pack)) };
 
-    ghost laws = { on_per slice_values (lists_per (on_per T.pack (partial_equiv_from_equiv nat_list_eq_equiv))) };
+    ghost laws = { on_per slice_values
+        (lists_per (on_per T.pack (partial_equiv_from_equiv nat_list_eq_equiv))) };
 
     fn eq(&self, other: &Self) -> bool
-        ensures value { result ≡ pointwise (same_bytes T.pack) (slice_values self.now) (slice_values other.now) }
+        ensures value { result
+            ≡ pointwise (same_bytes T.pack) (slice_values self.now) (slice_values other.now) }
         ensures same { IsTrue result ↔ (slice_values self.now ≡ slice_values other.now) }
     {
         cells::same::<T>(self.bytes, other.bytes)
@@ -182,7 +187,8 @@ impl<'a, T: AsULE> Hash for ZeroSlice<'a, T> {
 
     ghost hash_input = { λ s. fed.slice (one_write T.pack) (slice_values s) };
 
-    ghost respects_eq = { (on_Alike slice_values (items_Alike (on_Alike T.pack (same_Alike (λ b. b ∷ []) bytes_decides)))).fed };
+    ghost respects_eq = { (on_Alike slice_values
+        (items_Alike (on_Alike T.pack (same_Alike (λ b. b ∷ []) bytes_decides)))).fed };
 
     fn hash<H: Hasher>(&self, state: &mut H) {
         cells::feed::<T, H>(self.bytes, state);

@@ -7,17 +7,17 @@ use thiserror::Error;
 /// A value of one to four bytes that can be read in place, without a copy, at any address.
 ///
 /// It is implemented for `u8`, `u16`, `u32`, `i8`, `i16`, `i32`, `char` and
-/// [`PotentialCodePoint`](crate::PotentialCodePoint), each with its lowest byte first and the last two in
-/// three bytes. A type of your own is lawful where the packed bytes of each value give the value back.
-/// Several bytes may give one value, as a flag that any byte but zero turns on.
+/// [`PotentialCodePoint`](crate::PotentialCodePoint), each with its lowest byte first and the last
+/// two in three bytes. A type of your own is lawful where the packed bytes of each value give the
+/// value back. Several bytes may give one value, as a flag that any byte but zero turns on.
 pub trait AsULE: Copy {
     /// How many bytes a value takes, 1 to 4.
     const WIDTH: usize;
 
     ghost WIDTH: { ℕ };
 
-    /// What is a value of the type: for `u8` the numbers up to 255, for `char` the Unicode scalar values, and
-    /// so on.
+    /// What is a value of the type: for `u8` the numbers up to 255, for `char` the Unicode scalar
+    /// values, and so on.
     ghost is_value: { Self → Type 0 };
 
     /// The packed bytes of a value.
@@ -26,7 +26,7 @@ pub trait AsULE: Copy {
     /// The value that `WIDTH` bytes give, if they give one.
     ghost unpack: { List ℕ → Option Self };
 
-    /// The packed bytes of the value, and zeros behind them: `0x1234_u16` is `[0x34, 0x12, 0, 0]`.
+    /// The packed bytes of the value, and zeros after them: `0x1234_u16` is `[0x34, 0x12, 0, 0]`.
     fn to_unaligned(self) -> [u8; 4]
         ensures { result ≡ pack self ++ replicate (4 - WIDTH) 0 };
 

@@ -1,4 +1,5 @@
 //! Vectors of packed values that lend or own their bytes.
+ghost use Rattle.std.specs.Iterator.{Drains, IsFinite};
 ghost use Rattle.std.specs.List.Sorted.{IsSearchInRange, IsBinarySearchResult};
 ghost use Rattle.std.specs.Prelude.{◌≡◌, ◌-◌, ◌*◌, ◌^◌, ◌<◌, List, [], length, slice_get, Option, None, IfOk, IfErr, IsTrue, ◌↔◌};
 
@@ -11,8 +12,8 @@ use std::alloc::Global;
 use std::fmt;
 use std::marker::{Model, PhantomData};
 
-/// Bytes that are lent or owned. Both kinds keep the address and the number of their bytes at the same
-/// places, so a read does not look which one it is.
+/// Bytes that are lent or owned. Both kinds keep the address and the number of their bytes at the
+/// same places, so a read does not look which one it is.
 #[derive(Drop)]
 enum Store<'a> {
     Borrowed(&'a [u8]),
@@ -34,7 +35,8 @@ impl<'a> Store<'a> {
     }
 }
 
-/// A vector of values that are kept as bytes, which it borrows or owns. A clause sees the list of the values.
+/// A vector of values that are kept as bytes, which it borrows or owns. A clause sees the list of
+/// the values.
 ///
 /// ```
 /// let points = ZeroVec::<char>::parse_bytes(&[0x41, 0, 0, 0, 0xf6, 1])?;
@@ -42,7 +44,8 @@ impl<'a> Store<'a> {
 /// // ZeroVec::<char>::parse_bytes(&[0x41, 0, 0, 0, 0xd8, 0]) is Err(UleError::Cell(1)), since 0xD800 is a surrogate
 /// ```
 ///
-/// Two vectors are equal, and hash alike, exactly if their lists are equal, whichever of them borrows.
+/// Two vectors are equal, and hash alike, exactly if their lists are equal, whichever of them
+/// borrows.
 #[derive(Drop)]
 pub struct ZeroVec<'a, T: AsULE> {
     store: Store<'a>,
@@ -65,14 +68,16 @@ impl<'a, T: AsULE> Model for ZeroVec<'a, T> {
 impl<'a, T: AsULE> ZeroVec<'a, T> {
     ghost use Rattle.icu_zerovec.specs.Cells.{values_of, IsPacked, IsFault};
 
-    /// The vector that these bytes are, which it borrows: `ZeroVec::<u16>::parse_bytes(&[1, 2])` holds 0x0201
-    /// alone.
+    /// The vector that these bytes are, which it borrows: `ZeroVec::<u16>::parse_bytes(&[1, 2])`
+    /// holds 0x0201 alone.
     ///
     /// # Errors
     /// `UleError::Length` where their number is no multiple of the width of a value, and otherwise
     /// `UleError::Cell` with the first cell that is no value.
     pub fn parse_bytes(bytes: &'a [u8]) -> Result<Self, UleError>
-        ensures ok { IfOk result (λ v. IsPacked T.unpack T.WIDTH bytes.now × (v ≡ values_of T.unpack T.WIDTH bytes.now)) }
+        ensures ok { IfOk result
+            (λ v. IsPacked T.unpack T.WIDTH bytes.now
+            × (v ≡ values_of T.unpack T.WIDTH bytes.now)) }
         ensures err { IfErr result (IsFault T.unpack T.WIDTH bytes.now) }
     {
         cells::test::<T>(bytes)?;
@@ -93,13 +98,42 @@ impl<'a, T: AsULE> ZeroVec<'a, T> {
 
     /// A vector of these values that owns its bytes.
     ///
+    /// ```
+    /// let numbers = ZeroVec::<u16>::alloc_from_slice(alloc, &[0x1234, 255])?;
+    /// // numbers.as_bytes() is [0x34, 0x12, 0xff, 0]
+    /// ```
+    ///
     /// # Errors
     /// `MemoryError` where no memory was found.
     pub fn alloc_from_slice(alloc: Global, values: &[T]) -> Result<Self, MemoryError>
         ensures { IfOk result (λ v. v ≡ values.now) }
     {
+        let vector = ZeroVec::alloc_from_iter(alloc, values.iter().copied())?;
+        Ok(vector)
+    }
+
+    /// A vector of the values that an iterator gives, in their order, which owns its bytes. Each
+    /// value is packed as it comes, so that a conversion needs no list of the converted values. The
+    /// iterator is one that ends.
+    ///
+    /// ```
+    /// let codes = ZeroVec::<u32>::alloc_from_iter(alloc, "AZ".chars().map(|c| u32::from(c)))?;
+    /// // codes.as_bytes() is [0x41, 0, 0, 0, 0x5a, 0, 0, 0]
+    /// ```
+    ///
+    /// # Errors
+    /// `MemoryError` where no memory was found. The iterator is then dropped where it stands.
+    pub fn alloc_from_iter<I: Iterator<Item = T> + Drop>(
+        alloc: Global,
+        values: I,
+    ) -> Result<Self, MemoryError>
+        requires can { I.can_next values }
+        requires finite { IsFinite (I.remaining values) }
+        ensures { IfOk result (λ v. Drains I.next_gives values v) }
+    {
+        let bytes = cells::pack(alloc, values)?;
         Ok(ZeroVec {
-            store: Store::Owned(cells::pack(alloc, values)?),
+            store: Store::Owned(bytes),
             of: PhantomData,
         })
     }
@@ -117,11 +151,12 @@ impl<'a, T: AsULE> ZeroVec<'a, T> {
         })
     }
 
-    /// The vector with bytes of its own. One that owns its bytes already keeps them, and takes no memory.
+    /// The vector with bytes of its own. One that owns its bytes already keeps them, and takes no
+    /// memory.
     ///
     /// # Errors
-    /// `MemoryError` where no memory was found. The vector is then given up, and bytes that it borrowed are
-    /// unchanged.
+    /// `MemoryError` where no memory was found. The vector is then dropped, and bytes that it
+    /// borrowed are unchanged.
     pub fn into_owned(self, alloc: Global) -> Result<ZeroVec<'static, T>, MemoryError>
         ensures { IfOk result (λ v. v ≡ self.entry) }
     {
@@ -204,12 +239,17 @@ impl<'a, T: AsULE> ZeroVec<'a, T> {
         Iter::from_packed(self.bytes())
     }
 
-    /// The place of a value that is equal to `x`, as `Ok`, in a vector whose values ascend. Where several are
-    /// equal, the place of any of them: in `[10, 20, 30]` the place of 20 is `Ok(1)`, and that of 25 is
-    /// `Err(2)`.
+    /// The place of a value that is equal to `x`, as `Ok`, in a vector whose values ascend. Where
+    /// several are equal, the place of any of them.
+    ///
+    /// ```
+    /// let numbers = ZeroVec::<u32>::alloc_from_slice(alloc, &[10, 20, 30])?;
+    /// // numbers.binary_search(&20) is Ok(1), and numbers.binary_search(&25) is Err(2)
+    /// ```
     ///
     /// # Errors
-    /// The place at which `x` could be inserted so that the values still ascend, where none is equal to it.
+    /// The place at which `x` could be inserted so that the values still ascend, where none is
+    /// equal to it.
     pub fn binary_search(&self, x: &T) -> Result<usize, usize>
     where
         T: Ord,
@@ -221,14 +261,15 @@ impl<'a, T: AsULE> ZeroVec<'a, T> {
 
     /// The packed bytes of the values, one after another: as they are kept, borrowed or owned.
     ///
-    /// Where each value of the type has one encoding, as in all types of this crate, these are the bytes that
-    /// the values pack to. For a type of which several bytes are one value they are bytes that give the
-    /// values.
+    /// Where each value of the type has one encoding, as in all types of this crate, these are the
+    /// bytes that the values pack to. For a type of which several bytes are one value they are
+    /// bytes that give the values.
     #[inline]
     pub fn as_bytes(&self) -> &[u8]
         ensures packed { IsPacked T.unpack T.WIDTH result.now }
         ensures values { self.now ≡ values_of T.unpack T.WIDTH result.now }
-        ensures canonical { IsCanonical T.pack T.unpack T.WIDTH → result.now ≡ flat_map T.pack self.now }
+        ensures canonical { IsCanonical T.pack T.unpack T.WIDTH
+            → result.now ≡ flat_map T.pack self.now }
     {
         self.store.bytes()
     }
@@ -248,15 +289,17 @@ impl<'a, T: AsULE> ZeroVec<'a, T> {
     ghost use Rattle.icu_zerovec.specs.Cells.{values_of, IsFault, IsCell, IsConverted};
     ghost use Rattle.std.specs.List.{flat_map};
 
-    /// The same bytes as values of another type of the same width: borrowed or owned as they were, none of
-    /// them copied.
+    /// The same bytes as values of another type of the same width: borrowed or owned as they were,
+    /// none of them copied.
     ///
-    /// Each vector of `char` is one of `PotentialCodePoint`, and the other way round the cells decide. The
-    /// clauses speak of some bytes that give the values, which are known exactly where each value has one
-    /// encoding. That they are the vector's own, and stay where they are, is in no clause.
+    /// Each vector of `char` is one of `PotentialCodePoint`, and the other way round the cells
+    /// decide. The clauses speak of some bytes that give the values, which are known exactly where
+    /// each value has one encoding. That they are the vector's own, and stay where they are, is in
+    /// no clause.
     ///
     /// # Errors
-    /// `UleError::Cell` with the first cell that is no value of the other type. The vector is then given up.
+    /// `UleError::Cell` with the first cell that is no value of the other type. The vector is then
+    /// dropped.
     pub fn try_into_converted<P: AsULE>(self) -> Result<ZeroVec<'a, P>, UleError>
         requires { T.WIDTH ≡ P.WIDTH }
         ensures bytes { IsConverted T.unpack T.WIDTH P.unpack P.WIDTH self.entry result }
@@ -264,7 +307,8 @@ impl<'a, T: AsULE> ZeroVec<'a, T> {
             IfOk result (λ v. v ≡ values_of P.unpack P.WIDTH (flat_map T.pack self.entry)) }
         ensures keeps { IsCanonical T.pack T.unpack T.WIDTH → IsCanonical P.pack P.unpack P.WIDTH →
             IfOk result (λ v. flat_map P.pack v ≡ flat_map T.pack self.entry) }
-        ensures err { IsCanonical T.pack T.unpack T.WIDTH → IfErr result (IsFault P.unpack P.WIDTH (flat_map T.pack self.entry)) }
+        ensures err { IsCanonical T.pack T.unpack T.WIDTH
+            → IfErr result (IsFault P.unpack P.WIDTH (flat_map T.pack self.entry)) }
         ensures cell { IfErr result IsCell }
     {
         let ZeroVec { store, of: _ } = self;

@@ -1,6 +1,6 @@
-//! What no clause says of sets: examples from outside, printed texts, that calls succeed, refused memory.
-//! An assertion stands only in a helper that takes what it compares by value, since each assertion is checked
-//! once for every value that is still to be dropped there.
+//! What no clause says of sets: examples from outside, printed texts, that calls succeed, refused
+//! memory. An assertion stands only in a helper that takes what it compares by value, since each
+//! assertion is checked once for every value that is still to be dropped there.
 mod code_points;
 mod texts;
 

@@ -1,8 +1,8 @@
-//! What no clause says of tries that are made of their parts: examples whose answers come from outside, packed values of a
-//! user's own, and headers that lie.
+//! What no clause says of tries that are made of their parts: examples whose answers come from
+//! outside, packed values of a user's own, and headers that lie.
 //!
-//! An assert stands in a small helper without a contract, and a value that owns memory is handed to it: a proof of a test
-//! that asserts and holds such values at the same time is long.
+//! An assert stands in a small helper without a contract, and a value that owns memory is handed to
+//! it: a proof of a test that asserts and holds such values at the same time is long.
 
 mod coherence;
 mod constants;

@@ -6,7 +6,7 @@ use Rattle.std.proofs.lemmas.List.Splits.{slice_split_first, slice_split_none, l
 use Rattle.std.proofs.Math.Dec.{eqb-suc-zero}
 use Rattle.std.proofs.lemmas.List.Sums.{fails_before_first}
 
--- a part with another behind it is a line
+-- a part with another after it is a line
 first_part : (part : List ℕ) (parts : List (List ℕ)) → 0 < length parts → lines_of_parts (part ∷ parts) ≡ strip_carriage_return part ∷ lines_of_parts parts
 first_part part [] some = absurd (omega arith)
 first_part part (next ∷ parts) some = refl

@@ -14,7 +14,7 @@ pub hex_written : (n : ℕ) → padded_integral (format_spec 32 0 4 4 (2 ^ 64 - 
 unfolding padded_integral hex_text char_count
 hex_written n = simp (sub-zero, append-nil)
 
--- the line of a run behind a text, in its two parts and in one
+-- the line of a run after a text, in its two parts and in one
 pub run_line-range : (text : List ℕ) (r : Run ℕ) → r.first < r.last → (text ++ (hex_text r.first ++ (46 ∷ (46 ∷ [])))) ++ answer_line r.last r.value ≡ text ++ run_line r
 unfolding run_line
 run_line-range text r some =
@@ -28,5 +28,5 @@ run_line-point text r one =
     let test : nat_lt r.first r.last ≡ false = grind (arith, nat_tests) in
     rw test refl
 
--- one write behind another, and the digits of a number
+-- one write after another, and the digits of a number
 pub ruleset printing = (Appends-trans, decimal_digit, decimal_step)

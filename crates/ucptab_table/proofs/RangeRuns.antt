@@ -3,7 +3,8 @@ use Rattle.std.proofs.Common.{◌≡◌, ◌≢◌, ℕ, List, [], ◌∷◌, ma
 use Rattle.icu_trie_core.specs.Range.{run_of}
 use Rattle.icu_trie_core.specs.Runs.{Run, AreMaximalRuns, some_run}
 use Rattle.icu_trie_core.specs.declared.range.CodePointMapRange.{CodePointMapRange}
-use Rattle.ucptab_table.specs.TableText.{answers_text, run_of_values, runs_text, IsTextOfMap}
+use Rattle.ucptab_table.specs.TableText.{answers_text, runs_text, IsTextOfMap}
+use Rattle.ucptab_table.specs.Inside.Ranges.{run_of_values}
 
 -- a run of the answers is a run of the values
 pub runs-of-ranges : (xs : List (CodePointMapRange ℕ)) → map run_of xs ≡ map some_run (map run_of_values xs)

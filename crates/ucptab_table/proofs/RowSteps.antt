@@ -28,9 +28,9 @@ module _ (all : List (List ℕ)) (n : ℕ) (line : List ℕ) (more : List (List 
   split : get_or all n line ∷ drop (n + 1) all ≡ line ∷ more
   split = sym (drop_more all n line within) ∙ left
 
-  -- what is left behind the line
-  pub left_behind : drop (n + 1) all ≡ more
-  left_behind = let e = split in cc
+  -- what is left after the line
+  pub left_after : drop (n + 1) all ≡ more
+  left_after = let e = split in cc
 
   front : take (n + 1) all ≡ take n all ++ line ∷ []
   front = let e = split in let at : get_or all n line ≡ line = cc in take_more all n line within ∙ ap (λ x. take n all ++ x ∷ []) at
@@ -43,7 +43,7 @@ module _ (all : List (List ℕ)) (n : ℕ) (line : List ℕ) (more : List (List 
   pub writes_more : (ws : List (Write ℕ)) (said : Option (Write ℕ)) → row_of line ≡ Ok said → ws ≡ filter_map write_of (take n all) → ws ++ option_to_list said ≡ filter_map write_of (take (n + 1) all)
   writes_more ws said is writes = rw (front, filter_map-append, is, writes) (ap (λ x. filter_map write_of (take n all) ++ x) (option_as_list said))
 
--- a line with a fault, behind lines with none
+-- a line with a fault, after lines with none
 pub first_fault : (input : List ℕ) (n : ℕ) (line : List ℕ) (more : List (List ℕ)) (f : RowFault) → drop n (lines input) ≡ line ∷ more → row_of line ≡ Err f
     → All IsFaultless (take n (lines input)) → IsFirstFault input (n + 1) f
 first_fault input n line more f left is faultless =

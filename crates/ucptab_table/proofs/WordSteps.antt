@@ -31,7 +31,7 @@ module _ {X : Type 0} (bytes : X → List ℕ) where
   unfolding asked_of
   asked_of_some words some = rw (list_all-map, some) refl
 
-  -- the first three words, and those behind them
+  -- the first three words, and those after them
   pub three_words : (words : List X) (kind default error : X) → 3 ≤ length words → kind ≡ get_or words 0 kind → default ≡ get_or words 1 default → error ≡ get_or words 2 error
       → arguments_of (map bytes words) ≡ arguments (trie_type_of (bytes kind)) (value_of (bytes default)) (value_of (bytes error)) (asked_of (map bytes (drop 3 words)))
   unfolding arguments_of

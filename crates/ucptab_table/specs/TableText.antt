@@ -1,6 +1,6 @@
--- The text of a table: the rows that it is read from, and the lines that are printed. Bytes are numbers, as
--- 59 for `;`.
-use Rattle.std.specs.Prelude.{◌≡◌, ◌<◌, ◌-◌, ℕ, ◌==◌, nat_eq, nat_lt, nat_le, ◌||◌, ◌&&◌, Bool, true, false, List, [], ◌∷◌, ◌++◌, length, take, drop, slice_get, slice_index, reverse, replicate, Option, Some, None, Result, Ok, Err, IsOk, IfSome, IsSomeAnd, All, if◌then◌else◌, codes, decimal}
+-- The text of a table: the rows that it is read from, and the lines that are printed. Bytes are
+-- numbers, as 59 for `;`.
+use Rattle.std.specs.Prelude.{◌≡◌, ◌<◌, ◌-◌, ℕ, ◌==◌, nat_lt, nat_le, ◌||◌, ◌&&◌, Bool, true, false, List, [], ◌∷◌, ◌++◌, length, take, drop, slice_get, slice_index, reverse, replicate, Option, Some, None, Result, Ok, Err, IsOk, IfSome, IsSomeAnd, All, if◌then◌else◌, codes, decimal}
 use Rattle.std.specs.List.{before_first, after_first, list_all, filter_map, flat_map}
 use Rattle.std.specs.Option.{option_map, option_and_then}
 use Rattle.std.specs.Result.{result_unwrap_or}
@@ -9,9 +9,8 @@ use Rattle.std.specs.Str.Lines.{lines}
 use Rattle.std.specs.Str.Parse.{digits_value}
 use Rattle.std.specs.Fmt.{digits}
 use Rattle.std.specs.Io.KnownBytes.{IsAtEnd}
-use Rattle.std.specs.Range.{range_inclusive_start, range_inclusive_end}
+use Rattle.icu_zerovec.specs.CodePoints.{code_point_limit}
 use Rattle.icu_trie_core.specs.Runs.{Run, AreMaximalRuns}
-use Rattle.icu_trie_core.specs.declared.range.CodePointMapRange.{CodePointMapRange}
 use Rattle.icu_trie_builder.specs.declared.writes.Write.{Write}
 use Rattle.icu_trie_builder.specs.declared.writes.Write.TheVariants.{One, Range}
 use Rattle.icu_trie_builder.specs.Bounds.{IsTooLarge}
@@ -25,10 +24,12 @@ use Rattle.ucptab_table.specs.declared.rows.CodePoints.TheVariants.{Single, Span
 
 -- ---- Numbers and fields
 
--- the number that 1 to `most` digits of a base write, the first digit highest, and none for any other bytes
+-- the number that 1 to `most` digits of a base write, the first digit highest, and none for any
+-- other bytes
 unfoldable pub number_of : ℕ → ℕ → List ℕ → Option ℕ
 number_of base most bytes =
-    if nat_lt 0 (length bytes) && (nat_le (length bytes) most && list_all (λ c. is_digit c base) bytes)
+    if nat_lt 0 (length bytes)
+    && (nat_le (length bytes) most && list_all (λ c. is_digit c base) bytes)
     then Some (digits_value base bytes) else None
 
 -- HEX: 1 to 8 hexadecimal digits of either case
@@ -48,7 +49,7 @@ abbrev pub trim_start : List ℕ → List ℕ
 trim_start [] = []
 trim_start (b ∷ bytes) = if is_blank b then trim_start bytes else b ∷ bytes
 
--- bytes without the spaces and tabs behind them
+-- bytes without the spaces and tabs after them
 unfoldable pub trim_end : List ℕ → List ℕ
 trim_end bytes = reverse (trim_start (reverse bytes))
 
@@ -56,22 +57,23 @@ trim_end bytes = reverse (trim_start (reverse bytes))
 unfoldable pub trimmed : List ℕ → List ℕ
 trimmed bytes = trim_end (trim_start bytes)
 
--- what stands before the first byte that is `mark`, or all where none is, and what stands behind it, or
--- nothing where none is
+-- what stands before the first byte that is `mark`, or all where none is, and what stands after it,
+-- or nothing where none is
 unfoldable pub before : ℕ → List ℕ → List ℕ
 before mark bytes = before_first (λ b. b == mark) bytes
 
-unfoldable pub behind : ℕ → List ℕ → List ℕ
-behind mark bytes = after_first (λ b. b == mark) bytes
+unfoldable pub after : ℕ → List ℕ → List ℕ
+after mark bytes = after_first (λ b. b == mark) bytes
 
 -- ---- Rows
 
--- `HEX..HEX`, where the first `.` has a `.` behind it, and else `HEX`
+-- `HEX..HEX`, where the first `.` has a `.` after it, and else `HEX`
 unfoldable pub code_points_of : List ℕ → Option CodePoints
 code_points_of field =
-    let first = before 46 field in let rest = behind 46 field in
+    let first = before 46 field in let rest = after 46 field in
     if slice_index rest 0 == 46
-    then option_and_then (λ start. option_map (Span start) (hexadecimal (drop 1 rest))) (hexadecimal first)
+    then option_and_then (λ start. option_map (Span start) (hexadecimal (drop 1 rest)))
+    (hexadecimal first)
     else option_map Single (hexadecimal field)
 
 -- the first and the last of the code points
@@ -86,12 +88,14 @@ last_of (Span start end) = end
 -- the write of a value at the code points
 abbrev pub write_at : CodePoints → ℕ → Write ℕ
 write_at (Single c) value = One c value
-write_at (Span start end) value = Range (record { start = start; end = end; exhausted = false }) value
+write_at (Span start end) value =
+    Range (record { start = start; end = end; exhausted = false }) value
 
 -- the write of a row, or the first fault of its numbers
 unfoldable pub row_of_numbers : CodePoints → ℕ → Result (Write ℕ) RowFault
 row_of_numbers points value =
-    if nat_lt 0x10FFFF (first_of points) || nat_lt 0x10FFFF (last_of points) then Err CodePoint
+    if nat_le code_point_limit (first_of points) || nat_le code_point_limit (last_of points)
+    then Err CodePoint
     else (if nat_lt (last_of points) (first_of points) then Err Reversed
     else (if nat_lt 0xFFFFFFFF value then Err Value
     else Ok (write_at points value)))
@@ -111,13 +115,14 @@ written (Err fault) = Err fault
 abbrev pub content_of : List ℕ → List ℕ
 content_of line = trimmed (before 35 line)
 
--- what a line says: nothing where its content is empty, and else the write of the row `CODE POINTS ; N`, or
--- its fault
+-- what a line says: nothing where its content is empty, and else the write of the row `CODE POINTS
+-- ; N`, or its fault
 unfoldable pub row_of : List ℕ → Result (Option (Write ℕ)) RowFault
 row_of line =
     let content = content_of line in
     if length content == 0 then Ok None
-    else written (row_of_fields (code_points_of (trimmed (before 59 content))) (decimal_number (trimmed (behind 59 content))))
+    else written (row_of_fields (code_points_of (trimmed (before 59 content)))
+    (decimal_number (trimmed (after 59 content))))
 
 -- the write of a line, where it has one
 abbrev pub write_of : List ℕ → Option (Write ℕ)
@@ -127,8 +132,8 @@ write_of line = result_unwrap_or (row_of line) None
 abbrev pub IsFaultless : List ℕ → Type 0
 IsFaultless line = IsOk (row_of line)
 
--- no line of the input has a fault, and ws are the writes of its lines, in order. Lines end with LF, which
--- may have a CR before it, or with the input; behind a last LF there is no line
+-- no line of the input has a fault, and ws are the writes of its lines, in order. Lines end with
+-- LF, which may have a CR before it, or with the input; after a last LF there is no line
 pub record AreRows (input : List ℕ) (ws : List (Write ℕ)) : Type 0 where
   pub faultless : All IsFaultless (lines input)
   pub writes : ws ≡ filter_map write_of (lines input)
@@ -157,28 +162,27 @@ answer_line n answer = hex_text n ++ (59 ∷ (decimal_text answer ++ (10 ∷ [])
 abbrev pub answers_text : (ℕ → ℕ) → List ℕ → List ℕ
 answers_text answer asked = flat_map (λ n. answer_line n (answer n)) asked
 
--- a range of a trie as a run of its values
-abbrev pub run_of_values : CodePointMapRange ℕ → Run ℕ
-run_of_values x = record { first = range_inclusive_start x.range; last = range_inclusive_end x.range; value = x.value }
-
 -- the line of a run, `HEX..HEX;N` LF, and `HEX;N` LF where it is one code point
 unfoldable pub run_line : Run ℕ → List ℕ
 run_line r =
-    if nat_lt r.first r.last then hex_text r.first ++ (46 ∷ (46 ∷ answer_line r.last r.value)) else answer_line r.last r.value
+    if nat_lt r.first r.last
+    then hex_text r.first ++ (46 ∷ (46 ∷ answer_line r.last r.value))
+    else answer_line r.last r.value
 
 -- the lines of all runs, in order
 abbrev pub runs_text : List (Run ℕ) → List ℕ
 runs_text runs = flat_map run_line runs
 
--- what is printed where these numbers are asked of a map with these answers: their lines, and where none is
--- asked the lines of the map's maximal runs
+-- what is printed where these numbers are asked of a map with these answers: their lines, and where
+-- none is asked the lines of the map's maximal runs
 abbrev pub IsTextOfMap : (ℕ → ℕ) → (ℕ → ℕ) → List ℕ → List ℕ → Type 0
-IsTextOfMap value answer [] text = (runs : List (Run ℕ)) × (AreMaximalRuns value runs × (text ≡ runs_text runs))
+IsTextOfMap value answer [] text = (runs : List (Run ℕ))
+    × (AreMaximalRuns value runs × (text ≡ runs_text runs))
 IsTextOfMap value answer (n ∷ asked) text = text ≡ answers_text answer (n ∷ asked)
 
--- no line of the input has a fault, and the text is that of the map of its writes: each code point has the value
--- of the last write of the input that covers it and the default where none does, and a number above the code
--- space the error value
+-- no line of the input has a fault, and the text is that of the map of its writes: each code point
+-- has the value of the last write of the input that covers it and the default where none does, and
+-- a number above the code space the error value
 abbrev pub IsTableText : List ℕ → ℕ → ℕ → List ℕ → List ℕ → Type 0
 IsTableText input default error asked text = (ws : List (Write ℕ)) × (AreRows input ws
     × IsTextOfMap (value_after ws default) (answer_after default error ws) asked text)
@@ -197,16 +201,18 @@ fault_text Memory = codes "no memory"
 fault_text Read = codes "read fault"
 fault_text WriteFault = codes "write fault"
 
--- no line of the input has a fault, and its writes over the default make a map that has too many different
--- blocks for a trie
+-- no line of the input has a fault, and its writes over the default make a map that has too many
+-- different blocks for a trie
 abbrev pub IsTooLargeInput : ℕ → List ℕ → Type 0
 IsTooLargeInput default input =
     (ws : List (Write ℕ)) × (AreRows input ws × IsTooLarge (value_after ws default))
 
--- a fault has its cause, where a reader's bytes were `before` and are `after`, as far as they are known: a
--- row's fault is the first one of the whole input, which is read to its end, as it is before a map is found
--- too large, and at a read fault the count of failed reads rose
-pub record HasCause (default : ℕ) (before after : Option (List ℕ)) (failures_before failures_after : ℕ) (fault : TableError) : Type 0 where
-  pub row : (k : ℕ) (f : RowFault) → fault ≡ Row k f → IfSome before (λ input. IsFirstFault input k f) × IsAtEnd after
+-- a fault has its cause, where a reader's bytes were `before` and are `after`, as far as they are
+-- known: a row's fault is the first one of the whole input, which is read to its end, as it is
+-- before a map is found too large, and at a read fault the count of failed reads rose
+pub record HasCause (default : ℕ) (before after : Option (List ℕ))
+    (failures_before failures_after : ℕ) (fault : TableError) : Type 0 where
+  pub row : (k : ℕ) (f : RowFault) → fault ≡ Row k f
+      → IfSome before (λ input. IsFirstFault input k f) × IsAtEnd after
   pub too_large : fault ≡ TooLarge → IfSome before (IsTooLargeInput default) × IsAtEnd after
   pub read : fault ≡ Read → failures_before < failures_after

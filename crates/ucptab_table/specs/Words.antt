@@ -7,7 +7,8 @@ use Rattle.icu_trie_core.specs.declared.header.TrieType.{TrieType}
 use Rattle.icu_trie_core.specs.declared.header.TrieType.TheVariants.{Fast, Small}
 use Rattle.ucptab_table.specs.TableText.{hexadecimal, decimal_number}
 
--- what the words ask for: a trie of this type over these values, and the numbers whose answers are wanted
+-- what the words ask for: a trie of this type over these values, and the numbers whose answers are
+-- wanted
 pub record Arguments : Type 0 where
   pub trie_type : TrieType
   pub default : ℕ
@@ -22,11 +23,13 @@ trie_type_of word =
 
 -- a value: 1 to 10 decimal digits of at most 4294967295
 unfoldable pub value_of : List ℕ → Option ℕ
-value_of word = option_and_then (λ n. if nat_le n 0xFFFFFFFF then Some n else None) (decimal_number word)
+value_of word =
+    option_and_then (λ n. if nat_le n 0xFFFFFFFF then Some n else None) (decimal_number word)
 
 -- the numbers of the words, where each is HEX, and none where one is not
 unfoldable pub asked_of : List (List ℕ) → Option (List ℕ)
-asked_of words = if list_all (λ word. is_some (hexadecimal word)) words then Some (filter_map hexadecimal words) else None
+asked_of words = if list_all (λ word. is_some (hexadecimal word)) words
+    then Some (filter_map hexadecimal words) else None
 
 -- the first three words and the asked numbers together
 abbrev pub arguments : Option TrieType → Option ℕ → Option ℕ → Option (List ℕ) → Option Arguments
@@ -34,7 +37,8 @@ arguments (Some trie_type) (Some default) (Some error) (Some asked) =
     Some (record { trie_type = trie_type; default = default; error = error; asked = asked })
 arguments trie_type default error asked = None
 
--- what the words behind the program's name ask for, and none where they can't be read
+-- what the words after the program's name ask for, and none where they can't be read
 unfoldable pub arguments_of : List (List ℕ) → Option Arguments
-arguments_of (kind ∷ (default ∷ (error ∷ asked))) = arguments (trie_type_of kind) (value_of default) (value_of error) (asked_of asked)
+arguments_of (kind ∷ (default ∷ (error ∷ asked))) =
+    arguments (trie_type_of kind) (value_of default) (value_of error) (asked_of asked)
 arguments_of words = None

@@ -79,7 +79,8 @@ impl Error for TableError {}
 impl From<BuildError> for TableError {
     ghost use Rattle.icu_trie_compaction.specs.declared.error.BuildError.TheVariants.{TooLarge as BuildTooLarge};
 
-    ghost from_gives = { λ from e. (e ≡ TooLarge → from ≡ BuildTooLarge) × ((e ≡ TooLarge) ⊎ (e ≡ Memory)) };
+    ghost from_gives = { λ from e. (e ≡ TooLarge → from ≡ BuildTooLarge)
+        × ((e ≡ TooLarge) ⊎ (e ≡ Memory)) };
 
     fn from(error: BuildError) -> TableError {
         match error {

@@ -7,7 +7,7 @@ ghost use Rattle.ucptab_table.specs.declared.fault.RowFault.{RowFault};
 ghost use Rattle.ucptab_table.specs.declared.fault.TableError.TheVariants.{Row, Memory, Read};
 
 use crate::fault::TableError;
-use crate::rows::{place_of, row_of};
+use crate::rows::{position_or_len, row_of};
 use crate::streams::{Failed, Source};
 use icu_trie_builder::writes::Write;
 use std::alloc::Global;
@@ -50,13 +50,13 @@ fn strip_carriage_return(line: &[u8]) -> &[u8]
     }
 }
 
-/// The first line, and what is behind its LF. `None` where there is no line.
+/// The first line, and what is after its LF. `None` where there is no line.
 fn first_line(input: &[u8]) -> Option<(&[u8], &[u8])>
     ensures none { IfNone result (lines input.now ≡ []) }
     ensures some { IfSome result (λ cut. lines input.now ≡ cut.0.now ∷ lines cut.1.now) }
     ensures shorter { IfSome result (λ cut. length cut.1.now < length input.now) }
 {
-    let place = place_of(b'\n', input);
+    let place = position_or_len(b'\n', input);
     if place < input.len() {
         return Some((strip_carriage_return(&input[..place]), &input[place + 1..]));
     }
@@ -70,8 +70,10 @@ fn first_line(input: &[u8]) -> Option<(&[u8], &[u8])>
 /// counted from 1, and `Memory` where the writes found no room.
 pub fn read_rows(alloc: Global, input: &[u8]) -> Result<Vec<Write<u32>>, TableError>
     ensures ok { IfOk result (λ writes. AreRows input.now writes.items) }
-    ensures row { (k : ℕ) (f : RowFault) → IfErr result (λ e. e ≡ Row k f → IsFirstFault input.now k f) }
-    ensures no_other { IfErr result (λ e. (e ≡ Memory) ⊎ ((k : ℕ) × ((f : RowFault) × (e ≡ Row k f)))) }
+    ensures row { (k : ℕ) (f : RowFault) → IfErr result (λ e. e ≡ Row k f
+        → IsFirstFault input.now k f) }
+    ensures no_other { IfErr result (λ e. (e ≡ Memory) ⊎ ((k : ℕ) × ((f : RowFault)
+        × (e ≡ Row k f)))) }
 {
     let mut writes = Vec::new(alloc);
     let mut number = 0u64;

@@ -11,9 +11,9 @@ ghost use Rattle.ucptab_table.specs.Words.{arguments_of};
 ghost use Rattle.ucptab_table.specs.declared.fault.TableError.{TableError};
 ghost use Rattle.ucptab_table.specs.declared.fault.TableError.TheVariants.{Memory, TooLarge, Write as WriteFault};
 
+pub mod digits;
 pub mod fault;
 pub mod input;
-pub mod numbers;
 pub mod rows;
 pub mod streams;
 pub mod text;
@@ -32,8 +32,8 @@ use std::alloc::Global;
 /// What the program takes.
 pub const USAGE: &str = "usage: ucptab fast|small DEFAULT ERROR [HEX ..]\n";
 
-/// The lines of the asked numbers, as a trie of these writes answers them, and where none is asked those of its
-/// ranges.
+/// The lines of the asked numbers, as a trie of these writes answers them, and where none is asked
+/// those of its ranges.
 #[tactic(auto, using(crate::proofs::RangeRuns::text_of_some))]
 fn answer_text(
     alloc: Global,
@@ -57,8 +57,9 @@ fn answer_text(
     }
 }
 
-/// Reads the table to its end, and writes the lines of the asked numbers by one call, or where none is asked
-/// those of all ranges of equal values. Every fault but that of the write comes before a byte is written.
+/// Reads the table to its end, and writes the lines of the asked numbers by one call, or where none
+/// is asked those of all ranges of equal values. Every fault but that of the write comes before a
+/// byte is written.
 pub fn run<S: Source, W: Sink>(
     alloc: Global,
     trie_type: TrieType,
@@ -112,7 +113,8 @@ fn answer<S: Source, W: Sink>(
         × Appends (W.contents writer.old) (W.contents writer.new) text))) }
     ensures counted { IfOk result (λ _. S.failures reader.new ≡ S.failures reader.old) }
     ensures written { IfOk result (λ _. W.failures writer.new ≡ W.failures writer.old) }
-    ensures cause { IfErr result (HasCause request.entry.default (S.remaining reader.old) (S.remaining reader.new)
+    ensures cause { IfErr result (HasCause request.entry.default (S.remaining reader.old)
+        (S.remaining reader.new)
         (S.failures reader.old) (S.failures reader.new)) }
     ensures write_fault { IfErr result
         (λ e. e ≡ WriteFault → W.failures writer.old < W.failures writer.new) }
@@ -130,9 +132,9 @@ fn answer<S: Source, W: Sink>(
     )
 }
 
-/// What the program does with the words behind its name, and its status: 0 where the asked numbers
-/// are answered, or the ranges printed where none is asked, 1 where a fault's line is written, and 2 where the usage line is. Where a line can't
-/// be written, the status is the same.
+/// What the program does with the words after its name, and its status: 0 where the asked numbers
+/// are answered, or the ranges printed where none is asked, 1 where a fault's line is written, and
+/// 2 where the usage line is. Where a line can't be written, the status is the same.
 pub fn run_words<S: Source, W: Sink>(
     alloc: Global,
     words: &[String],

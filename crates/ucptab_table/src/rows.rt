@@ -1,14 +1,12 @@
 //! What a line of the table says.
 ghost use Rattle.std.specs.Prelude.{◌≡◌, ◌≤◌, ◌==◌, length};
 ghost use Rattle.std.specs.List.{position_or_len};
-ghost use Rattle.ucptab_table.specs.TableText.{trim_start, trim_end, trimmed, before, behind, code_points_of, row_of_numbers, content_of, row_of};
+ghost use Rattle.ucptab_table.specs.TableText.{trim_start, trim_end, trimmed, before, after, code_points_of, row_of_numbers, content_of, row_of};
 
+use crate::digits::{decimal_number, hexadecimal};
 use crate::fault::RowFault;
-use crate::numbers::{decimal_number, hexadecimal};
 use icu_trie_builder::writes::Write;
-
-/// The largest code point.
-const LAST_CODE_POINT: u32 = 0x10FFFF;
+use icu_zerovec::CODE_POINT_LIMIT;
 
 /// The code points that a row speaks of.
 #[derive(Clone, Copy, Debug, PartialEq, Eq)]
@@ -30,7 +28,7 @@ fn trim_start(bytes: &[u8]) -> &[u8]
     rest
 }
 
-/// The bytes without the spaces and tabs behind them.
+/// The bytes without the spaces and tabs after them.
 #[tactic(auto, using(crate::proofs::Bytes::trim_end_blank, crate::proofs::Bytes::trim_end_other, crate::proofs::Bytes::trim_end_none))]
 fn trim_end(bytes: &[u8]) -> &[u8]
     ensures { result.now ≡ trim_end bytes.now }
@@ -51,7 +49,7 @@ fn trimmed(bytes: &[u8]) -> &[u8]
 }
 
 /// The place of the first byte that is `mark`, or the length where none is.
-pub fn place_of(mark: u8, bytes: &[u8]) -> usize
+pub fn position_or_len(mark: u8, bytes: &[u8]) -> usize
     ensures place { result ≡ position_or_len (λ b. b == mark) bytes.now }
     ensures within { result ≤ length bytes.now }
 {
@@ -66,15 +64,15 @@ pub fn place_of(mark: u8, bytes: &[u8]) -> usize
 pub fn before(mark: u8, bytes: &[u8]) -> &[u8]
     ensures { result.now ≡ before mark bytes.now }
 {
-    &bytes[..place_of(mark, bytes)]
+    &bytes[..position_or_len(mark, bytes)]
 }
 
-/// What stands behind the first byte that is `mark`: nothing where none is.
-#[tactic(auto, unfolding(crate::specs::TableText::behind))]
-pub fn behind(mark: u8, bytes: &[u8]) -> &[u8]
-    ensures { result.now ≡ behind mark bytes.now }
+/// What stands after the first byte that is `mark`: nothing where none is.
+#[tactic(auto, unfolding(crate::specs::TableText::after))]
+pub fn after(mark: u8, bytes: &[u8]) -> &[u8]
+    ensures { result.now ≡ after mark bytes.now }
 {
-    let place = place_of(mark, bytes);
+    let place = position_or_len(mark, bytes);
     if place < bytes.len() {
         &bytes[place + 1..]
     } else {
@@ -87,7 +85,7 @@ pub fn behind(mark: u8, bytes: &[u8]) -> &[u8]
 fn code_points_of(field: &[u8]) -> Option<CodePoints>
     ensures { result ≡ code_points_of field.now }
 {
-    if let [b'.', end @ ..] = behind(b'.', field) {
+    if let [b'.', end @ ..] = after(b'.', field) {
         let start = hexadecimal(before(b'.', field))?;
         let end = hexadecimal(end)?;
         return Some(CodePoints::Span(start, end));
@@ -105,7 +103,7 @@ fn row_of_numbers(points: CodePoints, value: u64) -> Result<Write<u32>, RowFault
         CodePoints::Single(code_point) => (code_point, code_point),
         CodePoints::Span(start, end) => (start, end),
     };
-    if start > LAST_CODE_POINT || end > LAST_CODE_POINT {
+    if start >= CODE_POINT_LIMIT || end >= CODE_POINT_LIMIT {
         return Err(RowFault::CodePoint);
     }
     if start > end {
@@ -127,7 +125,8 @@ fn content_of(line: &[u8]) -> &[u8]
     trimmed(before(b'#', line))
 }
 
-/// What a line says: its write, `None` where the line is empty or a comment, or what is wrong with it.
+/// What a line says: its write, `None` where the line is empty or a comment, or what is wrong with
+/// it.
 #[tactic(auto, unfolding(crate::specs::TableText::row_of))]
 pub fn row_of(line: &[u8]) -> Result<Option<Write<u32>>, RowFault>
     ensures { result ≡ row_of line.now }
@@ -139,7 +138,7 @@ pub fn row_of(line: &[u8]) -> Result<Option<Write<u32>>, RowFault>
     let Some(points) = code_points_of(trimmed(before(b';', content))) else {
         return Err(RowFault::NotARow);
     };
-    let Some(value) = decimal_number(trimmed(behind(b';', content))) else {
+    let Some(value) = decimal_number(trimmed(after(b';', content))) else {
         return Err(RowFault::NotARow);
     };
     let write = row_of_numbers(points, value)?;

@@ -15,8 +15,8 @@ pub trait Source {
     /// How many reads failed.
     ghost failures: { Self → ℕ };
 
-    /// Fills the front of `buf`, and answers how many bytes that took: where `buf` has room, 0 only at
-    /// the end. A read that fails may have lost bytes.
+    /// Fills the front of `buf`, and answers how many bytes that took: where `buf` has room, 0 only
+    /// at the end. A read that fails may have lost bytes.
     fn read(&mut self, buf: &mut [u8]) -> Result<usize, Failed>
         ensures bound { ReadsAtMost result buf.new }
         ensures bytes { IfOk result

@@ -1,10 +1,12 @@
 //! The lines that are printed.
 ghost use Rattle.std.specs.Prelude.{◌≡◌, ℕ, ◌+◌, ◌<◌, ◌^◌, [], ◌∷◌, ◌++◌, List, IfOk, IfErr, decimal, string_bytes};
 ghost use Rattle.std.specs.Io.KnownBytes.{Appends};
+ghost use Rattle.icu_zerovec.specs.CodePoints.{code_point_limit};
 ghost use Rattle.icu_trie_core.specs.Numbers.{fitting};
 ghost use Rattle.icu_trie.specs.Ranges.{answers, IsCoherentTrie};
 ghost use Rattle.icu_trie_core.specs.Runs.{Run, AreMaximalRuns};
-ghost use Rattle.ucptab_table.specs.TableText.{answer_line, answers_text, fault_text, hex_text, run_line, run_of_values, runs_text};
+ghost use Rattle.ucptab_table.specs.TableText.{answer_line, answers_text, fault_text, hex_text, run_line, runs_text};
+ghost use Rattle.ucptab_table.specs.Inside.Ranges.{run_of_values};
 
 use crate::fault::TableError;
 use crate::streams::{Failed, Sink};
@@ -15,7 +17,8 @@ use std::alloc::{AllocError, Global};
 /// The line of one asked number: the number, in at least four hexadecimal digits, and its answer.
 #[tactic(auto, using(crate::proofs::Printed::hex_written), unfolding(crate::specs::TableText::answer_line))]
 fn push_answer(text: &mut String, asked: u32, answer: u32) -> Result<(), AllocError>
-    ensures { IfOk result (λ _. string_bytes text.new ≡ string_bytes text.old ++ answer_line asked answer) }
+    ensures { IfOk result (λ _. string_bytes text.new
+        ≡ string_bytes text.old ++ answer_line asked answer) }
 {
     writeln!(text, "{asked:04X};{answer}")
 }
@@ -37,18 +40,20 @@ pub fn answers_text<F: Fn(u32) -> u32>(
     Ok(text)
 }
 
-/// A number in at least four hexadecimal digits, and two dots behind it.
+/// A number in at least four hexadecimal digits, and two dots after it.
 #[tactic(auto, using(crate::proofs::Printed::hex_written))]
 fn push_dotted(text: &mut String, n: u32) -> Result<(), AllocError>
-    ensures { IfOk result (λ _. string_bytes text.new ≡ string_bytes text.old ++ (hex_text n ++ (46 ∷ (46 ∷ [])))) }
+    ensures { IfOk result (λ _. string_bytes text.new
+        ≡ string_bytes text.old ++ (hex_text n ++ (46 ∷ (46 ∷ [])))) }
 {
     write!(text, "{n:04X}..")
 }
 
-/// The line of a range: its first and last code point in at least four hexadecimal digits, or the one where it is
-/// but one, and its value.
+/// The line of a range: its first and last code point in at least four hexadecimal digits, or the
+/// one where it is but one, and its value.
 fn push_range(text: &mut String, range: &CodePointMapRange<u32>) -> Result<(), AllocError>
-    ensures { IfOk result (λ _. string_bytes text.new ≡ string_bytes text.old ++ run_line (run_of_values range.now)) }
+    ensures { IfOk result (λ _. string_bytes text.new
+        ≡ string_bytes text.old ++ run_line (run_of_values range.now)) }
 {
     let (first, last) = (*range.range.start(), *range.range.end());
     if first < last {
@@ -59,12 +64,13 @@ fn push_range(text: &mut String, range: &CodePointMapRange<u32>) -> Result<(), A
     }
 }
 
-/// The lines of all ranges of the trie, in order. Where the trie is coherent they are those of the maximal runs of
-/// its map.
+/// The lines of all ranges of the trie, in order. Where the trie is coherent they are those of the
+/// maximal runs of its map.
 pub fn ranges_text(alloc: Global, trie: &CodePointTrie<'_, u32>) -> Result<String, AllocError>
     ensures { IsCoherentTrie (fitting (2 ^ 32)) trie.now → (value : ℕ → ℕ)
-        → ((u : ℕ) → u < 0x110000 → answers trie.now u ≡ Some (value u))
-        → IfOk result (λ text. (runs : List (Run ℕ)) × (AreMaximalRuns value runs × (string_bytes text ≡ runs_text runs))) }
+        → ((u : ℕ) → u < code_point_limit → answers trie.now u ≡ Some (value u))
+        → IfOk result (λ text. (runs : List (Run ℕ)) × (AreMaximalRuns value runs
+        × (string_bytes text ≡ runs_text runs))) }
 {
     let mut text = String::new(alloc);
     for range in trie.iter_ranges() {
@@ -76,7 +82,8 @@ pub fn ranges_text(alloc: Global, trie: &CodePointTrie<'_, u32>) -> Result<Strin
 /// Writes a number in decimal digits. It takes no memory.
 #[tactic(auto, using(crate::proofs::Printed::printing))]
 fn write_decimal<W: Sink>(sink: &mut W, n: u64) -> Result<(), Failed>
-    ensures text { IfOk result (λ _. Appends (W.contents sink.old) (W.contents sink.new) (decimal n)) }
+    ensures text { IfOk result (λ _. Appends (W.contents sink.old) (W.contents sink.new)
+        (decimal n)) }
     ensures counted { IfOk result (λ _. W.failures sink.new ≡ W.failures sink.old) }
     ensures failed { IfErr result (λ _. W.failures sink.new ≡ W.failures sink.old + 1) }
 {

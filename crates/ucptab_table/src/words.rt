@@ -5,7 +5,7 @@ ghost use Rattle.std.specs.Option.{option_map, option_to_list};
 ghost use Rattle.ucptab_table.specs.TableText.{hexadecimal};
 ghost use Rattle.ucptab_table.specs.Words.{trie_type_of, value_of, arguments_of};
 
-use crate::numbers::{decimal_number, hexadecimal};
+use crate::digits::{decimal_number, hexadecimal};
 use icu_trie_core::header::TrieType;
 use std::alloc::{AllocError, Global};
 
@@ -54,7 +54,7 @@ fn are_hexadecimal(words: &[String]) -> bool
         .all(|word| hexadecimal(word.as_bytes()).is_some())
 }
 
-/// What the words behind the program's name ask for: KIND DEFAULT ERROR [HEX ..]. `None` where they
+/// What the words after the program's name ask for: KIND DEFAULT ERROR [HEX ..]. `None` where they
 /// can't be read. It takes no memory, so that all words are tested before any is taken.
 #[tactic(auto, unfolding(crate::specs::Words::arguments_of))]
 pub fn request_of(words: &[String]) -> Option<Request<'_>>
@@ -85,7 +85,7 @@ pub fn request_of(words: &[String]) -> Option<Request<'_>>
     })
 }
 
-/// Puts the number that a word writes in hexadecimal digits behind the others, if it writes one.
+/// Appends the number that a word writes in hexadecimal digits to the others, if it writes one.
 fn push_number(asked: &mut Vec<u32>, word: &[u8]) -> Result<(), AllocError>
     ensures { OnOk result
         (asked.new.items ≡ asked.old.items ++ option_to_list (hexadecimal word.now)) }

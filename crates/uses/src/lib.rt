@@ -1,5 +1,5 @@
-//! What callers of `icu_collections` prove of their own code, from the contracts of that crate alone: the examples
-//! of the README, and one caller for each promise that others build upon.
+//! What callers of `icu_collections` prove of their own code, from the contracts of that crate
+//! alone: the examples of the README, and one caller for each promise that others build upon.
 //!
 //! - `tables`: properties of characters in tries that are built, stored and read
 //! - `sets`: sets of code points

@@ -1,5 +1,6 @@
-//! A look-up over cells of the caller's own. A trie's index and data may lie anywhere, as here in slices: what gives
-//! their cells is a [`Cells`], and [`Steps`] counts the reads for the proof. The count has no bytes at run time.
+//! A look-up over cells of the caller's own. A trie's index and data may lie anywhere, as here in
+//! slices: what gives their cells is a [`Cells`], and [`Steps`] counts the reads for the proof. The
+//! count has no bytes at run time.
 ghost use Rattle.std.specs.Prelude.{◌≡◌, ◌+◌, ◌<◌, ◌≤◌, false, length};
 ghost use Rattle.icu_collections.specs.CodePointTrie.{answer, fast_index_len, passes_data};
 
@@ -62,8 +63,8 @@ fn look_up_counted<L: Ledger>(
     look_up(header, &mut cells, c)
 }
 
-/// The value of `c` in a trie of these parts, whatever they say; none where the error value stands for it. The
-/// counter is made for this one call.
+/// The value of `c` in a trie of these parts, whatever they say; none where the error value stands
+/// for it. The counter is made for this one call.
 pub fn look_up_in_slices(
     header: &CodePointTrieHeader,
     index: &[u16],
@@ -75,14 +76,16 @@ pub fn look_up_in_slices(
     look_up_counted::<Brand>(header, index, values, c, Blank::new(1))
 }
 
-/// Where the fast index is whole, `look_up_whole` is `look_up`, over any cells; each makes at most five reads.
+/// Where the fast index is whole, `look_up_whole` is `look_up`, over any cells; each makes at most
+/// five reads.
 pub fn both_look_ups<C: Cells<u32>>(
     header: &CodePointTrieHeader,
     cells: &mut C,
     c: u32,
 ) -> (Option<u32>, Option<u32>)
     requires fast_index { fast_index_len header.now.trie_type ≤ length (C.index cells.old) }
-    requires blocks { passes_data header.now.trie_type (C.index cells.old) (length (C.values cells.old)) ≡ false }
+    requires blocks { passes_data header.now.trie_type (C.index cells.old)
+        (length (C.values cells.old)) ≡ false }
     ensures same { result.0 ≡ result.1 }
     ensures reads { C.reads cells.new ≤ C.reads cells.old + 10 }
 {

@@ -25,8 +25,8 @@ pub fn first_range(set: &CodePointInversionList<'_>) -> Option<RangeInclusive<u3
     set.get_nth_range(0)
 }
 
-/// How many ranges there are: each has a code point and ends within the code space, they ascend, and a code point
-/// is in one of them exactly if the set holds it.
+/// How many ranges there are: each has a code point and ends within the code space, they ascend,
+/// and a code point is in one of them exactly if the set holds it.
 pub fn count_ranges(set: &CodePointInversionList<'_>) -> usize
     ensures within { All IsOfCodePoints (ranges_of set.now) }
     ensures held { (c : ℕ) → in_ranges (ranges_of set.now) c ≡ holds set.now c }
@@ -65,7 +65,8 @@ pub fn changed_letters(
     Ok(changed)
 }
 
-/// Adds a code point, and says whether it was added. Where memory was refused, the set is as it was.
+/// Adds a code point, and says whether it was added. Where memory was refused, the set is as it
+/// was.
 pub fn try_to_add(builder: &mut CodePointInversionListBuilder, c: u32) -> bool
     ensures refused { result ≡ false → builder.new ≡ builder.old }
     ensures added { result ≡ true → Acts either builder.old (between c (c + 1)) builder.new }

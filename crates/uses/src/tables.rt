@@ -22,7 +22,8 @@ pub fn value_of_a(alloc: Global) -> Result<u8, BuildError>
     Ok(trie.get32(0x41)) // 1: the last write that covers it
 }
 
-/// The general category of a character by the rows of a table: that of the last row that covers it, else 0.
+/// The general category of a character by the rows of a table: that of the last row that covers it,
+/// else 0.
 pub fn general_category(alloc: Global, rows: &[Write<u8>], c: char) -> Result<u8, BuildError>
     ensures { IfOk result (λ v. v ≡ value_after rows.now 0 c) }
 {
@@ -39,7 +40,9 @@ pub fn written_twice<T: TrieValue>(
     second: (u32, T),
     c: u32,
 ) -> Result<T, BuildError>
-    ensures { IfOk result (λ v. v ≡ answer_after default error (Write.One first.0 first.1 ∷ Write.One second.0 second.1 ∷ []) c) }
+    ensures { IfOk result
+        (λ v. v ≡ answer_after default error
+        (Write.One first.0 first.1 ∷ Write.One second.0 second.1 ∷ []) c) }
 {
     let mut builder = CodePointTrieBuilder::new(alloc, default, error, TrieType::Small);
     builder.set_value(first.0, first.1)?;
@@ -48,7 +51,8 @@ pub fn written_twice<T: TrieValue>(
     Ok(trie.get32(c))
 }
 
-/// Writes a value, and says whether memory was found for it. Where it was not, the map is as it was.
+/// Writes a value, and says whether memory was found for it. Where it was not, the map is as it
+/// was.
 pub fn try_to_write<T: TrieValue>(builder: &mut CodePointTrieBuilder<T>, c: u32, value: T) -> bool
     ensures { result ≡ false → builder.new ≡ builder.old }
 {
@@ -96,14 +100,15 @@ pub fn runs_of_rows(
     Ok(ranges)
 }
 
-/// The set of the code points with a value, by a table from a stranger: only where its ranges can be trusted, and
-/// where memory was found.
+/// The set of the code points with a value, by a table from a stranger: only where its ranges can
+/// be trusted, and where memory was found.
 pub fn trusted_set(
     alloc: Global,
     trie: &CodePointTrie<'_, u8>,
     value: u8,
 ) -> Option<CodePointInversionList<'static>>
-    ensures { IfSome result (λ s. (c : ℕ) → c < 0x110000 → (holds s c ≡ true) ↔ (answers trie.now c ≡ Some value)) }
+    ensures { IfSome result
+        (λ s. (c : ℕ) → c < 0x110000 → (holds s c ≡ true) ↔ (answers trie.now c ≡ Some value)) }
 {
     if !trie.is_coherent() {
         return None;

@@ -12,14 +12,16 @@ use std::fmt::Write;
 
 /// The number of a word, if the trie has it.
 pub fn number_of_word(trie: &Char16Trie<'_>, word: &str) -> Option<i32>
-    ensures { (m : UnitMap) → IsTrieOf trie.now m → result ≡ value_of m (flat_map encode_utf16 (chars word.now)) }
+    ensures { (m : UnitMap) → IsTrieOf trie.now m
+        → result ≡ value_of m (flat_map encode_utf16 (chars word.now)) }
 {
     let mut cursor = trie.cursor();
     let _ = cursor.write_str(word);
     cursor.value()
 }
 
-/// What the trie has of a word of one character: its number, whether longer words begin with it, or neither.
+/// What the trie has of a word of one character: its number, whether longer words begin with it, or
+/// neither.
 pub fn first_result(trie: &Char16Trie<'_>, c: char) -> TrieResult
     ensures { (m : UnitMap) → IsTrieOf trie.now m
         → result ≡ result_of (value_of m (encode_utf16 c)) (not (goes_on m (encode_utf16 c))) }
@@ -28,9 +30,11 @@ pub fn first_result(trie: &Char16Trie<'_>, c: char) -> TrieResult
     iterator.next(c)
 }
 
-/// The entries of a trie, in unit order: each key as text, with its value. `None` where memory is refused.
+/// The entries of a trie, in unit order: each key as text, with its value. `None` where memory is
+/// refused.
 pub fn list_of(alloc: Global, trie: &Char16Trie<'_>) -> Option<Vec<(String, i32)>>
-    ensures { IfSome result (λ list. (m : UnitMap) → IsTrieOf trie.now m → AreEntries (map Ok list.items) m) }
+    ensures { IfSome result
+        (λ list. (m : UnitMap) → IsTrieOf trie.now m → AreEntries (map Ok list.items) m) }
 {
     let mut list = Vec::new(alloc);
     for item in trie.iter2(alloc) {
@@ -39,10 +43,11 @@ pub fn list_of(alloc: Global, trie: &Char16Trie<'_>) -> Option<Vec<(String, i32)
     Some(list)
 }
 
-/// The entries of a trie of two words, which come in unit order and not as they were added. `None` where memory
-/// is refused.
+/// The entries of a trie of two words, which come in unit order and not as they were added. `None`
+/// where memory is refused.
 pub fn two_words(alloc: Global) -> Option<Vec<(String, i32)>>
-    ensures { IfSome result (λ list. map shown list.items ≡ (codes "a", pos 1) ∷ (codes "ab", pos 2) ∷ []) }
+    ensures { IfSome result
+        (λ list. map shown list.items ≡ (codes "a", pos 1) ∷ (codes "ab", pos 2) ∷ []) }
 {
     let mut builder = Char16TrieBuilder::new(alloc);
     builder.add(&[0x61, 0x62], 2).ok()?;

@@ -55,7 +55,8 @@ fn expect_own_numbers(rt: &impl Abort, trie: CodePointTrie<'_, u32>) {
     expect_numbers(rt, trie, &others);
 }
 
-/// So many different blocks that data offsets need 18 bits: on both sides of 0xFFFF each code point is asked.
+/// So many different blocks that data offsets need 18 bits: on both sides of 0xFFFF each code point
+/// is asked.
 #[test]
 fn a_number_for_each_code_point(rt: HostRuntime) -> Result<(), Fail> {
     let writes = own_numbers(rt.alloc(), 0x10000, 0x20FFF)?;

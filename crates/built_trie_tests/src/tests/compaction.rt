@@ -1,4 +1,5 @@
-//! Data whose blocks share cells: the null block, and blocks that begin with the end of the one before.
+//! Data whose blocks share cells: the null block, and blocks that begin with the end of the one
+//! before.
 
 use crate::tests::support::{BOTH, built, expect, expect_numbers, expect_ranges};
 use icu_collections::codepointtrie::{CodePointTrie, TrieType, TrieValue, Write};
@@ -51,8 +52,8 @@ fn zeros_behind_a_fast_block(
     built(rt, trie_type, (5, 9), &writes)
 }
 
-/// The null block does not start where a block of 64 starts that only begins like it: a walk would take that
-/// for the null block, and go on over its fives.
+/// The null block does not start where a block of 64 starts that only begins like it: a walk would
+/// take that for the null block, and go on over its fives.
 #[test]
 fn null_block_behind_a_fast_block(rt: HostRuntime) {
     for trie_type in BOTH {
@@ -93,8 +94,8 @@ fn overlapping_data_blocks(rt: HostRuntime) -> Result<(), Fail> {
     Ok(())
 }
 
-/// Blocks of 16 that stand in a block of 64 below the fast limit, at places that are no multiple of 16, take
-/// no cells.
+/// Blocks of 16 that stand in a block of 64 below the fast limit, at places that are no multiple of
+/// 16, take no cells.
 #[test]
 fn small_blocks_in_a_fast_block(rt: HostRuntime) -> Result<(), Fail> {
     let mut writes = Vec::new(rt.alloc());
@@ -111,8 +112,8 @@ fn small_blocks_in_a_fast_block(rt: HostRuntime) -> Result<(), Fail> {
     Ok(())
 }
 
-/// A hundred blocks of 512, each of 32 blocks of 16 of one value, of which the first sixteen are the last sixteen
-/// of the block before.
+/// A hundred blocks of 512, each of 32 blocks of 16 of one value, of which the first sixteen are
+/// the last sixteen of the block before.
 fn overlapping_index_writes(alloc: Global) -> Result<Vec<Write<u16>>, AllocError> {
     let mut writes = Vec::new(alloc);
     for k in 0..100u16 {

@@ -1,6 +1,6 @@
 //! Maps of random writes, built and asked beside a list of the writes.
 
-use crate::tests::support::{BOTH, built, expect_number};
+use crate::tests::support::{BOTH, Random, built, expect_number};
 use icu_collections::codepointtrie::{CodePointTrie, TrieType, Write};
 use std::alloc::{AllocError, Global};
 use std::process::Abort;
@@ -15,40 +15,24 @@ const PLACES: [u32; 16] = [
 /// How long a written range is, at most.
 const LENGTHS: [u32; 8] = [0, 1, 15, 16, 64, 200, 600, 0x12000];
 
-/// Random numbers: a linear congruence, of which the upper bits are taken.
-#[derive(Drop)]
-struct Random {
-    state: u32,
+/// A number near one of the places.
+fn random_place(random: &mut Random) -> u32 {
+    let place = PLACES[(random.next() % 16) as usize];
+    place.saturating_add(random.next() % 0x110)
 }
 
-impl Random {
-    fn next(&mut self) -> u32 {
-        self.state = self
-            .state
-            .wrapping_mul(1_664_525)
-            .wrapping_add(1_013_904_223);
-        self.state >> 8
-    }
+/// The length of a range.
+fn random_length(random: &mut Random) -> u32 {
+    let most = LENGTHS[(random.next() % 8) as usize];
+    random.next() % most.saturating_add(1)
+}
 
-    /// A number near one of the places.
-    fn place(&mut self) -> u32 {
-        let place = PLACES[(self.next() % 16) as usize];
-        place.saturating_add(self.next() % 0x110)
-    }
-
-    /// The length of a range.
-    fn length(&mut self) -> u32 {
-        let most = LENGTHS[(self.next() % 8) as usize];
-        self.next() % most.saturating_add(1)
-    }
-
-    /// A value: one of four, or any of 24 bits.
-    fn value(&mut self, is_wide: bool) -> u32 {
-        if is_wide {
-            self.next()
-        } else {
-            self.next() % 4
-        }
+/// A value: one of four, or any of 24 bits.
+fn random_value(random: &mut Random, is_wide: bool) -> u32 {
+    if is_wide {
+        random.next()
+    } else {
+        random.next() % 4
     }
 }
 
@@ -68,9 +52,9 @@ fn random_writes(
 ) -> Result<Vec<Written>, AllocError> {
     let mut writes = Vec::new(alloc);
     for _ in 0..random.next() % 24 {
-        let first = random.place();
-        let last = first.saturating_add(random.length());
-        let value = random.value(is_wide);
+        let first = random_place(random);
+        let last = first.saturating_add(random_length(random));
+        let value = random_value(random, is_wide);
         writes.push(Written { first, last, value })?;
     }
     Ok(writes)
@@ -215,7 +199,7 @@ fn ask_random_map(
 /// Maps of few values, whose blocks are often equal.
 #[test]
 fn maps_of_few_values(rt: HostRuntime) -> Result<(), Fail> {
-    let mut random = Random { state: 1 };
+    let mut random = Random::new(1);
     for _ in 0..100 {
         ask_random_map(&rt, &mut random, false)?;
     }
@@ -225,7 +209,7 @@ fn maps_of_few_values(rt: HostRuntime) -> Result<(), Fail> {
 /// Maps of many values.
 #[test]
 fn maps_of_many_values(rt: HostRuntime) -> Result<(), Fail> {
-    let mut random = Random { state: 2 };
+    let mut random = Random::new(2);
     for _ in 0..100 {
         ask_random_map(&rt, &mut random, true)?;
     }

@@ -1,7 +1,7 @@
-//! Calls whose requests for memory are refused in turn. The script `tests/refused_memory` runs each test
-//! whose name ends in `_refused` with its first, second, .. request refused, until a run refuses nothing: a
-//! refusal between the lines `call` and `done` has to be answered by the line `refused`. In a test whose name
-//! ends in `_quiet` nothing is asked for between the two.
+//! Calls whose requests for memory are refused in turn. The script `tests/refused_memory` runs each
+//! test whose name ends in `_refused` with its first, second, .. request refused, until a run
+//! refuses nothing: a refusal between the lines `call` and `done` has to be answered by the line
+//! `refused`. In a test whose name ends in `_quiet` nothing is asked for between the two.
 
 use crate::tests::support::{expect, expect_numbers, expect_ranges};
 use icu_collections::codepointinvlist::CodePointInversionList;
@@ -56,8 +56,8 @@ const POINTS: [(u32, u8); 16] = [
     (0xE_01EF, 3),
 ];
 
-/// Gives the code points their values, up to the first that is refused, at most `count` of them: how many
-/// were written, and the refusal.
+/// Gives the code points their values, up to the first that is refused, at most `count` of them:
+/// how many were written, and the refusal.
 fn write_points(
     builder: &mut CodePointTrieBuilder<u8>,
     count: usize,
@@ -182,8 +182,8 @@ fn apply_behind_ignored_refused(rt: HostRuntime) {
     expect(&rt, answer != Err(ApplyRefused(0)), "the place");
 }
 
-/// A builder that has its cells, with 1 at 0x41 and 2 at 0x10000, so that index-1, index-2 and index-3 are
-/// needed too. `None` where memory was refused.
+/// A builder that has its cells, with 1 at 0x41 and 2 at 0x10000, so that index-1, index-2 and
+/// index-3 are needed too. `None` where memory was refused.
 fn written(alloc: Global) -> Option<CodePointTrieBuilder<u8>> {
     let mut builder = builder_of_nothing(alloc);
     if builder.set_value(0x41, 1).is_ok() && builder.set_value(0x10000, 2).is_ok() {
@@ -287,8 +287,8 @@ fn expect_nothing_written(rt: &impl Abort, builder: CodePointTrieBuilder<u8>) {
     }
 }
 
-/// A new builder takes no memory, and neither do writes above the code points and over a reversed range,
-/// which write nothing.
+/// A new builder takes no memory, and neither do writes above the code points and over a reversed
+/// range, which write nothing.
 ///
 /// Calls: `CodePointTrieBuilder::new`, `CodePointTrieBuilder::set_value`,
 /// `CodePointTrieBuilder::set_range_value`.

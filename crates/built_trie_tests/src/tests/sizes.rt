@@ -22,8 +22,8 @@ fn expect_index(rt: &impl Abort, trie: &CodePointTrie<'_, u32>, most: usize) {
     assert!(rt; found <= most, "{found} cells of index");
 }
 
-/// Each code point from 0x10000 to 0x3EDEF has itself as its value, and none beside them: data offsets on both
-/// sides of 0xFFFF, so that index-3 blocks of both widths are read.
+/// Each code point from 0x10000 to 0x3EDEF has itself as its value, and none beside them: data
+/// offsets on both sides of 0xFFFF, so that index-3 blocks of both widths are read.
 fn expect_own_numbers(rt: &impl Abort, trie: CodePointTrie<'_, u32>) {
     for c in 0x10000u32..0x3EDF0 {
         expect_number(rt, c, trie.get32(c), c);
@@ -38,8 +38,8 @@ fn expect_own_numbers(rt: &impl Abort, trie: CodePointTrie<'_, u32>) {
     expect_numbers(rt, trie, &others);
 }
 
-/// 12,000 different blocks of 16 values are no reason to refuse a map, nor does it take long to find which
-/// are equal.
+/// 12,000 different blocks of 16 values are no reason to refuse a map, nor does it take long to
+/// find which are equal.
 #[test]
 fn twelve_thousand_small_blocks(rt: HostRuntime) -> Result<(), Fail> {
     let writes = own_numbers(rt.alloc(), 0x10000, 0x3EDEF)?;
@@ -59,7 +59,8 @@ fn distant_writes(alloc: Global) -> Result<Vec<Write<u32>>, AllocError> {
     Ok(writes)
 }
 
-/// Of 800 different blocks of 512 values each a map is not refused, and its data and its index stay small.
+/// Of 800 different blocks of 512 values each a map is not refused, and its data and its index stay
+/// small.
 #[test]
 fn eight_hundred_blocks(rt: HostRuntime) -> Result<(), Fail> {
     let writes = distant_writes(rt.alloc())?;
@@ -99,8 +100,8 @@ fn expect_least(rt: &impl Abort, trie: CodePointTrie<'_, u32>) {
     assert_eq!(rt; found, (64, 129));
 }
 
-/// The smallest trie, whose data are the first 128 cells and the error value: one number for all, by a write or
-/// as the default.
+/// The smallest trie, whose data are the first 128 cells and the error value: one number for all,
+/// by a write or as the default.
 #[test]
 fn one_number_for_all(rt: HostRuntime) {
     let writes = [Write::Range(0..=0x10FFFF, 7)];

@@ -8,6 +8,27 @@ use std::process::Abort;
 
 pub const BOTH: [TrieType; 2] = [TrieType::Fast, TrieType::Small];
 
+/// Random numbers: a linear congruence, of which the upper bits are taken.
+#[derive(Drop)]
+pub struct Random {
+    state: u32,
+}
+
+impl Random {
+    pub fn new(seed: u32) -> Random {
+        Random { state: seed }
+    }
+
+    /// The next number, of 24 bits.
+    pub fn next(&mut self) -> u32 {
+        self.state = self
+            .state
+            .wrapping_mul(1_664_525)
+            .wrapping_add(1_013_904_223);
+        self.state >> 8
+    }
+}
+
 /// The trie of these writes over the first of the two values, with the second as its error value.
 pub fn built<T: TrieValue>(
     rt: &(impl Abort + AllocGlobal),

@@ -10,7 +10,8 @@ abbrev pub cut : ℕ → List Entry → UnitMap
 cut d [] = []
 cut d (e ∷ es) = (drop d e.key.now, e.value) ∷ cut d es
 
--- the most units that a trie of the entries below d takes: two for each unit left, sixteen for each entry
+-- the most units that a trie of the entries below d takes: two for each unit left, sixteen for each
+-- entry
 abbrev pub room : ℕ → List Entry → ℕ
 room d [] = 0
 room d (e ∷ es) = 2 * (length e.key.now - d) + 16 + room d es

@@ -1,4 +1,5 @@
--- What the steps that are left make of what stands in front of the units so far, and of what was saved.
+-- What the steps that are left make of what stands in front of the units so far, and of what was
+-- saved.
 use Rattle.std.specs.Prelude.{◌≡◌, ℕ, ℤ, ◌+◌, ◌-◌, ◌*◌, ◌/◌, ◌^◌, ◌<◌, ◌≤◌, List, [], ◌∷◌, ◌++◌, length, reverse, Option, Some, None}
 use Rattle.icu_char16trie.specs.Grammar.{Holds}
 use Rattle.icu_char16trie.specs.UnitMap.{UnitMap, under}
@@ -37,7 +38,8 @@ AreSaved units (p ∷ places) (x ∷ saved) = IsSaved units p x × AreSaved unit
 -- nodes that were written stand at their places
 abbrev pub AreKnown : List ℕ → List KnownNode → Type 0
 AreKnown units [] = Unit {0}
-AreKnown units (k ∷ known) = IsSaved units k.place (node (cut k.depth k.entries.now)) × AreKnown units known
+AreKnown units (k ∷ known) =
+    IsSaved units k.place (node (cut k.depth k.entries.now)) × AreKnown units known
 
 -- what stands in front, and what was saved, the last first
 pub record State : Type 0 where
@@ -104,9 +106,11 @@ Takes (steps.Node entries d) s t =
     IsBelow d entries.now × (t ≡ record { front = node (cut d entries.now); saved = s.saved })
 Takes steps.Save s t = t ≡ record { front = s.front; saved = s.front ∷ s.saved }
 Takes (steps.Place entries d) s t =
-    IsBelow d entries.now × (t ≡ record { front = nothing; saved = node (cut d entries.now) ∷ s.saved })
+    IsBelow d entries.now
+    × (t ≡ record { front = nothing; saved = node (cut d entries.now) ∷ s.saved })
 Takes (steps.Keep entries d) s t =
-    (s.front ≡ node (cut d entries.now)) × (t ≡ record { front = nothing; saved = node (cut d entries.now) ∷ s.saved })
+    (s.front ≡ node (cut d entries.now))
+    × (t ≡ record { front = nothing; saved = node (cut d entries.now) ∷ s.saved })
 Takes (steps.Last u) s t = TakesLast u s t
 Takes (steps.Jump u) s t = TakesJump u s t
 Takes (steps.Value u v) s t = TakesValue u v s t
@@ -122,7 +126,8 @@ Gives (x ∷ others) s goal = (t : State) × Takes x s t × Gives others t goal
 -- and what they need stands there
 abbrev pub Leads : List ℕ → List ℕ → List KnownNode → List Step → UnitMap → Type 0
 Leads units places known others goal =
-    (s : State) × Stands units 0 s.front × AreSaved units places s.saved × Gives others s goal × AreKnown units known
+    (s : State) × Stands units 0 s.front × AreSaved units places s.saved × Gives others s goal
+    × AreKnown units known
 
 -- the part of a branch with these arms, whose units are before d
 abbrev pub part_of : ℕ → List Arm → Piece
@@ -132,8 +137,8 @@ part_of d arms = part (length arms) (arm_units arms) (arm_map d arms)
 abbrev pub node_of : Option ℤ → ℕ → List Entry → Piece
 node_of value d es = node (own_entry value ++ cut d es)
 
--- steps were added that put a piece in front, whatever stood there: what the steps before make with it, all
--- together make without it
+-- steps were added that put a piece in front, whatever stood there: what the steps before make with
+-- it, all together make without it
 abbrev pub PutsInFront : List Step → List Step → Piece → Type 0
 PutsInFront old new x = (s : State) (goal : UnitMap)
     → Gives (reverse old) (record { front = x; saved = s.saved }) goal → Gives (reverse new) s goal

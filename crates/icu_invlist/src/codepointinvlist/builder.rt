@@ -1,11 +1,12 @@
 //! The set that changes.
 ghost use Rattle.std.specs.Prelude.{◌≡◌, ℕ, ◌+◌, ◌<◌, ◌≤◌, List, [], ◌∷◌, length, IfOk, OnOk, OnErr, IsTrue, ◌↔◌, nat_le, ◌==◌, if◌then◌else◌, false, not};
+ghost use Rattle.icu_invlist.specs.Changes.{Changes};
 ghost use Rattle.icu_invlist.specs.InversionList.{IsValid, holds, limit, between, Acts, either, without, both, one_of};
 
 use crate::codepointinvlist::cpinvlist::CodePointInversionList;
 use crate::codepointinvlist::utils::RangeOf;
 use crate::fill;
-use crate::merge::{Blend, merged};
+use crate::merge::{Difference, Intersection, SymmetricDifference, Union, merge};
 use icu_zerovec::MemoryError;
 use std::alloc::Global;
 use std::marker::Model;
@@ -13,8 +14,11 @@ use std::marker::Model;
 /// A set of code points that changes, and becomes a [`CodePointInversionList`] by
 /// [`build`](CodePointInversionListBuilder::build). A clause sees its ends.
 ///
-/// A range is changed in place: its two borders are searched for, and the ends between them give way to it. Two
-/// sets are joined by one walk over both, into a new list.
+/// A range is changed in place: its two borders are searched for, and the ends between them give
+/// way to it. Two sets are joined by one walk over both, into a new list.
+///
+/// A call that changes the set answers `MemoryError` where memory was refused, and the set is then
+/// unchanged.
 ///
 /// ```
 /// let mut builder = CodePointInversionListBuilder::new(alloc);
@@ -62,7 +66,7 @@ impl CodePointInversionListBuilder {
     /// The set, with its ends packed.
     ///
     /// # Errors
-    /// `MemoryError` where memory was refused. The builder is then given up.
+    /// `MemoryError` where memory was refused. The builder is then dropped.
     pub fn build(self) -> Result<CodePointInversionList<'static>, MemoryError>
         ensures ok { IfOk result (λ s. s ≡ self) }
     {
@@ -86,52 +90,35 @@ impl CodePointInversionListBuilder {
 /// Union: what is named comes into the set.
 impl CodePointInversionListBuilder {
     /// Adds the character.
-    ///
-    /// # Errors
-    /// `MemoryError` where memory was refused. The set is then unchanged.
     pub fn add_char(&mut self, c: char) -> Result<(), MemoryError>
-        ensures ok { OnOk result (Acts either self.old (λ n. n == c) self.new) }
-        ensures err { OnErr result (self.new ≡ self.old) }
-        ensures valid { IsValid self.new × IsValid self.old }
+        ensures { Changes either self.old (λ n. n == c) self.new result }
     {
         let number = u32::from(c);
         fill::add(&mut self.ends, number, number + 1)
     }
 
     /// Adds the code point. A number above 0x10FFFF is ignored.
-    ///
-    /// # Errors
-    /// `MemoryError` where memory was refused. The set is then unchanged.
     pub fn add32(&mut self, c: u32) -> Result<(), MemoryError>
-        ensures ok { OnOk result (Acts either self.old (λ n. n == c) self.new) }
-        ensures err { OnErr result (self.new ≡ self.old) }
-        ensures valid { IsValid self.new × IsValid self.old }
+        ensures { Changes either self.old (λ n. n == c) self.new result }
     {
         fill::add(&mut self.ends, c, c.saturating_add(1))
     }
 
-    /// Adds what the range names, surrogates between its characters too: `'A'..='Z'` adds 26 letters.
-    ///
-    /// # Errors
-    /// `MemoryError` where memory was refused. The set is then unchanged.
+    /// Adds what the range names, surrogates between its characters too: `'A'..='Z'` adds 26
+    /// letters.
     pub fn add_range<R: RangeOf<char>>(&mut self, range: R) -> Result<(), MemoryError>
-        ensures ok { OnOk result (Acts either self.old (between (R.start range) (R.end range)) self.new) }
-        ensures err { OnErr result (self.new ≡ self.old) }
-        ensures valid { IsValid self.new × IsValid self.old }
+        ensures { Changes either self.old (between (R.start range) (R.end range)) self.new result }
     {
         let (from, till) = range.deconstruct();
         fill::add(&mut self.ends, from, till)
     }
 
-    /// Adds what the range names. A range that names more than code points, so that its exclusive end is
-    /// above 0x110000, is ignored wholly: 0x50..=0x110000 adds nothing.
-    ///
-    /// # Errors
-    /// `MemoryError` where memory was refused. The set is then unchanged.
+    /// Adds what the range names. A range that names more than code points, so that its exclusive
+    /// end is above 0x110000, is ignored as a whole: 0x50..=0x110000 adds nothing.
     pub fn add_range32<R: RangeOf<u32>>(&mut self, range: R) -> Result<(), MemoryError>
-        ensures ok { OnOk result (Acts either self.old (if nat_le (R.end range) limit then between (R.start range) (R.end range) else (λ _. false)) self.new) }
-        ensures err { OnErr result (self.new ≡ self.old) }
-        ensures valid { IsValid self.new × IsValid self.old }
+        ensures { Changes either self.old
+            (if nat_le (R.end range) limit then between (R.start range) (R.end range)
+            else (λ _. false)) self.new result }
     {
         // A set is known to be valid where its ends are named.
         let _ = &self.ends;
@@ -143,15 +130,10 @@ impl CodePointInversionListBuilder {
     }
 
     /// Adds the members of the set.
-    ///
-    /// # Errors
-    /// `MemoryError` where memory was refused. The set is then unchanged.
     pub fn add_set(&mut self, set: &CodePointInversionList<'_>) -> Result<(), MemoryError>
-        ensures ok { OnOk result (Acts either self.old (holds set.now) self.new) }
-        ensures err { OnErr result (self.new ≡ self.old) }
-        ensures valid { IsValid self.new × IsValid self.old }
+        ensures { Changes either self.old (holds set.now) self.new result }
     {
-        self.ends = merged(self.alloc, &self.ends, set, Blend::Union)?;
+        self.ends = merge::<Union>(self.alloc, &self.ends, set)?;
         Ok(())
     }
 }
@@ -159,66 +141,41 @@ impl CodePointInversionListBuilder {
 /// Difference: what is named leaves the set.
 impl CodePointInversionListBuilder {
     /// Removes the character.
-    ///
-    /// # Errors
-    /// `MemoryError` where memory was refused. The set is then unchanged.
     pub fn remove_char(&mut self, c: char) -> Result<(), MemoryError>
-        ensures ok { OnOk result (Acts without self.old (λ n. n == c) self.new) }
-        ensures err { OnErr result (self.new ≡ self.old) }
-        ensures valid { IsValid self.new × IsValid self.old }
+        ensures { Changes without self.old (λ n. n == c) self.new result }
     {
         let number = u32::from(c);
         fill::remove(&mut self.ends, number, number + 1)
     }
 
     /// Removes the code point.
-    ///
-    /// # Errors
-    /// `MemoryError` where memory was refused. The set is then unchanged.
     pub fn remove32(&mut self, c: u32) -> Result<(), MemoryError>
-        ensures ok { OnOk result (Acts without self.old (λ n. n == c) self.new) }
-        ensures err { OnErr result (self.new ≡ self.old) }
-        ensures valid { IsValid self.new × IsValid self.old }
+        ensures { Changes without self.old (λ n. n == c) self.new result }
     {
         fill::remove(&mut self.ends, c, c.saturating_add(1))
     }
 
     /// Removes what the range names. Memory is needed where a range of the set is cut in two.
-    ///
-    /// # Errors
-    /// `MemoryError` where memory was refused. The set is then unchanged.
     pub fn remove_range<R: RangeOf<char>>(&mut self, range: R) -> Result<(), MemoryError>
-        ensures ok { OnOk result (Acts without self.old (between (R.start range) (R.end range)) self.new) }
-        ensures err { OnErr result (self.new ≡ self.old) }
-        ensures valid { IsValid self.new × IsValid self.old }
+        ensures { Changes without self.old (between (R.start range) (R.end range)) self.new result }
     {
         let (from, till) = range.deconstruct();
         fill::remove(&mut self.ends, from, till)
     }
 
     /// Removes what the range names: `0..=u32::MAX` removes all.
-    ///
-    /// # Errors
-    /// `MemoryError` where memory was refused. The set is then unchanged.
     pub fn remove_range32<R: RangeOf<u32>>(&mut self, range: R) -> Result<(), MemoryError>
-        ensures ok { OnOk result (Acts without self.old (between (R.start range) (R.end range)) self.new) }
-        ensures err { OnErr result (self.new ≡ self.old) }
-        ensures valid { IsValid self.new × IsValid self.old }
+        ensures { Changes without self.old (between (R.start range) (R.end range)) self.new result }
     {
         let (start, end) = range.deconstruct();
         fill::remove(&mut self.ends, start, end)
     }
 
     /// Removes the members of the set.
-    ///
-    /// # Errors
-    /// `MemoryError` where memory was refused. The set is then unchanged.
     pub fn remove_set(&mut self, set: &CodePointInversionList<'_>) -> Result<(), MemoryError>
-        ensures ok { OnOk result (Acts without self.old (holds set.now) self.new) }
-        ensures err { OnErr result (self.new ≡ self.old) }
-        ensures valid { IsValid self.new × IsValid self.old }
+        ensures { Changes without self.old (holds set.now) self.new result }
     {
-        self.ends = merged(self.alloc, &self.ends, set, Blend::Difference)?;
+        self.ends = merge::<Difference>(self.alloc, &self.ends, set)?;
         Ok(())
     }
 }
@@ -251,7 +208,8 @@ impl CodePointInversionListBuilder {
         fill::retain(&mut self.ends, from, till);
     }
 
-    /// Keeps what the range names alone: nothing, where it is empty or reversed. It takes no memory.
+    /// Keeps what the range names alone: nothing, where it is empty or reversed. It takes no
+    /// memory.
     pub fn retain_range32<R: RangeOf<u32>>(&mut self, range: R)
         ensures set { Acts both self.old (between (R.start range) (R.end range)) self.new }
         ensures valid { IsValid self.new × IsValid self.old }
@@ -261,27 +219,19 @@ impl CodePointInversionListBuilder {
     }
 
     /// Keeps the members of the set alone.
-    ///
-    /// # Errors
-    /// `MemoryError` where memory was refused. The set is then unchanged.
     pub fn retain_set(&mut self, set: &CodePointInversionList<'_>) -> Result<(), MemoryError>
-        ensures ok { OnOk result (Acts both self.old (holds set.now) self.new) }
-        ensures err { OnErr result (self.new ≡ self.old) }
-        ensures valid { IsValid self.new × IsValid self.old }
+        ensures { Changes both self.old (holds set.now) self.new result }
     {
-        self.ends = merged(self.alloc, &self.ends, set, Blend::Intersection)?;
+        self.ends = merge::<Intersection>(self.alloc, &self.ends, set)?;
         Ok(())
     }
 }
 
-/// Complement and symmetric difference: what is named leaves the set where it was in it, and comes into it
-/// where it was not.
+/// Complement and symmetric difference: what is named leaves the set where it was in it, and comes
+/// into it where it was not.
 impl CodePointInversionListBuilder {
-    /// Turns all code points round: the set becomes its complement. The complement of the complement is the
-    /// set again.
-    ///
-    /// # Errors
-    /// `MemoryError` where memory was refused. The set is then unchanged.
+    /// Flips all code points: the set becomes its complement. The complement of the complement is
+    /// the set again.
     pub fn complement(&mut self) -> Result<(), MemoryError>
         ensures ok { OnOk result ((c : ℕ) → c < limit → holds self.new c ≡ not (holds self.old c)) }
         ensures err { OnErr result (self.new ≡ self.old) }
@@ -292,68 +242,45 @@ impl CodePointInversionListBuilder {
         fill::flip(&mut self.ends, 0, 0x11_0000)
     }
 
-    /// Turns the character round.
-    ///
-    /// # Errors
-    /// `MemoryError` where memory was refused. The set is then unchanged.
+    /// Flips the character.
     pub fn complement_char(&mut self, c: char) -> Result<(), MemoryError>
-        ensures ok { OnOk result (Acts one_of self.old (λ n. n == c) self.new) }
-        ensures err { OnErr result (self.new ≡ self.old) }
-        ensures valid { IsValid self.new × IsValid self.old }
+        ensures { Changes one_of self.old (λ n. n == c) self.new result }
     {
         let number = u32::from(c);
         fill::flip(&mut self.ends, number, number + 1)
     }
 
-    /// Turns the code point round. A number above 0x10FFFF changes nothing.
-    ///
-    /// # Errors
-    /// `MemoryError` where memory was refused. The set is then unchanged.
+    /// Flips the code point. A number above 0x10FFFF changes nothing.
     pub fn complement32(&mut self, c: u32) -> Result<(), MemoryError>
-        ensures ok { OnOk result (Acts one_of self.old (λ n. n == c) self.new) }
-        ensures err { OnErr result (self.new ≡ self.old) }
-        ensures valid { IsValid self.new × IsValid self.old }
+        ensures { Changes one_of self.old (λ n. n == c) self.new result }
     {
         fill::flip(&mut self.ends, c, c.saturating_add(1))
     }
 
-    /// Turns round what the range names.
-    ///
-    /// # Errors
-    /// `MemoryError` where memory was refused. The set is then unchanged.
+    /// Flips what the range names.
     pub fn complement_range<R: RangeOf<char>>(&mut self, range: R) -> Result<(), MemoryError>
-        ensures ok { OnOk result (Acts one_of self.old (between (R.start range) (R.end range)) self.new) }
-        ensures err { OnErr result (self.new ≡ self.old) }
-        ensures valid { IsValid self.new × IsValid self.old }
+        ensures { Changes one_of self.old (between (R.start range) (R.end range)) self.new result }
     {
         let (from, till) = range.deconstruct();
         fill::flip(&mut self.ends, from, till)
     }
 
-    /// Turns round what the range names: nothing, where it is empty or reversed.
-    ///
-    /// # Errors
-    /// `MemoryError` where memory was refused. The set is then unchanged.
+    /// Flips what the range names: nothing, where it is empty or reversed.
     pub fn complement_range32<R: RangeOf<u32>>(&mut self, range: R) -> Result<(), MemoryError>
-        ensures ok { OnOk result (Acts one_of self.old (between (R.start range) (R.end range)) self.new) }
-        ensures err { OnErr result (self.new ≡ self.old) }
-        ensures valid { IsValid self.new × IsValid self.old }
+        ensures { Changes one_of self.old (between (R.start range) (R.end range)) self.new result }
     {
         let (start, end) = range.deconstruct();
         fill::flip(&mut self.ends, start, end)
     }
 
-    /// Turns the members of the set round. Done twice, it leaves the set as it was.
-    ///
-    /// # Errors
-    /// `MemoryError` where memory was refused. The set is then unchanged.
+    /// Flips the members of the set. Done twice, it leaves the set as it was.
     pub fn complement_set(&mut self, set: &CodePointInversionList<'_>) -> Result<(), MemoryError>
-        ensures ok { OnOk result (Acts one_of self.old (holds set.now) self.new) }
-        ensures err { OnErr result (self.new ≡ self.old) }
-        ensures valid { IsValid self.new × IsValid self.old }
-        ensures twice { OnOk result ((ends : List ℕ) → IsValid ends → Acts one_of self.new (holds set.now) ends → ends ≡ self.old) }
+        ensures changes { Changes one_of self.old (holds set.now) self.new result }
+        ensures twice { OnOk result
+            ((ends : List ℕ) → IsValid ends → Acts one_of self.new (holds set.now) ends
+            → ends ≡ self.old) }
     {
-        self.ends = merged(self.alloc, &self.ends, set, Blend::Symmetric)?;
+        self.ends = merge::<SymmetricDifference>(self.alloc, &self.ends, set)?;
         Ok(())
     }
 }

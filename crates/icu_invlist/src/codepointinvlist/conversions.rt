@@ -17,14 +17,15 @@ impl<'data> CodePointInversionList<'data> {
     /// The set of what a range of characters names: `'A'..='Z'` gives `[0x41, 0x5B]`.
     ///
     /// # Errors
-    /// `TryRangeError::Invalid` exactly where the range is empty or reversed, with its start and its
-    /// exclusive end: `'B'..'A'` gives `RangeError(0x42, 0x41)`. `TryRangeError::Memory` where memory was
-    /// refused.
+    /// `TryRangeError::Invalid` exactly where the range is empty or reversed, with its start and
+    /// its exclusive end: `'B'..'A'` gives `RangeError(0x42, 0x41)`. `TryRangeError::Memory` where
+    /// memory was refused.
     pub fn try_from<R: RangeOf<char>>(
         alloc: Global,
         range: R,
     ) -> Result<CodePointInversionList<'static>, TryRangeError>
-        ensures ok { IfOk result (λ s. (s ≡ R.start range ∷ R.end range ∷ []) × (R.start range < R.end range)) }
+        ensures ok { IfOk result
+            (λ s. (s ≡ R.start range ∷ R.end range ∷ []) × (R.start range < R.end range)) }
         ensures err { IfErr result (IsRefusedRange (R.start range) (R.end range)) }
     {
         let (start, end) = range.deconstruct();
@@ -34,18 +35,21 @@ impl<'data> CodePointInversionList<'data> {
         Ok(CodePointInversionList::from_valid_slice(alloc, &[start, end])?)
     }
 
-    /// The set of all that the ranges name. A range whose last number is above 0x10FFFF is ignored wholly, as
-    /// by [`add_range32`](CodePointInversionListBuilder::add_range32). The iterator is one that ends.
+    /// The set of all that the ranges name. A range whose last number is above 0x10FFFF is ignored
+    /// as a whole, as by [`add_range32`](CodePointInversionListBuilder::add_range32). The iterator
+    /// is one that ends.
     ///
     /// # Errors
-    /// `MemoryError` where memory was refused. The iterator is then let go where it stands.
+    /// `MemoryError` where memory was refused. The iterator is then dropped where it stands.
     pub fn from_iter<I: Iterator<Item = RangeInclusive<u32>> + Drop>(
         alloc: Global,
         iter: I,
     ) -> Result<CodePointInversionList<'static>, MemoryError>
         requires can { I.can_next iter }
         requires finite { IsFinite (I.remaining iter) }
-        ensures ok { IfOk result (λ s. (ranges : List (RangeInclusive ℕ)) × Drains I.next_gives iter ranges × IsUnionOf ranges s) }
+        ensures ok { IfOk result
+            (λ s. (ranges : List (RangeInclusive ℕ)) × Drains I.next_gives iter ranges
+            × IsUnionOf ranges s) }
     {
         let mut builder = CodePointInversionListBuilder::new(alloc);
         for range in iter {

@@ -1,13 +1,14 @@
 //! The set of an inversion list.
-ghost use Rattle.std.specs.Prelude.{◌≡◌, ℕ, suc, ◌+◌, ◌^◌, ◌<◌, ◌≤◌, List, [], ◌∷◌, length, slice_index, slice_get, map, min, not, Some, None, if◌then◌else◌, IfOk, IfErr, IfSome, IsTrue, true, false, ◌↔◌};
-ghost use Rattle.std.specs.List.{take_while, All, Contains};
+ghost use Rattle.std.specs.Prelude.{◌≡◌, ℕ, suc, ◌+◌, ◌^◌, ◌<◌, ◌≤◌, List, [], ◌∷◌, length, slice_index, slice_get, map, min, not, Some, None, if◌then◌else◌, IfOk, OnOk, IfErr, IfSome, IsTrue, ◌++◌, drop, true, false, ◌↔◌};
+ghost use Rattle.std.specs.List.{take_while, All, Contains, flat_map};
+ghost use Rattle.icu_zerovec.specs.PackedBytes.{low_bytes};
 ghost use Rattle.std.specs.List.Sorted.{IsStrictlyIncreasing};
 ghost use Rattle.std.proofs.Math.Utf8.{scalar};
 ghost use Rattle.std.specs.Str.{chars, encode_utf8_all};
 ghost use mathlib.Core.Bool.{beq};
 ghost use mathlib.Core.List.{reverse};
 ghost use Rattle.icu_invlist.specs.InversionList.{AreApart, IsOfCodePoints, IsValid, holds, in_ranges, limit, HoldsAll, IsSubset, ranges_of, members_below, characters, complement_of};
-ghost use Rattle.icu_invlist.specs.Places.{below};
+ghost use Rattle.icu_invlist.specs.Inside.Places.{below};
 ghost use Rattle.icu_invlist.specs.Refusals.{IsRefusedList, IsRefusedSlice};
 
 use crate::codepointinvlist::error::{InvalidSetError, SetError};
@@ -19,7 +20,8 @@ use std::alloc::Global;
 use std::marker::Model;
 use std::ops::RangeInclusive;
 
-/// A set of code points, surrogates among them. It lends or owns its ends, and a clause sees their list.
+/// A set of code points, surrogates among them. It lends or owns its ends, and a clause sees their
+/// list.
 ///
 /// ```
 /// let letters = CodePointInversionList::try_from_u32_inversion_list_slice(alloc, &[0x41, 0x5B, 0x61, 0x7B])?;
@@ -55,6 +57,21 @@ fn unpacked(
     Ok(points)
 }
 
+/// The packed bytes of the ends, the lowest byte of each first.
+fn pack(alloc: Global, ends: &[u32]) -> Result<Vec<u8>, MemoryError>
+    requires { IsValid ends.now }
+    ensures { IfOk result (λ v. v.items ≡ flat_map (low_bytes 3) ends.now) }
+{
+    let mut bytes = Vec::with_capacity(alloc, ends.len() * 3)?;
+    for end in ends {
+        let cell = PotentialCodePoint::from_u24(*end).to_unaligned();
+        bytes.push_reserved(cell[0]);
+        bytes.push_reserved(cell[1]);
+        bytes.push_reserved(cell[2]);
+    }
+    Ok(bytes)
+}
+
 /// Cuts the numbers to 24 bits: what has more becomes 0xFFFFFF, which is no end either.
 fn cut_to_points(alloc: Global, ends: &[u32]) -> Result<Vec<PotentialCodePoint>, MemoryError>
     ensures { IfOk result (λ v. v.items ≡ map (λ x. min x 0xFFFFFF) ends.now) }
@@ -71,8 +88,8 @@ impl<'data> CodePointInversionList<'data> {
     /// The set of this list, which is taken over.
     ///
     /// # Errors
-    /// `SetError::Invalid` exactly where it is no inversion list, with the list. `SetError::Memory` where the
-    /// copy for that error was refused; a valid list takes no memory.
+    /// `SetError::Invalid` exactly where it is no inversion list, with the list. `SetError::Memory`
+    /// where the copy for that error was refused; a valid list takes no memory.
     pub fn try_from_inversion_list(
         alloc: Global,
         ends: ZeroVec<'data, PotentialCodePoint>,
@@ -89,8 +106,9 @@ impl<'data> CodePointInversionList<'data> {
     /// The set of these numbers, which are copied.
     ///
     /// # Errors
-    /// `SetError::Invalid` exactly where they are no inversion list, with the numbers as code points: one
-    /// above 0xFFFFFF is shown as that one. `SetError::Memory` where memory was refused.
+    /// `SetError::Invalid` exactly where they are no inversion list, with the numbers as code
+    /// points: one above 0xFFFFFF is shown as that one. `SetError::Memory` where memory was
+    /// refused.
     pub fn try_from_u32_inversion_list_slice(alloc: Global, ends: &[u32]) -> Result<Self, SetError>
         ensures ok { IfOk result (λ s. (s ≡ ends.now) × IsValid ends.now) }
         ensures err { IfErr result (IsRefusedSlice ends.now) }
@@ -101,14 +119,27 @@ impl<'data> CodePointInversionList<'data> {
         Ok(CodePointInversionList::from_valid_slice(alloc, ends)?)
     }
 
-    /// The set of an inversion list, which is copied.
-    pub(crate) fn from_valid_slice(alloc: Global, ends: &[u32]) -> Result<Self, MemoryError>
+    /// The set of an inversion list, which is copied: of even length, ascending, and within
+    /// 0x110000. Where that is not known, take
+    /// [`try_from_u32_inversion_list_slice`](Self::try_from_u32_inversion_list_slice), which tests
+    /// it.
+    ///
+    /// # Errors
+    /// `MemoryError` where memory was refused.
+    pub fn from_valid_slice(
+        alloc: Global,
+        ends: &[u32],
+    ) -> Result<CodePointInversionList<'static>, MemoryError>
         requires { IsValid ends.now }
         ensures { IfOk result (λ s. s ≡ ends.now) }
     {
-        let points = cut_to_points(alloc, ends)?;
-        let ends = ZeroVec::alloc_from_slice(alloc, &points)?;
-        Ok(CodePointInversionList { ends })
+        let bytes = pack(alloc, ends)?;
+        match ZeroVec::parse_bytes(&bytes) {
+            Ok(packed) => Ok(CodePointInversionList {
+                ends: packed.into_owned(alloc)?,
+            }),
+            Err(_) => unreachable!(),
+        }
     }
 
     /// All code points, 0 to 0x10FFFF, surrogates too. It takes no memory.
@@ -121,7 +152,8 @@ impl<'data> CodePointInversionList<'data> {
         }
     }
 
-    /// The code points of the basic multilingual plane, 0 to 0xFFFF, surrogates too. It takes no memory.
+    /// The code points of the basic multilingual plane, 0 to 0xFFFF, surrogates too. It takes no
+    /// memory.
     pub fn bmp() -> CodePointInversionList<'static>
         ensures { result ≡ 0 ∷ 0x10000 ∷ [] }
     {
@@ -134,8 +166,8 @@ impl<'data> CodePointInversionList<'data> {
     /// The set with ends of its own. One that owns them already keeps them, and takes no memory.
     ///
     /// # Errors
-    /// `MemoryError` where memory was refused. The set is then given up, and ends that it borrowed are
-    /// unchanged.
+    /// `MemoryError` where memory was refused. The set is then dropped, and ends that it borrowed
+    /// are unchanged.
     pub fn into_owned(self, alloc: Global) -> Result<CodePointInversionList<'static>, MemoryError>
         ensures ok { IfOk result (λ s. s ≡ self.entry) }
     {
@@ -177,8 +209,9 @@ impl<'data> CodePointInversionList<'data> {
         u32::from(self.ends.as_slice().at(i))
     }
 
-    /// How many ends are not above `c`, which is at least `low` and at most `low + size`. Each step halves what
-    /// is left, whatever it reads, so that the steps of a known size are laid out without a loop.
+    /// How many ends are not above `c`, which is at least `low` and at most `low + size`. Each step
+    /// halves what is left, whatever it reads, so that the steps of a known size are laid out
+    /// without a loop.
     #[inline(always)]
     fn place_between(&self, low: usize, size: usize, c: u32) -> usize
         requires from { low ≤ below self.now (suc c) }
@@ -206,8 +239,9 @@ impl<'data> CodePointInversionList<'data> {
         }
     }
 
-    /// How many ends are not above `c`. Most code points of most texts stand before the first end, behind the
-    /// last or among the first few, where little is searched or nothing.
+    /// How many ends are not above `c`. Most code points of most texts stand before the first end,
+    /// past the last or among the first few, where little is searched or nothing. Of very few ends
+    /// each is looked at.
     #[inline(always)]
     fn place_of(&self, c: u32) -> usize
         ensures valid { IsValid self.now }
@@ -215,7 +249,9 @@ impl<'data> CodePointInversionList<'data> {
         ensures within { result ≤ length self.now }
     {
         let count = self.count();
-        if count == 0 || c < self.end_at(0) {
+        if count <= 4 {
+            self.place_between(0, count, c)
+        } else if c < self.end_at(0) {
             0
         } else if self.end_at(count - 1) <= c {
             count
@@ -224,6 +260,44 @@ impl<'data> CodePointInversionList<'data> {
         } else {
             self.place_between(0, count, c)
         }
+    }
+
+    /// How many ends are not above `c`, which are at least `from`. The steps double until one
+    /// passes `c`, and what it spans is searched.
+    #[tactic(auto, using(crate::proofs::PlaceLemmas::place_front, crate::proofs::PlaceLemmas::place_behind))]
+    fn place_past(&self, from: usize, c: u32) -> usize
+        requires { from ≤ below self.now (suc c) }
+        ensures { result ≡ below self.now (suc c) }
+    {
+        let count = self.count();
+        let mut low = from;
+        let mut size = 4;
+        while low + size < count {
+            if c < self.end_at(low + size) {
+                return self.place_between(low, size, c);
+            }
+            low += size;
+            size *= 2;
+        }
+        self.place_between(low, count - low, c)
+    }
+
+    /// The same, where it is likely that few more ends than `from` are not above `c`.
+    fn place_from(&self, from: usize, c: u32) -> usize
+        requires { from ≤ below self.now (suc c) }
+        ensures place { result ≡ below self.now (suc c) }
+        ensures within { result ≤ length self.now }
+    {
+        let count = self.count();
+        let near = (from + 4).min(count);
+        let mut place = from;
+        while place < near {
+            if c < self.end_at(place) {
+                return place;
+            }
+            place += 1;
+        }
+        self.place_past(place, c)
     }
 
     /// The ends, packed.
@@ -241,11 +315,23 @@ impl<'data> CodePointInversionList<'data> {
     pub fn get_inversion_list_vec(&self, alloc: Global) -> Result<Vec<u32>, MemoryError>
         ensures ok { IfOk result (λ v. v.items ≡ self.now) }
     {
-        let mut ends = Vec::with_capacity(alloc, self.ends.len())?;
-        for end in self.ends.iter() {
-            ends.push(u32::from(end))?;
-        }
+        let mut ends = Vec::with_capacity(alloc, self.count())?;
+        self.push_ends(&mut ends, 0)?;
         Ok(ends)
+    }
+
+    /// Appends the ends from place `from` on.
+    pub(crate) fn push_ends(&self, ends: &mut Vec<u32>, from: usize) -> Result<(), MemoryError>
+        requires { from ≤ length self.now }
+        ensures { OnOk result (ends.new.items ≡ ends.old.items ++ drop from self.now) }
+    {
+        let packed = self.ends.as_slice();
+        let count = packed.len();
+        ends.reserve(count - from)?;
+        for i in from..count {
+            ends.push_reserved(u32::from(packed.at(i)));
+        }
+        Ok(())
     }
 
     /// Whether the set holds the code point. No number above 0x10FFFF is held.
@@ -263,24 +349,28 @@ impl<'data> CodePointInversionList<'data> {
         self.contains32(u32::from(c))
     }
 
-    /// Whether the set holds all code points from `start` to before `end`.
-    fn covers(&self, start: u32, end: u32) -> bool
-        requires rises { start < end }
-        requires within { end ≤ limit }
-        ensures { IsTrue result ↔ HoldsAll self.now start end }
+    /// Whether the set holds all code points from a start to before `end`, where `place` is how
+    /// many ends are not above that start.
+    fn reaches(&self, place: usize, end: u32) -> bool
+        requires { place ≤ length self.now }
+        ensures { (start : ℕ) → place ≡ below self.now (suc start) → start < end
+            → (IsTrue result ↔ HoldsAll self.now start end) }
     {
-        let place = self.place_of(start);
+        // A set is known to be valid where its ends are named.
+        let _ = &self.ends;
         place % 2 == 1 && end <= self.end_at(place)
     }
 
-    /// Whether the range names a code point, and the set holds all that it names. The surrogates between two
-    /// characters are named too.
+    /// Whether the range names a code point, and the set holds all that it names. The surrogates
+    /// between two characters are named too.
     pub fn contains_range<R: RangeOf<char>>(&self, range: R) -> bool
-        ensures { IsTrue result ↔ (R.start range < min (R.end range) limit) × HoldsAll self.now (R.start range) (min (R.end range) limit) }
+        ensures { IsTrue result
+            ↔ (R.start range < min (R.end range) limit)
+            × HoldsAll self.now (R.start range) (min (R.end range) limit) }
     {
         let (start, end) = range.deconstruct();
         let end = end.min(0x11_0000);
-        start < end && self.covers(start, end)
+        start < end && self.reaches(self.place_of(start), end)
     }
 
     /// Whether the set holds all that the other one holds. The empty set is part of each.
@@ -290,10 +380,12 @@ impl<'data> CodePointInversionList<'data> {
     {
         // A set is known to be valid where its ends are named.
         let _ = &self.ends;
+        let mut place = 0;
         let mut i = 0;
         let count = other.count();
         while i < count {
-            if !self.covers(other.end_at(i), other.end_at(i + 1)) {
+            place = self.place_from(place, other.end_at(i));
+            if !self.reaches(place, other.end_at(i + 1)) {
                 return false;
             }
             i += 2;
@@ -312,22 +404,17 @@ impl<'data> CodePointInversionList<'data> {
     pub fn position32(&self, c: u32) -> Option<usize>
         ensures { result ≡ (if holds self.now c then Some (members_below self.now c) else None) }
     {
-        let count = self.count();
+        let place = self.place_of(c);
+        if place % 2 == 0 {
+            return None;
+        }
         let mut before = 0;
         let mut i = 0;
-        while i < count {
-            let start = self.end_at(i);
-            let end = self.end_at(i + 1);
-            if c < start {
-                return None;
-            }
-            if c < end {
-                return Some(before + (c - start) as usize);
-            }
-            before += (end - start) as usize;
+        while i + 1 < place {
+            before += (self.end_at(i + 1) - self.end_at(i)) as usize;
             i += 2;
         }
-        None
+        Some(before + (c - self.end_at(i)) as usize)
     }
 
     /// How many code points the set holds, surrogates among them.
@@ -364,8 +451,8 @@ impl<'data> CodePointInversionList<'data> {
         self.ends.len() / 2
     }
 
-    /// The range at place `index`, counted from 0, with its last code point included. `None` at or past the
-    /// count.
+    /// The range at place `index`, counted from 0, with its last code point included. `None` at or
+    /// past the count.
     pub fn get_nth_range(&self, index: usize) -> Option<RangeInclusive<u32>>
         ensures nth { result ≡ slice_get (ranges_of self.now) index }
         ensures within { IfSome result IsOfCodePoints }
@@ -377,7 +464,8 @@ impl<'data> CodePointInversionList<'data> {
         Some(RangeInclusive::new(self.end_at(2 * index), self.end_at(2 * index + 1) - 1))
     }
 
-    /// The ranges that the set holds, ascending: of `[0x41, 0x44, 0x61, 0x62]` 0x41..=0x43 and 0x61..=0x61.
+    /// The ranges that the set holds, ascending: of `[0x41, 0x44, 0x61, 0x62]` 0x41..=0x43 and
+    /// 0x61..=0x61.
     pub fn iter_ranges(&self) -> IterRanges<'_>
         ensures gives { result ≡ self.now }
         ensures bound { length (ranges_of result) < 2 ^ 64 }
@@ -389,14 +477,17 @@ impl<'data> CodePointInversionList<'data> {
         IterRanges::from_ends(self.ends.iter())
     }
 
-    /// The ranges of code points that the set does not hold, ascending: of the empty set 0..=0x10FFFF.
+    /// The ranges of code points that the set does not hold, ascending: of the empty set
+    /// 0..=0x10FFFF.
     pub fn iter_ranges_complemented(&self) -> IterRangesComplemented<'_>
         ensures gives { result ≡ complement_of self.now }
-        ensures complement { (c : ℕ) → c < limit → holds (complement_of self.now) c ≡ not (holds self.now c) }
+        ensures complement { (c : ℕ) → c < limit
+            → holds (complement_of self.now) c ≡ not (holds self.now c) }
         ensures valid { IsValid (complement_of self.now) }
         ensures within { All IsOfCodePoints (ranges_of (complement_of self.now)) }
         ensures apart { AreApart (ranges_of (complement_of self.now)) }
-        ensures held { (c : ℕ) → c < limit → in_ranges (ranges_of (complement_of self.now)) c ≡ not (holds self.now c) }
+        ensures held { (c : ℕ) → c < limit
+            → in_ranges (ranges_of (complement_of self.now)) c ≡ not (holds self.now c) }
     {
         let mut ends = self.ends.iter();
         if self.contains32(0) {
@@ -410,7 +501,8 @@ impl<'data> CodePointInversionList<'data> {
     /// The characters that the set holds, ascending. Its surrogates are left out.
     pub fn iter_chars(&self) -> IterChars<'_>
         ensures gives { result ≡ characters self.now }
-        ensures held { (c : ℕ) → Contains (characters self.now) c ↔ (scalar c ≡ true) × (holds self.now c ≡ true) }
+        ensures held { (c : ℕ)
+            → Contains (characters self.now) c ↔ (scalar c ≡ true) × (holds self.now c ≡ true) }
         ensures ascending { IsStrictlyIncreasing (characters self.now) }
         ensures valid { IsValid self.now }
     {
@@ -420,10 +512,12 @@ impl<'data> CodePointInversionList<'data> {
 
 /// How far a text lies in a set.
 impl<'data> CodePointInversionList<'data> {
-    /// The length in bytes of the longest front of the text whose characters are all held, or, for `held`
-    /// false, all not held.
+    /// The length in bytes of the longest front of the text whose characters are all held, or, for
+    /// `held` false, all not held.
     pub fn span(&self, text: &str, held: bool) -> usize
-        ensures { result ≡ length (encode_utf8_all (take_while (λ c. beq (holds self.now c) held) (chars text.now))) }
+        ensures { result
+            ≡ length (encode_utf8_all
+            (take_while (λ c. beq (holds self.now c) held) (chars text.now))) }
     {
         let mut length = 0;
         for c in text.chars() {
@@ -435,10 +529,12 @@ impl<'data> CodePointInversionList<'data> {
         length
     }
 
-    /// The place of the byte from which on all characters of the text are held, or, for `held` false, all not
-    /// held: the start of its longest such tail.
+    /// The place of the byte from which on all characters of the text are held, or, for `held`
+    /// false, all not held: the start of its longest such tail.
     pub fn span_back(&self, text: &str, held: bool) -> usize
-        ensures { result + length (encode_utf8_all (take_while (λ c. beq (holds self.now c) held) (reverse (chars text.now))))
+        ensures { result + length
+            (encode_utf8_all
+            (take_while (λ c. beq (holds self.now c) held) (reverse (chars text.now))))
             ≡ length text.now }
     {
         let mut start = text.len();

@@ -21,7 +21,8 @@ impl<'data> PartialEq for CodePointInversionList<'data> {
     fn eq(&self, other: &Self) -> bool
         ensures value { result ≡ pointwise nat_eq self.now other.now }
         ensures same { IsTrue result ↔ (self.now ≡ other.now) }
-        ensures members { IsTrue result ↔ ((c : ℕ) → c < limit → holds self.now c ≡ holds other.now c) }
+        ensures members { IsTrue result
+            ↔ ((c : ℕ) → c < limit → holds self.now c ≡ holds other.now c) }
     {
         self.packed().as_bytes() == other.packed().as_bytes()
     }

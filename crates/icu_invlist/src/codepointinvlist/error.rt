@@ -6,8 +6,8 @@ ghost use Rattle.icu_invlist.specs.declared.codepointinvlist.error.TryRangeError
 use icu_zerovec::{MemoryError, PotentialCodePoint};
 use thiserror::Error;
 
-/// This list is no inversion list: it has an odd number of ends, does not ascend, or has an end above
-/// 0x110000.
+/// This list is no inversion list: it has an odd number of ends, does not ascend, or has an end
+/// above 0x110000.
 #[derive(Debug, Drop, Error)]
 #[error("Invalid set")]
 pub struct InvalidSetError(pub Vec<PotentialCodePoint>);
@@ -31,8 +31,8 @@ impl From<MemoryError> for SetError {
     }
 }
 
-/// From the first number to before the second there is none: they are the start and the exclusive end of a
-/// range.
+/// From the first number to before the second there is none: they are the start and the exclusive
+/// end of a range.
 #[derive(Clone, Copy, Debug, PartialEq, Eq, Error)]
 #[error("Invalid range: {0}..{1}")]
 pub struct RangeError(pub u32, pub u32);

@@ -6,7 +6,7 @@ ghost use Rattle.std.specs.List.{filter, range_with_len};
 ghost use Rattle.std.specs.Option.{MatchOption};
 ghost use Rattle.std.proofs.Math.Utf8.{scalar};
 ghost use Rattle.icu_invlist.specs.InversionList.{IsValid, ranges_of, limit};
-ghost use Rattle.icu_invlist.specs.StillGiven.{gaps_left, start_at, characters_left};
+ghost use Rattle.icu_invlist.specs.Inside.StillGiven.{gaps_left, start_at, characters_left};
 
 use icu_zerovec::PotentialCodePoint;
 use icu_zerovec::iter::Iter;
@@ -14,8 +14,8 @@ use std::marker::Model;
 use std::ops::RangeInclusive;
 
 /// The ranges of a set, ascending, as
-/// [`iter_ranges`](crate::codepointinvlist::CodePointInversionList::iter_ranges) gives them. It knows how
-/// many are left, and a clause sees the ends of those.
+/// [`iter_ranges`](crate::codepointinvlist::CodePointInversionList::iter_ranges) gives them. It
+/// knows how many are left, and a clause sees the ends of those.
 #[derive(Debug, Drop)]
 pub struct IterRanges<'a> {
     ends: Iter<'a, PotentialCodePoint>,
@@ -58,7 +58,8 @@ impl<'a> Iterator for IterRanges<'a> {
     fn size_hint(&self) -> (usize, Option<usize>)
         ensures lower { IsWithinCount result.0 (at_most (length (ranges_of self.now))) }
         ensures upper { IfSome result.1 (UpTo (at_most (length (ranges_of self.now)))) }
-        ensures exact { (result.0 ≡ length (ranges_of self.now)) × (result.1 ≡ Some (length (ranges_of self.now))) }
+        ensures exact { (result.0 ≡ length (ranges_of self.now))
+            × (result.1 ≡ Some (length (ranges_of self.now))) }
     {
         let len = self.ends.len() / 2;
         (len, Some(len))
@@ -83,7 +84,7 @@ pub struct IterRangesComplemented<'a> {
 impl<'a> Model for IterRangesComplemented<'a> {
     ghost use Rattle.std.specs.Prelude.{List, ℕ};
     ghost use Rattle.icu_invlist.specs.InversionList.{IsValid};
-    ghost use Rattle.icu_invlist.specs.StillGiven.{gaps_left};
+    ghost use Rattle.icu_invlist.specs.Inside.StillGiven.{gaps_left};
 
     ghost Value = { List ℕ };
 
@@ -101,7 +102,7 @@ pub(crate) fn start_of_gap(end: Option<PotentialCodePoint>) -> Option<u32>
 }
 
 impl<'a> IterRangesComplemented<'a> {
-    /// The gaps from this start on, behind which the set has these ends.
+    /// The gaps from this start on, past which the set has these ends.
     pub(crate) fn from_gap(start: Option<u32>, ends: Iter<'a, PotentialCodePoint>) -> Self
         requires { IsValid (gaps_left start ends) }
         ensures { result ≡ gaps_left start ends.entry }
@@ -133,8 +134,8 @@ impl<'a> Iterator for IterRangesComplemented<'a> {
 }
 
 /// The characters of a set, ascending, as
-/// [`iter_chars`](crate::codepointinvlist::CodePointInversionList::iter_chars) gives them. A clause sees
-/// those that are left.
+/// [`iter_chars`](crate::codepointinvlist::CodePointInversionList::iter_chars) gives them. A clause
+/// sees those that are left.
 #[derive(Debug, Drop)]
 pub struct IterChars<'a> {
     next: u32,
@@ -144,7 +145,7 @@ pub struct IterChars<'a> {
 
 impl<'a> Model for IterChars<'a> {
     ghost use Rattle.std.specs.Prelude.{List, ℕ};
-    ghost use Rattle.icu_invlist.specs.StillGiven.{characters_left};
+    ghost use Rattle.icu_invlist.specs.Inside.StillGiven.{characters_left};
 
     ghost Value = { List ℕ };
 
@@ -164,12 +165,14 @@ impl<'a> IterChars<'a> {
     }
 }
 
-/// Goes over the next character from `next` to before `end`, and answers it. Surrogates on the way are left
-/// out.
+/// Goes over the next character from `next` to before `end`, and answers it. Surrogates on the way
+/// are left out.
 fn take_char(next: &mut u32, end: u32) -> Option<char>
     ensures { MatchOption result
-        ((filter scalar (range_with_len next.old (end - next.old)) ≡ []) × (filter scalar (range_with_len next.new (end - next.new)) ≡ []))
-        (λ c. filter scalar (range_with_len next.old (end - next.old)) ≡ c ∷ filter scalar (range_with_len next.new (end - next.new))) }
+        ((filter scalar (range_with_len next.old (end - next.old)) ≡ [])
+        × (filter scalar (range_with_len next.new (end - next.new)) ≡ []))
+        (λ c. filter scalar (range_with_len next.old (end - next.old))
+        ≡ c ∷ filter scalar (range_with_len next.new (end - next.new))) }
 {
     while *next < end {
         let c = char::from_u32(*next);

@@ -3,7 +3,8 @@ ghost use Rattle.std.specs.Prelude.{◌≡◌, ℕ, ◌+◌, ◌++◌, List, [],
 ghost use Rattle.serde_json.specs.View.{view, items_view};
 ghost use Rattle.serde_json.specs.Data.{Items, array};
 ghost use Rattle.icu_invlist.specs.InversionList.{IsValid};
-ghost use Rattle.icu_invlist.specs.SetJson.{SayEnds, IsSaid, IsRefusedJson, SaysNone, ends_of, ends_from, GivesEnds, written_of};
+ghost use Rattle.icu_invlist.specs.SetJson.{SayEnds, IsSaid, IsRefusedJson, SaysNone, ends_of, ends_from, written_of};
+ghost use Rattle.icu_invlist.specs.Inside.GivenEnds.{GivesEnds};
 ghost use Rattle.icu_invlist.specs.declared.codepointinvlist.error.SetJsonError.TheVariants.{Memory};
 
 use crate::codepointinvlist::cpinvlist::CodePointInversionList;
@@ -14,7 +15,7 @@ use icu_zerovec::MemoryError;
 use serde_json::Value;
 use std::alloc::Global;
 
-/// Puts the two ends of a range behind the others.
+/// Appends the two ends of a range.
 fn push_two(ends: &mut Vec<u32>, start: u32, end: u32) -> Result<(), MemoryError>
     ensures { OnOk result (ends.new.items ≡ (ends.old.items ++ start ∷ []) ++ end ∷ []) }
 {
@@ -54,9 +55,9 @@ fn ends_of_value(alloc: Global, value: &Value) -> Result<Vec<u32>, SetJsonError>
 }
 
 impl<'data> CodePointInversionList<'data> {
-    /// The set as a JSON array with one string for each range, ascending: `["A-Z", "_"]`. A range of one code
-    /// point is the character, a longer one its first and its last with `-` between them. A surrogate is
-    /// written as `U+` and its four upper-case hexadecimal digits.
+    /// The set as a JSON array with one string for each range, ascending: `["A-Z", "_"]`. A range
+    /// of one code point is the character, a longer one its first and its last with `-` between
+    /// them. A surrogate is written as `U+` and its four upper-case hexadecimal digits.
     ///
     /// # Errors
     /// `MemoryError` where memory was refused.
@@ -76,21 +77,25 @@ impl<'data> CodePointInversionList<'data> {
         Ok(Value::Array(items))
     }
 
-    /// The set that a JSON array of strings spells, each one a range as [`to_json`](Self::to_json) writes it:
-    /// `["A-Z", "_"]`. Any point may be spelled as `U+` and exactly four hexadecimal digits of either case.
+    /// The set that a JSON array of strings spells, each one a range as [`to_json`](Self::to_json)
+    /// writes it:
+    /// `["A-Z", "_"]`. Any point may be spelled as `U+` and exactly four hexadecimal digits of
+    /// either case.
     ///
     /// # Errors
     /// - `SetJsonError::NotAnArray` where the value is none.
-    /// - `SetJsonError::NotAString` and `SetJsonError::NotARange` with the place of the first item that is no
-    ///   string, or a string that spells no range.
+    /// - `SetJsonError::NotAString` and `SetJsonError::NotARange` with the place of the first item
+    /// that is no string, or a string that spells no range.
     /// - `SetJsonError::InvalidSet` where the ranges are not ascending or touch one another.
     /// - `SetJsonError::Memory` where memory was refused.
     pub fn from_json(
         alloc: Global,
         value: &Value,
     ) -> Result<CodePointInversionList<'static>, SetJsonError>
-        ensures ok { IfOk result (λ s. (ends_of (view value.now) ≡ Ok s) × IsSaid (view value.now) s × IsValid s) }
-        ensures only { (items : Items) (ends : List ℕ) → view value.now ≡ array items → SayEnds items ends → IsValid ends
+        ensures ok { IfOk result
+            (λ s. (ends_of (view value.now) ≡ Ok s) × IsSaid (view value.now) s × IsValid s) }
+        ensures only { (items : Items) (ends : List ℕ) → view value.now ≡ array items
+            → SayEnds items ends → IsValid ends
             → MatchResult result (λ s. s ≡ ends) (λ e. e ≡ Memory) }
         ensures err { IfErr result (IsRefusedJson (view value.now)) }
         ensures says_none { IfErr result (SaysNone (view value.now)) }

@@ -21,9 +21,9 @@ impl RangePoint for u32 {
     ghost last_end = { 2 ^ 32 - 1 };
 }
 
-/// A range of characters or of numbers: `a..b`, `a..=b`, `a..`, `..b`, `..=b` or `..` of `char` or of `u32`.
-/// The numbers that it names are those from its start to before its end; a range of characters names the
-/// surrogates between them too.
+/// A range of characters or of numbers: `a..b`, `a..=b`, `a..`, `..b`, `..=b` or `..` of `char` or
+/// of `u32`. The numbers that it names are those from its start to before its end; a range of
+/// characters names the surrogates between them too.
 pub trait RangeOf<X: RangePoint> {
     /// The first number that it names, if it names one.
     ghost start: { Self → ℕ };
@@ -38,8 +38,9 @@ pub trait RangeOf<X: RangePoint> {
         ensures within { result.1 ≤ X.last_end };
 }
 
-/// The inclusive start and the exclusive end of a range. A missing start is 0, and a missing end 0x110000. An
-/// included end `u32::MAX`, after which there is no number, is the end itself: `0..=u32::MAX` gives
+/// The inclusive start and the exclusive end of a range. A missing start is 0, and a missing end
+/// 0x110000. An included end `u32::MAX`, after which there is no number, is the end itself:
+/// `0..=u32::MAX` gives
 /// `(0, u32::MAX)`.
 pub fn deconstruct_range<X: RangePoint, R: RangeOf<X>>(range: R) -> (u32, u32)
     ensures start { result.0 ≡ R.start range }
@@ -180,8 +181,8 @@ impl RangeOf<char> for RangeFull {
     }
 }
 
-/// Whether the ends are an inversion list: of even number, ascending without a repetition, and none above
-/// 0x110000. `[0x41, 0x5B]` is one, and so is the empty list. `[1, 2, 2, 3]` is none.
+/// Whether the ends are an inversion list: of even number, ascending without a repetition, and none
+/// above 0x110000. `[0x41, 0x5B]` is one, and so is the empty list. `[1, 2, 2, 3]` is none.
 pub fn is_valid_zv(ends: &ZeroVec<'_, PotentialCodePoint>) -> bool
     ensures { IsTrue result ↔ IsValid ends.now }
 {

@@ -17,8 +17,10 @@ impl<'data> PartialEq for CodePointInversionListAndStringList<'data> {
     fn eq(&self, other: &Self) -> bool
         ensures value { result ≡ same_set self.now other.now }
         ensures same { IsTrue result ↔ (self.now ≡ other.now) }
-        ensures members { IsTrue result ↔ (((c : ℕ) → c < limit → holds self.now.code_points c ≡ holds other.now.code_points c)
-            × ((text : List ℕ) → is_among self.now.strings text ≡ is_among other.now.strings text)) }
+        ensures members { IsTrue result
+            ↔ (((c : ℕ) → c < limit → holds self.now.code_points c ≡ holds other.now.code_points c)
+            × ((text : List ℕ)
+            → is_among self.now.strings text ≡ is_among other.now.strings text)) }
     {
         self.cp_inv_list == other.cp_inv_list && self.str_list == other.str_list
     }

@@ -20,8 +20,8 @@ pub enum InvalidStringList {
 /// Why no set was read from JSON.
 #[derive(Debug, Drop, Error)]
 pub enum StringListJsonError {
-    /// The value is no object, with the empty text; or it has no member of this key, or at `str_list` no
-    /// array stands.
+    /// The value is no object, with the empty text; or it has no member of this key, or at
+    /// `str_list` no array stands.
     #[error("no object with arrays `cp_inv_list` and `str_list`, at the key `{0}`")]
     Shape(&'static str),
     /// The value at `cp_inv_list` is no set of code points.

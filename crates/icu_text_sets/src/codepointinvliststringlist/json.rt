@@ -3,7 +3,8 @@ ghost use Rattle.std.specs.Prelude.{◌≡◌, ℕ, ◌+◌, List, [], ◌∷◌
 ghost use Rattle.serde_json.specs.Data.{string};
 ghost use Rattle.serde_json.specs.View.{view, items_view};
 ghost use Rattle.icu_text_sets.specs.TextSet.{TextSet, texts_of};
-ghost use Rattle.icu_text_sets.specs.TextSetJson.{json_of, object_of, json_fault_of, set_fault_of, texts_from, texts_said, IsRead, IsRefusedAs, GivesTexts};
+ghost use Rattle.icu_text_sets.specs.TextSetJson.{json_of, object_of, json_fault_of, texts_in, texts_said, IsRead, IsRefusedAs};
+ghost use Rattle.icu_text_sets.specs.Inside.JsonParts.{set_fault_of, GivesTexts};
 
 use crate::codepointinvliststringlist::error::StringListJsonError;
 use crate::codepointinvliststringlist::set::CodePointInversionListAndStringList;
@@ -32,8 +33,9 @@ fn object_of(alloc: Global, code_points: Value, strings: Vec<Value>) -> Result<V
 
 /// The strings that the items are, in their order.
 fn strings_of_items(alloc: Global, items: &[Value]) -> Result<Vec<String>, StringListJsonError>
-    ensures ok { IfOk result (λ v. texts_from 0 (items_view items.now) ≡ Ok (texts_of v.items)) }
-    ensures err { IfErr result (λ e. GivesTexts (texts_from 0 (items_view items.now)) (json_fault_of e)) }
+    ensures ok { IfOk result (λ v. texts_in (items_view items.now) ≡ Ok (texts_of v.items)) }
+    ensures err { IfErr result
+        (λ e. GivesTexts (texts_in (items_view items.now)) (json_fault_of e)) }
 {
     let Ok(mut strings) = Vec::with_capacity(alloc, items.len()) else {
         return Err(StringListJsonError::Memory);
@@ -78,8 +80,8 @@ fn set_error(error: SetJsonError) -> StringListJsonError
 
 impl<'data> CodePointInversionListAndStringList<'data> {
     /// The set as a JSON object: at the key `cp_inv_list` the code points, as
-    /// [`CodePointInversionList::to_json`] writes them, and at `str_list` the array of the strings, in their
-    /// order.
+    /// [`CodePointInversionList::to_json`] writes them, and at `str_list` the array of the strings,
+    /// in their order.
     ///
     /// ```
     /// // the set of "a" and "abc": {"cp_inv_list":["a"],"str_list":["abc"]}
@@ -97,7 +99,14 @@ impl<'data> CodePointInversionListAndStringList<'data> {
         Ok(value)
     }
 
-    /// The set that a JSON object says, as [`to_json`](Self::to_json) writes it. Other keys are ignored.
+    /// The set that a JSON object says, as [`to_json`](Self::to_json) writes it. Other keys are
+    /// ignored.
+    ///
+    /// ```
+    /// let value = Value::from_str(alloc, r#"{"cp_inv_list":["a"],"str_list":["abc"]}"#)?;
+    /// let set = CodePointInversionListAndStringList::from_json(alloc, &value)?;
+    /// // set.contains('a') and set.contains_str("abc") are true
+    /// ```
     ///
     /// # Errors
     /// The first fault, in this order:

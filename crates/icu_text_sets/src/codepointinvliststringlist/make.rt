@@ -1,15 +1,13 @@
 //! How sets of code points and texts are made.
-ghost use Rattle.std.specs.Prelude.{◌≡◌, ◌+◌, ◌≤◌, ◌||◌, ℕ, List, length, map, Some, None, IfOk, IfErr, OnOk, IfSome, option_map};
+ghost use Rattle.std.specs.Prelude.{◌≡◌, ◌+◌, ◌≤◌, ◌++◌, ℕ, List, [], ◌∷◌, length, map, true, Some, None, IfOk, IfErr, OnOk, IfSome, option_map};
 ghost use Rattle.std.specs.String.{string_bytes};
-ghost use Rattle.std.specs.Str.{bytes_eq};
 ghost use Rattle.std.specs.Iterator.{Drains, IsFinite};
 ghost use Rattle.icu_text_sets.specs.TextSet.{TextSet, only_char, is_among, texts_of, IsStringList, HoldsTexts};
-ghost use Rattle.icu_text_sets.specs.TextFaults.{fault, fault_of, fault_at, extent, kind_of};
+ghost use Rattle.icu_text_sets.specs.TextFaults.{fault, fault_of};
+ghost use Rattle.icu_text_sets.specs.Inside.StringFaults.{fault_at, fault_length, kind_of};
 
 use crate::codepointinvliststringlist::error::InvalidStringList;
-use crate::codepointinvliststringlist::set::{
-    CodePointInversionListAndStringList, only_char, place_of,
-};
+use crate::codepointinvliststringlist::set::{CodePointInversionListAndStringList, only_char};
 use icu_invlist::codepointinvlist::{CodePointInversionList, CodePointInversionListBuilder};
 use icu_zerovec::MemoryError;
 use std::alloc::Global;
@@ -25,7 +23,8 @@ enum Fault {
 
 /// What is wrong with a string before the next one, if there is one.
 fn fault_before(text: &String, next: Option<&String>) -> Option<Fault>
-    ensures { result ≡ kind_of (string_bytes text.now) (option_map (λ s. string_bytes s.now) next.entry) }
+    ensures { result
+        ≡ kind_of (string_bytes text.now) (option_map (λ s. string_bytes s.now) next.entry) }
 {
     if only_char(text.as_str()).is_some() {
         return Some(Fault::OneCodePoint);
@@ -39,8 +38,9 @@ fn fault_before(text: &String, next: Option<&String>) -> Option<Fault>
 
 /// The first fault on a walk from the front, with the place of its string.
 fn first_fault(strings: &[String]) -> Option<(usize, Fault)>
-    ensures first { fault (texts_of strings.now) ≡ option_map (λ x. fault_at (texts_of strings.now) x.0 x.1) result }
-    ensures within { IfSome result (λ x. x.0 + extent x.1 ≤ length strings.now) }
+    ensures first { fault (texts_of strings.now)
+        ≡ option_map (λ x. fault_at (texts_of strings.now) x.0 x.1) result }
+    ensures within { IfSome result (λ x. x.0 + fault_length x.1 ≤ length strings.now) }
 {
     for (i, text) in strings.iter().enumerate() {
         if let Some(fault) = fault_before(text, strings.get(i + 1)) {
@@ -52,7 +52,7 @@ fn first_fault(strings: &[String]) -> Option<(usize, Fault)>
 
 /// The error that has the strings at fault, which are taken out of the list.
 fn refused(mut strings: Vec<String>, place: usize, fault: Fault) -> InvalidStringList
-    requires { place + extent fault ≤ length strings.items }
+    requires { place + fault_length fault ≤ length strings.items }
     ensures { fault_of result ≡ fault_at (texts_of strings.items) place fault }
 {
     match fault {
@@ -65,17 +65,25 @@ fn refused(mut strings: Vec<String>, place: usize, fault: Fault) -> InvalidStrin
     }
 }
 
-/// Puts a text that is no single character among strings of a set, where it isn't there yet.
-fn insert_text(alloc: Global, strings: &mut Vec<String>, text: &str) -> Result<(), MemoryError>
-    requires list { IsStringList (texts_of strings.old.items) }
-    requires string { only_char text.now ≡ None }
-    ensures list { OnOk result (IsStringList (texts_of strings.new.items)) }
-    ensures holds { OnOk result ((t : List ℕ) → is_among (texts_of strings.new.items) t ≡ (is_among (texts_of strings.old.items) t || bytes_eq text.now t)) }
+/// Appends a text to strings.
+fn push_text(alloc: Global, strings: &mut Vec<String>, text: &str) -> Result<(), MemoryError>
+    ensures { OnOk result
+        (texts_of strings.new.items ≡ texts_of strings.old.items ++ text.now ∷ []) }
 {
-    if let Err(place) = place_of(strings, text) {
-        strings.insert(place, String::from_str(alloc, text)?)?;
-    }
+    let string = String::from_str(alloc, text)?;
+    strings.push(string)?;
     Ok(())
+}
+
+/// Brings strings into the order of a set: ascending by their bytes, each once.
+fn sort_strings(strings: &mut Vec<String>)
+    requires { (t : List ℕ) → is_among (texts_of strings.old.items) t ≡ true → only_char t ≡ None }
+    ensures list { IsStringList (texts_of strings.new.items) }
+    ensures holds { (t : List ℕ)
+        → is_among (texts_of strings.new.items) t ≡ is_among (texts_of strings.old.items) t }
+{
+    strings.sort_unstable();
+    strings.dedup();
 }
 
 /// How a set is made.
@@ -83,8 +91,8 @@ impl<'data> CodePointInversionListAndStringList<'data> {
     /// The set of these code points and strings, which are taken over. It takes no memory.
     ///
     /// # Errors
-    /// The first fault on a walk from the front of the strings, with the strings at fault. At each place it
-    /// is, in this order:
+    /// The first fault on a walk from the front of the strings, with the strings at fault. At each
+    /// place it is, in this order:
     /// - `InvalidStringLength` where the string is exactly one code point,
     /// - `StringListNotUnique` where the next string is equal,
     /// - `StringListNotSorted` where the next string has the smaller bytes, with both.
@@ -92,7 +100,10 @@ impl<'data> CodePointInversionListAndStringList<'data> {
         cp_inv_list: CodePointInversionList<'data>,
         str_list: Vec<String>,
     ) -> Result<Self, InvalidStringList>
-        ensures ok { IfOk result (λ s. (s ≡ record { code_points = cp_inv_list.entry; strings = texts_of str_list.items }) × (fault (texts_of str_list.items) ≡ None)) }
+        ensures ok { IfOk result
+            (λ s. (s ≡ record
+            { code_points = cp_inv_list.entry; strings = texts_of str_list.items })
+            × (fault (texts_of str_list.items) ≡ None)) }
         ensures err { IfErr result (λ e. fault (texts_of str_list.items) ≡ Some (fault_of e)) }
     {
         match first_fault(&str_list) {
@@ -104,27 +115,36 @@ impl<'data> CodePointInversionListAndStringList<'data> {
         }
     }
 
-    /// The set of these texts, in any order, also more than once. A text of exactly one character becomes a
-    /// code point, any other one a string. The iterator is one that ends.
+    /// The set of these texts, in any order, also more than once. A text of exactly one character
+    /// becomes a code point, any other one a string. The iterator is one that ends.
+    ///
+    /// ```
+    /// let texts = ["a", "abc", "xyz", "abc"];
+    /// let set = CodePointInversionListAndStringList::from_iter(alloc, texts.iter().copied())?;
+    /// // set.contains('a') is true, and set.strings() is ["abc", "xyz"]
+    /// ```
     ///
     /// # Errors
-    /// `MemoryError` where memory was refused. The iterator is then let go where it stands.
+    /// `MemoryError` where memory was refused. The iterator is then dropped where it stands.
     pub fn from_iter<'text, I: Iterator<Item = &'text str> + Drop>(
         alloc: Global,
         iter: I,
     ) -> Result<Self, MemoryError>
         requires can { I.can_next iter }
         requires finite { IsFinite (I.remaining iter) }
-        ensures ok { IfOk result (λ s. (texts : List _) × Drains I.next_gives iter texts × HoldsTexts (map (λ t. t.now) texts) s) }
+        ensures ok { IfOk result
+            (λ s. (texts : List _) × Drains I.next_gives iter texts
+            × HoldsTexts (map (λ t. t.now) texts) s) }
     {
         let mut builder = CodePointInversionListBuilder::new(alloc);
         let mut str_list = Vec::new(alloc);
         for text in iter {
             match only_char(text) {
                 Some(c) => builder.add_char(c)?,
-                None => insert_text(alloc, &mut str_list, text)?,
+                None => push_text(alloc, &mut str_list, text)?,
             }
         }
+        sort_strings(&mut str_list);
         Ok(CodePointInversionListAndStringList {
             cp_inv_list: builder.build()?,
             str_list,

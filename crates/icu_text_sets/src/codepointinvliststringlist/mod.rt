@@ -1,4 +1,5 @@
-//! Sets that hold code points, and strings of more or fewer than one code point, the empty one among them.
+//! Sets that hold code points, and strings of more or fewer than one code point, the empty one
+//! among them.
 
 mod equality;
 mod error;

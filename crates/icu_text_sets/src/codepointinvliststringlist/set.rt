@@ -5,18 +5,18 @@ ghost use Rattle.std.specs.Option.{option_map, IfSome};
 ghost use Rattle.std.specs.Str.{chars, is_utf8, IsUtf8};
 ghost use Rattle.icu_invlist.specs.InversionList.{holds, limit};
 ghost use Rattle.icu_text_sets.specs.TextSet.{TextSet, only_char, is_among, texts_of, IsStringList, member, member_count};
-ghost use Rattle.icu_text_sets.specs.Places.{IsPlaceOf};
+ghost use Rattle.icu_text_sets.specs.Inside.StringPlaces.{IsPlaceOf};
 
 use icu_invlist::codepointinvlist::CodePointInversionList;
 use icu_zerovec::MemoryError;
 use std::alloc::Global;
 use std::marker::Model;
 
-/// A set of code points, surrogates among them, and of strings: what ICU calls a UnicodeSet. A string is any
-/// text but one of exactly one code point, also the empty text.
+/// A set of code points, surrogates among them, and of strings: what ICU calls a UnicodeSet. A
+/// string is any text but one of exactly one code point, also the empty text.
 ///
-/// It lends or owns its code points, and owns its strings, which ascend by their bytes, each once. A clause
-/// sees the ends of the code points' ranges, and the bytes of the strings.
+/// It lends or owns its code points, and owns its strings, which ascend by their bytes, each once.
+/// A clause sees the ends of the code points' ranges, and the bytes of the strings.
 ///
 /// ```
 /// let set = CodePointInversionListAndStringList::from_iter(alloc, ["a", "abc", "xyz", "abc"].into_iter())?;
@@ -33,7 +33,8 @@ impl<'data> Model for CodePointInversionListAndStringList<'data> {
 
     ghost Value = { TextSet };
 
-    ghost view = { λ a. record { code_points = a.cp_inv_list; strings = texts_of a.str_list.items } };
+    ghost view = { λ a.
+        record { code_points = a.cp_inv_list; strings = texts_of a.str_list.items } };
 
     ghost invariant = { λ a. IsStringList (texts_of a.str_list.items) };
 }
@@ -52,7 +53,7 @@ pub(super) fn only_char(text: &str) -> Option<char>
 }
 
 /// Where a text stands among strings of a set, or where it belongs.
-pub(super) fn place_of(strings: &[String], text: &str) -> Result<usize, usize>
+pub(super) fn find(strings: &[String], text: &str) -> Result<usize, usize>
     requires { IsStringList (texts_of strings.now) }
     ensures found { is_ok result ≡ is_among (texts_of strings.now) text.now }
     ensures place { IsPlaceOf (texts_of strings.now) text.now result }
@@ -106,19 +107,19 @@ impl<'data> CodePointInversionListAndStringList<'data> {
         !self.str_list.is_empty()
     }
 
-    /// Whether the set holds the text: one of exactly one character if that is among the code points, any
-    /// other one if it is among the strings.
+    /// Whether the set holds the text: one of exactly one character if that is among the code
+    /// points, any other one if it is among the strings.
     pub fn contains_str(&self, text: &str) -> bool
         ensures { result ≡ member self.now text.now }
     {
         match only_char(text) {
             Some(c) => self.cp_inv_list.contains(c),
-            None => place_of(&self.str_list, text).is_ok(),
+            None => find(&self.str_list, text).is_ok(),
         }
     }
 
-    /// Whether the set holds the text of these bytes, as [`contains_str`](Self::contains_str) has it. Bytes
-    /// that are no UTF-8 are no text, and not held.
+    /// Whether the set holds the text of these bytes, as [`contains_str`](Self::contains_str) has
+    /// it. Bytes that are no UTF-8 are no text, and not held.
     pub fn contains_utf8(&self, bytes: &[u8]) -> bool
         ensures { result ≡ is_utf8 bytes.now && member self.now bytes.now }
     {

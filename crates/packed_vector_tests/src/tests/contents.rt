@@ -7,7 +7,7 @@ use std::fmt::Debug;
 use std::process::Abort;
 use std::test::Fail;
 
-/// The values stand at their places, and none behind them.
+/// The values stand at their places, and none after them.
 fn expect_places<T: AsULE + Debug + PartialEq>(
     rt: &impl Abort,
     vector: &ZeroVec<'_, T>,
@@ -182,4 +182,11 @@ fn code_points_in_three_bytes(rt: HostRuntime) -> Result<(), Fail> {
             PotentialCodePoint::from_u24(0xff_ffff),
         ],
     )
+}
+
+#[test]
+fn values_of_an_iterator(rt: HostRuntime) -> Result<(), Fail> {
+    let codes = ZeroVec::<u32>::alloc_from_iter(rt.alloc(), "AZ".chars().map(|c| u32::from(c)))?;
+    expect_bytes(&rt, codes.as_bytes(), &[0x41, 0, 0, 0, 0x5a, 0, 0, 0]);
+    Ok(())
 }

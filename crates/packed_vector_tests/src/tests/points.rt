@@ -3,7 +3,8 @@ use crate::tests::support::{expect, expect_same, hash_of};
 use icu_zerovec::PotentialCodePoint;
 use std::process::Abort;
 
-/// The number is a point that is worth it and hashes as it does, unless this one is wanted as refused.
+/// The number is a point that is worth it and hashes as it does, unless this one is wanted as
+/// refused.
 fn expect_number(rt: &impl Abort, number: u32, want: Option<u32>) {
     match PotentialCodePoint::try_from(number) {
         Ok(point) => {

@@ -1,14 +1,14 @@
-//! No call that has no allocator takes memory, nor does `into_owned` where the vector owns its bytes already,
-//! also once it was converted. The script `tests/refused_memory` sees that a test whose name ends in `_quiet`
-//! asks for nothing between the lines `call` and `done`.
+//! No call that has no allocator takes memory, nor does `into_owned` where the vector owns its
+//! bytes already, also once it was converted. The script `tests/refused_memory` sees that a test
+//! whose name ends in `_quiet` asks for nothing between the lines `call` and `done`.
 use crate::tests::refused_memory::say;
 use crate::tests::support::{expect, expect_same, hash_of};
 use icu_zerovec::ule::{AsULE, UleError};
 use icu_zerovec::{PotentialCodePoint, ZeroSlice, ZeroVec};
 use std::test::Fail;
 
-/// How many values there are, whether there is none, the second, the first and the last one, and how many come
-/// one after another.
+/// How many values there are, whether there is none, the second, the first and the last one, and
+/// how many come one after another.
 type Reads = (usize, bool, Option<u32>, Option<u32>, Option<u32>, usize);
 
 /// What a vector of these bytes reads.
@@ -42,7 +42,8 @@ fn views_of(bytes: &[u8]) -> Result<Reads, UleError> {
     Ok(reads_of_view(lent.as_slice()))
 }
 
-/// Calls: `ZeroVec::parse_bytes`, `ZeroVec::len`, `ZeroVec::is_empty`, `ZeroVec::get`, `ZeroVec::first`,
+/// Calls: `ZeroVec::parse_bytes`, `ZeroVec::len`, `ZeroVec::is_empty`, `ZeroVec::get`,
+/// `ZeroVec::first`,
 /// `ZeroVec::last`, `ZeroVec::iter`, `ZeroSlice::len`, `ZeroSlice::is_empty`, `ZeroSlice::get`,
 /// `ZeroSlice::first`, `ZeroSlice::last`, `ZeroSlice::iter`, `Iter::next`, `ZeroVec::as_bytes`,
 /// `ZeroVec::as_slice`.
@@ -81,8 +82,8 @@ fn searches_quiet(rt: HostRuntime) {
     expect_same(&rt, places, Ok((Ok(1), Err(2))), "places");
 }
 
-/// Whether a vector that borrows the bytes of another is equal to it and hashes as its view does, and whether
-/// the two views, and what they give, are the same.
+/// Whether a vector that borrows the bytes of another is equal to it and hashes as its view does,
+/// and whether the two views, and what they give, are the same.
 fn is_like_its_owner(owner: &ZeroVec<'_, u32>) -> Result<bool, UleError> {
     let lent = ZeroVec::<u32>::parse_bytes(owner.as_bytes())?;
     let view = lent.as_slice();

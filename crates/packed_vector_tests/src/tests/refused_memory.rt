@@ -1,6 +1,7 @@
-//! Calls whose requests for memory are refused in turn. The script `tests/refused_memory` runs each test whose
-//! name ends in `_refused` with its first, second, .. request refused, until a run refuses nothing: a refusal
-//! between the lines `call` and `done` has to be answered by the line `refused`.
+//! Calls whose requests for memory are refused in turn. The script `tests/refused_memory` runs each
+//! test whose name ends in `_refused` with its first, second, .. request refused, until a run
+//! refuses nothing: a refusal between the lines `call` and `done` has to be answered by the line
+//! `refused`.
 use crate::tests::support::{expect, expect_bytes, expect_same};
 use icu_zerovec::ule::AsULE;
 use icu_zerovec::{MemoryError, PotentialCodePoint, ZeroVec};
@@ -41,6 +42,16 @@ fn alloc_from_slice_refused(rt: HostRuntime) {
     say(&rt, "done");
     expect_made(&rt, made, &[0x34, 0x12, 255, 0]);
     expect_same(&rt, values, [0x1234, 255], "the values");
+}
+
+/// Calls: `ZeroVec::alloc_from_iter`.
+#[test]
+fn alloc_from_iter_refused(rt: HostRuntime) {
+    let values = [0x1234_u16, 255];
+    say(&rt, "call");
+    let made = ZeroVec::alloc_from_iter(rt.alloc(), values.iter().copied());
+    say(&rt, "done");
+    expect_made(&rt, made, &[0x34, 0x12, 255, 0]);
 }
 
 /// The refusal of a call that gives the value back, as the crates above convert it.

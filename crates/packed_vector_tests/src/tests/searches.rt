@@ -43,3 +43,17 @@ fn searched_places_of_signed_numbers(rt: HostRuntime) -> Result<(), Fail> {
     expect_same(&rt, signed.binary_search(&-2), Err(1), "-2");
     Ok(())
 }
+
+#[test]
+fn searched_places_among_fifty(rt: HostRuntime) -> Result<(), Fail> {
+    let evens = ZeroVec::<u32>::alloc_from_iter(
+        rt.alloc(),
+        (0..50_u32).map(|i| i.wrapping_mul(2)),
+    )?;
+    for x in 0..100_u32 {
+        let half = (x / 2) as usize;
+        let want = if x % 2 == 0 { Ok(half) } else { Err(half + 1) };
+        expect_same(&rt, evens.binary_search(&x), want, "among fifty");
+    }
+    Ok(())
+}

@@ -1,5 +1,5 @@
-//! What no clause says: texts, that calls succeed, want of memory. Wanted values are those of the Rust crate
-//! and of its documentation, or worked out by hand.
+//! What no clause says: texts, that calls succeed, want of memory. Wanted values are those of the
+//! Rust crate and of its documentation, or worked out by hand.
 mod json;
 mod memory;
 mod sets;

@@ -65,7 +65,8 @@ fn short_fronts_of_the_index(rt: HostRuntime) -> Result<(), Fail> {
     Ok(())
 }
 
-/// What a look-up can't find is answered by the error value, which is 0. The last plane is the high value's.
+/// What a look-up can't find is answered by the error value, which is 0. The last plane is the high
+/// value's.
 fn expect_value(rt: &impl Abort, found: u8, c: u32, len: usize) {
     let plane = c >> 16;
     let whole = u32::from(found) == plane || (found == 0 && plane < 16);

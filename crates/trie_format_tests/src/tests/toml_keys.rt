@@ -1,4 +1,5 @@
-//! Tries in TOML, key by key: each number that is missing or out of its range is named, and what the type's number says.
+//! Tries in TOML, key by key: each number that is missing or out of its range is named, and what
+//! the type's number says.
 use super::support::joined;
 use icu_trie::header::{CodePointTrieHeader, TrieType};
 use icu_trie_formats::trie_toml::{CodePointTrieToml, TomlError};
@@ -9,7 +10,8 @@ use std::test::Fail;
 /// No cell, which is enough where a number is refused.
 const INDEX: &str = "index = []\n";
 
-/// The keys of the numbers in their order, each with a line that gives one, and one whose number is one too many.
+/// The keys of the numbers in their order, each with a line that gives one, and one whose number is
+/// one too many.
 const NUMBERS: [(&str, &str, &str); 7] = [
     (
         "highStart",
@@ -40,7 +42,8 @@ const NUMBERS: [(&str, &str, &str); 7] = [
     ),
 ];
 
-/// What a table says that has the index and a line for each number, but `line` in place of that of number `place`.
+/// What a table says that has the index and a line for each number, but `line` in place of that of
+/// number `place`.
 fn read_with(
     alloc: Global,
     place: usize,

@@ -324,8 +324,8 @@ fn trie_from_toml_refused(rt: HostRuntime) {
     expect_parts(&rt, parts_of(&read));
 }
 
-/// How many cells the table has, whether the data are bytes, and its header's number of the first code point
-/// of the high value.
+/// How many cells the table has, whether the data are bytes, and its header's number of the first
+/// code point of the high value.
 fn parts_of(read: &CodePointTrieToml) -> (usize, bool, Option<u32>) {
     let is_bytes = matches!(read.data_slice(), Ok(CodePointDataSlice::U8(_)));
     let header = CodePointTrieHeader::try_from(read);
@@ -346,7 +346,8 @@ fn expect_type(rt: &impl Abort, found: Option<TrieType>, want: TrieType) {
     assert_eq!(rt; found, Some(want));
 }
 
-/// Calls: `CodePointTrieToml::index_slice`, `CodePointTrieToml::data_slice`, `CodePointTrieHeader::try_from`,
+/// Calls: `CodePointTrieToml::index_slice`, `CodePointTrieToml::data_slice`,
+/// `CodePointTrieHeader::try_from`,
 /// `TrieType::try_from`.
 #[test]
 fn parts_quiet(rt: HostRuntime) {

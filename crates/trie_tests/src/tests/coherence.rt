@@ -4,8 +4,8 @@ use icu_collections::codepointtrie::{CodePointTrie, CodePointTrieHeader, Write};
 use std::alloc::Global;
 use std::process::Abort;
 
-/// A small trie over an index of zeros, by its high start and its null data offset. The null value is 0, and
-/// no index-2 cell is the null one.
+/// A small trie over an index of zeros, by its high start and its null data offset. The null value
+/// is 0, and no index-2 cell is the null one.
 fn trie_by<'a>(
     rt: &impl Abort,
     (high_start, data_null_offset): (u32, u32),
@@ -37,8 +37,8 @@ fn coherent_headers(rt: HostRuntime) {
     }
 }
 
-/// The high start is no multiple of 512, or above the code points; the null block has other values; cells of
-/// the index are missing; the fast index goes on above the high start with another value.
+/// The high start is no multiple of 512, or above the code points; the null block has other values;
+/// cells of the index are missing; the fast index goes on above the high start with another value.
 #[test]
 fn lying_headers(rt: HostRuntime) {
     for (header, data) in [
@@ -64,8 +64,8 @@ fn null_block_of_sixteen_alone(rt: HostRuntime) {
     expect_coherent(&rt, trie_by(&rt, header, &cells), false, header);
 }
 
-/// A small trie with one block of 512 above its fast limit, by its index-2 cell and the null one. All data
-/// offsets are 0.
+/// A small trie with one block of 512 above its fast limit, by its index-2 cell and the null one.
+/// All data offsets are 0.
 fn trie_of_cell<'a>(
     rt: &impl Abort,
     null_cell: u16,
@@ -79,8 +79,8 @@ fn trie_of_cell<'a>(
     trie_of(rt, header, index, data)
 }
 
-/// The bytes of an index in which the index-2 block stands at 65, and its ninth cell, for 0x1000, is this
-/// one.
+/// The bytes of an index in which the index-2 block stands at 65, and its ninth cell, for 0x1000,
+/// is this one.
 fn index_of(cell: u16) -> [u8; 280] {
     let mut index = [0; 280];
     index[128] = 65;

@@ -1,6 +1,6 @@
-//! Calls that ask for no memory: all reads of a trie, of its ranges and of its cells, and its conversions.
-//! The script `tests/refused_memory` sees that a test whose name ends in `_quiet` asks for nothing between
-//! the lines `call` and `done`.
+//! Calls that ask for no memory: all reads of a trie, of its ranges and of its cells, and its
+//! conversions. The script `tests/refused_memory` sees that a test whose name ends in `_quiet` asks
+//! for nothing between the lines `call` and `done`.
 use super::{ZEROS, data, expect_same, lent_trie, say, small_header};
 use icu_trie::cptrie::CodePointTrie;
 use icu_trie::iterator_utils::RangeListIteratorCoalescer;
@@ -33,7 +33,8 @@ fn lengths_of(trie: &CodePointTrie<'_, u8>) -> (Option<usize>, usize, usize) {
     (bytes, index.len(), cells.len())
 }
 
-/// Calls: `CodePointTrie::try_new`, `CodePointTrie::get32`, `CodePointTrie::get`, `CodePointTrie::get16`,
+/// Calls: `CodePointTrie::try_new`, `CodePointTrie::get32`, `CodePointTrie::get`,
+/// `CodePointTrie::get16`,
 /// `CodePointTrie::get32_supplementary`, `CodePointTrie::get32_u32`, `CodePointTrie::get32_ule`,
 /// `CodePointTrie::error_value`, `CodePointTrie::null_value`, `CodePointTrie::parts`,
 /// `CodePointTrie::is_coherent`.
@@ -49,8 +50,8 @@ fn reads_quiet(rt: HostRuntime) {
     expect_same(&rt, lengths, Some((Some(1), 64, 66)), "lengths");
 }
 
-/// How many ranges there are, how many of them have the value 2, how many are left where all have one value,
-/// and the last code point of the first.
+/// How many ranges there are, how many of them have the value 2, how many are left where all have
+/// one value, and the last code point of the first.
 fn ranges_of(trie: &CodePointTrie<'_, u8>) -> (usize, usize, usize, Option<u32>) {
     let first = trie.get_range(0).map(|range| *range.range.end());
     (
@@ -66,8 +67,10 @@ fn joined_of(trie: &CodePointTrie<'_, u8>) -> usize {
     RangeListIteratorCoalescer::new(trie.iter_ranges()).count()
 }
 
-/// Calls: `CodePointTrie::get_range`, `CodePointTrie::iter_ranges`, `CodePointMapRangeIterator::next`,
-/// `CodePointTrie::iter_ranges_for_value`, `IterRangesForValue::next`, `CodePointTrie::iter_ranges_mapped`,
+/// Calls: `CodePointTrie::get_range`, `CodePointTrie::iter_ranges`,
+/// `CodePointMapRangeIterator::next`,
+/// `CodePointTrie::iter_ranges_for_value`, `IterRangesForValue::next`,
+/// `CodePointTrie::iter_ranges_mapped`,
 /// `IterRangesMapped::next`, `RangeListIteratorCoalescer::new`, `RangeListIteratorCoalescer::next`.
 #[test]
 fn ranges_quiet(rt: HostRuntime) {
@@ -93,7 +96,8 @@ fn typed_reads<'a, X: TypedCodePointTrie<'a, u8>>(trie: &X) -> ([u8; 4], u32, Op
     (values, trie.get32_u32(0x41), trie.get32_by_fast_index(0x41))
 }
 
-/// The small trie's value at 0x1000, by the trie as its type is told and by a conversion that asks for it.
+/// The small trie's value at 0x1000, by the trie as its type is told and by a conversion that asks
+/// for it.
 fn small_values(trie: &CodePointTrie<'_, u8>) -> Option<(u8, u8, ([u8; 4], u32, Option<u8>))> {
     let told = match trie.as_typed_ref() {
         Typed::Small(small) => small.to_untyped().get32(0x1000),
@@ -116,7 +120,8 @@ fn told_value(trie: CodePointTrie<'_, u8>) -> u8 {
 }
 
 /// Calls: `CodePointTrie::as_typed_ref`, `CodePointTrie::to_typed`, `SmallCodePointTrie::try_from`,
-/// `SmallCodePointTrie::as_untyped_ref`, `SmallCodePointTrie::to_untyped`, `TypedCodePointTrie::shown`,
+/// `SmallCodePointTrie::as_untyped_ref`, `SmallCodePointTrie::to_untyped`,
+/// `TypedCodePointTrie::shown`,
 /// `TypedCodePointTrie::get32`, `TypedCodePointTrie::get`, `TypedCodePointTrie::get16`,
 /// `TypedCodePointTrie::get32_supplementary`, `TypedCodePointTrie::get32_u32`,
 /// `TypedCodePointTrie::get32_by_fast_index`.

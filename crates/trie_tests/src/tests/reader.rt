@@ -101,7 +101,8 @@ fn expect_singles(rt: &impl Abort, ranges: Vec<CodePointMapRange<u8>>) {
     }
 }
 
-/// The header names the block of all code points below 0x1000 as null, and it is not: each of them is alone.
+/// The header names the block of all code points below 0x1000 as null, and it is not: each of them
+/// is alone.
 #[test]
 fn ranges_that_touch(rt: HostRuntime) -> Result<(), Fail> {
     let sevens = data(7, 7, 9);

@@ -1,4 +1,5 @@
-//! How many cells one walk and one look-up read, by cells of a test's own over the parts of built tries.
+//! How many cells one walk and one look-up read, by cells of a test's own over the parts of built
+//! tries.
 ghost use Rattle.std.specs.Prelude.{◌≡◌, ◌<◌};
 ghost use Rattle.icu_zerovec.specs.Slice.{slice_values};
 
@@ -142,8 +143,8 @@ fn range_from<T>(first: u32, rest: Option<(u32, T)>) -> Option<CodePointMapRange
     }
 }
 
-/// From each first code point on, the trie has the value up to the last one. Behind the code points there is
-/// no range.
+/// From each first code point on, the trie has the value up to the last one. Behind the code points
+/// there is no range.
 fn ask<T: TrieValue + Debug>(
     rt: &impl Abort,
     trie: &CodePointTrie<'_, T>,
@@ -227,8 +228,8 @@ fn reads_of_one_walk_over_many_blocks(rt: HostRuntime) -> Result<(), Fail> {
     Ok(())
 }
 
-/// The cell of `c` by `look_up` and by `look_up_whole`, over cells of the test's own, whether the range
-/// from there on is found, and whether the trie is coherent.
+/// The cell of `c` by `look_up` and by `look_up_whole`, over cells of the test's own, whether the
+/// range from there on is found, and whether the trie is coherent.
 type Found = (Option<u8>, Option<u8>, bool, bool);
 
 fn found_over<L: Ledger>(trie: &CodePointTrie<'_, u8>, c: u32, blank: Blank) -> (Option<u8>, bool)

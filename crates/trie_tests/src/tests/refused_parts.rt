@@ -1,8 +1,10 @@
 //! Tries that are made of parts: which are refused, and what a lying header answers.
 ghost use Rattle.std.specs.Prelude.{◌≡◌, ◌<◌};
 
-use super::{ZEROS, data, expect_at, expect_same, small_header, trie_of};
-use icu_collections::codepointtrie::{Cells, CodePointTrie, CodePointTrieError, Steps, look_up};
+use super::{ZEROS, data, expect_at, expect_same, say, small_header, trie_of};
+use icu_collections::codepointtrie::{
+    Cells, CodePointTrie, CodePointTrieError, PartsError, Steps, look_up,
+};
 use icu_collections::zerovec::ZeroVec;
 use std::marker::Brand;
 use std::process::Abort;
@@ -53,6 +55,68 @@ fn parts_are_refused_in_order(rt: HostRuntime) {
         let found = fault_of(&ZEROS[..index], &ZEROS[..data], null_value);
         expect_fault(&rt, found, fault, index, data);
     }
+}
+
+/// The fault of this trie.
+fn fault_in(trie: Result<CodePointTrie<'static, u8>, PartsError>) -> Option<PartsError> {
+    trie.err()
+}
+
+/// Parts that are copied are refused as parts that are lent.
+#[test]
+fn copied_parts_are_refused_in_order(rt: HostRuntime) {
+    let header = small_header(0x1000, 0);
+    for (index, values, fault) in [
+        (64, 64, None),
+        (
+            64,
+            63,
+            Some(PartsError::Trie(CodePointTrieError::DataTooShortForFastAccess)),
+        ),
+        (
+            63,
+            63,
+            Some(PartsError::Trie(CodePointTrieError::IndexTooShortForFastAccess)),
+        ),
+        (
+            63,
+            0,
+            Some(PartsError::Trie(CodePointTrieError::EmptyDataVector)),
+        ),
+    ] {
+        let made = CodePointTrie::alloc_from_slices(
+            rt.alloc(),
+            header,
+            &[0; 64][..index],
+            &[7; 64][..values],
+        );
+        expect_same(&rt, fault_in(made), fault, "copied parts");
+    }
+}
+
+/// The trie of copied parts, or that there was no room for them.
+fn expect_copied(rt: &(impl Abort + Print), made: Result<CodePointTrie<'static, u8>, PartsError>) {
+    match made {
+        Ok(trie) => expect_at(rt, trie.get32(0xFFF), 7, 0xFFF),
+        Err(error) => {
+            expect_same(rt, error, PartsError::Memory, "refused memory");
+            say(rt, "refused");
+        }
+    }
+}
+
+/// Calls: `CodePointTrie::alloc_from_slices`.
+#[test]
+fn alloc_from_slices_refused(rt: HostRuntime) {
+    say(&rt, "call");
+    let made = CodePointTrie::alloc_from_slices(
+        rt.alloc(),
+        small_header(0x1000, 0),
+        &[0; 64],
+        &[7; 66],
+    );
+    say(&rt, "done");
+    expect_copied(&rt, made);
 }
 
 fn asked(rt: &impl Abort, high_start: u32, data: &[u8], expected: &[(u32, u8)]) {

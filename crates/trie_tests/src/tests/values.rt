@@ -1,4 +1,5 @@
-//! Values of a user's own: one that takes two of the 256 bytes, and one of which several bytes are one value.
+//! Values of a user's own: one that takes two of the 256 bytes, and one of which several bytes are
+//! one value.
 ghost use Rattle.std.specs.Prelude.{◌≡◌, ◌<◌, Some, Bool, ℕ};
 
 use icu_collections::codepointtrie::{NotAValue, TrieValue};

@@ -11,7 +11,8 @@ fn say(rt: &(impl Abort + Print), line: &str) {
     assert!(rt; printed.is_ok());
 }
 
-/// The run printed these bytes, or it said that memory was refused, by its line alone and its status.
+/// The run printed these bytes, or it said that memory was refused, by its line alone and its
+/// status.
 fn expect_answered(rt: &(impl Abort + Print), end: Ending, bytes: &[u8], run: Run<'_>) {
     if end.status == 0 {
         expect_bytes(rt, end.bytes, bytes, run);
@@ -22,8 +23,8 @@ fn expect_answered(rt: &(impl Abort + Print), end: Ending, bytes: &[u8], run: Ru
     }
 }
 
-/// A run over this table, of which a read gives up to four bytes, prints these bytes or says that memory
-/// was refused.
+/// A run over this table, of which a read gives up to four bytes, prints these bytes or says that
+/// memory was refused.
 fn expect_spoken(rt: &(impl Abort + AllocGlobal + Print), line: &str, table: &[u8], bytes: &[u8]) {
     let run = Run {
         most: 4,

@@ -75,8 +75,8 @@ fn ranges_are_printed(rt: HostRuntime) -> Result<(), Fail> {
     Ok(())
 }
 
-/// Rows of Unicode 15.0's general categories, in the order of the table: Cn 3, Lu 10, Ll 6, Cf 2, Cc 1, Cs 5,
-/// Nd 14, So 27, Zs 30, Lo 8.
+/// Rows of Unicode 15.0's general categories, in the order of the table: Cn 3, Lu 10, Ll 6, Cf 2,
+/// Cc 1, Cs 5, Nd 14, So 27, Zs 30, Lo 8.
 const CATEGORIES: &[u8] =
     b"10FFFE..10FFFF;3\n0041..005A;10\n0061..007A;6\n00AD;2\n0000..001F;1\nD800..DFFF;5\n0030..0039;14\n1F400..1F6D7;27\n0020;30\n4E00..A014;8\n";
 
@@ -101,8 +101,8 @@ fn general_categories(rt: HostRuntime) -> Result<(), Fail> {
     expect_categories(&rt, asked, answers)
 }
 
-/// An excerpt of a real table, as ranges: what no row names has the default, and touching rows of one value are
-/// one range.
+/// An excerpt of a real table, as ranges: what no row names has the default, and touching rows of
+/// one value are one range.
 #[test]
 fn ranges_of_general_categories(rt: HostRuntime) -> Result<(), Fail> {
     let ranges =

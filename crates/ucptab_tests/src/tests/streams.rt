@@ -65,8 +65,8 @@ fn expect_fault(rt: &impl Abort, answer: Told, fault: Option<TableError>, run: R
     expect_bytes(rt, answer.bytes, written, run);
 }
 
-/// A table of seven bytes takes three reads of up to four, and its lines take one write: each of them fails
-/// in turn, and then none.
+/// A table of seven bytes takes three reads of up to four, and its lines take one write: each of
+/// them fails in turn, and then none.
 #[test]
 fn each_call_of_a_stream_fails(rt: HostRuntime) -> Result<(), Fail> {
     for (failing_read, failing_write, fault) in [

@@ -12,7 +12,8 @@ use ucptab_table::fault::TableError;
 use ucptab_table::streams::{Failed, Sink, Source};
 use ucptab_table::{run_words, write_usage};
 
-/// A table in memory, of which each read gives up to `most` bytes. The read number `fails_at`, from 1, fails.
+/// A table in memory, of which each read gives up to `most` bytes. The read number `fails_at`, from
+/// 1, fails.
 #[derive(Drop)]
 struct Table<'a, L: Ledger> {
     rest: &'a [u8],
@@ -121,6 +122,20 @@ fn table_of<'a, L: Ledger>(run: Run<'a>, failures: Steps<L>) -> Table<'a, L> {
     }
 }
 
+/// Nothing written yet, with room for what a test writes.
+fn empty<K: Ledger>(
+    alloc: Global,
+    fails_at: u32,
+    failures: Steps<K>,
+) -> Result<Written<K>, AllocError> {
+    Ok(Written {
+        bytes: Vec::with_capacity(alloc, 4096)?,
+        writes: 0,
+        fails_at,
+        failures,
+    })
+}
+
 fn outcome_over<L: Ledger, K: Ledger>(
     alloc: Global,
     words: &[String],
@@ -136,12 +151,7 @@ fn outcome_over<L: Ledger, K: Ledger>(
     requires other_some { 0 < writes.parts }
 {
     let mut reader = table_of(run, Steps::<L>::new(reads));
-    let mut writer = Written {
-        bytes: Vec::with_capacity(alloc, 4096)?,
-        writes: 0,
-        fails_at: run.failing_write,
-        failures: Steps::<K>::new(writes),
-    };
+    let mut writer = empty(alloc, run.failing_write, Steps::<K>::new(writes))?;
     let status = run_words(alloc, words, &mut reader, &mut writer);
     let bytes = Vec::from_slice(alloc, &writer.bytes)?;
     Ok(Ending { status, bytes })
@@ -174,12 +184,7 @@ fn spoken_over<L: Ledger, K: Ledger>(
     requires other_some { 0 < writes.parts }
 {
     let mut reader = table_of(run, Steps::<L>::new(reads));
-    let mut writer = Written {
-        bytes: Vec::with_capacity(rt.alloc(), 4096)?,
-        writes: 0,
-        fails_at: run.failing_write,
-        failures: Steps::<K>::new(writes),
-    };
+    let mut writer = empty(rt.alloc(), run.failing_write, Steps::<K>::new(writes))?;
     say(rt, "call");
     let status = run_words(rt.alloc(), words, &mut reader, &mut writer);
     say(rt, "done");
@@ -187,8 +192,8 @@ fn spoken_over<L: Ledger, K: Ledger>(
     Ok(Ending { status, bytes })
 }
 
-/// How the run ends, between the lines `call` and `done`. The words of the run are these, and what it
-/// writes finds room.
+/// How the run ends, between the lines `call` and `done`. The words of the run are these, and what
+/// it writes finds room.
 pub fn spoken(
     rt: &(impl Abort + AllocGlobal + Print),
     words: &[String],
@@ -205,12 +210,7 @@ fn usage_over<K: Ledger>(
     requires parts { writes.parts ≡ K.parts }
     requires some { 0 < writes.parts }
 {
-    let mut writer = Written {
-        bytes: Vec::with_capacity(rt.alloc(), 4096)?,
-        writes: 0,
-        fails_at: 0,
-        failures: Steps::<K>::new(writes),
-    };
+    let mut writer = empty(rt.alloc(), 0, Steps::<K>::new(writes))?;
     say(rt, "call");
     write_usage(&mut writer);
     say(rt, "done");
@@ -244,12 +244,7 @@ fn answer_over<L: Ledger, K: Ledger>(
     requires other_some { 0 < writes.parts }
 {
     let mut reader = table_of(run, Steps::<L>::new(reads));
-    let mut writer = Written {
-        bytes: Vec::with_capacity(rt.alloc(), 4096)?,
-        writes: 0,
-        fails_at: run.failing_write,
-        failures: Steps::<K>::new(writes),
-    };
+    let mut writer = empty(rt.alloc(), run.failing_write, Steps::<K>::new(writes))?;
     say(rt, "call");
     let answer = ucptab_table::run(
         rt.alloc(),
@@ -268,7 +263,8 @@ fn answer_over<L: Ledger, K: Ledger>(
     })
 }
 
-/// What the engine answers of a fast trie with the default 0 and the error value 9, between the lines
+/// What the engine answers of a fast trie with the default 0 and the error value 9, between the
+/// lines
 /// `call` and `done`. What it writes finds room.
 pub fn answer(
     rt: &(impl Abort + AllocGlobal + Print),

@@ -12,7 +12,8 @@ fn fives(alloc: Global, count: usize) -> Result<Vec<u16>, AllocError> {
     vec![in alloc; 5; count]
 }
 
-/// What a builder of one entry answers for four keys: one of 65,536 units, one of 65,535, and both again.
+/// What a builder of one entry answers for four keys: one of 65,536 units, one of 65,535, and both
+/// again.
 fn answers_at_the_limit(
     builder: &mut Char16TrieBuilder,
     longest: &[u16],

@@ -39,7 +39,8 @@ fn add_to_both(
     Ok(answer == Ok(()))
 }
 
-/// Adds entries to the builder and to the map, some of them a second time; whether all answers are right.
+/// Adds entries to the builder and to the map, some of them a second time; whether all answers are
+/// right.
 fn add_random(
     alloc: Global,
     random: &mut Random,
@@ -56,7 +57,8 @@ fn add_random(
     Ok(right)
 }
 
-/// Whether each front of the key, the whole key too, has in the trie the value that it has in the map.
+/// Whether each front of the key, the whole key too, has in the trie the value that it has in the
+/// map.
 fn fronts_agree(trie: &Char16Trie<'_>, map: &Map, key: &[u16]) -> bool {
     let mut cursor = trie.cursor();
     for i in 0..key.len() {

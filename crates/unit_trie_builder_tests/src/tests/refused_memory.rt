@@ -1,6 +1,7 @@
-//! Calls whose requests for memory are refused in turn. The script `tests/refused_memory` runs each test whose
-//! name ends in `_refused` with its first, second, .. request refused, until a run refuses nothing: a refusal
-//! between the lines `call` and `done` has to be answered by the line `refused`. In a test whose name ends in
+//! Calls whose requests for memory are refused in turn. The script `tests/refused_memory` runs each
+//! test whose name ends in `_refused` with its first, second, .. request refused, until a run
+//! refuses nothing: a refusal between the lines `call` and `done` has to be answered by the line
+//! `refused`. In a test whose name ends in
 //! `_quiet` nothing is asked for between the two.
 use crate::tests::support::{expect, expect_same, value_of};
 use icu_char16trie::char16trie::Char16Trie;
@@ -18,8 +19,8 @@ fn say(rt: &(impl Abort + Print), line: &str) {
     assert!(rt; printed.is_ok());
 }
 
-/// Adds keys of one and two units up to the first that is refused, at most `count` of them: how many were added,
-/// and the refusal.
+/// Adds keys of one and two units up to the first that is refused, at most `count` of them: how
+/// many were added, and the refusal.
 fn add_keys(builder: &mut Char16TrieBuilder, count: u16) -> (u16, Result<(), AddError>) {
     for k in 0..count {
         let unit = k % 40;
@@ -58,7 +59,8 @@ fn expect_memory(rt: &(impl Abort + Print), refusal: Result<(), AddError>) {
     }
 }
 
-/// A refused key leaves the entries as they were: those of a builder to which the keys before it were added.
+/// A refused key leaves the entries as they were: those of a builder to which the keys before it
+/// were added.
 ///
 /// Calls: `Char16TrieBuilder::add`.
 #[test]

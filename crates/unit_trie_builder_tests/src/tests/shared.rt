@@ -45,8 +45,8 @@ fn four(alloc: Global, alike: bool) -> Result<(usize, bool), Fail> {
     Ok((trie.data.len(), all))
 }
 
-/// Forty units take 43 with their leads, and a value 1. The last of four nodes stands in the row itself, so of
-/// four equal ones two are written.
+/// Forty units take 43 with their leads, and a value 1. The last of four nodes stands in the row
+/// itself, so of four equal ones two are written.
 #[test]
 fn equal_nodes(rt: HostRuntime) -> Result<(), Fail> {
     let (apart, all_apart) = four(rt.alloc(), false)?;

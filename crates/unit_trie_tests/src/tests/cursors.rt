@@ -7,8 +7,8 @@ use std::fmt::Write;
 use std::process::Abort;
 use std::test::Fail;
 
-/// The value after a number as one step of a cursor, whether no key goes on beyond it, and what an iterator
-/// tells of it.
+/// The value after a number as one step of a cursor, whether no key goes on beyond it, and what an
+/// iterator tells of it.
 fn told_of(trie: &Char16Trie<'_>, number: u32) -> (Option<i32>, bool, TrieResult) {
     let mut cursor = trie.cursor();
     cursor.step32(number);
@@ -56,8 +56,8 @@ fn texts_written_to_a_cursor(rt: HostRuntime) -> Result<(), Fail> {
     Ok(())
 }
 
-/// Whether no key goes on beyond the root, beyond a character that matches nothing, and beyond a further one,
-/// and the value there.
+/// Whether no key goes on beyond the root, beyond a character that matches nothing, and beyond a
+/// further one, and the value there.
 fn nowhere(units: ZeroSlice<'_, u16>) -> (bool, bool, bool, Option<i32>) {
     let mut cursor = Char16TrieCursor::new(units);
     let at_root = cursor.is_empty();
@@ -75,7 +75,7 @@ fn steps_to_nowhere(rt: HostRuntime) -> Result<(), Fail> {
     Ok(())
 }
 
-/// Whether `b` can be written to a clone of a cursor behind `a`, and the values of both.
+/// Whether `b` can be written to a clone of a cursor after `a`, and the values of both.
 fn steps_of_a_clone(trie: &Char16Trie<'_>) -> Result<(bool, Option<i32>, Option<i32>), AllocError> {
     let mut first = trie.cursor();
     first.step16(0x61);
@@ -105,7 +105,8 @@ fn format_written_to_a_cursor(rt: HostRuntime) -> Result<(), Fail> {
     Ok(())
 }
 
-/// What the first unit of a character gives, then a wrong second one to a clone, and then the right one.
+/// What the first unit of a character gives, then a wrong second one to a clone, and then the right
+/// one.
 fn results_by_units(
     units: ZeroSlice<'_, u16>,
 ) -> Result<(TrieResult, TrieResult, TrieResult), AllocError> {

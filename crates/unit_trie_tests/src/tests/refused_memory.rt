@@ -1,6 +1,7 @@
-//! Calls whose requests for memory are refused in turn. The script `tests/refused_memory` runs each test whose
-//! name ends in `_refused` with its first, second, .. request refused, until a run refuses nothing: a refusal
-//! between the lines `call` and `done` has to be answered by the line `refused`. In a test whose name ends in
+//! Calls whose requests for memory are refused in turn. The script `tests/refused_memory` runs each
+//! test whose name ends in `_refused` with its first, second, .. request refused, until a run
+//! refuses nothing: a refusal between the lines `call` and `done` has to be answered by the line
+//! `refused`. In a test whose name ends in
 //! `_quiet` nothing is asked for between the two.
 use crate::tests::support::{SIX, expect, expect_same, last_result, trie_of};
 use icu_char16trie::char16trie::{
@@ -136,8 +137,8 @@ fn from_json_refused(rt: HostRuntime) {
     expect(&rt, value == copy, "the value itself");
 }
 
-/// Whether `c` can be written to a cursor, its value, whether no key goes on beyond it, and what an iterator
-/// tells of `d`.
+/// Whether `c` can be written to a cursor, its value, whether no key goes on beyond it, and what an
+/// iterator tells of `d`.
 fn look_ups_of(trie: &Char16Trie<'_>) -> (bool, Option<i32>, bool, TrieResult) {
     let mut cursor = trie.cursor();
     let written = cursor.write_str("c").is_ok();
@@ -147,7 +148,8 @@ fn look_ups_of(trie: &Char16Trie<'_>) -> (bool, Option<i32>, bool, TrieResult) {
 
 /// Look-ups take no memory, and neither does an iterator that is not asked.
 ///
-/// Calls: `Char16Trie::cursor`, `Char16Trie::iter`, `Char16Trie::iter2`, `Char16TrieCursor::write_str`,
+/// Calls: `Char16Trie::cursor`, `Char16Trie::iter`, `Char16Trie::iter2`,
+/// `Char16TrieCursor::write_str`,
 /// `Char16TrieCursor::value`, `Char16TrieCursor::is_empty`, `Char16TrieIterator::next`.
 #[test]
 fn look_ups_quiet(rt: HostRuntime) {
@@ -181,7 +183,8 @@ fn results_of(units: ZeroSlice<'_, u16>) -> (TrieResult, TrieResult) {
     (by_number, by_unit)
 }
 
-/// Calls: `Char16Trie::new`, `Char16TrieCursor::new`, `Char16TrieCursor::step`, `Char16TrieCursor::step16`,
+/// Calls: `Char16Trie::new`, `Char16TrieCursor::new`, `Char16TrieCursor::step`,
+/// `Char16TrieCursor::step16`,
 /// `Char16TrieCursor::step32`, `Char16TrieIterator::new`, `Char16TrieIterator::next32`,
 /// `Char16TrieIterator::next16`.
 #[test]

@@ -1,4 +1,5 @@
-//! Tries whose entries and results are known from the format's description, and units that are no trie.
+//! Tries whose entries and results are known from the format's description, and units that are no
+//! trie.
 use crate::tests::support::{SIX, last_result, trie_of};
 use icu_char16trie::char16trie::{Char16Trie, TrieResult};
 use icu_zerovec::MemoryError;
@@ -55,7 +56,8 @@ fn expect_trie(
     Ok(())
 }
 
-/// What ICU's builder writes for six keys of one letter, each with a longer key: values at the ends of each of their lengths.
+/// What ICU's builder writes for six keys of one letter, each with a longer key: values at the ends
+/// of each of their lengths.
 const SIX_BY_ICU: [u16; 45] = [
     0x5, 0x64, 0x19, 0x64, 0xA, 0x65, 0xE, 0x66, 0x7FF0, 0xFFFF, 0xFFFF, 0x7A, 0xFFFF, 0x8000, 0x0,
     0x7FB0, 0xFFFF, 0x7A, 0xFFFF, 0x3FFF, 0x0, 0x7FF0, 0xFE, 0x0, 0x7A, 0xFFFF, 0xFFFF, 0xFFFF,
@@ -151,8 +153,8 @@ fn intermediate_values(rt: HostRuntime) -> Result<(), Fail> {
     Ok(())
 }
 
-/// Units that are no trie answer all the same: what is needed and not there is no match, and the value of a node
-/// that is cut off is 0.
+/// Units that are no trie are answered too: what is needed and not there is no match, and the value
+/// of a node that is cut off is 0.
 #[test]
 fn broken_units(rt: HostRuntime) -> Result<(), Fail> {
     for (units, entries, want) in [

@@ -1,7 +1,7 @@
 use Rattle.std.proofs.Common.{◌≡◌, ◌+◌, sym, refl, true}
 use Rattle.std.proofs.lemmas.Bool.{both_ways}
 use Rattle.std.proofs.lemmas.Result.{on_ok_weaker}
-use Rattle.icu_invlist.specs.Places.{below}
+use Rattle.icu_invlist.specs.Inside.Places.{below}
 use Rattle.icu_invlist.proofs.ValidLists.{run_from_valid}
 use Rattle.icu_invlist.proofs.Splices.{filled, room}
 use Rattle.icu_invlist.proofs.fill.fill.Goals as goal

@@ -3,7 +3,7 @@ use Rattle.std.specs.List.{insert}
 use Rattle.std.proofs.lemmas.Bool.{cond-true}
 use Rattle.std.proofs.lemmas.List.Edits.{length-insert}
 use Rattle.std.proofs.lemmas.Result.{MatchResult-at_ok, MatchResult-at_err}
-use Rattle.icu_invlist.specs.Places.{below}
+use Rattle.icu_invlist.specs.Inside.Places.{below}
 use Rattle.icu_invlist.specs.InversionList.{is_odd}
 use Rattle.icu_invlist.proofs.Toggles.{end_found, put_in, take_out, odd_next, Toggled}
 use Rattle.icu_invlist.proofs.fill.toggle.Goals as goal

@@ -9,7 +9,7 @@ use Rattle.icu_trie.proofs.cptrie.fast_block_passes.Goals.{in-Some+else-len-offs
 pub returns-then-len-offset : goal.returns-then-len-offset
 returns-then-len-offset c =
     let at : slice_get (slice_values c.args.index) c.loop-i.i ≡ Some c.in-Some.offset = sym c.in-Some.ensures in
-    let within : c.loop-i.i < fast_index_len c.args.trie_type = omega (arith, c.loop-i-test.true, c.fast_index_len_of-i-end.ensures) in
+    let within : c.loop-i.i < fast_index_len c.args.trie_type = omega (arith, c.loop-i-test.true, c.fast_index_len-i-end.ensures) in
     sym (found (λ offset. nat_lt c.args.len (offset + 64)) (slice_values c.args.index) c.loop-i.i (fast_index_len c.args.trie_type) c.in-Some.offset at
     (lt-ltb c.args.len (c.in-Some.offset + 64) c.if-len-offset.true) within)
 

@@ -2,7 +2,8 @@ use Rattle.std.proofs.Common.{◌≡◌, ℕ, ◌<◌, arith, ◌∙◌, ap}
 use Rattle.std.proofs.lemmas.Result.{IfOk-weaker}
 use Rattle.icu_trie_builder.specs.CodePointMap.{IsAfter, map_value}
 use Rattle.icu_trie_builder.specs.Writes.{value_after}
-use Rattle.icu_trie_builder.specs.MapAnswers.{HasRangesOf, IsWellBuilt}
+use Rattle.icu_trie_builder.specs.MapAnswers.{HasRangesOf}
+use Rattle.icu_trie_builder.specs.Built.{IsWellBuilt}
 use Rattle.icu_trie_builder.proofs.BuilderLemmas.{from_ok}
 use Rattle.icu_trie_builder.proofs.FewWrites.{few_too_large}
 use Rattle.icu_trie_builder.proofs.RangesOfMap.{HasRangesOf-alike}

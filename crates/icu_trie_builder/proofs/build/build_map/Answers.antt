@@ -1,8 +1,9 @@
 use Rattle.std.proofs.Common.{◌≡◌, ℕ, ◌<◌, slice_index, Err, true, refl, rules, ap}
 use Rattle.std.specs.Prelude.{is_some}
 use Rattle.icu_trie_compaction.specs.declared.error.BuildError.TheVariants.{TooLarge}
-use Rattle.icu_trie_builder.specs.CodePointMap.{number_value}
-use Rattle.icu_trie_builder.specs.MapAnswers.{AnswersMap, AreValuesOf, IsWellBuilt}
+use Rattle.icu_trie_builder.specs.Inside.ValuesOfNumbers.{number_value, AreValuesOf}
+use Rattle.icu_trie_builder.specs.MapAnswers.{AnswersMap}
+use Rattle.icu_trie_builder.specs.Built.{IsWellBuilt}
 use Rattle.icu_trie_builder.proofs.BuilderLemmas.{all_numbers, number-of_value, IfOk-three}
 use Rattle.icu_trie_builder.proofs.ValuesOfNumbers.{map_answers, map_built, map_no_fault}
 use Rattle.icu_trie_builder.proofs.SameMapLemmas.{IsTooLarge-alike}

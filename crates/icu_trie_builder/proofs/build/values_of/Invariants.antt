@@ -1,5 +1,5 @@
 use Rattle.std.proofs.Common.{take}
-use Rattle.icu_trie_builder.specs.MapAnswers.{AreValuesOf}
+use Rattle.icu_trie_builder.specs.Inside.ValuesOfNumbers.{AreValuesOf}
 use Rattle.icu_trie_builder.proofs.build.values_of.Given as goal
 
 abbrev pub invariant-loop-number : goal.invariant-loop-number

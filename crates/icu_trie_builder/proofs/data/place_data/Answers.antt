@@ -1,15 +1,16 @@
 use Rattle.std.proofs.Common.{rules, ◌≡◌, ℕ, ◌+◌, ◌-◌, ◌*◌, ◌/◌, ◌≤◌, ◌∷◌, Err, Some, Bool, List, length, get_or, take, arith, ap, sym, subst, ◌∙◌, inl, inr}
 use Rattle.std.specs.List.{AllPass}
-use Rattle.icu_trie_core.specs.Blocks.{block, block_of, different}
+use Rattle.icu_trie_core.specs.Blocks.{block, block_of, count_different}
 use Rattle.icu_trie_core.specs.Format.{fast_limit}
 use Rattle.icu_trie_builder.specs.Bounds.{stands_below}
-use Rattle.icu_trie_builder.specs.Data.{IsData}
-use Rattle.icu_trie_builder.specs.FilledBlocks.{IsMoved, IsNull}
+use Rattle.icu_trie_builder.specs.Inside.Data.{IsData}
+use Rattle.icu_trie_builder.specs.Inside.FilledBlocks.{IsMoved, IsNull}
 use Rattle.icu_trie_compaction.specs.Layout.{AllBelow}
-use Rattle.icu_trie_compaction.specs.Placed.{IsCopied, IsPlaced, different_but}
+use Rattle.icu_trie_compaction.specs.Different.{count_different_but}
+use Rattle.icu_trie_compaction.specs.Inside.Placed.{IsCopied, IsPlaced}
 use Rattle.icu_trie_compaction.specs.declared.error.BuildError.TheVariants.{TooLarge}
-use Rattle.icu_trie_builder.proofs.DataLemmas.{fast_len, fast_one, fast_two, fast_three, small_three, fast_shared, small_shared, first_len, offsets_low, two-drawn, null-cases, null-number, NullOrNone, is_data, written-back}
-use Rattle.icu_trie_compaction.proofs.CallerLemmas.{different-le_count, parts}
+use Rattle.icu_trie_builder.proofs.DataLemmas.{fast_len, fast_one, fast_two, fast_three, small_three, fast_shared, small_shared, first_len, fast_cells, offsets_low, two-drawn, null-cases, null-number, NullOrNone, is_data, written-back}
+use Rattle.icu_trie_compaction.proofs.CallerLemmas.{count_different-le_count, parts}
 use Rattle.icu_trie_builder.proofs.Sizes.{fast_blocks-list, stands-found, lone_blocks-list, small_blocks-all}
 use Rattle.icu_trie_builder.proofs.data.place_data.Goals as goal
 
@@ -22,13 +23,13 @@ returns-in_err-rest-clause-too_large c = λ e.
     let t = c.args.trie_type in
     let L : ℕ = fast_limit t in
     let numbers = c.args.numbers.now in
-    let limit : c.fast_limit_of-limit.result ≡ L = c.fast_limit_of-limit.ensures in
+    let limit : c.fast_limit-limit.result ≡ L = c.fast_limit-limit.ensures.limit in
     let size = parts t in
     let first = c.copy_block.new.room.items in
     let begin : first ≡ take 128 numbers = c.in_ok-copy_block.ensures in
     let first_is : length first ≡ 128 = first_len numbers first c.requires.all begin in
     let large = rw limit at (c.in_err-rest.ensures.too_large (ap (λ x. Err x) is)) in
-    absurd (omega (arith, large, first_is, size.2, different-le_count (block 64 numbers) 2 (L / 64 - 2)))
+    absurd (omega (arith, large, first_is, size.2, count_different-le_count (block 64 numbers) 2 (L / 64 - 2)))
 
 pub place_map_blocks-requires-2-clause-room : goal.place_map_blocks-requires-2-clause-room
 place_map_blocks-requires-2-clause-room c = omega (arith, c.in_ok-rest.ensures.capped, first_len c.args.numbers.now c.copy_block.new.room.items c.requires.all c.in_ok-copy_block.ensures)
@@ -37,20 +38,12 @@ pub returns-in_err-small-clause-too_large : goal.returns-in_err-small-clause-too
 returns-in_err-small-clause-too_large c = λ e.
     let is : c.in_err-small.field-0.0 ≡ TooLarge = search rules in
     let t = c.args.trie_type in
-    let L : ℕ = fast_limit t in
     let numbers = c.args.numbers.now in
-    let limit : c.fast_limit_of-limit.result ≡ L = c.fast_limit_of-limit.ensures in
-    let size = parts t in
-    let first = c.copy_block.new.room.items in
-    let begin : first ≡ take 128 numbers = c.in_ok-copy_block.ensures in
-    let first_is : length first ≡ 128 = first_len numbers first c.requires.all begin in
-    let one = c.place_map_blocks.new.stored.items in
-    let few = different-le_count (block 64 numbers) 2 (L / 64 - 2) in
-    let short_one : length one ≤ length first + 64 * different (block 64 numbers) 2 (L / 64 - 2) = rw limit at c.in_ok-rest.ensures.short in
-    let len_one : length one ≤ 128 + 64 * different (block 64 numbers) 2 (L / 64 - 2) = omega (arith, first_is, short_one) in
-    let count : c.saturating_sub-small_len.result ≡ c.args.high_start - L = c.saturating_sub-small_len.ensures ∙ ap (λ n. c.args.high_start - n) limit in
+    let limit : c.fast_limit-limit.result ≡ fast_limit t = c.fast_limit-limit.ensures.limit in
+    let one = fast_cells t numbers c.copy_block.new.room.items c.place_map_blocks.new.stored.items c.requires.all c.in_ok-copy_block.ensures (rw limit at c.in_ok-rest.ensures.short) in
+    let count : c.saturating_sub-small_len.result ≡ c.args.high_start - fast_limit t = c.saturating_sub-small_len.ensures ∙ ap (λ n. c.args.high_start - n) limit in
     let large = rw (count, limit) at (c.in_err-small.ensures.too_large (ap (λ x. Err x) is)) in
-    inr (omega (arith, large, len_one, few, size.2, small_blocks-all t numbers c.requires.all c.args.high_start c.requires.within))
+    inr (omega (arith, large, one, small_blocks-all t numbers c.requires.all c.args.high_start c.requires.within))
 
 pub place_null-requires-clause-room : goal.place_null-requires-clause-room
 place_null-requires-clause-room c = omega (arith, c.in_ok-small.ensures.capped, c.in_ok-rest.ensures.capped, first_len c.args.numbers.now c.copy_block.new.room.items c.requires.all c.in_ok-copy_block.ensures)
@@ -60,7 +53,7 @@ place_null-requires-clause-fast c =
     let t = c.args.trie_type in
     let L : ℕ = fast_limit t in
     let numbers = c.args.numbers.now in
-    let limit : c.fast_limit_of-limit.result ≡ L = c.fast_limit_of-limit.ensures in
+    let limit : c.fast_limit-limit.result ≡ L = c.fast_limit-limit.ensures.limit in
     let first = c.copy_block.new.room.items in
     let begin : first ≡ take 128 numbers = c.in_ok-copy_block.ensures in
     let one = c.place_map_blocks.new.stored.items in
@@ -80,21 +73,13 @@ pub returns-in_err-null-clause-too_large : goal.returns-in_err-null-clause-too_l
 returns-in_err-null-clause-too_large c = λ e.
     let is : c.in_err-null.field-0.0 ≡ TooLarge = search rules in
     let t = c.args.trie_type in
-    let L : ℕ = fast_limit t in
     let numbers = c.args.numbers.now in
-    let limit : c.fast_limit_of-limit.result ≡ L = c.fast_limit_of-limit.ensures in
-    let size = parts t in
-    let first = c.copy_block.new.room.items in
-    let begin : first ≡ take 128 numbers = c.in_ok-copy_block.ensures in
-    let first_is : length first ≡ 128 = first_len numbers first c.requires.all begin in
-    let one = c.place_map_blocks.new.stored.items in
-    let few = different-le_count (block 64 numbers) 2 (L / 64 - 2) in
-    let short_one : length one ≤ length first + 64 * different (block 64 numbers) 2 (L / 64 - 2) = rw limit at c.in_ok-rest.ensures.short in
-    let len_one : length one ≤ 128 + 64 * different (block 64 numbers) 2 (L / 64 - 2) = omega (arith, first_is, short_one) in
-    let count : c.saturating_sub-small_len.result ≡ c.args.high_start - L = c.saturating_sub-small_len.ensures ∙ ap (λ n. c.args.high_start - n) limit in
+    let limit : c.fast_limit-limit.result ≡ fast_limit t = c.fast_limit-limit.ensures.limit in
+    let one = fast_cells t numbers c.copy_block.new.room.items c.place_map_blocks.new.stored.items c.requires.all c.in_ok-copy_block.ensures (rw limit at c.in_ok-rest.ensures.short) in
+    let count : c.saturating_sub-small_len.result ≡ c.args.high_start - fast_limit t = c.saturating_sub-small_len.ensures ∙ ap (λ n. c.args.high_start - n) limit in
+    let two = rw (count, limit) at c.in_ok-small.ensures.short in
     let large = c.in_err-null.ensures.too_large (ap (λ x. Err x) is) in
-    let short_two = rw (count, limit) at c.in_ok-small.ensures.short in
-    inr (omega (arith, large, short_two, len_one, few, size.2, small_blocks-all t numbers c.requires.all c.args.high_start c.requires.within))
+    inr (omega (arith, large, two, one, small_blocks-all t numbers c.requires.all c.args.high_start c.requires.within))
 
 -- the cells and offsets once the null block has its place, and what is known of them
 module _ (c : goal.After-drop-rest-2) where
@@ -128,8 +113,8 @@ module _ (c : goal.After-drop-rest-2) where
   abbrev small : List ℕ
   small = c.place_null.new.small
 
-  limit : c.fast_limit_of-limit.result ≡ limit_at
-  limit = c.fast_limit_of-limit.ensures
+  limit : c.fast_limit-limit.result ≡ limit_at
+  limit = c.fast_limit-limit.ensures.limit
 
   begin : first ≡ take 128 numbers
   begin = c.in_ok-copy_block.ensures
@@ -140,9 +125,9 @@ module _ (c : goal.After-drop-rest-2) where
   rest_len : length rest ≡ limit_at / 64 - 2
   rest_len = omega (arith, c.in_ok-rest.ensures.count, limit)
 
-  len_one : length one ≤ 128 + 64 * different (block 64 numbers) 2 (limit_at / 64 - 2)
+  len_one : length one ≤ 128 + 64 * count_different (block 64 numbers) 2 (limit_at / 64 - 2)
   len_one =
-      let short : length one ≤ length first + 64 * different (block 64 numbers) 2 (limit_at / 64 - 2) = rw limit at c.in_ok-rest.ensures.short in
+      let short : length one ≤ length first + 64 * count_different (block 64 numbers) 2 (limit_at / 64 - 2) = rw limit at c.in_ok-rest.ensures.short in
       omega (arith, first_len numbers first c.requires.all begin, short)
 
   list : fast ≡ 0 ∷ 64 ∷ rest
@@ -174,7 +159,7 @@ module _ (c : goal.After-drop-rest-2) where
 
   small_low : AllBelow 0x40000 small
   small_low =
-      let few = different-le_count (block 64 numbers) 2 (limit_at / 64 - 2) in
+      let few = count_different-le_count (block 64 numbers) 2 (limit_at / 64 - 2) in
       let size = parts c.args.trie_type in
       let len_two : length two ≤ 0x3ffff + 16 = omega (arith, c.in_ok-small.ensures.capped, len_one, few, size.2) in
       λ j l. omega (arith, moved.inside j l, c.in_ok-null.ensures.capped, len_two)
@@ -232,8 +217,8 @@ returns-clause-short c =
     (fast_len t (numbers c) (first c) (one c) (rest c) (fast c) all (begin c) (placed-fast c) (rest_len c) (list c)) in
     let lone : List ℕ → Bool = stands_below (block_of 64 (λ n. get_or (numbers c) n 0)) (fast_limit t / 64) in
     let raw = c.in_ok-small.ensures.shorter lone stand in
-    let from = subst (λ n. length (two c) ≤ length (one c) + 16 * different_but lone (block 16 (numbers c)) (n / 16) (c.saturating_sub-small_len.result / 16)) (limit c) raw in
-    let shorter = subst (λ n. length (two c) ≤ length (one c) + 16 * different_but lone (block 16 (numbers c)) (fast_limit t / 16) (n / 16)) (count c) from in
+    let from = subst (λ n. length (two c) ≤ length (one c) + 16 * count_different_but lone (block 16 (numbers c)) (n / 16) (c.saturating_sub-small_len.result / 16)) (limit c) raw in
+    let shorter = subst (λ n. length (two c) ≤ length (one c) + 16 * count_different_but lone (block 16 (numbers c)) (fast_limit t / 16) (n / 16)) (count c) from in
     omega (
       arith,
       len_one c,

@@ -1,4 +1,4 @@
-use Rattle.icu_trie_builder.specs.FilledBlocks.{AreFilledPlaces}
+use Rattle.icu_trie_builder.specs.Inside.FilledBlocks.{AreFilledPlaces}
 use Rattle.icu_trie_builder.proofs.filled_blocks.filled_places.Given as goal
 
 abbrev pub invariant-loop-offset : goal.invariant-loop-offset

@@ -1,5 +1,5 @@
 use Rattle.std.proofs.Common.{rules, refl, arith, inl, inr}
-use Rattle.icu_trie_builder.specs.FilledBlocks.{IsSharedPlace}
+use Rattle.icu_trie_builder.specs.Inside.FilledBlocks.{IsSharedPlace}
 use Rattle.icu_trie_builder.proofs.filled_blocks.shared_place.Goals as goal
 
 pub returns-then-not-is_filled : goal.returns-then-not-is_filled

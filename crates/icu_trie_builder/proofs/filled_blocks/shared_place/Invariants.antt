@@ -1,4 +1,4 @@
-use Rattle.std.proofs.Common.{◌≡◌, ◌≢◌, ℕ, ◌<◌, get_or}
+use Rattle.std.proofs.Common.{◌≢◌, ℕ, ◌<◌, get_or}
 use Rattle.icu_trie_builder.proofs.filled_blocks.shared_place.Given as goal
 
 abbrev pub invariant-loop-place : goal.invariant-loop-place

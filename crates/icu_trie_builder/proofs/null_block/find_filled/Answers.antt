@@ -1,6 +1,6 @@
 use Rattle.std.proofs.Common.{ℕ, get_or, arith, sym, ◌∙◌, subst, inl, inr, true≢false}
 use Rattle.std.proofs.lemmas.Bool.{cases_eq}
-use Rattle.icu_trie_builder.specs.FilledBlocks.{IsFilled}
+use Rattle.icu_trie_builder.specs.Inside.FilledBlocks.{IsFilled}
 use Rattle.icu_trie_builder.proofs.null_block.find_filled.Goals as goal
 use Rattle.icu_trie_builder.proofs.null_block.find_filled.Goals.{else-is_wanted-via-then-is_wanted+else-is_filled, else-is_wanted-via-else-is_wanted}
 

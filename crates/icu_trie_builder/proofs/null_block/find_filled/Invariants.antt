@@ -1,5 +1,5 @@
 use Rattle.std.proofs.Common.{◌≡◌, ℕ, ◌<◌, None, get_or}
-use Rattle.icu_trie_builder.specs.FilledBlocks.{IsFilled}
+use Rattle.icu_trie_builder.specs.Inside.FilledBlocks.{IsFilled}
 use Rattle.icu_trie_builder.proofs.null_block.find_filled.Given as goal
 
 abbrev pub invariant-loop-number : goal.invariant-loop-number

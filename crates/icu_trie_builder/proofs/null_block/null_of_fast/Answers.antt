@@ -1,6 +1,6 @@
 use Rattle.std.proofs.Common.{rules, ◌≡◌, ℕ, length, get_or, arith, refl, ◌∙◌}
 use Rattle.std.proofs.lemmas.List.{take_all}
-use Rattle.icu_trie_builder.specs.FilledBlocks.{IsFilled}
+use Rattle.icu_trie_builder.specs.Inside.FilledBlocks.{IsFilled}
 use Rattle.icu_trie_builder.proofs.NullLemmas.{moved}
 use Rattle.icu_trie_builder.proofs.null_block.null_of_fast.Goals as goal
 

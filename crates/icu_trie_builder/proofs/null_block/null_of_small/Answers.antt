@@ -1,6 +1,6 @@
 use Rattle.std.proofs.Common.{rules, ◌≡◌, ℕ, length, get_or, arith, refl, ◌∙◌, sym, ap}
 use Rattle.std.proofs.lemmas.List.{get_or_read}
-use Rattle.icu_trie_builder.specs.FilledBlocks.{IsFilled}
+use Rattle.icu_trie_builder.specs.Inside.FilledBlocks.{IsFilled}
 use Rattle.icu_trie_builder.proofs.NullLemmas.{moved, null-small}
 use Rattle.icu_trie_builder.proofs.null_block.null_of_small.Goals as goal
 

@@ -1,5 +1,5 @@
 use Rattle.std.proofs.Common.{inl, inr, refl}
-use Rattle.icu_trie_compaction.specs.Layout.{IsNullCell}
+use Rattle.icu_trie_compaction.specs.Inside.IndexParts.{IsNullCell}
 use Rattle.icu_trie_compaction.proofs.index.null_cell.Goals as goal
 
 pub returns-in-Some : goal.returns-in-Some

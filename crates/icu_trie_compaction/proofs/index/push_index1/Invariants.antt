@@ -1,5 +1,5 @@
 use Rattle.std.proofs.Common.{◌+◌, slice_index}
-use Rattle.icu_trie_compaction.specs.Layout.{IsGrown}
+use Rattle.icu_trie_compaction.specs.Inside.IndexParts.{IsGrown}
 use Rattle.icu_trie_compaction.proofs.index.push_index1.Given as goal
 
 abbrev pub invariant-loop-place : goal.invariant-loop-place

@@ -1,6 +1,6 @@
 use Rattle.std.proofs.Common.{rules, ◌≡◌, ℕ, ◌+◌, ◌-◌, ◌/◌, Err, length, arith, ap}
 use Rattle.icu_trie_core.specs.Blocks.{block}
-use Rattle.icu_trie_compaction.specs.Index3Cells.{IsIndex3Cell}
+use Rattle.icu_trie_compaction.specs.Inside.Index3Cells.{IsIndex3Cell}
 use Rattle.icu_trie_compaction.specs.declared.error.BuildError.TheVariants.{TooLarge}
 use Rattle.icu_trie_compaction.proofs.Indexing.{indexing-done, indexing-full, indexing-short, indexing-step, indexing-tight}
 use Rattle.icu_trie_compaction.proofs.index3.place_index3.Goals as goal

@@ -1,7 +1,7 @@
 use Rattle.std.proofs.Common.{◌+◌, ◌-◌, ◌<◌, ◌≤◌, length}
 use Rattle.std.specs.Prelude.{IfSome}
 use Rattle.icu_trie_core.specs.Blocks.{block}
-use Rattle.icu_trie_compaction.specs.Index3Cells.{IsIndex3Cell, IsTables}
+use Rattle.icu_trie_compaction.specs.Inside.Index3Cells.{IsIndex3Cell, IsTables}
 use Rattle.icu_trie_compaction.proofs.Indexing.{Indexing}
 use Rattle.icu_trie_compaction.proofs.index3.place_index3.Given as goal
 

@@ -1,5 +1,6 @@
 use Rattle.std.proofs.Common.{rules, ◌≡◌, true, ◌+◌, ◌-◌, ◌≤◌, nat_lt, Err, length, arith, ap, ◌∙◌}
-use Rattle.icu_trie_compaction.specs.Layout.{AllBelow, packed_cells}
+use Rattle.icu_trie_compaction.specs.Layout.{AllBelow}
+use Rattle.icu_trie_compaction.specs.Inside.IndexParts.{packed_cells}
 use Rattle.icu_trie_compaction.specs.Windows.{IsLeast}
 use Rattle.icu_trie_compaction.specs.declared.error.BuildError.TheVariants.{TooLarge}
 use Rattle.icu_trie_compaction.proofs.Indexing.{all-below, below-all, fast-cell, narrow-cell, narrow-high, narrow-unplaced, nowhere-all, table-kept, wide-cell, wide-unplaced}

@@ -1,5 +1,5 @@
 use Rattle.std.proofs.Common.{rules, ◌≡◌, ◌+◌, ◌*◌, [], arith, refl}
-use Rattle.icu_trie_compaction.specs.Layout.{packed_cell}
+use Rattle.icu_trie_compaction.specs.Inside.IndexParts.{packed_cell}
 use Rattle.icu_trie_compaction.proofs.Growing.{grown-more}
 use Rattle.icu_trie_compaction.proofs.PackingLemmas.{packed-all}
 use Rattle.icu_trie_compaction.proofs.packing.pack.Goals as goal

@@ -1,5 +1,5 @@
 use Rattle.std.proofs.Common.{◌≡◌, ℕ, ◌+◌, ◌*◌, ◌%◌, get_or, arith, sym, ◌∙◌}
-use Rattle.icu_trie_compaction.specs.Layout.{packed_cell}
+use Rattle.icu_trie_compaction.specs.Inside.IndexParts.{packed_cell}
 use Rattle.icu_trie_compaction.proofs.Growing.{grown-none, grown-push}
 use Rattle.icu_trie_compaction.proofs.PackingLemmas.{cell_high, cell_low}
 use Rattle.icu_trie_compaction.proofs.packing.push_group.Goals as goal

@@ -1,5 +1,5 @@
 use Rattle.std.proofs.Common.{◌+◌, ◌*◌}
-use Rattle.icu_trie_compaction.specs.Layout.{IsGrown, packed_cell}
+use Rattle.icu_trie_compaction.specs.Inside.IndexParts.{IsGrown, packed_cell}
 use Rattle.icu_trie_compaction.proofs.packing.push_group.Given as goal
 
 abbrev pub invariant-loop-q : goal.invariant-loop-q

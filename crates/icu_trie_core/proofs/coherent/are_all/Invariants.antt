@@ -1,5 +1,5 @@
 use Rattle.std.proofs.Common.{◌≡◌, ◌≤◌, ◌+◌}
-use Rattle.icu_trie_core.specs.CoherentBlocks.{AreAll}
+use Rattle.icu_trie_core.specs.Inside.CoherentBlocks.{AreAll}
 use Rattle.icu_trie_core.proofs.coherent.are_all.Given as goal
 
 abbrev pub invariant-loop-place : goal.invariant-loop-place

@@ -1,5 +1,5 @@
 use Rattle.std.proofs.Common.{◌≡◌, ◌≤◌, ◌+◌, ◌<◌, ℕ, slice_get, IsSomeAnd}
-use Rattle.icu_trie_core.specs.CoherentBlocks.{IsBlock}
+use Rattle.icu_trie_core.specs.Inside.CoherentBlocks.{IsBlock}
 use Rattle.icu_trie_core.proofs.coherent.has_fast_blocks.Given as goal
 
 abbrev pub invariant-loop-block : goal.invariant-loop-block

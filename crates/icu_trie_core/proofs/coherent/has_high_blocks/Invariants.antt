@@ -1,5 +1,5 @@
 use Rattle.std.proofs.Common.{min, ◌≡◌, ◌+◌, ◌*◌, ◌<◌, ◌≤◌, ℕ, slice_get, Some, IsSomeAnd}
-use Rattle.icu_trie_core.specs.CoherentBlocks.{AreAll}
+use Rattle.icu_trie_core.specs.Inside.CoherentBlocks.{AreAll}
 use Rattle.icu_trie_core.proofs.coherent.has_high_blocks.Given as goal
 
 abbrev pub invariant-loop-block : goal.invariant-loop-block

@@ -1,7 +1,7 @@
 use Rattle.std.proofs.Common.{◌*◌, ◌∙◌, ap, sym, arith}
 use Rattle.std.proofs.lemmas.Option.{same_Some}
 use Rattle.icu_trie_core.specs.Format.{fast_limit, index2_cell}
-use Rattle.icu_trie_core.specs.CoherentBlocks.{IsCell}
+use Rattle.icu_trie_core.specs.Inside.CoherentBlocks.{IsCell}
 use Rattle.icu_trie_core.proofs.CoherentLemmas.{blocks_next, same_option}
 use Rattle.icu_trie_core.proofs.coherent.has_small_blocks.Goals.{else-ne-via-then-ne+else-not-is_cell, else-ne-via-else-ne}
 use Rattle.icu_trie_core.proofs.coherent.has_small_blocks.Goals as goal

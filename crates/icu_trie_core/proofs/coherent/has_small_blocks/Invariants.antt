@@ -1,6 +1,6 @@
 use Rattle.std.proofs.Common.{min, ◌≡◌, ◌+◌, ◌*◌, ◌<◌, ◌≤◌, ℕ, Some, IsSomeAnd}
 use Rattle.icu_trie_core.specs.Format.{fast_limit, index2_cell}
-use Rattle.icu_trie_core.specs.CoherentBlocks.{IsCell}
+use Rattle.icu_trie_core.specs.Inside.CoherentBlocks.{IsCell}
 use Rattle.icu_trie_core.proofs.coherent.has_small_blocks.Given as goal
 
 abbrev pub invariant-loop-block : goal.invariant-loop-block

@@ -1,6 +1,6 @@
 use Rattle.std.proofs.Common.{◌≡◌, ◌≤◌, ◌+◌, ◌*◌, ◌<◌, ℕ, IsSomeAnd}
 use Rattle.icu_trie_core.specs.Format.{offset_in_block}
-use Rattle.icu_trie_core.specs.CoherentBlocks.{IsBlock}
+use Rattle.icu_trie_core.specs.Inside.CoherentBlocks.{IsBlock}
 use Rattle.icu_trie_core.proofs.coherent.names_blocks.Given as goal
 
 abbrev pub invariant-loop-place : goal.invariant-loop-place

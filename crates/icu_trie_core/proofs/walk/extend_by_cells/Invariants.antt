@@ -1,5 +1,5 @@
 use Rattle.std.proofs.Common.{◌≡◌, ◌+◌, ◌≤◌}
-use Rattle.icu_trie_core.specs.Walk.{block_cells, Holds}
+use Rattle.icu_trie_core.specs.Inside.Walk.{block_cells, Holds}
 use Rattle.icu_trie_core.proofs.walk.extend_by_cells.Given as goal
 
 abbrev pub invariant-loop-place : goal.invariant-loop-place

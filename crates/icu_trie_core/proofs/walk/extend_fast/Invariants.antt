@@ -1,7 +1,7 @@
 use Rattle.std.proofs.Common.{◌≡◌, ◌+◌, ◌-◌, ◌*◌, ◌/◌, ◌%◌, ◌≤◌, slice_get, min}
 use Rattle.icu_trie_core.specs.Coherence.{IsCoherent, IsShared}
 use Rattle.icu_trie_core.specs.Seen.{seen}
-use Rattle.icu_trie_core.specs.Walk.{block_seen, Holds, IsRemembered}
+use Rattle.icu_trie_core.specs.Inside.Walk.{block_seen, Holds, IsRemembered}
 use Rattle.icu_trie_core.proofs.walk.extend_fast.Given as goal
 
 -- the value goes up to `block`, the last whole block is remembered, and blocks that are shared were not read again

@@ -1,7 +1,7 @@
 use Rattle.std.proofs.Common.{◌≡◌, ℕ, ◌+◌, ◌-◌, ◌*◌, ◌<◌, ◌≤◌, Some, min}
 use Rattle.std.specs.Option.{option_len}
 use Rattle.icu_trie_core.specs.Format.{offset_in_block}
-use Rattle.icu_trie_core.specs.Walk.{block_seen, cell_seen, Holds, IsRemembered, SharesBlocks}
+use Rattle.icu_trie_core.specs.Inside.Walk.{block_seen, cell_seen, Holds, IsRemembered, SharesBlocks}
 use Rattle.icu_trie_core.proofs.walk.extend_index3.Given as goal
 
 -- the value goes up to the block of 16 at `place`, a whole block is remembered, and blocks that are shared were not

@@ -3,7 +3,7 @@ use Rattle.std.specs.Option.{option_len}
 use Rattle.icu_trie_core.specs.Coherence.{IsCoherent, IsShared}
 use Rattle.icu_trie_core.specs.Format.{index2_cell}
 use Rattle.icu_trie_core.specs.Seen.{seen}
-use Rattle.icu_trie_core.specs.Walk.{cell_seen, Holds, IsRemembered}
+use Rattle.icu_trie_core.specs.Inside.Walk.{cell_seen, Holds, IsRemembered}
 use Rattle.icu_trie_core.proofs.walk.extend_small.Given as goal
 
 -- the value goes up to the block of 512 with this number, the index-2 cell of a whole block is remembered, and blocks

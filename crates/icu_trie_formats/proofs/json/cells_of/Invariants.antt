@@ -2,9 +2,9 @@ use Rattle.std.proofs.Common.{◌≡◌, ◌^◌, drop, map}
 use Rattle.std.specs.Prelude.{codes}
 use Rattle.serde_json.specs.View.{view}
 use Rattle.icu_trie_core.specs.Numbers.{fitting}
-use Rattle.icu_trie_formats.specs.FirstFault.{read_from}
+use Rattle.icu_zerovec.specs.FirstFault.{read_from}
 use Rattle.icu_trie_formats.specs.TrieJson.{number_or, cells_of}
-use Rattle.icu_trie_formats.proofs.FirstFaultLemmas.{with_front}
+use Rattle.icu_zerovec.proofs.FirstFaultLemmas.{with_front}
 use Rattle.icu_trie_formats.proofs.json.cells_of.Given as goal
 
 -- the cells so far, before those of the items that are left, are those of all

@@ -3,7 +3,7 @@ use Rattle.std.proofs.Common.{◌≡◌, ◌++◌, map}
 use Rattle.std.specs.Prelude.{All}
 use Rattle.serde_json.specs.Data.{number, unsigned}
 use Rattle.serde_json.specs.View.{view}
-use Rattle.icu_trie_formats.specs.TrieJson.{IsGivenBack}
+use Rattle.icu_trie_formats.specs.Inside.Numbers.{IsGivenBack}
 use Rattle.icu_trie_formats.proofs.json.numbers_json.Given as goal
 
 -- the items are the numbers so far, which give their values back

@@ -8,5 +8,5 @@ invariant-loop-block l = record {
   mixed : l.blocks.mixed.items ≡ l.initial.blocks.mixed.items;
   inside : (rest c : ℕ) → l.start ≤ c → c < l.end → c < 16 * l.block → number_at l.blocks rest c ≡ l.number;
   before : (rest c : ℕ) → c < l.start → number_at l.blocks rest c ≡ number_at l.initial.blocks rest c;
-  behind : (rest c : ℕ) → l.end ≤ c → number_at l.blocks rest c ≡ number_at l.initial.blocks rest c;
+  after : (rest c : ℕ) → l.end ≤ c → number_at l.blocks rest c ≡ number_at l.initial.blocks rest c;
 }

@@ -1,33 +1,31 @@
--- A look at the middle narrows the part that is left, or finds the value.
+-- The one value that is left at the end tells the place.
 use Rattle.std.proofs.Common.{arith, sym}
 use Rattle.std.specs.declared.cmp.Ordering.TheVariants.{Equal}
 use Rattle.icu_zerovec.specs.Cells.{values_of}
-use Rattle.icu_zerovec.proofs.Searches.{lower, upper, holds_at}
+use Rattle.icu_zerovec.proofs.Searches.{byte_le, one_step, holds_at, place_past, place_of_first}
 use Rattle.icu_zerovec.proofs.cells.binary_search.Goals as goal
 
-pub loop-low-preserved-in-Less : goal.loop-low-preserved-in-Less
-loop-low-preserved-in-Less g c =
+pub loop-size-preserved : goal.loop-size-preserved
+loop-size-preserved g c =
     record {
-      ordered = omega arith;
-      inside = omega arith;
-      narrowed =
-          lower (λ (y : g.row.T.Denot). g.T.Ord.cmp y c.args.x.now) (values_of g.T.AsULE.unpack g.T.AsULE.WIDTH c.args.bytes.now) _
-          c.at.result c.at.ensures c.loop-low.low c.loop-low.high
-          (sym c.in-Less.ensures) c.loop-low.invariant.narrowed;
+      some = omega arith;
+      inside = omega (arith, byte_le c.is_at_most.result, c.from-low.ensures);
+      left = rw c.from-low.ensures
+          (one_step (λ (y : g.row.T.Denot). g.T.Ord.cmp y c.args.x.now) (values_of g.T.AsULE.unpack g.T.AsULE.WIDTH c.args.bytes.now)
+          c.loop-size.low c.loop-size.size c.is_at_most.result (omega arith) c.is_at_most.ensures c.loop-size-test.true c.loop-size.invariant.left);
     }
 
-pub loop-low-preserved : goal.loop-low-preserved
-loop-low-preserved g c =
-    record {
-      ordered = omega arith;
-      inside = omega arith;
-      narrowed =
-          upper (λ (y : g.row.T.Denot). g.T.Ord.cmp y c.args.x.now) (values_of g.T.AsULE.unpack g.T.AsULE.WIDTH c.args.bytes.now) _
-          c.at.result c.at.ensures c.loop-low.low c.loop-low.high
-          (sym c.in-Greater.ensures) c.loop-low.invariant.narrowed;
-    }
+pub returns-in-Less-clause-position : goal.returns-in-Less-clause-position
+returns-in-Less-clause-position g c =
+    place_past (λ (y : g.row.T.Denot). g.T.Ord.cmp y c.args.x.now) (values_of g.T.AsULE.unpack g.T.AsULE.WIDTH c.args.bytes.now) c.loop-size.low _
+    c.at.result c.at.ensures (sym c.in-Less.ensures) (let t = c.loop-size-test.false in omega arith) c.loop-size.invariant.left
 
 pub returns-in-Equal-clause-position : goal.returns-in-Equal-clause-position
 returns-in-Equal-clause-position g c =
-    holds_at (λ (y : g.row.T.Denot). g.T.Ord.cmp y c.args.x.now) (values_of g.T.AsULE.unpack g.T.AsULE.WIDTH c.args.bytes.now) _
+    holds_at (λ (y : g.row.T.Denot). g.T.Ord.cmp y c.args.x.now) (values_of g.T.AsULE.unpack g.T.AsULE.WIDTH c.args.bytes.now) c.loop-size.low
     c.at.result c.at.ensures Equal (sym c.in-Equal.ensures)
+
+pub returns-in-Greater-clause-position : goal.returns-in-Greater-clause-position
+returns-in-Greater-clause-position g c =
+    place_of_first (λ (y : g.row.T.Denot). g.T.Ord.cmp y c.args.x.now) (values_of g.T.AsULE.unpack g.T.AsULE.WIDTH c.args.bytes.now) c.loop-size.low _
+    c.at.result c.at.ensures (sym c.in-Greater.ensures) c.loop-size.invariant.left

@@ -1,16 +1,15 @@
--- Where the values ascend, those below `low` are less than the one that is sought and those from `high` on
--- are greater.
-use Rattle.std.proofs.Common.{length, ◌-◌, ◌≤◌}
+-- Some value is left, and those past what is left are greater.
+use Rattle.std.proofs.Common.{length, ◌+◌, ◌<◌, ◌≤◌}
 use Rattle.icu_zerovec.specs.Cells.{values_of}
-use Rattle.icu_zerovec.proofs.Searches.{Narrowed}
+use Rattle.icu_zerovec.specs.Inside.Searches.{IsNarrowed}
 use Rattle.icu_zerovec.proofs.cells.binary_search.Given as goal
 
-abbrev pub invariant-loop-low : goal.invariant-loop-low
-invariant-loop-low g l = record {
-  ordered : l.low ≤ l.high;
-  inside : l.high ≤ length (values_of g.T.AsULE.unpack g.T.AsULE.WIDTH l.bytes);
-  narrowed : Narrowed (λ y. g.T.Ord.cmp y l.x) (values_of g.T.AsULE.unpack g.T.AsULE.WIDTH l.bytes) l.low l.high;
+abbrev pub invariant-loop-size : goal.invariant-loop-size
+invariant-loop-size g l = record {
+  some : 0 < l.size;
+  inside : l.low + l.size ≤ length (values_of g.T.AsULE.unpack g.T.AsULE.WIDTH l.bytes);
+  left : IsNarrowed (λ y. g.T.Ord.cmp y l.x) (values_of g.T.AsULE.unpack g.T.AsULE.WIDTH l.bytes) l.low (l.low + l.size);
 }
 
-abbrev pub decreases-loop-low : goal.decreases-loop-low
-decreases-loop-low g l = l.high - l.low
+abbrev pub decreases-loop-size : goal.decreases-loop-size
+decreases-loop-size g l = l.size

@@ -69,7 +69,8 @@ fn empty_and_far_changes(rt: HostRuntime) -> Result<(), Fail> {
     expect_built(&rt, builder, &[0xA, 0x14])
 }
 
-/// What lies past the end of the code space is ignored by additions, and cut off by all other calls.
+/// What lies past the end of the code space is ignored by additions, and cut off by all other
+/// calls.
 fn add_far(builder: &mut CodePointInversionListBuilder) -> Result<(), MemoryError> {
     builder.add32(0x11_0000)?;
     builder.add_range32(0x50..=0x11_0000)?;

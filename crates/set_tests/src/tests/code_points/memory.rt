@@ -1,7 +1,7 @@
-//! Want of memory: each call that may grow something says so at once where a growth was refused, and leaves
-//! what it would have changed as it was. Calls that take no memory ask for none.
-//! What a call works on is made by a helper whose last act is to print `call`, and the helper that takes what
-//! the call left begins with printing `done`.
+//! Want of memory: each call that may grow something says so at once where a growth was refused,
+//! and leaves what it would have changed as it was. Calls that take no memory ask for none. What a
+//! call works on is made by a helper whose last act is to print `call`, and the helper that takes
+//! what the call left begins with printing `done`.
 mod added;
 mod made;
 mod quiet;
@@ -95,7 +95,8 @@ fn expect_answer_and_lent(
     told
 }
 
-/// The call is over: the builder's set is `after`, and where the call was refused it is that of A to Z.
+/// The call is over: the builder's set is `after`, and where the call was refused it is that of A
+/// to Z.
 fn expect_answer(
     rt: &(impl Abort + AllocGlobal + Print),
     answer: Result<(), MemoryError>,

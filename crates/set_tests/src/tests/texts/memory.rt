@@ -1,11 +1,12 @@
-//! Want of memory: each call that may grow something says so at once where a growth was refused. Calls that
-//! take no memory ask for none.
+//! Want of memory: each call that may grow something says so at once where a growth was refused.
+//! Calls that take no memory ask for none.
 use super::*;
 use crate::tests::{expect, json_for_call, tell};
 use icu_text_sets::codepointinvliststringlist::{InvalidStringList, StringListJsonError};
 use serde_json::Value;
 
-/// The set of all code points and "ab", where there was memory for it; a call that may be refused follows at once.
+/// The set of all code points and "ab", where there was memory for it; a call that may be refused
+/// follows at once.
 fn set_for_call(
     rt: &(impl AllocGlobal + Print),
 ) -> Result<Option<CodePointInversionListAndStringList<'static>>, Fail> {
@@ -108,7 +109,8 @@ fn lists_for_call(
     Ok(Some(lists))
 }
 
-/// Says that the calls are over, one of which took its strings and one of which found them unsorted.
+/// Says that the calls are over, one of which took its strings and one of which found them
+/// unsorted.
 fn expect_one_taken(
     rt: &(impl Abort + Print),
     taken: bool,
@@ -152,9 +154,11 @@ fn expect_answers(
     Ok(())
 }
 
-/// Calls: `CodePointInversionListAndStringList::size`, `CodePointInversionListAndStringList::has_strings`,
+/// Calls: `CodePointInversionListAndStringList::size`,
+/// `CodePointInversionListAndStringList::has_strings`,
 /// `CodePointInversionListAndStringList::strings`, `CodePointInversionListAndStringList::contains`,
-/// `CodePointInversionListAndStringList::contains32`, `CodePointInversionListAndStringList::contains_str`,
+/// `CodePointInversionListAndStringList::contains32`,
+/// `CodePointInversionListAndStringList::contains_str`,
 /// `CodePointInversionListAndStringList::contains_utf8`.
 #[test]
 fn queries_quiet(rt: HostRuntime) -> Result<(), Fail> {

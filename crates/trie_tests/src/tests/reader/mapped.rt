@@ -36,7 +36,8 @@ fn nothing_is_behind_the_greatest_number(rt: HostRuntime) -> Result<(), Fail> {
     Ok(())
 }
 
-/// The code points with this value are these, where those below 0x1000 have the value 1 and all others 2.
+/// The code points with this value are these, where those below 0x1000 have the value 1 and all
+/// others 2.
 fn expect_ranges_of(
     rt: &(impl Abort + AllocGlobal),
     value: u8,
@@ -69,8 +70,8 @@ fn mapped_ranges(rt: HostRuntime) -> Result<(), Fail> {
     Ok(())
 }
 
-/// The header names the block of all code points below 0x1000 as null, and it is not: each of them is alone, and
-/// they are joined by their equal answers.
+/// The header names the block of all code points below 0x1000 as null, and it is not: each of them
+/// is alone, and they are joined by their equal answers.
 #[test]
 fn mapped_ranges_that_touch(rt: HostRuntime) -> Result<(), Fail> {
     let sevens = data(7, 7, 9);

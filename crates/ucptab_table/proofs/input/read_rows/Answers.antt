@@ -2,7 +2,7 @@ use Rattle.std.proofs.Common.{◌≡◌, [], ◌∷◌, ◌++◌, Some, None, ar
 use Rattle.std.proofs.lemmas.Grind.{common_steps}
 use Rattle.std.proofs.lemmas.List.{append-nil}
 use Rattle.std.specs.Str.Lines.{lines}
-use Rattle.ucptab_table.proofs.RowSteps.{left_behind, faultless_more, writes_more, first_fault_named, all_rows}
+use Rattle.ucptab_table.proofs.RowSteps.{left_after, faultless_more, writes_more, first_fault_named, all_rows}
 use Rattle.ucptab_table.proofs.input.read_rows.Goals as goal
 
 pub loop-line-preserved-in-Ok-None : goal.loop-line-preserved-in-Ok-None
@@ -10,7 +10,7 @@ loop-line-preserved-in-Ok-None c =
     let all = lines c.args.input.now in
     let left = c.loop-line.invariant.left ∙ c.in-Some.ensures.some in
     record {
-      left = left_behind all _ _ _ left;
+      left = left_after all _ _ _ left;
       room = omega (arith, c.in-Some.ensures.shorter);
       faultless = faultless_more all _ _ _ left None (cc) c.loop-line.invariant.faultless;
       writes = sym (append-nil _) ∙ writes_more all _ _ _ left _ None (cc) c.loop-line.invariant.writes;
@@ -22,7 +22,7 @@ loop-line-preserved c =
     let left = c.loop-line.invariant.left ∙ c.in-Some.ensures.some in
     let pushed : c.push.new.self.items ≡ c.loop-line.writes.items ++ c.in-Ok-Some.write ∷ [] = grind (arith, common_steps) in
     record {
-      left = left_behind all _ _ _ left;
+      left = left_after all _ _ _ left;
       room = omega (arith, c.in-Some.ensures.shorter);
       faultless = faultless_more all _ _ _ left (Some c.in-Ok-Some.write) (cc) c.loop-line.invariant.faultless;
       writes = pushed ∙ writes_more all _ _ _ left _ (Some c.in-Ok-Some.write) (cc) c.loop-line.invariant.writes;

@@ -3,7 +3,8 @@ use Rattle.std.proofs.Common.{◌≡◌, ◌<◌, ◌≤◌, ◌∙◌, ◌++◌
 use Rattle.std.specs.Prelude.{IfOk}
 use Rattle.std.proofs.lemmas.Result.{IfOk-weaker}
 use Rattle.ucptab_table.proofs.Printed.{run_line-range, run_line-point}
-use Rattle.ucptab_table.specs.TableText.{answer_line, hex_text, run_line, run_of_values}
+use Rattle.ucptab_table.specs.TableText.{answer_line, hex_text, run_line}
+use Rattle.ucptab_table.specs.Inside.Ranges.{run_of_values}
 use Rattle.ucptab_table.proofs.text.push_range.Goals as goal
 
 pub returns-in_ok-push_dotted : goal.returns-in_ok-push_dotted

@@ -2,7 +2,7 @@
 use Rattle.std.proofs.Common.{map, rules}
 use Rattle.icu_trie_core.proofs.CallerLemmas.{AreMaximalRuns-some}
 use Rattle.icu_trie.specs.Ranges.{answers}
-use Rattle.ucptab_table.specs.TableText.{run_of_values}
+use Rattle.ucptab_table.specs.Inside.Ranges.{run_of_values}
 use Rattle.ucptab_table.proofs.RangeRuns.{runs-of-ranges}
 use Rattle.ucptab_table.proofs.text.ranges_text.Goals as goal
 

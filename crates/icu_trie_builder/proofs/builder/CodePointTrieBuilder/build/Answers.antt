@@ -1,7 +1,8 @@
 use Rattle.std.proofs.Common.{subst}
 use Rattle.std.proofs.lemmas.Result.{IfOk-weaker}
 use Rattle.std.specs.Prelude.{IfOk}
-use Rattle.icu_trie_builder.specs.CodePointMap.{CodePointMap, number_value, map_value}
+use Rattle.icu_trie_builder.specs.CodePointMap.{CodePointMap, map_value}
+use Rattle.icu_trie_builder.specs.Inside.ValuesOfNumbers.{number_value}
 use Rattle.icu_trie_builder.specs.Bounds.{IsTooLarge}
 use Rattle.icu_trie_builder.specs.MapAnswers.{AnswersMap, HasRangesOf}
 use Rattle.icu_trie_builder.proofs.RangesOfMap.{HasRangesOf-from_answers}

@@ -15,7 +15,7 @@ returns-clause-high c = let b = c.self.inside.blocks in let rest = c.self.inside
     let last-at : c.last.result ≡ number_at b rest 0x10ffff = c.last.ensures ∙ rw (← c.self.view_is) (numbers-at b rest 0x10ffff 0 (omega arith)) in
     rw (← c.self.view_is) (λ k low high. numbers-at b rest k 0 high ∙ elim c.self.invariant.none_or_all [
       | inl none ↦ number_at-none b rest k c.self.invariant none ∙ sym (number_at-none b rest 0x10ffff c.self.invariant none)
-      | inr all ↦ c.used_blocks-used.ensures.behind rest k (omega (arith, low, c.div_ceil.ensures)) (omega (arith, high, all, block_count-is)) ∙ last-at
+      | inr all ↦ c.used_blocks-used.ensures.after rest k (omega (arith, low, c.div_ceil.ensures)) (omega (arith, high, all, block_count-is)) ∙ last-at
     ] ∙ sym (numbers-at b rest 0x10ffff 0 (omega arith)))
 
 pub returns-clause-least : goal.returns-clause-least

@@ -14,8 +14,8 @@ pub returns-clause-before : goal.returns-clause-before
 returns-clause-before c = let b = c.self.inside.blocks in let b' = c.write_range.new.blocks in let rest = c.self.inside.rest in
     rw (← c.self.view_is) (λ k l. numbers-at b' rest k 0 (omega (arith, l, c.requires.range, c.requires.within)) ∙ c.write_range.ensures.outside k (omega (arith, l, c.requires.range, c.requires.within)) (inl l) ∙ sym (numbers-at b rest k 0 (omega (arith, l, c.requires.range, c.requires.within))))
 
-pub returns-clause-behind : goal.returns-clause-behind
-returns-clause-behind c = let b = c.self.inside.blocks in let b' = c.write_range.new.blocks in let rest = c.self.inside.rest in
+pub returns-clause-after : goal.returns-clause-after
+returns-clause-after c = let b = c.self.inside.blocks in let b' = c.write_range.new.blocks in let rest = c.self.inside.rest in
     rw (← c.self.view_is) (λ k l. elim (cases_lt k 0x110000) [
       | inl low ↦ numbers-at b' rest k 0 low ∙ c.write_range.ensures.outside k low (inr l) ∙ sym (numbers-at b rest k 0 low)
       | inr high ↦ numbers-past b' rest k 0 high ∙ sym (numbers-past b rest k 0 high)

@@ -59,6 +59,19 @@ fn try_from_u32_inversion_list_slice_refused(rt: HostRuntime) -> Result<(), Fail
     expect_made(&rt, made.ok(), &LETTERS)
 }
 
+/// Calls: `CodePointInversionList::from_valid_slice`.
+#[test]
+fn from_valid_slice_refused(rt: HostRuntime) -> Result<(), Fail> {
+    let all = CodePointInversionList::all();
+    expect_number(&rt, all.get_range_count(), 1, "ranges of all code points");
+    let Ok(ends) = all.get_inversion_list_vec(rt.alloc()) else {
+        return Ok(());
+    };
+    println!(rt; "call")?;
+    let made = CodePointInversionList::from_valid_slice(rt.alloc(), &ends);
+    expect_made(&rt, made.ok(), &[0, 0x11_0000])
+}
+
 /// Calls: `CodePointInversionList::try_from`.
 #[test]
 fn try_from_range_refused(rt: HostRuntime) -> Result<(), Fail> {
@@ -94,7 +107,8 @@ fn try_clone_refused(rt: HostRuntime) -> Result<(), Fail> {
     expect_made(&rt, made.ok(), &[0, 0x1_0000])
 }
 
-/// The call is over: the list is refused, and its two numbers are shown where there was memory for them.
+/// The call is over: the list is refused, and its two numbers are shown where there was memory for
+/// them.
 fn expect_two_shown(
     rt: &(impl Abort + Print),
     made: Result<CodePointInversionList<'_>, SetError>,

@@ -7,7 +7,8 @@ use std::ops::RangeInclusive;
 
 /// Changes that put no end in, or as many as they take out.
 ///
-/// Calls: `CodePointInversionListBuilder::add_range`, `CodePointInversionListBuilder::remove_range32`,
+/// Calls: `CodePointInversionListBuilder::add_range`,
+/// `CodePointInversionListBuilder::remove_range32`,
 /// `CodePointInversionListBuilder::complement_range32`.
 #[test]
 fn changes_quiet(rt: HostRuntime) -> Result<(), Fail> {
@@ -36,7 +37,8 @@ fn expect_changed(
 
 /// Intersection with ranges.
 ///
-/// Calls: `CodePointInversionListBuilder::retain_range`, `CodePointInversionListBuilder::retain_range32`,
+/// Calls: `CodePointInversionListBuilder::retain_range`,
+/// `CodePointInversionListBuilder::retain_range32`,
 /// `CodePointInversionListBuilder::retain_char`, `CodePointInversionListBuilder::retain32`.
 #[test]
 fn retained_quiet(rt: HostRuntime) -> Result<(), Fail> {
@@ -62,7 +64,8 @@ fn expect_membership(
     Ok(())
 }
 
-/// Calls: `CodePointInversionList::all`, `CodePointInversionList::bmp`, `CodePointInversionList::contains`,
+/// Calls: `CodePointInversionList::all`, `CodePointInversionList::bmp`,
+/// `CodePointInversionList::contains`,
 /// `CodePointInversionList::contains32`, `CodePointInversionList::contains_range`,
 /// `CodePointInversionList::contains_set`, `CodePointInversionList::is_empty`.
 #[test]
@@ -97,7 +100,8 @@ fn expect_counts(
 }
 
 /// Calls: `CodePointInversionList::size`, `CodePointInversionList::get_range_count`,
-/// `CodePointInversionList::position`, `CodePointInversionList::position32`, `CodePointInversionList::span`,
+/// `CodePointInversionList::position`, `CodePointInversionList::position32`,
+/// `CodePointInversionList::span`,
 /// `CodePointInversionList::span_back`.
 #[test]
 fn counts_quiet(rt: HostRuntime) -> Result<(), Fail> {
@@ -123,7 +127,8 @@ fn expect_firsts(
     Ok(())
 }
 
-/// Calls: `CodePointInversionList::iter_ranges`, `CodePointInversionList::iter_ranges_complemented`,
+/// Calls: `CodePointInversionList::iter_ranges`,
+/// `CodePointInversionList::iter_ranges_complemented`,
 /// `CodePointInversionList::iter_chars`, `IterRanges::next`, `IterRangesComplemented::next`,
 /// `IterChars::next`.
 #[test]
@@ -167,7 +172,8 @@ fn expect_named(
 
 /// A valid list is taken as it is.
 ///
-/// Calls: `codepointinvlist::deconstruct_range`, `RangeOf::deconstruct`, `codepointinvlist::is_valid_zv`,
+/// Calls: `codepointinvlist::deconstruct_range`, `RangeOf::deconstruct`,
+/// `codepointinvlist::is_valid_zv`,
 /// `CodePointInversionList::try_from_inversion_list`.
 #[test]
 fn lists_and_ranges_quiet(rt: HostRuntime) -> Result<(), Fail> {

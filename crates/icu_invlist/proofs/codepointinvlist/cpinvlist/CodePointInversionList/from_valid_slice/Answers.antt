@@ -1,20 +1,18 @@
-use Rattle.std.proofs.Common.{◌≡◌, ◌∙◌, sym, ap, refl, ℕ, ◌≤◌, suc, List, [], ◌∷◌, min, map, arith, subst}
-use Rattle.std.specs.List.{All}
-use Rattle.icu_invlist.specs.InversionList.{IsValid, limit}
+use Rattle.std.proofs.Common.{◌≡◌, ◌∙◌, sym, ap, subst, Some}
+use Rattle.icu_zerovec.specs.Cells.{IsFault, values_of}
+use Rattle.icu_zerovec.specs.PackedBytes.{number_of}
+use Rattle.icu_invlist.specs.InversionList.{IsValid}
+use Rattle.icu_invlist.proofs.PackedEnds.{values_packed, no_fault}
 use Rattle.icu_invlist.proofs.codepointinvlist.cpinvlist.CodePointInversionList.from_valid_slice.Goals as goal
-
--- what is within the code space is not cut
-cut_within : (xs : List ℕ) → All (λ e. e ≤ limit) xs → map (λ x. min x 0xFFFFFF) xs ≡ xs
-cut_within [] w = refl
-cut_within (x ∷ xs) w =
-    let a : x ≤ limit = w 0 0 (omega arith) in
-    let e : min x 0xFFFFFF ≡ x = omega arith in
-    rw e (ap (λ (ys : List ℕ). x ∷ ys) (cut_within xs (λ k d h. w (suc k) d (omega arith))))
 
 pub invariant_of-result : goal.invariant_of-result
 invariant_of-result c =
-    let e : c.in_ok-ends.ends ≡ c.args.ends.now = c.in_ok-ends.ensures ∙ (c.deref.ensures.value ∙ (c.in_ok-points.ensures ∙ cut_within _ c.requires.within)) in
-    subst (λ (ys : List ℕ). IsValid ys) (sym e) c.requires
+    let e : c.in_ok-into_owned-in-Ok.field-0 ≡ c.args.ends.now =
+    c.in_ok-into_owned-in-Ok.ensures ∙ (c.in-Ok.ensures.ok.1 ∙ (ap (values_of (λ b. Some (number_of 3 b)) 3) (c.deref.ensures.value ∙ c.in_ok-bytes.ensures) ∙ values_packed _ c.requires)) in
+    subst IsValid (sym e) c.requires
+
+pub unreachable-requires : goal.unreachable-requires
+unreachable-requires c = no_fault c.args.ends.now c.requires _ (rw (c.deref.ensures.value, c.in_ok-bytes.ensures) at c.in-Err.ensures.err)
 
 pub returns : goal.returns
-returns c = c.in_ok-ends.ensures ∙ (c.deref.ensures.value ∙ (c.in_ok-points.ensures ∙ cut_within _ c.requires.within))
+returns c = c.in_ok-into_owned-in-Ok.ensures ∙ (c.in-Ok.ensures.ok.1 ∙ (ap (values_of (λ b. Some (number_of 3 b)) 3) (c.deref.ensures.value ∙ c.in_ok-bytes.ensures) ∙ values_packed _ c.requires))

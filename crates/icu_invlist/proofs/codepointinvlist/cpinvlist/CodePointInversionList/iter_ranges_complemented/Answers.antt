@@ -1,7 +1,7 @@
 use Rattle.std.proofs.Common.{◌≡◌, ◌∙◌, ◌<◌, sym, ap, ℕ, List, ◌∷◌}
 use Rattle.std.specs.Prelude.{not}
 use Rattle.icu_invlist.specs.InversionList.{AreApart, IsValid, complement_of, holds, in_ranges, limit, ranges_of, toggle_back}
-use Rattle.icu_invlist.specs.StillGiven.{gaps_left}
+use Rattle.icu_invlist.specs.Inside.StillGiven.{gaps_left}
 use Rattle.icu_invlist.proofs.MemberLemmas.{ranges_within}
 use Rattle.icu_invlist.proofs.HeldRanges.{ranges_hold, ranges_apart}
 use Rattle.icu_invlist.proofs.Complements.{complement_valid, complement-holds, gaps_from_zero, gaps_from_start}

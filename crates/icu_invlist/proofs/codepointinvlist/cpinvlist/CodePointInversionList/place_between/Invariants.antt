@@ -1,5 +1,5 @@
 use Rattle.std.proofs.Common.{ℕ, suc, ◌+◌, ◌≤◌, length}
-use Rattle.icu_invlist.specs.Places.{below}
+use Rattle.icu_invlist.specs.Inside.Places.{below}
 use Rattle.icu_invlist.proofs.codepointinvlist.cpinvlist.CodePointInversionList.place_between.Given as goal
 
 abbrev pub invariant-loop-size : goal.invariant-loop-size

@@ -4,7 +4,7 @@ use Rattle.std.proofs.lemmas.Bool.Decides.{same_from_decides}
 use Rattle.std.proofs.lemmas.Slice.Eq.{bytes_eq-Decides}
 use Rattle.icu_zerovec.specs.Cells.{values_of}
 use Rattle.icu_zerovec.specs.PackedBytes.{low_bytes, number_of}
-use Rattle.icu_zerovec.specs.Canonical.{canonical_point}
+use Rattle.icu_zerovec.proofs.CallerLemmas.{canonical_point}
 use Rattle.icu_invlist.specs.InversionList.{holds}
 use Rattle.icu_invlist.proofs.EqualSets.{same_sets}
 use Rattle.icu_invlist.proofs.codepointinvlist.equality.CodePointInversionListPartialEq.eq.Goals as goal

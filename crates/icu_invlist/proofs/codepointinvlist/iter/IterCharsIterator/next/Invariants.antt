@@ -1,5 +1,5 @@
 use Rattle.std.proofs.Common.{◌≡◌, length}
-use Rattle.icu_invlist.specs.StillGiven.{characters_left}
+use Rattle.icu_invlist.specs.Inside.StillGiven.{characters_left}
 use Rattle.icu_invlist.proofs.codepointinvlist.iter.IterCharsIterator.next.Given as goal
 
 abbrev pub invariant-loop-found : goal.invariant-loop-found

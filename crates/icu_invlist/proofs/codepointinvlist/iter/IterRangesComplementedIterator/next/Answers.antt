@@ -1,6 +1,6 @@
 use Rattle.std.proofs.Common.{◌≡◌, ◌∙◌, sym, ap, ℕ, List, ◌∷◌, ◌-◌}
 use Rattle.icu_invlist.specs.InversionList.{IsValid, ranges_of}
-use Rattle.icu_invlist.specs.StillGiven.{gaps_left}
+use Rattle.icu_invlist.specs.Inside.StillGiven.{gaps_left}
 use Rattle.icu_invlist.proofs.Complements.{next_gap}
 use Rattle.icu_invlist.proofs.MemberLemmas.{same_range}
 use Rattle.icu_invlist.proofs.codepointinvlist.iter.IterRangesComplementedIterator.next.Goals as goal

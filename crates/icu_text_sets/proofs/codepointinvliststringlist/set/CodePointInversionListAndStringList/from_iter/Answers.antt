@@ -19,6 +19,5 @@ loop-text-preserved-in_ok-add_char-in-Some-only_char g c =
 
 pub loop-text-preserved : goal.loop-text-preserved
 loop-text-preserved g c =
-    rw (more c.loop-text.yielded c.in-Some.text)
-    (with_string _ c.loop-text.builder (texts_of c.loop-text.str_list.items) (texts_of c.insert_text.new.strings.items) c.in-Some.text.now c.loop-text.invariant
-    (sym c.in-None-only_char.ensures.only) c.in_ok-insert_text-in-None-only_char.ensures.list c.in_ok-insert_text-in-None-only_char.ensures.holds)
+    rw (more c.loop-text.yielded c.in-Some.text, c.in_ok-push_text-in-None-only_char.ensures)
+    (with_string _ c.loop-text.builder (texts_of c.loop-text.str_list.items) c.in-Some.text.now c.loop-text.invariant (sym c.in-None-only_char.ensures.only))

@@ -1,0 +1,99 @@
+// The program: bench TABLE.. -- [KERNEL..]. It prints lines of tab-separated words, which report.py
+// reads: time KERNEL DATA OURS RUST ICU, and what builds have in cells and units.
+#include "bench.hpp"
+#include "data.hpp"
+#include <algorithm>
+#include <cstdio>
+#include <cstdlib>
+#include <time.h>
+
+using std::string;
+using std::vector;
+
+static const char *const kernels[] = {"get_u8",          "get_u16",          "get_u32",
+                                      "typed_u8",        "typed_u16",        "typed_u32",
+                                      "text_u8",         "ranges_u8",        "ranges_u16",
+                                      "ranges_u32",      "setfor_u8",        "build_u8",
+                                      "build_u16",       "build_u32",        "set_contains",
+                                      "set_text",        "set_iter",         "set_position",
+                                      "set_add",         "set_remove",       "set_retain",
+                                      "set_complement",  "set_contains_set", "set_ranges",
+                                      "frozen_contains", "frozen_text",      "frozen_contains_set",
+                                      "c16_iter",        "c16_look",         "c16_build",
+                                      "packed_read",     "packed_search"};
+
+enum { LEAST_ROUNDS = 5, MOST_ROUNDS = 400 };
+// A row takes about so many seconds.
+static const double ROW_SECONDS = 0.05;
+
+static vector<string> words;
+
+void fail(const string &what) {
+    fprintf(stderr, "bench: %s\n", what.c_str());
+    exit(1);
+}
+
+bool wanted(const string &kernel) {
+    auto named = [&](const string &word) { return kernel.compare(0, word.size(), word) == 0; };
+    return words.empty() || std::any_of(words.begin(), words.end(), named);
+}
+
+// The time of this process on its processor, so that others on the machine count less.
+static double seconds() {
+    timespec t;
+    clock_gettime(CLOCK_PROCESS_CPUTIME_ID, &t);
+    return t.tv_sec + 1e-9 * t.tv_nsec;
+}
+
+void row(const string &kernel, const string &data, double each, const Call &ours, const Call &rust,
+         const Call &icu) {
+    const Call *const calls[] = {&ours, &rust, &icu};
+    static const char *const names[] = {"ours", "Rust", "ICU"};
+    double best[] = {1e9, 1e9, 1e9};
+    const uint64_t answer = ours();
+    const double begun = seconds();
+    // The libraries take turns in each round, so that what disturbs the machine disturbs all of
+    // them.
+    for (int round = 0;
+         round < MOST_ROUNDS && (round < LEAST_ROUNDS || seconds() - begun < ROW_SECONDS);
+         round++) {
+        for (int i = 0; i < 3; i++) {
+            if (!*calls[i]) continue;
+            const double start = seconds();
+            const uint64_t other = (*calls[i])();
+            best[i] = std::min(best[i], seconds() - start);
+            if (other != answer)
+                fail(kernel + ", " + data + ": " + names[i] + " answers otherwise");
+        }
+    }
+    printf("time\t%s\t%s", kernel.c_str(), data.c_str());
+    for (int i = 0; i < 3; i++) *calls[i] ? printf("\t%.4f", best[i] / each * 1e9) : printf("\t");
+    printf("\n");
+    fflush(stdout);
+}
+
+uint32_t random_number(uint32_t below) {
+    static uint64_t state = 1;
+    state = state * 6364136223846793005u + 1442695040888963407u;
+    return (state >> 33) % below;
+}
+
+int main(int count, char **arguments) {
+    int i = 1;
+    for (; i < count && string(arguments[i]) != "--"; i++) read_table(arguments[i]);
+    for (i++; i < count; i++) words.push_back(arguments[i]);
+    for (const string &word : words) {
+        auto named = [&](const string &kernel) {
+            return kernel.compare(0, word.size(), word) == 0;
+        };
+        if (!std::any_of(std::begin(kernels), std::end(kernels), named))
+            fail("no kernel begins with " + word);
+    }
+    tries();
+    ranges();
+    builds();
+    sets();
+    set_blends();
+    unit_tries();
+    packed();
+}

@@ -1,0 +1,155 @@
+// What is asked of sets of code points. ICU's set is not frozen, but for the kernels frozen_*.
+#include "icu_set.hpp"
+#include <algorithm>
+#include <unicode/utf8.h>
+
+using icu::UnicodeSet;
+using std::string;
+using std::vector;
+
+static Set set_of(const string &name, const vector<bool> &held) {
+    Set s;
+    for (uint32_t c = 0; c < 0x110000; c++) {
+        if (!held[c]) continue;
+        const uint32_t start = c;
+        while (c < 0x110000 && held[c]) c++;
+        s.starts.push_back(start);
+        s.ends.push_back(c);
+        for (uint32_t end : {start, c})
+            for (int i = 0; i < 3; i++) s.bytes.push_back(end >> 8 * i);
+        s.set.add(start, c - 1);
+    }
+    s.name = name + std::to_string(s.starts.size());
+    s.frozen = s.set;
+    s.frozen.freeze();
+    return s;
+}
+
+static Set set_of_categories(const string &name, int first, int last) {
+    vector<bool> held(0x110000);
+    for (uint32_t c = 0; c < 0x110000; c++)
+        held[c] = first <= categories()[c] && categories()[c] <= last;
+    return set_of(name, held);
+}
+
+const vector<Set> &all_sets() {
+    static vector<Set> all;
+    if (!all.empty()) return all;
+    all.push_back(set_of_categories("letters", FIRST_LETTER, LAST_LETTER));
+    all.push_back(set_of_categories("marks", FIRST_MARK, LAST_MARK));
+    all.push_back(set_of_categories("unassigned", UNASSIGNED, UNASSIGNED));
+    vector<bool> han(0x110000);
+    std::fill(han.begin() + 0x4E00, han.begin() + 0xA000, true);
+    all.push_back(set_of("han", han));
+    return all;
+}
+
+Set empty_set() { return set_of("none", vector<bool>(0x110000)); }
+
+// Each group of 64 code points has the same number of members in all libraries.
+static void compare(const Set &s) {
+    vector<uint32_t> points(64);
+    for (uint32_t c = 0; c < 0x110000; c += 64) {
+        uint64_t held = 0;
+        for (uint32_t i = 0; i < 64; i++) held += s.set.contains(UChar32(points[i] = c + i));
+        if (ours_contains(PARTS(s.bytes), PARTS(points)) != held ||
+            rust_contains(PARTS(s.bytes), PARTS(points)) != held)
+            fail(s.name + ": members differ from " + std::to_string(c) + " on");
+    }
+}
+
+static void contains() {
+    static const struct {
+        const char *name;
+        uint32_t limit;
+    } kinds[] = {{"latin1", 0x100}, {"bmp", 0x10000}, {"all", 0x110000}};
+    for (const Set &s : all_sets()) {
+        compare(s);
+        for (auto &kind : kinds) {
+            vector<uint32_t> points(16384);
+            for (auto &c : points) c = random_number(kind.limit);
+            auto icu = [&](const UnicodeSet &set) {
+                uint64_t sum = 0;
+                for (uint32_t c : points) sum += set.contains(UChar32(c));
+                return sum;
+            };
+            const Call ours = [&] { return ours_contains(PARTS(s.bytes), PARTS(points)); };
+            const Call rust = [&] { return rust_contains(PARTS(s.bytes), PARTS(points)); };
+            const string name = s.name + "-" + kind.name;
+            if (wanted("set_contains"))
+                row("set_contains", name, points.size(), ours, rust, [&] { return icu(s.set); });
+            if (wanted("frozen_contains"))
+                row("frozen_contains", name, points.size(), ours, nullptr,
+                    [&] { return icu(s.frozen); });
+        }
+    }
+}
+
+static void over_texts() {
+    for (const Set &s : all_sets()) {
+        for (const Text &text : texts(16384)) {
+            const uint8_t *bytes = reinterpret_cast<const uint8_t *>(text.bytes.data());
+            const size_t size = text.bytes.size();
+            auto icu = [&](const UnicodeSet &set) {
+                uint64_t sum = 0;
+                for (size_t i = 0; i < size;) {
+                    UChar32 c;
+                    U8_NEXT_UNSAFE(bytes, i, c);
+                    sum += set.contains(c);
+                }
+                return sum;
+            };
+            const Call ours = [&] { return ours_contains_text(PARTS(s.bytes), bytes, size); };
+            const Call rust = [&] { return rust_contains_text(PARTS(s.bytes), bytes, size); };
+            const string name = s.name + "-" + text.name;
+            if (wanted("set_text"))
+                row("set_text", name, text.characters, ours, rust, [&] { return icu(s.set); });
+            if (wanted("frozen_text"))
+                row("frozen_text", name, text.characters, ours, nullptr,
+                    [&] { return icu(s.frozen); });
+        }
+    }
+}
+
+static void all_ranges() {
+    for (const Set &s : all_sets()) {
+        const size_t turns = 100000 / (s.starts.size() + 1);
+        const Call icu = [&] {
+            uint64_t sum = 0;
+            for (size_t turn = 0; turn < turns; turn++)
+                for (int32_t i = 0, count = s.set.getRangeCount(); i < count; i++)
+                    sum += uint64_t(s.set.getRangeStart(i) ^ 7) + s.set.getRangeEnd(i);
+            return sum;
+        };
+        row(
+            "set_iter", s.name, double(turns) * s.starts.size(),
+            [&] { return ours_set_iter(PARTS(s.bytes), turns); },
+            [&] { return rust_set_iter(PARTS(s.bytes), turns); }, icu);
+    }
+}
+
+static void positions() {
+    for (const Set &s : all_sets()) {
+        vector<uint32_t> points(512);
+        for (auto &c : points) c = random_number(0x20000);
+        const Call icu = [&] {
+            uint64_t sum = 0;
+            for (uint32_t c : points) {
+                const int32_t place = s.set.indexOf(c);
+                sum += place < 0 ? 7 : place;
+            }
+            return sum;
+        };
+        row(
+            "set_position", s.name, points.size(),
+            [&] { return ours_position(PARTS(s.bytes), PARTS(points)); },
+            [&] { return rust_position(PARTS(s.bytes), PARTS(points)); }, icu);
+    }
+}
+
+void sets() {
+    if (wanted("set_contains") || wanted("frozen_contains")) contains();
+    if (wanted("set_text") || wanted("frozen_text")) over_texts();
+    if (wanted("set_iter")) all_ranges();
+    if (wanted("set_position")) positions();
+}

@@ -1,0 +1,160 @@
+// Look-ups in code point tries: get32, the same by a trie whose type is known, and get over texts.
+// ICU's part are its macros, which know the type too.
+#include "icu_trie.hpp"
+#include <algorithm>
+#include <unicode/utf8.h>
+
+using std::string;
+using std::vector;
+
+enum { POINTS = 4096, TURNS = 12, SHORT_TEXT = 256, LONG_TEXT = 16 * SHORT_TEXT };
+
+typedef uint64_t Adder(const UCPTrie *, const vector<uint32_t> &points, uint64_t sum);
+typedef uint64_t TextAdder(const UCPTrie *, const string &text, uint64_t sum);
+
+// The sum goes on from turn to turn, so that no turn is left out.
+#define ADDER(name, GET, bits)                                                                     \
+    __attribute__((noinline)) static uint64_t name(const UCPTrie *trie,                            \
+                                                   const vector<uint32_t> &points, uint64_t sum) { \
+        for (uint32_t c : points) sum += GET(trie, UCPTRIE_##bits, c);                             \
+        return sum;                                                                                \
+    }
+#define TEXT_ADDER(name, GET)                                                               \
+    __attribute__((noinline)) static uint64_t name(const UCPTrie *trie, const string &text, \
+                                                   uint64_t sum) {                          \
+        const uint8_t *bytes = reinterpret_cast<const uint8_t *>(text.data());              \
+        for (size_t i = 0, size = text.size(); i < size;) {                                 \
+            UChar32 c;                                                                      \
+            U8_NEXT_UNSAFE(bytes, i, c);                                                    \
+            sum += GET(trie, UCPTRIE_8, c);                                                 \
+        }                                                                                   \
+        return sum;                                                                         \
+    }
+ADDER(fast_8, UCPTRIE_FAST_GET, 8)
+ADDER(small_8, UCPTRIE_SMALL_GET, 8)
+ADDER(fast_16, UCPTRIE_FAST_GET, 16)
+ADDER(small_16, UCPTRIE_SMALL_GET, 16)
+ADDER(fast_32, UCPTRIE_FAST_GET, 32)
+ADDER(small_32, UCPTRIE_SMALL_GET, 32)
+TEXT_ADDER(fast_text, UCPTRIE_FAST_GET)
+TEXT_ADDER(small_text, UCPTRIE_SMALL_GET)
+
+static const struct Width {
+    string name;
+    UCPTrieValueWidth icu;
+    size_t bytes;
+    uint32_t greatest;
+    PointsCall *ours_get, *rust_get, *ours_typed, *rust_typed;
+    AnswersCall *ours_answers, *rust_answers;
+    Adder *fast, *small;
+} widths[] = {
+#define WIDTH(bits, bytes, greatest)                                                              \
+    {                                                                                             \
+        "_u" #bits, UCPTRIE_VALUE_BITS_##bits, bytes, greatest, ours_get_##bits, rust_get_##bits, \
+            ours_typed_##bits, rust_typed_##bits, ours_answers_##bits, rust_answers_##bits,       \
+            fast_##bits, small_##bits                                                             \
+    }
+    WIDTH(8, 1, 0xFF), WIDTH(16, 2, 0xFFFF), WIDTH(32, 4, 0xFFFFFFFF)};
+
+struct Points {
+    string name;
+    vector<uint32_t> all;
+};
+
+// Five kinds of code points, at random and in order.
+static const vector<Points> &kinds() {
+    static vector<Points> all;
+    if (!all.empty()) return all;
+    static const struct {
+        const char *name;
+        uint32_t low, high;
+        bool assigned;
+    } bounds[] = {{"latin1", 0, 0x100, false},
+                  {"bmp", 0, 0x10000, false},
+                  {"supp", 0x10000, 0x30000, false},
+                  {"assigned", 0, 0x30000, true},
+                  {"all", 0, 0x110000, false}};
+    for (auto &kind : bounds) {
+        Points points = {kind.name, {}};
+        while (points.all.size() < POINTS) {
+            uint32_t c = kind.low + random_number(kind.high - kind.low);
+            if (!kind.assigned || categories()[c] != UNASSIGNED) points.all.push_back(c);
+        }
+        all.push_back(points);
+        std::sort(points.all.begin(), points.all.end());
+        points.name += "-ordered";
+        all.push_back(points);
+    }
+    return all;
+}
+
+// All code points and some numbers above have the same value in all three.
+static void compare(const Width &width, const IcuTrie &trie, const TrieParts &parts) {
+    vector<uint32_t> points(0x110010), ours(points.size()), rust(points.size());
+    for (uint32_t c = 0; c < points.size(); c++) points[c] = c;
+    if (!width.ours_answers(&parts, PARTS(points), PARTS(ours)))
+        fail("the parts of a trie are refused");
+    width.rust_answers(&parts, PARTS(points), PARTS(rust));
+    for (uint32_t c : points)
+        if (ours[c] != ucptrie_get(trie.get(), c) || rust[c] != ours[c])
+            fail("values differ at " + std::to_string(c));
+}
+
+static void look_ups(const Width &width, const Table &table, bool is_fast) {
+    const IcuTrie trie = icu_trie(table, is_fast, width.icu);
+    const TrieParts parts = parts_of(trie, width.bytes, is_fast);
+    compare(width, trie, parts);
+    Adder *adder = is_fast ? width.fast : width.small;
+    for (const Points &points : kinds()) {
+        const Call icu = [&] {
+            uint64_t sum = 0;
+            for (int i = 0; i < TURNS; i++) sum = adder(trie.get(), points.all, sum);
+            return sum;
+        };
+        auto by = [&](PointsCall *call) -> Call {
+            return [&, call] { return call(&parts, PARTS(points.all), TURNS); };
+        };
+        const string name = name_of(table, is_fast) + "-" + points.name;
+        const double each = double(POINTS) * TURNS;
+        if (wanted("get" + width.name))
+            row("get" + width.name, name, each, by(width.ours_get), by(width.rust_get), icu);
+        if (wanted("typed" + width.name))
+            row("typed" + width.name, name, each, by(width.ours_typed), by(width.rust_typed), icu);
+    }
+}
+
+static void over_texts(const Table &table, bool is_fast) {
+    const IcuTrie trie = icu_trie(table, is_fast, UCPTRIE_VALUE_BITS_8);
+    const TrieParts parts = parts_of(trie, 1, is_fast);
+    TextAdder *adder = is_fast ? fast_text : small_text;
+    for (size_t characters : {SHORT_TEXT, LONG_TEXT}) {
+        const size_t turns = TURNS * POINTS / characters;
+        for (const Text &text : texts(characters)) {
+            const uint8_t *bytes = reinterpret_cast<const uint8_t *>(text.bytes.data());
+            const size_t size = text.bytes.size();
+            const Call icu = [&] {
+                uint64_t sum = 0;
+                for (size_t i = 0; i < turns; i++) sum = adder(trie.get(), text.bytes, sum);
+                return sum;
+            };
+            row(
+                "text_u8",
+                name_of(table, is_fast) + "-" + text.name +
+                    (characters == LONG_TEXT ? "-long" : "-short"),
+                double(characters) * turns, [&] { return ours_text_8(&parts, bytes, size, turns); },
+                [&] { return rust_text_8(&parts, bytes, size, turns); }, icu);
+        }
+    }
+}
+
+void tries() {
+    for (const Width &width : widths)
+        for (const Table &table : tables())
+            for (bool is_fast : {true, false})
+                if (table.greatest <= width.greatest &&
+                    (wanted("get" + width.name) || wanted("typed" + width.name)))
+                    look_ups(width, table, is_fast);
+    for (const Table &table : tables())
+        for (bool is_fast : {true, false})
+            if (table.greatest <= 0xFF && wanted("text_u8")) over_texts(table, is_fast);
+}

@@ -1,0 +1,232 @@
+// Unit tries over lists of keys that are made: listed, looked up and built. ICU's fast form is what
+// all read.
+#include "bench.hpp"
+#include "calls.hpp"
+#include <algorithm>
+#include <cstdio>
+#include <unicode/ucharstrie.h>
+#include <unicode/ucharstriebuilder.h>
+#include <unicode/unistr.h>
+
+using icu::UCharsTrie;
+using icu::UCharsTrieBuilder;
+using icu::UnicodeString;
+using std::string;
+using std::vector;
+
+enum { UNITS_ROOM = 1 << 21, KEYS_ROOM = 1 << 22 };
+
+// Keys at random, which differ, and their values.
+struct List {
+    string name;
+    vector<UnicodeString> keys;
+    vector<int32_t> values;
+    // The keys one after another, and where each ends.
+    vector<uint16_t> joined;
+    vector<uint32_t> ends;
+};
+
+static void append(UnicodeString &key, const char *text) {
+    key.append(UnicodeString::fromUTF8(text));
+}
+
+template <typename T, size_t N> static T any_of(const T (&all)[N]) { return all[random_number(N)]; }
+
+// A name of two to six syllables.
+static UnicodeString name() {
+    static const char *const syllables[] = {"ka",  "lo",  "mi", "ren", "tu",  "sha", "vel", "or",
+                                            "in",  "ba",  "de", "fro", "gu",  "hal", "is",  "jo",
+                                            "kri", "lan", "mo", "ne",  "ol",  "pra", "qui", "ra",
+                                            "ste", "tor", "ul", "va",  "wen", "yx"};
+    UnicodeString key;
+    for (uint32_t n = 2 + random_number(5); n > 0; n--) append(key, any_of(syllables));
+    return key;
+}
+
+// A language, mostly with a script and a region.
+static UnicodeString locale() {
+    static const char *const scripts[] = {"-Latn", "-Cyrl", "-Arab", "-Hans", "-Hant",
+                                          "-Deva", "",      "",      "",      ""};
+    UnicodeString key;
+    for (uint32_t n = 2 + random_number(2); n > 0; n--)
+        key.append(char16_t('a' + random_number(26)));
+    append(key, any_of(scripts));
+    if (random_number(4) > 0) {
+        key.append(char16_t('-'));
+        for (int n = 0; n < 2; n++) key.append(char16_t('A' + random_number(26)));
+    }
+    return key;
+}
+
+// One to four pictures, joined or of a colour.
+static UnicodeString emoji() {
+    UnicodeString key;
+    for (uint32_t n = 1 + random_number(4); n > 0; n--) {
+        key.append(UChar32(0x1F300 + random_number(0x350)));
+        if (random_number(3) == 0) key.append(UChar32(0x1F3FB + random_number(5)));
+        if (n > 1) key.append(char16_t(0x200D));
+    }
+    return key;
+}
+
+static UnicodeString han() {
+    UnicodeString key;
+    for (uint32_t n = 1 + random_number(3); n > 0; n--)
+        key.append(char16_t(0x4E00 + random_number(3000)));
+    return key;
+}
+
+// A list of about so many keys, with values that all differ, or with four by turns.
+static List list_of(const string &name, size_t count, UnicodeString (*key)(),
+                    bool few_values = false) {
+    List list = {name, {}, {}, {}, {}};
+    for (size_t i = 0; i < count; i++) list.keys.push_back(key());
+    std::sort(list.keys.begin(), list.keys.end());
+    list.keys.erase(std::unique(list.keys.begin(), list.keys.end()), list.keys.end());
+    shuffle(list.keys);
+    for (const UnicodeString &each : list.keys) {
+        list.values.push_back(few_values ? list.values.size() % 4 : list.values.size() * 7 + 1);
+        for (int32_t i = 0; i < each.length(); i++) list.joined.push_back(each[i]);
+        list.ends.push_back(list.joined.size());
+    }
+    return list;
+}
+
+static UnicodeString icu_units(const List &list, UStringTrieBuildOption option) {
+    UErrorCode error = U_ZERO_ERROR;
+    UCharsTrieBuilder builder(error);
+    for (size_t i = 0; i < list.keys.size(); i++) builder.add(list.keys[i], list.values[i], error);
+    UnicodeString built;
+    builder.buildUnicodeString(option, built, error);
+    if (U_FAILURE(error)) fail(u_errorName(error));
+    // What was built is only lent by the builder.
+    return UnicodeString(built.getBuffer(), built.length());
+}
+
+static uint64_t icu_iter(const UnicodeString &units) {
+    UErrorCode error = U_ZERO_ERROR;
+    UCharsTrie::Iterator entries(units.getBuffer(), 0, error);
+    uint64_t sum = 0;
+    while (entries.next(error)) sum = mixed(sum, entries.getValue());
+    return sum;
+}
+
+static string icu_keys(const UnicodeString &units) {
+    UErrorCode error = U_ZERO_ERROR;
+    UCharsTrie::Iterator entries(units.getBuffer(), 0, error);
+    string all;
+    while (entries.next(error)) entries.getString().toUTF8String(all), all += '\n';
+    return all;
+}
+
+static int32_t value_after(const UCharsTrie &trie, UStringTrieResult result) {
+    return USTRINGTRIE_HAS_VALUE(result) ? trie.getValue() : 7;
+}
+
+// The values of all keys, or with `along` of all their prefixes.
+static uint64_t icu_look(const UnicodeString &units, const List &list, bool along) {
+    UCharsTrie trie(units.getBuffer());
+    uint64_t sum = 0;
+    size_t start = 0;
+    for (uint32_t end : list.ends) {
+        trie.reset();
+        uint32_t values = 0;
+        UStringTrieResult result = USTRINGTRIE_NO_VALUE;
+        for (size_t i = start; i < end; i++) {
+            result = trie.next(list.joined[i]);
+            if (along) values += value_after(trie, result);
+        }
+        if (!along) values = value_after(trie, result);
+        sum = mixed(sum, values);
+        start = end;
+    }
+    return sum;
+}
+
+static vector<uint8_t> bytes_of(const UnicodeString &units) {
+    const uint8_t *bytes = reinterpret_cast<const uint8_t *>(units.getBuffer());
+    return vector<uint8_t>(bytes, bytes + 2 * units.length());
+}
+
+// All three list the same keys.
+static void compare_keys(const List &list, const UnicodeString &units,
+                         const vector<uint8_t> &bytes) {
+    string ours(KEYS_ROOM, ' '), rust(KEYS_ROOM, ' ');
+    ours.resize(
+        std::min(ours.size(),
+                 ours_c16_keys(PARTS(bytes), reinterpret_cast<uint8_t *>(&ours[0]), ours.size())));
+    rust.resize(
+        std::min(rust.size(),
+                 rust_c16_keys(PARTS(bytes), reinterpret_cast<uint8_t *>(&rust[0]), rust.size())));
+    const string keys = icu_keys(units);
+    if (ours != keys || rust != keys) fail(list.name + ": the keys differ");
+}
+
+static void read(const List &list) {
+    const UnicodeString units = icu_units(list, USTRINGTRIE_BUILD_FAST);
+    const vector<uint8_t> bytes = bytes_of(units);
+    if (wanted("c16_iter")) {
+        compare_keys(list, units, bytes);
+        row(
+            "c16_iter", list.name, list.keys.size(), [&] { return ours_c16_iter(PARTS(bytes)); },
+            [&] { return rust_c16_iter(PARTS(bytes)); }, [&] { return icu_iter(units); });
+    }
+    if (!wanted("c16_look")) return;
+    for (bool along : {false, true})
+        row(
+            "c16_look", list.name + (along ? "-prefixes" : "-keys"), list.joined.size(),
+            [&] {
+                return ours_c16_look(PARTS(bytes), PARTS(list.joined), PARTS(list.ends), along);
+            },
+            [&] {
+                return rust_c16_look(PARTS(bytes), PARTS(list.joined), PARTS(list.ends), along);
+            },
+            [&] { return icu_look(units, list, along); });
+}
+
+// ICU's reader finds each value in the units that we build.
+static void build(const List &list) {
+    static vector<uint16_t> units(UNITS_ROOM);
+    auto ours = [&] {
+        return ours_c16_build(PARTS(list.joined), PARTS(list.ends), PARTS(list.values),
+                              PARTS(units));
+    };
+    const size_t count = ours();
+    if (count == 0 || count > units.size()) fail(list.name + ": no unit trie is built");
+    const UnicodeString fast = icu_units(list, USTRINGTRIE_BUILD_FAST);
+    const UnicodeString built(reinterpret_cast<const char16_t *>(units.data()), count);
+    if (icu_look(built, list, false) != icu_look(fast, list, false) ||
+        icu_keys(built) != icu_keys(fast))
+        fail(list.name + ": ICU reads other entries in the units");
+    row(
+        "c16_build", list.name, list.keys.size(), [&] { return ours(), 0; }, nullptr,
+        [&] { return icu_units(list, USTRINGTRIE_BUILD_FAST), 0; });
+    printf("units\t%s\t%zu\t%zu\t%d\t%d\n", list.name.c_str(), list.keys.size(), count,
+           fast.length(), icu_units(list, USTRINGTRIE_BUILD_SMALL).length());
+}
+
+void unit_tries() {
+    if (wanted("c16_iter") || wanted("c16_look"))
+        for (const List &list : {list_of("words", 10000, name), list_of("locales", 4000, locale),
+                                 list_of("emoji", 3000, emoji), list_of("han", 20000, han)})
+            read(list);
+    if (!wanted("c16_build")) return;
+    for (bool few : {false, true}) {
+        const string values = few ? "-4values" : "";
+        for (const List &list : {list_of("words" + values, 10000, name, few),
+                                 list_of("names" + values, 110000, name, few),
+                                 list_of("locales" + values, 4000, locale, few),
+                                 list_of("emoji" + values, 3000, emoji, few),
+                                 list_of("han" + values, 20000, han, few)})
+            build(list);
+    }
+    // Ten keys, the key k being 20,000 units k.
+    List tall = {"long10", {}, {}, {}, {}};
+    for (char16_t k = 1; k <= 10; k++) {
+        tall.keys.push_back(UnicodeString(20000, k, 20000));
+        tall.values.push_back(k);
+        tall.joined.insert(tall.joined.end(), 20000, k);
+        tall.ends.push_back(tall.joined.size());
+    }
+    build(tall);
+}

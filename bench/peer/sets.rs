@@ -1,0 +1,162 @@
+//! Sets of code points: inversion lists of packed ends.
+use crate::tries::over;
+use crate::{mixed, slice};
+
+/// An end as three bytes, lowest first.
+pub type Cell = [u8; 3];
+
+pub fn number(cell: &Cell) -> u32 {
+    u32::from_le_bytes([cell[0], cell[1], cell[2], 0])
+}
+
+/// A set over cells that it owns or borrows, with the number of its members.
+pub struct Set<C: AsRef<[Cell]>> {
+    cells: C,
+    size: u32,
+}
+
+impl<C: AsRef<[Cell]>> Set<C> {
+    /// The set of these ends, which have to ascend and to be an even number.
+    pub fn of_cells(cells: C) -> Self {
+        let ends = cells.as_ref();
+        assert!(
+            ends.len() % 2 == 0 && ends.windows(2).all(|pair| number(&pair[0]) < number(&pair[1]))
+        );
+        let size = ends.chunks(2).map(|pair| number(&pair[1]) - number(&pair[0])).sum();
+        Set { cells, size }
+    }
+
+    pub fn ends(&self) -> &[Cell] {
+        self.cells.as_ref()
+    }
+
+    /// The ranges, each with its first member and the code point past its last.
+    pub fn ranges(&self) -> impl ExactSizeIterator<Item = (u32, u32)> + '_ {
+        self.ends().chunks(2).map(|pair| (number(&pair[0]), number(&pair[1])))
+    }
+
+    /// Where the range begins in the list that holds `c`.
+    fn range_of(&self, c: u32) -> Option<usize> {
+        if c > 0xFF_FFFF {
+            return None;
+        }
+        match self.ends().binary_search_by(|end| number(end).cmp(&c)) {
+            Ok(place) => (place % 2 == 0).then_some(place),
+            Err(place) => (place % 2 != 0 && place < self.ends().len()).then(|| place - 1),
+        }
+    }
+
+    pub fn contains32(&self, c: u32) -> bool {
+        self.range_of(c).is_some()
+    }
+
+    pub fn contains(&self, c: char) -> bool {
+        self.range_of(c as u32).is_some()
+    }
+
+    /// How many members are below `c`, if it is one.
+    #[inline]
+    fn position32(&self, c: u32) -> Option<usize> {
+        let mut below = 0;
+        for (start, end) in self.ranges() {
+            if c < start {
+                return None;
+            }
+            if c < end {
+                return Some((below + (c - start)) as usize);
+            }
+            below += end - start;
+        }
+        None
+    }
+
+    /// As in the crate, but for the last code point of a range, which the crate lets lie one past
+    /// the range.
+    fn contains_set(&self, other: &Self) -> bool {
+        if other.size > self.size {
+            return false;
+        }
+        let mut others = other.ranges();
+        let mut wanted = others.next();
+        for (start, end) in self.ranges() {
+            loop {
+                let Some((from, till)) = wanted else {
+                    return true;
+                };
+                if from < start || till > end {
+                    break;
+                }
+                wanted = others.next();
+            }
+        }
+        wanted.is_none()
+    }
+
+    /// All ranges as one number.
+    pub fn mixed(&self) -> u64 {
+        self.ranges().fold(0, |sum, (start, end)| mixed(mixed(sum, start), end - 1))
+    }
+}
+
+/// # Safety
+/// The bytes are whole cells.
+pub unsafe fn set<'a>(bytes: *const u8, len: usize) -> Set<&'a [Cell]> {
+    Set::of_cells(unsafe { slice(bytes as *const Cell, len / 3) })
+}
+
+#[unsafe(no_mangle)]
+unsafe extern "C" fn rust_contains(
+    ends: *const u8,
+    len: usize,
+    points: *const u32,
+    count: usize,
+) -> u64 {
+    let (set, points) = unsafe { (set(ends, len), slice(points, count)) };
+    points.iter().map(|c| set.contains32(*c) as u64).sum()
+}
+
+#[unsafe(no_mangle)]
+unsafe extern "C" fn rust_contains_text(
+    ends: *const u8,
+    len: usize,
+    text: *const u8,
+    count: usize,
+) -> u64 {
+    let (set, text) = unsafe { (set(ends, len), slice(text, count)) };
+    std::str::from_utf8(text)
+        .map_or(u64::MAX, |text| text.chars().map(|c| set.contains(c) as u64).sum())
+}
+
+#[unsafe(no_mangle)]
+unsafe extern "C" fn rust_position(
+    ends: *const u8,
+    len: usize,
+    points: *const u32,
+    count: usize,
+) -> u64 {
+    let (set, points) = unsafe { (set(ends, len), slice(points, count)) };
+    points.iter().map(|c| set.position32(*c).unwrap_or(7) as u64).sum()
+}
+
+#[inline(never)]
+fn added_ranges(set: &Set<&[Cell]>, sum: u64) -> u64 {
+    set.ranges().fold(sum, |sum, (start, end)| sum + (start ^ 7) as u64 + (end - 1) as u64)
+}
+
+#[unsafe(no_mangle)]
+unsafe extern "C" fn rust_set_iter(ends: *const u8, len: usize, turns: usize) -> u64 {
+    let set = unsafe { set(ends, len) };
+    over(turns, |sum| added_ranges(&set, sum))
+}
+
+#[unsafe(no_mangle)]
+unsafe extern "C" fn rust_contains_set(
+    a: *const u8,
+    a_len: usize,
+    b: *const u8,
+    b_len: usize,
+    turns: usize,
+) -> u64 {
+    let (a, b) = unsafe { (set(a, a_len), set(b, b_len)) };
+    over(turns, |sum| sum + std::hint::black_box(&a).contains_set(&b) as u64)
+}

@@ -1,0 +1,58 @@
+#!/bin/sh
+# Measures this repository beside ICU4C and plain Rust, over the same data in one run, and prints markdown: the rows
+# of each kernel, and a summary. README.md says what is measured and how to read it.
+# Usage: bench/run.sh [KERNEL..]       a kernel's name or the front of it; none: all
+# TABLES=FOLDER adds the tables NAME.txt of a folder to those of tests/data. CODE=FOLDER keeps the machine code there.
+set -eu
+here=$(dirname -- "$(readlink -f -- "$0")")
+root=$here/..
+
+stop() { echo "bench: $1" >&2; exit 70; }
+command -v rt >/dev/null || stop "no rt: put the kit's folder bin on PATH"
+command -v rustc >/dev/null || stop "no rustc"
+command -v g++ >/dev/null || stop "no g++"
+command -v python3 >/dev/null || stop "no python3"
+echo '#include <unicode/ucptrie.h>' | g++ -x c++ -E - >/dev/null 2>&1 || stop "no ICU: install libicu-dev"
+kit=$(dirname -- "$(dirname -- "$(readlink -f -- "$(command -v rt)")")")
+
+work=$(mktemp -d)
+trap 'rm -rf "$work"' EXIT
+trap 'exit 130' INT TERM
+
+# The crate that the driver calls is no part of the repository, so it is built in a copy.
+crates="icu_zerovec icu_invlist icu_trie icu_trie_builder icu_char16trie icu_char16trie_builder"
+"$root/tests/stage.sh" "$work" "bench_ours staticlib: $crates" "$here/ours/lib.rt.txt" lib.rt
+for file in "$here"/ours/*.rt.txt; do
+    cp "$file" "$work/crates/bench_ours/src/$(basename "$file" .rt.txt).rt"
+done
+echo "bench: proves and builds; from a clean clone this takes some minutes" >&2
+if ! (cd "$work/crates/bench_ours" && rt lib) >"$work/log" 2>&1; then
+    tail -n 20 "$work/log" >&2
+    stop "rt lib failed"
+fi
+ours=$work/crates/bench_ours/out/libbench_ours.a
+rust=$work/libpeer.a
+rustc --edition 2024 -O -C target-cpu=x86-64-v2 -C panic=abort --crate-type staticlib -o "$rust" "$here/peer/lib.rs"
+for file in "$here"/driver/*.cpp; do
+    g++ -std=c++17 -O3 -march=x86-64-v2 -c -o "$work/$(basename "$file" .cpp).o" "$file"
+done
+if [ -n "${CODE:-}" ]; then
+    mkdir -p "$CODE"
+    objdump -dC --no-show-raw-insn "$ours" >"$CODE/ours.s"
+    objdump -dC --no-show-raw-insn "$rust" >"$CODE/rust.s"
+    objdump -dC --no-show-raw-insn "$work"/*.o >"$CODE/icu.s"
+fi
+
+# Where a loop stands in memory may cost it a half more on some processors, so all code is measured at four places.
+set -- -- "$@"
+for table in "$root"/tests/data/*.runs.txt ${TABLES:+"$TABLES"/*.runs.txt}; do
+    set -- "${table%.runs.txt}.txt" "$@"
+done
+for shift in 0 16 32 48; do
+    printf '.section .note.GNU-stack,"",@progbits\n.text\n.p2align 6\n.fill %d\n' "$shift" |
+        gcc -x assembler -c -o "$work/shift" -
+    g++ -o "$work/bench" "$work/shift" "$work"/*.o "$ours" "$rust" "$kit/c/liblibc_c.a" -licuuc
+    echo "bench: measures, our code $shift bytes past a multiple of 64" >&2
+    "$work/bench" "$@" >"$work/measured.$shift"
+done
+python3 "$here/report.py" "$work"/measured.*

@@ -1,0 +1,42 @@
+//! Prints the ranges of the first trie of the file `trie.toml` where it runs, as ICU's
+//! icuexportdata writes it, for `tests/exported/run.sh`. Where there is no such trie, as in the
+//! gate, it prints nothing, and the status is 1.
+#![tactic(auto)]
+
+use icu_trie::cptrie::CodePointTrie;
+use icu_trie_formats::trie_toml::CodePointTrieToml;
+use std::fs;
+use std::process::ExitCode;
+use toml::{Table, Value};
+
+/// The table of the first property's trie.
+fn trie_table(file: &Table) -> Option<&Table> {
+    let property = file.get("enum_property")?.as_array()?.first()?;
+    property.as_table()?.get("code_point_trie")?.as_table()
+}
+
+/// The trie of a file.
+fn trie_of(rt: &HostRuntime) -> Option<CodePointTrie<'static, u32>> {
+    let text = fs::read_to_string(rt, "trie.toml").ok()?;
+    let file = toml::table_from_str(rt.alloc(), &text).ok()?;
+    let trie = CodePointTrieToml::from_table(rt.alloc(), trie_table(&file)?).ok()?;
+    CodePointTrie::try_from(&trie).ok()
+}
+
+fn main(rt: HostRuntime) -> ExitCode {
+    let Some(trie) = trie_of(&rt) else {
+        return ExitCode::from(1);
+    };
+    for range in trie.iter_ranges() {
+        let (first, last) = (*range.range.start(), *range.range.end());
+        let printed = if first == last {
+            println!(rt; "{first:04X};{}", range.value)
+        } else {
+            println!(rt; "{first:04X}..{last:04X};{}", range.value)
+        };
+        if printed.is_err() {
+            return ExitCode::from(2);
+        }
+    }
+    ExitCode::from(0)
+}

@@ -1,0 +1,15 @@
+use Rattle.std.proofs.Common.{suc, ◌-◌, ◌*◌, ◌+◌, ◌<◌, ◌≤◌, length}
+use Rattle.icu_invlist.specs.Inside.Places.{below}
+use Rattle.icu_invlist.proofs.codepointinvlist.cpinvlist.CodePointInversionList.place_past.Given as goal
+
+abbrev pub invariant-loop-low : goal.invariant-loop-low
+invariant-loop-low l = record {
+  from : l.low ≤ below l.self (suc l.c);
+  most : below l.self (suc l.c) ≤ length l.self;
+  some : 0 < l.size;
+  small : l.size ≤ 2 * length l.self + 4;
+  bounded : length l.self ≤ 0x110001;
+}
+
+abbrev pub decreases-loop-low : goal.decreases-loop-low
+decreases-loop-low l = length l.self - l.low

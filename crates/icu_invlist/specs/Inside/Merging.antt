@@ -1,0 +1,24 @@
+-- A walk over the ends of two sets in ascending order, which makes the list of a third.
+use Rattle.std.specs.Prelude.{ℕ, suc, ◌+◌, ◌<◌, ◌≤◌, ◌≡◌, ◌⊎◌, List, length, slice_index, Bool}
+use Rattle.icu_invlist.specs.InversionList.{holds, is_odd, limit}
+use Rattle.icu_invlist.specs.Inside.Places.{Run, below}
+
+-- The ends below `passed` are passed: i of a and j of b. The ends in `out` are those of f of the
+-- two sets, as far as the walk has come
+pub record Merging (f : Bool → Bool → Bool) (a b out : List ℕ) (passed i j : ℕ) : Type 0 where
+  pub first : i ≡ below a passed
+  pub second : j ≡ below b passed
+  pub run : Run 0 passed out
+  pub small : passed ≤ suc limit
+  pub parity : is_odd (length out) ≡ f (is_odd i) (is_odd j)
+  pub set : (c : ℕ) → c < passed → holds out c ≡ f (holds a c) (holds b c)
+
+-- the same, wherever the walk has come to
+pub record Merged (f : Bool → Bool → Bool) (a b out : List ℕ) (i j : ℕ) : Type 0 where
+  pub passed : ℕ
+  pub so_far : Merging f a b out passed i j
+
+-- the place i among xs moves on to p over the end n: by one if n stands there, and else it stays
+pub record MovesOver (n : ℕ) (xs : List ℕ) (i p : ℕ) : Type 0 where
+  pub least : n ≤ slice_index xs i
+  pub place : (slice_index xs i ≡ n) × (p ≡ i + 1) ⊎ (n < slice_index xs i) × (p ≡ i)

@@ -1,0 +1,19 @@
+-- Words for the places of a list of ends, in which the private functions that search and change one
+-- promise their work. No public contract has them.
+use Rattle.std.specs.Prelude.{ℕ, suc, ◌<◌, ◌≤◌, ◌≡◌, List, [], ◌∷◌, Bool, cond, nat_lt}
+use Rattle.icu_invlist.specs.InversionList.{holds, between}
+
+-- the numbers rise strictly, from lo on and below hi
+abbrev pub Run : ℕ → ℕ → List ℕ → Type 0
+Run lo hi [] = Unit {0}
+Run lo hi (x ∷ xs) = (lo ≤ x) × (x < hi) × Run (suc x) hi xs
+
+-- how many numbers stand below c
+abbrev pub below : List ℕ → ℕ → ℕ
+below [] c = 0
+below (x ∷ xs) c = cond (nat_lt x c) (suc (below xs c)) (below xs c)
+
+-- from start to before end the set gives the answer `value`, and elsewhere what it gave
+abbrev pub IsFilled : List ℕ → ℕ → ℕ → Bool → List ℕ → Type 0
+IsFilled old start end value new = (c : ℕ)
+    → holds new c ≡ cond (between start end c) value (holds old c)

@@ -1,0 +1,4 @@
+-- Words that the functions inside the crate and their proofs need. No public contract cites them.
+pub mod StringPlaces
+pub mod StringFaults
+pub mod JsonParts

@@ -1,4 +1,0 @@
-use Rattle.icu_trie.proofs.cptrie.walk_in.Given as goal
-
-abbrev pub ghosts-walk_counted : goal.ghosts-walk_counted
-ghosts-walk_counted g a = record { name = a.blank.name; parts = a.blank.parts }

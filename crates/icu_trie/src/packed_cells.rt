@@ -1,0 +1,197 @@
+//! The cells of two packed vectors, and what is read through them alone.
+ghost use Rattle.std.specs.Prelude.{◌≡◌, ℕ, ◌<◌, ◌≤◌, List, length, Some, IfSome, IfNone, IsSomeAnd, false};
+ghost use Rattle.icu_trie_core.specs.Coherence.{IsCoherent};
+ghost use Rattle.icu_trie_core.specs.FastIndex.{passes_data, fast_index_len};
+ghost use Rattle.icu_trie_core.specs.Format.{answer, fast_limit};
+ghost use Rattle.icu_trie_core.specs.Range.{GivesWalk, last_of};
+ghost use Rattle.icu_trie_core.specs.Runs.{LongestRun};
+ghost use Rattle.icu_zerovec.specs.Slice.{slice_values};
+
+use icu_trie_core::cells::{Cells, Steps};
+use icu_trie_core::header::CodePointTrieHeader;
+use icu_trie_core::lookup::{look_up_far, look_up_near};
+use icu_trie_core::range::CodePointMapRange;
+use icu_trie_core::value::TrieValue;
+use icu_trie_core::walk::walk;
+use icu_zerovec::ZeroSlice;
+use std::marker::Brand;
+use std::sync::ledger::{Blank, Ledger};
+
+/// The cells of two packed vectors.
+#[derive(Drop)]
+pub(crate) struct PackedCells<'a, T: TrieValue, L: Ledger> {
+    pub(crate) index: ZeroSlice<'a, u16>,
+    pub(crate) values: ZeroSlice<'a, T>,
+    pub(crate) reads: Steps<L>,
+}
+
+impl<'a, T: TrieValue, L: Ledger> Cells<T> for PackedCells<'a, T, L> {
+    ghost index = { λ cells. slice_values cells.index };
+
+    ghost values = { λ cells. slice_values cells.values };
+
+    ghost reads = { λ cells. cells.reads };
+
+    #[inline(always)]
+    fn index_len(&self) -> usize {
+        self.index.len()
+    }
+
+    #[inline(always)]
+    fn data_len(&self) -> usize {
+        self.values.len()
+    }
+
+    #[inline(always)]
+    fn index_cell(&mut self, i: usize) -> Option<u16> {
+        self.reads.tick();
+        self.index.get(i)
+    }
+
+    #[inline(always)]
+    fn data_cell(&mut self, i: usize) -> Option<T> {
+        self.reads.tick();
+        self.values.get(i)
+    }
+
+    #[inline(always)]
+    fn index_at(&mut self, i: usize) -> u16 {
+        self.reads.tick();
+        self.index.at(i)
+    }
+
+    #[inline(always)]
+    fn data_at(&mut self, i: usize) -> T {
+        self.reads.tick();
+        self.values.at(i)
+    }
+}
+
+/// `look_up_near` over packed vectors, with a count in the ledger of `blank`.
+#[inline(always)]
+fn look_up_near_counted<T: TrieValue, L: Ledger>(
+    header: &CodePointTrieHeader,
+    index: ZeroSlice<'_, u16>,
+    values: ZeroSlice<'_, T>,
+    c: u32,
+    blank: Blank,
+) -> Option<T>
+    requires name { blank.name ≡ L.name }
+    requires parts { blank.parts ≡ L.parts }
+    requires some { 0 < blank.parts }
+    requires fast_index { fast_index_len header.now.trie_type ≤ length (slice_values index) }
+    requires blocks { passes_data header.now.trie_type (slice_values index)
+        (length (slice_values values)) ≡ false }
+    ensures answer { IfSome result
+        (λ x. answer header.now (slice_values index.entry) (slice_values values.entry) c ≡ Some x) }
+    ensures none { IfNone result (fast_limit header.now.trie_type ≤ c) }
+{
+    let mut cells = PackedCells {
+        index,
+        values,
+        reads: Steps::<L>::new(blank),
+    };
+    look_up_near(header, &mut cells, c)
+}
+
+/// `look_up_near` over packed vectors. Counts in a ledger of its own, which is then dropped.
+#[inline(always)]
+pub(crate) fn look_up_near_in<T: TrieValue>(
+    header: &CodePointTrieHeader,
+    index: ZeroSlice<'_, u16>,
+    values: ZeroSlice<'_, T>,
+    c: u32,
+) -> Option<T>
+    requires fast_index { fast_index_len header.now.trie_type ≤ length (slice_values index) }
+    requires blocks { passes_data header.now.trie_type (slice_values index)
+        (length (slice_values values)) ≡ false }
+    ensures answer { IfSome result
+        (λ x. answer header.now (slice_values index.entry) (slice_values values.entry) c ≡ Some x) }
+    ensures none { IfNone result (fast_limit header.now.trie_type ≤ c) }
+{
+    look_up_near_counted::<T, Brand>(header, index, values, c, Blank::new(1))
+}
+
+/// `look_up_far` over packed vectors, with a count in the ledger of `blank`.
+#[inline(always)]
+fn look_up_far_counted<T: TrieValue, L: Ledger>(
+    header: &CodePointTrieHeader,
+    index: ZeroSlice<'_, u16>,
+    values: ZeroSlice<'_, T>,
+    c: u32,
+    blank: Blank,
+) -> Option<T>
+    requires name { blank.name ≡ L.name }
+    requires parts { blank.parts ≡ L.parts }
+    requires some { 0 < blank.parts }
+    requires far { fast_limit header.now.trie_type ≤ c }
+    ensures { result ≡ answer header.now (slice_values index.entry) (slice_values values.entry) c }
+{
+    let mut cells = PackedCells {
+        index,
+        values,
+        reads: Steps::<L>::new(blank),
+    };
+    look_up_far(header, &mut cells, c)
+}
+
+/// `look_up_far` over packed vectors. Counts in a ledger of its own, which is then dropped.
+#[inline(always)]
+pub(crate) fn look_up_far_in<T: TrieValue>(
+    header: &CodePointTrieHeader,
+    index: ZeroSlice<'_, u16>,
+    values: ZeroSlice<'_, T>,
+    c: u32,
+) -> Option<T>
+    requires { fast_limit header.now.trie_type ≤ c }
+    ensures { result ≡ answer header.now (slice_values index.entry) (slice_values values.entry) c }
+{
+    look_up_far_counted::<T, Brand>(header, index, values, c, Blank::new(1))
+}
+
+/// `walk` over packed vectors, with a count in the ledger of `blank`.
+fn walk_counted<T: TrieValue, L: Ledger>(
+    header: &CodePointTrieHeader,
+    index: ZeroSlice<'_, u16>,
+    values: ZeroSlice<'_, T>,
+    c: u32,
+    blank: Blank,
+) -> Option<CodePointMapRange<T>>
+    requires name { blank.name ≡ L.name }
+    requires parts { blank.parts ≡ L.parts }
+    requires some { 0 < blank.parts }
+    ensures gives { GivesWalk T.of_number header.now (slice_values index.entry)
+        (slice_values values.entry) c result }
+    ensures longest { IsCoherent T.of_number header.now (slice_values index.entry)
+        (slice_values values.entry) → c < 0x110000
+        → IsSomeAnd result
+        (λ r. LongestRun
+        (answer header.now (slice_values index.entry) (slice_values values.entry)) c (last_of r)
+        (Some r.value)) }
+{
+    let mut cells = PackedCells {
+        index,
+        values,
+        reads: Steps::<L>::new(blank),
+    };
+    walk(header, &mut cells, c)
+}
+
+/// `walk` over packed vectors. Counts in a ledger of its own, which is then dropped.
+pub(crate) fn walk_in<T: TrieValue>(
+    header: &CodePointTrieHeader,
+    index: ZeroSlice<'_, u16>,
+    values: ZeroSlice<'_, T>,
+    c: u32,
+) -> Option<CodePointMapRange<T>>
+    ensures gives { GivesWalk T.of_number header.now (slice_values index.entry)
+        (slice_values values.entry) c result }
+    ensures longest { IsCoherent T.of_number header.now (slice_values index.entry)
+        (slice_values values.entry) → c < 0x110000
+        → IsSomeAnd result
+        (λ r. LongestRun
+        (answer header.now (slice_values index.entry) (slice_values values.entry)) c (last_of r)
+        (Some r.value)) }
+{
+    walk_counted::<T, Brand>(header, index, values, c, Blank::new(1))
+}

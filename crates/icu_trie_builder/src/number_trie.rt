@@ -1,0 +1,79 @@
+//! A trie over numbers, built as a whole.
+ghost use Rattle.std.specs.Prelude.{◌≡◌, ℕ, Bool, true, slice_index, IfOk};
+ghost use Rattle.std.specs.List.{AllPass};
+ghost use Rattle.icu_trie_builder.specs.Bounds.{IsTooLarge};
+ghost use Rattle.icu_trie_builder.specs.Inside.NumberTrie.{IsNumberTrie};
+ghost use Rattle.icu_trie_compaction.specs.declared.error.BuildError.TheVariants.{TooLarge};
+
+use crate::data::{PlacedData, place_data};
+use crate::error::BuildError;
+use icu_trie::header::{CodePointTrieHeader, TrieType};
+use icu_trie_compaction::index::build_index;
+use icu_trie_map::number_map::NumberMap;
+use std::alloc::Global;
+
+/// The parts of a trie whose values are numbers.
+#[derive(Drop)]
+pub(crate) struct NumberTrie {
+    /// What the trie says of itself.
+    pub(crate) header: CodePointTrieHeader,
+    /// The cells that lead from a code point to its place in `values`.
+    pub(crate) index: Vec<u16>,
+    /// The data, the high value and the error value last.
+    pub(crate) values: Vec<u32>,
+}
+
+/// The trie of a map that is given by the number of each code point, with `error` for what is above
+/// the code space. The header's null value is that of the null block, and `default` where there is
+/// none.
+///
+/// # Errors
+///
+/// `TooLarge` at the first offset that does not fit its cell, `Memory` where memory is refused.
+pub(crate) fn build_numbers(
+    alloc: Global,
+    numbers: &NumberMap,
+    error: u32,
+    default: u32,
+    trie_type: TrieType,
+) -> Result<NumberTrie, BuildError>
+    ensures built { IfOk result (λ t.
+        IsNumberTrie (λ c. slice_index numbers.now c) error t.header t.index.items t.values.items) }
+    ensures trie_type { IfOk result (λ t. t.header.trie_type ≡ trie_type) }
+    ensures null_value { IfOk result (λ t. (p : ℕ → Bool) → AllPass p numbers.now → p default ≡ true
+        → p t.header.null_value ≡ true) }
+
+    // Each cell is a number of the map or the error value.
+    ensures drawn { IfOk result (λ t. (p : ℕ → Bool) → AllPass p numbers.now → p error ≡ true
+        → AllPass p t.values.items) }
+    ensures too_large { result ≡ Err TooLarge → IsTooLarge (λ c. slice_index numbers.now c) }
+{
+    let high_start = numbers.high_start();
+    let PlacedData {
+        values,
+        fast,
+        small,
+        null,
+    } = place_data(alloc, numbers, error, default, trie_type, high_start)?;
+    let built = build_index(
+        alloc,
+        trie_type,
+        high_start,
+        &fast,
+        &small,
+        null.offset as usize,
+    )?;
+    let header = CodePointTrieHeader {
+        high_start: high_start as u32,
+        shifted12_high_start: high_start.div_ceil(0x1000) as u16,
+        index3_null_offset: built.null_offset,
+        data_null_offset: null.offset,
+        null_value: null.value,
+        trie_type,
+    };
+    Ok(NumberTrie {
+        header,
+        index: built.cells,
+        values,
+    })
+}

@@ -1,0 +1,70 @@
+-- What a walk knows on its way.
+use Rattle.std.specs.Prelude.{◌≡◌, ◌≢◌, ℕ, ◌+◌, ◌*◌, ◌/◌, ◌%◌, ◌<◌, ◌≤◌, nat_eq, List, Option, Some, None, slice_get, if◌then◌else◌, IsSomeAnd, MatchOption}
+use Rattle.std.specs.Option.{option_and_then}
+use Rattle.icu_trie_core.specs.declared.header.CodePointTrieHeader.{CodePointTrieHeader}
+use Rattle.icu_trie_core.specs.Format.{offset_in_block}
+
+-- the cells of a data block
+abbrev pub block_cells : {A : Type 0} → List A → ℕ → ℕ → Option A
+block_cells values offset i = slice_get values (offset + i)
+
+-- what a walk sees at place i of the data block at an offset: the null value where the header names
+-- the block as null, else the cell
+abbrev pub block_seen : {A : Type 0} → (ℕ → Option A) → CodePointTrieHeader → List A → ℕ → ℕ
+    → Option A
+block_seen of_number h values offset i =
+    if nat_eq offset h.data_null_offset then of_number h.null_value
+    else slice_get values (offset + i)
+
+-- what a walk sees at place i of the 32 blocks of 16 that an index-3 block names
+abbrev pub blocks_seen : {A : Type 0} → (ℕ → Option A) → CodePointTrieHeader → List ℕ → List A → ℕ
+    → ℕ → Option A
+blocks_seen of_number h index values cell i =
+    option_and_then (λ offset. block_seen of_number h values offset (i % 16))
+    (offset_in_block index cell (i / 16))
+
+-- what a walk sees at place i of a block of 512 with this index-2 cell
+unfoldable pub cell_seen : {A : Type 0} → (ℕ → Option A) → CodePointTrieHeader → List ℕ → List A → ℕ
+    → ℕ → Option A
+cell_seen of_number h index values cell i =
+    if nat_eq cell h.index3_null_offset then of_number h.null_value
+    else blocks_seen of_number h index values cell i
+
+module _ {A : Type 0} (sees : ℕ → Option A) where
+  -- each place from start up to before end is the value
+  abbrev pub Holds : ℕ → ℕ → A → Type 0
+  Holds start end value = (u : ℕ) → start ≤ u → u < end → sees u ≡ Some value
+
+  -- from start on the value goes up to before end, where another one is or the limit
+  pub record EndsAt (start limit : ℕ) (value : A) (end : ℕ) : Type 0 where
+    pub begun : start ≤ end
+    pub within : end ≤ limit
+    pub equal : Holds start end value
+    pub differs : end < limit → IsSomeAnd (sees end) (λ y. y ≢ value)
+
+  -- from start on the value goes up to a place below the limit at which nothing is seen
+  pub record BreaksOff (start limit : ℕ) (value : A) : Type 0 where
+    pub place : ℕ
+    pub begun : start ≤ place
+    pub within : place < limit
+    pub equal : Holds start place value
+    pub missing : sees place ≡ None
+
+  -- how far the value goes from start on, none where it breaks off
+  abbrev pub Reaches : ℕ → ℕ → A → Option ℕ → Type 0
+  Reaches start limit value r =
+      MatchOption r (BreaksOff start limit value) (EndsAt start limit value)
+
+-- where a name, as an offset, is remembered, the first k places that it names hold the value
+abbrev pub IsRemembered : {A : Type 0} → (ℕ → ℕ → Option A) → ℕ → Option ℕ → A → Type 0
+IsRemembered sees k remembered value = (name : ℕ) → remembered ≡ Some name
+    → Holds (sees name) 0 k value
+
+-- the blocks of 16 that an index-3 block names have one offset where they see alike
+abbrev pub SharesBlocks : {A : Type 0} → (ℕ → Option A) → CodePointTrieHeader → List ℕ → List A → ℕ
+    → Type 0
+SharesBlocks of_number h index values cell = (p q : ℕ) → p < 32 → q < 32
+    → ((i : ℕ) → i < 16
+    → cell_seen of_number h index values cell (p * 16 + i)
+    ≡ cell_seen of_number h index values cell (q * 16 + i))
+    → offset_in_block index cell p ≡ offset_in_block index cell q
