@@ -50,6 +50,22 @@ fn reads_quiet(rt: HostRuntime) {
     expect_same(&rt, lengths, Some((Some(1), 64, 66)), "lengths");
 }
 
+/// The first code point past the fast index of a type, and how many cells that index has.
+fn fast_index_of(trie_type: TrieType) -> (u32, usize) {
+    (trie_type.fast_limit(), trie_type.fast_index_len())
+}
+
+/// Calls: `TrieType::fast_limit`, `TrieType::fast_index_len`.
+#[test]
+fn fast_indices_quiet(rt: HostRuntime) {
+    say(&rt, "call");
+    let fast = fast_index_of(TrieType::Fast);
+    let small = fast_index_of(TrieType::Small);
+    say(&rt, "done");
+    expect_same(&rt, fast, (0x10000, 1024), "fast index of a fast trie");
+    expect_same(&rt, small, (0x1000, 64), "fast index of a small trie");
+}
+
 /// How many ranges there are, how many of them have the value 2, how many are left where all have
 /// one value, and the last code point of the first.
 fn ranges_of(trie: &CodePointTrie<'_, u8>) -> (usize, usize, usize, Option<u32>) {
