@@ -24,7 +24,7 @@ use std::env;
 use std::process::ExitCode;
 use std::time::CpuClock;
 
-/// The words behind the program's name.
+/// The words after the program's name.
 fn words(rt: &HostRuntime) -> Result<Vec<String>> {
     Ok(env::args(rt)?.skip(1).collect(rt.alloc())?)
 }

@@ -8,7 +8,7 @@ use icu_zerovec::ZeroVec;
 use std::alloc::{AllocError, Global};
 use std::ops::RangeInclusive;
 
-/// The range starts behind the one before it, and ends within the code points.
+/// The range starts after the one before it, and ends within the code points.
 fn follows(range: &RangeInclusive<u32>, start: u32) -> bool {
     let (first, last) = (*range.start(), *range.end());
     start <= first && first <= last && last < 0x11_0000
@@ -96,11 +96,11 @@ fn has_strings(set: &CodePointInversionListAndStringList<'_>) -> bool {
     let mut before: Option<&str> = None;
     for string in set.strings() {
         let text = string.as_str();
-        let is_behind = match before {
+        let is_after = match before {
             Some(other) => other < text,
             None => true,
         };
-        if !is_behind || !set.contains_str(text) {
+        if !is_after || !set.contains_str(text) {
             return false;
         }
         before = Some(text);

@@ -10,10 +10,9 @@ use std::alloc::{AllocError, Global};
 use std::{fs, io, str};
 
 /// The files of the stored forms that are texts: the tries that ICU builds of
-/// `tests/excerpt/table.txt`, as
-/// `tests/exported/export.c` writes them, and the first of them in JSON; the first upper-case
-/// letters; the letters of Hungarian; and what ICU's builder writes for six keys, each with a
-/// longer one.
+/// `tests/excerpt/table.txt`, as `tests/exported/export.c` writes them, and the first of them in
+/// JSON; the first upper-case letters; the letters of Hungarian; and what ICU's builder writes for
+/// six keys, each with a longer one.
 const FILES: [&str; 6] = [
     "small_trie.toml",
     "fast_trie.toml",

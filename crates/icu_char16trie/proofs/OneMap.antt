@@ -4,9 +4,9 @@ use Rattle.std.specs.Int.{cast_signed, w32}
 use Rattle.icu_char16trie.specs.Grammar.{Part, last, entry, split, UnitsFrom, IsAscending, branch_len, branch_start, Holds, final, plain, valued, Matches, run, branch, Children, none, more, IsTrieOf}
 use Rattle.icu_char16trie.specs.Grammar as grammar
 use Rattle.icu_char16trie.specs.UnitMap.{under, KeyBelow, KeyBelowAll, IsAscendingKeys}
-use Rattle.icu_char16trie.proofs.PartLaws.{last_is, entry_found, split_found}
-use Rattle.icu_char16trie.proofs.NodeLaws.{run_first, matches_run, matches_branch, holds_final, holds_plain, holds_valued, holds_within}
-use Rattle.icu_char16trie.proofs.TaskLaws.{children_cons, children_nil}
+use Rattle.icu_char16trie.proofs.PartLemmas.{last_is, entry_found, split_found}
+use Rattle.icu_char16trie.proofs.NodeLemmas.{run_first, matches_run, matches_branch, holds_final, holds_plain, holds_valued, holds_within}
+use Rattle.icu_char16trie.proofs.EntryLemmas.{children_cons, children_nil}
 
 some_eq : (a b : ℕ) → ◌≡◌ {A = Option ℕ} (Some b) (Some a) → a ≡ b
 some_eq a b h = cc

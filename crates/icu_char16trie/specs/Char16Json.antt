@@ -1,10 +1,11 @@
 -- The units that a JSON value says: an object with an array of whole numbers up to 65535 at the key
--- `data` or
--- `trie_data`.
-use Rattle.std.specs.Prelude.{ℕ, ◌+◌, List, [], ◌∷◌, Option, Some, None, Result, Ok, Err, nat_lt, if◌then◌else◌, option_and_then, map, codes}
+-- `data` or `trie_data`.
+use Rattle.std.specs.Prelude.{ℕ, List, [], ◌∷◌, Option, Some, None, Result, Err, nat_lt, if◌then◌else◌, option_and_then, map, codes}
+use Rattle.std.specs.Option.{ok_or}
 use Rattle.serde_json.specs.Data.{Data, null, boolean, number, string, array, object, unsigned, Items, no_items, item, no_members, member}
 use Rattle.serde_json.specs.Find.{get, as_number, as_u64}
 use Rattle.serde_json.specs.View.{items_of}
+use Rattle.icu_zerovec.specs.FirstFault.{read_from}
 use Rattle.icu_char16trie.specs.declared.json.Char16JsonError.{Char16JsonError}
 use Rattle.icu_char16trie.specs.declared.json.Char16JsonError.TheVariants as errors
 
@@ -13,24 +14,22 @@ abbrev pub unit_of : Data → Option ℕ
 unit_of d = option_and_then (λ n. if nat_lt n 0x1_0000 then Some n else None)
     (option_and_then as_u64 (as_number d))
 
--- the unit that stands at i, if it is one, before the others
-abbrev pub unit_before : ℕ → Option ℕ → Result (List ℕ) Char16JsonError
-    → Result (List ℕ) Char16JsonError
-unit_before i None others = Err (errors.Number i)
-unit_before i (Some u) (Ok units) = Ok (u ∷ units)
-unit_before i (Some u) (Err e) = Err e
+-- the unit that the item at i is, or its fault
+abbrev pub unit_or : ℕ → Data → Result ℕ Char16JsonError
+unit_or i d = ok_or (unit_of d) (errors.Number i)
 
--- the units that items say, of which the first stands at i, or the first fault
-unfoldable pub units_from : ℕ → Items → Result (List ℕ) Char16JsonError
-units_from i no_items = Ok []
-units_from i (item d items) = unit_before i (unit_of d) (units_from (i + 1) items)
+-- items as a list
+abbrev pub list_of : Items → List Data
+list_of no_items = []
+list_of (item d items) = d ∷ list_of items
 
+-- the units that an array says, or its first fault
 abbrev pub units_in : Data → Result (List ℕ) Char16JsonError
 units_in null = Err errors.Shape
 units_in (boolean b) = Err errors.Shape
 units_in (number n) = Err errors.Shape
 units_in (string s) = Err errors.Shape
-units_in (array items) = units_from 0 items
+units_in (array items) = read_from unit_or 0 (list_of items)
 units_in (object ms) = Err errors.Shape
 
 -- one of two members has to be there, and not both

@@ -1,10 +1,11 @@
 pub mod Numbers
 pub mod Grammar
 pub mod UnitMap
-pub mod Places
+pub mod UnitPlaces
 pub mod Steps
 pub mod Passed
 pub mod LossyText
-pub mod Tasks
+pub mod Pending
 pub mod Entries
 pub mod Char16Json
+pub mod Inside

@@ -1,7 +1,7 @@
 -- What a cursor has passed, and what it answers then.
 use Rattle.std.specs.Prelude.{◌≡◌, ℕ, ℤ, Bool, true, false, List, ◌++◌, Option, Some, None}
 use Rattle.icu_char16trie.specs.UnitMap.{UnitMap}
-use Rattle.icu_char16trie.specs.Places.{At, IsAfter, value_at, is_empty_at}
+use Rattle.icu_char16trie.specs.UnitPlaces.{At, IsAfter, value_at, is_empty_at}
 use Rattle.icu_char16trie.specs.Steps.{StepsAlong}
 use Rattle.icu_char16trie.specs.declared.iterator.TrieResult.{TrieResult}
 use Rattle.icu_char16trie.specs.declared.iterator.TrieResult.TheVariants.{NoMatch, NoValue, FinalValue, Intermediate}

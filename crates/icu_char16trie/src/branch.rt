@@ -5,7 +5,7 @@ ghost use Rattle.icu_char16trie.specs.Grammar.{Arms, Part};
 ghost use Rattle.icu_char16trie.specs.UnitMap.{arm_of};
 ghost use Rattle.icu_char16trie.specs.Steps.{InRow, InPart};
 
-use crate::numbers::{delta_end, entry_child, lower_part, short_end, unit_at};
+use crate::encoded::{delta_end, entry_child, lower_part, short_end, unit_at};
 use icu_zerovec::ZeroSlice;
 
 /// The place of the node of the entry with this unit, in a row of at most five entries.
@@ -35,7 +35,7 @@ fn child_in_row(units: ZeroSlice<'_, u16>, place: usize, length: usize, unit: u1
 }
 
 /// The place of the node of the entry with this unit, in a part of a branch.
-pub fn child_in_part(
+pub(crate) fn child_in_part(
     units: ZeroSlice<'_, u16>,
     place: usize,
     length: usize,

@@ -3,7 +3,7 @@ ghost use Rattle.std.specs.Prelude.{◌≡◌, ℕ, ℤ, List, [], ◌∷◌, �
 ghost use Rattle.icu_zerovec.specs.Slice.{slice_values};
 ghost use Rattle.icu_char16trie.specs.Grammar.{IsTrieOf};
 ghost use Rattle.icu_char16trie.specs.UnitMap.{UnitMap, value_of, goes_on};
-ghost use Rattle.icu_char16trie.specs.Places.{IsAfter, value_at, is_empty_at};
+ghost use Rattle.icu_char16trie.specs.UnitPlaces.{IsAfter, value_at, is_empty_at};
 ghost use Rattle.icu_char16trie.specs.Steps.{StepsTo, StepsAlong};
 ghost use Rattle.icu_char16trie.specs.Passed.{Passes};
 ghost use Rattle.std.specs.Char.Escape.{encode_utf16};
@@ -18,10 +18,9 @@ use std::marker::Model;
 /// A cursor into the units of a trie, for look-up unit by unit.
 ///
 /// A clause sees the units and the place where the cursor stands, and says what it has passed:
-/// after the units
-/// `w` from the root of the map `m` its value is that of the key `w`, and it is empty where no key
-/// goes on beyond `w`. On all units its steps are those of the format, where a unit that is needed
-/// and is not there is no match.
+/// after the units `w` from the root of the map `m` its value is that of the key `w`, and it is
+/// empty where no key goes on beyond `w`. On all units its steps are those of the format, where a
+/// unit that is needed and is not there is no match.
 #[derive(Clone, Debug, Drop)]
 pub struct Char16TrieCursor<'a> {
     units: ZeroSlice<'a, u16>,
@@ -30,7 +29,7 @@ pub struct Char16TrieCursor<'a> {
 
 impl<'a> Model for Char16TrieCursor<'a> {
     ghost use Rattle.icu_zerovec.specs.Slice.{slice_values};
-    ghost use Rattle.icu_char16trie.specs.Places.{At, IsNear};
+    ghost use Rattle.icu_char16trie.specs.UnitPlaces.{At, IsNear};
 
     ghost Value = { At };
 
@@ -54,7 +53,7 @@ impl<'a> Char16TrieCursor<'a> {
     }
 
     /// One more unit. After no match nothing changes.
-    #[inline]
+    #[inline(always)]
     pub fn step16(&mut self, unit: u16)
         ensures units { self.new.units ≡ self.old.units }
         ensures exact { StepsTo self.old.units self.old.place unit self.new.place }

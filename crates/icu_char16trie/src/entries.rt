@@ -1,13 +1,7 @@
 //! The entries of a trie, in unit order.
-ghost use Rattle.std.specs.Prelude.{length};
-ghost use Rattle.std.specs.Iterator.{at_most};
-ghost use Rattle.icu_zerovec.specs.Slice.{slice_values};
-ghost use Rattle.icu_char16trie.specs.UnitMap.{UnitMap};
-ghost use Rattle.icu_char16trie.specs.Entries.{GivesNext};
-ghost use Rattle.icu_char16trie.specs.Tasks.{work_left, with_root};
+ghost use Rattle.icu_char16trie.specs.Inside.Cuts.{IsCut, IsCut-prop};
 
-use crate::task::{Task, Work};
-use crate::tasks::next_item;
+use crate::pending::Pending;
 use icu_zerovec::{MemoryError, ZeroSlice};
 use std::alloc::Global;
 
@@ -19,60 +13,41 @@ use std::alloc::Global;
 #[derive(Debug, Drop)]
 pub struct Iter2<'a> {
     alloc: Global,
-    units: ZeroSlice<'a, u16>,
-    key: Vec<u16>,
-    tasks: Vec<Task>,
-    // The task of the root, until it is begun: making an iterator takes no memory.
-    root: Option<Task>,
+    pending: Pending<'a>,
+    ghost cuts: { IsCut pending } by { IsCut-prop pending },
 }
 
 impl<'a> Iter2<'a> {
     ghost use Rattle.std.specs.Prelude.{◌≡◌, ℕ, ℤ, List};
+    ghost use Rattle.icu_zerovec.specs.Slice.{slice_values};
     ghost use Rattle.icu_char16trie.specs.Grammar.{IsTrieOf};
+    ghost use Rattle.icu_char16trie.specs.UnitMap.{UnitMap};
     ghost use Rattle.icu_char16trie.specs.Entries.{IsLeft};
 
     /// The entries of the trie with these units.
     pub(crate) fn new(alloc: Global, units: ZeroSlice<'a, u16>) -> Self
         ensures left { (m : UnitMap) → IsTrieOf (slice_values units.entry) m → IsLeft result m }
-        ensures units { slice_values result.units ≡ slice_values units.entry }
+        ensures units { slice_values result.pending.units ≡ slice_values units.entry }
     {
         Iter2 {
             alloc,
-            units,
-            key: Vec::new(alloc),
-            tasks: Vec::new(alloc),
-            root: Some(Task {
-                work: Work::Node,
-                place: 0,
-                key_len: 0,
-            }),
+            pending: Pending::new(alloc, units),
         }
     }
 }
 
 impl<'a> Iterator for Iter2<'a> {
+    ghost use Rattle.std.specs.Iterator.{at_most};
+    ghost use Rattle.icu_char16trie.specs.Pending.{work_left};
+    ghost use Rattle.icu_char16trie.specs.Entries.{GivesNext};
+
     type Item = Result<(String, i32), MemoryError>;
 
     ghost next_gives = { GivesNext };
 
-    ghost remaining = { λ s. at_most
-        (work_left (length (slice_values s.units)) (with_root s.tasks.items s.root)) };
+    ghost remaining = { λ s. at_most (work_left s.pending) };
 
     fn next(&mut self) -> Option<Result<(String, i32), MemoryError>> {
-        match next_item(
-            self.alloc,
-            self.units,
-            &mut self.key,
-            &mut self.tasks,
-            &mut self.root,
-        ) {
-            Ok(Some(item)) => Some(Ok(item)),
-            Ok(None) => None,
-            Err(_) => {
-                self.root = None;
-                self.tasks.clear();
-                Some(Err(MemoryError))
-            }
-        }
+        self.pending.next_item(self.alloc)
     }
 }

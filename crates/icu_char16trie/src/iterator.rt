@@ -31,7 +31,7 @@ pub struct Char16TrieIterator<'a> {
 }
 
 impl<'a> Model for Char16TrieIterator<'a> {
-    ghost use Rattle.icu_char16trie.specs.Places.{At};
+    ghost use Rattle.icu_char16trie.specs.UnitPlaces.{At};
 
     ghost Value = { At };
 
@@ -41,7 +41,7 @@ impl<'a> Model for Char16TrieIterator<'a> {
 impl<'a> Char16TrieIterator<'a> {
     ghost use Rattle.std.specs.Char.Escape.{encode_utf16};
     ghost use Rattle.icu_char16trie.specs.Grammar.{IsTrieOf};
-    ghost use Rattle.icu_char16trie.specs.Places.{IsAfter};
+    ghost use Rattle.icu_char16trie.specs.UnitPlaces.{IsAfter};
     ghost use Rattle.icu_char16trie.specs.Steps.{StepsTo, StepsAlong};
     ghost use Rattle.icu_char16trie.specs.Passed.{Passes, answer_at, result_of, result_of};
     ghost use Rattle.icu_char16trie.specs.declared.iterator.TrieResult.TheVariants.{NoMatch};
@@ -82,7 +82,7 @@ impl<'a> Char16TrieIterator<'a> {
 
     /// One more code point up to 0x10FFFF, as [`Char16TrieCursor::step32`]. A number above 0x10FFFF
     /// matches nothing.
-    #[tactic(auto, using(crate::proofs::PlaceLaws::answer_is_after))]
+    #[tactic(auto, using(crate::proofs::PlaceLemmas::answer_is_after))]
     pub fn next32(&mut self, c: u32) -> TrieResult
         ensures units { self.new.units ≡ self.old.units }
         ensures within { c ≤ 0x10FFFF → Passes self.old (encode_utf16 c) self.new }
@@ -102,7 +102,7 @@ impl<'a> Char16TrieIterator<'a> {
 
     /// One more unit.
     #[inline]
-    #[tactic(auto, using(crate::proofs::PlaceLaws::answer_is_after))]
+    #[tactic(auto, using(crate::proofs::PlaceLemmas::answer_is_after))]
     pub fn next16(&mut self, c: u16) -> TrieResult
         ensures units { self.new.units ≡ self.old.units }
         ensures exact { StepsTo self.old.units self.old.place c self.new.place }

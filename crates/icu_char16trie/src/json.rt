@@ -1,8 +1,9 @@
 //! A trie from and to JSON: an object whose key `data` has the units as an array of numbers.
 ghost use Rattle.std.specs.Prelude.{◌≡◌, ◌^◌, ◌<◌, ◌⊎◌, Ok, Err, IfOk, IfErr, All};
 ghost use Rattle.icu_zerovec.specs.Slice.{slice_values};
+ghost use Rattle.icu_zerovec.specs.FirstFault.{read_from};
 ghost use Rattle.serde_json.specs.View.{view, items_view};
-ghost use Rattle.icu_char16trie.specs.Char16Json.{unit_of, units_from, units_of, json_of};
+ghost use Rattle.icu_char16trie.specs.Char16Json.{unit_of, unit_or, list_of, units_of, json_of};
 
 use crate::trie::Char16Trie;
 use icu_zerovec::{MemoryError, ZeroSlice, ZeroVec};
@@ -20,7 +21,7 @@ pub enum Char16JsonError {
     /// This item of the array, counted from 0, is the first that is no whole number up to 65535.
     #[error("item {0} is no whole number up to 65535")]
     Number(usize),
-    /// No memory was found.
+    /// Memory was refused.
     #[error("no memory")]
     Memory,
 }
@@ -44,9 +45,10 @@ fn unit_of(item: &Value) -> Option<u16>
 
 /// The units that the items are, in their order.
 fn units_of_items(alloc: Global, items: &[Value]) -> Result<Vec<u16>, Char16JsonError>
-    ensures ok { IfOk result (λ units. units_from 0 (items_view items.now) ≡ Ok units.items) }
-    ensures err { IfErr result
-        (λ e. (e ≡ Char16JsonError.Memory) ⊎ (units_from 0 (items_view items.now) ≡ Err e)) }
+    ensures ok { IfOk result (λ units.
+        read_from unit_or 0 (list_of (items_view items.now)) ≡ Ok units.items) }
+    ensures err { IfErr result (λ e. (e ≡ Char16JsonError.Memory)
+        ⊎ (read_from unit_or 0 (list_of (items_view items.now)) ≡ Err e)) }
 {
     let Ok(mut units) = Vec::with_capacity(alloc, items.len()) else {
         return Err(Char16JsonError::Memory);
@@ -86,7 +88,7 @@ impl<'data> Char16Trie<'data> {
     /// # Errors
     /// In this order: `Shape` where it is no object, has neither or both of the keys, or where no
     /// array stands there; `Number` with the first item that is no whole number up to 65535.
-    /// `Memory` where no memory was found.
+    /// `Memory` where memory was refused.
     pub fn from_json(alloc: Global, value: &Value) -> Result<Char16Trie<'static>, Char16JsonError>
         ensures ok { IfOk result (λ trie. units_of (view value.now) ≡ Ok trie) }
         ensures err { IfErr result
@@ -107,7 +109,7 @@ impl<'data> Char16Trie<'data> {
     /// numbers.
     ///
     /// # Errors
-    /// `MemoryError` where no memory was found.
+    /// `MemoryError` where memory was refused.
     pub fn to_json(&self, alloc: Global) -> Result<Value, MemoryError>
         ensures json { IfOk result (λ value. view value ≡ json_of self.now) }
         ensures read_back { IfOk result (λ value. units_of (view value) ≡ Ok self.now) }

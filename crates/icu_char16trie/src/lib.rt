@@ -10,28 +10,30 @@
 //! The list may come from a stranger: every call answers on all units, where a unit that is needed
 //! and is not there is no match.
 //!
-//! - `char16trie`: all public items, as in the Rust crate
-//! - `trie`: [`Char16Trie`](trie::Char16Trie)
-//! - `cursor`: [`Char16TrieCursor`](cursor::Char16TrieCursor), for look-up unit by unit; `write`:
-//! of a text that is written to it
-//! - `iterator`: [`Char16TrieIterator`](iterator::Char16TrieIterator), the same with a result for
-//! each step
-//! - `entries`: [`Iter2`](entries::Iter2), the entries in unit order
-//! - `task`, `tasks`: what the entries have still to go through
+//! All public items stand in [`char16trie`], as in the Rust crate. Inside:
+//!
+//! - `trie`: [`Char16Trie`](char16trie::Char16Trie)
+//! - `cursor`: [`Char16TrieCursor`](char16trie::Char16TrieCursor), for look-up unit by unit;
+//!   `write`: of a text that is written to it
+//! - `iterator`: [`Char16TrieIterator`](char16trie::Char16TrieIterator), the same with a result for
+//!   each step
+//! - `entries`: [`Iter2`](char16trie::Iter2), the entries in unit order; `pending`: what they have
+//!   still to go through; `spelling`: the key as text while it grows
 //! - `json`: a trie from and to JSON
-//! - `place`, `step`, `branch`, `numbers`: where a cursor stands, and where a unit leads from there
+//! - `place`, `step`, `branch`, `encoded`: where a cursor stands, where a unit leads from there,
+//!   and how numbers stand in units
 #![tactic(auto)]
 
 mod branch;
 pub mod char16trie;
-pub mod cursor;
-pub mod entries;
-pub mod iterator;
-pub mod json;
-mod numbers;
+mod cursor;
+mod encoded;
+mod entries;
+mod iterator;
+mod json;
+mod pending;
 mod place;
+mod spelling;
 mod step;
-mod task;
-mod tasks;
-pub mod trie;
+mod trie;
 mod write;

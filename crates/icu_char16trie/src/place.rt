@@ -2,7 +2,7 @@
 
 /// Where a cursor stands.
 #[derive(Clone, Copy, Debug, PartialEq, Eq)]
-pub enum Place {
+pub(crate) enum Place {
     /// After no match.
     Nowhere,
     /// At the node at this place.

@@ -4,15 +4,16 @@ ghost use Rattle.std.specs.Prelude.{◌≡◌, ℕ, ℤ, ◌+◌, ◌*◌, ◌^�
 ghost use Rattle.icu_char16trie.specs.Grammar.{Arms, Holds, Matches, Part, IsAscending, Children};
 ghost use Rattle.icu_char16trie.specs.UnitMap.{UnitMap, after, value_of, goes_on};
 ghost use Rattle.icu_char16trie.specs.Steps.{StepsTo, InNode, InMatch, InPart, child_place, run_place};
-ghost use Rattle.icu_char16trie.specs.Places.{InRun, Stands, IsNear, value_at, value_by, is_empty_at};
+ghost use Rattle.icu_char16trie.specs.UnitPlaces.{InRun, Stands, IsNear, value_at, value_by, is_empty_at};
 ghost use Rattle.icu_char16trie.specs.declared.place.Place.TheVariants.{Nowhere};
 
 use crate::branch::child_in_part;
-use crate::numbers::{node_end, node_number, short_number, unit_at};
+use crate::encoded::{node_end, node_number, short_number, unit_at};
 use crate::place::Place;
 use icu_zerovec::ZeroSlice;
 
 /// The place after the first unit of a run of `left + 1` units.
+#[inline(always)]
 fn step_in_run(units: ZeroSlice<'_, u16>, place: usize, left: u8, unit: u16) -> Place
     requires { place < 2 ^ 63 }
     ensures stands { let all = slice_values units.entry in
@@ -34,6 +35,7 @@ fn step_in_run(units: ZeroSlice<'_, u16>, place: usize, left: u8, unit: u16) -> 
 }
 
 /// The place after a unit at a branch of so many entries.
+#[inline(always)]
 fn step_in_branch(units: ZeroSlice<'_, u16>, place: usize, length: usize, unit: u16) -> Place
     requires { place < 2 ^ 63 }
     ensures stands { let all = slice_values units.entry in
@@ -52,6 +54,7 @@ fn step_in_branch(units: ZeroSlice<'_, u16>, place: usize, length: usize, unit: 
 
 /// The place after a unit at a match node, by its low six bits; `place` is after its lead and its
 /// value.
+#[inline(always)]
 fn step_in_match(units: ZeroSlice<'_, u16>, place: usize, low: u16, unit: u16) -> Place
     requires place { place < 2 ^ 63 }
     requires low { low < 0x40 }
@@ -73,6 +76,7 @@ fn step_in_match(units: ZeroSlice<'_, u16>, place: usize, low: u16, unit: u16) -
 }
 
 /// The place after a unit at a node.
+#[inline(always)]
 fn step_in_node(units: ZeroSlice<'_, u16>, place: usize, unit: u16) -> Place
     requires { place < 2 ^ 63 }
     ensures stands { let all = slice_values units.entry in
@@ -94,7 +98,8 @@ fn step_in_node(units: ZeroSlice<'_, u16>, place: usize, unit: u16) -> Place
 }
 
 /// The place after one more unit.
-pub fn step(units: ZeroSlice<'_, u16>, place: Place, unit: u16) -> Place
+#[inline(always)]
+pub(crate) fn step(units: ZeroSlice<'_, u16>, place: Place, unit: u16) -> Place
     requires { IsNear place }
     ensures stands { let all = slice_values units.entry in
         (m : UnitMap) → Stands all place m → Stands all result (after unit m) }
@@ -110,7 +115,8 @@ pub fn step(units: ZeroSlice<'_, u16>, place: Place, unit: u16) -> Place
 }
 
 /// The value that stands at a lead unit before `place`, 0 if it is cut off.
-fn value_by(units: ZeroSlice<'_, u16>, place: usize, lead: u16) -> Option<i32>
+#[inline(always)]
+pub(crate) fn value_by(units: ZeroSlice<'_, u16>, place: usize, lead: u16) -> Option<i32>
     ensures { result ≡ value_by (slice_values units.entry) place lead }
 {
     if lead < 0x40 {
@@ -127,7 +133,8 @@ fn value_by(units: ZeroSlice<'_, u16>, place: usize, lead: u16) -> Option<i32>
 }
 
 /// The value at a place.
-pub fn value_at(units: ZeroSlice<'_, u16>, place: Place) -> Option<i32>
+#[inline(always)]
+pub(crate) fn value_at(units: ZeroSlice<'_, u16>, place: Place) -> Option<i32>
     requires { IsNear place }
     ensures { result ≡ value_at (slice_values units.entry) place }
 {
@@ -141,7 +148,7 @@ pub fn value_at(units: ZeroSlice<'_, u16>, place: Place) -> Option<i32>
 }
 
 /// Whether nothing can match from a place on.
-pub fn is_empty_at(units: ZeroSlice<'_, u16>, place: Place) -> bool
+pub(crate) fn is_empty_at(units: ZeroSlice<'_, u16>, place: Place) -> bool
     ensures { result ≡ is_empty_at (slice_values units.entry) place }
 {
     match place {

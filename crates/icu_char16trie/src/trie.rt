@@ -10,7 +10,7 @@ ghost use Rattle.icu_zerovec.specs.Cells.{same_bytes};
 ghost use Rattle.icu_char16trie.specs.Grammar.{IsTrieOf};
 ghost use Rattle.icu_char16trie.specs.UnitMap.{UnitMap, IsAscendingKeys};
 ghost use Rattle.icu_char16trie.specs.Entries.{IsLeft, GivesNext, AreEntries, AreCutShort};
-ghost use Rattle.icu_char16trie.specs.Places.{IsAfter};
+ghost use Rattle.icu_char16trie.specs.UnitPlaces.{IsAfter};
 ghost use Rattle.icu_char16trie.specs.declared.place.Place.TheVariants.{Node};
 
 use crate::cursor::Char16TrieCursor;
@@ -26,6 +26,9 @@ use std::marker::Model;
 /// ```
 /// let trie = Char16Trie::new(ZeroVec::alloc_from_slice(alloc, &[0x31, 0x61, 0x62, 0x8003])?);
 /// // the map of "ab" to 3
+/// let mut cursor = trie.cursor();
+/// cursor.step('a'); // cursor.value() is None
+/// cursor.step('b'); // cursor.value() is Some(3)
 /// ```
 ///
 /// Two tries are equal exactly if their units are, whichever of them borrows.
@@ -115,7 +118,7 @@ impl<'data> Char16Trie<'data> {
     /// An equal trie that owns its units.
     ///
     /// # Errors
-    /// `MemoryError` where no memory was found.
+    /// `MemoryError` where memory was refused.
     pub fn try_clone(&self, alloc: Global) -> Result<Char16Trie<'static>, MemoryError>
         ensures ok { IfOk result (λ trie. trie ≡ self.now) }
     {

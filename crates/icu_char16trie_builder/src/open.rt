@@ -115,8 +115,7 @@ fn push_run<'a>(
 }
 
 /// Adds the steps of a match node: of a branch, or of a linear match where all keys go on with one
-/// unit.
-/// `value` is that of the key that ends at `depth`.
+/// unit. `value` is that of the key that ends at `depth`.
 fn push_match<'a>(
     alloc: Global,
     steps: &mut Vec<Step<'a>>,

@@ -1,6 +1,7 @@
 -- The words of sets of code points: inversion lists, what they hold, their ranges, and operations
 -- on them.
-pub use Rattle.icu_invlist.specs.InversionList.{IsValid, holds, limit, is_odd, ends_up_to}
+pub use Rattle.icu_zerovec.specs.CodePoints.{code_point_limit}
+pub use Rattle.icu_invlist.specs.InversionList.{IsValid, holds, is_odd, ends_up_to}
 pub use Rattle.icu_invlist.specs.Changes.{Changes}
 pub use Rattle.icu_invlist.specs.InversionList.{Acts, HoldsAll, IsSubset, between, both, either, one_of, without}
 pub use Rattle.icu_invlist.specs.InversionList.{AreApart, IsOfCodePoints, StartsBehind, in_ranges, ranges_of}

@@ -1,7 +1,8 @@
 -- The walk of a test for a valid list.
 use Rattle.std.proofs.Common.{◌≡◌, ◌∙◌, sym, ap, refl, ℕ, ◌+◌, ◌%◌, ◌<◌, ◌≤◌, suc, List, [], ◌∷◌, ◌++◌, length, get_or, subst, ◌⊎◌, inl, inr, arith}
 use Rattle.std.proofs.lemmas.List.{length-append, length_push, get_or_append_left, get_or_at, get_or_push, append_assoc, append-nil}
-use Rattle.icu_invlist.specs.InversionList.{IsValid, limit}
+use Rattle.icu_zerovec.specs.CodePoints.{code_point_limit}
+use Rattle.icu_invlist.specs.InversionList.{IsValid}
 use Rattle.icu_invlist.specs.Inside.Places.{Run}
 use Rattle.icu_invlist.proofs.RunLemmas.{run-append, run-wider}
 use Rattle.icu_invlist.proofs.ValidLists.{valid_from_run}
@@ -12,13 +13,13 @@ Tight ys next = (next ≡ 0) ⊎ ((k : ℕ) × (length ys ≡ k + 1) × (get_or 
 pub record Checked (xs ys rest : List ℕ) (next : ℕ) : Type 0 where
   pub all : ys ++ rest ≡ xs
   pub run : Run 0 next ys
-  pub small : next ≤ suc limit
+  pub small : next ≤ suc code_point_limit
   pub tight : Tight ys next
 
 pub checked_start : (xs rest : List ℕ) → rest ≡ xs → Checked xs [] rest 0
 checked_start xs rest e = record { all = e; run = tt; small = omega arith; tight = inl refl }
 
-pub checked_more : (xs ys rest more : List ℕ) (next e : ℕ) → Checked xs ys rest next → rest ≡ e ∷ more → next ≤ e → e ≤ limit → Checked xs (ys ++ e ∷ []) more (e + 1)
+pub checked_more : (xs ys rest more : List ℕ) (next e : ℕ) → Checked xs ys rest next → rest ≡ e ∷ more → next ≤ e → e ≤ code_point_limit → Checked xs (ys ++ e ∷ []) more (e + 1)
 checked_more xs ys rest more next e c r h l = record {
   all = append_assoc ys (e ∷ []) more ∙ (ap (λ (zs : List ℕ). ys ++ zs) (sym r) ∙ c.all);
   run = run-append 0 next (e + 1) ys (e ∷ []) (omega arith) (omega arith) c.run (h, omega arith, tt);
@@ -38,7 +39,7 @@ checked_low xs ys rest more next e c r h v = elim c.tight [
       omega (arith, t.2)
 ]
 
-pub checked_high : (xs ys rest more : List ℕ) (next e : ℕ) → Checked xs ys rest next → rest ≡ e ∷ more → limit < e → IsValid xs → ⊥
+pub checked_high : (xs ys rest more : List ℕ) (next e : ℕ) → Checked xs ys rest next → rest ≡ e ∷ more → code_point_limit < e → IsValid xs → ⊥
 checked_high xs ys rest more next e c r h v =
     let w : IsValid (ys ++ e ∷ more) = subst (λ (zs : List ℕ). IsValid zs) (sym c.all ∙ ap (λ (zs : List ℕ). ys ++ zs) r) v in
     let n = length-append ys (e ∷ more) in
@@ -48,4 +49,4 @@ checked_high xs ys rest more next e c r h v =
 pub checked_all : (xs ys rest : List ℕ) (next : ℕ) → Checked xs ys rest next → rest ≡ [] → length xs % 2 ≡ 0 → IsValid xs
 checked_all xs ys rest next c r e =
     let a : ys ≡ xs = sym (append-nil ys) ∙ (ap (λ (zs : List ℕ). ys ++ zs) (sym r) ∙ c.all) in
-    subst (λ (zs : List ℕ). IsValid zs) a (valid_from_run ys (run-wider 0 next 0 (suc limit) ys (omega arith) c.small c.run) (ap (λ (zs : List ℕ). length zs % 2) a ∙ e))
+    subst (λ (zs : List ℕ). IsValid zs) a (valid_from_run ys (run-wider 0 next 0 (suc code_point_limit) ys (omega arith) c.small c.run) (ap (λ (zs : List ℕ). length zs % 2) a ∙ e))

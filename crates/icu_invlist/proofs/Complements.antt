@@ -2,7 +2,8 @@
 use Rattle.std.proofs.Common.{◌≡◌, ℕ, ◌+◌, ◌%◌, ◌<◌, ◌≤◌, List, [], ◌∷◌, length, refl, ap, sym, ◌∙◌, arith, suc, true, false, not, inl, inr, Option, Some, None, eqb}
 use Rattle.std.specs.Option.{MatchOption}
 use Rattle.std.proofs.lemmas.Bool.{cases_lt, cases_order, cases_eq, both_ways, eq-eqb, ne_eqb, cond-true, cond-false, lt-ltb, le-ltb}
-use Rattle.icu_invlist.specs.InversionList.{holds, is_odd, IsValid, limit, toggle_front, toggle_back, complement_of}
+use Rattle.icu_zerovec.specs.CodePoints.{code_point_limit}
+use Rattle.icu_invlist.specs.InversionList.{holds, is_odd, IsValid, toggle_front, toggle_back, complement_of}
 use Rattle.icu_invlist.specs.Inside.Places.{Run, below}
 use Rattle.icu_invlist.specs.Inside.StillGiven.{gaps_left, start_at}
 use Rattle.icu_invlist.proofs.RunLemmas.{below-before, below-yes, below-no, run-wider}
@@ -12,34 +13,34 @@ use Rattle.icu_invlist.proofs.MemberLemmas.{no_single, rest_valid}
 use Rattle.icu_invlist.proofs.ValidLists.{run_from_valid, valid_from_run}
 
 -- ---- the end of the code space put in or taken out
-pub back_is : (e : ℕ) (xs : List ℕ) → e ≡ limit → toggle_back (e ∷ xs) ≡ []
-back_is e xs h = cond-true (eqb e limit) [] (e ∷ toggle_back xs) (eq-eqb e limit h)
+pub back_is : (e : ℕ) (xs : List ℕ) → e ≡ code_point_limit → toggle_back (e ∷ xs) ≡ []
+back_is e xs h = cond-true (eqb e code_point_limit) [] (e ∷ toggle_back xs) (eq-eqb e code_point_limit h)
 
-pub back_more : (e : ℕ) (xs : List ℕ) → (e ≡ limit → ⊥) → toggle_back (e ∷ xs) ≡ e ∷ toggle_back xs
-back_more e xs h = cond-false (eqb e limit) [] (e ∷ toggle_back xs) (ne_eqb e limit h)
+pub back_more : (e : ℕ) (xs : List ℕ) → (e ≡ code_point_limit → ⊥) → toggle_back (e ∷ xs) ≡ e ∷ toggle_back xs
+back_more e xs h = cond-false (eqb e code_point_limit) [] (e ∷ toggle_back xs) (ne_eqb e code_point_limit h)
 
-none_above : (xs : List ℕ) → Run (suc limit) (suc limit) xs → xs ≡ []
+none_above : (xs : List ℕ) → Run (suc code_point_limit) (suc code_point_limit) xs → xs ≡ []
 none_above [] r = refl
 none_above (x ∷ xs) r = absurd (omega (arith, r.0, r.1))
 
-back-run : (lo : ℕ) (xs : List ℕ) → lo ≤ limit → Run lo (suc limit) xs → Run lo (suc limit) (toggle_back xs)
+back-run : (lo : ℕ) (xs : List ℕ) → lo ≤ code_point_limit → Run lo (suc code_point_limit) xs → Run lo (suc code_point_limit) (toggle_back xs)
 back-run lo [] h r = (h, omega arith, tt)
-back-run lo (e ∷ xs) h r = elim (cases_eq e limit) [
+back-run lo (e ∷ xs) h r = elim (cases_eq e code_point_limit) [
   | inl k ↦ rw (back_is e xs k) tt
   | inr k ↦ rw (back_more e xs k) (r.0, r.1, back-run (suc e) xs (omega (arith, r.1)) r.2)
 ]
 
-back-length : (lo : ℕ) (xs : List ℕ) → Run lo (suc limit) xs → length (toggle_back xs) % 2 ≡ (length xs + 1) % 2
+back-length : (lo : ℕ) (xs : List ℕ) → Run lo (suc code_point_limit) xs → length (toggle_back xs) % 2 ≡ (length xs + 1) % 2
 back-length lo [] r = refl
-back-length lo (e ∷ xs) r = elim (cases_eq e limit) [
+back-length lo (e ∷ xs) r = elim (cases_eq e code_point_limit) [
   | inl k ↦ rw (back_is e xs k, none_above xs (rw k at r.2)) refl
   | inr k ↦ rw (back_more e xs k) (let n = back-length (suc e) xs r.2 in omega arith)
 ]
 
-back-below : (lo c : ℕ) (xs : List ℕ) → c < limit → Run lo (suc limit) xs → below (toggle_back xs) (suc c) ≡ below xs (suc c)
-back-below lo c [] h r = below-no limit (suc c) [] (omega arith)
-back-below lo c (e ∷ xs) h r = elim (cases_eq e limit) [
-  | inl k ↦ rw (back_is e xs k, below-no e (suc c) xs (omega arith)) (sym (below-before (suc e) (suc limit) xs (suc c) r.2 (omega arith)))
+back-below : (lo c : ℕ) (xs : List ℕ) → c < code_point_limit → Run lo (suc code_point_limit) xs → below (toggle_back xs) (suc c) ≡ below xs (suc c)
+back-below lo c [] h r = below-no code_point_limit (suc c) [] (omega arith)
+back-below lo c (e ∷ xs) h r = elim (cases_eq e code_point_limit) [
+  | inl k ↦ rw (back_is e xs k, below-no e (suc c) xs (omega arith)) (sym (below-before (suc e) (suc code_point_limit) xs (suc c) r.2 (omega arith)))
   | inr k ↦ rw (back_more e xs k) (elim (cases_lt e (suc c)) [
     | inl l ↦ rw (below-yes e (suc c) (toggle_back xs) l, below-yes e (suc c) xs l) (ap suc (back-below (suc e) c xs h r.2))
     | inr l ↦ rw (below-no e (suc c) (toggle_back xs) l, below-no e (suc c) xs l) (back-below (suc e) c xs h r.2)
@@ -53,10 +54,10 @@ front_is e xs h = cond-true (eqb e 0) xs (0 ∷ e ∷ xs) (eq-eqb e 0 h)
 front_more : (e : ℕ) (xs : List ℕ) → (e ≡ 0 → ⊥) → toggle_front (e ∷ xs) ≡ 0 ∷ e ∷ xs
 front_more e xs h = cond-false (eqb e 0) xs (0 ∷ e ∷ xs) (ne_eqb e 0 h)
 
-front-run : (xs : List ℕ) → Run 0 (suc limit) xs → Run 0 (suc limit) (toggle_front xs)
+front-run : (xs : List ℕ) → Run 0 (suc code_point_limit) xs → Run 0 (suc code_point_limit) (toggle_front xs)
 front-run [] r = (omega arith, omega arith, tt)
 front-run (e ∷ xs) r = elim (cases_eq e 0) [
-  | inl k ↦ rw (front_is e xs k) (run-wider (suc e) (suc limit) 0 (suc limit) xs (omega arith) (omega arith) r.2)
+  | inl k ↦ rw (front_is e xs k) (run-wider (suc e) (suc code_point_limit) 0 (suc code_point_limit) xs (omega arith) (omega arith) r.2)
   | inr k ↦ rw (front_more e xs k) (omega arith, omega arith, (omega arith, r.1, r.2))
 ]
 
@@ -79,19 +80,19 @@ pub complement_valid : (xs : List ℕ) → IsValid xs → IsValid (complement_of
 complement_valid xs v = valid_from_run (complement_of xs) (front-run (toggle_back xs) (back-run 0 xs (omega arith) (run_from_valid xs v)))
     (let a = front-length (toggle_back xs) in let b = back-length 0 xs (run_from_valid xs v) in let d = v.even in omega arith)
 
-pub complement-holds : (xs : List ℕ) (c : ℕ) → IsValid xs → c < limit → holds (complement_of xs) c ≡ not (holds xs c)
+pub complement-holds : (xs : List ℕ) (c : ℕ) → IsValid xs → c < code_point_limit → holds (complement_of xs) c ≡ not (holds xs c)
 complement-holds xs c v h = holds-below (complement_of xs) c ∙ (front-holds c (toggle_back xs)
     ∙ ap not (ap is_odd (back-below 0 c xs h (run_from_valid xs v)) ∙ sym (holds-below xs c)))
 
 -- ---- the gaps that are left
 -- a gap behind a range of the set
-pub gap_behind : (lo : ℕ) (ys zs : List ℕ) (r : Option ℕ) → 0 < length ys → Run lo (suc limit) (toggle_back ys)
+pub gap_behind : (lo : ℕ) (ys zs : List ℕ) (r : Option ℕ) → 0 < length ys → Run lo (suc code_point_limit) (toggle_back ys)
     → MatchOption r ((ys ≡ []) × (zs ≡ [])) (λ x. ys ≡ x ∷ zs) → gaps_left (start_at r) zs ≡ toggle_back ys
 gap_behind lo ys zs None h up m = absurd (omega (arith, ap (λ (ws : List ℕ). length ws) m.0))
-gap_behind lo ys zs (Some x) h up m = elim (cases_order x limit) [
-  | inl e ↦ rw (m, back_is x zs e, le-ltb x limit (omega arith)) refl
+gap_behind lo ys zs (Some x) h up m = elim (cases_order x code_point_limit) [
+  | inl e ↦ rw (m, back_is x zs e, le-ltb x code_point_limit (omega arith)) refl
   | inr o ↦ elim o [
-    | inl k ↦ rw (m, back_more x zs (λ e. omega arith), lt-ltb x limit k) refl
+    | inl k ↦ rw (m, back_more x zs (λ e. omega arith), lt-ltb x code_point_limit k) refl
     | inr k ↦ absurd (let u = rw (m, back_more x zs (λ e. omega arith)) at up in omega (arith, u.1))
   ]
 ]
@@ -99,7 +100,7 @@ gap_behind lo ys zs (Some x) h up m = elim (cases_order x limit) [
 -- the gap that comes next, and the gaps behind it
 pub next_gap : (start e : ℕ) (ends ys zs : List ℕ) (o r s : Option ℕ) → IsValid (gaps_left o ends) → o ≡ Some start → ends ≡ e ∷ ys
     → MatchOption r ((ys ≡ []) × (zs ≡ [])) (λ x. ys ≡ x ∷ zs) → s ≡ start_at r → IsValid (gaps_left s zs) × (gaps_left o ends ≡ start ∷ e ∷ gaps_left s zs)
-next_gap start e ends ys zs o r s v a b m t = elim (cases_eq e limit) [
+next_gap start e ends ys zs o r s v a b m t = elim (cases_eq e code_point_limit) [
   | inl k ↦ absurd (no_single start (rw (a, b, back_is e ys k) at v))
   | inr k ↦
       let w : IsValid (start ∷ e ∷ toggle_back ys) = rw (a, b, back_more e ys k) at v in
@@ -113,19 +114,19 @@ next_gap start e ends ys zs o r s v a b m t = elim (cases_eq e limit) [
     some_behind (y ∷ ys) h = omega arith
 
 -- where the set holds 0
-zero_first : (x : ℕ) (ys : List ℕ) → Run 0 (suc limit) (x ∷ ys) → holds (x ∷ ys) 0 ≡ true → x ≡ 0
+zero_first : (x : ℕ) (ys : List ℕ) → Run 0 (suc code_point_limit) (x ∷ ys) → holds (x ∷ ys) 0 ≡ true → x ≡ 0
 zero_first x ys r h = elim (cases_eq x 0) [
   | inl e ↦ e
-  | inr e ↦ absurd (both_ways _ (ap is_odd (below-no x 1 ys (omega arith) ∙ below-before (suc x) (suc limit) ys 1 r.2 (omega arith))) (sym (holds-below (x ∷ ys) 0) ∙ h))
+  | inr e ↦ absurd (both_ways _ (ap is_odd (below-no x 1 ys (omega arith) ∙ below-before (suc x) (suc code_point_limit) ys 1 r.2 (omega arith))) (sym (holds-below (x ∷ ys) 0) ∙ h))
 ]
 
 pub gaps_from_zero : (xs ys zs : List ℕ) (q r : Option ℕ) → IsValid xs → holds xs 0 ≡ true → MatchOption q ((xs ≡ []) × (ys ≡ [])) (λ x. xs ≡ x ∷ ys)
     → MatchOption r ((ys ≡ []) × (zs ≡ [])) (λ x. ys ≡ x ∷ zs) → gaps_left (start_at r) zs ≡ complement_of xs
 gaps_from_zero xs ys zs None r v h m n = absurd (both_ways _ (holds-below [] 0) (rw m.0 at h))
 gaps_from_zero xs ys zs (Some x) r v h m n =
-    let up : Run 0 (suc limit) (x ∷ ys) = rw m at (run_from_valid xs v) in
+    let up : Run 0 (suc code_point_limit) (x ∷ ys) = rw m at (run_from_valid xs v) in
     let e : x ≡ 0 = zero_first x ys up (rw m at h) in
-    let b : Run 0 (suc limit) (x ∷ toggle_back ys) = rw (back_more x ys (λ k. omega arith)) at (back-run 0 (x ∷ ys) (omega arith) up) in
+    let b : Run 0 (suc code_point_limit) (x ∷ toggle_back ys) = rw (back_more x ys (λ k. omega arith)) at (back-run 0 (x ∷ ys) (omega arith) up) in
     let some : 0 < length ys = some_behind ys (rw m at v.even) in
     gap_behind (suc x) ys zs r some b.2 n ∙ sym (rw (m, back_more x ys (λ k. omega arith)) (front_is x (toggle_back ys) e))
   where
@@ -136,9 +137,9 @@ gaps_from_zero xs ys zs (Some x) r v h m n =
 -- where the set does not hold 0
 pub gaps_from_start : (xs : List ℕ) → IsValid xs → holds xs 0 ≡ false → 0 ∷ toggle_back xs ≡ complement_of xs
 gaps_from_start [] v h = refl
-gaps_from_start (e ∷ xs) v h = elim (cases_eq e limit) [
+gaps_from_start (e ∷ xs) v h = elim (cases_eq e code_point_limit) [
   | inl k ↦ rw (back_is e xs k) refl
   | inr k ↦ rw (back_more e xs k) (sym (front_more e (toggle_back xs) (λ z.
       let r = run_from_valid (e ∷ xs) v in
-      both_ways _ h (holds-below (e ∷ xs) 0 ∙ ap is_odd (below-yes e 1 xs (omega arith) ∙ ap suc (below-before (suc e) (suc limit) xs 1 r.2 (omega arith)))))))
+      both_ways _ h (holds-below (e ∷ xs) 0 ∙ ap is_odd (below-yes e 1 xs (omega arith) ∙ ap suc (below-before (suc e) (suc code_point_limit) xs 1 r.2 (omega arith)))))))
 ]

@@ -1,7 +1,8 @@
 -- Two valid lists with the same members are equal.
 use Rattle.std.proofs.Common.{◌≡◌, ℕ, ◌%◌, ◌<◌, ◌≤◌, List, [], ◌∷◌, refl, ap, sym, ◌∙◌, arith, suc, true, false, inl, inr}
 use Rattle.std.proofs.lemmas.Bool.{cases_lt, cases_order, cases_eq, eq-eqb, ne_eqb, eqb-true, eqb-false}
-use Rattle.icu_invlist.specs.InversionList.{holds, is_odd, IsValid, limit}
+use Rattle.icu_zerovec.specs.CodePoints.{code_point_limit}
+use Rattle.icu_invlist.specs.InversionList.{holds, is_odd, IsValid}
 use Rattle.icu_invlist.specs.Inside.Places.{Run, below}
 use Rattle.icu_invlist.proofs.RunLemmas.{below-before, below-past, below-yes}
 use Rattle.icu_invlist.proofs.Parity.{holds-below}
@@ -33,8 +34,8 @@ same lo hi (x ∷ xs) (y ∷ ys) r s a = elim (cases_order x y) [
 ]
 
 -- past the code space a valid list holds nothing
-pub holds-past : (xs : List ℕ) (c : ℕ) → IsValid xs → limit ≤ c → below xs (suc c) % 2 ≡ 0
-holds-past xs c v h = let a = below-past 0 (suc limit) xs (suc c) (run_from_valid xs v) (omega arith) in let b = v.even in omega arith
+pub holds-past : (xs : List ℕ) (c : ℕ) → IsValid xs → code_point_limit ≤ c → below xs (suc c) % 2 ≡ 0
+holds-past xs c v h = let a = below-past 0 (suc code_point_limit) xs (suc c) (run_from_valid xs v) (omega arith) in let b = v.even in omega arith
 
 pub parity : (m n : ℕ) → is_odd m ≡ is_odd n → m % 2 ≡ n % 2
 parity m n e = elim (cases_eq (m % 2) 1) [
@@ -43,9 +44,9 @@ parity m n e = elim (cases_eq (m % 2) 1) [
 ]
 
 -- equal sets have equal lists
-pub same_sets : (xs ys : List ℕ) → IsValid xs → IsValid ys → ((c : ℕ) → c < limit → holds xs c ≡ holds ys c) → xs ≡ ys
-same_sets xs ys v w h = same 0 (suc limit) xs ys (run_from_valid xs v) (run_from_valid ys w)
-    (λ c _. elim (cases_lt c limit) [
+pub same_sets : (xs ys : List ℕ) → IsValid xs → IsValid ys → ((c : ℕ) → c < code_point_limit → holds xs c ≡ holds ys c) → xs ≡ ys
+same_sets xs ys v w h = same 0 (suc code_point_limit) xs ys (run_from_valid xs v) (run_from_valid ys w)
+    (λ c _. elim (cases_lt c code_point_limit) [
       | inl k ↦ parity _ _ (sym (holds-below xs c) ∙ (h c k ∙ holds-below ys c))
       | inr k ↦ holds-past xs c v k ∙ sym (holds-past ys c w k)
     ])

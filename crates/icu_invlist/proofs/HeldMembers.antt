@@ -7,7 +7,8 @@ use Rattle.std.proofs.lemmas.List.Kept.{IsStrictlyIncreasing-filter}
 use Rattle.std.specs.List.{All, Contains, filter, range_with_len}
 use Rattle.std.specs.List.Sorted.{IsStrictlyIncreasing}
 use Rattle.std.proofs.Math.Utf8.{scalar}
-use Rattle.icu_invlist.specs.InversionList.{holds, is_odd, IsValid, limit, members, characters}
+use Rattle.icu_zerovec.specs.CodePoints.{code_point_limit}
+use Rattle.icu_invlist.specs.InversionList.{holds, is_odd, IsValid, members, characters}
 use Rattle.icu_invlist.specs.Inside.Places.{Run}
 use Rattle.icu_invlist.proofs.RunLemmas.{below-before, run-append, run-wider}
 use Rattle.icu_invlist.proofs.Parity.{holds-below}
@@ -114,9 +115,9 @@ kept p (x ∷ xs) c t h = elim (Contains-append_cases (x ∷ []) xs c h) [
 -- ---- the characters of a set
 pub characters_are_held : (ends : List ℕ) → IsValid ends → (c : ℕ) → Contains (characters ends) c ↔ (scalar c ≡ true) × (holds ends c ≡ true)
 characters_are_held ends v c = (
-  (λ h. let p = passed scalar (members ends) c h in (p.0, held 0 (suc limit) c ends (run_from_valid ends v) v.even p.1)),
-  (λ h. kept scalar (members ends) c h.0 (found 0 (suc limit) c ends (run_from_valid ends v) v.even h.1)),
+  (λ h. let p = passed scalar (members ends) c h in (p.0, held 0 (suc code_point_limit) c ends (run_from_valid ends v) v.even p.1)),
+  (λ h. kept scalar (members ends) c h.0 (found 0 (suc code_point_limit) c ends (run_from_valid ends v) v.even h.1)),
 )
 
 pub characters_rise : (ends : List ℕ) → IsValid ends → IsStrictlyIncreasing (characters ends)
-characters_rise ends v = IsStrictlyIncreasing-filter scalar (members ends) (rises 0 (suc limit) (members ends) (members_rise 0 (suc limit) ends (run_from_valid ends v) v.even))
+characters_rise ends v = IsStrictlyIncreasing-filter scalar (members ends) (rises 0 (suc code_point_limit) (members ends) (members_rise 0 (suc code_point_limit) ends (run_from_valid ends v) v.even))

@@ -1,103 +1,107 @@
 -- How the ends of the items are read, one item after another.
-use Rattle.std.proofs.Common.{◌≡◌, ℕ, ◌+◌, ◌<◌, ◌≤◌, List, [], ◌∷◌, ◌++◌, Option, Some, None, Result, Ok, Err, refl, sym, ap, ◌∙◌, length, get_or, drop, drop-cons, append_assoc, append-nil, add-one}
-use Rattle.std.proofs.lemmas.List.{drop_all}
+use Rattle.std.proofs.Common.{◌≡◌, ℕ, ◌+◌, ◌<◌, ◌≤◌, List, [], ◌∷◌, ◌++◌, Option, Some, None, Result, Ok, Err, refl, sym, ap, ◌∙◌, length, get_or, drop, map}
+use Rattle.std.specs.Option.{ok_or}
 use Rattle.std.specs.Str.{chars}
 use Rattle.serde_json.specs.Data.{Data, null, boolean, number, string, array, object, Items, no_items, item}
 use Rattle.serde_json.specs.Find.{as_str}
 use Rattle.serde_json.specs.View.{view, items_view}
 use Rattle.serde_json.specs.declared.value.Value.{Value}
-use Rattle.icu_invlist.specs.SetJson.{range_at, SayEnds}
+use Rattle.icu_zerovec.specs.FirstFault.{and_then, before, read_from}
+use Rattle.icu_zerovec.proofs.FirstFaultLemmas.{with_front, stops, goes_on, at_end, at_start}
+use Rattle.icu_invlist.specs.SetJson.{range_at, range_or, ends_of_ranges, ends_in, list_of, SayEnds}
 use Rattle.icu_invlist.proofs.TextLemmas.{range_found, range_only}
-use Rattle.icu_invlist.specs.SetJson.{with_front, in_front, item_ends, ends_from}
 use Rattle.icu_invlist.specs.declared.codepointinvlist.error.SetJsonError.{SetJsonError}
 use Rattle.icu_invlist.specs.declared.codepointinvlist.error.SetJsonError.TheVariants as errors
 
-not_string : (i : ℕ) (d : Data) (others : Result (List ℕ) SetJsonError) → as_str d ≡ None → item_ends i d others ≡ Err (errors.NotAString i)
-not_string i null others h = refl
-not_string i (boolean b) others h = refl
-not_string i (number n) others h = refl
-not_string i (string t) others h = absurd cc
-not_string i (array ds) others h = refl
-not_string i (object ms) others h = refl
+pub list_of-items_view : (vs : List Value) → list_of (items_view vs) ≡ map view vs
+list_of-items_view [] = refl
+list_of-items_view (v ∷ vs) = ap (λ z. view v ∷ z) (list_of-items_view vs)
 
-is_string : (i : ℕ) (d : Data) (others : Result (List ℕ) SetJsonError) (t : List ℕ) → as_str d ≡ Some t → item_ends i d others ≡ in_front i (range_at (chars t)) others
-is_string i null others t h = absurd cc
-is_string i (boolean b) others t h = absurd cc
-is_string i (number n) others t h = absurd cc
-is_string i (string s) others t h = let e : s ≡ t = cc in ap (λ z. in_front i (range_at (chars z)) others) e
-is_string i (array ds) others t h = absurd cc
-is_string i (object ms) others t h = absurd cc
+-- ---- an item
+pub or_no_string : (i : ℕ) (d : Data) → as_str d ≡ None → range_or i d ≡ Err (errors.NotAString i)
+or_no_string i d e = ap (λ o. and_then (ok_or o (errors.NotAString i)) (λ t. ok_or (range_at (chars t)) (errors.NotARange i))) e
 
-here : (vs : List Value) (i : ℕ) (x : Value) → i < length vs → x ≡ get_or vs i x → items_view (drop i vs) ≡ item (view x) (items_view (drop (i + 1) vs))
-here vs i x h e = rw (drop-cons vs i x h, ← e, add-one) refl
+pub or_range : (i : ℕ) (d : Data) (t : List ℕ) (r : Option (ℕ × ℕ)) → as_str d ≡ Some t → range_at (chars t) ≡ r → range_or i d ≡ ok_or r (errors.NotARange i)
+or_range i d t r e f = ap (λ o. and_then (ok_or o (errors.NotAString i)) (λ t. ok_or (range_at (chars t)) (errors.NotARange i))) e ∙ ap (λ o. ok_or o (errors.NotARange i)) f
 
-unfold_ends : (i : ℕ) (d : Data) (items : Items) → ends_from i (item d items) ≡ item_ends i d (ends_from (i + 1) items)
-unfolding ends_from
-unfold_ends i d items = refl
+-- ---- the loop
+ends-append : (rs : List (ℕ × ℕ)) (r : ℕ × ℕ) → ends_of_ranges (rs ++ r ∷ []) ≡ (ends_of_ranges rs ++ r.0 ∷ []) ++ (r.1 + 1) ∷ []
+ends-append [] r = refl
+ends-append (s ∷ rs) r = ap (λ (z : List ℕ). s.0 ∷ (s.1 + 1) ∷ z) (ends-append rs r)
 
-front_error : (front : List ℕ) (r whole : Result (List ℕ) SetJsonError) (e : SetJsonError) → with_front front r ≡ whole → r ≡ Err e → whole ≡ Err e
-front_error front r whole e h g = sym h ∙ ap (with_front front) g
+-- the ends so far are those of the ranges before item i
+pub record RangesRead (vs : List Value) (i : ℕ) (ends : List ℕ) : Type 0 where
+  pub ranges : List (ℕ × ℕ)
+  pub are : ends ≡ ends_of_ranges ranges
+  pub read : with_front ranges (read_from range_or i (map view (drop i vs))) ≡ read_from range_or 0 (map view vs)
 
-front_append : (front more : List ℕ) (r : Result (List ℕ) SetJsonError) → with_front front (with_front more r) ≡ with_front (front ++ more) r
-front_append front more (Ok ends) = ap (λ z. Ok z) (sym (append_assoc front more ends))
-front_append front more (Err e) = refl
+pub none_read : (vs : List Value) (ends : List ℕ) → ends ≡ [] → RangesRead vs 0 ends
+none_read vs ends e = record { ranges = []; are = e; read = at_start (read_from range_or 0 (map view vs)) }
 
-pub stops_no_string : (vs : List Value) (i : ℕ) (x : Value) (front : List ℕ) (whole : Result (List ℕ) SetJsonError) → i < length vs → x ≡ get_or vs i x
-    → with_front front (ends_from i (items_view (drop i vs))) ≡ whole → as_str (view x) ≡ None → whole ≡ Err (errors.NotAString i)
-stops_no_string vs i x front whole h e w n =
-    front_error front _ whole (errors.NotAString i) w (ap (ends_from i) (here vs i x h e) ∙ unfold_ends i (view x) (items_view (drop (i + 1) vs)) ∙ not_string i (view x) (ends_from (i + 1) (items_view (drop (i + 1) vs))) n)
+pub one_more_read : (vs : List Value) (i : ℕ) (x : Value) (ends ends' : List ℕ) (a b : ℕ) → RangesRead vs i ends → i < length vs → x ≡ get_or vs i x → range_or i (view x) ≡ Ok (a, b)
+    → ends' ≡ (ends ++ a ∷ []) ++ (b + 1) ∷ [] → RangesRead vs (i + 1) ends'
+one_more_read vs i x ends ends' a b s h e r f = record {
+  ranges = s.ranges ++ (a, b) ∷ [];
+  are = f ∙ (ap (λ (z : List ℕ). (z ++ a ∷ []) ++ (b + 1) ∷ []) s.are ∙ sym (ends-append s.ranges (a, b)));
+  read = goes_on range_or view vs i x s.ranges (s.ranges ++ (a, b) ∷ []) _ (a, b) h e s.read r refl;
+}
 
-pub stops_no_range : (vs : List Value) (i : ℕ) (x : Value) (front : List ℕ) (whole : Result (List ℕ) SetJsonError) (t : List ℕ) → i < length vs → x ≡ get_or vs i x
-    → with_front front (ends_from i (items_view (drop i vs))) ≡ whole → as_str (view x) ≡ Some t → range_at (chars t) ≡ None → whole ≡ Err (errors.NotARange i)
-stops_no_range vs i x front whole t h e w s n =
-    front_error front _ whole (errors.NotARange i) w
-    (ap (ends_from i) (here vs i x h e) ∙ unfold_ends i (view x) (items_view (drop (i + 1) vs)) ∙ is_string i (view x) (ends_from (i + 1) (items_view (drop (i + 1) vs))) t s
-    ∙ ap (λ z. in_front i z (ends_from (i + 1) (items_view (drop (i + 1) vs)))) n)
+ends_in_view : (vs : List Value) (r : Result (List (ℕ × ℕ)) SetJsonError) → read_from range_or 0 (map view vs) ≡ r → ends_in (items_view vs) ≡ and_then r (λ rs. Ok (ends_of_ranges rs))
+ends_in_view vs r e = ap (λ z. and_then (read_from range_or 0 z) (λ rs. Ok (ends_of_ranges rs))) (list_of-items_view vs) ∙ ap (λ z. and_then z (λ rs. Ok (ends_of_ranges rs))) e
 
-pub goes_on : (vs : List Value) (i : ℕ) (x : Value) (front front' : List ℕ) (whole : Result (List ℕ) SetJsonError) (t : List ℕ) (a b : ℕ) → i < length vs → x ≡ get_or vs i x
-    → with_front front (ends_from i (items_view (drop i vs))) ≡ whole → as_str (view x) ≡ Some t → range_at (chars t) ≡ Some (a, b)
-    → front' ≡ (front ++ a ∷ []) ++ (b + 1) ∷ [] → with_front front' (ends_from (i + 1) (items_view (drop (i + 1) vs))) ≡ whole
-goes_on vs i x front front' whole t a b h e w s n f =
-    let rest = ends_from (i + 1) (items_view (drop (i + 1) vs)) in
-    let now : ends_from i (items_view (drop i vs)) ≡ with_front (a ∷ (b + 1) ∷ []) rest =
-    ap (ends_from i) (here vs i x h e) ∙ unfold_ends i (view x) (items_view (drop (i + 1) vs)) ∙ is_string i (view x) rest t s ∙ ap (λ z. in_front i z rest) n in
-    ap (λ z. with_front z rest) (f ∙ append_assoc front (a ∷ []) ((b + 1) ∷ [])) ∙ sym (front_append front (a ∷ (b + 1) ∷ []) rest) ∙ ap (with_front front) (sym now) ∙ w
+pub fault_read : (vs : List Value) (i : ℕ) (x : Value) (ends : List ℕ) (f : SetJsonError) → RangesRead vs i ends → i < length vs → x ≡ get_or vs i x → range_or i (view x) ≡ Err f
+    → ends_in (items_view vs) ≡ Err f
+fault_read vs i x ends f s h e r = ends_in_view vs (Err f) (stops range_or view vs i x s.ranges _ f h e s.read r)
 
-pub at_end : (vs : List Value) (i : ℕ) (front : List ℕ) (whole : Result (List ℕ) SetJsonError) → length vs ≤ i
-    → with_front front (ends_from i (items_view (drop i vs))) ≡ whole → whole ≡ Ok front
-unfolding ends_from
-at_end vs i front whole h w =
-    let none : drop i vs ≡ [] = drop_all i vs h in
-    sym w ∙ ap (λ z. with_front front (ends_from i (items_view z))) none ∙ ap (λ z. Ok z) (append-nil front)
+pub all_read : (vs : List Value) (i : ℕ) (ends : List ℕ) → RangesRead vs i ends → length vs ≤ i → ends_in (items_view vs) ≡ Ok ends
+all_read vs i ends s h = ends_in_view vs (Ok s.ranges) (at_end range_or view vs i s.ranges _ h s.read) ∙ ap (λ z. Ok z) (sym s.are)
 
 -- ---- the ends that are read are those that the strings say
+same_ok : {A : Type 0} (a b : A) → ◌≡◌ {A = Result A SetJsonError} (Ok a) (Ok b) → a ≡ b
+same_ok a b h = cc
 
-ok_same : (a b : List ℕ) → ◌≡◌ {A = Result (List ℕ) SetJsonError} (Ok a) (Ok b) → a ≡ b
-ok_same a b h = cc
+say_range : (i : ℕ) (t : List ℕ) (items : Items) (r : Option (ℕ × ℕ)) (others : Result (List (ℕ × ℕ)) SetJsonError) (rs : List (ℕ × ℕ)) → range_at (chars t) ≡ r
+    → ((more : List (ℕ × ℕ)) → others ≡ Ok more → SayEnds items (ends_of_ranges more)) → before (ok_or r (errors.NotARange i)) others ≡ Ok rs → SayEnds (item (string t) items) (ends_of_ranges rs)
+say_range i t items None others rs e go h = absurd cc
+say_range i t items (Some x) (Ok more) rs e go h = (x.0, x.1, ends_of_ranges more, range_found (chars t) x.0 x.1 e, ap ends_of_ranges (sym (same_ok _ _ h)), go more refl)
+say_range i t items (Some x) (Err f) rs e go h = absurd cc
 
-say_range : (i : ℕ) (t : List ℕ) (items : Items) (r : Option (ℕ × ℕ)) (others : Result (List ℕ) SetJsonError) (ends : List ℕ) → range_at (chars t) ≡ r
-    → ((rest : List ℕ) → others ≡ Ok rest → SayEnds items rest) → in_front i r others ≡ Ok ends → SayEnds (item (string t) items) ends
-say_range i t items None others ends e go h = absurd cc
-say_range i t items (Some x) (Ok rest) ends e go h = (x.0, x.1, rest, range_found (chars t) x.0 x.1 e, sym (ok_same _ _ h), go rest refl)
-say_range i t items (Some x) (Err f) ends e go h = absurd cc
+ranges_found : (i : ℕ) (items : Items) (rs : List (ℕ × ℕ)) → read_from range_or i (list_of items) ≡ Ok rs → SayEnds items (ends_of_ranges rs)
+unfolding read_from
+ranges_found i no_items rs h = ap ends_of_ranges (sym (same_ok [] rs h))
+ranges_found i (item null items) rs h = absurd cc
+ranges_found i (item (boolean b) items) rs h = absurd cc
+ranges_found i (item (number n) items) rs h = absurd cc
+ranges_found i (item (string t) items) rs h = say_range i t items (range_at (chars t)) (read_from range_or (i + 1) (list_of items)) rs refl (λ more g. ranges_found (i + 1) items more g) h
+ranges_found i (item (array ds) items) rs h = absurd cc
+ranges_found i (item (object ms) items) rs h = absurd cc
 
-pub ends_found : (i : ℕ) (items : Items) (ends : List ℕ) → ends_from i items ≡ Ok ends → SayEnds items ends
-unfolding ends_from
-ends_found i no_items ends h = sym (ok_same [] ends h)
-ends_found i (item null items) ends h = absurd cc
-ends_found i (item (boolean b) items) ends h = absurd cc
-ends_found i (item (number n) items) ends h = absurd cc
-ends_found i (item (string t) items) ends h = say_range i t items (range_at (chars t)) (ends_from (i + 1) items) ends refl (λ rest g. ends_found (i + 1) items rest g) h
-ends_found i (item (array ds) items) ends h = absurd cc
-ends_found i (item (object ms) items) ends h = absurd cc
+found_in : (items : Items) (ends : List ℕ) (r : Result (List (ℕ × ℕ)) SetJsonError) → read_from range_or 0 (list_of items) ≡ r → and_then r (λ rs. Ok (ends_of_ranges rs)) ≡ Ok ends → SayEnds items ends
+found_in items ends (Ok rs) e h = rw (sym (same_ok (ends_of_ranges rs) ends h)) (ranges_found 0 items rs e)
+found_in items ends (Err f) e h = absurd cc
 
-pub ends_only : (i : ℕ) (items : Items) (ends : List ℕ) → SayEnds items ends → ends_from i items ≡ Ok ends
-unfolding ends_from
-ends_only i no_items ends h = ap (λ z. Ok z) (sym h)
-ends_only i (item null items) ends h = absurd h
-ends_only i (item (boolean b) items) ends h = absurd h
-ends_only i (item (number n) items) ends h = absurd h
-ends_only i (item (string t) items) ends (a, b, rest, r, e, more) =
-    ap (λ z. in_front i z (ends_from (i + 1) items)) (range_only (chars t) a b r) ∙ ap (with_front (a ∷ (b + 1) ∷ [])) (ends_only (i + 1) items rest more) ∙ ap (λ z. Ok z) (sym e)
-ends_only i (item (array ds) items) ends h = absurd h
-ends_only i (item (object ms) items) ends h = absurd h
+pub ends_found : (items : Items) (ends : List ℕ) → ends_in items ≡ Ok ends → SayEnds items ends
+ends_found items ends h = found_in items ends (read_from range_or 0 (list_of items)) refl h
+
+ranges_only : (i : ℕ) (items : Items) (ends : List ℕ) → SayEnds items ends → (rs : List (ℕ × ℕ)) × (read_from range_or i (list_of items) ≡ Ok rs) × (ends ≡ ends_of_ranges rs)
+unfolding read_from
+ranges_only i no_items ends h = ([], refl, h)
+ranges_only i (item null items) ends h = absurd h
+ranges_only i (item (boolean b) items) ends h = absurd h
+ranges_only i (item (number n) items) ends h = absurd h
+ranges_only i (item (string t) items) ends (a, b, rest, r, e, more) =
+    let m = ranges_only (i + 1) items rest more in (
+      (a, b) ∷ m.0,
+      ap (λ z. before (ok_or z (errors.NotARange i)) (read_from range_or (i + 1) (list_of items))) (range_only (chars t) a b r) ∙ ap (before (Ok (a, b))) m.1,
+      e ∙ ap (λ (z : List ℕ). a ∷ (b + 1) ∷ z) m.2,
+    )
+ranges_only i (item (array ds) items) ends h = absurd h
+ranges_only i (item (object ms) items) ends h = absurd h
+
+pub ends_only : (items : Items) (ends : List ℕ) → SayEnds items ends → ends_in items ≡ Ok ends
+ends_only items ends h = let m = ranges_only 0 items ends h in ap (λ z. and_then z (λ rs. Ok (ends_of_ranges rs))) m.1 ∙ ap (λ z. Ok z) (sym m.2)
+
+-- a fault of the ends is one of the ranges
+pub fault_of_ranges : (e : SetJsonError) (r : Result (List (ℕ × ℕ)) SetJsonError) → ◌≡◌ {A = Result (List ℕ) SetJsonError} (and_then r (λ rs. Ok (ends_of_ranges rs))) (Err e) → r ≡ Err e
+fault_of_ranges e (Ok rs) h = absurd cc
+fault_of_ranges e (Err f) h = let k : f ≡ e = cc in ap (λ z. Err z) k

@@ -8,6 +8,7 @@ pub mod PlaceLemmas
 pub mod PackedEnds
 pub mod CheckedLists
 pub mod Toggles
+pub mod Searches
 pub mod Merging
 pub mod Complements
 pub mod MemberLemmas

@@ -3,10 +3,11 @@ use Rattle.std.proofs.Common.{◌≡◌, ℕ, ◌+◌, ◌-◌, ◌*◌, ◌/◌
 use Rattle.std.proofs.lemmas.Bool.{cases_lt, cases_eq, eq-eqb, ne_eqb}
 use Rattle.std.specs.Option.{MatchOption}
 use Rattle.std.specs.declared.ops.RangeInclusive.{RangeInclusive}
-use Rattle.std.proofs.lemmas.List.{drop_more, drop_all}
+use Rattle.std.proofs.lemmas.List.{drop_more}
 use Rattle.std.proofs.lemmas.List.Elements.{All-cons, All-nil}
 use Rattle.std.specs.List.{All}
-use Rattle.icu_invlist.specs.InversionList.{holds, is_odd, IsOfCodePoints, IsValid, limit, ranges_of, members_below}
+use Rattle.icu_zerovec.specs.CodePoints.{code_point_limit}
+use Rattle.icu_invlist.specs.InversionList.{holds, is_odd, IsOfCodePoints, IsValid, ranges_of, members_below}
 use Rattle.icu_invlist.specs.Inside.Places.{Run, below}
 use Rattle.icu_invlist.proofs.RunLemmas.{below-before, below-yes, below-no, run-wider}
 use Rattle.icu_invlist.proofs.Parity.{holds-below, odd_same}
@@ -20,7 +21,7 @@ length-ranges (x ∷ y ∷ xs) = let e = length-ranges xs in omega arith
 -- what is left after a range
 pub rest_valid : (x y : ℕ) (xs : List ℕ) → IsValid (x ∷ y ∷ xs) → IsValid xs
 rest_valid x y xs v = let r = run_from_valid (x ∷ y ∷ xs) v in
-    valid_from_run xs (run-wider (suc y) (suc limit) 0 (suc limit) xs (omega arith) (omega arith) r.2.2) (let e = v.even in omega arith)
+    valid_from_run xs (run-wider (suc y) (suc code_point_limit) 0 (suc code_point_limit) xs (omega arith) (omega arith) r.2.2) (let e = v.even in omega arith)
 
 -- each range of a set has a code point, and none that is no code point
 pub ranges_within : (xs : List ℕ) → IsValid xs → All IsOfCodePoints (ranges_of xs)
@@ -84,8 +85,8 @@ size_is lo hi m (s ∷ []) r h e = absurd (omega arith)
 size_is lo hi m (s ∷ y ∷ xs) r h e = let i = size_is (suc y) hi m xs r.2.2 h (omega arith) in
     let p = members-pair lo hi s y m xs r in omega (arith, r.2.0, r.2.1)
 
-pub size-valid : (xs : List ℕ) → IsValid xs → members_below xs limit ≡ total xs
-size-valid xs v = size_is 0 (suc limit) limit xs (run_from_valid xs v) (omega arith) v.even
+pub size-valid : (xs : List ℕ) → IsValid xs → members_below xs code_point_limit ≡ total xs
+size-valid xs v = size_is 0 (suc code_point_limit) code_point_limit xs (run_from_valid xs v) (omega arith) v.even
 
 pub total-more : (xs : List ℕ) (i : ℕ) → i % 2 ≡ 0 → i + 1 < length xs → total (drop i xs) ≡ (get_or xs (i + 1) 0 - get_or xs i 0) + total (drop (i + 2) xs)
 total-more xs i e h = rw (drop_more xs i 0 (omega arith), drop_more xs (i + 1) 0 h) (ap (λ (n : ℕ). (get_or xs (i + 1) 0 - get_or xs i 0) + total (drop n xs)) (omega arith))
@@ -153,18 +154,18 @@ module _ (xs : List ℕ) (i c before s e : ℕ) (v : IsValid xs) (w : Walked xs 
   parts : drop i xs ≡ s ∷ e ∷ drop (i + 2) xs
   parts = drop_pair xs i h ∙ rw (a, b) refl
 
-  rises : Run 0 (suc limit) (s ∷ e ∷ drop (i + 2) xs)
-  rises = rw parts at (run-drop 0 (suc limit) i xs (run_from_valid xs v))
+  rises : Run 0 (suc code_point_limit) (s ∷ e ∷ drop (i + 2) xs)
+  rises = rw parts at (run-drop 0 (suc code_point_limit) i xs (run_from_valid xs v))
 
-  pub walked_room : before + (e - s) ≤ suc limit
-  walked_room = let t = ap total parts in let q = total-le 0 (suc limit) xs (omega arith) (run_from_valid xs v) in let u = w.small in omega arith
+  pub walked_room : before + (e - s) ≤ suc code_point_limit
+  walked_room = let t = ap total parts in let q = total-le 0 (suc code_point_limit) xs (omega arith) (run_from_valid xs v) in let u = w.small in omega arith
 
   pub walked_in : s ≤ c → c < e → (holds xs c ≡ true) × (members_below xs c ≡ before + (c - s))
-  walked_in k l = let p = pair_in 0 (suc limit) s e c (drop (i + 2) xs) rises k l in
+  walked_in k l = let p = pair_in 0 (suc code_point_limit) s e c (drop (i + 2) xs) rises k l in
       (w.held ∙ rw parts p.0, w.so_far ∙ rw parts (ap (λ (n : ℕ). before + n) p.1))
 
   pub walked_past : e ≤ c → Walked xs (i + 2) c (before + (e - s))
-  walked_past k = let p = pair_past 0 (suc limit) s e c (drop (i + 2) xs) rises k in record {
+  walked_past k = let p = pair_past 0 (suc code_point_limit) s e c (drop (i + 2) xs) rises k in record {
     even = (let x = w.even in omega arith);
     held = w.held ∙ rw parts p.0;
     so_far = (let t = ap (λ (ys : List ℕ). members_below ys c) parts in let q = p.1 in let u = w.so_far in omega arith);

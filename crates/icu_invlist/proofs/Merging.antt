@@ -1,17 +1,20 @@
 -- A walk over two lists of ends.
-use Rattle.std.proofs.Common.{◌≡◌, ℕ, ◌+◌, ◌-◌, ◌%◌, ◌<◌, ◌≤◌, List, [], ◌∷◌, ◌++◌, length, set, take, drop, refl, ap, sym, ◌∙◌, add-zero, subst, arith, suc, Bool, true, false, not, cond, inl, inr}
+use Rattle.std.proofs.Common.{◌≡◌, ℕ, ◌+◌, ◌-◌, ◌%◌, ◌<◌, ◌≤◌, List, [], ◌∷◌, ◌++◌, length, set, take, drop, get_or, refl, ap, sym, ◌∙◌, add-zero, subst, arith, suc, Bool, true, false, not, inl, inr}
 use Rattle.std.specs.Prelude.{if◌then◌else◌, ◌⊎◌}
-use Rattle.std.proofs.lemmas.Bool.{cases_lt, cases_eq, cases_Bool, cond-true, cond-false, eq-eqb, ne_eqb, eqb-true, eqb-false}
-use Rattle.std.proofs.lemmas.List.{append-nil, drop_all, length-append, length-drop, length-take-le, length_push, take-append-drop, take_all, take-set, take_more_set}
-use Rattle.icu_invlist.specs.InversionList.{holds, is_odd, IsValid, limit, Acts}
-use Rattle.icu_invlist.specs.Inside.Merging.{Merging, Merged, MovesOver}
+use Rattle.std.proofs.Math.Bool.{not-not}
+use Rattle.std.proofs.lemmas.Bool.{cases_lt, cases_Bool, cond-true, cond-false, eq-eqb, ne_eqb, eqb-true, eqb-false}
+use Rattle.std.proofs.lemmas.List.{append-nil, drop_all, length-append, length-drop, length-take-le, length_push, take-append-drop, take_all, take-set, take_more_set, length-set}
+use Rattle.icu_zerovec.specs.CodePoints.{code_point_limit}
+use Rattle.icu_invlist.specs.InversionList.{holds, is_odd, IsValid, Acts}
+use Rattle.icu_invlist.specs.Inside.Merging.{Merging, Merged, MovesOver, Walks, StandBefore}
 use Rattle.icu_invlist.specs.Inside.Places.{Run, below}
 use mathlib.Core.Bool.{beq}
 use mir.Val.{bool_byte}
 use Rattle.icu_invlist.proofs.RunLemmas.{below-append, below-before, below-past, below-mono, below-le, below-zero, run-append, run-wider, run-front, run-back}
-use Rattle.icu_invlist.proofs.PlaceLemmas.{least_at, stays_at, moves_over, stays_over}
+use Rattle.icu_invlist.proofs.PlaceLemmas.{all_below, least_at, stays_at, moves_over, stays_over}
 use Rattle.icu_invlist.proofs.EqualSets.{parity}
-use Rattle.icu_invlist.proofs.Parity.{holds-below, odd_same}
+use Rattle.icu_invlist.proofs.Toggles.{odd_next}
+use Rattle.icu_invlist.proofs.Parity.{holds-below, holds-nil, odd_same}
 use Rattle.icu_invlist.proofs.ValidLists.{valid_from_run, run_from_valid}
 
 pub none_yet : (f : Bool → Bool → Bool) (a b : List ℕ) → f false false ≡ false → Merging f a b [] 0 0 0
@@ -25,7 +28,7 @@ none_yet f a b e = record {
 }
 
 module _ (f : Bool → Bool → Bool) (a b out r : List ℕ) (passed i j n p q : ℕ) (m : Merging f a b out passed i j)
-    (after : passed ≤ n) (within : n ≤ limit) (ia : i ≡ below a n) (jb : j ≡ below b n) (pa : p ≡ below a (suc n)) (qb : q ≡ below b (suc n))
+    (after : passed ≤ n) (within : n ≤ code_point_limit) (ia : i ≡ below a n) (jb : j ≡ below b n) (pa : p ≡ below a (suc n)) (qb : q ≡ below b (suc n))
     (inside : Run n (suc n) r) (odd : is_odd (length (out ++ r)) ≡ f (is_odd p) (is_odd q)) where
   grown-run : Run 0 (suc n) (out ++ r)
   grown-run = run-append 0 n (suc n) out r (omega arith) (omega arith) (run-wider 0 passed 0 n out (omega arith) after m.run) inside
@@ -75,7 +78,7 @@ merged_step f a b out r passed i j n p q m v w hi hj s t on inside odd =
         | inr y ↦ absurd (omega (arith, x.1, y.1))
       ]
     ] in
-    let within : n ≤ limit = (let l = v.within i 0 hi in omega (arith, s.least)) in
+    let within : n ≤ code_point_limit = (let l = v.within i 0 hi in omega (arith, s.least)) in
     let x = over a i passed n p v m.first hi after s in
     let y = over b j passed n q w m.second hj after t in
     merged_more f a b out r passed i j n p q m after within x.0 y.0 x.1 y.1 inside odd
@@ -86,7 +89,7 @@ odd_more n true h = eq-eqb _ _ (let k = eqb-false _ _ h in omega arith)
 odd_more n false h = ne_eqb _ _ (λ u. let k = eqb-true _ _ h in omega arith)
 
 -- one step, with what is written to place k of a longer list
-pub written_step : (f : Bool → Bool → Bool) (a b out : List ℕ) (k i j n p q : ℕ) (held now : Bool) → Merged f a b (take k out) i j → held ≡ f (is_odd i) (is_odd j)
+written_step : (f : Bool → Bool → Bool) (a b out : List ℕ) (k i j n p q : ℕ) (held now : Bool) → Merged f a b (take k out) i j → held ≡ f (is_odd i) (is_odd j)
     → now ≡ f (is_odd p) (is_odd q) → k < length out → IsValid a → IsValid b → i < length a → j < length b → MovesOver n a i p → MovesOver n b j q → i + j < p + q
     → Merged f a b (take (k + bool_byte (not (beq now held))) (set out k n)) p q
 written_step f a b out k i j n p q held now m e o h v w hi hj s t on =
@@ -114,12 +117,92 @@ written_step f a b out k i j n p q held now m e o h v w hi hj s t on =
     both true false z x y c = grows false z c y
     both false true z x y c = grows true z c y
 
-pub byte_small : (v : Bool) → bool_byte v ≤ 1
+byte_small : (v : Bool) → bool_byte v ≤ 1
 byte_small true = omega arith
 byte_small false = omega arith
 
-pub moves_within : (n : ℕ) (xs : List ℕ) (i p : ℕ) → MovesOver n xs i p → i < length xs → p ≤ length xs
+moves_within : (n : ℕ) (xs : List ℕ) (i p : ℕ) → MovesOver n xs i p → i < length xs → p ≤ length xs
 moves_within n xs i p o h = elim o.place [ inl k ↦ omega (arith, k.1) | inr k ↦ omega (arith, k.1) ]
+
+-- ---- the walk, with what it has written
+pub walks_none : (f : Bool → Bool → Bool) (a b out : List ℕ) → f false false ≡ false → IsValid a → IsValid b → length a + length b ≤ length out → Walks f a b out 0 0 0
+walks_none f a b out e v w r = record {
+  valid = (v, w);
+  room = r;
+  first = omega arith;
+  second = omega arith;
+  written = omega arith;
+  merged = record { passed = 0; so_far = none_yet f a b e };
+}
+
+-- one step, which writes the end if the answer changes there
+walks_step : (f : Bool → Bool → Bool) (a b out : List ℕ) (w i j n p q : ℕ) → Walks f a b out i j w → i < length a → j < length b → MovesOver n a i p → MovesOver n b j q → i + j < p + q
+    → Walks f a b (set out w n) p q (w + bool_byte (not (beq (f (is_odd p) (is_odd q)) (f (is_odd i) (is_odd j)))))
+walks_step f a b out w i j n p q s hi hj x y on = record {
+  valid = s.valid;
+  room = (let r = s.room in omega (arith, length-set out w n));
+  first = moves_within n a i p x hi;
+  second = moves_within n b j q y hj;
+  written = (let k = s.written in omega (arith, byte_small));
+  merged = written_step f a b out w i j n p q _ _ s.merged refl refl (let k = s.written in let r = s.room in omega arith) s.valid.0 s.valid.1 hi hj x y on;
+}
+
+exchanged_differ : (x y : Bool) → not (beq x y) ≡ not (beq y x)
+exchanged_differ true true = refl
+exchanged_differ true false = refl
+exchanged_differ false true = refl
+exchanged_differ false false = refl
+
+-- the answer changes at an end of one set exactly if it differs in and out of that set
+turned : (f : Bool → Bool) (i : ℕ) → not (beq (f (is_odd (i + 1))) (f (is_odd i))) ≡ not (beq (f true) (f false))
+turned f i = elim (cases_Bool (is_odd i)) [
+  | inl h ↦ rw (h, odd_more i false h) (exchanged_differ (f false) (f true))
+  | inr h ↦ rw (h, odd_more i true h) refl
+]
+
+-- it changes at an end of both sets where it differs in both and out of both, or in each alone
+abbrev pub TurnsAtBoth : (Bool → Bool → Bool) → Bool → Bool → Bool
+TurnsAtBoth f x y = not (beq (f x y) (f (not x) (not y)))
+
+turned_both : (f : Bool → Bool → Bool) (i j : ℕ) → not (beq (f (is_odd (i + 1)) (is_odd (j + 1))) (f (is_odd i) (is_odd j))) ≡ TurnsAtBoth f (is_odd i) (is_odd j)
+turned_both f i j = rw (odd_next i, odd_next j) (exchanged_differ (f (not (is_odd i)) (not (is_odd j))) (f (is_odd i) (is_odd j)))
+
+pub turned_next : (f : Bool → Bool → Bool) (i j : ℕ) → TurnsAtBoth f (is_odd i) (is_odd j) ≡ TurnsAtBoth f (is_odd (i + 1)) (is_odd (j + 1))
+turned_next f i j = rw (odd_next i, odd_next j, not-not (is_odd i), not-not (is_odd j)) (exchanged_differ (f (is_odd i) (is_odd j)) (f (not (is_odd i)) (not (is_odd j))))
+
+pub walks_first : (f : Bool → Bool → Bool) (a b out : List ℕ) (w i j : ℕ) → Walks f a b out i j w → i < length a → j < length b → get_or a i 0 < get_or b j 0
+    → Walks f a b (set out w (get_or a i 0)) (i + 1) j (w + bool_byte (not (beq (f true (is_odd j)) (f false (is_odd j)))))
+walks_first f a b out w i j s hi hj h = rw (← turned (λ x. f x (is_odd j)) i)
+    (walks_step f a b out w i j (get_or a i 0) (i + 1) j s hi hj
+    (record { least = omega arith; place = inl (refl, refl) }) (record { least = omega arith; place = inr (h, refl) }) (omega arith))
+
+pub walks_second : (f : Bool → Bool → Bool) (a b out : List ℕ) (w i j : ℕ) → Walks f a b out i j w → i < length a → j < length b → get_or b j 0 < get_or a i 0
+    → Walks f a b (set out w (get_or b j 0)) i (j + 1) (w + bool_byte (not (beq (f (is_odd i) true) (f (is_odd i) false))))
+walks_second f a b out w i j s hi hj h = rw (← turned (λ y. f (is_odd i) y) j)
+    (walks_step f a b out w i j (get_or b j 0) i (j + 1) s hi hj
+    (record { least = omega arith; place = inr (h, refl) }) (record { least = omega arith; place = inl (refl, refl) }) (omega arith))
+
+pub walks_both : (f : Bool → Bool → Bool) (a b out : List ℕ) (w i j : ℕ) → Walks f a b out i j w → i < length a → j < length b → get_or a i 0 ≡ get_or b j 0
+    → Walks f a b (set out w (get_or a i 0)) (i + 1) (j + 1) (w + bool_byte (TurnsAtBoth f (is_odd i) (is_odd j)))
+walks_both f a b out w i j s hi hj e = rw (← turned_both f i j)
+    (walks_step f a b out w i j (get_or a i 0) (i + 1) (j + 1) s hi hj
+    (record { least = omega arith; place = inl (refl, refl) }) (record { least = omega arith; place = inl (sym e, refl) }) (omega arith))
+
+-- the ends of the first up to the next of the second, those of both, and those of the second up to the next of the first: at least one is passed
+pub some_passed : (a b : List ℕ) (i j p q s t : ℕ) → i < length a → j < length b → i ≤ p → (p < length a → get_or b j 0 ≤ get_or a p 0) → p ≤ q → j ≤ s
+    → (q < length a → s < length b → get_or a q 0 ≡ get_or b s 0 → ⊥) → s ≤ t → (t < length b → get_or a q 0 ≤ get_or b t 0) → i + j < q + t
+some_passed a b i j p q s t hi hj ip first pq js both st second = elim (cases_lt (i + j) (q + t)) [
+  | inl h ↦ h
+  | inr h ↦
+      let ep : p ≡ i = omega arith in
+      let eq : q ≡ i = omega arith in
+      let es : s ≡ j = omega arith in
+      let et : t ≡ j = omega arith in
+      let x : get_or b j 0 ≤ get_or a i 0 = rw ep at first hi in
+      let y : get_or a i 0 ≤ get_or b j 0 = rw (eq, et) at second hj in
+      let z : get_or a i 0 ≡ get_or b j 0 → ⊥ = rw (eq, es) at both hi hj in
+      absurd (z (omega arith))
+]
 
 is_even : (xs : List ℕ) (n : ℕ) → IsValid xs → n ≡ length xs → is_odd n ≡ false
 is_even xs n v e = rw e (ne_eqb _ _ (λ k. let t = v.even in omega arith))
@@ -134,7 +217,7 @@ rest_left : (f : Bool → Bool → Bool) (a b out : List ℕ) (passed i j : ℕ)
     → ((x : Bool) → f x false ≡ false) → IsValid out × Acts f a (holds b) out
 rest_left f a b out passed i j m v w e none =
     let eo : is_odd (length out) ≡ false = m.parity ∙ rw (is_even b j w e) (none (is_odd i)) in (
-      valid_from_run out (run-wider 0 passed 0 (suc limit) out (omega arith) m.small m.run) (even_from out eo),
+      valid_from_run out (run-wider 0 passed 0 (suc code_point_limit) out (omega arith) m.small m.run) (even_from out eo),
       λ c l. elim (cases_lt c passed) [
         | inl p ↦ m.set c p
         | inr p ↦ rw (holds_none b j passed c w m.second e p, none (holds a c))
@@ -151,18 +234,18 @@ rest_kept : (f : Bool → Bool → Bool) (a b out : List ℕ) (passed i j : ℕ)
 rest_kept f a b out passed i j m v w e keep =
     let r = run_from_valid a v in
     let k = m.first in
-    let back : Run passed (suc limit) (drop i a) = rw k (run-back 0 (suc limit) passed a r) in
-    let front : Run 0 passed (take i a) = rw k (run-front 0 (suc limit) passed a r) in
+    let back : Run passed (suc code_point_limit) (drop i a) = rw k (run-back 0 (suc code_point_limit) passed a r) in
+    let front : Run 0 passed (take i a) = rw k (run-front 0 (suc code_point_limit) passed a r) in
     let il : i ≤ length a = (let t = below-le a passed in omega arith) in
     let lt : length (take i a) ≡ i = length-take-le i a il in
     let ld : length (drop i a) + i ≡ length a = (let t = length-drop i a in omega arith) in
     let po : length out % 2 ≡ i % 2 = parity _ _ (m.parity ∙ rw (is_even b j w e) (keep (is_odd i))) in
     let lo = length-append out (drop i a) in
-    let whole : Run 0 (suc limit) (out ++ drop i a) = run-append 0 passed (suc limit) out (drop i a) (omega arith) m.small m.run back in (
+    let whole : Run 0 (suc code_point_limit) (out ++ drop i a) = run-append 0 passed (suc code_point_limit) out (drop i a) (omega arith) m.small m.run back in (
       valid_from_run (out ++ drop i a) whole (let t = v.even in omega arith),
       λ c l. elim (cases_lt c passed) [
         | inl p ↦ rw (holds-below (out ++ drop i a) c) (ap is_odd
-            (let s = below-append out (drop i a) (suc c) in let t = below-before passed (suc limit) (drop i a) (suc c) back (omega arith) in
+            (let s = below-append out (drop i a) (suc c) in let t = below-before passed (suc code_point_limit) (drop i a) (suc c) back (omega arith) in
             let z : below (out ++ drop i a) (suc c) ≡ below out (suc c) = omega arith in z) ∙ (sym (holds-below out c) ∙ m.set c p))
         | inr p ↦ rw (holds_none b j passed c w m.second e p, keep (holds a c), holds-below (out ++ drop i a) c, holds-below a c)
             (odd_same _ _
@@ -199,21 +282,108 @@ same_cond true x y e = e
 same_cond false x y e = refl
 
 -- one of the lists is passed, and what is wanted of the rest of either is appended
-pub merged_all : (f : Bool → Bool → Bool) (a b out : List ℕ) (i j p q : ℕ) → f false false ≡ false → Merged f a b out i j → IsValid a → IsValid b
-    → (i ≡ length a) × (j ≤ length b) ⊎ (i ≤ length a) × (j ≡ length b)
+rests : (f : Bool → Bool → Bool) (a b out : List ℕ) (i j p q : ℕ) → f false false ≡ false → Merged f a b out i j → IsValid a → IsValid b → i ≤ length a → j ≤ length b
+    → (i ≡ length a) ⊎ (j ≡ length b)
     → p ≡ (if f true false then i else length a) → q ≡ (if f false true then j else length b)
     → IsValid ((out ++ drop p a) ++ drop q b) × Acts f a (holds b) ((out ++ drop p a) ++ drop q b)
-merged_all f a b out i j p q none m v w (inl h) k l =
-    let z : p ≡ length a = k ∙ same_cond (f true false) i (length a) h.0 in
+rests f a b out i j p q none m v w x y (inl h) k l =
+    let z : p ≡ length a = k ∙ same_cond (f true false) i (length a) h in
     rw (z, drop_all (length a) a (omega arith), append-nil out)
-    (after_second (λ x y. f y x) b a out j i q none (record { passed = m.passed; so_far = exchanged f a b out m.passed i j m.so_far }) w v h.1 h.0 l)
-merged_all f a b out i j p q none m v w (inr h) k l =
-    let z : q ≡ length b = l ∙ same_cond (f false true) j (length b) h.1 in
+    (after_second (λ x y. f y x) b a out j i q none (record { passed = m.passed; so_far = exchanged f a b out m.passed i j m.so_far }) w v y h l)
+rests f a b out i j p q none m v w x y (inr h) k l =
+    let z : q ≡ length b = l ∙ same_cond (f false true) j (length b) h in
     rw (z, drop_all (length b) b (omega arith), append-nil (out ++ drop p a))
-    (after_second f a b out i j p none m v w h.0 h.1 k)
+    (after_second f a b out i j p none m v w x h k)
+
+pub merged_all : (f : Bool → Bool → Bool) (a b out : List ℕ) (n i j p q : ℕ) → f false false ≡ false → Walks f a b out i j n → (i ≡ length a) ⊎ (j ≡ length b)
+    → p ≡ (if f true false then i else length a) → q ≡ (if f false true then j else length b)
+    → IsValid ((take n out ++ drop p a) ++ drop q b) × Acts f a (holds b) ((take n out ++ drop p a) ++ drop q b)
+merged_all f a b out n i j p q none s passed k l = rests f a b (take n out) i j p q none s.merged s.valid.0 s.valid.1 s.first s.second passed k l
 
 -- what a list is after its rests are appended
 pub joined : (a b out cut more whole : List ℕ) (p q : ℕ) → cut ≡ out → more ≡ cut ++ take (length a - p) (drop p a) → whole ≡ more ++ drop q b → whole ≡ (out ++ drop p a) ++ drop q b
 joined a b out cut more whole p q x y z =
     z ∙ ap (λ (ys : List ℕ). ys ++ drop q b) (y ∙ (ap (λ (ys : List ℕ). ys ++ take (length a - p) (drop p a)) x
     ∙ ap (λ (ys : List ℕ). out ++ ys) (take_all (length a - p) (drop p a) (omega (arith, length-drop p a)))))
+
+-- ---- sets whose ends stand apart
+-- all ends of the first list are passed and none of the second; the operation keeps the first, or leaves it out
+stood : (f : Bool → Bool → Bool) (a b out : List ℕ) → f false false ≡ false → IsValid a → (s : StandBefore a b) → (f true false ≡ true) × (out ≡ a) ⊎ (f true false ≡ false) × (out ≡ [])
+    → Merging f a b out s.end (length a) 0
+stood f a b out none v s (inl (t, e)) = rw e (record {
+  first = s.first;
+  second = s.second;
+  run = whole_front;
+  small = s.within;
+  parity = is_even a (length a) v refl ∙ (sym none ∙ ap (λ x. f x false) (sym (is_even a (length a) v refl)));
+  set = λ c h. sym (ap (f (holds a c)) (second_none c h) ∙ keeps (λ x. f x false) none t (holds a c));
+})
+  where
+    whole_front : Run 0 s.end a
+    whole_front = let front : Run 0 s.end (take (length a) a) = rw s.first (run-front 0 (suc code_point_limit) s.end a (run_from_valid a v)) in
+        subst (λ (xs : List ℕ). Run 0 s.end xs) (take_all (length a) a (omega arith)) front
+
+    second_none : (c : ℕ) → c < s.end → holds b c ≡ false
+    second_none c h = holds-below b c ∙ ap is_odd (let k = below-mono b (suc c) s.end (omega arith) in let n = s.second in let z : below b (suc c) ≡ 0 = omega arith in z)
+stood f a b out none v s (inr (t, e)) = rw e (record {
+  first = s.first;
+  second = s.second;
+  run = tt;
+  small = s.within;
+  parity = sym none ∙ ap (λ x. f x false) (sym (is_even a (length a) v refl));
+  set = λ c h. holds-nil c ∙ sym (ap (f (holds a c)) (second_none c h) ∙ leaves (λ x. f x false) none t (holds a c));
+})
+  where
+    second_none : (c : ℕ) → c < s.end → holds b c ≡ false
+    second_none c h = holds-below b c ∙ ap is_odd (let k = below-mono b (suc c) s.end (omega arith) in let n = s.second in let z : below b (suc c) ≡ 0 = omega arith in z)
+
+-- the operation keeps both
+pub stood_both : (f : Bool → Bool → Bool) (a b : List ℕ) → f false false ≡ false → IsValid a → IsValid b → StandBefore a b → f true false ≡ true → f false true ≡ true
+    → IsValid (a ++ b) × Acts f a (holds b) (a ++ b)
+stood_both f a b none v w s t u =
+    let m = stood f a b a none v s (inl (t, refl)) in
+    let all = rests f a b a (length a) 0 (length a) 0 none (record { passed = s.end; so_far = m }) v w (omega arith) (omega arith) (inl refl)
+    (sym (cond-true _ _ _ t)) (sym (cond-true _ _ _ u)) in
+    rw (drop_all (length a) a (omega arith), append-nil a) at all
+
+-- the operation keeps none of the second
+pub stood_first : (f : Bool → Bool → Bool) (a b out : List ℕ) → f false false ≡ false → IsValid a → IsValid b → StandBefore a b → f false true ≡ false → out ≡ (if f true false then a else [])
+    → IsValid out × Acts f a (holds b) out
+stood_first f a b out none v w s u e =
+    let o : (f true false ≡ true) × (out ≡ a) ⊎ (f true false ≡ false) × (out ≡ []) = elim (cases_Bool (f true false)) [ inl t ↦ inl (t, e ∙ cond-true _ _ _ t) | inr t ↦ inr (t, e ∙ cond-false _ _ _ t) ] in
+    let m = stood f a b out none v s o in
+    let all = rests f a b out (length a) 0 (length a) (length b) none (record { passed = s.end; so_far = m }) v w (omega arith) (omega arith) (inl refl)
+    (sym (same_cond (f true false) (length a) (length a) refl)) (sym (cond-false _ _ _ u)) in
+    rw (drop_all (length a) a (omega arith), append-nil out, drop_all (length b) b (omega arith), append-nil out) at all
+
+-- the same where the ends of the second stand before those of the first
+pub stood_second : (f : Bool → Bool → Bool) (a b out : List ℕ) → f false false ≡ false → IsValid a → IsValid b → StandBefore b a → f false true ≡ false → out ≡ (if f true false then a else [])
+    → IsValid out × Acts f a (holds b) out
+stood_second f a b out none v w s u e =
+    let m = stood (λ x y. f y x) b a [] none w s (inr (u, refl)) in
+    let all = rests f a b [] 0 (length b) (if f true false then 0 else length a) (length b) none (record { passed = s.end; so_far = exchanged (λ x y. f y x) b a [] s.end (length b) 0 m }) v w (omega arith) (omega arith) (inr refl)
+    refl (sym (same_cond (f false true) (length b) (length b) refl)) in
+    elim (cases_Bool (f true false)) [
+      | inl t ↦ rw (e ∙ cond-true _ _ _ t) (rw (drop_all (length b) b (omega arith), append-nil (drop (if f true false then 0 else length a) a), cond-true _ _ _ t) at all)
+      | inr t ↦ rw (e ∙ cond-false _ _ _ t) (rw (drop_all (length b) b (omega arith), append-nil (drop (if f true false then 0 else length a) a), cond-false _ _ _ t, drop_all (length a) a (omega arith)) at all)
+    ]
+
+-- where all ends of a list stand, by its last one and the other's first
+pub stand_by_ends : (a b : List ℕ) (n : ℕ) → IsValid a → IsValid b → n ≡ length a → 0 < n → 0 < length b → get_or a (n - 1) 0 < get_or b 0 0 → StandBefore a b
+stand_by_ends a b n v w e some least h = record {
+  end = get_or b 0 0;
+  within = (let k = w.within 0 0 least in omega arith);
+  first = sym e ∙ all_below a n (get_or b 0 0) (run_from_valid a v) e some h;
+  second = stays_at b 0 0 (get_or b 0 0) w (sym (below-zero b)) (omega arith) (λ _. omega arith);
+}
+
+pub stand_of_none : (a b : List ℕ) → length a ≡ 0 → StandBefore a b
+stand_of_none a b e = record { end = 0; within = omega arith; first = e ∙ sym (below-zero a); second = sym (below-zero b) }
+
+pub stand_before_none : (a b : List ℕ) → IsValid a → length b ≡ 0 → StandBefore a b
+stand_before_none a b v e = record {
+  end = suc code_point_limit;
+  within = omega arith;
+  first = sym (below-past 0 (suc code_point_limit) a (suc code_point_limit) (run_from_valid a v) (omega arith));
+  second = (let k = below-le b (suc code_point_limit) in omega arith);
+}

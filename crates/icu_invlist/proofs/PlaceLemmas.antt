@@ -1,24 +1,27 @@
 -- Where a code point stands among the ends of a valid list.
-use Rattle.std.proofs.Common.{◌≡◌, ℕ, ◌+◌, ◌-◌, ◌%◌, ◌<◌, ◌≤◌, List, [], ◌∷◌, length, get_or, refl, sym, ◌∙◌, arith, suc, true, false, inl, inr}
-use Rattle.std.proofs.lemmas.Bool.{cases_eq, cases_lt, eq-eqb, ne_eqb, eqb-true}
-use Rattle.icu_invlist.specs.InversionList.{holds, IsValid, limit, HoldsAll, IsSubset}
+use Rattle.std.proofs.Common.{◌≡◌, ℕ, ◌+◌, ◌-◌, ◌%◌, ◌<◌, ◌≤◌, List, [], ◌∷◌, length, get_or, refl, sym, ◌∙◌, arith, suc, Bool, true, false, inl, inr}
+use Rattle.std.proofs.lemmas.Bool.{cases_eq, cases_lt, eq-eqb, ne_eqb, eqb-true, le-leb, le-ltb, lt-leb, lt-ltb}
+use Rattle.std.specs.Prelude.{nat_le}
+use mir.Val.{bool_byte}
+use Rattle.icu_zerovec.specs.CodePoints.{code_point_limit}
+use Rattle.icu_invlist.specs.InversionList.{between, holds, IsValid, HoldsAll, IsSubset}
 use Rattle.icu_invlist.specs.Inside.Places.{Run, below}
-use Rattle.icu_invlist.proofs.RunLemmas.{below_is, below-le, below-front, below-more, below-stays, run-rises, run-back-least}
+use Rattle.icu_invlist.proofs.RunLemmas.{below_is, below-le, below-front, below-more, below-no, below-stays, below-yes, run-rises, run-back-least}
 use Rattle.icu_invlist.proofs.Parity.{holds-below}
 use Rattle.icu_invlist.proofs.EqualSets.{holds-past}
 use Rattle.icu_invlist.proofs.ValidLists.{run_from_valid}
 
 pub least_at : (xs : List ℕ) (i m : ℕ) → IsValid xs → i ≡ below xs m → i < length xs → m ≤ get_or xs i 0
-least_at xs i m v e h = run-back-least 0 (suc limit) m xs (run_from_valid xs v) i (omega arith) h
+least_at xs i m v e h = run-back-least 0 (suc code_point_limit) m xs (run_from_valid xs v) i (omega arith) h
 
 pub stays_at : (xs : List ℕ) (i m n : ℕ) → IsValid xs → i ≡ below xs m → m ≤ n → (i < length xs → n ≤ get_or xs i 0) → i ≡ below xs n
-stays_at xs i m n v e h next = e ∙ below-stays 0 (suc limit) m n xs (run_from_valid xs v) h (rw e at next)
+stays_at xs i m n v e h next = e ∙ below-stays 0 (suc code_point_limit) m n xs (run_from_valid xs v) h (rw e at next)
 
 -- the place moves on over n
 pub moves_over : (xs : List ℕ) (i n : ℕ) → IsValid xs → i ≡ below xs n → i < length xs → get_or xs i 0 ≡ n → i + 1 ≡ below xs (suc n)
 moves_over xs i n v e h k = below_is xs (i + 1) (suc n) (omega arith)
-    (λ j p. let q = run-rises 0 (suc limit) xs (run_from_valid xs v) j i 0 (omega arith) h in omega arith)
-    (λ j p q. let a = v.ascending i (omega arith) in let b = run-rises 0 (suc limit) xs (run_from_valid xs v) (i + 1) j 0 p q in omega arith)
+    (λ j p. let q = run-rises 0 (suc code_point_limit) xs (run_from_valid xs v) j i 0 (omega arith) h in omega arith)
+    (λ j p q. let a = v.ascending i (omega arith) in let b = run-rises 0 (suc code_point_limit) xs (run_from_valid xs v) (i + 1) j 0 p q in omega arith)
 
 pub stays_over : (xs : List ℕ) (i n : ℕ) → IsValid xs → i ≡ below xs n → (i < length xs → get_or xs i 0 ≡ n → ⊥) → i ≡ below xs (suc n)
 stays_over xs i n v e h = stays_at xs i n (suc n) v e (omega arith)
@@ -28,22 +31,22 @@ pub run-length : (lo hi : ℕ) (xs : List ℕ) → lo ≤ hi → Run lo hi xs �
 run-length lo hi [] h r = omega arith
 run-length lo hi (x ∷ xs) h r = let a = run-length (suc x) hi xs (omega (arith, r.1)) r.2 in omega (arith, r.0)
 
-pub valid-length : (xs : List ℕ) → IsValid xs → length xs ≤ suc limit
-valid-length xs v = let a = run-length 0 (suc limit) xs (omega arith) (run_from_valid xs v) in omega arith
+pub valid-length : (xs : List ℕ) → IsValid xs → length xs ≤ suc code_point_limit
+valid-length xs v = let a = run-length 0 (suc code_point_limit) xs (omega arith) (run_from_valid xs v) in omega arith
 
 -- what an end says of the place of c
 pub place_behind : (xs : List ℕ) (m c : ℕ) → IsValid xs → m < length xs → get_or xs m 0 ≤ c → m + 1 ≤ below xs (suc c)
-place_behind xs m c v l h = let b = below-more 0 (suc limit) (suc c) xs (run_from_valid xs v) m (omega arith) l in omega arith
+place_behind xs m c v l h = let b = below-more 0 (suc code_point_limit) (suc c) xs (run_from_valid xs v) m (omega arith) l in omega arith
 
 pub place_front : (xs : List ℕ) (m c : ℕ) → IsValid xs → c < get_or xs m 0 → below xs (suc c) ≤ m
 place_front xs m c v h = elim (cases_lt m (below xs (suc c))) [
-  | inl k ↦ absurd (let f = below-front 0 (suc limit) (suc c) xs (run_from_valid xs v) m k in omega arith)
+  | inl k ↦ absurd (let f = below-front 0 (suc code_point_limit) (suc c) xs (run_from_valid xs v) m k in omega arith)
   | inr k ↦ k
 ]
 
-pub all_below : (xs : List ℕ) (n c : ℕ) → Run 0 (suc limit) xs → n ≡ length xs → 0 < n → get_or xs (n - 1) 0 < c → n ≡ below xs c
+pub all_below : (xs : List ℕ) (n c : ℕ) → Run 0 (suc code_point_limit) xs → n ≡ length xs → 0 < n → get_or xs (n - 1) 0 < c → n ≡ below xs c
 all_below xs n c r e some h = below_is xs n c (omega arith)
-    (λ k p. let q = run-rises 0 (suc limit) xs r k (n - 1) 0 (omega arith) (omega arith) in omega arith)
+    (λ k p. let q = run-rises 0 (suc code_point_limit) xs r k (n - 1) 0 (omega arith) (omega arith) in omega arith)
     (λ k p q. absurd (omega arith))
 
 -- a point in a run of the set
@@ -64,15 +67,15 @@ not_past xs i s e v p odd h all l =
 pub within-place : (xs : List ℕ) (i c : ℕ) → IsValid xs → i ≡ below xs c → i % 2 ≡ 1 → i < length xs
 within-place xs i c v p odd = let a = below-le xs c in let b = v.even in elim (cases_eq i (length xs)) [ inl e ↦ absurd (omega arith) | inr e ↦ omega arith ]
 
-pub not_past_limit : (xs : List ℕ) (c : ℕ) → IsValid xs → limit ≤ c → holds xs c ≡ false
+pub not_past_limit : (xs : List ℕ) (c : ℕ) → IsValid xs → code_point_limit ≤ c → holds xs c ≡ false
 not_past_limit xs c v h = let e = holds-past xs c v h in holds-below xs c ∙ ne_eqb _ _ (λ k. omega arith)
 
 -- the points of a run are held, and each held point is in a run
 pub in_pair : (xs : List ℕ) (k c : ℕ) → IsValid xs → k % 2 ≡ 0 → k + 1 < length xs → get_or xs k 0 ≤ c → c < get_or xs (k + 1) 0 → holds xs c ≡ true
 in_pair xs k c v even l a b =
     let e : k + 1 ≡ below xs (suc c) = below_is xs (k + 1) (suc c) (omega arith)
-    (λ i h. let q = run-rises 0 (suc limit) xs (run_from_valid xs v) i k 0 (omega arith) (omega arith) in omega arith)
-    (λ i h t. let q = run-rises 0 (suc limit) xs (run_from_valid xs v) (k + 1) i 0 h t in omega arith) in
+    (λ i h. let q = run-rises 0 (suc code_point_limit) xs (run_from_valid xs v) i k 0 (omega arith) (omega arith) in omega arith)
+    (λ i h t. let q = run-rises 0 (suc code_point_limit) xs (run_from_valid xs v) (k + 1) i 0 h t in omega arith) in
     rw (holds-below xs c, ← e) (eq-eqb _ _ (omega arith))
 
 pub record InPair (xs : List ℕ) (c : ℕ) : Type 0 where
@@ -88,8 +91,8 @@ pair_of xs c v h =
     let p = below xs (suc c) in
     let l = within-place xs p (suc c) v refl odd in
     let e : (p - 1) + 1 ≡ p = omega arith in
-    let a = below-front 0 (suc limit) (suc c) xs (run_from_valid xs v) (p - 1) (omega arith) in
-    let b = run-back-least 0 (suc limit) (suc c) xs (run_from_valid xs v) p (omega arith) l in
+    let a = below-front 0 (suc code_point_limit) (suc c) xs (run_from_valid xs v) (p - 1) (omega arith) in
+    let b = run-back-least 0 (suc code_point_limit) (suc c) xs (run_from_valid xs v) p (omega arith) l in
     record { place = p - 1; even = omega arith; inside = omega arith; from = omega arith; to = rw e (omega arith) }
 
 pub subset_from : (part whole : List ℕ) (n : ℕ) → IsValid part → length part ≤ n
@@ -98,3 +101,94 @@ subset_from part whole n v l all c h t = let p = pair_of part c v t in all p.pla
 
 pub all_from_subset : (part whole : List ℕ) (k : ℕ) → IsValid part → k % 2 ≡ 0 → k + 1 < length part → IsSubset part whole → HoldsAll whole (get_or part k 0) (get_or part (k + 1) 0)
 all_from_subset part whole k v even l sub c a b = sub c (let w = v.within (k + 1) 0 l in omega arith) (in_pair part k c v even l a b)
+
+-- ---- parts of a set
+-- the set `whole` holds the ranges of `part` before place i
+pub record HoldsBefore (part whole : List ℕ) (i : ℕ) : Type 0 where
+  pub even : i % 2 ≡ 0
+  pub ranges : (k : ℕ) → k + 1 < i → k % 2 ≡ 0 → HoldsAll whole (get_or part k 0) (get_or part (k + 1) 0)
+
+pub holds_before_any : (part whole : List ℕ) → HoldsBefore part whole 0
+holds_before_any part whole = record { even = omega arith; ranges = λ k h. absurd (omega arith) }
+
+pub holds_more : (part whole : List ℕ) (i : ℕ) → HoldsBefore part whole i → HoldsAll whole (get_or part i 0) (get_or part (i + 1) 0) → HoldsBefore part whole (i + 2)
+holds_more part whole i b all = record {
+  even = (let e = b.even in omega arith);
+  ranges = λ k h e. elim (cases_lt (k + 1) i) [
+    | inl l ↦ b.ranges k l e
+    | inr l ↦ (let s : k ≡ i = (let d = b.even in omega arith) in rw s all)
+  ];
+}
+
+pub holds_whole : (part whole : List ℕ) (i : ℕ) → HoldsBefore part whole i → IsValid part → length part ≤ i → IsSubset part whole
+holds_whole part whole i b v l = subset_from part whole i v l b.ranges
+
+pub last_of_pair : (xs : List ℕ) (i : ℕ) → IsValid xs → i % 2 ≡ 0 → i < length xs → i + 1 < length xs
+last_of_pair xs i v e l = let d = v.even in omega arith
+
+-- nothing is part of no code points
+pub no_part_of_none : (part whole : List ℕ) → IsValid part → 0 < length part → length whole ≡ 0 → IsSubset part whole → ⊥
+no_part_of_none part whole v some none sub =
+    let r = all_from_subset part whole 0 v refl (last_of_pair part 0 v refl some) sub in
+    let a = v.ascending 0 (last_of_pair part 0 v refl some) in
+    let p : 0 ≡ below whole (suc (get_or part 0 0)) = (let l = below-le whole (suc (get_or part 0 0)) in omega arith) in
+    not_even whole 0 (get_or part 0 0) (get_or part 1 0) p a r (λ e. omega arith)
+
+-- a part has its first start and its last end within those of the whole
+pub first_within : (part whole : List ℕ) → IsValid part → IsValid whole → 0 < length part → IsSubset part whole → get_or whole 0 0 ≤ get_or part 0 0
+first_within part whole v w some sub = elim (cases_lt (get_or part 0 0) (get_or whole 0 0)) [
+  | inl h ↦ absurd
+      (let r = all_from_subset part whole 0 v refl (last_of_pair part 0 v refl some) sub in
+      let a = v.ascending 0 (last_of_pair part 0 v refl some) in
+      let p = place_front whole 0 (get_or part 0 0) w h in
+      not_even whole 0 (get_or part 0 0) (get_or part 1 0) (omega arith) a r (λ e. omega arith))
+  | inr h ↦ h
+]
+
+pub last_within : (part whole : List ℕ) (m n : ℕ) → IsValid part → IsValid whole → m ≡ length part → n ≡ length whole → 0 < m → 0 < n → IsSubset part whole
+    → get_or part (m - 1) 0 ≤ get_or whole (n - 1) 0
+last_within part whole m n v w pm pn some more sub = elim (cases_lt (get_or whole (n - 1) 0) (get_or part (m - 1) 0)) [
+  | inl h ↦ absurd
+      (let c = get_or part (m - 1) 0 - 1 in
+      let even : (m - 2) % 2 ≡ 0 = (let d = v.even in omega arith) in
+      let second : (m - 2) + 1 ≡ m - 1 = (let d = v.even in omega arith) in
+      let inside : (m - 2) + 1 < length part = (let d = v.even in omega arith) in
+      let a : get_or part (m - 2) 0 < get_or part (m - 1) 0 = rw second at (v.ascending (m - 2) inside) in
+      let r : HoldsAll whole (get_or part (m - 2) 0) (get_or part (m - 1) 0) = rw second at (all_from_subset part whole (m - 2) v even inside sub) in
+      let held : holds whole c ≡ true = r c (omega arith) (omega arith) in
+      let p : n ≡ below whole (suc c) = all_below whole n (suc c) (run_from_valid whole w) pn more (omega arith) in
+      let odd = eqb-true _ _ (sym (holds-below whole c) ∙ held) in
+      (let d = w.even in omega arith))
+  | inr h ↦ h
+]
+
+-- the place among two ends
+pub place_of_two : (xs : List ℕ) (c : ℕ) (s t : Bool) → length xs ≡ 2 → s ≡ nat_le (get_or xs 0 0) c → t ≡ nat_le (get_or xs 1 0) c → bool_byte s + bool_byte t ≡ below xs (suc c)
+place_of_two (x ∷ y ∷ []) c s t e p q = rw (p, q) (elim (cases_lt c x) [
+  | inl h ↦ elim (cases_lt c y) [
+    | inl k ↦ rw (lt-leb x c h, lt-leb y c k, below-no x (suc c) (y ∷ []) h, below-no y (suc c) [] k) refl
+    | inr k ↦ rw (lt-leb x c h, le-leb y c k, below-no x (suc c) (y ∷ []) h, below-yes y (suc c) [] (omega arith)) refl
+  ]
+  | inr h ↦ elim (cases_lt c y) [
+    | inl k ↦ rw (le-leb x c h, lt-leb y c k, below-yes x (suc c) (y ∷ []) (omega arith), below-no y (suc c) [] k) refl
+    | inr k ↦ rw (le-leb x c h, le-leb y c k, below-yes x (suc c) (y ∷ []) (omega arith), below-yes y (suc c) [] (omega arith)) refl
+  ]
+])
+place_of_two [] c s t e p q = absurd (omega arith)
+place_of_two (x ∷ []) c s t e p q = absurd (omega arith)
+place_of_two (x ∷ y ∷ z ∷ zs) c s t e p q = absurd (omega arith)
+
+-- the set of two ends is one range
+pub one_range : (xs : List ℕ) (c s e : ℕ) → IsValid xs → length xs ≡ 2 → s ≡ get_or xs 0 0 → e ≡ get_or xs 1 0 → between s e c ≡ holds xs c
+one_range (x ∷ y ∷ []) c s e v l p q =
+    let up : x < y = v.ascending 0 (omega arith) in
+    rw (p, q, holds-below (x ∷ y ∷ []) c) (elim (cases_lt c x) [
+      | inl h ↦ rw (lt-leb x c h, below-no x (suc c) (y ∷ []) (omega arith), below-no y (suc c) [] (omega arith)) refl
+      | inr h ↦ elim (cases_lt c y) [
+        | inl k ↦ rw (le-leb x c h, lt-ltb c y k, below-yes x (suc c) (y ∷ []) (omega arith), below-no y (suc c) [] (omega arith)) refl
+        | inr k ↦ rw (le-leb x c h, le-ltb c y k, below-yes x (suc c) (y ∷ []) (omega arith), below-yes y (suc c) [] (omega arith)) refl
+      ]
+    ])
+one_range [] c s e v l p q = absurd (omega arith)
+one_range (x ∷ []) c s e v l p q = absurd (omega arith)
+one_range (x ∷ y ∷ z ∷ zs) c s e v l p q = absurd (omega arith)

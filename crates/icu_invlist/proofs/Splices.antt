@@ -1,12 +1,15 @@
 -- A splice of a list of ends, and what its set holds then.
 use mathlib.Core.Bool.{beq}
-use Rattle.std.proofs.Common.{◌≡◌, ℕ, ◌+◌, ◌%◌, ◌<◌, ◌≤◌, List, [], ◌∷◌, ◌++◌, length, take, drop, refl, ap, sym, ◌∙◌, arith, min, suc, add-one, nat_eq, Bool, true, false, cond, not, ◌&&◌, ◌||◌, ◌⊎◌, inl, inr}
+use Rattle.std.proofs.Common.{◌≡◌, ℕ, ◌+◌, ◌-◌, ◌%◌, ◌<◌, ◌≤◌, List, [], ◌∷◌, ◌++◌, length, set, get_or, take, drop, refl, ap, sym, ◌∙◌, arith, min, suc, add-one, nat_eq, Bool, true, false, cond, not, ◌&&◌, ◌⊎◌, inl, inr}
+use Rattle.std.proofs.Math.Bool.{or-false, or-true}
 use Rattle.std.proofs.lemmas.Bool.{cases_lt, cases_eq, lt-ltb, le-ltb, le-leb, lt-leb, eq-eqb, ne_eqb, eqb-true}
-use Rattle.std.proofs.lemmas.List.{length-append, length-take-le, length-drop, take-append-drop}
-use Rattle.std.specs.List.{splice}
-use Rattle.icu_invlist.specs.InversionList.{holds, is_odd, between, IsValid, limit, Acts, either, without}
+use Rattle.std.proofs.Math.Seq.{set-append_seam, take-append-add, take-append_seam}
+use Rattle.std.proofs.lemmas.List.{append_assoc, append-nil, drop_all, drop-append-le, length-append, length-take-le, length-drop, set-append_right, take-append-drop}
+use Rattle.std.specs.List.{copy_within, splice}
+use Rattle.icu_zerovec.specs.CodePoints.{code_point_limit}
+use Rattle.icu_invlist.specs.InversionList.{holds, is_odd, between, IsValid, Acts, either, without}
 use Rattle.icu_invlist.specs.Inside.Places.{IsFilled, Run, below}
-use Rattle.icu_invlist.proofs.RunLemmas.{below-append, below-before, below-past, below-le, below-yes, below-no, run-append, run-front, run-back, below-mono, below-zero}
+use Rattle.icu_invlist.proofs.RunLemmas.{below-append, below-before, below-front, below-past, below-le, below-yes, below-no, run-append, run-front, run-back, below-mono, below-zero}
 use Rattle.icu_invlist.proofs.Parity.{odd_same, odd_is, holds-below}
 use Rattle.icu_invlist.proofs.ValidLists.{run_from_valid, valid_from_run}
 
@@ -99,23 +102,23 @@ borders-in true false s e c h k = below-yes s (suc c) [] (omega arith)
 borders-in false true s e c h k = below-no e (suc c) [] (omega arith)
 borders-in false false s e c h k = refl
 
-module _ (xs : List ℕ) (s e : ℕ) (value f g : Bool) (valid : IsValid xs) (less : s < e) (within : e ≤ limit)
+module _ (xs : List ℕ) (s e : ℕ) (value f g : Bool) (valid : IsValid xs) (less : s < e) (within : e ≤ code_point_limit)
     (first : (below xs s + cond f 1 0) % 2 ≡ cond value 1 0) (second : (below xs (suc e) + cond g 1 0) % 2 ≡ cond value 1 0) where
   pub filled-valid : IsValid (spliced xs s e (borders f g s e))
-  filled-valid = valid_from_run _ (spliced-run xs s e (suc limit) (borders f g s e) (run_from_valid xs valid) (omega arith) (omega arith) (borders-run f g s e less))
-      (let a = spliced-length xs s e (suc limit) (borders f g s e) (run_from_valid xs valid) (omega arith) (omega arith) (borders-run f g s e less) in
+  filled-valid = valid_from_run _ (spliced-run xs s e (suc code_point_limit) (borders f g s e) (run_from_valid xs valid) (omega arith) (omega arith) (borders-run f g s e less))
+      (let a = spliced-length xs s e (suc code_point_limit) (borders f g s e) (run_from_valid xs valid) (omega arith) (omega arith) (borders-run f g s e less) in
       let b = borders-length f g s e in
       let d = valid.even in omega arith)
 
   pub filled-holds : IsFilled xs s e value (spliced xs s e (borders f g s e))
   filled-holds c = elim (cases_lt c s) [
-    | inl h ↦ rw (before_range s e c h, holds-below, holds-below xs c) (ap is_odd (spliced-before xs s e (suc limit) (borders f g s e) (run_from_valid xs valid) (omega arith) (omega arith) (borders-run f g s e less) c h))
+    | inl h ↦ rw (before_range s e c h, holds-below, holds-below xs c) (ap is_odd (spliced-before xs s e (suc code_point_limit) (borders f g s e) (run_from_valid xs valid) (omega arith) (omega arith) (borders-run f g s e less) c h))
     | inr h ↦ elim (cases_lt c e) [
       | inl k ↦ rw (in_range s e c h k, holds-below) (odd_is _ value
-          (let a = spliced-in xs s e (suc limit) (borders f g s e) (run_from_valid xs valid) (omega arith) (omega arith) (borders-run f g s e less) c h k in
+          (let a = spliced-in xs s e (suc code_point_limit) (borders f g s e) (run_from_valid xs valid) (omega arith) (omega arith) (borders-run f g s e less) c h k in
           let b = borders-in f g s e c h k in omega arith))
       | inr k ↦ rw (past_range s e c k, holds-below, holds-below xs c) (odd_same _ _
-          (let a = spliced-past xs s e (suc limit) (borders f g s e) (run_from_valid xs valid) (omega arith) (omega arith) (borders-run f g s e less) c k in
+          (let a = spliced-past xs s e (suc code_point_limit) (borders f g s e) (run_from_valid xs valid) (omega arith) (omega arith) (borders-run f g s e less) c k in
           let b = borders-length f g s e in omega arith))
     ]
   ]
@@ -138,7 +141,7 @@ needed-parity n value = elim (cases_eq (n % 2) 1) [
     by_value_even n true h = omega arith
     by_value_even n false h = omega arith
 
-pub filled : (xs ys : List ℕ) (i j s e : ℕ) (value f g : Bool) → IsValid xs → s < e → e ≤ limit → i ≡ below xs s → j ≡ below xs (e + 1)
+pub filled : (xs ys : List ℕ) (i j s e : ℕ) (value f g : Bool) → IsValid xs → s < e → e ≤ code_point_limit → i ≡ below xs s → j ≡ below xs (e + 1)
     → f ≡ needed i value → g ≡ needed j value → ys ≡ splice xs i j (borders f g s e) → IsValid ys × IsFilled xs s e value ys
 filled xs ys i j s e value f g v h l a b p q y = rw (y, p, q, a, b, add-one) (
   filled-valid xs s e value _ _ v h l (needed-parity _ value) (needed-parity _ value),
@@ -157,24 +160,16 @@ pub room : (xs : List ℕ) (i j s e : ℕ) (value : Bool) → s < e → i ≡ be
 room xs i j s e value h a b n = room_for i j value _ _ (let k = below-mono xs s (e + 1) (omega arith) in omega arith) (needed-parity i value) (needed-parity j value) n
 
 -- a fill is a union or a difference
-pub union_from_fill : (xs ys : List ℕ) (s e last : ℕ) → last ≡ min e limit → IsFilled xs s last true ys → Acts either xs (between s e) ys
+pub union_from_fill : (xs ys : List ℕ) (s e last : ℕ) → last ≡ min e code_point_limit → IsFilled xs s last true ys → Acts either xs (between s e) ys
 union_from_fill xs ys s e last l f c h = f c ∙ elim (cases_lt c s) [
-  | inl a ↦ rw (before_range s last c a, before_range s e c a) (sym (or_false (holds xs c)))
+  | inl a ↦ rw (before_range s last c a, before_range s e c a) (sym (or-false (holds xs c)))
   | inr a ↦ elim (cases_lt c e) [
-    | inl b ↦ rw (in_range s last c a (omega arith), in_range s e c a b) (sym (or_true (holds xs c)))
-    | inr b ↦ rw (past_range s last c (omega arith), past_range s e c b) (sym (or_false (holds xs c)))
+    | inl b ↦ rw (in_range s last c a (omega arith), in_range s e c a b) (sym (or-true (holds xs c)))
+    | inr b ↦ rw (past_range s last c (omega arith), past_range s e c b) (sym (or-false (holds xs c)))
   ]
 ]
-  where
-    or_false : (b : Bool) → (b || false) ≡ b
-    or_false true = refl
-    or_false false = refl
 
-    or_true : (b : Bool) → (b || true) ≡ true
-    or_true true = refl
-    or_true false = refl
-
-pub difference_from_fill : (xs ys : List ℕ) (s e last : ℕ) → last ≡ min e limit → IsFilled xs s last false ys → Acts without xs (between s e) ys
+pub difference_from_fill : (xs ys : List ℕ) (s e last : ℕ) → last ≡ min e code_point_limit → IsFilled xs s last false ys → Acts without xs (between s e) ys
 difference_from_fill xs ys s e last l f c h = f c ∙ elim (cases_lt c s) [
   | inl a ↦ rw (before_range s last c a, before_range s e c a) (sym (and_true (holds xs c)))
   | inr a ↦ elim (cases_lt c e) [
@@ -207,18 +202,50 @@ plain n = same_flag (nat_eq (n % 2) 1)
     same_flag true = refl
     same_flag false = refl
 
-pub side_room : (xs : List ℕ) (i j s e : ℕ) → IsValid xs → s < e → e ≤ limit → i ≡ below xs s → j ≡ below xs (e + 1) → ((s ≡ 0) ⊎ (e ≡ limit))
+pub side_room : (xs : List ℕ) (i j s e : ℕ) → IsValid xs → s < e → e ≤ code_point_limit → i ≡ below xs s → j ≡ below xs (e + 1) → ((s ≡ 0) ⊎ (e ≡ code_point_limit))
     → i + (cond (nat_eq (i % 2) 1) 1 0 + cond (nat_eq (j % 2) 1) 1 0) ≤ j
 side_room xs i j s e v h w a b side = rw (plain i, plain j) (room xs i j s e false h a b (λ p q r.
     let x = eqb-true _ _ (plain i ∙ p) in let y = eqb-true _ _ (plain j ∙ q) in elim side [
       | inl z ↦ absurd (let t : i ≡ 0 = a ∙ rw z (below-zero xs) in omega arith)
-      | inr z ↦ absurd (let t : j ≡ length xs = b ∙ below-past 0 (suc limit) xs (e + 1) (run_from_valid xs v) (omega arith) in let u = v.even in omega arith)
+      | inr z ↦ absurd (let t : j ≡ length xs = b ∙ below-past 0 (suc code_point_limit) xs (e + 1) (run_from_valid xs v) (omega arith) in let u = v.even in omega arith)
     ]))
 
-pub emptied : (xs : List ℕ) (s e last c : ℕ) → last ≡ min e limit → last ≤ s → c < limit → holds [] c ≡ (holds xs c && between s e c)
+pub emptied : (xs : List ℕ) (s e last c : ℕ) → last ≡ min e code_point_limit → last ≤ s → c < code_point_limit → holds [] c ≡ (holds xs c && between s e c)
 emptied xs s e last c l h k = let n : between s e c ≡ false = elim (cases_lt c s) [ inl a ↦ before_range s e c a | inr a ↦ past_range s e c (omega arith) ] in
     holds-below [] c ∙ rw n (sym (and_no (holds xs c)))
   where
     and_no : (b : Bool) → (b && false) ≡ false
     and_no true = refl
     and_no false = refl
+
+-- ---- two ends put in
+two_first : (ys : List ℕ) → 2 ≤ length ys → (a : ℕ) × (b : ℕ) × (take 2 ys ≡ a ∷ b ∷ [])
+two_first [] h = absurd (omega arith)
+two_first (a ∷ []) h = absurd (omega arith)
+two_first (a ∷ b ∷ ys) h = (a, b, refl)
+
+-- two places more at the end, the ends from p on moved there, and two written over what they leave
+pub two_put_in : (xs zs : List ℕ) (p n s e : ℕ) → n ≡ length xs → p ≤ n → length zs ≡ 2 → set (set (copy_within (xs ++ zs) p n (p + 2)) p s) (p + 1) e ≡ splice xs p p (s ∷ e ∷ [])
+two_put_in xs zs p n s e pn h two =
+    let front = take p xs in
+    let back = drop p xs in
+    let f : length front ≡ p = length-take-le p xs (omega arith) in
+    let whole : xs ++ zs ≡ front ++ (back ++ zs) = ap (λ (ys : List ℕ). ys ++ zs) (sym (take-append-drop p xs)) ∙ append_assoc front back zs in
+    let w = two_first (back ++ zs) (omega (arith, length-append back zs)) in
+    let t : take (p + 2) (xs ++ zs) ≡ front ++ w.0 ∷ w.1 ∷ [] =
+    ap (take (p + 2)) whole ∙ ((rw f at (take-append-add front (back ++ zs) 2)) ∙ ap (λ (ys : List ℕ). front ++ ys) w.2) in
+    let k : n - p ≡ length back = omega (arith, length-drop p xs) in
+    let m : take (n - p) (drop p (xs ++ zs)) ≡ back = rw (drop-append-le p xs zs (omega arith), k) (take-append_seam back zs) in
+    let l : drop ((p + 2) + (n - p)) (xs ++ zs) ≡ [] = drop_all ((p + 2) + (n - p)) (xs ++ zs) (omega (arith, length-append xs zs)) in
+    let moved : copy_within (xs ++ zs) p n (p + 2) ≡ front ++ w.0 ∷ w.1 ∷ back = rw (t, m, l, append-nil ((front ++ w.0 ∷ w.1 ∷ []) ++ back), append_assoc front (w.0 ∷ w.1 ∷ []) back) refl in
+    let one : (p + 1) - p ≡ 1 = omega arith in
+    let first : set (front ++ w.0 ∷ w.1 ∷ back) p s ≡ front ++ s ∷ w.1 ∷ back = rw f at (set-append_seam front w.0 (w.1 ∷ back) s) in
+    let second : set (front ++ s ∷ w.1 ∷ back) (p + 1) e ≡ front ++ set (s ∷ w.1 ∷ back) ((p + 1) - p) e = set-append_right front (s ∷ w.1 ∷ back) p (p + 1) e f (omega arith) in
+    rw (moved, first, second, one) refl
+
+-- the count stays where the next end is not below
+pub stays_below : (hi : ℕ) (xs : List ℕ) (i c : ℕ) → Run 0 hi xs → i ≤ below xs c → c ≤ get_or xs i 0 → i ≡ below xs c
+stays_below hi xs i c r h k = elim (cases_lt i (below xs c)) [
+  | inl l ↦ absurd (let f = below-front 0 hi c xs r i l in omega arith)
+  | inr l ↦ omega arith
+]

@@ -1,15 +1,8 @@
 -- Reading a text, and the grammar.
 use Rattle.std.proofs.Common.{◌≡◌, ℕ, ◌+◌, ◌*◌, ◌<◌, List, [], ◌∷◌, ◌++◌, Option, Some, None, Bool, true, false, cond, nat_eq, nat_lt, option_and_then, inl, inr, refl, sym, ap, subst, append-nil, ◌∙◌, arith}
 use Rattle.std.specs.Char.{digit_value}
-use Rattle.std.proofs.lemmas.Bool.{eqb-true}
-use Rattle.std.proofs.lemmas.Bool.Decides.{nat_tests}
+use Rattle.std.proofs.lemmas.Bool.{eqb-true, lt-ltb, ltb-true}
 use Rattle.icu_invlist.specs.SetJson.{IsHex, IsPoint, IsRange, digit_at, hex_at, point_at, last_point, second_point, range_from, range_at}
-
-below_true : (a b : ℕ) → nat_lt a b ≡ true → a < b
-below_true a b h = grind (arith, nat_tests)
-
-below_yes : (a b : ℕ) → a < b → nat_lt a b ≡ true
-below_yes a b h = grind (arith, nat_tests)
 
 guard_some : {A : Type 0} (b : Bool) (x y : A) → cond b (Some x) None ≡ Some y → (b ≡ true) × (x ≡ y)
 guard_some true x y h = (refl, cc)
@@ -26,11 +19,11 @@ unfolding digit_at
 digit_takes n [] x h = absurd cc
 digit_takes n (c ∷ cs) x h =
     let g = guard_some (nat_lt (digit_value c) 16) (n * 16 + digit_value c, cs) x h in
-    record { c = c; is = ap (λ z. c ∷ z.1) g.1; digit = below_true (digit_value c) 16 g.0; value = sym (ap (λ z. z.0) g.1) }
+    record { c = c; is = ap (λ z. c ∷ z.1) g.1; digit = ltb-true (digit_value c) 16 g.0; value = sym (ap (λ z. z.0) g.1) }
 
 digit_again : (n c : ℕ) (cs : List ℕ) → digit_value c < 16 → digit_at n (c ∷ cs) ≡ Some (n * 16 + digit_value c, cs)
 unfolding digit_at
-digit_again n c cs h = rw (below_yes (digit_value c) 16 h) refl
+digit_again n c cs h = rw (lt-ltb (digit_value c) 16 h) refl
 
 bind_some : {A B : Type 0} (r : Option A) (f : A → Option B) (y : B) → option_and_then f r ≡ Some y → (x : A) × (r ≡ Some x) × (f x ≡ Some y)
 bind_some None f y h = absurd cc

@@ -11,7 +11,8 @@ use Rattle.std.proofs.lemmas.Str.{chars-encodes}
 use Rattle.serde_json.specs.Data.{Data, null, boolean, number, string, array, object, Items}
 use Rattle.serde_json.specs.View.{items_of, view}
 use Rattle.serde_json.specs.declared.value.Value.{Value}
-use Rattle.icu_invlist.specs.InversionList.{IsValid, limit}
+use Rattle.icu_zerovec.specs.CodePoints.{code_point_limit}
+use Rattle.icu_invlist.specs.InversionList.{IsValid}
 use Rattle.icu_invlist.specs.Inside.Places.{Run}
 use Rattle.icu_invlist.specs.SetJson.{IsHex, IsPoint, IsRange, SayEnds, IsSaid, upper_hex, upper_hex4, spelled, range_text, texts_of, written_of, ends_of}
 use Rattle.icu_invlist.specs.Inside.GivenEnds.{GivesEnds}
@@ -54,7 +55,7 @@ point_spelled p = elim (cases_lt p 0xD800) [
   ]
 ]
 
-point_scalars : (p : ℕ) → p < limit → scalars (spelled p) ≡ true
+point_scalars : (p : ℕ) → p < code_point_limit → scalars (spelled p) ≡ true
 point_scalars p l = elim (cases_lt p 0xD800) [
   | inl h ↦ rw (lt-leb 0xD800 p h) (and_from (scalar p) true (rw (lt-ltb p 0xD800 h) refl) refl)
   | inr h ↦ elim (cases_lt p 0xE000) [
@@ -75,7 +76,7 @@ scalars-append : (xs ys : List ℕ) → scalars xs ≡ true → scalars ys ≡ t
 scalars-append [] ys h k = k
 scalars-append (x ∷ xs) ys h k = let p = and_parts (scalar x) (scalars xs) h in and_from (scalar x) (scalars (xs ++ ys)) p.0 (scalars-append xs ys p.1 k)
 
-range_scalars : (a b : ℕ) → a < limit → b < limit → scalars (range_text a b) ≡ true
+range_scalars : (a b : ℕ) → a < code_point_limit → b < code_point_limit → scalars (range_text a b) ≡ true
 range_scalars a b h k = elim (cases_eq a b) [
   | inl e ↦ rw (eq-eqb a b e) (point_scalars a h)
   | inr e ↦ rw (ne_eqb a b e) (scalars-append (spelled a) (0x2D ∷ spelled b) (point_scalars a h) (and_from true (scalars (spelled b)) refl (point_scalars b k)))
@@ -86,7 +87,7 @@ range_scalars a b h k = elim (cases_eq a b) [
 abbrev pub shown : List ℕ → Data
 shown t = string (encode_utf8_all t)
 
-said_from_run : (lo : ℕ) (ends : List ℕ) → Run lo (suc limit) ends → length ends % 2 ≡ 0 → SayEnds (items_of (map shown (texts_of ends))) ends
+said_from_run : (lo : ℕ) (ends : List ℕ) → Run lo (suc code_point_limit) ends → length ends % 2 ≡ 0 → SayEnds (items_of (map shown (texts_of ends))) ends
 said_from_run lo [] r e = refl
 said_from_run lo (s ∷ []) r e = absurd (omega arith)
 said_from_run lo (s ∷ t ∷ ends) r e =
@@ -94,7 +95,7 @@ said_from_run lo (s ∷ t ∷ ends) r e =
     (s, t - 1, ends, rw z (range_spelled s (t - 1)), ap (λ (n : ℕ). s ∷ n ∷ ends) (omega (arith, r.2.0)), said_from_run (suc t) ends r.2.2 (omega arith))
 
 pub written_back : (ends : List ℕ) → IsValid ends → ends_of (written_of ends) ≡ Ok ends
-written_back ends v = ends_only 0 _ ends (said_from_run 0 ends (run_from_valid ends v) v.even)
+written_back ends v = ends_only _ ends (said_from_run 0 ends (run_from_valid ends v) v.even)
 
 pub texts_more : (xs : List ℕ) (i : ℕ) → i + 1 < length xs → texts_of (drop i xs) ≡ range_text (get_or xs i 0) (get_or xs (i + 1) 0 - 1) ∷ texts_of (drop (i + 2) xs)
 texts_more xs i h = rw (drop_pair xs i h) refl
@@ -120,15 +121,15 @@ said null ends h = absurd cc
 said (boolean b) ends h = absurd cc
 said (number n) ends h = absurd cc
 said (string t) ends h = absurd cc
-said (array ds) ends h = (ds, refl, ends_found 0 ds ends h)
+said (array ds) ends h = (ds, refl, ends_found ds ends h)
 said (object ms) ends h = absurd cc
 
 pub said_alone : (d : Data) (items : Items) (xs ends : List ℕ) → ends_of d ≡ Ok xs → d ≡ array items → SayEnds items ends → xs ≡ ends
-said_alone d items xs ends h e s = same_ok xs ends (sym h ∙ (ap ends_of e ∙ ends_only 0 items ends s))
+said_alone d items xs ends h e s = same_ok xs ends (sym h ∙ (ap ends_of e ∙ ends_only items ends s))
 
 pub refused_alone : (d : Data) (items : Items) (ends : List ℕ) (e : SetJsonError) → GivesEnds (Err e) (ends_of d) → d ≡ array items → SayEnds items ends → e ≡ errors.Memory
 refused_alone d items ends errors.Memory g e s = refl
-refused_alone d items ends errors.NotAnArray g e s = absurd (let k : ends_of d ≡ Ok ends = ap ends_of e ∙ ends_only 0 items ends s in cc)
-refused_alone d items ends (errors.NotAString i) g e s = absurd (let k : ends_of d ≡ Ok ends = ap ends_of e ∙ ends_only 0 items ends s in cc)
-refused_alone d items ends (errors.NotARange i) g e s = absurd (let k : ends_of d ≡ Ok ends = ap ends_of e ∙ ends_only 0 items ends s in cc)
+refused_alone d items ends errors.NotAnArray g e s = absurd (let k : ends_of d ≡ Ok ends = ap ends_of e ∙ ends_only items ends s in cc)
+refused_alone d items ends (errors.NotAString i) g e s = absurd (let k : ends_of d ≡ Ok ends = ap ends_of e ∙ ends_only items ends s in cc)
+refused_alone d items ends (errors.NotARange i) g e s = absurd (let k : ends_of d ≡ Ok ends = ap ends_of e ∙ ends_only items ends s in cc)
 refused_alone d items ends errors.InvalidSet g e s = absurd g

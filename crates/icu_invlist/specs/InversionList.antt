@@ -6,12 +6,9 @@ use Rattle.std.specs.List.{count_by, All, filter, range_with_len}
 use Rattle.std.proofs.Math.Utf8.{scalar}
 use Rattle.std.specs.List.Sorted.{IsStrictlyIncreasing}
 use Rattle.std.specs.declared.ops.RangeInclusive.{RangeInclusive}
+use Rattle.icu_zerovec.specs.CodePoints.{code_point_limit}
 
--- ---- which code points a list holds
--- the code points are the numbers below this one, surrogates too
-abbrev pub limit : ℕ
-limit = 0x110000
-
+-- ---- which code points a list holds: numbers below `code_point_limit`, surrogates too
 -- how many ends are not above c
 unfoldable pub ends_up_to : List ℕ → ℕ → ℕ
 ends_up_to ends c = count_by (λ e. nat_le e c) ends
@@ -27,7 +24,7 @@ holds ends c = is_odd (ends_up_to ends c)
 pub record IsValid (ends : List ℕ) : Type 0 where
   pub even : length ends % 2 ≡ 0
   pub ascending : IsStrictlyIncreasing ends
-  pub within : All (λ e. e ≤ limit) ends
+  pub within : All (λ e. e ≤ code_point_limit) ends
 
 -- ---- operations on sets, code point by code point
 -- c stands from start to before end. Where end is not above start, no number does
@@ -53,7 +50,7 @@ one_of false b = b
 
 -- the new set holds what the operation gives of the old set and the named code points
 abbrev pub Acts : (Bool → Bool → Bool) → List ℕ → (ℕ → Bool) → List ℕ → Type 0
-Acts op old named new = (c : ℕ) → c < limit → holds new c ≡ op (holds old c) (named c)
+Acts op old named new = (c : ℕ) → c < code_point_limit → holds new c ≡ op (holds old c) (named c)
 
 -- the set holds each number from start to before end
 abbrev pub HoldsAll : List ℕ → ℕ → ℕ → Type 0
@@ -61,7 +58,7 @@ HoldsAll ends start end = (c : ℕ) → start ≤ c → c < end → holds ends c
 
 -- what the one set holds the other, whole one holds too
 abbrev pub IsSubset : List ℕ → List ℕ → Type 0
-IsSubset part whole = (c : ℕ) → c < limit → holds part c ≡ true → holds whole c ≡ true
+IsSubset part whole = (c : ℕ) → c < code_point_limit → holds part c ≡ true → holds whole c ≡ true
 
 -- ---- ranges and members
 -- the ranges of the set, each from an end to before the next, with their last code point included
@@ -73,7 +70,7 @@ ranges_of (start ∷ end ∷ ends) =
 
 -- the range has a code point, and none that is no code point
 abbrev pub IsOfCodePoints : RangeInclusive ℕ → Type 0
-IsOfCodePoints r = (r.start ≤ r.end) × (r.end < limit)
+IsOfCodePoints r = (r.start ≤ r.end) × (r.end < code_point_limit)
 
 -- whether one of the ranges has the code point
 abbrev pub in_ranges : List (RangeInclusive ℕ) → ℕ → Bool
@@ -113,8 +110,8 @@ toggle_front (e ∷ ends) = if e == 0 then ends else 0 ∷ e ∷ ends
 
 -- the ends with the end of the code space put behind them, or taken away where it is there
 abbrev pub toggle_back : List ℕ → List ℕ
-toggle_back [] = limit ∷ []
-toggle_back (e ∷ ends) = if e == limit then [] else e ∷ toggle_back ends
+toggle_back [] = code_point_limit ∷ []
+toggle_back (e ∷ ends) = if e == code_point_limit then [] else e ∷ toggle_back ends
 
 abbrev pub complement_of : List ℕ → List ℕ
 complement_of ends = toggle_front (toggle_back ends)

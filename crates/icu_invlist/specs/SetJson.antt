@@ -6,7 +6,10 @@ use Rattle.std.specs.Prelude.{◌≡◌, ◌≢◌, ℕ, zero, suc, ◌+◌, ◌
 use Rattle.std.specs.Str.{chars, encode_utf8_all}
 use Rattle.std.specs.Char.{digit_value}
 use Rattle.serde_json.specs.Data.{Data, string, array, Items, no_items, item}
+use Rattle.serde_json.specs.Find.{as_str}
 use Rattle.serde_json.specs.View.{items_of}
+use Rattle.std.specs.Option.{ok_or}
+use Rattle.icu_zerovec.specs.FirstFault.{and_then, read_from}
 use Rattle.icu_invlist.specs.InversionList.{IsValid, ranges_of}
 use Rattle.icu_invlist.specs.declared.codepointinvlist.error.SetJsonError.{SetJsonError}
 use Rattle.icu_invlist.specs.declared.codepointinvlist.error.SetJsonError.TheVariants.{NotAnArray, NotAString, NotARange, InvalidSet, Memory}
@@ -120,30 +123,28 @@ unfoldable pub range_at : List ℕ → Option (ℕ × ℕ)
 range_at cs = range_from (point_at cs)
 
 -- ---- the ends of a value, or the first fault
--- these ends in front of those that are read
-abbrev pub with_front : List ℕ → Result (List ℕ) SetJsonError → Result (List ℕ) SetJsonError
-with_front front (Ok ends) = Ok (front ++ ends)
-with_front front (Err e) = Err e
+-- items as a list
+abbrev pub list_of : Items → List Data
+list_of no_items = []
+list_of (item d items) = d ∷ list_of items
 
--- the ends of item i, a range, in front of those of the others
-abbrev pub in_front : ℕ → Option (ℕ × ℕ) → Result (List ℕ) SetJsonError
-    → Result (List ℕ) SetJsonError
-in_front i None others = Err (NotARange i)
-in_front i (Some r) others = with_front (r.0 ∷ (r.1 + 1) ∷ []) others
+-- the range that item i spells, or its fault
+abbrev pub range_or : ℕ → Data → Result (ℕ × ℕ) SetJsonError
+range_or i d = and_then (ok_or (as_str d) (NotAString i))
+    (λ t. ok_or (range_at (chars t)) (NotARange i))
 
--- the same for an item of any kind
-abbrev pub item_ends : ℕ → Data → Result (List ℕ) SetJsonError → Result (List ℕ) SetJsonError
-item_ends i (string text) others = in_front i (range_at (chars text)) others
-item_ends i _ others = Err (NotAString i)
+-- the ends of ranges: each first point, and each last point plus one
+abbrev pub ends_of_ranges : List (ℕ × ℕ) → List ℕ
+ends_of_ranges [] = []
+ends_of_ranges (r ∷ rs) = r.0 ∷ (r.1 + 1) ∷ ends_of_ranges rs
 
--- the ends that the items say, of which the first stands at place i, or the first fault
-unfoldable pub ends_from : ℕ → Items → Result (List ℕ) SetJsonError
-ends_from i no_items = Ok []
-ends_from i (item d items) = item_ends i d (ends_from (i + 1) items)
+-- the ends of the ranges that items spell, or the first fault
+abbrev pub ends_in : Items → Result (List ℕ) SetJsonError
+ends_in items = and_then (read_from range_or 0 (list_of items)) (λ rs. Ok (ends_of_ranges rs))
 
 -- the ends that a value says, or its first fault
 abbrev pub ends_of : Data → Result (List ℕ) SetJsonError
-ends_of (array items) = ends_from 0 items
+ends_of (array items) = ends_in items
 ends_of _ = Err NotAnArray
 
 -- ---- what is read, and what is refused

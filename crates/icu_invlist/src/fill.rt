@@ -3,18 +3,63 @@
 //!
 //! Between the ends that stand below a range and those that stand above it, at most the two borders
 //! of the range are left: its start where the answer changes there, and its end likewise.
-ghost use Rattle.std.specs.Prelude.{◌≡◌, ℕ, suc, false, true, ◌+◌, ◌-◌, ◌<◌, ◌≤◌, ◌++◌, List, [], ◌∷◌, length, cond, not, nat_le, vec_len, ◌⊎◌, OnOk, OnErr, IsTrue, ◌↔◌};
+ghost use Rattle.std.specs.Prelude.{◌≡◌, ℕ, suc, false, true, ◌+◌, ◌*◌, ◌-◌, ◌<◌, ◌≤◌, ◌++◌, List, [], ◌∷◌, length, cond, not, nat_le, vec_len, ◌⊎◌, OnOk, OnErr, IsTrue, ◌↔◌};
 ghost use Rattle.std.specs.List.{splice};
 ghost use Rattle.std.specs.Vec.{vec_capacity};
-ghost use Rattle.icu_invlist.specs.InversionList.{IsValid, limit, Acts, either, without, both, one_of, between, holds, is_odd};
-ghost use Rattle.icu_invlist.specs.Inside.Places.{Run, below, IsFilled};
+ghost use Rattle.icu_zerovec.specs.CodePoints.{code_point_limit};
+ghost use Rattle.icu_invlist.specs.InversionList.{IsValid, Acts, either, without, both, one_of, between, holds, is_odd};
+ghost use Rattle.icu_invlist.specs.Inside.Places.{AreStepsBelow, IsFilled, Run, below};
 
-use icu_zerovec::MemoryError;
+use icu_zerovec::{CODE_POINT_LIMIT, MemoryError};
 
-/// How many ends stand below `c`. Behind the last end, where ranges in order are added, nothing is
+/// Whether the end at `place` stands below `c`.
+#[inline(always)]
+fn is_below(ends: &[u32], place: usize, c: u32) -> bool
+    requires rises { Run 0 (suc code_point_limit) ends.now }
+    requires within { place < length ends.now }
+    ensures { IsTrue result ↔ (place < below ends.now c) }
+{
+    ends[place] < c
+}
+
+/// How many of the next three steps from `low` on, below which all stand below `c`, end so too.
+#[inline(always)]
+fn steps_below(ends: &[u32], low: usize, step: usize, c: u32) -> usize
+    requires rises { Run 0 (suc code_point_limit) ends.now }
+    requires from { low ≤ below ends.now c }
+    requires some { 0 < step }
+    requires within { low + 3 * step ≤ length ends.now }
+    ensures { AreStepsBelow (below ends.now c) low step result }
+{
+    let first = is_below(ends, low + step - 1, c);
+    let second = is_below(ends, low + 2 * step - 1, c);
+    let third = is_below(ends, low + 3 * step - 1, c);
+    first as usize + second as usize + third as usize
+}
+
+/// From where on at most three ends are left to look at, and how many. Each turn leaves a quarter,
+/// and no jump depends on what it reads.
+#[inline(always)]
+fn narrowed(ends: &[u32], c: u32) -> (usize, usize)
+    requires { Run 0 (suc code_point_limit) ends.now }
+    ensures from { result.0 ≤ below ends.now c }
+    ensures to { below ends.now c ≤ result.0 + result.1 }
+    ensures within { result.0 + result.1 ≤ length ends.now }
+{
+    let mut low = 0;
+    let mut size = ends.len();
+    while size > 3 {
+        let step = size / 4;
+        low += step * steps_below(ends, low, step, c);
+        size -= 3 * step;
+    }
+    (low, size)
+}
+
+/// How many ends stand below `c`. Past the last end, where ranges in order are added, nothing is
 /// searched.
 fn count_below(ends: &[u32], c: u32) -> usize
-    requires { Run 0 (suc limit) ends.now }
+    requires { Run 0 (suc code_point_limit) ends.now }
     ensures count { result ≡ below ends.now c }
     ensures within { result ≤ length ends.now }
 {
@@ -22,7 +67,25 @@ fn count_below(ends: &[u32], c: u32) -> usize
     if count > 0 && ends[count - 1] < c {
         return count;
     }
-    ends.partition_point(|e| *e < c)
+    let (mut low, mut size) = narrowed(ends, c);
+    while size > 0 {
+        low += is_below(ends, low, c) as usize;
+        size -= 1;
+    }
+    low
+}
+
+/// The same, where at least `from` ends stand below `c`, and mostly no more.
+fn count_below_from(ends: &[u32], from: usize, c: u32) -> usize
+    requires rises { Run 0 (suc code_point_limit) ends.now }
+    requires from { from ≤ below ends.now c }
+    ensures count { result ≡ below ends.now c }
+    ensures within { result ≤ length ends.now }
+{
+    if from < ends.len() && c <= ends[from] {
+        return from;
+    }
+    count_below(ends, c)
 }
 
 /// Writes the borders that are wanted over the ends from `lower` to before `upper`, and takes the
@@ -54,16 +117,20 @@ fn overwrite(
     drop(ends.drain(place..upper));
 }
 
-/// Puts two ends in at `place`.
+/// Puts two ends in at `place`. The ends from there on move once.
 fn insert_two(ends: &mut Vec<u32>, place: usize, start: u32, end: u32) -> Result<(), MemoryError>
     requires { place ≤ length ends.old.items }
     ensures ok { OnOk result
         (ends.new.items ≡ splice ends.old.items place place (start ∷ end ∷ [])) }
     ensures err { OnErr result (ends.new.items ≡ ends.old.items) }
 {
-    ends.reserve(2)?;
-    ends.insert(place, end)?;
-    ends.insert(place, start)?;
+    let count = ends.len();
+    ends.extend_from_slice(&[start, end])?;
+    if place < count {
+        ends.copy_within(place..count, place + 2);
+        ends[place] = start;
+        ends[place + 1] = end;
+    }
     Ok(())
 }
 
@@ -72,13 +139,13 @@ fn insert_two(ends: &mut Vec<u32>, place: usize, start: u32, end: u32) -> Result
 fn fill(ends: &mut Vec<u32>, start: u32, end: u32, value: bool) -> Result<(), MemoryError>
     requires valid { IsValid ends.old.items }
     requires rises { start < end }
-    requires within { end ≤ limit }
+    requires within { end ≤ code_point_limit }
     ensures ok { OnOk result (IsValid ends.new.items) }
     ensures set { OnOk result (IsFilled ends.old.items start end value ends.new.items) }
     ensures err { OnErr result (ends.new.items ≡ ends.old.items) }
 {
     let lower = count_below(ends, start);
-    let upper = count_below(ends, end + 1);
+    let upper = count_below_from(ends, lower, end + 1);
     let first = (lower % 2 == 1) != value;
     let second = (upper % 2 == 1) != value;
     if first && second && lower == upper {
@@ -94,13 +161,13 @@ fn fill(ends: &mut Vec<u32>, start: u32, end: u32, value: bool) -> Result<(), Me
 fn clear_side(ends: &mut Vec<u32>, start: u32, end: u32)
     requires valid { IsValid ends.old.items }
     requires rises { start < end }
-    requires within { end ≤ limit }
-    requires side { (start ≡ 0) ⊎ (end ≡ limit) }
+    requires within { end ≤ code_point_limit }
+    requires side { (start ≡ 0) ⊎ (end ≡ code_point_limit) }
     ensures valid { IsValid ends.new.items }
     ensures set { IsFilled ends.old.items start end false ends.new.items }
 {
     let lower = count_below(ends, start);
-    let upper = count_below(ends, end + 1);
+    let upper = count_below_from(ends, lower, end + 1);
     overwrite(
         ends,
         lower,
@@ -118,15 +185,15 @@ pub(crate) fn retain(ends: &mut Vec<u32>, start: u32, end: u32)
     ensures valid { IsValid ends.new.items }
     ensures set { Acts both ends.old.items (between start end) ends.new.items }
 {
-    let last = end.min(0x11_0000);
+    let last = end.min(CODE_POINT_LIMIT);
     if start >= last {
         ends.clear();
     } else {
         if start > 0 {
             clear_side(ends, 0, start);
         }
-        if last < 0x11_0000 {
-            clear_side(ends, last, 0x11_0000);
+        if last < CODE_POINT_LIMIT {
+            clear_side(ends, last, CODE_POINT_LIMIT);
         }
     }
 }
@@ -138,7 +205,7 @@ pub(crate) fn add(ends: &mut Vec<u32>, start: u32, end: u32) -> Result<(), Memor
     ensures ok { OnOk result (Acts either ends.old.items (between start end) ends.new.items) }
     ensures err { OnErr result (ends.new.items ≡ ends.old.items) }
 {
-    let last = end.min(0x11_0000);
+    let last = end.min(CODE_POINT_LIMIT);
     if start < last {
         fill(ends, start, last, true)
     } else {
@@ -153,7 +220,7 @@ pub(crate) fn remove(ends: &mut Vec<u32>, start: u32, end: u32) -> Result<(), Me
     ensures ok { OnOk result (Acts without ends.old.items (between start end) ends.new.items) }
     ensures err { OnErr result (ends.new.items ≡ ends.old.items) }
 {
-    let last = end.min(0x11_0000);
+    let last = end.min(CODE_POINT_LIMIT);
     if start < last {
         fill(ends, start, last, false)
     } else {
@@ -163,7 +230,7 @@ pub(crate) fn remove(ends: &mut Vec<u32>, start: u32, end: u32) -> Result<(), Me
 
 /// Whether `x` is no end.
 fn is_new(ends: &[u32], x: u32) -> bool
-    requires { Run 0 (suc limit) ends.now }
+    requires { Run 0 (suc code_point_limit) ends.now }
     ensures { IsTrue result ↔ (below ends.now x ≡ below ends.now (x + 1)) }
 {
     ends.binary_search(&x).is_err()
@@ -171,11 +238,11 @@ fn is_new(ends: &[u32], x: u32) -> bool
 
 /// Puts `x` in if it is no end, for which there has to be room, and takes it out if it is one.
 fn toggle(ends: &mut Vec<u32>, x: u32)
-    requires rises { Run 0 (suc limit) ends.old.items }
-    requires within { x ≤ limit }
+    requires rises { Run 0 (suc code_point_limit) ends.old.items }
+    requires within { x ≤ code_point_limit }
     requires room { below ends.old.items x ≡ below ends.old.items (x + 1)
         → vec_len ends.old < vec_capacity ends.old }
-    ensures rises { Run 0 (suc limit) ends.new.items }
+    ensures rises { Run 0 (suc code_point_limit) ends.new.items }
     ensures length { is_odd (length ends.new.items) ≡ not (is_odd (length ends.old.items)) }
     ensures set { (c : ℕ) → holds ends.new.items c ≡ one_of (nat_le x c) (holds ends.old.items c) }
     ensures grows { vec_len ends.new ≤ vec_len ends.old + 1 }
@@ -209,7 +276,7 @@ fn reserve_two(ends: &mut Vec<u32>, wanted: bool) -> Result<(), MemoryError>
 fn toggle_both(ends: &mut Vec<u32>, start: u32, end: u32) -> Result<(), MemoryError>
     requires valid { IsValid ends.old.items }
     requires rises { start < end }
-    requires within { end ≤ limit }
+    requires within { end ≤ code_point_limit }
     ensures valid { IsValid ends.new.items }
     ensures ok { OnOk result (Acts one_of ends.old.items (between start end) ends.new.items) }
     ensures err { OnErr result (ends.new.items ≡ ends.old.items) }
@@ -235,7 +302,7 @@ pub(crate) fn flip(ends: &mut Vec<u32>, start: u32, end: u32) -> Result<(), Memo
     ensures ok { OnOk result (Acts one_of ends.old.items (between start end) ends.new.items) }
     ensures err { OnErr result (ends.new.items ≡ ends.old.items) }
 {
-    let last = end.min(0x11_0000);
+    let last = end.min(CODE_POINT_LIMIT);
     if last <= start {
         return Ok(());
     }

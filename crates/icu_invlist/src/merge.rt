@@ -3,13 +3,15 @@
 //! The walk goes over the ends of both lists in ascending order. Past each of them the numbers of
 //! ends passed in the two lists say whether the next code points are in the one set and in the
 //! other, and so whether they are in the new one: where that answer changes, the end is one of the
-//! new list's. Once one list is passed, the rest of the other is either copied or left out.
-ghost use Rattle.std.specs.Prelude.{◌≡◌, ℕ, ◌+◌, ◌^◌, ◌<◌, ◌≤◌, if◌then◌else◌, Bool, false, refl, length, take, ◌⊎◌, IfOk};
+//! new list's. Up to the next end of the other list, ends of one are all written or none. Once one
+//! list is passed, the rest of the other is either copied or left out.
+ghost use Rattle.std.specs.Prelude.{◌≡◌, ◌≢◌, ℕ, ◌+◌, ◌<◌, ◌≤◌, if◌then◌else◌, Bool, true, false, refl, List, [], length, slice_index, ◌⊎◌, IfOk, OnOk, OnErr, IsTrue};
 ghost use Rattle.icu_zerovec.specs.Slice.{slice_values};
-ghost use Rattle.icu_invlist.specs.InversionList.{IsValid, holds, Acts, either, without, both, one_of};
-ghost use Rattle.icu_invlist.specs.Inside.Merging.{Merged, MovesOver};
+ghost use Rattle.icu_invlist.specs.InversionList.{IsValid, holds, Acts, between, either, without, both, one_of};
+ghost use Rattle.icu_invlist.specs.Inside.Merging.{Walks, StandBefore};
 
 use crate::codepointinvlist::CodePointInversionList;
+use crate::fill;
 use icu_zerovec::{MemoryError, PotentialCodePoint, ZeroSlice};
 use std::alloc::Global;
 
@@ -22,8 +24,18 @@ pub(crate) trait SetOperation {
     fn of(first: bool, second: bool) -> bool
         ensures { result ≡ gives first second };
 
+    /// Changes the ends to those of the set that the operation gives of theirs and a range.
+    fn of_range(ends: &mut Vec<u32>, start: u32, end: u32) -> Result<(), MemoryError>
+        requires { IsValid ends.old.items }
+        ensures valid { IsValid ends.new.items }
+        ensures ok { OnOk result (Acts gives ends.old.items (between start end) ends.new.items) }
+        ensures err { OnErr result (ends.new.items ≡ ends.old.items) };
+
     /// What is in neither set is not in the new one.
     ghost none: { gives false false ≡ false };
+
+    /// Where what is in the second set alone is kept, what is in the first alone is too.
+    ghost first_kept: { gives false true ≡ true → gives true false ≡ true };
 }
 
 /// What is in either set.
@@ -34,8 +46,14 @@ impl SetOperation for Union {
 
     ghost none = { refl };
 
+    ghost first_kept = { λ _. refl };
+
     fn of(first: bool, second: bool) -> bool {
         first || second
+    }
+
+    fn of_range(ends: &mut Vec<u32>, start: u32, end: u32) -> Result<(), MemoryError> {
+        fill::add(ends, start, end)
     }
 }
 
@@ -47,8 +65,14 @@ impl SetOperation for Difference {
 
     ghost none = { refl };
 
+    ghost first_kept = { λ _. refl };
+
     fn of(first: bool, second: bool) -> bool {
         first && !second
+    }
+
+    fn of_range(ends: &mut Vec<u32>, start: u32, end: u32) -> Result<(), MemoryError> {
+        fill::remove(ends, start, end)
     }
 }
 
@@ -60,8 +84,15 @@ impl SetOperation for Intersection {
 
     ghost none = { refl };
 
+    ghost first_kept = { λ h. h };
+
     fn of(first: bool, second: bool) -> bool {
         first && second
+    }
+
+    fn of_range(ends: &mut Vec<u32>, start: u32, end: u32) -> Result<(), MemoryError> {
+        fill::retain(ends, start, end);
+        Ok(())
     }
 }
 
@@ -73,8 +104,14 @@ impl SetOperation for SymmetricDifference {
 
     ghost none = { refl };
 
+    ghost first_kept = { λ _. refl };
+
     fn of(first: bool, second: bool) -> bool {
         first != second
+    }
+
+    fn of_range(ends: &mut Vec<u32>, start: u32, end: u32) -> Result<(), MemoryError> {
+        fill::flip(ends, start, end)
     }
 }
 
@@ -87,24 +124,139 @@ struct Walk {
     written: usize,
 }
 
-/// The least of the two ends at places `i` and `j`, and the places after it.
+/// Passes the ends of the first list that stand below the next one of the second. The answer
+/// changes at each of them or at none.
 #[inline(always)]
-fn step(a: &[u32], i: usize, b: ZeroSlice<'_, PotentialCodePoint>, j: usize) -> (u32, usize, usize)
-    requires first { i < length a.now }
-    requires second { j < length (slice_values b) }
-    requires small { length (slice_values b) < 2 ^ 63 }
-    ensures first { MovesOver result.0 a.now i result.1 }
-    ensures second { MovesOver result.0 (slice_values b.entry) j result.2 }
-    ensures forward { i + j < result.1 + result.2 }
+fn pass_first<O: SetOperation>(
+    out: &mut [u32],
+    a: &[u32],
+    b: ZeroSlice<'_, PotentialCodePoint>,
+    walk: Walk,
+) -> Walk
+    requires left { walk.second < length (slice_values b) }
+    requires walks { Walks O.gives a.now (slice_values b) out.old
+        walk.first walk.second walk.written }
+    ensures walks { Walks O.gives a.now (slice_values b.entry) out.new
+        result.first result.second result.written }
+    ensures second { result.second ≡ walk.second }
+    ensures forward { walk.first ≤ result.first }
+    ensures ahead { result.first < length a.now
+        → slice_index (slice_values b.entry) walk.second ≤ slice_index a.now result.first }
 {
-    let x = a[i];
-    let y = u32::from(b.at(j));
-    if x < y {
-        (x, i + 1, j)
-    } else if y < x {
-        (y, i, j + 1)
+    let end = u32::from(b.at(walk.second));
+    let second = walk.second % 2 == 1;
+    let changes = O::of(true, second) != O::of(false, second);
+    let mut first = walk.first;
+    let mut written = walk.written;
+    while first < a.len() && a[first] < end {
+        out[written] = a[first];
+        first += 1;
+        written += changes as usize;
+    }
+    Walk {
+        first,
+        second: walk.second,
+        written,
+    }
+}
+
+/// The same with the lists exchanged.
+#[inline(always)]
+fn pass_second<O: SetOperation>(
+    out: &mut [u32],
+    a: &[u32],
+    b: ZeroSlice<'_, PotentialCodePoint>,
+    walk: Walk,
+) -> Walk
+    requires left { walk.first < length a.now }
+    requires walks { Walks O.gives a.now (slice_values b) out.old
+        walk.first walk.second walk.written }
+    ensures walks { Walks O.gives a.now (slice_values b.entry) out.new
+        result.first result.second result.written }
+    ensures first { result.first ≡ walk.first }
+    ensures forward { walk.second ≤ result.second }
+    ensures ahead { result.second < length (slice_values b.entry)
+        → slice_index a.now walk.first ≤ slice_index (slice_values b.entry) result.second }
+{
+    let end = a[walk.first];
+    let first = walk.first % 2 == 1;
+    let changes = O::of(first, true) != O::of(first, false);
+    let count = b.len();
+    let mut second = walk.second;
+    let mut written = walk.written;
+    while second < count {
+        let next = u32::from(b.at(second));
+        if end <= next {
+            break;
+        }
+        out[written] = next;
+        second += 1;
+        written += changes as usize;
+    }
+    Walk {
+        first: walk.first,
+        second,
+        written,
+    }
+}
+
+/// Passes the ends that both lists have next. The answer changes at each of them or at none.
+#[inline(always)]
+fn pass_both<O: SetOperation>(
+    out: &mut [u32],
+    a: &[u32],
+    b: ZeroSlice<'_, PotentialCodePoint>,
+    walk: Walk,
+) -> Walk
+    requires { Walks O.gives a.now (slice_values b) out.old walk.first walk.second walk.written }
+    ensures walks { Walks O.gives a.now (slice_values b.entry) out.new
+        result.first result.second result.written }
+    ensures forward { (walk.first ≤ result.first) × (walk.second ≤ result.second) }
+    ensures apart { result.first < length a.now → result.second < length (slice_values b.entry)
+        → slice_index a.now result.first ≢ slice_index (slice_values b.entry) result.second }
+{
+    let first = walk.first % 2 == 1;
+    let second = walk.second % 2 == 1;
+    let changes = O::of(first, second) != O::of(!first, !second);
+    let count = b.len();
+    let mut passed = walk;
+    while passed.first < a.len() && passed.second < count {
+        let end = a[passed.first];
+        if end != u32::from(b.at(passed.second)) {
+            break;
+        }
+        out[passed.written] = end;
+        passed = Walk {
+            first: passed.first + 1,
+            second: passed.second + 1,
+            written: passed.written + changes as usize,
+        };
+    }
+    passed
+}
+
+/// Passes ends of the first list alone, then of both, and then of the second alone: at least one.
+#[inline(always)]
+fn pass_some<O: SetOperation>(
+    out: &mut [u32],
+    a: &[u32],
+    b: ZeroSlice<'_, PotentialCodePoint>,
+    walk: Walk,
+) -> Walk
+    requires first { walk.first < length a.now }
+    requires second { walk.second < length (slice_values b) }
+    requires walks { Walks O.gives a.now (slice_values b) out.old
+        walk.first walk.second walk.written }
+    ensures walks { Walks O.gives a.now (slice_values b.entry) out.new
+        result.first result.second result.written }
+    ensures forward { walk.first + walk.second < result.first + result.second }
+{
+    let before = pass_first::<O>(out, a, b, walk);
+    let passed = pass_both::<O>(out, a, b, before);
+    if passed.first < a.len() {
+        pass_second::<O>(out, a, b, passed)
     } else {
-        (x, i + 1, j + 1)
+        passed
     }
 }
 
@@ -118,11 +270,10 @@ fn walk_both<O: SetOperation>(
     requires first { IsValid a.now }
     requires second { IsValid (slice_values b) }
     requires room { length a.now + length (slice_values b) ≤ length out.old }
-    ensures walked { Merged O.gives a.now (slice_values b.entry)
-        (take result.written out.new) result.first result.second }
-    ensures written { result.written ≤ result.first + result.second }
-    ensures passed { (result.first ≡ length a.now) × (result.second ≤ length (slice_values b.entry))
-        ⊎ (result.first ≤ length a.now) × (result.second ≡ length (slice_values b.entry)) }
+    ensures walks { Walks O.gives a.now (slice_values b.entry) out.new
+        result.first result.second result.written }
+    ensures passed { (result.first ≡ length a.now)
+        ⊎ (result.second ≡ length (slice_values b.entry)) }
 {
     let mut walk = Walk {
         first: 0,
@@ -130,17 +281,8 @@ fn walk_both<O: SetOperation>(
         written: 0,
     };
     let count = b.len();
-    let mut held = false;
     while walk.first < a.len() && walk.second < count {
-        let (next, first, second) = step(a, walk.first, b, walk.second);
-        out[walk.written] = next;
-        let holds = O::of(first % 2 == 1, second % 2 == 1);
-        walk = Walk {
-            first,
-            second,
-            written: walk.written + (holds != held) as usize,
-        };
-        held = holds;
+        walk = pass_some::<O>(out, a, b, walk);
     }
     walk
 }
@@ -154,7 +296,7 @@ fn rest_from(wanted: bool, place: usize, len: usize) -> usize
 }
 
 /// The ends of the set that the operation gives of two sets, in room that is asked for once.
-pub(crate) fn merge<O: SetOperation>(
+fn merge<O: SetOperation>(
     alloc: Global,
     a: &[u32],
     b: &CodePointInversionList<'_>,
@@ -171,4 +313,70 @@ pub(crate) fn merge<O: SetOperation>(
     let second = rest_from(O::of(false, true), walk.second, b.count());
     b.push_ends(&mut ends, second)?;
     Ok(ends)
+}
+
+/// Whether all ends of the list stand below those of the set: also where one of them has none.
+fn stand_before(ends: &[u32], set: &CodePointInversionList<'_>) -> bool
+    requires { IsValid ends.now }
+    ensures apart { IsTrue result → StandBefore ends.now set.now }
+    ensures valid { IsValid set.now }
+{
+    let count = ends.len();
+    let others = set.count();
+    if count == 0 || others == 0 {
+        return true;
+    }
+    ends[count - 1] < set.end_at(0)
+}
+
+/// The same with the list and the set exchanged.
+fn stand_past(ends: &[u32], set: &CodePointInversionList<'_>) -> bool
+    requires { IsValid ends.now }
+    ensures { IsTrue result → StandBefore set.now ends.now }
+{
+    let count = ends.len();
+    let others = set.count();
+    if count == 0 || others == 0 {
+        return true;
+    }
+    set.end_at(others - 1) < ends[0]
+}
+
+/// What the operation leaves of a set that has no code point in common with the other one.
+fn leave<O: SetOperation>(ends: &mut Vec<u32>)
+    ensures { ends.new.items ≡ (if O.gives true false then ends.old.items else []) }
+{
+    if !O::of(true, false) {
+        ends.clear();
+    }
+}
+
+/// Changes the ends to those of the set that the operation gives of theirs and the other one. Where
+/// all ends of one set stand below those of the other, nothing is walked over, and memory is asked
+/// for only if ends are added. Another set of one range is taken as the range.
+#[inline]
+pub(crate) fn change<O: SetOperation>(
+    alloc: Global,
+    ends: &mut Vec<u32>,
+    set: &CodePointInversionList<'_>,
+) -> Result<(), MemoryError>
+    requires { IsValid ends.old.items }
+    ensures valid { IsValid ends.new.items }
+    ensures ok { OnOk result (Acts O.gives ends.old.items (holds set.now) ends.new.items) }
+    ensures err { OnErr result (ends.new.items ≡ ends.old.items) }
+{
+    if O::of(false, true) {
+        if stand_before(ends, set) {
+            set.push_ends(ends, 0)?;
+            return Ok(());
+        }
+    } else if stand_before(ends, set) || stand_past(ends, set) {
+        leave::<O>(ends);
+        return Ok(());
+    }
+    if set.count() == 2 {
+        return O::of_range(ends, set.end_at(0), set.end_at(1));
+    }
+    *ends = merge::<O>(alloc, ends, set)?;
+    Ok(())
 }

@@ -1,7 +1,7 @@
 //! How the ranges of a set are spelled in JSON.
 ghost use Rattle.std.specs.Prelude.{◌≡◌, ℕ, ◌+◌, ◌*◌, ◌<◌, ◌≤◌, ◌^◌, ◌++◌, List, option_map, IfSome, Some, IfOk, OnOk, string_bytes};
 ghost use Rattle.std.specs.Str.{chars, encode_utf8_all};
-ghost use Rattle.icu_invlist.specs.InversionList.{limit};
+ghost use Rattle.icu_zerovec.specs.CodePoints.{code_point_limit};
 ghost use Rattle.icu_invlist.specs.SetJson.{first_of, digit_at, hex_at, point_at, range_at, IsRange, upper_hex, upper_hex4, spelled, range_text};
 
 use icu_zerovec::MemoryError;
@@ -46,7 +46,7 @@ fn hex_at(text: &str) -> Option<(u32, &str)>
 #[tactic(auto, unfolding(crate::specs::SetJson::point_at))]
 fn point_at(text: &str) -> Option<(u32, &str)>
     ensures point { option_map (λ x. (x.0, chars x.1.now)) result ≡ point_at (chars text.now) }
-    ensures small { IfSome result (λ x. x.0 < 0x11_0000) }
+    ensures small { IfSome result (λ x. x.0 < code_point_limit) }
 {
     let (first, rest) = first_of(text)?;
     if first == 'U' {
@@ -61,7 +61,7 @@ fn point_at(text: &str) -> Option<(u32, &str)>
 #[tactic(auto, unfolding(crate::specs::SetJson::range_at))]
 fn range_at(text: &str) -> Option<(u32, u32)>
     ensures exact { result ≡ range_at (chars text.now) }
-    ensures small { IfSome result (λ r. r.1 < 0x11_0000) }
+    ensures small { IfSome result (λ r. r.1 < code_point_limit) }
 {
     let (first, rest) = point_at(text)?;
     if first_of(rest).is_none() {
@@ -85,7 +85,7 @@ pub(crate) fn range_of(text: &str) -> Option<(u32, u32)>
     // What is spelled so is read.
     ensures only { (a b : ℕ) → IsRange (chars text.now) a b → result ≡ Some (a, b) }
     ensures exact { result ≡ range_at (chars text.now) }
-    ensures small { IfSome result (λ r. r.1 < 0x11_0000) }
+    ensures small { IfSome result (λ r. r.1 < code_point_limit) }
 {
     range_at(text)
 }
@@ -116,7 +116,7 @@ fn push_hex(text: &mut String, number: u32) -> Result<(), MemoryError>
 
 /// Appends a point to the text.
 fn push_point(text: &mut String, point: u32) -> Result<(), MemoryError>
-    requires { point < limit }
+    requires { point < code_point_limit }
     ensures { OnOk result
         (string_bytes text.new ≡ string_bytes text.old ++ encode_utf8_all (spelled point)) }
 {
@@ -133,8 +133,8 @@ fn push_point(text: &mut String, point: u32) -> Result<(), MemoryError>
 
 /// The text of the range from `first` through `last`.
 pub(crate) fn text_of_range(alloc: Global, first: u32, last: u32) -> Result<String, MemoryError>
-    requires first { first < limit }
-    requires last { last < limit }
+    requires first { first < code_point_limit }
+    requires last { last < code_point_limit }
     ensures { IfOk result (λ t. string_bytes t ≡ encode_utf8_all (range_text first last)) }
 {
     let mut text = String::new(alloc);

@@ -8,7 +8,8 @@ use Rattle.std.proofs.lemmas.Option.{same_Some}
 use Rattle.std.proofs.lemmas.Bool.{or_cases}
 use Rattle.std.proofs.lemmas.Bool.Decides.{same_from_decides, Decides-eqb, Decides-like}
 use Rattle.std.proofs.lemmas.Str.{encodes-chars, scalars-chars}
-use Rattle.icu_invlist.specs.InversionList.{holds, limit, ends_up_to, Acts, either}
+use Rattle.icu_zerovec.specs.CodePoints.{code_point_limit}
+use Rattle.icu_invlist.specs.InversionList.{holds, ends_up_to, Acts, either}
 use Rattle.icu_text_sets.specs.TextSet.{TextSet, only_of, only_char, is_among, member_as, HoldsTexts}
 
 -- the ends and the texts hold what was given so far
@@ -16,7 +17,7 @@ pub record IsGathered (given : List (List ℕ)) (ends : List ℕ) (texts : List 
   pub plain : (t : List ℕ) → is_among texts t ≡ true → only_char t ≡ None
   pub strings : (t : List ℕ) → only_char t ≡ None → is_among texts t ≡ is_among given t
   pub points : (t : List ℕ) (c : ℕ) → IsUtf8 t → only_char t ≡ Some c → holds ends c ≡ is_among given t
-  pub scalars : (c : ℕ) → c < limit → holds ends c ≡ true → scalar c ≡ true
+  pub scalars : (c : ℕ) → c < code_point_limit → holds ends c ≡ true → scalar c ≡ true
 
 pub gathered_none : IsGathered [] [] []
 unfolding ends_up_to
@@ -43,7 +44,7 @@ scalar_first c h = and_first (scalar c) true h
 scalar_of : (t : List ℕ) (c : ℕ) → IsUtf8 t → only_char t ≡ Some c → scalar c ≡ true
 scalar_of t c u o = scalar_first c (sym (ap all_scalars (only_is (chars t) c o)) ∙ scalars-chars t u)
 
-scalar_small : (c : ℕ) → scalar c ≡ true → c < limit
+scalar_small : (c : ℕ) → scalar c ≡ true → c < code_point_limit
 scalar_small c h = elim (scalar_cases c h) [ inl k ↦ omega arith | inr k ↦ omega (arith, k.1) ]
 
 -- texts of one character are equal exactly if the characters are

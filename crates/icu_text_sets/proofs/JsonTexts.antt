@@ -6,16 +6,12 @@ use Rattle.serde_json.specs.View.{view, items_view, items_of}
 use Rattle.serde_json.specs.declared.value.Value.{Value}
 use Rattle.icu_zerovec.specs.FirstFault.{before, read_from}
 use Rattle.icu_invlist.specs.InversionList.{IsValid}
-use Rattle.icu_invlist.specs.SetJson.{ends_of, written_of}
+use Rattle.icu_invlist.specs.SetJson.{ends_of, list_of, written_of}
 use Rattle.icu_invlist.specs.declared.codepointinvlist.error.SetJsonError.{SetJsonError}
 use Rattle.icu_text_sets.specs.TextSet.{TextSet, IsStringList}
 use Rattle.icu_text_sets.specs.TextFaults.{fault}
-use Rattle.icu_text_sets.specs.TextSetJson.{JsonFault, list_of, text_or, texts_said, set_unless, json_of, IsReadWith, IsRead}
+use Rattle.icu_text_sets.specs.TextSetJson.{JsonFault, text_or, texts_said, set_unless, json_of, IsReadWith, IsRead}
 use Rattle.icu_text_sets.proofs.Walks.{no_fault}
-
-pub list_of-items_view : (vs : List Value) → list_of (items_view vs) ≡ map view vs
-list_of-items_view [] = refl
-list_of-items_view (v ∷ vs) = ap (λ z. view v ∷ z) (list_of-items_view vs)
 
 -- ---- what is written is read back
 list_of-items_of : (ds : List Data) → list_of (items_of ds) ≡ ds

@@ -10,7 +10,8 @@ use Rattle.std.specs.Cmp.Lexicographic.{slice_cmp, pointwise}
 use Rattle.std.specs.declared.cmp.Ordering.{Ordering}
 use Rattle.std.specs.declared.cmp.Ordering.TheVariants.{Less}
 use Rattle.std.proofs.Math.Utf8.{scalar}
-use Rattle.icu_invlist.specs.InversionList.{holds, limit, members_below}
+use Rattle.icu_zerovec.specs.CodePoints.{code_point_limit}
+use Rattle.icu_invlist.specs.InversionList.{holds, members_below}
 
 -- the code points by the ends of their ranges, and the strings
 pub record TextSet : Type 0 where
@@ -57,13 +58,13 @@ member set text = member_as set text (only_char text)
 
 -- how many members the set has: its code points, surrogates among them, and its strings
 abbrev pub member_count : TextSet → ℕ
-member_count set = members_below set.code_points limit + length set.strings
+member_count set = members_below set.code_points code_point_limit + length set.strings
 
 -- the set holds these texts and no other one, and no surrogate
 abbrev pub HoldsTexts : List (List ℕ) → TextSet → Type 0
 HoldsTexts texts set =
     ((text : List ℕ) → IsUtf8 text → member set text ≡ is_among texts text)
-    × ((c : ℕ) → c < limit → holds set.code_points c ≡ true → scalar c ≡ true)
+    × ((c : ℕ) → c < code_point_limit → holds set.code_points c ≡ true → scalar c ≡ true)
 
 -- ---- equality
 -- the sets have the same ends and the same strings

@@ -2,11 +2,11 @@
 -- as a set of code points is written, and whose member `str_list` is the array of the strings.
 use Rattle.std.specs.Prelude.{◌≡◌, ℕ, ◌⊎◌, List, [], ◌∷◌, map, codes, Option, Some, None, option_and_then, Result, Ok, Err}
 use Rattle.std.specs.Option.{ok_or}
-use Rattle.serde_json.specs.Data.{Data, string, array, object, Items, no_items, item, Members, no_members, member}
+use Rattle.serde_json.specs.Data.{Data, string, array, object, Items, Members, no_members, member}
 use Rattle.serde_json.specs.Find.{get, as_object, as_array, as_str}
 use Rattle.serde_json.specs.View.{items_of}
 use Rattle.icu_invlist.specs.InversionList.{IsValid}
-use Rattle.icu_invlist.specs.SetJson.{ends_of, written_of}
+use Rattle.icu_invlist.specs.SetJson.{ends_of, list_of, written_of}
 use Rattle.icu_invlist.specs.declared.codepointinvlist.error.SetJsonError.{SetJsonError}
 use Rattle.icu_invlist.specs.declared.codepointinvlist.error.SetJsonError.TheVariants.{InvalidSet}
 use Rattle.icu_zerovec.specs.FirstFault.{and_then, read_from}
@@ -41,11 +41,6 @@ json_fault_of (errors.Strings e) = Some (text_fault (fault_of e))
 json_fault_of errors.Memory = None
 
 -- ---- the strings
--- items as a list
-abbrev pub list_of : Items → List Data
-list_of no_items = []
-list_of (item d items) = d ∷ list_of items
-
 -- the text that item i is
 abbrev pub text_or : ℕ → Data → Result (List ℕ) JsonFault
 text_or i d = ok_or (as_str d) (no_string i)

@@ -2,7 +2,6 @@
 use Rattle.std.proofs.Common.{◌≡◌, ℕ, ◌+◌, ◌<◌, ◌≤◌, List, [], ◌∷◌, map, Option, Some, None, Bool, true, false, inl, inr, refl, sym, ap, subst, ◌∙◌, arith, eq-eqb}
 use Rattle.std.specs.List.{All}
 use Rattle.std.specs.Range.{range_inclusive_start, range_inclusive_end, range_inclusive_exhausted}
-use Rattle.std.specs.Prelude.{⊤}
 use Rattle.std.proofs.lemmas.Bool.Decides.{nat_tests}
 use Rattle.std.proofs.lemmas.List.Elements.{All-cons}
 use Rattle.std.specs.declared.ops.RangeInclusive.{RangeInclusive}
@@ -10,17 +9,16 @@ use Rattle.std.specs.Iterator.{Yields, Drains, DrainsIf}
 use Rattle.std.proofs.iter.runs.Made.{run, took, seen, to_end}
 use Rattle.std.proofs.lemmas.Bool.{cases_lt, lt-ltb}
 use Rattle.itertools.specs.Adaptor.{EachRunBehind, Gives}
-use Rattle.icu_trie.specs.Parts.{Parts}
 use Rattle.icu_trie_core.specs.Runs.{LongestRun, AreRunsFrom}
 use Rattle.icu_trie_core.specs.declared.range.CodePointMapRange.{CodePointMapRange}
 use Rattle.icu_trie.specs.declared.ranges.CodePointMapRangeIterator.{CodePointMapRangeIterator}
 use Rattle.icu_trie_core.specs.Range.{first_of, last_of, run_of}
-use Rattle.icu_trie.specs.Ranges.{AreRangesFrom, IsRangeOfCodePoints}
+use Rattle.icu_trie.specs.Ranges.{IsRangeOfCodePoints}
 use Rattle.icu_trie.specs.Iterators.{GivesNextRange}
 use Rattle.icu_trie.specs.JoinedRanges.{continues, merged, joined_from, joined}
 use Rattle.icu_trie.specs.MappedRanges.{MapsTo, AreMappedRunsFrom, Answers, AreAnswered, IsAnswered, GivesMapped, mapped_source, mapped_callee}
 use Rattle.icu_trie.specs.declared.mapped_ranges.MappedRanges.{MappedRanges}
-use Rattle.icu_trie.proofs.GivenRanges.{AreOfCodePoints, AreOfCodePoints-from_ranges}
+use Rattle.icu_trie.proofs.GivenRanges.{AreOfCodePoints}
 
 -- what a wrapper drains its inside drains
 module _ {S T A : Type 0} {steps : S → Option A → S → Type 0} (inner : T → Option A → T → Type 0) (inside : S → T) (through : (s : S) (r : Option A) (t : S) → steps s r t → inner (inside s) r (inside t)) where

@@ -1,5 +1,5 @@
 -- Maps that are equal on the code points have the same mapped runs.
-use Rattle.std.proofs.Common.{◌≡◌, ℕ, ◌+◌, ◌<◌, ◌≤◌, Bool, List, [], ◌∷◌, Option, ◌∙◌, arith}
+use Rattle.std.proofs.Common.{◌≡◌, ℕ, ◌+◌, ◌<◌, Bool, List, [], ◌∷◌, Option, ◌∙◌, arith}
 use Rattle.icu_trie_core.specs.declared.range.CodePointMapRange.{CodePointMapRange}
 use Rattle.icu_trie_core.specs.Range.{last_of}
 use Rattle.icu_trie.specs.MappedRanges.{MapsTo, AreMappedRunsFrom}

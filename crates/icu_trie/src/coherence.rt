@@ -54,10 +54,10 @@ impl<'trie, T: TrieValue> CodePointTrie<'trie, T> {
     ///
     /// `try_new` takes any header over cells that look-ups can read, since a look-up answers
     /// whatever the header says. Ranges trust it: they skip each block that it names as null, by
-    /// `data_null_offset` or
-    /// `index3_null_offset`, and all code points from `high_start` on. In a coherent trie what they
-    /// skip is what look-ups answer, so that `get_range`, `iter_ranges` and `get_set_for_value` are
-    /// exact. Every built trie is coherent, and a trie read from a file may be tested once:
+    /// `data_null_offset` or `index3_null_offset`, and all code points from `high_start` on. In a
+    /// coherent trie what they skip is what look-ups answer, so that `get_range`, `iter_ranges` and
+    /// `get_set_for_value` are exact. Every built trie is coherent, and a trie read from a file may
+    /// be tested once:
     ///
     /// ```text
     /// let trie = CodePointTrie::try_new(header, index, data)?;

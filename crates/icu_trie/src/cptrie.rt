@@ -7,10 +7,10 @@ ghost use Rattle.icu_trie.specs.Parts.{fault, last_cell, IsWhyNoTrie};
 ghost use Rattle.icu_zerovec.specs.Slice.{slice_values};
 
 use crate::error::PartsError;
-use crate::packed_cells::{look_up_far_in, look_up_near_in};
+use crate::packed_cells::{look_up_fast_in, look_up_high_in, look_up_small_in};
 use icu_trie_core::error::CodePointTrieError;
 use icu_trie_core::header::{CodePointTrieHeader, TrieType};
-use icu_trie_core::impl_const::FAST_TYPE_DATA_BLOCK_LENGTH;
+use icu_trie_core::impl_const::{CODE_POINT_MAX, FAST_TYPE_DATA_BLOCK_LENGTH};
 use icu_trie_core::value::TrieValue;
 use icu_zerovec::{MemoryError, ZeroSlice, ZeroVec};
 use std::alloc::Global;
@@ -76,11 +76,10 @@ impl<'trie, T: TrieValue> CodePointTrie<'trie, T> {
     ///
     /// # Errors
     /// In this order: `EmptyDataVector`; `InvalidNullValue` where the header's null value is the
-    /// number of no
-    /// `T`; `IndexTooShortForFastAccess` where the index has fewer than 1,024 cells (`Fast`) or 64
-    /// (`Small`);
-    /// `DataTooShortForFastAccess` where the data have fewer cells than the greatest offset of the
-    /// fast index plus 64. All else that a header may say wrongly is answered for by the look-up.
+    /// number of no `T`; `IndexTooShortForFastAccess` where the index has fewer than 1,024 cells
+    /// (`Fast`) or 64 (`Small`); `DataTooShortForFastAccess` where the data have fewer cells than
+    /// the greatest offset of the fast index plus 64. All else that a header may say wrongly is
+    /// answered for by the look-up.
     ///
     /// ```
     /// // index has 64 zeros and data has 64 values; the header says `Small`, and 0x1000 as the high start
@@ -156,21 +155,85 @@ impl<'trie, T: TrieValue> CodePointTrie<'trie, T> {
         }
     }
 
-    /// The value of `c` from the fast limit on, with each place tested: what `get32` calls where
-    /// one read or two are not enough.
+    /// The value of `c` by the three stages of the index, with each place tested.
     ///
-    /// It stays a call, told apart as the rarer one, so that the short path is short and keeps all
-    /// that it needs in registers.
+    /// It stays a call, told apart as the rarer case, so that the short paths are short and keep
+    /// all that they need in registers.
     #[cold]
     #[inline(never)]
-    pub(crate) fn far_value(&self, c: u32) -> T
-        requires { fast_limit self.now.header.trie_type ≤ c }
+    fn small_value(&self, c: u32) -> T
+        requires from { fast_limit self.now.header.trie_type ≤ c }
+        requires below { c < self.now.header.high_start }
+        requires within { c < 0x110000 }
         ensures { Some result ≡ trie_value self.now c }
     {
-        match look_up_far_in(&self.header, self.index.as_slice(), self.data.as_slice(), c) {
+        match look_up_small_in(&self.header, self.index.as_slice(), self.data.as_slice(), c) {
             Some(value) => value,
             None => self.without_answer(),
         }
+    }
+
+    /// The value of a code point below the fast limit, in two reads.
+    #[inline(always)]
+    pub(crate) fn fast_value(&self, c: u32) -> T
+        requires { c < fast_limit self.now.header.trie_type }
+        ensures { Some result ≡ trie_value self.now c }
+    {
+        look_up_fast_in(&self.header, self.index.as_slice(), self.data.as_slice(), c)
+    }
+
+    /// The value of a code point from the fast limit on.
+    #[inline(always)]
+    fn far_value(&self, c: u32) -> T
+        requires from { fast_limit self.now.header.trie_type ≤ c }
+        requires within { c < 0x110000 }
+        ensures { Some result ≡ trie_value self.now c }
+    {
+        if c >= self.header.high_start {
+            return look_up_high_in(&self.header, self.index.as_slice(), self.data.as_slice(), c);
+        }
+        self.small_value(c)
+    }
+
+    /// The value of `c` in a trie of this type.
+    #[inline(always)]
+    pub(crate) fn value_by_type(&self, trie_type: TrieType, c: u32) -> T
+        requires { self.now.header.trie_type ≡ trie_type }
+        ensures { Some result ≡ trie_value self.now c }
+    {
+        let (index, data) = (self.index.as_slice(), self.data.as_slice());
+        if c < trie_type.fast_limit() {
+            return look_up_fast_in(&self.header, index, data, c);
+        }
+        if c > CODE_POINT_MAX {
+            return self.outside_value(c);
+        }
+        self.far_value(c)
+    }
+
+    /// The value of a number above the code points, which is no code point's.
+    #[inline(always)]
+    #[tactic(auto, unfolding(icu_trie_core::specs::Format::answer))]
+    fn outside_value(&self, c: u32) -> T
+        requires { 0x110000 ≤ c }
+        ensures { Some result ≡ trie_value self.now c }
+    {
+        let _ = c;
+        self.without_answer()
+    }
+
+    /// The value of the character `c`, in a trie of this type: no character is above 0x10FFFF.
+    #[inline(always)]
+    pub(crate) fn character_by_type(&self, trie_type: TrieType, c: char) -> T
+        requires { self.now.header.trie_type ≡ trie_type }
+        ensures { Some result ≡ trie_value self.now c }
+    {
+        let c = c as u32;
+        let (index, data) = (self.index.as_slice(), self.data.as_slice());
+        if c < trie_type.fast_limit() {
+            return look_up_fast_in(&self.header, index, data, c);
+        }
+        self.far_value(c)
     }
 
     /// The value of the code point `c`. The error value above 0x10FFFF, and where the trie lacks a
@@ -185,10 +248,7 @@ impl<'trie, T: TrieValue> CodePointTrie<'trie, T> {
     pub fn get32(&self, c: u32) -> T
         ensures { Some result ≡ trie_value self.now c }
     {
-        match look_up_near_in(&self.header, self.index.as_slice(), self.data.as_slice(), c) {
-            Some(value) => value,
-            None => self.far_value(c),
-        }
+        self.value_by_type(self.header.trie_type, c)
     }
 
     /// The value of a character.
@@ -196,7 +256,7 @@ impl<'trie, T: TrieValue> CodePointTrie<'trie, T> {
     pub fn get(&self, c: char) -> T
         ensures { Some result ≡ trie_value self.now c }
     {
-        self.get32(c as u32)
+        self.character_by_type(self.header.trie_type, c)
     }
 
     /// The value of a code point of the basic multilingual plane, surrogates among them.
@@ -237,7 +297,7 @@ impl<'trie, T: TrieValue> CodePointTrie<'trie, T> {
     /// An equal trie that owns its index and its data.
     ///
     /// # Errors
-    /// `MemoryError` where no memory was found.
+    /// `MemoryError` where memory was refused.
     pub fn try_clone(&self, alloc: Global) -> Result<CodePointTrie<'static, T>, MemoryError>
         ensures { IfOk result (λ trie. trie ≡ self.now) }
     {

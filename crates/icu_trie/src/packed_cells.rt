@@ -9,7 +9,7 @@ ghost use Rattle.icu_zerovec.specs.Slice.{slice_values};
 
 use icu_trie_core::cells::{Cells, Steps};
 use icu_trie_core::header::CodePointTrieHeader;
-use icu_trie_core::lookup::{look_up_far, look_up_near};
+use icu_trie_core::lookup::{look_up_fast, look_up_high, look_up_small};
 use icu_trie_core::range::CodePointMapRange;
 use icu_trie_core::value::TrieValue;
 use icu_trie_core::walk::walk;
@@ -67,9 +67,103 @@ impl<'a, T: TrieValue, L: Ledger> Cells<T> for PackedCells<'a, T, L> {
     }
 }
 
-/// `look_up_near` over packed vectors, with a count in the ledger of `blank`.
+/// `look_up_fast` over packed vectors, with a count in the ledger of `blank`.
 #[inline(always)]
-fn look_up_near_counted<T: TrieValue, L: Ledger>(
+fn look_up_fast_counted<T: TrieValue, L: Ledger>(
+    header: &CodePointTrieHeader,
+    index: ZeroSlice<'_, u16>,
+    values: ZeroSlice<'_, T>,
+    c: u32,
+    blank: Blank,
+) -> T
+    requires name { blank.name ≡ L.name }
+    requires parts { blank.parts ≡ L.parts }
+    requires some { 0 < blank.parts }
+    requires fast_index { fast_index_len header.now.trie_type ≤ length (slice_values index) }
+    requires blocks { passes_data header.now.trie_type (slice_values index)
+        (length (slice_values values)) ≡ false }
+    requires below { c < fast_limit header.now.trie_type }
+    ensures { answer header.now (slice_values index.entry) (slice_values values.entry) c
+        ≡ Some result }
+{
+    let mut cells = PackedCells {
+        index,
+        values,
+        reads: Steps::<L>::new(blank),
+    };
+    look_up_fast(header, &mut cells, c)
+}
+
+/// `look_up_fast` over packed vectors. Counts in a ledger of its own, which is then dropped.
+#[inline(always)]
+pub(crate) fn look_up_fast_in<T: TrieValue>(
+    header: &CodePointTrieHeader,
+    index: ZeroSlice<'_, u16>,
+    values: ZeroSlice<'_, T>,
+    c: u32,
+) -> T
+    requires fast_index { fast_index_len header.now.trie_type ≤ length (slice_values index) }
+    requires blocks { passes_data header.now.trie_type (slice_values index)
+        (length (slice_values values)) ≡ false }
+    requires below { c < fast_limit header.now.trie_type }
+    ensures { answer header.now (slice_values index.entry) (slice_values values.entry) c
+        ≡ Some result }
+{
+    look_up_fast_counted::<T, Brand>(header, index, values, c, Blank::new(1))
+}
+
+/// `look_up_high` over packed vectors, with a count in the ledger of `blank`.
+#[inline(always)]
+fn look_up_high_counted<T: TrieValue, L: Ledger>(
+    header: &CodePointTrieHeader,
+    index: ZeroSlice<'_, u16>,
+    values: ZeroSlice<'_, T>,
+    c: u32,
+    blank: Blank,
+) -> T
+    requires name { blank.name ≡ L.name }
+    requires parts { blank.parts ≡ L.parts }
+    requires some { 0 < blank.parts }
+    requires fast_index { fast_index_len header.now.trie_type ≤ length (slice_values index) }
+    requires blocks { passes_data header.now.trie_type (slice_values index)
+        (length (slice_values values)) ≡ false }
+    requires from { fast_limit header.now.trie_type ≤ c }
+    requires high { header.now.high_start ≤ c }
+    requires within { c < 0x110000 }
+    ensures { answer header.now (slice_values index.entry) (slice_values values.entry) c
+        ≡ Some result }
+{
+    let mut cells = PackedCells {
+        index,
+        values,
+        reads: Steps::<L>::new(blank),
+    };
+    look_up_high(header, &mut cells, c)
+}
+
+/// `look_up_high` over packed vectors. Counts in a ledger of its own, which is then dropped.
+#[inline(always)]
+pub(crate) fn look_up_high_in<T: TrieValue>(
+    header: &CodePointTrieHeader,
+    index: ZeroSlice<'_, u16>,
+    values: ZeroSlice<'_, T>,
+    c: u32,
+) -> T
+    requires fast_index { fast_index_len header.now.trie_type ≤ length (slice_values index) }
+    requires blocks { passes_data header.now.trie_type (slice_values index)
+        (length (slice_values values)) ≡ false }
+    requires from { fast_limit header.now.trie_type ≤ c }
+    requires high { header.now.high_start ≤ c }
+    requires within { c < 0x110000 }
+    ensures { answer header.now (slice_values index.entry) (slice_values values.entry) c
+        ≡ Some result }
+{
+    look_up_high_counted::<T, Brand>(header, index, values, c, Blank::new(1))
+}
+
+/// `look_up_small` over packed vectors, with a count in the ledger of `blank`.
+#[inline(always)]
+fn look_up_small_counted<T: TrieValue, L: Ledger>(
     header: &CodePointTrieHeader,
     index: ZeroSlice<'_, u16>,
     values: ZeroSlice<'_, T>,
@@ -79,52 +173,9 @@ fn look_up_near_counted<T: TrieValue, L: Ledger>(
     requires name { blank.name ≡ L.name }
     requires parts { blank.parts ≡ L.parts }
     requires some { 0 < blank.parts }
-    requires fast_index { fast_index_len header.now.trie_type ≤ length (slice_values index) }
-    requires blocks { passes_data header.now.trie_type (slice_values index)
-        (length (slice_values values)) ≡ false }
-    ensures answer { IfSome result
-        (λ x. answer header.now (slice_values index.entry) (slice_values values.entry) c ≡ Some x) }
-    ensures none { IfNone result (fast_limit header.now.trie_type ≤ c) }
-{
-    let mut cells = PackedCells {
-        index,
-        values,
-        reads: Steps::<L>::new(blank),
-    };
-    look_up_near(header, &mut cells, c)
-}
-
-/// `look_up_near` over packed vectors. Counts in a ledger of its own, which is then dropped.
-#[inline(always)]
-pub(crate) fn look_up_near_in<T: TrieValue>(
-    header: &CodePointTrieHeader,
-    index: ZeroSlice<'_, u16>,
-    values: ZeroSlice<'_, T>,
-    c: u32,
-) -> Option<T>
-    requires fast_index { fast_index_len header.now.trie_type ≤ length (slice_values index) }
-    requires blocks { passes_data header.now.trie_type (slice_values index)
-        (length (slice_values values)) ≡ false }
-    ensures answer { IfSome result
-        (λ x. answer header.now (slice_values index.entry) (slice_values values.entry) c ≡ Some x) }
-    ensures none { IfNone result (fast_limit header.now.trie_type ≤ c) }
-{
-    look_up_near_counted::<T, Brand>(header, index, values, c, Blank::new(1))
-}
-
-/// `look_up_far` over packed vectors, with a count in the ledger of `blank`.
-#[inline(always)]
-fn look_up_far_counted<T: TrieValue, L: Ledger>(
-    header: &CodePointTrieHeader,
-    index: ZeroSlice<'_, u16>,
-    values: ZeroSlice<'_, T>,
-    c: u32,
-    blank: Blank,
-) -> Option<T>
-    requires name { blank.name ≡ L.name }
-    requires parts { blank.parts ≡ L.parts }
-    requires some { 0 < blank.parts }
-    requires far { fast_limit header.now.trie_type ≤ c }
+    requires from { fast_limit header.now.trie_type ≤ c }
+    requires below { c < header.now.high_start }
+    requires within { c < 0x110000 }
     ensures { result ≡ answer header.now (slice_values index.entry) (slice_values values.entry) c }
 {
     let mut cells = PackedCells {
@@ -132,24 +183,27 @@ fn look_up_far_counted<T: TrieValue, L: Ledger>(
         values,
         reads: Steps::<L>::new(blank),
     };
-    look_up_far(header, &mut cells, c)
+    look_up_small(header, &mut cells, c)
 }
 
-/// `look_up_far` over packed vectors. Counts in a ledger of its own, which is then dropped.
+/// `look_up_small` over packed vectors. Counts in a ledger of its own, which is then dropped.
 #[inline(always)]
-pub(crate) fn look_up_far_in<T: TrieValue>(
+pub(crate) fn look_up_small_in<T: TrieValue>(
     header: &CodePointTrieHeader,
     index: ZeroSlice<'_, u16>,
     values: ZeroSlice<'_, T>,
     c: u32,
 ) -> Option<T>
-    requires { fast_limit header.now.trie_type ≤ c }
+    requires from { fast_limit header.now.trie_type ≤ c }
+    requires below { c < header.now.high_start }
+    requires within { c < 0x110000 }
     ensures { result ≡ answer header.now (slice_values index.entry) (slice_values values.entry) c }
 {
-    look_up_far_counted::<T, Brand>(header, index, values, c, Blank::new(1))
+    look_up_small_counted::<T, Brand>(header, index, values, c, Blank::new(1))
 }
 
 /// `walk` over packed vectors, with a count in the ledger of `blank`.
+#[inline(always)]
 fn walk_counted<T: TrieValue, L: Ledger>(
     header: &CodePointTrieHeader,
     index: ZeroSlice<'_, u16>,
@@ -178,6 +232,7 @@ fn walk_counted<T: TrieValue, L: Ledger>(
 }
 
 /// `walk` over packed vectors. Counts in a ledger of its own, which is then dropped.
+#[inline(always)]
 pub(crate) fn walk_in<T: TrieValue>(
     header: &CodePointTrieHeader,
     index: ZeroSlice<'_, u16>,

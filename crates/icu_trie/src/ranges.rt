@@ -24,6 +24,7 @@ impl<'trie, T: TrieValue> CodePointTrie<'trie, T> {
     /// Over a coherent trie, as every built one is, it is the longest run of equal answers from `c`
     /// on. `None` above 0x10FFFF, and where the trie lacks a cell that the walk comes to
     /// ([`walk`](icu_trie_core::walk::walk)).
+    #[inline(always)]
     pub fn get_range(&self, c: u32) -> Option<CodePointMapRange<T>>
         ensures gives { GivesWalk T.of_number self.now.header self.now.index self.now.values c
             result }
@@ -134,6 +135,7 @@ impl<'a, T: TrieValue> Iterator for CodePointMapRangeIterator<'a, T> {
 
     ghost remaining = { λ s. at_most (0x110000 - iterator_next s) };
 
+    #[inline(always)]
     fn next(&mut self) -> Option<CodePointMapRange<T>> {
         let range = self.trie.get_range(self.next);
         self.next = match &range {

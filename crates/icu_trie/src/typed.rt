@@ -1,4 +1,15 @@
 //! Tries whose type is known in the Rust type.
+//!
+//! The header of a trie has its type. `as_typed_ref` looks at it once, for all the look-ups of a
+//! loop:
+//!
+//! ```
+//! let sum = match trie.as_typed_ref() {
+//!     Typed::Fast(trie) => sum_of(&trie, "text"),
+//!     Typed::Small(trie) => sum_of(&trie, "text"),
+//! };
+//! // sum_of is generic over V: TypedCodePointTrie<'_, u8>, and adds trie.get(c) for each c
+//! ```
 ghost use Rattle.std.specs.Prelude.{◌≡◌, ℕ, ◌≤◌, ◌<◌, nat_lt, Some, None, IfOk, IfErr, if◌then◌else◌};
 ghost use Rattle.std.specs.Option.{option_map};
 ghost use Rattle.icu_trie_core.specs.Format.{fast_limit};
@@ -8,8 +19,7 @@ ghost use Rattle.icu_trie_core.specs.declared.header.TrieType.TheVariants.{Fast,
 ghost use Rattle.icu_trie.specs.Typed.{IsTyped, IsOfType};
 
 use crate::cptrie::CodePointTrie;
-use crate::packed_cells::look_up_near_in;
-use icu_trie_core::header::{CodePointTrieHeader, TrieType};
+use icu_trie_core::header::TrieType;
 use icu_trie_core::value::TrieValue;
 use std::marker::Model;
 use thiserror::Error;
@@ -66,23 +76,6 @@ pub trait TypedCodePointTrie<'trie, T: TrieValue> {
             ≡ (if nat_lt c (fast_limit trie_type) then trie_value (parts self.now) c else None) };
 }
 
-/// The value of `c` in a trie of this type. The type in the header is known then, and no code tests
-/// it.
-#[inline(always)]
-fn value_of<T: TrieValue>(trie: &CodePointTrie<'_, T>, trie_type: TrieType, c: u32) -> T
-    requires { trie.now.header.trie_type ≡ trie_type }
-    ensures { Some result ≡ trie_value trie.now c }
-{
-    let header = CodePointTrieHeader {
-        trie_type,
-        ..trie.header
-    };
-    match look_up_near_in(&header, trie.index.as_slice(), trie.data.as_slice(), c) {
-        Some(value) => value,
-        None => trie.far_value(c),
-    }
-}
-
 /// The value of `c` in a trie of this type where `c` lies below the fast limit, `None` from it on.
 #[inline(always)]
 fn fast_value_of<T: TrieValue>(
@@ -94,7 +87,7 @@ fn fast_value_of<T: TrieValue>(
     ensures { result ≡ (if nat_lt c (fast_limit trie_type) then trie_value trie.now c else None) }
 {
     if c < trie_type.fast_limit() {
-        Some(value_of(trie, trie_type, c))
+        Some(trie.fast_value(c))
     } else {
         None
     }
@@ -148,22 +141,22 @@ impl<'trie, T: TrieValue> TypedCodePointTrie<'trie, T> for FastCodePointTrie<'tr
 
     #[inline(always)]
     fn get32(&self, c: u32) -> T {
-        value_of(&self.inner, TrieType::Fast, c)
+        self.inner.value_by_type(TrieType::Fast, c)
     }
 
     #[inline(always)]
     fn get(&self, c: char) -> T {
-        value_of(&self.inner, TrieType::Fast, c as u32)
+        self.inner.character_by_type(TrieType::Fast, c)
     }
 
     #[inline(always)]
     fn get16(&self, bmp: u16) -> T {
-        value_of(&self.inner, TrieType::Fast, u32::from(bmp))
+        self.inner.value_by_type(TrieType::Fast, u32::from(bmp))
     }
 
     #[inline(always)]
     fn get32_supplementary(&self, supplementary: u32) -> T {
-        value_of(&self.inner, TrieType::Fast, supplementary)
+        self.inner.value_by_type(TrieType::Fast, supplementary)
     }
 
     #[inline(always)]
@@ -225,22 +218,22 @@ impl<'trie, T: TrieValue> TypedCodePointTrie<'trie, T> for SmallCodePointTrie<'t
 
     #[inline(always)]
     fn get32(&self, c: u32) -> T {
-        value_of(&self.inner, TrieType::Small, c)
+        self.inner.value_by_type(TrieType::Small, c)
     }
 
     #[inline(always)]
     fn get(&self, c: char) -> T {
-        value_of(&self.inner, TrieType::Small, c as u32)
+        self.inner.character_by_type(TrieType::Small, c)
     }
 
     #[inline(always)]
     fn get16(&self, bmp: u16) -> T {
-        value_of(&self.inner, TrieType::Small, u32::from(bmp))
+        self.inner.value_by_type(TrieType::Small, u32::from(bmp))
     }
 
     #[inline(always)]
     fn get32_supplementary(&self, supplementary: u32) -> T {
-        value_of(&self.inner, TrieType::Small, supplementary)
+        self.inner.value_by_type(TrieType::Small, supplementary)
     }
 
     #[inline(always)]

@@ -5,7 +5,7 @@ ghost use Rattle.icu_zerovec.specs.CodePoints.{code_point_limit};
 ghost use Rattle.icu_trie_core.specs.Blocks.{window, block, count_different};
 ghost use Rattle.icu_trie_compaction.specs.Different.{count_different_but};
 ghost use Rattle.icu_trie_compaction.specs.Inside.Placed.{AllStandIn, IsPlaced};
-ghost use Rattle.icu_trie_compaction.specs.Windows.{HasAll, IsLeast, IsTable};
+ghost use Rattle.icu_trie_compaction.specs.Windows.{IsLeast, IsTable};
 ghost use Rattle.icu_trie_compaction.specs.declared.error.BuildError.TheVariants.{TooLarge};
 
 use crate::error::BuildError;
@@ -34,12 +34,10 @@ fn place_next(
     requires room { length stored.old.items < 2 ^ 30 }
     requires limit { limit + table.old.size < 2 ^ 30 }
     requires table { IsTable stored.old.items table.old }
-    requires whole { HasAll stored.old.items table.old }
     ensures least { IfOk result (λ at.
         IsLeast table.old.size at stored.new.items (block table.old.size map.now number)) }
     ensures size { OnOk result (table.new.size ≡ table.old.size) }
     ensures table { OnOk result (IsTable stored.new.items table.new) }
-    ensures whole { OnOk result (HasAll stored.new.items table.new) }
     ensures kept { OnOk result (take (length stored.old.items) stored.new.items
         ≡ stored.old.items) }
     ensures grown { OnOk result (length stored.old.items < length stored.new.items
@@ -102,7 +100,6 @@ pub(crate) fn place_map_blocks(
         < length stored.old.items + size * count_different (block size map.now) first count }
 {
     let mut table = WindowTable::for_cells(alloc, size, stored.len())?;
-    table.enter_all(stored)?;
     let mut room = Vec::with_capacity(alloc, size)?;
     let mut offsets = Vec::with_capacity(alloc, count)?;
     let mut last = None;

@@ -2,7 +2,7 @@
 ghost use Rattle.std.specs.Prelude.{◌≡◌, ◌≢◌, ℕ, ◌+◌, ◌-◌, ◌*◌, ◌^◌, ◌<◌, ◌≤◌, Bool, true, length, max, take, drop, IfOk, OnOk};
 ghost use Rattle.std.specs.List.{AllPass};
 ghost use Rattle.icu_trie_core.specs.Blocks.{window, block};
-ghost use Rattle.icu_trie_compaction.specs.Windows.{HasAll, IsLeast, IsTable};
+ghost use Rattle.icu_trie_compaction.specs.Windows.{IsLeast, IsTable};
 ghost use Rattle.icu_trie_compaction.specs.declared.error.BuildError.TheVariants.{TooLarge};
 
 use crate::error::BuildError;
@@ -56,11 +56,9 @@ pub fn place_block(
     requires room { length stored.old.items < 2 ^ 30 }
     requires limit { limit + table.old.size < 2 ^ 30 }
     requires table { IsTable stored.old.items table.old }
-    requires whole { HasAll stored.old.items table.old }
     ensures least { IfOk result (λ at. IsLeast table.old.size at stored.new.items wanted.now) }
     ensures size { OnOk result (table.new.size ≡ table.old.size) }
     ensures table { OnOk result (IsTable stored.new.items table.new) }
-    ensures whole { OnOk result (HasAll stored.new.items table.new) }
     ensures kept { OnOk result (take (length stored.old.items) stored.new.items
         ≡ stored.old.items) }
     ensures grown { OnOk result (length stored.old.items < length stored.new.items
@@ -73,6 +71,7 @@ pub fn place_block(
     ensures too_large { result ≡ Err TooLarge → (limit < length stored.old.items)
         × ((q : ℕ) → window table.old.size q stored.old.items ≢ wanted.now) }
 {
+    table.enter_all(stored)?;
     if let Some(at) = table.find(stored, wanted, hash_of(wanted)) {
         return Ok(at);
     }
@@ -83,37 +82,5 @@ pub fn place_block(
     }
     stored.extend_from_slice(&wanted[common..])?;
     table.grow(alloc)?;
-    table.enter_all(stored)?;
     Ok(at)
-}
-
-/// As `place_block`, where the table may not have the windows of the last cells yet.
-pub(crate) fn place_anew(
-    alloc: Global,
-    stored: &mut Vec<u32>,
-    table: &mut WindowTable,
-    wanted: &[u32],
-    limit: usize,
-) -> Result<usize, BuildError>
-    requires size { length wanted.now ≡ table.old.size }
-    requires room { length stored.old.items < 2 ^ 30 }
-    requires limit { limit + table.old.size < 2 ^ 30 }
-    requires table { IsTable stored.old.items table.old }
-    ensures least { IfOk result (λ at. IsLeast table.old.size at stored.new.items wanted.now) }
-    ensures size { OnOk result (table.new.size ≡ table.old.size) }
-    ensures table { OnOk result (IsTable stored.new.items table.new) }
-    ensures kept { OnOk result (take (length stored.old.items) stored.new.items
-        ≡ stored.old.items) }
-    ensures grown { OnOk result (length stored.old.items < length stored.new.items
-        → (length stored.new.items ≤ length stored.old.items + table.old.size)
-        × ((q : ℕ) → window table.old.size q stored.old.items ≢ wanted.now)) }
-    ensures capped { OnOk result (length stored.new.items
-        ≤ max (length stored.old.items) (limit + table.old.size)) }
-    ensures drawn { OnOk result ((p : ℕ → Bool) → AllPass p wanted.now → AllPass p stored.old.items
-        → AllPass p stored.new.items) }
-    ensures too_large { result ≡ Err TooLarge → (limit < length stored.old.items)
-        × ((q : ℕ) → window table.old.size q stored.old.items ≢ wanted.now) }
-{
-    table.enter_all(stored)?;
-    place_block(alloc, stored, table, wanted, limit)
 }

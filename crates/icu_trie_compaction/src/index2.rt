@@ -9,7 +9,7 @@ ghost use Rattle.icu_trie_compaction.specs.Inside.IndexParts.{Index2At};
 ghost use Rattle.icu_trie_compaction.specs.Inside.Placed.{IsPlaced};
 ghost use Rattle.icu_trie_compaction.specs.declared.error.BuildError.TheVariants.{TooLarge};
 
-use crate::blocks::{block_at, place_anew};
+use crate::blocks::{block_at, place_block};
 use crate::error::BuildError;
 use crate::lengths::INDEX_2_BLOCK;
 use crate::window_table::WindowTable;
@@ -56,7 +56,7 @@ fn place_whole(
     let mut places = Vec::with_capacity(alloc, count + 1)?;
     for number in 0..count {
         let wanted = block_at(cells, INDEX_2_BLOCK, number);
-        let at = place_anew(alloc, stored, &mut table, wanted, MOST_CELLS)?;
+        let at = place_block(alloc, stored, &mut table, wanted, MOST_CELLS)?;
         places.push(at)?;
     }
     Ok(places)
@@ -87,7 +87,7 @@ pub(crate) fn place_index2(
     if rest > 0 {
         let mut table = WindowTable::for_cells(alloc, rest, stored.len())?;
         let tail = &cells[cells.len() - rest..];
-        let last = place_anew(alloc, stored, &mut table, tail, MOST_CELLS)?;
+        let last = place_block(alloc, stored, &mut table, tail, MOST_CELLS)?;
         places.push(last)?;
     }
     Ok(places)

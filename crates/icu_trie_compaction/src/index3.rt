@@ -9,7 +9,7 @@ ghost use Rattle.icu_trie_compaction.specs.Inside.Index3Cells.{IsIndex3Cell, IsI
 ghost use Rattle.icu_trie_compaction.specs.Layout.{AllBelow};
 ghost use Rattle.icu_trie_compaction.specs.declared.error.BuildError.TheVariants.{TooLarge};
 
-use crate::blocks::{block_at, place_anew};
+use crate::blocks::{block_at, place_block};
 use crate::error::BuildError;
 use crate::hashing::hash_of;
 use crate::lengths::{INDEX_3_BLOCK, WIDE_INDEX_3_BLOCK};
@@ -59,8 +59,8 @@ fn fit_16_bits(offsets: &[u32]) -> bool
     true
 }
 
-/// Places the block of 512 with these 32 offsets, and gives its index-2 cell.
-/// `stored` stands at `start`.
+/// Places the block of 512 with these 32 offsets, and gives its index-2 cell. `stored` stands at
+/// `start`.
 ///
 /// # Errors
 ///
@@ -101,13 +101,13 @@ fn place_offsets(
     let greatest = usize::from(NO_INDEX3_NULL_OFFSET) - 1 - start;
     if !fit_16_bits(offsets) {
         let packed = pack(alloc, offsets)?;
-        let at = place_anew(alloc, stored, &mut tables.wide, &packed, greatest)?;
+        let at = place_block(alloc, stored, &mut tables.wide, &packed, greatest)?;
         return Ok(0x8000 + start + at);
     }
     if let Some(at) = tables.fast.find(fast, offsets, hash_of(offsets)) {
         return Ok(at);
     }
-    let at = place_anew(alloc, stored, &mut tables.narrow, offsets, greatest)?;
+    let at = place_block(alloc, stored, &mut tables.narrow, offsets, greatest)?;
     if at > greatest {
         return Err(BuildError::TooLarge);
     }

@@ -1,5 +1,5 @@
 -- What the answer is in each part of a trie.
-use Rattle.std.proofs.Common.{◌≡◌, ◌⊎◌, inl, inr, ◌+◌, ◌/◌, ◌%◌, ◌<◌, ◌≤◌, ℕ, List, slice_get, Option, Some, None, arith, refl}
+use Rattle.std.proofs.Common.{◌≡◌, ◌⊎◌, inl, inr, ◌+◌, ◌*◌, ◌/◌, ◌%◌, ◌<◌, ◌≤◌, ℕ, List, slice_get, Option, Some, None, arith, refl}
 use Rattle.std.proofs.lemmas.Bool.{lt-ltb, le-ltb}
 use Rattle.std.specs.Option.{option_len}
 use Rattle.icu_trie_core.specs.Format.{answer, fast_limit, index2_cell, offset_in_block, small_offset}
@@ -47,6 +47,25 @@ small_offset_at kind index base block i aligned in_block two =
     let b : (base + i) / 16384 ≡ base / 16384 = omega arith in
     let c : (base + i) / 16 % 32 ≡ i / 16 = omega arith in
     rw (a, b, c, two) refl
+
+-- the data offset of a code point, from the index-2 cell of its block of 512
+pub small_offset_in : (kind : TrieType) (index : List ℕ) (c block : ℕ) → index2_cell kind index (c / 512 * 512) ≡ Some block
+    → small_offset kind index c ≡ offset_in_block index block (c % 512 / 16)
+unfolding small_offset
+small_offset_in kind index c block two =
+    let a : c / 512 * 512 / 512 ≡ c / 512 = omega arith in
+    let b : c / 512 * 512 / 16384 ≡ c / 16384 = omega arith in
+    let p : c / 16 % 32 ≡ c % 512 / 16 = omega arith in
+    let here : index2_cell kind index c ≡ Some block = rw (a, b) at two in
+    rw (here, p) refl
+
+pub small_offset_missing : (kind : TrieType) (index : List ℕ) (c : ℕ) → index2_cell kind index (c / 512 * 512) ≡ None → small_offset kind index c ≡ None
+unfolding small_offset
+small_offset_missing kind index c none =
+    let a : c / 512 * 512 / 512 ≡ c / 512 = omega arith in
+    let b : c / 512 * 512 / 16384 ≡ c / 16384 = omega arith in
+    let here : index2_cell kind index c ≡ None = rw (a, b) at none in
+    rw here refl
 
 pub small_offset_none : (kind : TrieType) (index : List ℕ) (base : ℕ) → index2_cell kind index base ≡ None → small_offset kind index base ≡ None
 unfolding small_offset

@@ -85,6 +85,16 @@ module _ {A : Type 0} (of_number : ℕ → Option A) (h : CodePointTrieHeader) (
         none = search rules;
       }
 
+  -- it gives none where there is no answer
+  pub GivesWalk-from_none : answer h index values c ≡ None → GivesWalk of_number h index values c None
+  GivesWalk-from_none missing = record {
+    shape = search rules;
+    high = λ _. search rules;
+    run = λ _. search rules;
+    alone = λ _. search rules;
+    none = λ lt value is. cc;
+  }
+
   -- it gives none where it breaks off
   pub GivesWalk-from_break : (value : A) → answer h index values c ≡ Some value → c < h.high_start → BreaksOff (seen of_number h index values) c 0x110000 value → GivesWalk of_number h index values c None
   GivesWalk-from_break value is below e = record {

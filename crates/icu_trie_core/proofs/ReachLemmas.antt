@@ -24,14 +24,24 @@ module _ {A : Type 0} {f g : ℕ → Option A} {start base len from : ℕ} {valu
   Holds-over_block next reach e whole fits u a b =
       Holds-in_block len (omega arith) (λ i c d. e.equal i c (omega (arith, whole, d))) u a (omega (arith, b, fits))
 
+  -- it ends in the block, or at the limit where the block does
+  pub EndsAt-by_block : (limit reach : ℕ) → base + len ≤ limit → (len ≤ reach → limit ≤ base + len) → EndsAt g from len value reach → EndsAt f start limit value (base + reach)
+  EndsAt-by_block limit reach fits last e =
+      let b = e.begun in
+      let w = e.within in
+      record {
+        begun = omega (arith, b, from_is);
+        within = omega (arith, fits, w);
+        equal = Holds-in_block reach w e.equal;
+        differs = λ early. elim (cases_lt reach len) [
+          | inl lt ↦ rw (agree reach lt) (e.differs lt)
+          | inr whole ↦ let at_limit = last whole in absurd (omega (arith, at_limit, whole, early))
+        ];
+      }
+
   -- it ends in the block
   pub EndsAt-in_block : (limit reach : ℕ) → base + len ≤ limit → reach < len → EndsAt g from len value reach → EndsAt f start limit value (base + reach)
-  EndsAt-in_block limit reach fits lt e = record {
-    begun = let b = e.begun in omega (arith, b, from_is);
-    within = omega (arith, fits, lt);
-    equal = Holds-in_block reach (omega (arith, lt)) e.equal;
-    differs = λ _. rw (agree reach lt) (e.differs lt);
-  }
+  EndsAt-in_block limit reach fits lt e = EndsAt-by_block limit reach fits (λ no. absurd (omega (arith, no, lt))) e
 
   -- it breaks off in the block
   pub BreaksOff-in_block : (limit : ℕ) → base + len ≤ limit → BreaksOff g from len value → BreaksOff f start limit value

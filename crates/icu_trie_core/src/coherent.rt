@@ -158,8 +158,8 @@ fn is_null_cell<T: TrieValue, C: Cells<T>>(header: &CodePointTrieHeader, cells: 
 }
 
 /// Whether the blocks that an index-2 cell names are so, and null where it is the null one.
-/// `null_block` and
-/// `null_cell` tell whether the block at the null offset, and those of the null cell, are null.
+/// `null_block` and `null_cell` tell whether the block at the null offset, and those of the null
+/// cell, are null.
 fn is_cell<T: TrieValue, C: Cells<T>>(
     header: &CodePointTrieHeader,
     cells: &mut C,

@@ -6,6 +6,7 @@
 //! - `lookup`: [`look_up`](lookup::look_up), the format as code, and
 //!   [`look_up_whole`](lookup::look_up_whole), which tests no place on the fast path
 //! - `walk`: [`walk`](walk::walk), the range of one value from a code point on, by blocks
+//! - `extend`: how far one value goes, by blocks
 //! - `coherent`: [`is_coherent`](coherent::is_coherent), whether what the header says is so
 //! - `range`: [`CodePointMapRange`](range::CodePointMapRange), what a walk gives
 //! - `error`, `impl_const`: why parts are refused; the format's numbers
@@ -16,6 +17,7 @@
 pub mod cells;
 pub mod coherent;
 pub mod error;
+mod extend;
 pub mod header;
 pub mod impl_const;
 pub mod lookup;

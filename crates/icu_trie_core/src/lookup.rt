@@ -1,5 +1,5 @@
 //! Look-up by the format of the trie.
-ghost use Rattle.std.specs.Prelude.{◌≡◌, ℕ, ◌+◌, ◌^◌, ◌<◌, ◌≤◌, ◌/◌, ◌%◌, ◌-◌, List, Some, None, length, slice_get, IfSome, IfNone, false};
+ghost use Rattle.std.specs.Prelude.{◌≡◌, ℕ, ◌+◌, ◌^◌, ◌<◌, ◌≤◌, ◌/◌, ◌%◌, ◌-◌, List, Some, None, length, slice_get, IfSome, false};
 ghost use Rattle.std.specs.Option.{option_and_then};
 ghost use Rattle.icu_trie_core.specs.Format.{answer, fast_limit, high_cell, high_value, index2_cell, offset_in_block, long_offset, place, small_offset};
 ghost use Rattle.icu_trie_core.specs.FastIndex.{fast_index_len, passes_data};
@@ -88,9 +88,8 @@ pub(crate) fn high_cell_of(len: usize) -> Option<usize>
 }
 
 /// The place in the data of the cell of `c`, any number of 32 bits, whether or not the data reach
-/// so far.
-/// `None` above 0x10FFFF, where a cell of the index is missing, and where there is no high value.
-/// Public for the crates above.
+/// so far. `None` above 0x10FFFF, where a cell of the index is missing, and where there is no high
+/// value. Public for the crates above.
 #[inline]
 pub fn cell_of<T, C: Cells<T>>(header: &CodePointTrieHeader, cells: &mut C, c: u32) -> Option<usize>
     ensures place { result ≡ place header.now (C.index cells.old) (length (C.values cells.old)) c }
@@ -129,6 +128,27 @@ pub fn look_up<T, C: Cells<T>>(header: &CodePointTrieHeader, cells: &mut C, c: u
     look_up_far(header, cells, c)
 }
 
+/// `look_up` below the fast limit, where the fast index is whole: all of the index's cells for
+/// blocks of 64 are there, and each block that one of them names lies inside the data. So no place
+/// is tested, and there is an answer. Public for the crates above.
+///
+/// The parts of every trie that was tested when it was made are so.
+#[inline(always)]
+#[tactic(auto, unfolding(crate::specs::Format::answer))]
+pub fn look_up_fast<T, C: Cells<T>>(header: &CodePointTrieHeader, cells: &mut C, c: u32) -> T
+    requires fast_index { fast_index_len header.now.trie_type ≤ length (C.index cells.old) }
+    requires blocks { passes_data header.now.trie_type (C.index cells.old)
+        (length (C.values cells.old)) ≡ false }
+    requires below { c < fast_limit header.now.trie_type }
+    ensures answer { answer header.now (C.index cells.old) (C.values cells.old) c ≡ Some result }
+    ensures reads { C.reads cells.new ≡ C.reads cells.old + 2 }
+    ensures same_index { C.index cells.new ≡ C.index cells.old }
+    ensures same_values { C.values cells.new ≡ C.values cells.old }
+{
+    let offset = cells.index_at((c >> FAST_TYPE_SHIFT) as usize);
+    cells.data_at(offset as usize + (c & FAST_TYPE_DATA_MASK) as usize)
+}
+
 /// The high value of data that have one.
 #[inline(always)]
 fn high_value_of<T, C: Cells<T>>(cells: &mut C) -> T
@@ -142,45 +162,27 @@ fn high_value_of<T, C: Cells<T>>(cells: &mut C) -> T
     cells.data_at(place)
 }
 
-/// `look_up` where the fast index is whole and one read or two are enough: below the fast limit,
-/// and from the high start on. All of the index's cells for blocks of 64 are there, and each block
-/// that one of them names lies inside the data, so no place is tested. `None` for the other code
-/// points, of which nothing is read.
-///
-/// The parts of every trie that was tested when it was made are so. A caller that has the other
-/// code points looked up by a call of its own keeps this path short, and all that it needs in
-/// registers.
+/// `look_up` from the high start on, where the fast index is whole: the high value is there then.
+/// Public for the crates above.
 #[inline(always)]
 #[tactic(auto, unfolding(crate::specs::Format::answer))]
-pub fn look_up_near<T, C: Cells<T>>(
-    header: &CodePointTrieHeader,
-    cells: &mut C,
-    c: u32,
-) -> Option<T>
+pub fn look_up_high<T, C: Cells<T>>(header: &CodePointTrieHeader, cells: &mut C, c: u32) -> T
     requires fast_index { fast_index_len header.now.trie_type ≤ length (C.index cells.old) }
     requires blocks { passes_data header.now.trie_type (C.index cells.old)
         (length (C.values cells.old)) ≡ false }
-    ensures answer { IfSome result
-        (λ x. answer header.now (C.index cells.old) (C.values cells.old) c ≡ Some x) }
-    ensures none { IfNone result (fast_limit header.now.trie_type ≤ c) }
-    ensures unread { IfNone result (C.reads cells.new ≡ C.reads cells.old) }
-    ensures reads { C.reads cells.new ≤ C.reads cells.old + 2 }
+    requires from { fast_limit header.now.trie_type ≤ c }
+    requires high { header.now.high_start ≤ c }
+    requires within { c < 0x110000 }
+    ensures answer { answer header.now (C.index cells.old) (C.values cells.old) c ≡ Some result }
+    ensures reads { C.reads cells.new ≡ C.reads cells.old + 1 }
     ensures same_index { C.index cells.new ≡ C.index cells.old }
     ensures same_values { C.values cells.new ≡ C.values cells.old }
 {
-    if c < header.trie_type.fast_limit() {
-        let offset = cells.index_at((c >> FAST_TYPE_SHIFT) as usize);
-        return Some(cells.data_at(offset as usize + (c & FAST_TYPE_DATA_MASK) as usize));
-    }
-    if c >= header.high_start && c <= CODE_POINT_MAX {
-        return Some(high_value_of(cells));
-    }
-    None
+    high_value_of(cells)
 }
 
-/// `look_up` from the fast limit on, which is where `look_up_near` may have no answer. Each case
-/// reads its own cell of the data, since one read for all of them would cost each a test and a jump
-/// more.
+/// `look_up` from the fast limit on. Each case reads its own cell of the data, since one read for
+/// all of them would cost each a test and a jump more.
 #[inline(always)]
 #[tactic(auto, unfolding(crate::specs::Format::answer))]
 pub fn look_up_far<T, C: Cells<T>>(header: &CodePointTrieHeader, cells: &mut C, c: u32) -> Option<T>
@@ -197,6 +199,26 @@ pub fn look_up_far<T, C: Cells<T>>(header: &CodePointTrieHeader, cells: &mut C, 
         let high_cell = high_cell_of(cells.data_len())?;
         return cells.data_cell(high_cell);
     }
+    look_up_small(header, cells, c)
+}
+
+/// `look_up` of the code points that are left: from the fast limit on and below the high start, by
+/// the three stages of the index. Public for the crates above.
+#[inline(always)]
+#[tactic(auto, unfolding(crate::specs::Format::answer))]
+pub fn look_up_small<T, C: Cells<T>>(
+    header: &CodePointTrieHeader,
+    cells: &mut C,
+    c: u32,
+) -> Option<T>
+    requires from { fast_limit header.now.trie_type ≤ c }
+    requires below { c < header.now.high_start }
+    requires within { c < 0x110000 }
+    ensures answer { result ≡ answer header.now (C.index cells.old) (C.values cells.old) c }
+    ensures reads { C.reads cells.new ≤ C.reads cells.old + 5 }
+    ensures same_index { C.index cells.new ≡ C.index cells.old }
+    ensures same_values { C.values cells.new ≡ C.values cells.old }
+{
     let place = small_place_of(header.trie_type, cells, c)?;
     cells.data_cell(place)
 }
@@ -218,8 +240,8 @@ pub fn look_up_whole<T, C: Cells<T>>(
     ensures same_index { C.index cells.new ≡ C.index cells.old }
     ensures same_values { C.values cells.new ≡ C.values cells.old }
 {
-    if let Some(value) = look_up_near(header, cells, c) {
-        return Some(value);
+    if c < header.trie_type.fast_limit() {
+        return Some(look_up_fast(header, cells, c));
     }
     look_up_far(header, cells, c)
 }

@@ -119,8 +119,7 @@ toml_of table =
       data_8 = data_8;
       data_16 = data_16;
       data_32 = data_32;
-      fields =
-          fields;
+      fields = fields;
     }))))))
 
 -- the refusal names the first fault. Want of memory may come in place of any answer

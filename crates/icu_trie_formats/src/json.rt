@@ -30,7 +30,7 @@ pub enum TrieJsonError {
     /// The parts make no trie.
     #[error("{0}")]
     Trie(CodePointTrieError),
-    /// No memory was found.
+    /// Memory was refused.
     #[error("no memory")]
     Memory,
 }
@@ -264,11 +264,9 @@ fn object_of(alloc: Global, header: Value, index: Value, data: Value) -> Result<
 /// The trie that a JSON value says: an object with a header, an index and data.
 ///
 /// `header` is an object with the whole numbers `high_start`, `data_null_offset` and `null_value`
-/// (32 bits),
-/// `shifted12_high_start` and `index3_null_offset` (16 bits), and `trie_type`, the string `Fast` or
-/// `Small`.
-/// `index` is an array of whole numbers up to 65535, and `data` one of the numbers of the values.
-/// Other keys are ignored.
+/// (32 bits), `shifted12_high_start` and `index3_null_offset` (16 bits), and `trie_type`, the
+/// string `Fast` or `Small`. `index` is an array of whole numbers up to 65535, and `data` one of
+/// the numbers of the values. Other keys are ignored.
 ///
 /// ```
 /// let value = to_json(alloc, &get_planes_trie())?;
@@ -279,14 +277,12 @@ fn object_of(alloc: Global, header: Value, index: Value, data: Value) -> Result<
 /// # Errors
 /// The first fault in this order: `Shape("")` where the value is no object; those of the header,
 /// whose keys are tested as `high_start`, `shifted12_high_start`, `index3_null_offset`,
-/// `data_null_offset`,
-/// `null_value`, `trie_type`; those of the index, and of the data, cell by cell. `Shape` with the
-/// key where nothing stands there, or something else where an object, an array or the name of a
-/// trie type was to stand;
-/// `Number` with the key where a number, or an item of the array there, is no whole number in its
-/// range;
-/// `Value` with the cell of the data that is the number of no value. Then `Trie` where
-/// `CodePointTrie::try_new` refuses the parts. `Memory` where no memory was found.
+/// `data_null_offset`, `null_value`, `trie_type`; those of the index, and of the data, cell by
+/// cell. `Shape` with the key where nothing stands there, or something else where an object, an
+/// array or the name of a trie type was to stand; `Number` with the key where a number, or an item
+/// of the array there, is no whole number in its range; `Value` with the cell of the data that is
+/// the number of no value. Then `Trie` where `CodePointTrie::try_new` refuses the parts. `Memory`
+/// where memory was refused.
 pub fn from_json<T: TrieValue>(
     alloc: Global,
     value: &Value,
@@ -313,7 +309,7 @@ pub fn from_json<T: TrieValue>(
 /// ```
 ///
 /// # Errors
-/// `MemoryError` where no memory was found.
+/// `MemoryError` where memory was refused.
 pub fn to_json<T: TrieValue>(
     alloc: Global,
     trie: &CodePointTrie<'_, T>,

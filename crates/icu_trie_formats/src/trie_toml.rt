@@ -25,7 +25,7 @@ pub enum TomlError {
     /// range.
     #[error("the value at the key `{0}` is of another kind or out of its range")]
     OutOfRange(&'static str),
-    /// No memory was found.
+    /// Memory was refused.
     #[error("no memory")]
     Memory,
 }
@@ -36,7 +36,7 @@ pub enum TrieFromTomlError {
     /// The parts make no trie.
     #[error("{0}")]
     Trie(CodePointTrieError),
-    /// No memory was found.
+    /// Memory was refused.
     #[error("no memory")]
     Memory,
 }
@@ -255,10 +255,9 @@ fn values_of<N: TrieValue, T: TrieValue>(
 impl CodePointTrieToml {
     /// What a table holds of a trie. Its keys are `index`, an array of numbers of 16 bits; the
     /// data, an array at one of the keys `data_8`, `data_16` and `data_32`, of numbers of so many
-    /// bits; and the numbers
-    /// `highStart` (32 bits), `shifted12HighStart` (16), `type` (8), `valueWidth` (8, kept and not
-    /// used),
-    /// `index3NullOffset` (16), `dataNullOffset` (32) and `nullValue` (32). Other keys are ignored.
+    /// bits; and the numbers `highStart` (32 bits), `shifted12HighStart` (16), `type` (8),
+    /// `valueWidth` (8, kept and not used), `index3NullOffset` (16), `dataNullOffset` (32) and
+    /// `nullValue` (32). Other keys are ignored.
     ///
     /// ```
     /// let read = CodePointTrieToml::from_table(alloc, &toml::table_from_str(alloc, text)?)?;
@@ -268,7 +267,7 @@ impl CodePointTrieToml {
     /// # Errors
     /// The first fault in the order of the keys above: `Missing` where a key is not there, which
     /// may be so of the three of the data alone; `OutOfRange` where the value is of another kind,
-    /// or a number out of its range. `Memory` where no memory was found.
+    /// or a number out of its range. `Memory` where memory was refused.
     pub fn from_table(alloc: Global, table: &Table) -> Result<CodePointTrieToml, TomlError>
         ensures ok { IfOk result (λ t. toml_of (table_view table.now) ≡ Ok t) }
         ensures err { IfErr result (IsRefused (toml_of (table_view table.now))) }

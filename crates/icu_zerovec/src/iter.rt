@@ -9,8 +9,8 @@ use std::fmt;
 use std::marker::{Model, PhantomData};
 
 /// The values of a packed vector from the first that was not given yet to the last, as
-/// `ZeroVec::iter` and
-/// `ZeroSlice::iter` give them. It knows how many are left, and a clause sees their list.
+/// `ZeroVec::iter` and `ZeroSlice::iter` give them. It knows how many are left, and a clause sees
+/// their list.
 #[derive(Drop)]
 pub struct Iter<'a, T: AsULE> {
     bytes: &'a [u8],

@@ -84,6 +84,23 @@ impl<'a, T: AsULE> ZeroVec<'a, T> {
         Ok(ZeroVec::from_packed(bytes))
     }
 
+    /// The vector that these bytes are, which it takes over: what was just packed is not copied.
+    ///
+    /// # Errors
+    /// Those of [`parse_bytes`](Self::parse_bytes). The bytes are then dropped.
+    pub fn parse_owned(bytes: Vec<u8>) -> Result<Self, UleError>
+        ensures ok { IfOk result
+            (λ v. IsPacked T.unpack T.WIDTH bytes.items
+            × (v ≡ values_of T.unpack T.WIDTH bytes.items)) }
+        ensures err { IfErr result (IsFault T.unpack T.WIDTH bytes.items) }
+    {
+        cells::test::<T>(bytes.as_slice())?;
+        Ok(ZeroVec {
+            store: Store::Owned(bytes),
+            of: PhantomData,
+        })
+    }
+
     /// The vector of bytes that were tested, which it borrows.
     #[inline]
     pub(crate) fn from_packed(bytes: &'a [u8]) -> Self
@@ -104,7 +121,7 @@ impl<'a, T: AsULE> ZeroVec<'a, T> {
     /// ```
     ///
     /// # Errors
-    /// `MemoryError` where no memory was found.
+    /// `MemoryError` where memory was refused.
     pub fn alloc_from_slice(alloc: Global, values: &[T]) -> Result<Self, MemoryError>
         ensures { IfOk result (λ v. v ≡ values.now) }
     {
@@ -122,7 +139,7 @@ impl<'a, T: AsULE> ZeroVec<'a, T> {
     /// ```
     ///
     /// # Errors
-    /// `MemoryError` where no memory was found. The iterator is then dropped where it stands.
+    /// `MemoryError` where memory was refused. The iterator is then dropped where it stands.
     pub fn alloc_from_iter<I: Iterator<Item = T> + Drop>(
         alloc: Global,
         values: I,
@@ -141,7 +158,7 @@ impl<'a, T: AsULE> ZeroVec<'a, T> {
     /// An equal vector that owns its bytes, which are the same as those of this one.
     ///
     /// # Errors
-    /// `MemoryError` where no memory was found.
+    /// `MemoryError` where memory was refused.
     pub fn try_clone(&self, alloc: Global) -> Result<ZeroVec<'static, T>, MemoryError>
         ensures { IfOk result (λ v. v ≡ self.now) }
     {
@@ -155,7 +172,7 @@ impl<'a, T: AsULE> ZeroVec<'a, T> {
     /// memory.
     ///
     /// # Errors
-    /// `MemoryError` where no memory was found. The vector is then dropped, and bytes that it
+    /// `MemoryError` where memory was refused. The vector is then dropped, and bytes that it
     /// borrowed are unchanged.
     pub fn into_owned(self, alloc: Global) -> Result<ZeroVec<'static, T>, MemoryError>
         ensures { IfOk result (λ v. v ≡ self.entry) }

@@ -1,6 +1,5 @@
 //! What no clause says: text, want of memory, that calls succeed. Wanted values are worked out by
-//! hand: byte
-//! `i` of a value is worth 256 to the power `i`.
+//! hand: byte `i` of a value is worth 256 to the power `i`.
 //!
 //! An assert stands in a helper without a contract, which takes what it compares by value, and a
 //! test calls helpers: the proof of an assert goes over all values that are alive beside it.

@@ -52,7 +52,7 @@ pub enum TableError {
     Row(u64, RowFault),
     /// The map is too large for a trie.
     TooLarge,
-    /// No memory was found.
+    /// Memory was refused.
     Memory,
     /// The input can't be read.
     Read,

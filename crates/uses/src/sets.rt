@@ -1,7 +1,7 @@
 //! Sets of code points.
 ghost use Rattle.std.specs.Prelude.{◌≡◌, ◌+◌, ◌<◌, ◌≤◌, ℕ, Bool, true, false, not, IfOk, IfSome};
 ghost use Rattle.std.specs.List.{All};
-ghost use Rattle.icu_collections.specs.CodePointInversionList.{Acts, IsOfCodePoints, IsValid, between, either, holds, in_ranges, limit, one_of, ranges_of};
+ghost use Rattle.icu_collections.specs.CodePointInversionList.{Acts, IsOfCodePoints, IsValid, between, code_point_limit, either, holds, in_ranges, one_of, ranges_of};
 ghost use Rattle.icu_collections.specs.SetJson.{ends_of};
 
 use icu_collections::codepointinvlist::{

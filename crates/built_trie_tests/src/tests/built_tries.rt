@@ -30,7 +30,7 @@ fn default_write_over_a_range(rt: HostRuntime) {
     }
 }
 
-/// A range is cut at the end of the code space, and one that starts behind it writes nothing.
+/// A range is cut at the end of the code space, and one that starts after it writes nothing.
 #[test]
 fn writes_at_the_end_of_the_code_space(rt: HostRuntime) {
     for trie_type in BOTH {
@@ -73,7 +73,7 @@ fn write_one_by_one(builder: &mut CodePointTrieBuilder<u16>) -> Result<(), Memor
     builder.set_range_value(3..=2, 9)
 }
 
-/// A list, behind the single writes.
+/// A list, after the single writes.
 fn write_more(builder: &mut CodePointTrieBuilder<u16>) -> Result<(), ApplyRefused> {
     builder.apply(&[Write::One(0x20000, 10), Write::Range(0x1FFF..=0x2000, 11)])
 }

@@ -29,7 +29,7 @@ fn expect_null(rt: &impl Abort, trie: CodePointTrie<'_, u8>, null_value: u32) {
     assert!(rt; header.index3_null_offset != 0x7fff, "no null block of 512");
 }
 
-/// Fives below 0x10000, and zeros behind.
+/// Fives below 0x10000, and zeros after them.
 #[test]
 fn one_number_on_each_side_of_a_limit(rt: HostRuntime) {
     for trie_type in BOTH {
@@ -40,7 +40,7 @@ fn one_number_on_each_side_of_a_limit(rt: HostRuntime) {
 }
 
 /// A block of 64 that begins with sixteen zeros, and zeros in the blocks of 16 that are the most.
-fn zeros_behind_a_fast_block(
+fn zeros_after_a_fast_block(
     rt: &(impl Abort + AllocGlobal),
     trie_type: TrieType,
 ) -> CodePointTrie<'static, u8> {
@@ -55,7 +55,7 @@ fn zeros_behind_a_fast_block(
 /// The null block does not start where a block of 64 starts that only begins like it: a walk would
 /// take that for the null block, and go on over its fives.
 #[test]
-fn null_block_behind_a_fast_block(rt: HostRuntime) {
+fn null_block_after_a_fast_block(rt: HostRuntime) {
     for trie_type in BOTH {
         let expected = [
             (0, 0x3FF, 5),
@@ -64,9 +64,9 @@ fn null_block_behind_a_fast_block(rt: HostRuntime) {
             (0x10000, 0x10FFFE, 0),
             (0x10FFFF, 0x10FFFF, 3),
         ];
-        expect_ranges(&rt, zeros_behind_a_fast_block(&rt, trie_type), &expected);
-        expect_null(&rt, zeros_behind_a_fast_block(&rt, trie_type), 0);
-        expect_data(&rt, zeros_behind_a_fast_block(&rt, trie_type), 320);
+        expect_ranges(&rt, zeros_after_a_fast_block(&rt, trie_type), &expected);
+        expect_null(&rt, zeros_after_a_fast_block(&rt, trie_type), 0);
+        expect_data(&rt, zeros_after_a_fast_block(&rt, trie_type), 320);
     }
 }
 

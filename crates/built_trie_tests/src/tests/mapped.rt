@@ -11,7 +11,7 @@ fn with<T>(range: RangeInclusive<u32>, value: T) -> CodePointMapRange<T> {
     CodePointMapRange { range, value }
 }
 
-/// Runs that begin before the fast limit and go on behind it: 0, and then 1, 2 and 1.
+/// Runs that begin before the fast limit and go on after it: 0, and then 1, 2 and 1.
 fn over_the_fast_limit(rt: &(impl Abort + AllocGlobal)) -> CodePointTrie<'static, u8> {
     let writes = [
         Write::Range(0xFFC0..=0xFFCF, 1),

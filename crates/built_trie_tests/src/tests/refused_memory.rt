@@ -168,11 +168,11 @@ fn apply_refused(rt: HostRuntime) {
     expect_same_built(&rt, builder, with_points(rt.alloc(), count));
 }
 
-/// The place is that of the first write that needs memory, behind one that is ignored.
+/// The place is that of the first write that needs memory, after one that is ignored.
 ///
 /// Calls: `CodePointTrieBuilder::apply`.
 #[test]
-fn apply_behind_ignored_refused(rt: HostRuntime) {
+fn apply_after_ignored_refused(rt: HostRuntime) {
     let mut builder = builder_of_nothing(rt.alloc());
     let writes = [Write::One(0x110000, 3), Write::One(0x41, 1)];
     say(&rt, "call");

@@ -1,6 +1,6 @@
 -- Words for the places of a list of ends, in which the private functions that search and change one
 -- promise their work. No public contract has them.
-use Rattle.std.specs.Prelude.{ℕ, suc, ◌<◌, ◌≤◌, ◌≡◌, List, [], ◌∷◌, Bool, cond, nat_lt}
+use Rattle.std.specs.Prelude.{ℕ, suc, ◌+◌, ◌*◌, ◌<◌, ◌≤◌, ◌≡◌, ◌⊎◌, List, [], ◌∷◌, Bool, cond, nat_lt}
 use Rattle.icu_invlist.specs.InversionList.{holds, between}
 
 -- the numbers rise strictly, from lo on and below hi
@@ -17,3 +17,9 @@ below (x ∷ xs) c = cond (nat_lt x c) (suc (below xs c)) (below xs c)
 abbrev pub IsFilled : List ℕ → ℕ → ℕ → Bool → List ℕ → Type 0
 IsFilled old start end value new = (c : ℕ)
     → holds new c ≡ cond (between start end c) value (holds old c)
+
+-- k of the next three steps from low on end before place p: all three, or the next one does not
+pub record AreStepsBelow (p low step k : ℕ) : Type 0 where
+  pub within : step * k ≤ 3 * step
+  pub reached : low + step * k ≤ p
+  pub past : (step * k ≡ 3 * step) ⊎ (p < low + step * k + step)

@@ -2,7 +2,8 @@
 use Rattle.std.specs.Prelude.{ℕ, ◌-◌, List, [], ◌∷◌, ◌++◌, Option, Some, None, nat_lt, if◌then◌else◌}
 use Rattle.std.specs.List.{filter, range_with_len}
 use Rattle.std.proofs.Math.Utf8.{scalar}
-use Rattle.icu_invlist.specs.InversionList.{limit, members, toggle_back}
+use Rattle.icu_zerovec.specs.CodePoints.{code_point_limit}
+use Rattle.icu_invlist.specs.InversionList.{members, toggle_back}
 
 -- the ends of the gaps of a set, from the start of the next gap and the set's ends past it
 abbrev pub gaps_left : Option ℕ → List ℕ → List ℕ
@@ -12,7 +13,7 @@ gaps_left (Some start) ends = start ∷ toggle_back ends
 -- the next gap starts at this end of the set, if there is one in the code space
 abbrev pub start_at : Option ℕ → Option ℕ
 start_at None = None
-start_at (Some end) = if nat_lt end limit then Some end else None
+start_at (Some end) = if nat_lt end code_point_limit then Some end else None
 
 -- the characters of a range that is left from `next` to before `end`, and of the ranges past it
 abbrev pub characters_left : ℕ → ℕ → List ℕ → List ℕ

@@ -1,13 +1,14 @@
 //! The set that changes.
 ghost use Rattle.std.specs.Prelude.{◌≡◌, ℕ, ◌+◌, ◌<◌, ◌≤◌, List, [], ◌∷◌, length, IfOk, OnOk, OnErr, IsTrue, ◌↔◌, nat_le, ◌==◌, if◌then◌else◌, false, not};
 ghost use Rattle.icu_invlist.specs.Changes.{Changes};
-ghost use Rattle.icu_invlist.specs.InversionList.{IsValid, holds, limit, between, Acts, either, without, both, one_of};
+ghost use Rattle.icu_zerovec.specs.CodePoints.{code_point_limit};
+ghost use Rattle.icu_invlist.specs.InversionList.{IsValid, holds, between, Acts, either, without, both, one_of};
 
 use crate::codepointinvlist::cpinvlist::CodePointInversionList;
 use crate::codepointinvlist::utils::RangeOf;
 use crate::fill;
-use crate::merge::{Difference, Intersection, SymmetricDifference, Union, merge};
-use icu_zerovec::MemoryError;
+use crate::merge::{Difference, Intersection, SymmetricDifference, Union, change};
+use icu_zerovec::{CODE_POINT_LIMIT, MemoryError};
 use std::alloc::Global;
 use std::marker::Model;
 
@@ -117,24 +118,24 @@ impl CodePointInversionListBuilder {
     /// end is above 0x110000, is ignored as a whole: 0x50..=0x110000 adds nothing.
     pub fn add_range32<R: RangeOf<u32>>(&mut self, range: R) -> Result<(), MemoryError>
         ensures { Changes either self.old
-            (if nat_le (R.end range) limit then between (R.start range) (R.end range)
+            (if nat_le (R.end range) code_point_limit then between (R.start range) (R.end range)
             else (λ _. false)) self.new result }
     {
         // A set is known to be valid where its ends are named.
         let _ = &self.ends;
         let (start, end) = range.deconstruct();
-        if end > 0x11_0000 {
+        if end > CODE_POINT_LIMIT {
             return Ok(());
         }
         fill::add(&mut self.ends, start, end)
     }
 
     /// Adds the members of the set.
+    #[inline]
     pub fn add_set(&mut self, set: &CodePointInversionList<'_>) -> Result<(), MemoryError>
         ensures { Changes either self.old (holds set.now) self.new result }
     {
-        self.ends = merge::<Union>(self.alloc, &self.ends, set)?;
-        Ok(())
+        change::<Union>(self.alloc, &mut self.ends, set)
     }
 }
 
@@ -172,11 +173,11 @@ impl CodePointInversionListBuilder {
     }
 
     /// Removes the members of the set.
+    #[inline]
     pub fn remove_set(&mut self, set: &CodePointInversionList<'_>) -> Result<(), MemoryError>
         ensures { Changes without self.old (holds set.now) self.new result }
     {
-        self.ends = merge::<Difference>(self.alloc, &self.ends, set)?;
-        Ok(())
+        change::<Difference>(self.alloc, &mut self.ends, set)
     }
 }
 
@@ -219,11 +220,11 @@ impl CodePointInversionListBuilder {
     }
 
     /// Keeps the members of the set alone.
+    #[inline]
     pub fn retain_set(&mut self, set: &CodePointInversionList<'_>) -> Result<(), MemoryError>
         ensures { Changes both self.old (holds set.now) self.new result }
     {
-        self.ends = merge::<Intersection>(self.alloc, &self.ends, set)?;
-        Ok(())
+        change::<Intersection>(self.alloc, &mut self.ends, set)
     }
 }
 
@@ -233,13 +234,15 @@ impl CodePointInversionListBuilder {
     /// Flips all code points: the set becomes its complement. The complement of the complement is
     /// the set again.
     pub fn complement(&mut self) -> Result<(), MemoryError>
-        ensures ok { OnOk result ((c : ℕ) → c < limit → holds self.new c ≡ not (holds self.old c)) }
+        ensures ok { OnOk result
+            ((c : ℕ) → c < code_point_limit → holds self.new c ≡ not (holds self.old c)) }
         ensures err { OnErr result (self.new ≡ self.old) }
         ensures valid { IsValid self.new × IsValid self.old }
         ensures twice { OnOk result ((ends : List ℕ) → IsValid ends
-            → ((c : ℕ) → c < limit → holds ends c ≡ not (holds self.new c)) → ends ≡ self.old) }
+            → ((c : ℕ) → c < code_point_limit → holds ends c ≡ not (holds self.new c))
+            → ends ≡ self.old) }
     {
-        fill::flip(&mut self.ends, 0, 0x11_0000)
+        fill::flip(&mut self.ends, 0, CODE_POINT_LIMIT)
     }
 
     /// Flips the character.
@@ -274,13 +277,13 @@ impl CodePointInversionListBuilder {
     }
 
     /// Flips the members of the set. Done twice, it leaves the set as it was.
+    #[inline]
     pub fn complement_set(&mut self, set: &CodePointInversionList<'_>) -> Result<(), MemoryError>
         ensures changes { Changes one_of self.old (holds set.now) self.new result }
         ensures twice { OnOk result
             ((ends : List ℕ) → IsValid ends → Acts one_of self.new (holds set.now) ends
             → ends ≡ self.old) }
     {
-        self.ends = merge::<SymmetricDifference>(self.alloc, &self.ends, set)?;
-        Ok(())
+        change::<SymmetricDifference>(self.alloc, &mut self.ends, set)
     }
 }

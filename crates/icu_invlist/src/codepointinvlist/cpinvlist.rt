@@ -1,5 +1,5 @@
 //! The set of an inversion list.
-ghost use Rattle.std.specs.Prelude.{◌≡◌, ℕ, suc, ◌+◌, ◌^◌, ◌<◌, ◌≤◌, List, [], ◌∷◌, length, slice_index, slice_get, map, min, not, Some, None, if◌then◌else◌, IfOk, OnOk, IfErr, IfSome, IsTrue, ◌++◌, drop, true, false, ◌↔◌};
+ghost use Rattle.std.specs.Prelude.{◌≡◌, ℕ, suc, ◌+◌, ◌^◌, ◌<◌, ◌≤◌, List, [], ◌∷◌, length, slice_index, slice_get, map, min, not, Some, None, if◌then◌else◌, IfOk, OnOk, OnErr, IfErr, IfSome, IsTrue, ◌++◌, drop, true, false, ◌↔◌};
 ghost use Rattle.std.specs.List.{take_while, All, Contains, flat_map};
 ghost use Rattle.icu_zerovec.specs.PackedBytes.{low_bytes};
 ghost use Rattle.std.specs.List.Sorted.{IsStrictlyIncreasing};
@@ -7,7 +7,8 @@ ghost use Rattle.std.proofs.Math.Utf8.{scalar};
 ghost use Rattle.std.specs.Str.{chars, encode_utf8_all};
 ghost use mathlib.Core.Bool.{beq};
 ghost use mathlib.Core.List.{reverse};
-ghost use Rattle.icu_invlist.specs.InversionList.{AreApart, IsOfCodePoints, IsValid, holds, in_ranges, limit, HoldsAll, IsSubset, ranges_of, members_below, characters, complement_of};
+ghost use Rattle.icu_zerovec.specs.CodePoints.{code_point_limit};
+ghost use Rattle.icu_invlist.specs.InversionList.{AreApart, IsOfCodePoints, IsValid, holds, in_ranges, HoldsAll, IsSubset, ranges_of, members_below, characters, complement_of};
 ghost use Rattle.icu_invlist.specs.Inside.Places.{below};
 ghost use Rattle.icu_invlist.specs.Refusals.{IsRefusedList, IsRefusedSlice};
 
@@ -15,7 +16,7 @@ use crate::codepointinvlist::error::{InvalidSetError, SetError};
 use crate::codepointinvlist::iter::{IterChars, IterRanges, IterRangesComplemented, start_of_gap};
 use crate::codepointinvlist::utils::{RangeOf, is_valid_slice, is_valid_zv};
 use icu_zerovec::ule::AsULE;
-use icu_zerovec::{MemoryError, PotentialCodePoint, ZeroVec};
+use icu_zerovec::{CODE_POINT_LIMIT, MemoryError, PotentialCodePoint, ZeroVec};
 use std::alloc::Global;
 use std::marker::Model;
 use std::ops::RangeInclusive;
@@ -134,17 +135,15 @@ impl<'data> CodePointInversionList<'data> {
         ensures { IfOk result (λ s. s ≡ ends.now) }
     {
         let bytes = pack(alloc, ends)?;
-        match ZeroVec::parse_bytes(&bytes) {
-            Ok(packed) => Ok(CodePointInversionList {
-                ends: packed.into_owned(alloc)?,
-            }),
+        match ZeroVec::parse_owned(bytes) {
+            Ok(ends) => Ok(CodePointInversionList { ends }),
             Err(_) => unreachable!(),
         }
     }
 
     /// All code points, 0 to 0x10FFFF, surrogates too. It takes no memory.
     pub fn all() -> CodePointInversionList<'static>
-        ensures { result ≡ 0 ∷ limit ∷ [] }
+        ensures { result ≡ 0 ∷ code_point_limit ∷ [] }
     {
         match ZeroVec::parse_bytes(&[0, 0, 0, 0, 0, 0x11]) {
             Ok(ends) => CodePointInversionList { ends },
@@ -204,7 +203,7 @@ impl<'data> CodePointInversionList<'data> {
     pub(crate) fn end_at(&self, i: usize) -> u32
         requires { i < length self.now }
         ensures end { result ≡ slice_index self.now i }
-        ensures within { result ≤ limit }
+        ensures within { result ≤ code_point_limit }
     {
         u32::from(self.ends.as_slice().at(i))
     }
@@ -239,6 +238,19 @@ impl<'data> CodePointInversionList<'data> {
         }
     }
 
+    /// How many ends are not above `c`, of a set that has this many ends. The two of one range are
+    /// looked at side by side.
+    #[inline(always)]
+    fn place_of_few(&self, count: usize, c: u32) -> usize
+        requires { count ≡ length self.now }
+        ensures { result ≡ below self.now (suc c) }
+    {
+        if count == 2 {
+            return usize::from(self.end_at(0) <= c) + usize::from(self.end_at(1) <= c);
+        }
+        self.place_between(0, count, c)
+    }
+
     /// How many ends are not above `c`. Most code points of most texts stand before the first end,
     /// past the last or among the first few, where little is searched or nothing. Of very few ends
     /// each is looked at.
@@ -250,7 +262,7 @@ impl<'data> CodePointInversionList<'data> {
     {
         let count = self.count();
         if count <= 4 {
-            self.place_between(0, count, c)
+            self.place_of_few(count, c)
         } else if c < self.end_at(0) {
             0
         } else if self.end_at(count - 1) <= c {
@@ -323,7 +335,8 @@ impl<'data> CodePointInversionList<'data> {
     /// Appends the ends from place `from` on.
     pub(crate) fn push_ends(&self, ends: &mut Vec<u32>, from: usize) -> Result<(), MemoryError>
         requires { from ≤ length self.now }
-        ensures { OnOk result (ends.new.items ≡ ends.old.items ++ drop from self.now) }
+        ensures ok { OnOk result (ends.new.items ≡ ends.old.items ++ drop from self.now) }
+        ensures err { OnErr result (ends.new.items ≡ ends.old.items) }
     {
         let packed = self.ends.as_slice();
         let count = packed.len();
@@ -337,7 +350,7 @@ impl<'data> CodePointInversionList<'data> {
     /// Whether the set holds the code point. No number above 0x10FFFF is held.
     pub fn contains32(&self, c: u32) -> bool
         ensures held { result ≡ holds self.now c }
-        ensures far { limit ≤ c → result ≡ false }
+        ensures far { code_point_limit ≤ c → result ≡ false }
     {
         self.place_of(c) % 2 == 1
     }
@@ -365,21 +378,48 @@ impl<'data> CodePointInversionList<'data> {
     /// between two characters are named too.
     pub fn contains_range<R: RangeOf<char>>(&self, range: R) -> bool
         ensures { IsTrue result
-            ↔ (R.start range < min (R.end range) limit)
-            × HoldsAll self.now (R.start range) (min (R.end range) limit) }
+            ↔ (R.start range < min (R.end range) code_point_limit)
+            × HoldsAll self.now (R.start range) (min (R.end range) code_point_limit) }
     {
         let (start, end) = range.deconstruct();
-        let end = end.min(0x11_0000);
+        let end = end.min(CODE_POINT_LIMIT);
         start < end && self.reaches(self.place_of(start), end)
     }
 
-    /// Whether the set holds all that the other one holds. The empty set is part of each.
-    pub fn contains_set(&self, other: &CodePointInversionList<'_>) -> bool
-        ensures subset { IsTrue result ↔ IsSubset other.now self.now }
-        ensures valid { IsValid self.now × IsValid other.now }
+    /// Whether no end of the other set, which has some, stands outside those of this one.
+    fn spans(&self, other: &CodePointInversionList<'_>) -> bool
+        requires { 0 < length other.now }
+        ensures { IsSubset other.now self.now → IsTrue result }
     {
-        // A set is known to be valid where its ends are named.
-        let _ = &self.ends;
+        let count = self.count();
+        let others = other.count();
+        if count == 0 {
+            return false;
+        }
+        self.end_at(0) <= other.end_at(0) && other.end_at(others - 1) <= self.end_at(count - 1)
+    }
+
+    /// Whether the set holds all that the other one holds, which has few ranges: each is searched
+    /// for.
+    fn holds_each(&self, other: &CodePointInversionList<'_>) -> bool
+        ensures { IsTrue result ↔ IsSubset other.now self.now }
+    {
+        let mut i = 0;
+        let count = other.count();
+        while i < count {
+            let found = self.place_of(other.end_at(i));
+            if !self.reaches(found, other.end_at(i + 1)) {
+                return false;
+            }
+            i += 2;
+        }
+        true
+    }
+
+    /// The same where it has many ranges: each is searched for from the one before on.
+    fn holds_in_order(&self, other: &CodePointInversionList<'_>) -> bool
+        ensures { IsTrue result ↔ IsSubset other.now self.now }
+    {
         let mut place = 0;
         let mut i = 0;
         let count = other.count();
@@ -391,6 +431,27 @@ impl<'data> CodePointInversionList<'data> {
             i += 2;
         }
         true
+    }
+
+    /// Whether the set holds all that the other one holds. The empty set is part of each.
+    pub fn contains_set(&self, other: &CodePointInversionList<'_>) -> bool
+        ensures subset { IsTrue result ↔ IsSubset other.now self.now }
+        ensures valid { IsValid self.now × IsValid other.now }
+    {
+        // A set is known to be valid where its ends are named.
+        let _ = &self.ends;
+        let count = other.count();
+        if count == 0 {
+            return true;
+        }
+        if !self.spans(other) {
+            return false;
+        }
+        if count < self.count() / 16 {
+            self.holds_each(other)
+        } else {
+            self.holds_in_order(other)
+        }
     }
 
     /// How many smaller code points the set holds, if it holds the character.
@@ -419,7 +480,7 @@ impl<'data> CodePointInversionList<'data> {
 
     /// How many code points the set holds, surrogates among them.
     pub fn size(&self) -> usize
-        ensures size { result ≡ members_below self.now limit }
+        ensures size { result ≡ members_below self.now code_point_limit }
         ensures valid { IsValid self.now }
     {
         let count = self.count();
@@ -481,12 +542,12 @@ impl<'data> CodePointInversionList<'data> {
     /// 0..=0x10FFFF.
     pub fn iter_ranges_complemented(&self) -> IterRangesComplemented<'_>
         ensures gives { result ≡ complement_of self.now }
-        ensures complement { (c : ℕ) → c < limit
+        ensures complement { (c : ℕ) → c < code_point_limit
             → holds (complement_of self.now) c ≡ not (holds self.now c) }
         ensures valid { IsValid (complement_of self.now) }
         ensures within { All IsOfCodePoints (ranges_of (complement_of self.now)) }
         ensures apart { AreApart (ranges_of (complement_of self.now)) }
-        ensures held { (c : ℕ) → c < limit
+        ensures held { (c : ℕ) → c < code_point_limit
             → in_ranges (ranges_of (complement_of self.now)) c ≡ not (holds self.now c) }
     {
         let mut ends = self.ends.iter();

@@ -7,7 +7,8 @@ ghost use Rattle.std.specs.Hash.{items_Alike, same_Alike};
 ghost use Rattle.std.proofs.lemmas.Bool.Decides.{Decides-eqb};
 ghost use Rattle.icu_zerovec.specs.Cells.{one_write};
 ghost use Rattle.icu_zerovec.specs.PackedBytes.{low_bytes};
-ghost use Rattle.icu_invlist.specs.InversionList.{holds, limit};
+ghost use Rattle.icu_zerovec.specs.CodePoints.{code_point_limit};
+ghost use Rattle.icu_invlist.specs.InversionList.{holds};
 
 use crate::codepointinvlist::cpinvlist::CodePointInversionList;
 use std::hash::{Hash, Hasher};
@@ -22,7 +23,7 @@ impl<'data> PartialEq for CodePointInversionList<'data> {
         ensures value { result ≡ pointwise nat_eq self.now other.now }
         ensures same { IsTrue result ↔ (self.now ≡ other.now) }
         ensures members { IsTrue result
-            ↔ ((c : ℕ) → c < limit → holds self.now c ≡ holds other.now c) }
+            ↔ ((c : ℕ) → c < code_point_limit → holds self.now c ≡ holds other.now c) }
     {
         self.packed().as_bytes() == other.packed().as_bytes()
     }

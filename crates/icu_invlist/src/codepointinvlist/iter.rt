@@ -5,11 +5,12 @@ ghost use Rattle.std.specs.Iterator.SizeHint.{IsWithinCount};
 ghost use Rattle.std.specs.List.{filter, range_with_len};
 ghost use Rattle.std.specs.Option.{MatchOption};
 ghost use Rattle.std.proofs.Math.Utf8.{scalar};
-ghost use Rattle.icu_invlist.specs.InversionList.{IsValid, ranges_of, limit};
+ghost use Rattle.icu_zerovec.specs.CodePoints.{code_point_limit};
+ghost use Rattle.icu_invlist.specs.InversionList.{IsValid, ranges_of};
 ghost use Rattle.icu_invlist.specs.Inside.StillGiven.{gaps_left, start_at, characters_left};
 
-use icu_zerovec::PotentialCodePoint;
 use icu_zerovec::iter::Iter;
+use icu_zerovec::{CODE_POINT_LIMIT, PotentialCodePoint};
 use std::marker::Model;
 use std::ops::RangeInclusive;
 
@@ -98,7 +99,11 @@ pub(crate) fn start_of_gap(end: Option<PotentialCodePoint>) -> Option<u32>
     ensures { result ≡ start_at end }
 {
     let end = u32::from(end?);
-    if end < 0x11_0000 { Some(end) } else { None }
+    if end < CODE_POINT_LIMIT {
+        Some(end)
+    } else {
+        None
+    }
 }
 
 impl<'a> IterRangesComplemented<'a> {
@@ -123,7 +128,7 @@ impl<'a> Iterator for IterRangesComplemented<'a> {
         match self.ends.next() {
             None => {
                 self.start = None;
-                Some(RangeInclusive::new(start, 0x10_FFFF))
+                Some(RangeInclusive::new(start, CODE_POINT_LIMIT - 1))
             }
             Some(end) => {
                 self.start = start_of_gap(self.ends.next());

@@ -3,7 +3,7 @@ ghost use Rattle.std.specs.Prelude.{◌≡◌, ℕ, ◌+◌, ◌++◌, List, [],
 ghost use Rattle.serde_json.specs.View.{view, items_view};
 ghost use Rattle.serde_json.specs.Data.{Items, array};
 ghost use Rattle.icu_invlist.specs.InversionList.{IsValid};
-ghost use Rattle.icu_invlist.specs.SetJson.{SayEnds, IsSaid, IsRefusedJson, SaysNone, ends_of, ends_from, written_of};
+ghost use Rattle.icu_invlist.specs.SetJson.{SayEnds, IsSaid, IsRefusedJson, SaysNone, ends_in, ends_of, written_of};
 ghost use Rattle.icu_invlist.specs.Inside.GivenEnds.{GivesEnds};
 ghost use Rattle.icu_invlist.specs.declared.codepointinvlist.error.SetJsonError.TheVariants.{Memory};
 
@@ -26,7 +26,7 @@ fn push_two(ends: &mut Vec<u32>, start: u32, end: u32) -> Result<(), MemoryError
 
 /// The ends that the items say, in their order.
 fn ends_of_items(alloc: Global, items: &[Value]) -> Result<Vec<u32>, SetJsonError>
-    ensures { GivesEnds result (ends_from 0 (items_view items.now)) }
+    ensures { GivesEnds result (ends_in (items_view items.now)) }
 {
     let mut ends = Vec::new(alloc);
     for (i, item) in items.iter().enumerate() {
@@ -78,9 +78,8 @@ impl<'data> CodePointInversionList<'data> {
     }
 
     /// The set that a JSON array of strings spells, each one a range as [`to_json`](Self::to_json)
-    /// writes it:
-    /// `["A-Z", "_"]`. Any point may be spelled as `U+` and exactly four hexadecimal digits of
-    /// either case.
+    /// writes it: `["A-Z", "_"]`. Any point may be spelled as `U+` and exactly four hexadecimal
+    /// digits of either case.
     ///
     /// # Errors
     /// - `SetJsonError::NotAnArray` where the value is none.

@@ -1,24 +1,65 @@
 //! What ranges name, and what makes a list of ends valid.
 ghost use Rattle.std.specs.Prelude.{◌≡◌, ◌≤◌, ℕ, ◌-◌, ◌^◌, ◌↔◌, IsTrue};
 ghost use Rattle.std.specs.Range.{range_inclusive_start};
-ghost use Rattle.icu_invlist.specs.InversionList.{IsValid, limit};
-ghost use Rattle.icu_invlist.specs.NamedCodePoints.{open_start, open_end, end_of_included, end_of_inclusive};
+ghost use Rattle.std.proofs.Common.{lit≤};
+ghost use Rattle.icu_zerovec.specs.CodePoints.{code_point_limit};
+ghost use Rattle.icu_invlist.specs.InversionList.{IsValid};
+ghost use Rattle.icu_invlist.specs.NamedCodePoints.{open_start, open_end, end_of_included, end_of_inclusive, is_used_up, numbered};
 
-use icu_zerovec::{PotentialCodePoint, ZeroVec};
+use icu_zerovec::{CODE_POINT_LIMIT, PotentialCodePoint, ZeroVec};
 use std::ops::{Range, RangeFrom, RangeFull, RangeInclusive, RangeTo, RangeToInclusive};
 
 /// What ranges are made of: `char` and `u32`.
-pub trait RangePoint {
+pub trait RangePoint: Copy {
     /// The greatest end that a range of them can have.
     ghost last_end: { ℕ };
+
+    /// The number of a point: of a character its code.
+    ghost number: { Self → ℕ };
+
+    /// The same.
+    fn number(self) -> u32
+        ensures number { result ≡ number self }
+        ensures within { end_of_included result ≤ last_end };
+
+    /// Whether the range was iterated to its last number: its ends are in order, and it is empty.
+    fn is_used_up(range: &RangeInclusive<Self>) -> bool
+        ensures { result ≡ is_used_up (numbered number range.now) };
+
+    /// A range with no end of its own ends within them.
+    ghost open_end_fits: { code_point_limit ≤ last_end };
 }
 
 impl RangePoint for char {
-    ghost last_end = { limit };
+    ghost last_end = { code_point_limit };
+
+    ghost number = { λ c. c };
+
+    ghost open_end_fits = { lit≤ tt };
+
+    fn number(self) -> u32 {
+        u32::from(self)
+    }
+
+    fn is_used_up(range: &RangeInclusive<char>) -> bool {
+        *range.start() <= *range.end() && range.is_empty()
+    }
 }
 
 impl RangePoint for u32 {
     ghost last_end = { 2 ^ 32 - 1 };
+
+    ghost number = { λ n. n };
+
+    ghost open_end_fits = { lit≤ tt };
+
+    fn number(self) -> u32 {
+        self
+    }
+
+    fn is_used_up(range: &RangeInclusive<u32>) -> bool {
+        *range.start() <= *range.end() && range.is_empty()
+    }
 }
 
 /// A range of characters or of numbers: `a..b`, `a..=b`, `a..`, `..b`, `..=b` or `..` of `char` or
@@ -40,8 +81,7 @@ pub trait RangeOf<X: RangePoint> {
 
 /// The inclusive start and the exclusive end of a range. A missing start is 0, and a missing end
 /// 0x110000. An included end `u32::MAX`, after which there is no number, is the end itself:
-/// `0..=u32::MAX` gives
-/// `(0, u32::MAX)`.
+/// `0..=u32::MAX` gives `(0, u32::MAX)`.
 pub fn deconstruct_range<X: RangePoint, R: RangeOf<X>>(range: R) -> (u32, u32)
     ensures start { result.0 ≡ R.start range }
     ensures end { result.1 ≡ R.end range }
@@ -49,35 +89,25 @@ pub fn deconstruct_range<X: RangePoint, R: RangeOf<X>>(range: R) -> (u32, u32)
     range.deconstruct()
 }
 
-impl RangeOf<u32> for Range<u32> {
-    ghost start = { λ r. r.start };
+impl<X: RangePoint> RangeOf<X> for Range<X> {
+    ghost start = { λ r. X.number r.start };
 
-    ghost end = { λ r. r.end };
+    ghost end = { λ r. X.number r.end };
 
     fn deconstruct(self) -> (u32, u32) {
-        (self.start, self.end)
+        (self.start.number(), self.end.number())
     }
 }
 
-impl RangeOf<char> for Range<char> {
-    ghost start = { λ r. r.start };
+impl<X: RangePoint> RangeOf<X> for RangeInclusive<X> {
+    ghost start = { λ r. X.number (range_inclusive_start r) };
 
-    ghost end = { λ r. r.end };
-
-    fn deconstruct(self) -> (u32, u32) {
-        (u32::from(self.start), u32::from(self.end))
-    }
-}
-
-impl RangeOf<u32> for RangeInclusive<u32> {
-    ghost start = { λ r. range_inclusive_start r };
-
-    ghost end = { end_of_inclusive };
+    ghost end = { λ r. end_of_inclusive (numbered X.number r) };
 
     fn deconstruct(self) -> (u32, u32) {
-        let start = *self.start();
-        let end = *self.end();
-        if start <= end && self.is_empty() {
+        let start = (*self.start()).number();
+        let end = (*self.end()).number();
+        if X::is_used_up(&self) {
             (start, end)
         } else {
             (start, end.saturating_add(1))
@@ -85,99 +115,43 @@ impl RangeOf<u32> for RangeInclusive<u32> {
     }
 }
 
-impl RangeOf<char> for RangeInclusive<char> {
-    ghost start = { λ r. range_inclusive_start r };
-
-    ghost end = { end_of_inclusive };
-
-    fn deconstruct(self) -> (u32, u32) {
-        let start = u32::from(*self.start());
-        let end = u32::from(*self.end());
-        if start <= end && self.is_empty() {
-            (start, end)
-        } else {
-            (start, end.saturating_add(1))
-        }
-    }
-}
-
-impl RangeOf<u32> for RangeFrom<u32> {
-    ghost start = { λ r. r.start };
+impl<X: RangePoint> RangeOf<X> for RangeFrom<X> {
+    ghost start = { λ r. X.number r.start };
 
     ghost end = { λ _. open_end };
 
     fn deconstruct(self) -> (u32, u32) {
-        (self.start, 0x11_0000)
+        (self.start.number(), CODE_POINT_LIMIT)
     }
 }
 
-impl RangeOf<char> for RangeFrom<char> {
-    ghost start = { λ r. r.start };
-
-    ghost end = { λ _. open_end };
-
-    fn deconstruct(self) -> (u32, u32) {
-        (u32::from(self.start), 0x11_0000)
-    }
-}
-
-impl RangeOf<u32> for RangeTo<u32> {
+impl<X: RangePoint> RangeOf<X> for RangeTo<X> {
     ghost start = { λ _. open_start };
 
-    ghost end = { λ r. r.end };
+    ghost end = { λ r. X.number r.end };
 
     fn deconstruct(self) -> (u32, u32) {
-        (0, self.end)
+        (0, self.end.number())
     }
 }
 
-impl RangeOf<char> for RangeTo<char> {
+impl<X: RangePoint> RangeOf<X> for RangeToInclusive<X> {
     ghost start = { λ _. open_start };
 
-    ghost end = { λ r. r.end };
+    ghost end = { λ r. end_of_included (X.number r.end) };
 
     fn deconstruct(self) -> (u32, u32) {
-        (0, u32::from(self.end))
+        (0, self.end.number().saturating_add(1))
     }
 }
 
-impl RangeOf<u32> for RangeToInclusive<u32> {
-    ghost start = { λ _. open_start };
-
-    ghost end = { λ r. end_of_included r.end };
-
-    fn deconstruct(self) -> (u32, u32) {
-        (0, self.end.saturating_add(1))
-    }
-}
-
-impl RangeOf<char> for RangeToInclusive<char> {
-    ghost start = { λ _. open_start };
-
-    ghost end = { λ r. end_of_included r.end };
-
-    fn deconstruct(self) -> (u32, u32) {
-        (0, u32::from(self.end).saturating_add(1))
-    }
-}
-
-impl RangeOf<u32> for RangeFull {
+impl<X: RangePoint> RangeOf<X> for RangeFull {
     ghost start = { λ _. open_start };
 
     ghost end = { λ _. open_end };
 
     fn deconstruct(self) -> (u32, u32) {
-        (0, 0x11_0000)
-    }
-}
-
-impl RangeOf<char> for RangeFull {
-    ghost start = { λ _. open_start };
-
-    ghost end = { λ _. open_end };
-
-    fn deconstruct(self) -> (u32, u32) {
-        (0, 0x11_0000)
+        (0, CODE_POINT_LIMIT)
     }
 }
 
@@ -192,7 +166,7 @@ pub fn is_valid_zv(ends: &ZeroVec<'_, PotentialCodePoint>) -> bool
     let mut next = 0;
     for end in ends.iter() {
         let end = u32::from(end);
-        if end < next || end > 0x11_0000 {
+        if end < next || end > CODE_POINT_LIMIT {
             return false;
         }
         next = end + 1;
@@ -209,7 +183,7 @@ pub(crate) fn is_valid_slice(ends: &[u32]) -> bool
     }
     let mut next = 0;
     for end in ends {
-        if *end < next || *end > 0x11_0000 {
+        if *end < next || *end > CODE_POINT_LIMIT {
             return false;
         }
         next = *end + 1;

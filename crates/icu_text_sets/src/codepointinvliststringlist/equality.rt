@@ -2,7 +2,8 @@
 ghost use Rattle.std.specs.Prelude.{◌≡◌, ◌&&◌, ◌<◌, ◌↔◌, ℕ, List, IsTrue, nat_eq};
 ghost use Rattle.std.specs.Cmp.{partial_equiv_from_equiv};
 ghost use Rattle.std.specs.Cmp.Lexicographic.{pointwise};
-ghost use Rattle.icu_invlist.specs.InversionList.{holds, limit};
+ghost use Rattle.icu_zerovec.specs.CodePoints.{code_point_limit};
+ghost use Rattle.icu_invlist.specs.InversionList.{holds};
 ghost use Rattle.icu_text_sets.specs.TextSet.{TextSet, same_set, is_among};
 ghost use Rattle.icu_text_sets.specs.TextSetLaws.{same_set_equiv};
 
@@ -18,7 +19,8 @@ impl<'data> PartialEq for CodePointInversionListAndStringList<'data> {
         ensures value { result ≡ same_set self.now other.now }
         ensures same { IsTrue result ↔ (self.now ≡ other.now) }
         ensures members { IsTrue result
-            ↔ (((c : ℕ) → c < limit → holds self.now.code_points c ≡ holds other.now.code_points c)
+            ↔ (((c : ℕ) → c < code_point_limit
+            → holds self.now.code_points c ≡ holds other.now.code_points c)
             × ((text : List ℕ)
             → is_among self.now.strings text ≡ is_among other.now.strings text)) }
     {

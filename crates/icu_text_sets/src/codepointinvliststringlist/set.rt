@@ -3,7 +3,8 @@ ghost use Rattle.std.specs.Prelude.{◌≡◌, ◌≤◌, ◌==◌, ◌&&◌, �
 ghost use Rattle.std.specs.Result.{is_ok};
 ghost use Rattle.std.specs.Option.{option_map, IfSome};
 ghost use Rattle.std.specs.Str.{chars, is_utf8, IsUtf8};
-ghost use Rattle.icu_invlist.specs.InversionList.{holds, limit};
+ghost use Rattle.icu_zerovec.specs.CodePoints.{code_point_limit};
+ghost use Rattle.icu_invlist.specs.InversionList.{holds};
 ghost use Rattle.icu_text_sets.specs.TextSet.{TextSet, only_char, is_among, texts_of, IsStringList, member, member_count};
 ghost use Rattle.icu_text_sets.specs.Inside.StringPlaces.{IsPlaceOf};
 
@@ -132,7 +133,7 @@ impl<'data> CodePointInversionListAndStringList<'data> {
     /// Whether the set holds the code point. No number above 0x10FFFF is held.
     pub fn contains32(&self, cp: u32) -> bool
         ensures held { result ≡ holds self.now.code_points cp }
-        ensures far { limit ≤ cp → result ≡ false }
+        ensures far { code_point_limit ≤ cp → result ≡ false }
     {
         self.cp_inv_list.contains32(cp)
     }

@@ -2,7 +2,8 @@
 use Rattle.std.specs.Prelude.{◌≡◌, ◌≢◌, ℕ, ◌+◌, ◌*◌, ◌/◌, ◌%◌, ◌<◌, ◌≤◌, nat_eq, List, Option, Some, None, slice_get, if◌then◌else◌, IsSomeAnd, MatchOption}
 use Rattle.std.specs.Option.{option_and_then}
 use Rattle.icu_trie_core.specs.declared.header.CodePointTrieHeader.{CodePointTrieHeader}
-use Rattle.icu_trie_core.specs.Format.{offset_in_block}
+use Rattle.icu_trie_core.specs.Format.{fast_limit, offset_in_block}
+use Rattle.icu_trie_core.specs.declared.header.TrieType.{TrieType}
 
 -- the cells of a data block
 abbrev pub block_cells : {A : Type 0} → List A → ℕ → ℕ → Option A
@@ -29,6 +30,10 @@ unfoldable pub cell_seen : {A : Type 0} → (ℕ → Option A) → CodePointTrie
 cell_seen of_number h index values cell i =
     if nat_eq cell h.index3_null_offset then of_number h.null_value
     else blocks_seen of_number h index values cell i
+
+-- a block of 64 begins at c, and from the fast limit on a block of 512
+abbrev pub BeginsBlock : TrieType → ℕ → Type 0
+BeginsBlock trie_type c = (c % 64 ≡ 0) × (fast_limit trie_type ≤ c → c % 512 ≡ 0)
 
 module _ {A : Type 0} (sees : ℕ → Option A) where
   -- each place from start up to before end is the value

@@ -43,10 +43,9 @@ fn views_of(bytes: &[u8]) -> Result<Reads, UleError> {
 }
 
 /// Calls: `ZeroVec::parse_bytes`, `ZeroVec::len`, `ZeroVec::is_empty`, `ZeroVec::get`,
-/// `ZeroVec::first`,
-/// `ZeroVec::last`, `ZeroVec::iter`, `ZeroSlice::len`, `ZeroSlice::is_empty`, `ZeroSlice::get`,
-/// `ZeroSlice::first`, `ZeroSlice::last`, `ZeroSlice::iter`, `Iter::next`, `ZeroVec::as_bytes`,
-/// `ZeroVec::as_slice`.
+/// `ZeroVec::first`, `ZeroVec::last`, `ZeroVec::iter`, `ZeroSlice::len`, `ZeroSlice::is_empty`,
+/// `ZeroSlice::get`, `ZeroSlice::first`, `ZeroSlice::last`, `ZeroSlice::iter`, `Iter::next`,
+/// `ZeroVec::as_bytes`, `ZeroVec::as_slice`.
 #[test]
 fn reads_quiet(rt: HostRuntime) {
     let Ok(owner) = ZeroVec::alloc_from_slice(rt.alloc(), &[0x41_u32, 0x42]) else {
@@ -117,6 +116,19 @@ fn single_values_quiet(rt: HostRuntime) {
     expect(&rt, high == Err(0x100_0000), "a number past the highest");
 }
 
+/// Calls: `ZeroVec::parse_owned`.
+#[test]
+fn owned_bytes_quiet(rt: HostRuntime) -> Result<(), Fail> {
+    let Ok(bytes) = Vec::from_slice(rt.alloc(), &[0x41, 0, 0x42, 0]) else {
+        return Ok(());
+    };
+    say(&rt, "call");
+    let vector = ZeroVec::<u16>::parse_owned(bytes)?;
+    say(&rt, "done");
+    expect_same(&rt, vector.last(), Some(0x42), "last");
+    Ok(())
+}
+
 /// The last value of these bytes as numbers with sign.
 fn last_converted(bytes: &[u8]) -> Result<Option<i32>, UleError> {
     let signed = ZeroVec::<u32>::parse_bytes(bytes)?.try_into_converted::<i32>()?;
@@ -138,8 +150,8 @@ fn conversions_quiet(rt: HostRuntime) -> Result<(), Fail> {
     Ok(())
 }
 
-/// The second value of a view, and how many are left behind its first one, counted in two ways.
-fn left_behind_first(bytes: &[u8]) -> Result<(u32, usize, usize), UleError> {
+/// The second value of a view, and how many are left after its first one, counted in two ways.
+fn left_after_first(bytes: &[u8]) -> Result<(u32, usize, usize), UleError> {
     let lent = ZeroVec::<u32>::parse_bytes(bytes)?;
     let view = lent.as_slice();
     let second = if 1 < view.len() { view.at(1) } else { 0 };
@@ -155,9 +167,9 @@ fn places_quiet(rt: HostRuntime) {
         return;
     };
     say(&rt, "call");
-    let found = left_behind_first(owner.as_bytes());
+    let found = left_after_first(owner.as_bytes());
     say(&rt, "done");
-    expect_same(&rt, found, Ok((0x42, 1, 1)), "behind the first");
+    expect_same(&rt, found, Ok((0x42, 1, 1)), "after the first");
 }
 
 /// The packed bytes of a value of any type.

@@ -29,7 +29,7 @@ const DATA: &str = r#""data":[
 /// The parts of a trie's object.
 const WHOLE: [&str; 5] = [HEADER, r#""Small"},"#, INDEX, ",", DATA];
 
-/// The value of a text in parts, `None` where no memory was found.
+/// The value of a text in parts, `None` where memory was refused.
 fn value_of(alloc: Global, parts: &[&str]) -> Option<Value> {
     let text = joined(alloc, parts)?;
     Value::from_str(alloc, text.as_str()).ok()
@@ -232,7 +232,7 @@ fn expect_read(rt: &(impl Abort + Print), trie: Result<CodePointTrie<'_, u8>, Tr
     }
 }
 
-/// A value and its copy, `None` where no memory was found.
+/// A value and its copy, `None` where memory was refused.
 fn two_values(alloc: Global) -> Option<(Value, Value)> {
     let value = value_of(alloc, &WHOLE)?;
     Some((value, value_of(alloc, &WHOLE)?))

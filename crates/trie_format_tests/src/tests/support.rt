@@ -3,7 +3,7 @@ use icu_trie::cptrie::CodePointTrie;
 use std::alloc::Global;
 use std::process::Abort;
 
-/// The text that the parts make, `None` where no memory was found.
+/// The text that the parts make, `None` where memory was refused.
 pub fn joined(alloc: Global, parts: &[&str]) -> Option<String> {
     let mut text = String::new(alloc);
     for part in parts {

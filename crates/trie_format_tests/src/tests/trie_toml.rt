@@ -38,7 +38,7 @@ const NAMED: [&str; 4] = [INDEX, FIELDS, "type = 1\nname = \"planes\"\ndata_8", 
 /// The parts of a trie's table.
 const WHOLE: [&str; 4] = [INDEX, FIELDS, "type = 1\ndata_8", CELLS];
 
-/// The table of a text in parts, `None` where no memory was found.
+/// The table of a text in parts, `None` where memory was refused.
 fn table_of(alloc: Global, parts: &[&str]) -> Option<Table> {
     let text = joined(alloc, parts)?;
     toml::table_from_str(alloc, text.as_str()).ok()
@@ -270,7 +270,7 @@ fn expect_read(rt: &(impl Abort + Print), read: Result<CodePointTrieToml, TomlEr
     }
 }
 
-/// A table and its copy, `None` where no memory was found.
+/// A table and its copy, `None` where memory was refused.
 fn two_tables(alloc: Global) -> Option<(Table, Table)> {
     let table = table_of(alloc, &WHOLE)?;
     Some((table, table_of(alloc, &WHOLE)?))
@@ -305,7 +305,7 @@ fn expect_trie(rt: &(impl Abort + Print), trie: Result<CodePointTrie<'_, u8>, Tr
     }
 }
 
-/// What the table of a trie holds, `None` where no memory was found.
+/// What the table of a trie holds, `None` where memory was refused.
 fn whole_read(alloc: Global) -> Option<CodePointTrieToml> {
     let table = table_of(alloc, &WHOLE)?;
     CodePointTrieToml::from_table(alloc, &table).ok()
@@ -347,8 +347,7 @@ fn expect_type(rt: &impl Abort, found: Option<TrieType>, want: TrieType) {
 }
 
 /// Calls: `CodePointTrieToml::index_slice`, `CodePointTrieToml::data_slice`,
-/// `CodePointTrieHeader::try_from`,
-/// `TrieType::try_from`.
+/// `CodePointTrieHeader::try_from`, `TrieType::try_from`.
 #[test]
 fn parts_quiet(rt: HostRuntime) {
     let Some(read) = whole_read(rt.alloc()) else {

@@ -34,10 +34,9 @@ fn lengths_of(trie: &CodePointTrie<'_, u8>) -> (Option<usize>, usize, usize) {
 }
 
 /// Calls: `CodePointTrie::try_new`, `CodePointTrie::get32`, `CodePointTrie::get`,
-/// `CodePointTrie::get16`,
-/// `CodePointTrie::get32_supplementary`, `CodePointTrie::get32_u32`, `CodePointTrie::get32_ule`,
-/// `CodePointTrie::error_value`, `CodePointTrie::null_value`, `CodePointTrie::parts`,
-/// `CodePointTrie::is_coherent`.
+/// `CodePointTrie::get16`, `CodePointTrie::get32_supplementary`, `CodePointTrie::get32_u32`,
+/// `CodePointTrie::get32_ule`, `CodePointTrie::error_value`, `CodePointTrie::null_value`,
+/// `CodePointTrie::parts`, `CodePointTrie::is_coherent`.
 #[test]
 fn reads_quiet(rt: HostRuntime) {
     let cells = data(1, 2, 3);
@@ -84,10 +83,9 @@ fn joined_of(trie: &CodePointTrie<'_, u8>) -> usize {
 }
 
 /// Calls: `CodePointTrie::get_range`, `CodePointTrie::iter_ranges`,
-/// `CodePointMapRangeIterator::next`,
-/// `CodePointTrie::iter_ranges_for_value`, `IterRangesForValue::next`,
-/// `CodePointTrie::iter_ranges_mapped`,
-/// `IterRangesMapped::next`, `RangeListIteratorCoalescer::new`, `RangeListIteratorCoalescer::next`.
+/// `CodePointMapRangeIterator::next`, `CodePointTrie::iter_ranges_for_value`,
+/// `IterRangesForValue::next`, `CodePointTrie::iter_ranges_mapped`, `IterRangesMapped::next`,
+/// `RangeListIteratorCoalescer::new`, `RangeListIteratorCoalescer::next`.
 #[test]
 fn ranges_quiet(rt: HostRuntime) {
     let cells = data(1, 2, 3);
@@ -137,10 +135,9 @@ fn told_value(trie: CodePointTrie<'_, u8>) -> u8 {
 
 /// Calls: `CodePointTrie::as_typed_ref`, `CodePointTrie::to_typed`, `SmallCodePointTrie::try_from`,
 /// `SmallCodePointTrie::as_untyped_ref`, `SmallCodePointTrie::to_untyped`,
-/// `TypedCodePointTrie::shown`,
-/// `TypedCodePointTrie::get32`, `TypedCodePointTrie::get`, `TypedCodePointTrie::get16`,
-/// `TypedCodePointTrie::get32_supplementary`, `TypedCodePointTrie::get32_u32`,
-/// `TypedCodePointTrie::get32_by_fast_index`.
+/// `TypedCodePointTrie::shown`, `TypedCodePointTrie::get32`, `TypedCodePointTrie::get`,
+/// `TypedCodePointTrie::get16`, `TypedCodePointTrie::get32_supplementary`,
+/// `TypedCodePointTrie::get32_u32`, `TypedCodePointTrie::get32_by_fast_index`.
 #[test]
 fn typed_tries_quiet(rt: HostRuntime) {
     let cells = data(1, 2, 3);

@@ -264,8 +264,7 @@ fn answer_over<L: Ledger, K: Ledger>(
 }
 
 /// What the engine answers of a fast trie with the default 0 and the error value 9, between the
-/// lines
-/// `call` and `done`. What it writes finds room.
+/// lines `call` and `done`. What it writes finds room.
 pub fn answer(
     rt: &(impl Abort + AllocGlobal + Print),
     asked: &[u32],

@@ -1,8 +1,7 @@
 //! Calls whose requests for memory are refused in turn. The script `tests/refused_memory` runs each
 //! test whose name ends in `_refused` with its first, second, .. request refused, until a run
 //! refuses nothing: a refusal between the lines `call` and `done` has to be answered by the line
-//! `refused`. In a test whose name ends in
-//! `_quiet` nothing is asked for between the two.
+//! `refused`. In a test whose name ends in `_quiet` nothing is asked for between the two.
 use crate::tests::support::{expect, expect_same, value_of};
 use icu_char16trie::char16trie::Char16Trie;
 use icu_char16trie_builder::builder::Char16TrieBuilder;

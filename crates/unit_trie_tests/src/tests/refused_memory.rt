@@ -1,8 +1,7 @@
 //! Calls whose requests for memory are refused in turn. The script `tests/refused_memory` runs each
 //! test whose name ends in `_refused` with its first, second, .. request refused, until a run
 //! refuses nothing: a refusal between the lines `call` and `done` has to be answered by the line
-//! `refused`. In a test whose name ends in
-//! `_quiet` nothing is asked for between the two.
+//! `refused`. In a test whose name ends in `_quiet` nothing is asked for between the two.
 use crate::tests::support::{SIX, expect, expect_same, last_result, trie_of};
 use icu_char16trie::char16trie::{
     Char16JsonError, Char16Trie, Char16TrieCursor, Char16TrieIterator, Iter2, TrieResult,
@@ -85,6 +84,22 @@ fn iter2_refused(rt: HostRuntime) {
     expect(&rt, entries.next().is_none(), "no item");
 }
 
+/// The same where a key ends with a lead surrogate, and another one has its trail too.
+///
+/// Calls: `Iter2::next`.
+#[test]
+fn iter2_of_surrogates_refused(rt: HostRuntime) {
+    let Ok(trie) = trie_of(rt.alloc(), &[0x30, 0xD83D, 0xB0, 0xDE00, 0x8006]) else {
+        return;
+    };
+    let mut entries = trie.iter2(rt.alloc());
+    say(&rt, "call");
+    let last = last_value(&mut entries);
+    say(&rt, "done");
+    expect_six(&rt, last);
+    expect(&rt, entries.next().is_none(), "no item");
+}
+
 /// A JSON value has the key of the units, or memory was refused.
 fn expect_json(rt: &(impl Abort + Print), written: Result<Value, MemoryError>) {
     match written {
@@ -149,8 +164,8 @@ fn look_ups_of(trie: &Char16Trie<'_>) -> (bool, Option<i32>, bool, TrieResult) {
 /// Look-ups take no memory, and neither does an iterator that is not asked.
 ///
 /// Calls: `Char16Trie::cursor`, `Char16Trie::iter`, `Char16Trie::iter2`,
-/// `Char16TrieCursor::write_str`,
-/// `Char16TrieCursor::value`, `Char16TrieCursor::is_empty`, `Char16TrieIterator::next`.
+/// `Char16TrieCursor::write_str`, `Char16TrieCursor::value`, `Char16TrieCursor::is_empty`,
+/// `Char16TrieIterator::next`.
 #[test]
 fn look_ups_quiet(rt: HostRuntime) {
     let Ok(trie) = trie_of(rt.alloc(), &SIX) else {
@@ -184,9 +199,8 @@ fn results_of(units: ZeroSlice<'_, u16>) -> (TrieResult, TrieResult) {
 }
 
 /// Calls: `Char16Trie::new`, `Char16TrieCursor::new`, `Char16TrieCursor::step`,
-/// `Char16TrieCursor::step16`,
-/// `Char16TrieCursor::step32`, `Char16TrieIterator::new`, `Char16TrieIterator::next32`,
-/// `Char16TrieIterator::next16`.
+/// `Char16TrieCursor::step16`, `Char16TrieCursor::step32`, `Char16TrieIterator::new`,
+/// `Char16TrieIterator::next32`, `Char16TrieIterator::next16`.
 #[test]
 fn steps_quiet(rt: HostRuntime) {
     let Ok(units) = ZeroVec::alloc_from_slice(rt.alloc(), &SIX) else {

@@ -119,6 +119,83 @@ fn values_and_linear_matches(rt: HostRuntime) -> Result<(), Fail> {
     Ok(())
 }
 
+/// A pair of surrogates is one character also where its units stand in two nodes, and any other
+/// surrogate is U+FFFD.
+#[test]
+fn surrogates_in_linear_matches(rt: HostRuntime) -> Result<(), Fail> {
+    for (units, entries, text, want) in [
+        // A key that ends with a lead surrogate, and goes on with its trail.
+        (
+            [0x30, 0xD83D, 0xB0, 0xDE00, 0x8002].as_slice(),
+            "\u{fffd}=1;\u{1f600}=2;",
+            "\u{1f600}",
+            TrieResult::FinalValue(2),
+        ),
+        // No pairs: a trail alone, a lead before a letter, and a lead before another one.
+        (
+            [0x31, 0xDE00, 0x61, 0x8003].as_slice(),
+            "\u{fffd}a=3;",
+            "a",
+            TrieResult::NoMatch,
+        ),
+        (
+            [0x31, 0xD800, 0x61, 0x8003].as_slice(),
+            "\u{fffd}a=3;",
+            "a",
+            TrieResult::NoMatch,
+        ),
+        (
+            [0x32, 0xD800, 0xD83D, 0xDE00, 0x8001].as_slice(),
+            "\u{fffd}\u{1f600}=1;",
+            "\u{1f600}",
+            TrieResult::NoMatch,
+        ),
+    ] {
+        expect_trie(&rt, units, entries, text, want)?;
+    }
+    Ok(())
+}
+
+#[test]
+fn surrogates_in_branches(rt: HostRuntime) -> Result<(), Fail> {
+    for (units, entries, text, want) in [
+        // Each child makes a pair with the lead surrogate before the branch.
+        (
+            [0x30, 0xD83D, 1, 0xDE00, 0x8001, 0xDE01, 0x8002].as_slice(),
+            "\u{1f600}=1;\u{1f601}=2;",
+            "\u{1f601}",
+            TrieResult::FinalValue(2),
+        ),
+        // One child does, and the other one does not.
+        (
+            [0x30, 0xD83D, 1, 0x61, 0x8001, 0xDE00, 0x8002].as_slice(),
+            "\u{fffd}a=1;\u{1f600}=2;",
+            "\u{1f600}",
+            TrieResult::FinalValue(2),
+        ),
+        // The lead surrogates stand in the branch.
+        (
+            [
+                1, 0xD83D, 4, 0xD83E, 0x30, 0xDD00, 0x8002, 0x30, 0xDE00, 0x8001,
+            ]
+            .as_slice(),
+            "\u{1f600}=1;\u{1f900}=2;",
+            "\u{1f900}",
+            TrieResult::FinalValue(2),
+        ),
+        // The lead surrogate of one key and the trail of the next are no pair.
+        (
+            [1, 0xD83D, 0x8001, 0xDE00, 0x8002].as_slice(),
+            "\u{fffd}=1;\u{fffd}=2;",
+            "\u{1f600}",
+            TrieResult::NoMatch,
+        ),
+    ] {
+        expect_trie(&rt, units, entries, text, want)?;
+    }
+    Ok(())
+}
+
 #[test]
 fn branches(rt: HostRuntime) -> Result<(), Fail> {
     let jump = [1, 0x61, 2, 0x62, 0x8002, 0x8001];

@@ -1,7 +1,7 @@
 use Rattle.icu_zerovec.specs.Slice.{slice_values}
 use Rattle.std.proofs.Common.{arith, ◌∙◌, sym, ◌≡◌}
 use Rattle.icu_char16trie.specs.Steps.{row, no_split, no_delta, cut_delta, lower, upper}
-use Rattle.icu_char16trie.proofs.PartLaws.{split_found}
+use Rattle.icu_char16trie.proofs.PartLemmas.{split_found}
 use Rattle.icu_char16trie.proofs.branch.+child_in_part.Goals as goal
 
 pub returns-in_ok-lower_part-clause-found : goal.returns-in_ok-lower_part-clause-found

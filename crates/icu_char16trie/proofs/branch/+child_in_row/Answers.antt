@@ -3,7 +3,7 @@ use Rattle.std.proofs.Common.{◌+◌, arith, ◌∙◌, sym, ap, refl, ◌≡�
 use Rattle.std.proofs.lemmas.Nat.{and_mask}
 use Rattle.std.proofs.lemmas.Bool.{ne_eqb}
 use Rattle.icu_char16trie.specs.Numbers.{short_end}
-use Rattle.icu_char16trie.proofs.PartLaws.{last_found, entry_found}
+use Rattle.icu_char16trie.proofs.PartLemmas.{last_found, entry_found}
 use Rattle.icu_char16trie.specs.Steps.{gone, last, cut, here, on}
 use Rattle.icu_char16trie.proofs.branch.+child_in_row.Goals as goal
 

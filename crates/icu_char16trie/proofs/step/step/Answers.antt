@@ -2,7 +2,7 @@ use Rattle.icu_zerovec.specs.Slice.{slice_values}
 use Rattle.std.proofs.Common.{inl, inr, refl, ◌≡◌, ℕ, ℤ, List, [], ◌⊎◌, None, slice_get}
 use Rattle.icu_char16trie.specs.UnitMap.{after}
 use Rattle.icu_char16trie.specs.Grammar.{Holds}
-use Rattle.icu_char16trie.specs.Places.{Stands}
+use Rattle.icu_char16trie.specs.UnitPlaces.{Stands}
 use Rattle.icu_char16trie.specs.declared.place.Place.{Place}
 use Rattle.icu_char16trie.specs.declared.place.Place.TheVariants.{Nowhere}
 use Rattle.icu_char16trie.proofs.step.step.Goals as goal

@@ -1,6 +1,6 @@
 use Rattle.icu_zerovec.specs.Slice.{slice_values}
 use Rattle.std.proofs.Common.{sym, inl}
-use Rattle.icu_char16trie.proofs.NodeLaws.{children_found, children_other}
+use Rattle.icu_char16trie.proofs.NodeLemmas.{children_found, children_other}
 use Rattle.icu_char16trie.proofs.step.step_in_branch.Goals as goal
 
 pub returns-in-Some-clause-stands : goal.returns-in-Some-clause-stands

@@ -1,7 +1,7 @@
 use Rattle.icu_zerovec.specs.Slice.{slice_values}
 use Rattle.std.proofs.Common.{sym, refl, ◌≡◌, ◌+◌, ◌-◌, arith}
 use Rattle.icu_char16trie.specs.Steps.{in_run, in_short, in_long, no_length}
-use Rattle.icu_char16trie.proofs.NodeLaws.{matches_run}
+use Rattle.icu_char16trie.proofs.NodeLemmas.{matches_run}
 use Rattle.icu_char16trie.proofs.step.step_in_match.Goals as goal
 
 pub returns-then-low-ge48-clause-stands : goal.returns-then-low-ge48-clause-stands

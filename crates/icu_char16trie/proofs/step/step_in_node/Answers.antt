@@ -2,7 +2,7 @@ use Rattle.icu_zerovec.specs.Slice.{slice_values}
 use Rattle.std.proofs.Common.{sym, ◌∙◌, refl, ap, ◌≡◌}
 use Rattle.icu_char16trie.specs.UnitMap.{after}
 use Rattle.icu_char16trie.specs.Steps.{no_lead, at_final, at_plain, at_valued}
-use Rattle.icu_char16trie.proofs.NodeLaws.{holds_final, holds_valued}
+use Rattle.icu_char16trie.proofs.NodeLemmas.{holds_final, holds_valued}
 use Rattle.icu_char16trie.proofs.step.step_in_node.Goals as goal
 
 pub returns-then-lead-ge32768-clause-stands : goal.returns-then-lead-ge32768-clause-stands

@@ -2,8 +2,8 @@ use Rattle.icu_zerovec.specs.Slice.{slice_values}
 use Rattle.std.proofs.Common.{◌≡◌, ◌+◌, sym, inl, arith}
 use Rattle.std.proofs.lemmas.Bool.{ne_eqb}
 use Rattle.icu_char16trie.specs.UnitMap.{after}
-use Rattle.icu_char16trie.specs.Places.{InRun}
-use Rattle.icu_char16trie.proofs.NodeLaws.{run_step, run_other, run_end}
+use Rattle.icu_char16trie.specs.UnitPlaces.{InRun}
+use Rattle.icu_char16trie.proofs.NodeLemmas.{run_step, run_other, run_end}
 use Rattle.icu_char16trie.proofs.step.step_in_run.Goals as goal
 
 pub returns-then-next-unit-clause-stands : goal.returns-then-next-unit-clause-stands

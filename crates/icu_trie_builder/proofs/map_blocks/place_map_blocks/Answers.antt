@@ -39,7 +39,6 @@ loop-j-preserved c =
       last = (omega arith, rw n least);
       size = e.size ∙ s;
       table = e.table;
-      whole = e.whole;
       capped = omega (arith, e.capped, v.capped, s);
     }
 

@@ -9,8 +9,8 @@ use Rattle.icu_trie_compaction.proofs.index2.place_whole.Goals as goal
 grow : (old now new k n : ℕ) → now ≤ old + 32 * n → k ≡ 32 → (now < new → new ≤ now + k) → new ≤ old + 32 * (n + 1)
 grow old now new k n le is more = elim (cases_lt now new) [ inl lt ↦ omega (arith, le, is, more lt) | inr ge ↦ omega (arith, le, ge) ]
 
-pub place_anew-requires-clause-size : goal.place_anew-requires-clause-size
-place_anew-requires-clause-size c =
+pub place_block-requires-clause-size : goal.place_block-requires-clause-size
+place_block-requires-clause-size c =
     let n : ℕ = c.loop-number.number in
     ap length c.block_at-wanted.ensures ∙ (length-window 32 (32 * n) c.args.cells.now (omega arith) ∙ sym c.loop-number.invariant.size)
 
@@ -25,10 +25,10 @@ loop-number-preserved c =
     let len : length (block 32 cells (0 + n)) ≡ 32 = length-window 32 (32 * (0 + n)) cells (omega arith) in
     record {
       placed = compacting-step 32 0 n (block 32 cells) c.args.stored.now.items c.loop-number.stored.items c.loop-number.places.items v.placed (omega arith) len
-          c.in_ok-at.at c.place_anew.new.stored.items c.push.new.self.items (rw (s, wanted) at e.least) e.kept (rw (s, wanted) at e.grown) (rw wanted at e.drawn) c.in_ok-push.ensures.items;
+          c.in_ok-at.at c.place_block.new.stored.items c.push.new.self.items (rw (s, wanted) at e.least) e.kept (rw (s, wanted) at e.grown) (rw wanted at e.drawn) c.in_ok-push.ensures.items;
       size = e.size ∙ s;
       table = e.table;
-      short = grow (length c.args.stored.now.items) (length c.loop-number.stored.items) (length c.place_anew.new.stored.items) c.loop-number.table.size n v.short s (λ lt. (e.grown lt).0);
+      short = grow (length c.args.stored.now.items) (length c.loop-number.stored.items) (length c.place_block.new.stored.items) c.loop-number.table.size n v.short s (λ lt. (e.grown lt).0);
     }
 
 pub returns-clause-placed : goal.returns-clause-placed

@@ -1,5 +1,5 @@
 use Rattle.std.proofs.Common.{◌∙◌}
-use Rattle.icu_char16trie.proofs.PlaceLaws.{empty_is_after}
+use Rattle.icu_char16trie.proofs.PlaceLemmas.{empty_is_after}
 use Rattle.icu_char16trie.proofs.cursor.Char16TrieCursor.is_empty.Goals as goal
 
 pub returns-clause-empty : goal.returns-clause-empty

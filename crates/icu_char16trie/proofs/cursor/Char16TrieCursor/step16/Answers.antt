@@ -1,5 +1,5 @@
-use Rattle.icu_char16trie.proofs.StepLaws.{steps_one}
-use Rattle.icu_char16trie.proofs.PlaceLaws.{step_is_after}
+use Rattle.icu_char16trie.proofs.StepLemmas.{steps_one}
+use Rattle.icu_char16trie.proofs.PlaceLemmas.{step_is_after}
 use Rattle.icu_char16trie.proofs.cursor.Char16TrieCursor.step16.Goals as goal
 
 pub returns-clause-after : goal.returns-clause-after

@@ -1,5 +1,5 @@
 use Rattle.std.proofs.Common.{◌≤◌, arith}
-use Rattle.icu_char16trie.proofs.PassedLaws.{passes_unit, passes_then, two_units}
+use Rattle.icu_char16trie.proofs.PassedLemmas.{passes_unit, passes_then, two_units}
 use Rattle.icu_char16trie.proofs.cursor.Char16TrieCursor.step32.Goals as goal
 
 pub returns-then-c-le1114111-clause-within : goal.returns-then-c-le1114111-clause-within

@@ -1,5 +1,5 @@
 use Rattle.std.proofs.Common.{◌∙◌}
-use Rattle.icu_char16trie.proofs.PlaceLaws.{value_is_after}
+use Rattle.icu_char16trie.proofs.PlaceLemmas.{value_is_after}
 use Rattle.icu_char16trie.proofs.cursor.Char16TrieCursor.value.Goals as goal
 
 pub returns-clause-value : goal.returns-clause-value

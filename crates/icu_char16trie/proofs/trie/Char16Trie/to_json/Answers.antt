@@ -1,7 +1,7 @@
 use Rattle.icu_zerovec.specs.Slice.{slice_values}
 use Rattle.std.proofs.Common.{◌≡◌, Ok, ap, ◌∙◌}
 use Rattle.icu_char16trie.specs.Char16Json.{units_of}
-use Rattle.icu_char16trie.proofs.JsonLaws.{json_read}
+use Rattle.icu_char16trie.proofs.JsonLemmas.{json_read}
 use Rattle.icu_char16trie.proofs.trie.Char16Trie.to_json.Goals as goal
 
 pub returns-clause-read_back : goal.returns-clause-read_back

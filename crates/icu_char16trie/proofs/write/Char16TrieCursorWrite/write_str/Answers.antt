@@ -5,7 +5,7 @@ use Rattle.std.proofs.lemmas.Iterator.Consumers.{YieldsList-end}
 use Rattle.std.specs.Char.Escape.{encode_utf16}
 use Rattle.std.specs.List.{flat_map}
 use Rattle.std.specs.Str.{chars}
-use Rattle.icu_char16trie.proofs.PassedLaws.{passes_then}
+use Rattle.icu_char16trie.proofs.PassedLemmas.{passes_then}
 use Rattle.icu_char16trie.proofs.write.Char16TrieCursorWrite.write_str.Goals as goal
 
 map_same : (xs : List ℕ) → map (λ x. x) xs ≡ xs

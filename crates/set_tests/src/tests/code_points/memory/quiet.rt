@@ -1,7 +1,7 @@
 //! Calls that ask for no memory.
 use super::*;
 use crate::tests::{expect, expect_number};
-use icu_invlist::codepointinvlist::{RangeOf, deconstruct_range, is_valid_zv};
+use icu_invlist::codepointinvlist::{RangeOf, RangePoint, deconstruct_range, is_valid_zv};
 use icu_zerovec::{PotentialCodePoint, ZeroVec};
 use std::ops::RangeInclusive;
 
@@ -35,11 +35,27 @@ fn expect_changed(
     Ok(())
 }
 
+/// Sets of nothing, which change nothing.
+///
+/// Calls: `CodePointInversionListBuilder::add_set`, `CodePointInversionListBuilder::remove_set`,
+/// `CodePointInversionListBuilder::complement_set`.
+#[test]
+fn sets_of_nothing_quiet(rt: HostRuntime) -> Result<(), Fail> {
+    let Some((mut builder, nothing)) = both_for_call(&rt, &[])? else {
+        return Ok(());
+    };
+    let added = builder.add_set(&nothing);
+    let removed = builder.remove_set(&nothing);
+    let flipped = builder.complement_set(&nothing);
+    let answer = added.and(removed).and(flipped);
+    expect_changed(&rt, answer, builder, &LETTERS)
+}
+
 /// Intersection with ranges.
 ///
 /// Calls: `CodePointInversionListBuilder::retain_range`,
-/// `CodePointInversionListBuilder::retain_range32`,
-/// `CodePointInversionListBuilder::retain_char`, `CodePointInversionListBuilder::retain32`.
+/// `CodePointInversionListBuilder::retain_range32`, `CodePointInversionListBuilder::retain_char`,
+/// `CodePointInversionListBuilder::retain32`.
 #[test]
 fn retained_quiet(rt: HostRuntime) -> Result<(), Fail> {
     let Some(mut builder) = builder_for_call(&rt, &[0x41, 0x5B, 0x61, 0x7B])? else {
@@ -65,9 +81,9 @@ fn expect_membership(
 }
 
 /// Calls: `CodePointInversionList::all`, `CodePointInversionList::bmp`,
-/// `CodePointInversionList::contains`,
-/// `CodePointInversionList::contains32`, `CodePointInversionList::contains_range`,
-/// `CodePointInversionList::contains_set`, `CodePointInversionList::is_empty`.
+/// `CodePointInversionList::contains`, `CodePointInversionList::contains32`,
+/// `CodePointInversionList::contains_range`, `CodePointInversionList::contains_set`,
+/// `CodePointInversionList::is_empty`.
 #[test]
 fn membership_quiet(rt: HostRuntime) -> Result<(), Fail> {
     println!(rt; "call")?;
@@ -101,8 +117,7 @@ fn expect_counts(
 
 /// Calls: `CodePointInversionList::size`, `CodePointInversionList::get_range_count`,
 /// `CodePointInversionList::position`, `CodePointInversionList::position32`,
-/// `CodePointInversionList::span`,
-/// `CodePointInversionList::span_back`.
+/// `CodePointInversionList::span`, `CodePointInversionList::span_back`.
 #[test]
 fn counts_quiet(rt: HostRuntime) -> Result<(), Fail> {
     println!(rt; "call")?;
@@ -128,9 +143,8 @@ fn expect_firsts(
 }
 
 /// Calls: `CodePointInversionList::iter_ranges`,
-/// `CodePointInversionList::iter_ranges_complemented`,
-/// `CodePointInversionList::iter_chars`, `IterRanges::next`, `IterRangesComplemented::next`,
-/// `IterChars::next`.
+/// `CodePointInversionList::iter_ranges_complemented`, `CodePointInversionList::iter_chars`,
+/// `IterRanges::next`, `IterRangesComplemented::next`, `IterChars::next`.
 #[test]
 fn iterators_quiet(rt: HostRuntime) -> Result<(), Fail> {
     println!(rt; "call")?;
@@ -173,8 +187,7 @@ fn expect_named(
 /// A valid list is taken as it is.
 ///
 /// Calls: `codepointinvlist::deconstruct_range`, `RangeOf::deconstruct`,
-/// `codepointinvlist::is_valid_zv`,
-/// `CodePointInversionList::try_from_inversion_list`.
+/// `codepointinvlist::is_valid_zv`, `CodePointInversionList::try_from_inversion_list`.
 #[test]
 fn lists_and_ranges_quiet(rt: HostRuntime) -> Result<(), Fail> {
     let list = ZeroVec::<PotentialCodePoint>::parse_bytes(&[0x41, 0, 0, 0x5B, 0, 0])?;
@@ -183,6 +196,27 @@ fn lists_and_ranges_quiet(rt: HostRuntime) -> Result<(), Fail> {
     let valid = is_valid_zv(&list);
     let made = CodePointInversionList::try_from_inversion_list(rt.alloc(), list);
     expect_named(&rt, ends, valid, made)
+}
+
+/// The calls are over, and these are their answers.
+fn expect_points(
+    rt: &(impl Abort + Print),
+    numbers: (u32, u32),
+    used_up: (bool, bool),
+) -> Result<(), Fail> {
+    tell(rt, false)?;
+    expect(rt, numbers == (0x41, 7), "the numbers of points");
+    expect(rt, used_up == (false, false), "ranges not gone through");
+    Ok(())
+}
+
+/// Calls: `RangePoint::number`, `RangePoint::is_used_up`.
+#[test]
+fn points_quiet(rt: HostRuntime) -> Result<(), Fail> {
+    println!(rt; "call")?;
+    let numbers = ('A'.number(), 7_u32.number());
+    let used_up = (char::is_used_up(&('A'..='Z')), u32::is_used_up(&(5..=5)));
+    expect_points(&rt, numbers, used_up)
 }
 
 /// The calls are over, and these are their answers.

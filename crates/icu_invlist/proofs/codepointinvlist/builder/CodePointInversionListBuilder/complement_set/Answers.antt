@@ -1,4 +1,5 @@
 use Rattle.std.proofs.Common.{◌≡◌, ◌∙◌, ap, ℕ, Bool, true, false, refl, List}
+use Rattle.std.proofs.lemmas.Result.{on_ok_weaker}
 use Rattle.icu_invlist.specs.InversionList.{IsValid, holds, one_of, Acts}
 use Rattle.icu_invlist.proofs.EqualSets.{same_sets}
 use Rattle.icu_invlist.proofs.codepointinvlist.builder.CodePointInversionListBuilder.complement_set.Goals as goal
@@ -14,6 +15,6 @@ back old mid new named v w first second =
     same_sets new old v w (λ n h. second n h ∙ (ap (λ z. one_of z (named n)) (first n h) ∙ twice (holds old n) (named n)))
 
 pub returns-clause-twice : goal.returns-clause-twice
-returns-clause-twice c = λ ends v h.
-    back c.self.inside.ends.items c.in_ok-self-inside.field-0.items ends (holds c.args.set.now) v c.self.invariant (rw c.deref.ensures.value at c.in_ok-self-inside.ensures.set) h
-    ∙ c.self.view_is
+returns-clause-twice c = on_ok_weaker c.change.result
+    (λ acts ends v h. back c.self.inside.ends.items c.change.new.ends.items ends (holds c.args.set.now) v c.self.invariant acts h ∙ c.self.view_is)
+    c.change.ensures.ok

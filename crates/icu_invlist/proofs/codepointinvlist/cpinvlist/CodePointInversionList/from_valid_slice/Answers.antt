@@ -1,5 +1,5 @@
 use Rattle.std.proofs.Common.{◌≡◌, ◌∙◌, sym, ap, subst, Some}
-use Rattle.icu_zerovec.specs.Cells.{IsFault, values_of}
+use Rattle.icu_zerovec.specs.Cells.{values_of}
 use Rattle.icu_zerovec.specs.PackedBytes.{number_of}
 use Rattle.icu_invlist.specs.InversionList.{IsValid}
 use Rattle.icu_invlist.proofs.PackedEnds.{values_packed, no_fault}
@@ -7,12 +7,12 @@ use Rattle.icu_invlist.proofs.codepointinvlist.cpinvlist.CodePointInversionList.
 
 pub invariant_of-result : goal.invariant_of-result
 invariant_of-result c =
-    let e : c.in_ok-into_owned-in-Ok.field-0 ≡ c.args.ends.now =
-    c.in_ok-into_owned-in-Ok.ensures ∙ (c.in-Ok.ensures.ok.1 ∙ (ap (values_of (λ b. Some (number_of 3 b)) 3) (c.deref.ensures.value ∙ c.in_ok-bytes.ensures) ∙ values_packed _ c.requires)) in
+    let e : c.in-Ok.ends ≡ c.args.ends.now =
+    c.in-Ok.ensures.ok.1 ∙ (ap (values_of (λ b. Some (number_of 3 b)) 3) c.in_ok-bytes.ensures ∙ values_packed _ c.requires) in
     subst IsValid (sym e) c.requires
 
 pub unreachable-requires : goal.unreachable-requires
-unreachable-requires c = no_fault c.args.ends.now c.requires _ (rw (c.deref.ensures.value, c.in_ok-bytes.ensures) at c.in-Err.ensures.err)
+unreachable-requires c = no_fault c.args.ends.now c.requires _ (rw c.in_ok-bytes.ensures at c.in-Err.ensures.err)
 
 pub returns : goal.returns
-returns c = c.in_ok-into_owned-in-Ok.ensures ∙ (c.in-Ok.ensures.ok.1 ∙ (ap (values_of (λ b. Some (number_of 3 b)) 3) (c.deref.ensures.value ∙ c.in_ok-bytes.ensures) ∙ values_packed _ c.requires))
+returns c = c.in-Ok.ensures.ok.1 ∙ (ap (values_of (λ b. Some (number_of 3 b)) 3) c.in_ok-bytes.ensures ∙ values_packed _ c.requires)

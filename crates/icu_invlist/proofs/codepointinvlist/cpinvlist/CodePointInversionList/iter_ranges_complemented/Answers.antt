@@ -1,6 +1,7 @@
 use Rattle.std.proofs.Common.{◌≡◌, ◌∙◌, ◌<◌, sym, ap, ℕ, List, ◌∷◌}
 use Rattle.std.specs.Prelude.{not}
-use Rattle.icu_invlist.specs.InversionList.{AreApart, IsValid, complement_of, holds, in_ranges, limit, ranges_of, toggle_back}
+use Rattle.icu_zerovec.specs.CodePoints.{code_point_limit}
+use Rattle.icu_invlist.specs.InversionList.{AreApart, IsValid, complement_of, holds, in_ranges, ranges_of, toggle_back}
 use Rattle.icu_invlist.specs.Inside.StillGiven.{gaps_left}
 use Rattle.icu_invlist.proofs.MemberLemmas.{ranges_within}
 use Rattle.icu_invlist.proofs.HeldRanges.{ranges_hold, ranges_apart}
@@ -10,7 +11,7 @@ use Rattle.icu_invlist.proofs.codepointinvlist.cpinvlist.CodePointInversionList.
 gaps_apart : (ends : List ℕ) → IsValid ends → AreApart (ranges_of (complement_of ends))
 gaps_apart ends v = ranges_apart (complement_of ends) (complement_valid ends v)
 
-gaps_hold : (ends : List ℕ) (n : ℕ) → IsValid ends → n < limit → in_ranges (ranges_of (complement_of ends)) n ≡ not (holds ends n)
+gaps_hold : (ends : List ℕ) (n : ℕ) → IsValid ends → n < code_point_limit → in_ranges (ranges_of (complement_of ends)) n ≡ not (holds ends n)
 gaps_hold ends n v h = ranges_hold (complement_of ends) n (complement_valid ends v) ∙ complement-holds ends n v h
 
 from_zero : (c : goal.After-start_of_gap-start) → gaps_left c.start_of_gap-start.result c.next-then-contains32.new.self ≡ complement_of c.self.inside.ends

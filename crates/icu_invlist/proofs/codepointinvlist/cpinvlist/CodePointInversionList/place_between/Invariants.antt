@@ -1,4 +1,4 @@
-use Rattle.std.proofs.Common.{ℕ, suc, ◌+◌, ◌≤◌, length}
+use Rattle.std.proofs.Common.{suc, ◌+◌, ◌≤◌, length}
 use Rattle.icu_invlist.specs.Inside.Places.{below}
 use Rattle.icu_invlist.proofs.codepointinvlist.cpinvlist.CodePointInversionList.place_between.Given as goal
 

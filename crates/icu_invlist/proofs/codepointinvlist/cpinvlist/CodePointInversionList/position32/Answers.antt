@@ -1,6 +1,7 @@
 use Rattle.std.proofs.Common.{◌∙◌, ◌≡◌, ◌+◌, ◌%◌, ◌<◌, ◌≤◌, suc, length, get_or, arith, sym, refl, ap, Some, false}
 use Rattle.std.proofs.lemmas.Bool.{cond-true, cond-false, ne_eqb}
-use Rattle.icu_invlist.specs.InversionList.{holds, limit}
+use Rattle.icu_zerovec.specs.CodePoints.{code_point_limit}
+use Rattle.icu_invlist.specs.InversionList.{holds}
 use Rattle.icu_invlist.proofs.MemberLemmas.{walked_room, walked_in, walked_past, total-le}
 use Rattle.icu_invlist.proofs.Parity.{holds-below}
 use Rattle.icu_invlist.proofs.PlaceLemmas.{within-place, least_at}
@@ -28,7 +29,7 @@ loop-i-preserved c =
     let odd = c.if-place-eq0.false in
     let even = c.loop-i.invariant.walked.even in
     let n : c.loop-i.i + 1 < length c.args.self.now = (let w = c.place_of-place.ensures.within in omega arith) in
-    let f = below-front 0 (suc limit) (suc c.args.c) c.args.self.now (run_from_valid c.args.self.now v) (c.loop-i.i + 1) (omega arith) in
+    let f = below-front 0 (suc code_point_limit) (suc c.args.c) c.args.self.now (run_from_valid c.args.self.now v) (c.loop-i.i + 1) (omega arith) in
     record {
       walked = walked_past c.args.self.now c.loop-i.i c.args.c c.loop-i.before c.end_at-in-loop-i.result c.end_at.result v c.loop-i.invariant.walked n
           c.end_at-in-loop-i.ensures.end c.end_at.ensures.end (let e = c.end_at.ensures.end in omega arith);
@@ -38,12 +39,12 @@ loop-i-preserved c =
 pub overflow_sub-result : goal.overflow_sub-result
 overflow_sub-result c =
     let p = c.place_of-place.ensures.place in let w = c.loop-i.invariant.within in
-    let f = below-front 0 (suc limit) (suc c.args.c) c.args.self.now (run_from_valid c.args.self.now c.place_of-place.ensures.valid) c.loop-i.i (omega arith) in
+    let f = below-front 0 (suc code_point_limit) (suc c.args.c) c.args.self.now (run_from_valid c.args.self.now c.place_of-place.ensures.valid) c.loop-i.i (omega arith) in
     let e = c.end_at-2.ensures.end in omega arith
 
 pub overflow_add-result : goal.overflow_add-result
 overflow_add-result c =
-    let t = total-le 0 (suc limit) c.args.self.now (omega arith) (run_from_valid c.args.self.now c.place_of-place.ensures.valid) in
+    let t = total-le 0 (suc code_point_limit) c.args.self.now (omega arith) (run_from_valid c.args.self.now c.place_of-place.ensures.valid) in
     let s = c.loop-i.invariant.walked.small in let r = c.ranges.c.fits in omega arith
 
 pub returns : goal.returns
@@ -55,7 +56,7 @@ returns c =
     let h = within-place c.args.self.now c.place_of-place.result (suc c.args.c) v p odd in
     let l = least_at c.args.self.now c.place_of-place.result (suc c.args.c) v p h in
     let l' : suc c.args.c ≤ get_or c.args.self.now (c.loop-i.i + 1) 0 = rw last at l in
-    let f = below-front 0 (suc limit) (suc c.args.c) c.args.self.now (run_from_valid c.args.self.now v) c.loop-i.i (let w = c.loop-i.invariant.within in omega arith) in
+    let f = below-front 0 (suc code_point_limit) (suc c.args.c) c.args.self.now (run_from_valid c.args.self.now v) c.loop-i.i (let w = c.loop-i.invariant.within in omega arith) in
     let n = walked_in c.args.self.now c.loop-i.i c.args.c c.loop-i.before c.end_at-2.result (get_or c.args.self.now (c.loop-i.i + 1) 0) v c.loop-i.invariant.walked (omega arith)
     c.end_at-2.ensures.end refl (let e = c.end_at-2.ensures.end in omega arith) (omega arith) in
     ap Some (sym n.1) ∙ sym (cond-true _ _ _ n.0)

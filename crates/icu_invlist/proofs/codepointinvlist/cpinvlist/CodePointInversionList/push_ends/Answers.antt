@@ -1,4 +1,4 @@
-use Rattle.std.proofs.Common.{◌≡◌, ◌∙◌, ◌++◌, ◌∷◌, [], Some, slice_get, ap, sym, length, arith, List, ℕ}
+use Rattle.std.proofs.Common.{◌≡◌, ◌∙◌, Some, slice_get, ap, sym, length, arith, List, ℕ}
 use Rattle.icu_invlist.proofs.PackedEnds.{unpacked_more}
 use Rattle.icu_invlist.proofs.codepointinvlist.cpinvlist.CodePointInversionList.push_ends.Goals as goal
 

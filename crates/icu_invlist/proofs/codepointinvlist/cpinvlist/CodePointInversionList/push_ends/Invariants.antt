@@ -1,4 +1,4 @@
-use Rattle.std.proofs.Common.{◌≡◌, ◌++◌, ◌+◌, ◌-◌, ◌≤◌, take, drop, length}
+use Rattle.std.proofs.Common.{◌≡◌, ◌++◌, ◌+◌, ◌-◌, ◌≤◌, drop, length}
 use Rattle.std.specs.Vec.{vec_len, vec_capacity}
 use Rattle.icu_invlist.proofs.codepointinvlist.cpinvlist.CodePointInversionList.push_ends.Given as goal
 

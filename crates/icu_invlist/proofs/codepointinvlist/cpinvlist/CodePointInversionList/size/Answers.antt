@@ -1,6 +1,6 @@
 use Rattle.std.proofs.Common.{◌≡◌, ◌∙◌, ◌+◌, suc, [], arith, sym, drop}
 use Rattle.std.proofs.lemmas.List.{drop_all}
-use Rattle.icu_invlist.specs.InversionList.{limit}
+use Rattle.icu_zerovec.specs.CodePoints.{code_point_limit}
 use Rattle.icu_invlist.proofs.MemberLemmas.{total, total-more, total-le, size-valid}
 use Rattle.icu_invlist.proofs.ValidLists.{run_from_valid}
 use Rattle.icu_invlist.proofs.codepointinvlist.cpinvlist.CodePointInversionList.size.Goals as goal
@@ -10,7 +10,7 @@ overflow_add-size c =
     let v = c.count-count.ensures.valid in
     let n = c.count-count.ensures.count in
     let t = total-more c.args.self.now c.loop-i.i c.loop-i.invariant.even (let a = v.even in let b = c.loop-i.invariant.even in omega arith) in
-    let b = total-le 0 (suc limit) c.args.self.now (omega arith) (run_from_valid _ v) in
+    let b = total-le 0 (suc code_point_limit) c.args.self.now (omega arith) (run_from_valid _ v) in
     omega (arith, c.end_at.ensures.end, c.end_at-in-loop-i.ensures.end)
 
 pub returns-clause-size : goal.returns-clause-size

@@ -1,5 +1,6 @@
 use Rattle.std.proofs.Common.{ℕ, zero, suc, ◌≤◌, List, Bool, true, false, cond, arith}
-use Rattle.icu_invlist.specs.InversionList.{members_below, limit, holds}
+use Rattle.icu_zerovec.specs.CodePoints.{code_point_limit}
+use Rattle.icu_invlist.specs.InversionList.{members_below, holds}
 use Rattle.icu_text_sets.proofs.codepointinvliststringlist.set.CodePointInversionListAndStringList.size.Goals as goal
 
 one : (b : Bool) → cond b 1 0 ≤ 1
@@ -13,7 +14,7 @@ at_most ends (suc n) = let h = at_most ends n in let k = one (holds ends n) in o
 
 pub overflow_add-result : goal.overflow_add-result
 overflow_add-result c =
-    let points = at_most c.self.inside.cp_inv_list limit in
+    let points = at_most c.self.inside.cp_inv_list code_point_limit in
     let within = c.self.inside.str_list.ok.1 in
     let small = c.self.inside.str_list.small in
     omega (arith, c.size.ensures.size, c.len.ensures)

@@ -1,0 +1,38 @@
+-- What a cursor passes, one unit after the other.
+use Rattle.std.proofs.Common.{◌≡◌, ℕ, ℤ, ◌+◌, ◌-◌, ◌/◌, ◌%◌, ◌<◌, ◌≤◌, true, false, nat_lt, List, [], ◌∷◌, ◌++◌, refl, sym, subst, ◌∙◌, arith, append-nil, append_assoc}
+use Rattle.std.specs.Char.Escape.{encode_utf16}
+use Rattle.std.proofs.lemmas.Bool.Decides.{nat_tests}
+use Rattle.icu_char16trie.specs.UnitPlaces.{At, IsAfter}
+use Rattle.icu_char16trie.specs.Steps.{StepsTo, StepsAlong}
+use Rattle.icu_char16trie.specs.Passed.{Passes}
+use Rattle.icu_char16trie.specs.declared.place.Place.{Place}
+use Rattle.icu_char16trie.proofs.StepLemmas.{steps_one}
+
+along_then : (units : List ℕ) (from mid to : Place) (v w : List ℕ) → StepsAlong units from v mid → StepsAlong units mid w to → StepsAlong units from (v ++ w) to
+along_then units from mid to [] w h k = subst (λ z. StepsAlong units z w to) h k
+along_then units from mid to (u ∷ v) w h k = (h.0, h.1, along_then units h.0 mid to v w h.2 k)
+
+pub along_one : (units : List ℕ) (from to to' : Place) (w : List ℕ) → StepsAlong units from w to → StepsAlong units from w to' → to ≡ to'
+along_one units from to to' [] h k = h ∙ sym k
+along_one units from to to' (u ∷ w) h k =
+    let same : k.0 ≡ h.0 = steps_one units from u k.0 h.0 k.1 h.1 in
+    along_one units h.0 to to' w h.2 (subst (λ z. StepsAlong units z w to') same k.2)
+
+pub passes_none : (s : At) → Passes s [] s
+passes_none s = record { units = refl; exact = refl; after = λ m key h. rw append-nil h }
+
+pub passes_unit : (s t : At) (u : ℕ) → t.units ≡ s.units → StepsTo s.units s.place u t.place → ((m : List (List ℕ × ℤ)) (w : List ℕ) → IsAfter s m w → IsAfter t m (w ++ u ∷ [])) → Passes s (u ∷ []) t
+passes_unit s t u e x a = record { units = e; exact = (t.place, x, refl); after = a }
+
+pub passes_then : (s t r : At) (v w : List ℕ) → Passes s v t → Passes t w r → Passes s (v ++ w) r
+passes_then s t r v w a b = record {
+  units = b.units ∙ a.units;
+  exact = along_then s.units s.place t.place r.place v w a.exact (subst (λ z. StepsAlong z t.place w r.place) a.units b.exact);
+  after = λ m key h. let h' = b.after m (key ++ v) (a.after m key h) in rw append_assoc at h';
+}
+
+pub one_unit : (c : ℕ) → c < 0x1_0000 → encode_utf16 c ≡ c ∷ []
+one_unit c h = let t : nat_lt c 0x1_0000 ≡ true = grind (arith, nat_tests) in rw t refl
+
+pub two_units : (c : ℕ) → 0x1_0000 ≤ c → encode_utf16 c ≡ (0xD800 + (c - 0x1_0000) / 0x400) ∷ (0xDC00 + (c - 0x1_0000) % 0x400) ∷ []
+two_units c h = let t : nat_lt c 0x1_0000 ≡ false = grind (arith, nat_tests) in rw t refl

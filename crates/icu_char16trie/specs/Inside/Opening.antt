@@ -1,0 +1,83 @@
+-- What the steps of an iterator over the entries do.
+use Rattle.std.specs.Prelude.{◌≡◌, ℕ, ℤ, ◌+◌, ◌<◌, List, [], ◌∷◌, ◌++◌, Option, Some, None, length, reverse, string_bytes, MatchOption, IfSome, IsSome, String, ◌≤◌}
+use Rattle.std.specs.Global.{Global}
+use Rattle.icu_zerovec.specs.Slice.{slice_values}
+use Rattle.icu_char16trie.specs.UnitMap.{UnitMap, under}
+use Rattle.icu_char16trie.specs.LossyText.{key_text}
+use Rattle.icu_char16trie.specs.UnitPlaces.{value_by}
+use Rattle.icu_char16trie.specs.Pending.{held_units, Spells, PartsGive, IsPending, IsOver, TakesFirst, IsNodeValue, weight, work_left}
+use Rattle.icu_char16trie.specs.Inside.Cuts.{IsCut}
+use Rattle.icu_char16trie.specs.declared.pending.BranchPart.{BranchPart}
+use Rattle.icu_char16trie.specs.declared.pending.Pending.{Pending}
+use Rattle.icu_char16trie.specs.declared.spelling.Spelling.{Spelling}
+
+-- the bytes of a spelling's text
+abbrev pub bytes_of : Spelling → List ℕ
+bytes_of s = string_bytes s.text
+
+-- more units are spelled: whatever comes after them, both texts are the same, and the text only
+-- grows
+pub record SpellsOn (old : Spelling) (run : List ℕ) (new : Spelling) : Type 0 where
+  pub next : (more : List ℕ) → bytes_of old ++ key_text (held_units old.held ++ (run ++ more))
+      ≡ bytes_of new ++ key_text (held_units new.held ++ more)
+  pub tail : List ℕ
+  pub grows : bytes_of new ≡ bytes_of old ++ tail
+
+-- a part with n entries at p is put off, under the key so far
+pub record PutsOff (old : Pending) (p n : ℕ) (new : Pending) : Type 0 where
+  pub units : new.units ≡ old.units
+  pub spelling : new.spelling ≡ old.spelling
+  pub node : new.node ≡ old.node
+  pub part : BranchPart
+  pub parts : new.parts.items ≡ old.parts.items ++ part ∷ []
+  pub place : part.place ≡ p
+  pub count : part.count ≡ n
+  pub len : part.mark.len ≡ length (bytes_of old.spelling)
+  pub held : part.mark.held ≡ old.spelling.held
+
+-- what stands for some entries is opened, under the key so far: then they are pending, before those
+-- of the parts; it makes less work than a node at p
+pub record Opens (old : Pending) (p : ℕ) (Stood : UnitMap → Type 0) (new : Pending) : Type 0 where
+  pub units : new.units ≡ old.units
+  pub entries : (key : List ℕ) (first others : UnitMap) → Stood first
+      → Spells (bytes_of old.spelling) old.spelling.held key
+      → PartsGive (slice_values old.units) (bytes_of old.spelling) (reverse old.parts.items) others
+      → IsPending new (under key first ++ others)
+  pub cuts : IsCut old → IsCut new
+  pub work : work_left new < weight (length (slice_values old.units)) p + work_left old
+
+-- the item of a node, by its lead unit before p: its value, if it has one, and the text of the key
+abbrev pub IsItemBy : List ℕ → ℕ → ℕ → Spelling → Option (String Global × ℤ) → Type 0
+IsItemBy units p lead s None = value_by units p lead ≡ None
+IsItemBy units p lead s (Some x) =
+    (value_by units p lead ≡ Some x.1)
+    × ((key : List ℕ) → Spells (bytes_of s) s.held key → string_bytes x.0 ≡ key_text key)
+
+-- the node is opened: its item, if it has one, is the first of what was pending, and the others are
+-- pending still
+pub record OpensNode (old : Pending) (item : Option (String Global × ℤ)) (new : Pending)
+    : Type 0 where
+  pub units : new.units ≡ old.units
+  pub entries : (m : UnitMap) → IsPending old m
+      → MatchOption item (IsPending new m) (λ x. TakesFirst m (string_bytes x.0) x.1 new)
+  pub value : IfSome item (λ x. IsNodeValue (slice_values old.units) x.1)
+  pub cuts : IsCut old → IsCut new
+  pub work : IsSome old.node → work_left new < work_left old
+
+-- what was pending is pending still
+pub record Keeps (old new : Pending) : Type 0 where
+  pub units : new.units ≡ old.units
+  pub entries : (m : UnitMap) → IsPending old m → IsPending new m
+  pub cuts : IsCut new
+  pub work : work_left new ≤ work_left old
+
+-- the next item is found, or there is none and nothing is left
+pub record Finds (old : Pending) (item : Option (String Global × ℤ)) (new : Pending)
+    : Type 0 where
+  pub units : new.units ≡ old.units
+  pub entries : (m : UnitMap) → IsPending old m
+      → MatchOption item (m ≡ []) (λ x. TakesFirst m (string_bytes x.0) x.1 new)
+  pub over : MatchOption item (IsOver new) (λ x. Unit {0})
+  pub value : IfSome item (λ x. IsNodeValue (slice_values old.units) x.1)
+  pub cuts : IsCut new
+  pub work : IfSome item (λ x. work_left new < work_left old)

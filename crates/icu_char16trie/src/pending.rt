@@ -1,0 +1,249 @@
+//! What an iterator over the entries of a trie has still to go through.
+ghost use Rattle.icu_zerovec.specs.Slice.{slice_values};
+ghost use Rattle.std.specs.Prelude.{◌≡◌, ℕ, ◌^◌, ◌<◌, ◌≤◌, length, List, [], Some, None, Ok, IsSome, IfOk, OnOk, true, false};
+ghost use Rattle.icu_char16trie.specs.Grammar.{Matches};
+ghost use Rattle.icu_char16trie.specs.UnitMap.{UnitMap};
+ghost use Rattle.icu_char16trie.specs.UnitPlaces.{InRun, Stands};
+ghost use Rattle.icu_char16trie.specs.declared.place.Place.TheVariants.{Node};
+
+use crate::encoded::{delta_end, entry_child, lower_part, node_end, short_end, unit_at};
+use crate::spelling::{Mark, Spelling};
+use crate::step::value_by;
+use icu_zerovec::{MemoryError, ZeroSlice};
+use std::alloc::{AllocError, Global};
+
+/// A part of a branch that is put off.
+#[derive(Clone, Copy, Debug)]
+pub(crate) struct BranchPart {
+    /// Where it stands.
+    pub place: usize,
+    /// How many entries it has.
+    pub count: usize,
+    /// The key before the units of its entries.
+    pub mark: Mark,
+}
+
+/// What is still to be gone through: a node, and after it the parts that were put off.
+#[derive(Debug, Drop)]
+pub(crate) struct Pending<'a> {
+    pub units: ZeroSlice<'a, u16>,
+    /// The key of the node.
+    pub spelling: Spelling,
+    /// The place of the node, if there is one.
+    pub node: Option<usize>,
+    /// The parts, the next one last.
+    pub parts: Vec<BranchPart>,
+}
+
+impl<'a> Pending<'a> {
+    ghost use Rattle.icu_char16trie.specs.Pending.{ArmsHold, IsPending, IsOver, Gives, work_left};
+    ghost use Rattle.icu_char16trie.specs.Inside.Cuts.{IsCut};
+    ghost use Rattle.icu_char16trie.specs.Inside.Opening.{IsItemBy, PutsOff, Opens, OpensNode, Keeps, Finds};
+
+    /// All entries of these units.
+    pub(crate) fn new(alloc: Global, units: ZeroSlice<'a, u16>) -> Self
+        ensures entries { (m : UnitMap) → Stands (slice_values units.entry) (Node 0) m
+            → IsPending result m }
+        ensures parts { result.parts.items ≡ [] }
+        ensures units { slice_values result.units ≡ slice_values units.entry }
+    {
+        Pending {
+            units,
+            spelling: Spelling::new(alloc),
+            node: Some(0),
+            parts: Vec::new(alloc),
+        }
+    }
+
+    /// Puts a part off, under the key so far.
+    #[inline(always)]
+    fn put_off(&mut self, place: usize, count: usize) -> Result<(), AllocError>
+        ensures { OnOk result (PutsOff self.old place count self.new) }
+    {
+        let mark = self.spelling.mark();
+        self.parts.push(BranchPart { place, count, mark })?;
+        Ok(())
+    }
+
+    /// Goes to the first node of a part of at most five entries, and puts the others off.
+    #[inline(always)]
+    fn enter_row(&mut self, place: usize, count: usize) -> Result<(), AllocError>
+        requires node { self.old.node ≡ None }
+        requires short { count ≤ 5 }
+        ensures { OnOk result (Opens self.old place
+            (ArmsHold (slice_values self.old.units) place count) self.new) }
+    {
+        let Some(unit) = unit_at(self.units, place) else {
+            return Ok(());
+        };
+        if count <= 1 {
+            self.spelling.push(unit)?;
+            self.node = Some(place + 1);
+            return Ok(());
+        }
+        let Some(value) = unit_at(self.units, place + 1) else {
+            return Ok(());
+        };
+        let Some(child) = entry_child(self.units, place + 2, value) else {
+            return Ok(());
+        };
+        self.put_off(short_end(place + 2, value & 0x7fff), count - 1)?;
+        self.spelling.push(unit)?;
+        self.node = Some(child);
+        Ok(())
+    }
+
+    /// Goes to the first node of a part, and puts the others off.
+    fn enter_part(&mut self, place: usize, count: usize) -> Result<(), AllocError>
+        requires { self.old.node ≡ None }
+        ensures { OnOk result (Opens self.old place
+            (ArmsHold (slice_values self.old.units) place count) self.new) }
+    {
+        if count <= 5 {
+            self.enter_row(place, count)?;
+            return Ok(());
+        }
+        let Some(_split) = unit_at(self.units, place) else {
+            return Ok(());
+        };
+        let Some(delta) = unit_at(self.units, place + 1) else {
+            return Ok(());
+        };
+        let Some(low) = lower_part(self.units, place + 2, delta) else {
+            return Ok(());
+        };
+        let half = count / 2;
+        self.put_off(delta_end(place + 2, delta), count - half)?;
+        self.enter_part(low, half)?;
+        Ok(())
+    }
+
+    /// Goes to the node after a linear match.
+    #[inline(always)]
+    fn pass_run(&mut self, place: usize, count: usize) -> Result<(), AllocError>
+        requires node { self.old.node ≡ None }
+        requires place { place < 2 ^ 63 }
+        requires short { count < 0x20 }
+        requires some { 0 < count }
+        ensures { let all = slice_values self.old.units in
+            OnOk result (Opens self.old place (InRun all place count) self.new) }
+    {
+        if self.units.len() < place + count {
+            return Ok(());
+        }
+        self.spelling.push_run(self.units, place, count)?;
+        self.node = Some(place + count);
+        Ok(())
+    }
+
+    /// Goes to the first node after a match node, by its low six bits; `place` is after its lead
+    /// and its value.
+    fn open_match(&mut self, place: usize, low: u16) -> Result<(), AllocError>
+        requires node { self.old.node ≡ None }
+        requires place { place < 2 ^ 63 }
+        requires low { low < 0x40 }
+        ensures { let all = slice_values self.old.units in
+            OnOk result (Opens self.old place (Matches all place low) self.new) }
+    {
+        if low >= 0x30 {
+            self.pass_run(place, low as usize - 0x2f)?;
+            return Ok(());
+        }
+        if low > 0 {
+            self.enter_part(place, low as usize + 1)?;
+            return Ok(());
+        }
+        let Some(length) = unit_at(self.units, place) else {
+            return Ok(());
+        };
+        self.enter_part(place + 1, length as usize + 1)?;
+        Ok(())
+    }
+
+    /// The item at a lead unit before `place`, if there is a value.
+    #[inline(always)]
+    fn item_by(
+        &self,
+        alloc: Global,
+        place: usize,
+        lead: u16,
+    ) -> Result<Option<(String, i32)>, AllocError>
+        ensures { IfOk result
+            (IsItemBy (slice_values self.now.units) place lead self.now.spelling) }
+    {
+        let Some(value) = value_by(self.units, place, lead) else {
+            return Ok(None);
+        };
+        let text = self.spelling.key_text(alloc)?;
+        Ok(Some((text, value)))
+    }
+
+    /// Opens the node: gives its item, if it has a value, and goes to the first node after it.
+    fn open_node(&mut self, alloc: Global) -> Result<Option<(String, i32)>, AllocError>
+        ensures { IfOk result (λ item. OpensNode self.old item self.new) }
+    {
+        let Some(place) = self.node.take() else {
+            return Ok(None);
+        };
+        let Some(lead) = unit_at(self.units, place) else {
+            return Ok(None);
+        };
+        let item = self.item_by(alloc, place + 1, lead)?;
+        if lead >= 0x8000 {
+            return Ok(item);
+        }
+        self.open_match(node_end(place + 1, lead), lead % 64)?;
+        Ok(item)
+    }
+
+    /// Goes to the next node, if there is one.
+    fn go_to_node(&mut self) -> Result<bool, AllocError>
+        requires { IsCut self.old }
+        ensures done { IsOver self.old → result ≡ Ok false }
+        ensures keeps { OnOk result (Keeps self.old self.new) }
+        ensures found { result ≡ Ok true → IsSome self.new.node }
+        ensures over { result ≡ Ok false → IsOver self.new }
+    {
+        while self.node.is_none() {
+            let Some(part) = self.parts.pop() else {
+                return Ok(false);
+            };
+            self.spelling.cut_to(part.mark);
+            self.enter_part(part.place, part.count)?;
+        }
+        Ok(true)
+    }
+
+    /// The next item.
+    fn find_item(&mut self, alloc: Global) -> Result<Option<(String, i32)>, AllocError>
+        requires { IsCut self.old }
+        ensures done { IsOver self.old → result ≡ Ok None }
+        ensures finds { IfOk result (λ item. Finds self.old item self.new) }
+    {
+        while self.go_to_node()? {
+            if let Some(item) = self.open_node(alloc)? {
+                return Ok(Some(item));
+            }
+        }
+        Ok(None)
+    }
+
+    /// The next item, or want of memory, after which nothing is left.
+    pub(crate) fn next_item(&mut self, alloc: Global) -> Option<Result<(String, i32), MemoryError>>
+        requires { IsCut self.old }
+        ensures cuts { IsCut self.new }
+        ensures gives { Gives self.old result self.new }
+        ensures work { IsSome result → work_left self.new < work_left self.old }
+    {
+        let units = self.units;
+        let Ok(found) = self.find_item(alloc) else {
+            *self = Pending {
+                node: None,
+                ..Pending::new(alloc, units)
+            };
+            return Some(Err(MemoryError));
+        };
+        let item = found?;
+        Some(Ok(item))
+    }
+}

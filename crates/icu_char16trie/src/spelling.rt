@@ -1,0 +1,179 @@
+//! The key of an entry as text, while it grows.
+ghost use Rattle.icu_zerovec.specs.Slice.{slice_values};
+ghost use Rattle.std.specs.Prelude.{◌≡◌, ℕ, ◌+◌, ◌^◌, ◌<◌, ◌≤◌, ◌⊎◌, List, [], ◌∷◌, take, drop, length, string_bytes, unwrap_or, MatchOption, IfOk, OnOk, Some, None};
+ghost use Rattle.std.specs.Char.Utf16.{lone_unit_char, surrogate_pair_char};
+ghost use Rattle.std.specs.Str.{IsCharBoundary};
+ghost use Rattle.icu_char16trie.specs.LossyText.{key_text};
+
+use icu_zerovec::ZeroSlice;
+use std::alloc::{AllocError, Global};
+
+/// The first unit of a pair of surrogates.
+#[derive(Clone, Copy, Debug)]
+pub(crate) struct LeadSurrogate {
+    pub unit: u16,
+    ghost in_range: { (0xD800 ≤ unit) × (unit < 0xDC00) },
+}
+
+/// Where a spelling is to be cut back to.
+#[derive(Clone, Copy, Debug)]
+pub(crate) struct Mark {
+    /// How many bytes of the text stay.
+    pub len: usize,
+    /// The unit that was held there.
+    pub held: Option<LeadSurrogate>,
+}
+
+/// The text of a key whose units come one after another. A lead surrogate is held until the next
+/// unit says whether they are a pair.
+#[derive(Debug, Drop)]
+pub(crate) struct Spelling {
+    pub text: String,
+    pub held: Option<LeadSurrogate>,
+}
+
+/// The unit, if it is the first of a pair.
+#[inline(always)]
+fn lead_surrogate(unit: u16) -> Option<LeadSurrogate>
+    ensures { MatchOption result (unit < 0xD800 ⊎ 0xDC00 ≤ unit) (λ lead. lead.unit ≡ unit) }
+{
+    if !(0xD800..0xDC00).contains(&unit) {
+        return None;
+    }
+    Some(LeadSurrogate { unit })
+}
+
+/// The character of a unit that is in no pair.
+#[inline(always)]
+fn lone_char(unit: u16) -> char
+    ensures { result ≡ unwrap_or (lone_unit_char unit) 0xFFFD }
+{
+    char::from_u32(u32::from(unit)).unwrap_or(char::REPLACEMENT_CHARACTER)
+}
+
+/// The character of a lead surrogate and the unit after it, if they are a pair.
+#[inline(always)]
+fn pair_char(lead: LeadSurrogate, unit: u16) -> Option<char>
+    ensures { MatchOption result (unit < 0xDC00 ⊎ 0xE000 ≤ unit)
+        (λ c. (0xDC00 ≤ unit) × (unit < 0xE000) × (c ≡ surrogate_pair_char lead.unit unit)) }
+{
+    if !(0xDC00..0xE000).contains(&unit) {
+        return None;
+    }
+    char::from_u32(0x1_0000 + (u32::from(lead.unit - 0xD800) << 10) + u32::from(unit - 0xDC00))
+}
+
+impl Spelling {
+    ghost use Rattle.icu_char16trie.specs.Pending.{Spells};
+    ghost use Rattle.icu_char16trie.specs.Inside.Opening.{SpellsOn};
+
+    /// The spelling of the empty key.
+    pub(crate) fn new(alloc: Global) -> Self
+        ensures text { string_bytes result.text ≡ [] }
+        ensures held { result.held ≡ None }
+    {
+        Spelling {
+            text: String::new(alloc),
+            held: None,
+        }
+    }
+
+    /// One more unit, where none is held.
+    #[inline(always)]
+    fn push_next(&mut self, unit: u16) -> Result<(), AllocError>
+        requires { self.old.held ≡ None }
+        ensures { OnOk result (SpellsOn self.old (unit ∷ []) self.new) }
+    {
+        if let Some(lead) = lead_surrogate(unit) {
+            self.held = Some(lead);
+            return Ok(());
+        }
+        self.text.push(lone_char(unit))?;
+        Ok(())
+    }
+
+    /// One more unit after a lead surrogate that is held.
+    #[inline(never)]
+    fn push_after(&mut self, lead: LeadSurrogate, unit: u16) -> Result<(), AllocError>
+        requires { self.old.held ≡ Some lead }
+        ensures { OnOk result (SpellsOn self.old (unit ∷ []) self.new) }
+    {
+        self.held = None;
+        if let Some(c) = pair_char(lead, unit) {
+            self.text.push(c)?;
+            return Ok(());
+        }
+        self.text.push(char::REPLACEMENT_CHARACTER)?;
+        self.push_next(unit)?;
+        Ok(())
+    }
+
+    /// One more unit.
+    #[inline(always)]
+    pub(crate) fn push(&mut self, unit: u16) -> Result<(), AllocError>
+        ensures { OnOk result (SpellsOn self.old (unit ∷ []) self.new) }
+    {
+        let Some(lead) = self.held else {
+            self.push_next(unit)?;
+            return Ok(());
+        };
+        self.push_after(lead, unit)?;
+        Ok(())
+    }
+
+    /// So many units more.
+    pub(crate) fn push_run(
+        &mut self,
+        units: ZeroSlice<'_, u16>,
+        place: usize,
+        count: usize,
+    ) -> Result<(), AllocError>
+        requires far { place < 2 ^ 63 }
+        requires short { count < 0x20 }
+        requires within { place + count ≤ length (slice_values units) }
+        ensures { OnOk result
+            (SpellsOn self.old (take count (drop place (slice_values units.entry))) self.new) }
+    {
+        for i in 0..count {
+            if let Some(unit) = units.get(place + i) {
+                self.push(unit)?;
+            }
+        }
+        Ok(())
+    }
+
+    /// Where the spelling is now.
+    pub(crate) fn mark(&self) -> Mark
+        ensures len { result.len ≡ length (string_bytes self.now.text) }
+        ensures held { result.held ≡ self.now.held }
+    {
+        Mark {
+            len: self.text.len(),
+            held: self.held,
+        }
+    }
+
+    /// The spelling is what it was at the mark.
+    pub(crate) fn cut_to(&mut self, mark: Mark)
+        requires { IsCharBoundary (string_bytes self.old.text) mark.len }
+        ensures text { string_bytes self.new.text ≡ take mark.len (string_bytes self.old.text) }
+        ensures held { self.new.held ≡ mark.held }
+    {
+        self.text.truncate(mark.len);
+        self.held = mark.held;
+    }
+
+    /// The text of the key: a unit that is held is a lone surrogate.
+    pub(crate) fn key_text(&self, alloc: Global) -> Result<String, AllocError>
+        ensures { IfOk result (λ text. (key : List ℕ)
+            → Spells (string_bytes self.now.text) self.now.held key
+            → string_bytes text ≡ key_text key) }
+    {
+        let mut text = String::from_str(alloc, &self.text)?;
+        let Some(_lead) = self.held else {
+            return Ok(text);
+        };
+        text.push(char::REPLACEMENT_CHARACTER)?;
+        Ok(text)
+    }
+}

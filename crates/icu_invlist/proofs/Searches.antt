@@ -1,0 +1,39 @@
+-- How a search among ends narrows the place of a number.
+use Rattle.std.proofs.Common.{ℕ, ◌+◌, ◌-◌, ◌*◌, ◌<◌, ◌≤◌, List, length, get_or, arith, refl, Bool, true, false, inl, inr}
+use Rattle.std.specs.Prelude.{IsTrue, ◌↔◌}
+use mir.Val.{bool_byte}
+use Rattle.std.proofs.lemmas.Bool.{cases_lt, false≢true}
+use Rattle.icu_invlist.specs.Inside.Places.{AreStepsBelow, Run, below}
+use Rattle.icu_invlist.proofs.RunLemmas.{below-front, below-more}
+
+-- an end stands below m exactly before the place of m
+pub place_of_end : (hi : ℕ) (xs : List ℕ) (k m : ℕ) → Run 0 hi xs → k < length xs → (get_or xs k 0 < m) ↔ (k < below xs m)
+place_of_end hi xs k m r h = (λ l. below-more 0 hi m xs r k l h, λ l. below-front 0 hi m xs r k l)
+
+abbrev Tells : Bool → ℕ → ℕ → Type 0
+Tells true k p = k < p
+Tells false k p = p ≤ k
+
+told : (x : Bool) (k p : ℕ) → (IsTrue x ↔ (k < p)) → Tells x k p
+told true k p h = h.0 refl
+told false k p h = elim (cases_lt k p) [ inl l ↦ absurd (false≢true (h.1 l)) | inr l ↦ l ]
+
+counted : (p low step : ℕ) (x y z : Bool) → 0 < step → low ≤ p → Tells x (low + step - 1) p → Tells y (low + 2 * step - 1) p → Tells z (low + 3 * step - 1) p
+    → AreStepsBelow p low step (bool_byte x + bool_byte y + bool_byte z)
+counted p low step true true true s f a b c = record { within = omega arith; reached = omega arith; past = inl (omega arith) }
+counted p low step true true false s f a b c = record { within = omega arith; reached = omega arith; past = inr (omega arith) }
+counted p low step true false false s f a b c = record { within = omega arith; reached = omega arith; past = inr (omega arith) }
+counted p low step false false false s f a b c = record { within = omega arith; reached = omega arith; past = inr (omega arith) }
+counted p low step true false true s f a b c = absurd (omega arith)
+counted p low step false true true s f a b c = absurd (omega arith)
+counted p low step false true false s f a b c = absurd (omega arith)
+counted p low step false false true s f a b c = absurd (omega arith)
+
+pub steps_counted : (p low step : ℕ) (x y z : Bool) → 0 < step → low ≤ p → (IsTrue x ↔ (low + step - 1 < p)) → (IsTrue y ↔ (low + 2 * step - 1 < p)) → (IsTrue z ↔ (low + 3 * step - 1 < p))
+    → AreStepsBelow p low step (bool_byte x + bool_byte y + bool_byte z)
+steps_counted p low step x y z s f a b c = counted p low step x y z s f (told x _ p a) (told y _ p b) (told z _ p c)
+
+-- one end that was looked at
+pub one_counted : (p low size : ℕ) (x : Bool) → 0 < size → low ≤ p → p ≤ low + size → (IsTrue x ↔ (low < p)) → (low + bool_byte x ≤ p) × (p ≤ low + bool_byte x + (size - 1)) × (low + bool_byte x + (size - 1) ≤ low + size)
+one_counted p low size true s f t h = let k = h.0 refl in (omega arith, omega arith, omega arith)
+one_counted p low size false s f t h = let k : p ≤ low = told false low p h in (omega arith, omega arith, omega arith)
