@@ -1,7 +1,7 @@
 -- More units and their maps: the longer forms of each number, of values, lengths, jumps and deltas.
 use Rattle.std.proofs.Common.{◌≡◌, ℕ, ◌+◌, pos, negsuc, List, [], ◌∷◌, Some, refl, lit<, lit≤}
 use Rattle.icu_char16trie.specs.Numbers.{short_number, short_end, node_number, node_end, entry_child, delta_number, delta_end, lower_part}
-use Rattle.icu_char16trie.specs.Grammar.{Arms, Part, last, entry, split, Holds, final, plain, valued, Matches, run, branch, Children, none, more, IsTrieOf}
+use Rattle.icu_char16trie.specs.Grammar.{Part, last, entry, split, Holds, final, plain, valued, Matches, run, branch, none, more, IsTrieOf}
 use Rattle.icu_char16trie.specs.Grammar as grammar
 
 abbrev two_units : List ℕ

@@ -129,18 +129,6 @@ without_work old new p w n = rw (w.units, w.parts, w.node, n) (omega arith)
 not_both : ◌≡◌ {A = Bool} false true → ⊥
 not_both h = cc
 
-pub none_opens : (old new : Pending) → IsWithout old new → old.node ≡ None → OpensNode old None new
-none_opens old new w n = record {
-  units = w.units;
-  entries = λ m p.
-      let no_first : p.first ≡ [] = rw n at p.node in
-      let is : m ≡ p.others = p.is ∙ ap (λ z. z ++ p.others) no_first in
-      rw is (without_entries old new p.key p.others w p.spelled p.parts);
-  value = tt;
-  cuts = without_cuts old new w;
-  work = λ s. absurd (not_both (rw n at s));
-}
-
 pub absent_opens : (old new : Pending) (p : ℕ) → IsWithout old new → old.node ≡ Some p → slice_get (slice_values old.units) p ≡ None → OpensNode old None new
 absent_opens old new p w n g = record {
   units = w.units;
@@ -190,22 +178,6 @@ match_opens old mid new p lead q item w n g small i at behind o = record {
 
 -- ---- the next node
 
-pub keeps_same : (old new : Pending) → new.units ≡ old.units → new.spelling ≡ old.spelling → new.node ≡ old.node → new.parts.items ≡ old.parts.items → IsCut old → Keeps old new
-keeps_same old new u s n p c = record {
-  units = u;
-  entries = λ m h. record {
-    key = h.key;
-    first = h.first;
-    others = h.others;
-    spelled = rw s h.spelled;
-    node = rw (u, n) h.node;
-    parts = rw (u, s, p) h.parts;
-    is = h.is;
-  };
-  cuts = rw (s, p) c;
-  work = rw (u, n, p) (omega arith);
-}
-
 pub keeps_then : (a b c : Pending) → Keeps a b → Keeps b c → Keeps a c
 keeps_then a b c h k = record { units = k.units ∙ h.units; entries = λ m p. k.entries m (h.entries m p); cuts = k.cuts; work = omega (arith, h.work, k.work) }
 
@@ -241,10 +213,6 @@ part_keeps old mid new part t o c = record {
   cuts = o.cuts (rw t.text (part_cut old mid.parts.items part t.parts c).1);
   work = omega (arith, part_work old mid new part t o);
 }
-
--- a node that has no item
-pub opened_keeps : (old new : Pending) → OpensNode old None new → IsSome old.node → IsCut old → Keeps old new
-opened_keeps old new o s c = record { units = o.units; entries = o.entries; cuts = o.cuts c; work = omega (arith, o.work s) }
 
 pub is_nothing : (o : Option ℕ) → is_some o ≡ false → o ≡ None
 is_nothing None h = refl

@@ -1,7 +1,7 @@
 -- Units are a trie of one map, whose keys ascend.
 use Rattle.std.proofs.Common.{◌≡◌, ℕ, ℤ, ◌+◌, ◌-◌, ◌≤◌, List, [], ◌∷◌, ◌++◌, Option, Some, slice_get, take, drop, refl, sym, ap, ◌∙◌, arith, inl, inr}
 use Rattle.std.specs.Int.{cast_signed, w32}
-use Rattle.icu_char16trie.specs.Grammar.{Part, last, entry, split, UnitsFrom, IsAscending, branch_len, branch_start, Holds, final, plain, valued, Matches, run, branch, Children, none, more, IsTrieOf}
+use Rattle.icu_char16trie.specs.Grammar.{Part, last, entry, split, UnitsFrom, IsAscending, Holds, final, plain, valued, Matches, run, branch, Children, none, more, IsTrieOf}
 use Rattle.icu_char16trie.specs.Grammar as grammar
 use Rattle.icu_char16trie.specs.UnitMap.{under, KeyBelow, KeyBelowAll, IsAscendingKeys}
 use Rattle.icu_char16trie.proofs.PartLemmas.{last_is, entry_found, split_found}

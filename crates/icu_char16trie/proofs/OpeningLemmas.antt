@@ -6,7 +6,7 @@ use Rattle.std.proofs.lemmas.List.{take_all, take-append-le, reverse-append}
 use Rattle.std.proofs.lemmas.Option.{slice_get_within}
 use Rattle.std.proofs.lemmas.Str.{IsUtf8-take, IsUtf8-string_bytes, IsCharBoundary-end, IsCharBoundary-from_take}
 use Rattle.std.specs.Str.{IsUtf8}
-use Rattle.icu_char16trie.specs.Grammar.{Part, last, entry, split, Matches}
+use Rattle.icu_char16trie.specs.Grammar.{Matches}
 use Rattle.icu_char16trie.specs.Numbers.{entry_child, short_end, lower_part, delta_end}
 use Rattle.icu_char16trie.specs.UnitMap.{under}
 use Rattle.icu_char16trie.specs.UnitPlaces.{Stands}
@@ -18,7 +18,7 @@ use Rattle.icu_char16trie.specs.declared.pending.Pending.{Pending}
 use Rattle.icu_char16trie.specs.declared.place.Place.TheVariants.{Node}
 use Rattle.icu_char16trie.proofs.EntryLemmas.{under_append, under_under, children_split, children_cons, children_nil}
 use Rattle.icu_char16trie.proofs.NodeLemmas.{matches_branch}
-use Rattle.icu_char16trie.proofs.PartLemmas.{last_is, entry_found, split_found}
+use Rattle.icu_char16trie.proofs.PartLemmas.{last_is, entry_found, split_found, part_begins, part_goes_on}
 use Rattle.icu_char16trie.proofs.SpellingLemmas.{spells_on}
 use Rattle.icu_char16trie.proofs.WorkLemmas.{weight_some, weight_one, weight_two, weight_le, work_push}
 
@@ -101,22 +101,12 @@ later_opens old new p q Stood Stood' o h is = record {
 no_none : {x : ℕ} → ◌≡◌ {A = Option ℕ} (Some x) None → ⊥
 no_none h = cc
 
-none_here : (units : List ℕ) {p n : ℕ} {arms : List (ℕ × ℕ)} → Part units p n arms → slice_get units p ≡ None → ⊥
-none_here units (last p n u arms e g a) h = no_none (sym g ∙ h)
-none_here units (entry p n u v child rest arms more few g g' c r a) h = no_none (sym g ∙ h)
-none_here units (split p n s d low lower upper arms more g g' c l r b f a) h = no_none (sym g ∙ h)
-
-none_next : (units : List ℕ) {p n : ℕ} {arms : List (ℕ × ℕ)} → Part units p n arms → 1 < n → slice_get units (p + 1) ≡ None → ⊥
-none_next units (last p n u arms e g a) many h = omega arith
-none_next units (entry p n u v child rest arms more few g g' c r a) many h = no_none (sym g' ∙ h)
-none_next units (split p n s d low lower upper arms more g g' c l r b f a) many h = no_none (sym g' ∙ h)
-
 -- a part whose units are cut off stands for nothing
 pub arms_here : (units : List ℕ) (p n : ℕ) → slice_get units p ≡ None → (m : List (List ℕ × ℤ)) → ArmsHold units p n m → ⊥
-arms_here units p n g m (arms, part, c) = none_here units part g
+arms_here units p n g m (arms, part, c) = part_begins units part g
 
 pub arms_next : (units : List ℕ) (p n : ℕ) → 1 < n → slice_get units (p + 1) ≡ None → (m : List (List ℕ × ℤ)) → ArmsHold units p n m → ⊥
-arms_next units p n many g m (arms, part, c) = none_next units part many g
+arms_next units p n many g m (arms, part, c) = part_goes_on units part many g
 
 pub arms_child : (units : List ℕ) (p n u v : ℕ) → 1 < n → n ≤ 5 → slice_get units p ≡ Some u → slice_get units (p + 1) ≡ Some v → entry_child units (p + 2) v ≡ None
     → (m : List (List ℕ × ℤ)) → ArmsHold units p n m → ⊥

@@ -1,10 +1,11 @@
 -- What the units at the front of a part say of its arms.
-use Rattle.std.proofs.Common.{◌≡◌, ℕ, ◌+◌, ◌-◌, ◌/◌, ◌%◌, ◌<◌, ◌≤◌, List, [], ◌∷◌, ◌++◌, Some, None, Bool, true, false, cond, nat_eq, slice_get, refl, sym, ap, ◌∙◌, arith}
+use Rattle.std.proofs.Common.{◌≡◌, ℕ, ◌+◌, ◌-◌, ◌/◌, ◌%◌, ◌<◌, ◌≤◌, List, [], ◌∷◌, ◌++◌, Option, Some, None, Bool, true, false, cond, nat_eq, slice_get, refl, sym, ap, ◌∙◌, arith}
 use Rattle.std.specs.Bool.{then_some}
-use Rattle.std.proofs.lemmas.Bool.{ne_eqb}
+use Rattle.std.proofs.lemmas.Bool.{ne_eqb, eq-eqb}
 use Rattle.icu_char16trie.specs.Grammar.{Part, last, entry, split, UnitsBelow, UnitsFrom}
 use Rattle.icu_char16trie.specs.Numbers.{entry_child, short_end, lower_part, delta_end}
 use Rattle.icu_char16trie.specs.UnitMap.{arm_of}
+use Rattle.icu_char16trie.specs.Steps.{InRow, gone, last as last_here, cut, here, on, InPart, row, no_split, no_delta, cut_delta, lower as below_split, upper as above_split}
 
 then_some_is : (b : Bool) (x : ℕ) → cond b (Some x) None ≡ then_some b x
 then_some_is true x = refl
@@ -93,3 +94,63 @@ split_found units (split p n s' d' low lower upper arms more g g' c l r b f a) _
       in_lower = λ w lt. ap (λ z. arm_of z w) a ∙ arm_append lower upper w (arm_from upper s' w f (rw ss lt));
       in_upper = λ w le. ap (λ z. arm_of z w) a ∙ arm_below lower upper s' w b (rw ss le);
     }
+
+no_none : {x : ℕ} → ◌≡◌ {A = Option ℕ} (Some x) None → ⊥
+no_none h = cc
+
+-- the first unit of a part is there
+pub part_begins : (units : List ℕ) {p n : ℕ} {arms : List (ℕ × ℕ)} → Part units p n arms → slice_get units p ≡ None → ⊥
+part_begins units (last p n u arms e g a) h = no_none (sym g ∙ h)
+part_begins units (entry p n u v child rest arms more few g g' c r a) h = no_none (sym g ∙ h)
+part_begins units (split p n s d low lower upper arms more g g' c l r b f a) h = no_none (sym g ∙ h)
+
+-- where a part has more than one entry its second unit is there
+pub part_goes_on : (units : List ℕ) {p n : ℕ} {arms : List (ℕ × ℕ)} → Part units p n arms → 1 < n → slice_get units (p + 1) ≡ None → ⊥
+part_goes_on units (last p n u arms e g a) many h = omega arith
+part_goes_on units (entry p n u v child rest arms more few g g' c r a) many h = no_none (sym g' ∙ h)
+part_goes_on units (split p n s d low lower upper arms more g g' c l r b f a) many h = no_none (sym g' ∙ h)
+
+row_cut_by : (units : List ℕ) (u p n : ℕ) (first : Option ℕ) → slice_get units p ≡ first → 1 < n → slice_get units (p + 1) ≡ None → InRow units u p n None
+row_cut_by units u p n None g more g' = gone p n None g refl
+row_cut_by units u p n (Some x) g more g' = cut p n x None more g g' refl
+
+-- a row whose second unit is not there leads nowhere
+pub row_cut : (units : List ℕ) (u p n : ℕ) → 1 < n → slice_get units (p + 1) ≡ None → InRow units u p n None
+row_cut units u p n = row_cut_by units u p n (slice_get units p) refl
+
+part_cut_by : (units : List ℕ) (u p n : ℕ) (first : Option ℕ) → slice_get units p ≡ first → 5 < n → slice_get units (p + 1) ≡ None → InPart units u p n None
+part_cut_by units u p n None g more g' = no_split p n None more g refl
+part_cut_by units u p n (Some s) g more g' = no_delta p n s None more g g' refl
+
+-- and so does a part of more than five entries
+pub part_cut : (units : List ℕ) (u p n : ℕ) → 5 < n → slice_get units (p + 1) ≡ None → InPart units u p n None
+part_cut units u p n = part_cut_by units u p n (slice_get units p) refl
+
+-- what a row leads to is what its arms say
+row_finds : (units : List ℕ) {u p n : ℕ} {r : Option ℕ} → InRow units u p n r → {arms : List (ℕ × ℕ)} → Part units p n arms → n ≤ 5 → r ≡ arm_of arms u
+row_finds units (gone p n r g is) part few = absurd (part_begins units part g)
+row_finds units (last_here p n x r one g is) part few = is ∙ last_found units part one x g _
+row_finds units (cut p n x r more g g' is) part few = absurd (part_goes_on units part more g')
+row_finds units {u} (here p n v r more g g' is) part few =
+    let e = entry_found units part more few u v g g' in
+    let same : nat_eq u u ≡ true = eq-eqb u u refl in
+    is ∙ e.at ∙ sym (e.found u ∙ rw same refl)
+row_finds units {u} (on p n x v r more g ne g' rest) part few =
+    let e = entry_found units part more few x v g g' in
+    let other : nat_eq x u ≡ false = ne_eqb x u ne in
+    row_finds units rest e.others (omega (arith, few)) ∙ sym (e.found u ∙ rw other refl)
+
+-- and so is what a part leads to
+pub part_finds : (units : List ℕ) {u p n : ℕ} {r : Option ℕ} → InPart units u p n r → {arms : List (ℕ × ℕ)} → Part units p n arms → r ≡ arm_of arms u
+part_finds units (row p n r few in_row) part = row_finds units in_row part few
+part_finds units (no_split p n r more g is) part = absurd (part_begins units part g)
+part_finds units (no_delta p n s r more g g' is) part = absurd (part_goes_on units part (omega (arith, more)) g')
+part_finds units (cut_delta p n s d r more g lt g' no_lower is) part =
+    let e = split_found units part more s d g g' in absurd (no_none (sym e.at ∙ no_lower))
+part_finds units {u} (below_split p n s d q r more g lt g' to rest) part =
+    let e = split_found units part more s d g g' in
+    let same : e.low ≡ q = cc (e.at, to) in
+    part_finds units rest (rw (← same) e.below) ∙ sym (e.in_lower u lt)
+part_finds units {u} (above_split p n s d r more g le g' rest) part =
+    let e = split_found units part more s d g g' in
+    part_finds units rest e.above ∙ sym (e.in_upper u le)

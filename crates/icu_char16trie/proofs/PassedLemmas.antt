@@ -1,5 +1,5 @@
 -- What a cursor passes, one unit after the other.
-use Rattle.std.proofs.Common.{◌≡◌, ℕ, ℤ, ◌+◌, ◌-◌, ◌/◌, ◌%◌, ◌<◌, ◌≤◌, true, false, nat_lt, List, [], ◌∷◌, ◌++◌, refl, sym, subst, ◌∙◌, arith, append-nil, append_assoc}
+use Rattle.std.proofs.Common.{◌≡◌, ℕ, ℤ, ◌+◌, ◌-◌, ◌/◌, ◌%◌, ◌<◌, ◌≤◌, true, false, nat_lt, List, [], ◌∷◌, ◌++◌, refl, sym, subst, ◌∙◌, arith, append_assoc}
 use Rattle.std.specs.Char.Escape.{encode_utf16}
 use Rattle.std.proofs.lemmas.Bool.Decides.{nat_tests}
 use Rattle.icu_char16trie.specs.UnitPlaces.{At, IsAfter}
@@ -17,9 +17,6 @@ along_one units from to to' [] h k = h ∙ sym k
 along_one units from to to' (u ∷ w) h k =
     let same : k.0 ≡ h.0 = steps_one units from u k.0 h.0 k.1 h.1 in
     along_one units h.0 to to' w h.2 (subst (λ z. StepsAlong units z w to') same k.2)
-
-pub passes_none : (s : At) → Passes s [] s
-passes_none s = record { units = refl; exact = refl; after = λ m key h. rw append-nil h }
 
 pub passes_unit : (s t : At) (u : ℕ) → t.units ≡ s.units → StepsTo s.units s.place u t.place → ((m : List (List ℕ × ℤ)) (w : List ℕ) → IsAfter s m w → IsAfter t m (w ++ u ∷ [])) → Passes s (u ∷ []) t
 passes_unit s t u e x a = record { units = e; exact = (t.place, x, refl); after = a }

@@ -2,7 +2,7 @@
 use Rattle.std.proofs.Common.{◌≡◌, ℕ, ℤ, ◌<◌, ◌≤◌, true, false, not, nat_lt, List, [], ◌∷◌, ◌++◌, refl, sym, ap, ◌∙◌, arith, slice_get, inl, inr}
 use Rattle.std.proofs.lemmas.Bool.Decides.{nat_tests}
 use Rattle.std.specs.Prelude.{nat_le}
-use Rattle.icu_char16trie.specs.Grammar.{Holds, final, plain, valued, Matches, IsTrieOf}
+use Rattle.icu_char16trie.specs.Grammar.{Holds, final, plain, valued, IsTrieOf}
 use Rattle.icu_char16trie.specs.Grammar as grammar
 use Rattle.icu_char16trie.specs.UnitMap.{under, after, after_all, value_of, same_key, goes_on, key_goes_on}
 use Rattle.icu_char16trie.specs.Passed.{answer_at, result_of}

@@ -1,6 +1,6 @@
 //! Numbers in the units of a trie.
 ghost use Rattle.icu_zerovec.specs.Slice.{slice_values};
-ghost use Rattle.std.specs.Prelude.{◌≡◌, ℕ, ◌+◌, ◌*◌, ◌^◌, ◌<◌, ◌≤◌, slice_get, length, bit_and, IfSome};
+ghost use Rattle.std.specs.Prelude.{◌≡◌, ℕ, ◌+◌, ◌*◌, ◌^◌, ◌<◌, ◌≤◌, slice_get, length, bit_and, Some, None, IfSome, MatchOption};
 ghost use Rattle.icu_char16trie.specs.Numbers.{short_number, short_end, node_number, node_end, delta_number, delta_end, low_half, both_halves, entry_child, lower_part};
 
 use icu_zerovec::ZeroSlice;
@@ -16,6 +16,21 @@ pub(crate) fn unit_at(units: ZeroSlice<'_, u16>, place: usize) -> Option<u16>
     // never wraps.
     prove!(units.len() < 1 << 62);
     units.get(place)
+}
+
+/// The units at a place and at the one after it, by one test of a place. `None` where one of them
+/// is not there.
+#[inline(always)]
+pub(crate) fn two_at(units: ZeroSlice<'_, u16>, place: usize) -> Option<(u16, u16)>
+    requires { place < 2 ^ 63 }
+    ensures two { MatchOption result
+        (slice_get (slice_values units.entry) (place + 1) ≡ None)
+        (λ two. (slice_get (slice_values units.entry) place ≡ Some two.0)
+        × (slice_get (slice_values units.entry) (place + 1) ≡ Some two.1)) }
+    ensures within { IfSome result (λ _. place + 1 < 2 ^ 62) }
+{
+    let second = unit_at(units, place + 1)?;
+    Some((units.at(place), second))
 }
 
 /// A number in two halves.

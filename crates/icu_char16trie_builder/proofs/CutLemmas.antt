@@ -1,7 +1,7 @@
 -- How the entries below a node fall into the entries below its arms.
 use Rattle.std.proofs.Common.{◌≡◌, ℕ, ℤ, zero, suc, ◌+◌, ◌*◌, ◌<◌, ◌≤◌, List, [], ◌∷◌, ◌++◌, Some, None, Option, Bool, true, false, not, nat_eq, refl, sym, ap, subst, ◌∙◌, arith, length, take, drop, slice_get, drop-cons, add-one, append_assoc, inl, inr}
 use Rattle.std.proofs.lemmas.Bool.{cases_lt}
-use Rattle.std.proofs.Common.{eqb-true, eq-eqb}
+use Rattle.std.proofs.Common.{eqb-true}
 use Rattle.std.specs.Option.{option_eq}
 use Rattle.std.proofs.Math.ListN.{drop_of_length-le}
 use Rattle.std.proofs.lemmas.List.{take-append-drop, length-take-le, drop-drop, take-take}
@@ -58,9 +58,6 @@ under_append a b (e ∷ m) = ap (λ z. ((a ++ b) ++ e.0, e.1) ∷ z) (under_appe
 
 drop_all : (d : ℕ) (key : List ℕ) → length key ≤ d → drop d key ≡ []
 drop_all d key h = drop_of_length-le key h
-
-no_empty : (x : ℕ) (k : List ℕ) → ◌≡◌ {A = List ℕ} [] (x ∷ k) → ⊥
-no_empty x k h = cc
 
 below_longer : (d : ℕ) (a key : List ℕ) → KeyBelow a (drop d key) → d < length key
 below_longer d a key h =
@@ -202,12 +199,6 @@ share_part d j k first (e ∷ es) h a = (a.0 ∙ take-take j k first h, share_pa
 pub option_is : (o : Option ℕ) (u : ℕ) → option_eq nat_eq o (Some u) ≡ true → o ≡ Some u
 option_is None u h = cc
 option_is (Some x) u h = ap Some (eqb-true x u h)
-
-pub option_is_not : (o : Option ℕ) (u : ℕ) → option_eq nat_eq o (Some u) ≡ false → o ≡ Some u → ⊥
-option_is_not o u h e = let k : option_eq nat_eq (Some u) (Some u) ≡ false = subst (λ z. option_eq nat_eq z (Some u) ≡ false) e h in same_not u k
-  where
-    same_not : (u : ℕ) → nat_eq u u ≡ false → ⊥
-    same_not u k = let yes : nat_eq u u ≡ true = eq-eqb u u refl in cc
 
 pub is_by : (o : Option ℕ) (u : ℕ) (r : Bool) → r ≡ not (option_eq nat_eq o (Some u)) → r ≡ false → o ≡ Some u
 is_by o u r e h = option_is o u (cases (option_eq nat_eq o (Some u)) (sym h ∙ e))

@@ -1,6 +1,5 @@
 -- Entries that are alike, one after the other.
-use Rattle.std.proofs.Common.{◌≡◌, ℕ, zero, suc, add-one, ◌+◌, List, [], ◌∷◌, ◌++◌, refl, sym, ap, ◌∙◌, arith, length, take, drop}
-use Rattle.std.proofs.lemmas.List.{take_all}
+use Rattle.std.proofs.Common.{◌≡◌, ℕ, zero, suc, add-one, ◌+◌, List, [], ◌∷◌, ◌++◌, refl, sym, ap, ◌∙◌, take, drop}
 use Rattle.icu_char16trie_builder.specs.Inside.Cuts.{cut}
 use Rattle.icu_char16trie_builder.specs.declared.entry.Entry.{Entry}
 use Rattle.icu_char16trie_builder.proofs.CutLemmas.{cut_append}
@@ -20,8 +19,3 @@ alike_more d e i a b a' b' f g so here =
     cut_more d i a ∙ ap (λ z. z ++ cut d (take 1 (drop i a))) so
     ∙ ap (λ z. cut e (take i b) ++ z) (ap (λ z. cut d (take 1 z)) (sym f) ∙ here ∙ ap (λ z. cut e (take 1 z)) g)
     ∙ sym (cut_more e i b)
-
--- all entries are alike
-pub alike_all : (d e n : ℕ) (a b : List Entry) → n ≡ length a → length a ≡ length b → cut d (take n a) ≡ cut e (take n b) → cut d a ≡ cut e b
-alike_all d e n a b f g so =
-    ap (cut d) (sym (take_all n a (omega (arith, f)))) ∙ so ∙ ap (cut e) (take_all n b (omega (arith, f, g)))

@@ -1,7 +1,6 @@
 -- A node is opened into the steps that write it.
-use Rattle.std.proofs.Common.{◌≡◌, ℕ, ℤ, suc, ◌+◌, ◌-◌, ◌*◌, ◌/◌, ◌<◌, ◌≤◌, List, [], ◌∷◌, ◌++◌, Option, Some, None, refl, sym, ap, subst, ◌∙◌, arith, length, take, drop, slice_get, get_or, reverse, append-nil, length-append, inl, inr}
+use Rattle.std.proofs.Common.{◌≡◌, ℕ, ℤ, suc, ◌+◌, ◌-◌, ◌*◌, ◌/◌, ◌<◌, ◌≤◌, List, [], ◌∷◌, ◌++◌, Option, Some, None, refl, sym, ap, subst, ◌∙◌, arith, length, take, drop, slice_get, reverse, append-nil, length-append, inl, inr}
 use Rattle.std.proofs.lemmas.Bool.{cases_lt}
-use Rattle.std.proofs.Math.ListN.{drop_of_length-le}
 use Rattle.std.proofs.lemmas.List.{length-take-le, length-drop, nil_from_length, take_all}
 use Rattle.std.proofs.lemmas.Option.{slice_get_within}
 use Rattle.std.specs.Borrow.{Bor}
@@ -9,7 +8,7 @@ use Rattle.icu_char16trie.specs.Grammar.{Holds}
 use Rattle.icu_char16trie.specs.UnitMap.{UnitMap, under, IsAscendingKeys}
 use Rattle.icu_char16trie_builder.specs.Inside.Cuts.{cut, room, AllLonger, IsBelow, arm_units, arm_map, arm_room, AreBelow, AllShare, IsGroup, ArmsSoFar}
 use Rattle.icu_char16trie_builder.specs.Inside.Written.{Ascends, own_entry, Grew}
-use Rattle.icu_char16trie_builder.specs.Inside.Steps.{Piece, nothing, node, part, State, Stands, AreSaved, Leads, TakesLast, TakesJump, TakesValue, TakesSplit, TakesRun, TakesBranch, Gives, cost, lead_cost}
+use Rattle.icu_char16trie_builder.specs.Inside.Steps.{Piece, nothing, node, part, State, Stands, AreSaved, Leads, TakesJump, TakesValue, TakesSplit, TakesRun, Gives, cost, lead_cost}
 use Rattle.icu_char16trie_builder.specs.declared.entry.Entry.{Entry}
 use Rattle.icu_char16trie_builder.specs.declared.entry.Arm.{Arm}
 use Rattle.icu_char16trie_builder.specs.declared.known.KnownNode.{KnownNode}
@@ -31,21 +30,6 @@ room_some d [] h = absurd (omega arith)
 room_some d (e ∷ es) h = omega arith
 
 -- ---- the steps of the part of a branch
-
-takes_last : (d : ℕ) (a : Arm) (saved : List Piece) → TakesLast a.unit (state (node (cut d a.entries.now)) saved) (state (part_of d (a ∷ [])) saved)
-takes_last d a saved = record {
-  m = cut d a.entries.now;
-  was = refl;
-  is = ap (λ z. state (part 1 (a.unit ∷ []) z) saved) (append-nil (under (a.unit ∷ []) (cut d a.entries.now)));
-}
-
-pub gives_last : (d : ℕ) (old mid new : List Step) (a : Arm) (arms : List Arm) (s : State) (goal : UnitMap) → arms ≡ a ∷ [] → mid ≡ old ++ steps.Last a.unit ∷ []
-    → new ≡ mid ++ steps.Node a.entries d ∷ [] → IsBelow d a.entries.now → Gives (reverse old) (state (part_of d arms) s.saved) goal → Gives (reverse new) s goal
-gives_last d old mid new a arms s goal e f g below h =
-    let one : Gives (reverse mid) (state (node (cut d a.entries.now)) s.saved) goal =
-    pushed old mid (steps.Last a.unit) (state (node (cut d a.entries.now)) s.saved) (state (part_of d (a ∷ [])) s.saved) goal f (takes_last d a s.saved)
-    (subst (λ z. Gives (reverse old) (state (part_of d z) s.saved) goal) e h) in
-    pushed mid new (steps.Node a.entries d) s (state (node (cut d a.entries.now)) s.saved) goal g (below, refl) one
 
 one_less : (n : ℕ) → n ≡ suc n - 1
 one_less n = omega arith
@@ -129,11 +113,6 @@ gives_split d old one two three new arms lower upper rest a s goal e f half many
     pushed old one (steps.Split a.unit) (state (part_of d upper) (low ∷ s.saved)) (state (part_of d arms) s.saved) goal k (takes_split d arms lower upper rest a s.saved e f half many up) h in
     let g2 : Gives (reverse two) (state low (low ∷ s.saved)) goal = rec (state low (low ∷ s.saved)) goal g1 in
     rec' s goal (pushed two three steps.Save (state low s.saved) (state low (low ∷ s.saved)) goal g refl g2)
-
--- the value of an arm whose only key ends there
-pub final_is : (d : ℕ) (es rest : List Entry) (e : Entry) → es ≡ e ∷ rest → length rest ≡ 0 → length e.key.now ≤ d → cut d es ≡ ([], e.value) ∷ []
-final_is d es rest e f n h =
-    ap (cut d) f ∙ ap (λ z. (drop d e.key.now, e.value) ∷ cut d z) (nil_from_length rest n) ∙ ap (λ z. (z, e.value) ∷ []) (drop_of_length-le e.key.now h)
 
 -- ---- a linear match
 
@@ -224,24 +203,6 @@ run_cost d k (Some v) front es run some many = omega (arith, run_spares d k fron
 
 -- ---- a branch
 
-pub gives_branch : (d count : ℕ) (value : Option ℤ) (old mid new : List Step) (es : List Entry) (arms : List Arm) (s : State) (goal : UnitMap) → ArmsSoFar d es [] arms
-    → count ≡ length arms → 1 < count → mid ≡ old ++ steps.Branch count value ∷ []
-    → ((s : State) (goal : UnitMap) → Gives (reverse mid) (state (part_of (d + 1) arms) s.saved) goal → Gives (reverse new) s goal)
-    → Gives (reverse old) (state (node (own_entry value ++ cut d es)) s.saved) goal → Gives (reverse new) s goal
-gives_branch d count value old mid new es arms s goal so len many f rec h =
-    let map : arm_map (d + 1) arms ≡ cut d es = sym (append-nil (arm_map (d + 1) arms)) ∙ so.map in
-    let takes : TakesBranch count value (state (part_of (d + 1) arms) s.saved) (state (node (own_entry value ++ cut d es)) s.saved) =
-    record {
-      us = arm_units arms;
-      m = arm_map (d + 1) arms;
-      some = omega (arith, many);
-      few = omega (arith, len, so.count, so.few);
-      ascends = so.up;
-      was = ap (λ z. part z (arm_units arms) (arm_map (d + 1) arms)) (sym len);
-      is = ap (λ z. state (node (own_entry value ++ z)) s.saved) (sym map);
-    } in
-    rec s goal (pushed old mid (steps.Branch count value) (state (part_of (d + 1) arms) s.saved) (state (node (own_entry value ++ cut d es)) s.saved) goal f takes h)
-
 pub branch_cost : (value : Option ℤ) → lead_cost value + 1 ≤ 2 + 16 * length (own_entry value)
 branch_cost None = omega arith
 branch_cost (Some v) = omega arith
@@ -314,10 +275,6 @@ first_longer d u (x ∷ es) e at g =
   where
     some_eq : ◌≡◌ {A = Option Entry} (Some x) (Some e) → x ≡ e
     some_eq h = cc
-
-pub longer_at : (d : ℕ) (es : List Entry) (other : Entry) → 0 < length es → AllLonger d es → d < length (get_or es 0 other).key.now
-longer_at d [] other some h = absurd (omega arith)
-longer_at d (e ∷ es) other some h = h.0
 
 pub rest_longer : (d : ℕ) (es rest : List Entry) (e : Entry) → es ≡ e ∷ rest → IsAscendingKeys (cut d es) → AllLonger d rest
 rest_longer d es rest e f h =

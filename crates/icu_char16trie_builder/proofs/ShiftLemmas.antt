@@ -2,7 +2,7 @@
 use Rattle.std.proofs.Common.{◌≡◌, ℕ, ℤ, suc, ◌+◌, ◌-◌, ◌/◌, ◌%◌, ◌<◌, Bool, true, false, cond, nat_lt, nat_eq, List, [], ◌∷◌, ◌++◌, Option, Some, None, refl, sym, ap, ◌∙◌, arith, length, slice_get}
 use Rattle.std.specs.Prelude.{option_and_then}
 use Rattle.icu_char16trie.specs.Numbers.{low_half, both_halves, short_number, short_end, node_number, node_end, delta_number, delta_end, entry_child, lower_part}
-use Rattle.icu_char16trie.specs.Grammar.{UnitsBelow, UnitsFrom, IsAscending, Part, last, entry, split, branch_len, branch_start, Holds, final, plain, valued, Matches, run, branch, Children, none, more}
+use Rattle.icu_char16trie.specs.Grammar.{UnitsBelow, UnitsFrom, IsAscending, Part, last, entry, split, branch_start, Holds, final, plain, valued, Matches, run, branch, Children, none, more}
 use Rattle.icu_char16trie_builder.specs.Inside.Written.{heads, PartAt}
 
 -- the same arms, with one more unit in front of the list
@@ -35,9 +35,6 @@ on p k = omega arith
 
 pub get_on : (x : ℕ) (units : List ℕ) (p k : ℕ) → slice_get (x ∷ units) (suc p + k) ≡ slice_get units (p + k)
 get_on x units p k = rw (on p k) refl
-
-low_moved : (x : ℕ) (units : List ℕ) (p h : ℕ) → low_half (x ∷ units) (suc p) h ≡ low_half units p h
-low_moved x units p h = refl
 
 both_moved : (x : ℕ) (units : List ℕ) (p : ℕ) → both_halves (x ∷ units) (suc p) ≡ both_halves units p
 both_moved x units p = rw (on p 1) refl
@@ -106,9 +103,6 @@ part_moved x units (split p n s d low lower upper arms many g g' c l r b f a) =
     (rw (on p 2) (lower_moved x units (p + 2) d low c)) (part_moved x units l)
     (rw (on p 2, delta_end_moved (p + 2) d) (part_moved x units r))
     (below_moved s lower b) (from_moved s upper f) (ap moved a ∙ moved_append lower upper)
-
-branch_len_moved : (x : ℕ) (units : List ℕ) (p low : ℕ) → branch_len (x ∷ units) (suc p) low ≡ branch_len units p low
-branch_len_moved x units p low = refl
 
 branch_start_by : (b : Bool) (p : ℕ) → cond b (suc p + 1) (suc p) ≡ suc (cond b (p + 1) p)
 branch_start_by true p = on p 1

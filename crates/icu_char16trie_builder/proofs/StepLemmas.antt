@@ -94,10 +94,6 @@ module _ (units new places : List ℕ) where
       let at : PartAt units (len - p) (a.n / 2) a.us1 a.m1 = subst (λ z. PartAt units (z - p) (a.n / 2) a.us1 a.m1) (sym same) saved.0.stands in
       subst (λ z. Makes units new places z) (sym a.is) (f a.n a.us1 a.us2 a.m1 a.m2 a.many at front a.below a.from, saved.1)
 
--- with no place saved, a step that needs one is never come to
-pub no_jump : (units : List ℕ) (known : List KnownNode) (u : ℕ) (others : List Step) (goal : UnitMap) → Leads units [] known (steps.Jump u ∷ others) goal → ⊥
-no_jump units known u others goal h = subst (λ z. AreSaved units [] z.saved) h.3.1.was h.2
-
 pub no_split : (units : List ℕ) (known : List KnownNode) (u : ℕ) (others : List Step) (goal : UnitMap) → Leads units [] known (steps.Split u ∷ others) goal → ⊥
 no_split units known u others goal h = subst (λ z. AreSaved units [] z.saved) h.3.1.was h.2
 
@@ -113,14 +109,6 @@ save_led units places known len others goal same h =
     let t : State = h.3.0 in
     let now : AreSaved units (len ∷ places) (h.0.front ∷ h.0.saved) = (saved_here units len h.0.front same h.1, h.2) in
     (t, subst (λ z. Stands units 0 z.front) (sym h.3.1) h.1, subst (λ z. AreSaved units (len ∷ places) z.saved) (sym h.3.1) now, h.3.2, h.4)
-
--- a node that is known is saved again
-pub place_led : (units places : List ℕ) (known : List KnownNode) (p d : ℕ) (es : Bor (List Entry)) (others : List Step) (goal : UnitMap) → IsSaved units p (node (cut d es.now))
-    → Leads units places known (steps.Place es d ∷ others) goal → Leads units (p ∷ places) known others goal
-place_led units places known p d es others goal is h =
-    let t : State = h.3.0 in
-    let now : AreSaved units (p ∷ places) (node (cut d es.now) ∷ h.0.saved) = (is, h.2) in
-    (t, subst (λ z. Stands units 0 z.front) (sym h.3.1.1) tt, subst (λ z. AreSaved units (p ∷ places) z.saved) (sym h.3.1.1) now, h.3.2, h.4)
 
 -- the node that stands in front is known and saved
 pub keep_led : (units places : List ℕ) (known known' : List KnownNode) (len d : ℕ) (es : Bor (List Entry)) (others : List Step) (goal : UnitMap) → len ≡ length units
@@ -169,18 +157,6 @@ grew_length k before now g =
 pub start_leads : (es : Bor (List Entry)) → IsBelow 0 es.now → Leads [] [] [] (steps.Node es 0 ∷ []) (cut 0 es.now)
 start_leads es below =
     (record { front = nothing; saved = [] }, tt, tt, (record { front = node (cut 0 es.now); saved = [] }, (below, refl), refl), tt)
-
-pub end_leads : (units places : List ℕ) (known : List KnownNode) (goal : UnitMap) → Leads units places known [] goal → Holds units 0 goal
-end_leads units places known goal h = subst (λ z. Stands units 0 z.front) h.3 h.1
-
--- a node that is not known is written, and then kept
-pub place_opened : (units places : List ℕ) (known : List KnownNode) (d : ℕ) (es : Bor (List Entry)) (old mid new : List Step) (goal : UnitMap)
-    → mid ≡ old ++ steps.Keep es d ∷ [] → new ≡ mid ++ steps.Node es d ∷ []
-    → Leads units places known (steps.Place es d ∷ reverse old) goal → Leads units places known (reverse new) goal
-place_opened units places known d es old mid new goal e f h =
-    opened units places known (steps.Place es d) (reverse old) (reverse new) goal
-    (λ s t takes gives. let u : State = record { front = node (cut d es.now); saved = s.saved } in
-    pushed mid new (steps.Node es d) s u goal f (takes.0, refl) (pushed old mid (steps.Keep es d) u t goal e (refl, takes.1) gives)) h
 
 -- a node of a list of known ones
 pub known_at : (units : List ℕ) (known : List KnownNode) (i : ℕ) (k : KnownNode) (m : UnitMap) → AreKnown units known → slice_get known i ≡ Some k → cut k.depth k.entries.now ≡ m → IsSaved units k.place (node m)

@@ -1,5 +1,5 @@
 -- The walk over the characters of a set.
-use Rattle.std.proofs.Common.{◌≡◌, ℕ, ◌+◌, ◌-◌, ◌<◌, List, [], ◌∷◌, ◌++◌, refl, ap, sym, ◌∙◌, arith, suc, true, false, Option, Some, None}
+use Rattle.std.proofs.Common.{◌≡◌, ℕ, ◌+◌, ◌-◌, ◌<◌, List, [], ◌∷◌, ◌++◌, refl, ◌∙◌, arith, suc, true, false, Option, Some, None}
 use Rattle.std.specs.List.{filter, range_with_len}
 use Rattle.std.specs.Char.{IsScalar}
 use Rattle.std.specs.Option.{MatchOption, SomeIff, is_some}
@@ -8,6 +8,7 @@ use Rattle.std.proofs.lemmas.Bool.{cond-true, cond-false, false≢true, true≢f
 use Rattle.std.proofs.lemmas.List.Elements.{filter-append}
 use Rattle.icu_invlist.specs.InversionList.{members}
 use Rattle.icu_invlist.specs.Inside.StillGiven.{characters_left}
+use Rattle.icu_invlist.proofs.HeldMembers.{no_members, more_members}
 
 -- the characters from n to before e
 abbrev pub between_chars : ℕ → ℕ → List ℕ
@@ -27,17 +28,9 @@ char_passed first n e None p h s t = p ∙ rw (first_of n e h) (cond-false (scal
 char_passed first n e (Some c) p h s t = absurd (false≢true t)
 
 -- ---- what is left, range by range
-members-nil : members [] ≡ []
-unfolding members
-members-nil = refl
-
 members-one : (s : ℕ) → members (s ∷ []) ≡ []
 unfolding members
 members-one s = refl
-
-members-range : (s e : ℕ) (ends : List ℕ) → members (s ∷ e ∷ ends) ≡ range_with_len s (e - s) ++ members ends
-unfolding members
-members-range s e ends = refl
 
 pub left_is : (n e : ℕ) (ends : List ℕ) → characters_left n e ends ≡ between_chars n e ++ filter scalar (members ends)
 left_is n e ends = filter-append scalar (range_with_len n (e - n)) (members ends)
@@ -46,21 +39,17 @@ left_is n e ends = filter-append scalar (range_with_len n (e - n)) (members ends
 abbrev pub Taken : ℕ → ℕ → ℕ → Option ℕ → Type 0
 Taken n m e r = MatchOption r ((between_chars n e ≡ []) × (between_chars m e ≡ [])) (λ c. between_chars n e ≡ c ∷ between_chars m e)
 
-pub left_more : (n m e : ℕ) (ends : List ℕ) (r : Option ℕ) → Taken n m e r → true ≡ is_some r → MatchOption r (Unit {0}) (λ c. characters_left n e ends ≡ c ∷ characters_left m e ends)
-left_more n m e ends None t h = tt
-left_more n m e ends (Some c) t h = left_is n e ends ∙ (ap (λ (xs : List ℕ). xs ++ filter scalar (members ends)) t ∙ ap (λ (xs : List ℕ). c ∷ xs) (sym (left_is m e ends)))
-
 none_taken : (n m e : ℕ) (r : Option ℕ) → Taken n m e r → false ≡ is_some r → (between_chars n e ≡ []) × (between_chars m e ≡ [])
 none_taken n m e None t h = t
 none_taken n m e (Some c) t h = absurd (false≢true h)
 
 pub left_past : (n m e s f : ℕ) (ends zs : List ℕ) (r : Option ℕ) → Taken n m e r → false ≡ is_some r → ends ≡ s ∷ f ∷ zs → characters_left n e ends ≡ characters_left s f zs
-left_past n m e s f ends zs r t h k = left_is n e ends ∙ rw ((none_taken n m e r t h).0, k, members-range s f zs) refl
+left_past n m e s f ends zs r t h k = left_is n e ends ∙ rw ((none_taken n m e r t h).0, k, more_members s f zs) refl
 
 pub left_none : (n m e : ℕ) (ends zs : List ℕ) (r : Option ℕ) → Taken n m e r → false ≡ is_some r → ends ≡ [] → zs ≡ [] → (characters_left n e ends ≡ []) × (characters_left m e zs ≡ [])
 left_none n m e ends zs r t h k o = let q = none_taken n m e r t h in
-    (left_is n e ends ∙ rw (q.0, k, members-nil) refl, left_is m e zs ∙ rw (q.1, o, members-nil) refl)
+    (left_is n e ends ∙ rw (q.0, k, no_members) refl, left_is m e zs ∙ rw (q.1, o, no_members) refl)
 
 pub left_one : (n m e s : ℕ) (ends ys zs : List ℕ) (r : Option ℕ) → Taken n m e r → false ≡ is_some r → ends ≡ s ∷ ys → ys ≡ [] → zs ≡ [] → (characters_left n e ends ≡ []) × (characters_left m e zs ≡ [])
 left_one n m e s ends ys zs r t h k l o = let q = none_taken n m e r t h in
-    (left_is n e ends ∙ rw (q.0, k, l, members-one s) refl, left_is m e zs ∙ rw (q.1, o, members-nil) refl)
+    (left_is n e ends ∙ rw (q.0, k, l, members-one s) refl, left_is m e zs ∙ rw (q.1, o, no_members) refl)

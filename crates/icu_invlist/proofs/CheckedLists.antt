@@ -16,9 +16,6 @@ pub record Checked (xs ys rest : List ℕ) (next : ℕ) : Type 0 where
   pub small : next ≤ suc code_point_limit
   pub tight : Tight ys next
 
-pub checked_start : (xs rest : List ℕ) → rest ≡ xs → Checked xs [] rest 0
-checked_start xs rest e = record { all = e; run = tt; small = omega arith; tight = inl refl }
-
 pub checked_more : (xs ys rest more : List ℕ) (next e : ℕ) → Checked xs ys rest next → rest ≡ e ∷ more → next ≤ e → e ≤ code_point_limit → Checked xs (ys ++ e ∷ []) more (e + 1)
 checked_more xs ys rest more next e c r h l = record {
   all = append_assoc ys (e ∷ []) more ∙ (ap (λ (zs : List ℕ). ys ++ zs) (sym r) ∙ c.all);

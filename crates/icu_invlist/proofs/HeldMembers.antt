@@ -15,11 +15,11 @@ use Rattle.icu_invlist.proofs.Parity.{holds-below}
 use Rattle.icu_invlist.proofs.MemberLemmas.{pair_past, pair_in, pair_before}
 use Rattle.icu_invlist.proofs.ValidLists.{run_from_valid, rises}
 
-no_members : members [] ≡ []
+pub no_members : members [] ≡ []
 unfolding members
 no_members = refl
 
-more_members : (s e : ℕ) (ends : List ℕ) → members (s ∷ e ∷ ends) ≡ range_with_len s (e - s) ++ members ends
+pub more_members : (s e : ℕ) (ends : List ℕ) → members (s ∷ e ∷ ends) ≡ range_with_len s (e - s) ++ members ends
 unfolding members
 more_members s e ends = refl
 

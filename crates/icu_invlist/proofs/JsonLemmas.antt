@@ -57,7 +57,7 @@ pub all_read : (vs : List Value) (i : ℕ) (ends : List ℕ) → RangesRead vs i
 all_read vs i ends s h = ends_in_view vs (Ok s.ranges) (at_end range_or view vs i s.ranges _ h s.read) ∙ ap (λ z. Ok z) (sym s.are)
 
 -- ---- the ends that are read are those that the strings say
-same_ok : {A : Type 0} (a b : A) → ◌≡◌ {A = Result A SetJsonError} (Ok a) (Ok b) → a ≡ b
+pub same_ok : {A : Type 0} (a b : A) → ◌≡◌ {A = Result A SetJsonError} (Ok a) (Ok b) → a ≡ b
 same_ok a b h = cc
 
 say_range : (i : ℕ) (t : List ℕ) (items : Items) (r : Option (ℕ × ℕ)) (others : Result (List (ℕ × ℕ)) SetJsonError) (rs : List (ℕ × ℕ)) → range_at (chars t) ≡ r

@@ -35,9 +35,6 @@ pub no_single : (x : ℕ) → IsValid (x ∷ []) → ⊥
 no_single x v = let e = v.even in omega arith
 
 -- ---- how many members
-clipped : ℕ → ℕ → ℕ → ℕ
-clipped s e m = min e m - min s m
-
 flag : ℕ → ℕ
 flag n = n % 2
 

@@ -1,8 +1,6 @@
 -- Where a code point stands among the ends of a valid list.
-use Rattle.std.proofs.Common.{◌≡◌, ℕ, ◌+◌, ◌-◌, ◌%◌, ◌<◌, ◌≤◌, List, [], ◌∷◌, length, get_or, refl, sym, ◌∙◌, arith, suc, Bool, true, false, inl, inr}
+use Rattle.std.proofs.Common.{◌≡◌, ℕ, ◌+◌, ◌-◌, ◌%◌, ◌<◌, ◌≤◌, List, [], ◌∷◌, length, get_or, refl, sym, ◌∙◌, arith, suc, true, false, inl, inr}
 use Rattle.std.proofs.lemmas.Bool.{cases_eq, cases_lt, eq-eqb, ne_eqb, eqb-true, le-leb, le-ltb, lt-leb, lt-ltb}
-use Rattle.std.specs.Prelude.{nat_le}
-use mir.Val.{bool_byte}
 use Rattle.icu_zerovec.specs.CodePoints.{code_point_limit}
 use Rattle.icu_invlist.specs.InversionList.{between, holds, IsValid, HoldsAll, IsSubset}
 use Rattle.icu_invlist.specs.Inside.Places.{Run, below}
@@ -161,22 +159,6 @@ last_within part whole m n v w pm pn some more sub = elim (cases_lt (get_or whol
       (let d = w.even in omega arith))
   | inr h ↦ h
 ]
-
--- the place among two ends
-pub place_of_two : (xs : List ℕ) (c : ℕ) (s t : Bool) → length xs ≡ 2 → s ≡ nat_le (get_or xs 0 0) c → t ≡ nat_le (get_or xs 1 0) c → bool_byte s + bool_byte t ≡ below xs (suc c)
-place_of_two (x ∷ y ∷ []) c s t e p q = rw (p, q) (elim (cases_lt c x) [
-  | inl h ↦ elim (cases_lt c y) [
-    | inl k ↦ rw (lt-leb x c h, lt-leb y c k, below-no x (suc c) (y ∷ []) h, below-no y (suc c) [] k) refl
-    | inr k ↦ rw (lt-leb x c h, le-leb y c k, below-no x (suc c) (y ∷ []) h, below-yes y (suc c) [] (omega arith)) refl
-  ]
-  | inr h ↦ elim (cases_lt c y) [
-    | inl k ↦ rw (le-leb x c h, lt-leb y c k, below-yes x (suc c) (y ∷ []) (omega arith), below-no y (suc c) [] k) refl
-    | inr k ↦ rw (le-leb x c h, le-leb y c k, below-yes x (suc c) (y ∷ []) (omega arith), below-yes y (suc c) [] (omega arith)) refl
-  ]
-])
-place_of_two [] c s t e p q = absurd (omega arith)
-place_of_two (x ∷ []) c s t e p q = absurd (omega arith)
-place_of_two (x ∷ y ∷ z ∷ zs) c s t e p q = absurd (omega arith)
 
 -- the set of two ends is one range
 pub one_range : (xs : List ℕ) (c s e : ℕ) → IsValid xs → length xs ≡ 2 → s ≡ get_or xs 0 0 → e ≡ get_or xs 1 0 → between s e c ≡ holds xs c

@@ -58,9 +58,6 @@ pub record SpannedBack (p : ℕ → Bool) (text rest : List ℕ) : Type 0 where
   pub utf8 : IsUtf8 rest
   pub so_far : length rest + tail p text ≡ length text + tail p rest
 
-pub back_start : (p : ℕ → Bool) (text rest : List ℕ) → IsUtf8 text → rest ≡ text → SpannedBack p text rest
-back_start p text rest u e = rw e (record { utf8 = u; so_far = refl })
-
 module _ (p : ℕ → Bool) (text rest less : List ℕ) (c : ℕ) (s : SpannedBack p text rest) (scalar : IsScalar c) (step : rest ≡ less ++ encode_utf8 c) where
   less_utf8 : IsUtf8 less
   less_utf8 =

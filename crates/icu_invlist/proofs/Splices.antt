@@ -1,13 +1,12 @@
 -- A splice of a list of ends, and what its set holds then.
 use mathlib.Core.Bool.{beq}
 use Rattle.std.proofs.Common.{◌≡◌, ℕ, ◌+◌, ◌-◌, ◌%◌, ◌<◌, ◌≤◌, List, [], ◌∷◌, ◌++◌, length, set, get_or, take, drop, refl, ap, sym, ◌∙◌, arith, min, suc, add-one, nat_eq, Bool, true, false, cond, not, ◌&&◌, ◌⊎◌, inl, inr}
-use Rattle.std.proofs.Math.Bool.{or-false, or-true}
 use Rattle.std.proofs.lemmas.Bool.{cases_lt, cases_eq, lt-ltb, le-ltb, le-leb, lt-leb, eq-eqb, ne_eqb, eqb-true}
 use Rattle.std.proofs.Math.Seq.{set-append_seam, take-append-add, take-append_seam}
 use Rattle.std.proofs.lemmas.List.{append_assoc, append-nil, drop_all, drop-append-le, length-append, length-take-le, length-drop, set-append_right, take-append-drop}
 use Rattle.std.specs.List.{copy_within, splice}
 use Rattle.icu_zerovec.specs.CodePoints.{code_point_limit}
-use Rattle.icu_invlist.specs.InversionList.{holds, is_odd, between, IsValid, Acts, either, without}
+use Rattle.icu_invlist.specs.InversionList.{holds, is_odd, between, IsValid}
 use Rattle.icu_invlist.specs.Inside.Places.{IsFilled, Run, below}
 use Rattle.icu_invlist.proofs.RunLemmas.{below-append, below-before, below-front, below-past, below-le, below-yes, below-no, run-append, run-front, run-back, below-mono, below-zero}
 use Rattle.icu_invlist.proofs.Parity.{odd_same, odd_is, holds-below}
@@ -158,42 +157,6 @@ room_for i j value false false h a b n = omega arith
 pub room : (xs : List ℕ) (i j s e : ℕ) (value : Bool) → s < e → i ≡ below xs s → j ≡ below xs (e + 1)
     → (needed i value ≡ true → needed j value ≡ true → i ≡ j → ⊥) → i + (cond (needed i value) 1 0 + cond (needed j value) 1 0) ≤ j
 room xs i j s e value h a b n = room_for i j value _ _ (let k = below-mono xs s (e + 1) (omega arith) in omega arith) (needed-parity i value) (needed-parity j value) n
-
--- a fill is a union or a difference
-pub union_from_fill : (xs ys : List ℕ) (s e last : ℕ) → last ≡ min e code_point_limit → IsFilled xs s last true ys → Acts either xs (between s e) ys
-union_from_fill xs ys s e last l f c h = f c ∙ elim (cases_lt c s) [
-  | inl a ↦ rw (before_range s last c a, before_range s e c a) (sym (or-false (holds xs c)))
-  | inr a ↦ elim (cases_lt c e) [
-    | inl b ↦ rw (in_range s last c a (omega arith), in_range s e c a b) (sym (or-true (holds xs c)))
-    | inr b ↦ rw (past_range s last c (omega arith), past_range s e c b) (sym (or-false (holds xs c)))
-  ]
-]
-
-pub difference_from_fill : (xs ys : List ℕ) (s e last : ℕ) → last ≡ min e code_point_limit → IsFilled xs s last false ys → Acts without xs (between s e) ys
-difference_from_fill xs ys s e last l f c h = f c ∙ elim (cases_lt c s) [
-  | inl a ↦ rw (before_range s last c a, before_range s e c a) (sym (and_true (holds xs c)))
-  | inr a ↦ elim (cases_lt c e) [
-    | inl b ↦ rw (in_range s last c a (omega arith), in_range s e c a b) (sym (and_false (holds xs c)))
-    | inr b ↦ rw (past_range s last c (omega arith), past_range s e c b) (sym (and_true (holds xs c)))
-  ]
-]
-  where
-    and_true : (b : Bool) → (b && not false) ≡ b
-    and_true true = refl
-    and_true false = refl
-
-    and_false : (b : Bool) → (b && not true) ≡ false
-    and_false true = refl
-    and_false false = refl
-
-pub no_named : (op : Bool → Bool → Bool) (xs : List ℕ) (s e : ℕ) → ((b : Bool) → op b false ≡ b) → (c : ℕ) → (s ≤ c → c < e → ⊥) → holds xs c ≡ op (holds xs c) (between s e c)
-no_named op xs s e id c h = elim (cases_lt c s) [
-  | inl a ↦ rw (before_range s e c a) (sym (id (holds xs c)))
-  | inr a ↦ elim (cases_lt c e) [
-    | inl b ↦ absurd (h a b)
-    | inr b ↦ rw (past_range s e c b) (sym (id (holds xs c)))
-  ]
-]
 
 pub plain : (n : ℕ) → nat_eq (n % 2) 1 ≡ needed n false
 plain n = same_flag (nat_eq (n % 2) 1)

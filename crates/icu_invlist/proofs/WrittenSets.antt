@@ -1,6 +1,5 @@
 -- What is written of a set is read back as the set.
-use Rattle.std.proofs.Common.{◌≡◌, ℕ, ◌+◌, ◌-◌, ◌/◌, ◌%◌, ◌<◌, ◌≤◌, List, [], ◌∷◌, ◌++◌, map, length, get_or, drop, refl, sym, ap, ◌∙◌, arith, suc, Bool, true, nat_lt, ◌&&◌, inl, inr, Result, Ok, Err}
-use Rattle.std.specs.Prelude.{nat_le}
+use Rattle.std.proofs.Common.{◌≡◌, ℕ, ◌+◌, ◌-◌, ◌/◌, ◌%◌, ◌<◌, ◌≤◌, List, [], ◌∷◌, ◌++◌, map, length, get_or, drop, refl, sym, ap, ◌∙◌, arith, suc, true, inl, inr, Ok, Err}
 use Rattle.std.specs.Char.{digit_value}
 use Rattle.std.specs.Str.{encode_utf8_all}
 use Rattle.std.proofs.Math.Utf8.{scalar, scalars}
@@ -18,7 +17,7 @@ use Rattle.icu_invlist.specs.SetJson.{IsHex, IsPoint, IsRange, SayEnds, IsSaid, 
 use Rattle.icu_invlist.specs.Inside.GivenEnds.{GivesEnds}
 use Rattle.icu_invlist.specs.declared.codepointinvlist.error.SetJsonError.{SetJsonError}
 use Rattle.icu_invlist.specs.declared.codepointinvlist.error.SetJsonError.TheVariants as errors
-use Rattle.icu_invlist.proofs.JsonLemmas.{ends_found, ends_only}
+use Rattle.icu_invlist.proofs.JsonLemmas.{ends_found, ends_only, same_ok}
 use Rattle.icu_invlist.proofs.MemberLemmas.{drop_pair}
 use Rattle.icu_invlist.proofs.ValidLists.{run_from_valid}
 
@@ -34,9 +33,6 @@ hex_scalar d h = elim (cases_lt d 10) [
   | inl k ↦ rw (lt-ltb d 10 k) (grind (arith, nat_tests))
   | inr k ↦ rw (le-ltb d 10 k) (grind (arith, nat_tests))
 ]
-
-abbrev Surrogate : ℕ → Bool
-Surrogate p = nat_le 0xD800 p && nat_lt p 0xE000
 
 hex_spelled : (p : ℕ) → p < 0x10000 → IsHex (upper_hex4 p) p
 hex_spelled p h =
@@ -113,9 +109,6 @@ pub texts_all : (xs : List ℕ) (vs : List Value) (i : ℕ) → length xs ≤ i 
 texts_all xs vs i h so_far = sym (append-nil (map view vs)) ∙ rw (drop_all i xs h) at so_far
 
 -- ---- what is read
-same_ok : (a b : List ℕ) → ◌≡◌ {A = Result (List ℕ) SetJsonError} (Ok a) (Ok b) → a ≡ b
-same_ok a b h = cc
-
 pub said : (d : Data) (ends : List ℕ) → ends_of d ≡ Ok ends → IsSaid d ends
 said null ends h = absurd cc
 said (boolean b) ends h = absurd cc

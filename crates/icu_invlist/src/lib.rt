@@ -4,6 +4,9 @@
 //!   their ends
 //!   - `cpinvlist`: [`CodePointInversionList`](codepointinvlist::CodePointInversionList), the set,
 //!     and what it can be asked
+//!     - `packing`: its ends, packed and unpacked
+//!     - `places`: where a code point stands among them
+//!     - `subsets`: whether it holds another set
 //!   - `equality`: sets are equal, and hash alike, exactly if they hold the same code points
 //!   - `utils`: what ranges name, and what makes a list valid
 //!   - `iter`: its ranges, the ranges that it does not hold, and its characters, one after another

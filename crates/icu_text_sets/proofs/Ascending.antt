@@ -1,6 +1,5 @@
 -- Ascending texts: where one of them stands or a new one belongs, and that they ascend with the new one too.
-use Rattle.std.proofs.Common.{◌≡◌, ℕ, zero, suc, ◌<◌, ◌≤◌, List, [], ◌∷◌, false, ◌||◌, None, Result, Ok, Err, refl, sym, ap, ◌∙◌, arith, length, get_or, add-one, inl, inr, subst, String, Global, string_bytes}
-use Rattle.std.specs.List.{insert}
+use Rattle.std.proofs.Common.{◌≡◌, ℕ, zero, suc, ◌<◌, ◌≤◌, List, [], ◌∷◌, false, Result, Ok, Err, refl, sym, ap, ◌∙◌, arith, length, get_or, add-one, inl, inr, subst, String, Global, string_bytes}
 use Rattle.std.specs.Str.{bytes_eq}
 use Rattle.std.specs.List.Sorted.{IsNonDecreasingBy, IsBinarySearchResult, IsSearchInRange}
 use Rattle.std.specs.Ordering.{ordering_index, ordering_reverse, is_eq}
@@ -14,10 +13,9 @@ use Rattle.std.specs.declared.cmp.Ordering.TheVariants.{Less, Equal, Greater}
 use Rattle.std.proofs.lemmas.Cmp.{nat_list_cmp_total, alike_right}
 use Rattle.std.proofs.lemmas.List.{get_or-map, get_or_default}
 use Rattle.std.proofs.lemmas.Bool.{cases_lt}
-use Rattle.std.proofs.Math.Bool.{or_comm}
 use Rattle.std.proofs.lemmas.List.Folds.{list_any_none, list_any_at}
-use Rattle.std.proofs.lemmas.List.Sorted.{IsNonDecreasingBy-from_all_adjacent, IsPermutation-insert, list_any-IsPermutation}
-use Rattle.icu_text_sets.specs.TextSet.{only_char, text_cmp, is_among, texts_of, IsStringList}
+use Rattle.std.proofs.lemmas.List.Sorted.{IsNonDecreasingBy-from_all_adjacent}
+use Rattle.icu_text_sets.specs.TextSet.{text_cmp, is_among, texts_of, IsStringList}
 use Rattle.icu_text_sets.specs.Inside.StringPlaces.{IsPlaceOf}
 
 -- ---- the order of texts

@@ -10,7 +10,7 @@ use Rattle.std.proofs.lemmas.Bool.Decides.{same_from_decides, Decides-eqb, Decid
 use Rattle.std.proofs.lemmas.Str.{encodes-chars, scalars-chars}
 use Rattle.icu_zerovec.specs.CodePoints.{code_point_limit}
 use Rattle.icu_invlist.specs.InversionList.{holds, ends_up_to, Acts, either}
-use Rattle.icu_text_sets.specs.TextSet.{TextSet, only_of, only_char, is_among, member_as, HoldsTexts}
+use Rattle.icu_text_sets.specs.TextSet.{only_of, only_char, is_among}
 
 -- the ends and the texts hold what was given so far
 pub record IsGathered (given : List (List ℕ)) (ends : List ℕ) (texts : List (List ℕ)) : Type 0 where
@@ -106,22 +106,3 @@ with_char given ends ends' texts x d g v o a = record {
     added : (c d : ℕ) (b : Bool) → (b || (c == d)) ≡ true → (b ≡ true → scalar c ≡ true) → scalar d ≡ true → scalar c ≡ true
     added c d true h f s = f refl
     added c d false h f s = ap scalar ((Decides-eqb c d).0 h) ∙ s
-
--- ---- the set
-holds_as : (given : List (List ℕ)) (set : TextSet) (t : List ℕ) (o : Option ℕ) → IsGathered given set.code_points set.strings → IsUtf8 t → only_char t ≡ o → member_as set t o ≡ is_among given t
-holds_as given set t None g u e = g.strings t e
-holds_as given set t (Some c) g u e = g.points t c u e
-
--- the strings in another order, each once
-sorted_as : (given : List (List ℕ)) (ends : List ℕ) (texts texts' : List (List ℕ)) → IsGathered given ends texts → ((t : List ℕ) → is_among texts' t ≡ is_among texts t) → IsGathered given ends texts'
-sorted_as given ends texts texts' g a = record {
-  plain = λ t h. g.plain t (sym (a t) ∙ h);
-  strings = λ t n. a t ∙ g.strings t n;
-  points = g.points;
-  scalars = g.scalars;
-}
-
-pub holds_texts : (given : List (List ℕ)) (set : TextSet) (texts : List (List ℕ)) → IsGathered given set.code_points texts → ((t : List ℕ) → is_among set.strings t ≡ is_among texts t) → HoldsTexts given set
-holds_texts given set texts g a =
-    let h = sorted_as given set.code_points texts set.strings g a in
-    (λ t u. holds_as given set t (only_char t) h u refl, g.scalars)

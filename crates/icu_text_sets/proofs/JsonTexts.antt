@@ -2,8 +2,7 @@
 use Rattle.std.proofs.Common.{◌≡◌, ℕ, ◌+◌, List, [], ◌∷◌, None, Result, Ok, refl, sym, ap, ◌∙◌, map, inl}
 use Rattle.serde_json.proofs.OnLiterals.{serde_json_on_literals}
 use Rattle.serde_json.specs.Data.{Data, string}
-use Rattle.serde_json.specs.View.{view, items_view, items_of}
-use Rattle.serde_json.specs.declared.value.Value.{Value}
+use Rattle.serde_json.specs.View.{items_of}
 use Rattle.icu_zerovec.specs.FirstFault.{before, read_from}
 use Rattle.icu_invlist.specs.InversionList.{IsValid}
 use Rattle.icu_invlist.specs.SetJson.{ends_of, list_of, written_of}

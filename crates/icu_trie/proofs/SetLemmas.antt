@@ -94,14 +94,6 @@ pub record Gathers {A : Type 0} (value : A) (ranges : List (CodePointMapRange A)
   pub before : (c : ℕ) → IsInRangeOf value ranges c → c < next
   pub members : (c : ℕ) → c < next → (holds ends c ≡ true) ↔ IsInRangeOf value ranges c
 
-pub Gathers-none : {A : Type 0} (value : A) → Gathers value [] 0 []
-Gathers-none value = record {
-  rises = λ k h. absurd (omega (arith, h));
-  low = λ k d h. absurd (omega (arith, h));
-  before = λ c a. let lt = a.2 in absurd (omega (arith, lt));
-  members = λ c lt. absurd (omega (arith, lt));
-}
-
 module _ {A : Type 0} {value : A} {ranges : List (CodePointMapRange A)} {next : ℕ} {ends : List ℕ} (gathers : Gathers value ranges next ends) (x : CodePointMapRange A) (first : first_of x ≡ next) (order : next ≤ last_of x) where
   more : (ys : List ℕ) → IsStrictlyIncreasing ys → All (λ e. e ≤ next) ys → ((c : ℕ) → c < next → holds ys c ≡ holds ends c)
       → (is_odd (length ys) ≡ true) ↔ (x.value ≡ value) → Gathers value (ranges ++ x ∷ []) (last_of x + 1) ys

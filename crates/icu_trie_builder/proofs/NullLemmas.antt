@@ -1,5 +1,5 @@
 -- Blocks that hold one number are moved to the null block.
-use Rattle.std.proofs.Common.{◌≡◌, ◌≢◌, ℕ, ◌+◌, ◌<◌, ◌≤◌, List, length, get_or, take, drop, refl, arith, ◌∙◌, sym, ap, inl, inr}
+use Rattle.std.proofs.Common.{◌≡◌, ◌≢◌, ℕ, ◌+◌, ◌<◌, ◌≤◌, List, length, get_or, take, drop, arith, ◌∙◌, sym, ap, inl, inr}
 use Rattle.std.proofs.lemmas.Bool.{cases_eq}
 use Rattle.std.proofs.lemmas.List.{same_lists, get_or_default, length-take}
 use Rattle.icu_trie_core.specs.Blocks.{window}
@@ -18,15 +18,6 @@ filled-windows k a b v xs ys f g inx iny =
 -- a window stays where the cells grow
 pub window-kept : (k at : ℕ) (before after : List ℕ) → take (length before) after ≡ before → at + k ≤ length before → window k at after ≡ window k at before
 window-kept k at before after kept inside = ap (λ ys. window k at ys) (sym (append-kept before after kept)) ∙ window-append k at before (drop (length before) after) inside
-
--- no block is moved
-pub moved-none : (cells offsets : List ℕ) → ((j : ℕ) → j < length offsets → get_or offsets j 0 + 16 ≤ length cells) → IsMoved cells cells offsets offsets
-moved-none cells offsets inside = record {
-  count = refl;
-  inside = inside;
-  copies = λ j l. refl;
-  same = λ i j li lj e. e;
-}
 
 -- blocks of one number are moved
 pub moved : (before after old new : List ℕ) (from to v : ℕ) → take (length before) after ≡ before → length new ≡ length old

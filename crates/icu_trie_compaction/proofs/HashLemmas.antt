@@ -19,10 +19,6 @@ power-suc n = grind arith
 step : (a x : ℕ) → ((a % 4294967296 + x) % 4294967296 * 0x9e3779b1) % 4294967296 ≡ ((a + x) * 0x9e3779b1) % 4294967296
 step a x = ap (λ n. (n * 0x9e3779b1) % 4294967296) (mod-add-mod a 4294967296 x) ∙ mul-mod_first (a + x) 0x9e3779b1 4294967296
 
-pub hash-push : (xs : List ℕ) (x : ℕ) → ((cells_hash xs + x) % 4294967296 * 0x9e3779b1) % 4294967296 ≡ cells_hash (xs ++ x ∷ [])
-unfolding cells_hash
-hash-push xs x = step (sum_from 0 xs) x ∙ ap (λ n. n % 4294967296) (sym (fold-append (λ sum x. (sum + x) * 0x9e3779b1) 0 xs (x ∷ [])))
-
 spread : (a x b q p : ℕ) → p ≡ q * b → (a + x) * b * q ≡ a * p + (0 + x) * b * q
 spread a x b q p e = rw e (omega arith)
 

@@ -113,20 +113,6 @@ pub record Indexing (start : ℕ) (fast offsets : List ℕ) (j : ℕ) (stored ce
   pub short : length stored ≤ 36 * apart offsets j
   pub tight : AllBelow 0x10000 offsets → length stored ≤ 32 * apart offsets j
 
--- no block yet
-pub indexing-none : (start : ℕ) (fast offsets stored cells : List ℕ) → stored ≡ [] → cells ≡ [] → Indexing start fast offsets 0 stored cells
-indexing-none start fast offsets stored cells none no_cell =
-    let ns : length stored ≡ 0 = ap length none in
-    let nc : length cells ≡ 0 = ap length no_cell in
-    record {
-      count = nc;
-      cell = λ i lt. absurd (omega (arith, lt));
-      below = λ i lt. absurd (omega (arith, lt, nc));
-      fit = λ i lt. absurd (omega (arith, lt, ns));
-      short = omega (arith, ns);
-      tight = λ below. omega (arith, ns);
-    }
-
 module _ (start : ℕ) (fast offsets : List ℕ) (j : ℕ) (stored cells : List ℕ) (l : Indexing start fast offsets j stored cells)
     (fits : 32 * j + 32 ≤ length offsets) where
   -- a block that no cell names counts

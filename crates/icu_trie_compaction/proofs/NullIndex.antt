@@ -76,10 +76,3 @@ module _ (t : TrieType) (high null : ℕ) (small index : List ℕ) (aligned : hi
       let wd : w.0 + fast_limit t / 512 - fast_limit t / 512 ≡ w.0 = omega arith in
       null_index w.0 cell w.1 w.2 (cells (w.0 + fast_limit t / 512) (omega (arith, p.1)) (omega (arith, w.1, len, p.1, aligned)) ∙ ap (λ n. Some n) (ap f wd ∙ sym w.3))
   null_index-by f cell cells (inr none) = rw none.0 (no_null_index none.1)
-
--- where no code point has an index-2 cell
-pub null_index-none : (t : TrieType) (high null : ℕ) (small index : List ℕ) (cell : ℕ) → high ≤ fast_limit t → IsNullIndex t high null small index cell
-null_index-none t high null small index cell le = record {
-  has = λ b from below all. absurd (omega (arith, from, below, le));
-  only = λ b from below is. absurd (omega (arith, from, below, le));
-}

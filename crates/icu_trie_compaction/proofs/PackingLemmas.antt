@@ -1,16 +1,12 @@
 -- The 18-bit form gives the offsets back.
-use Rattle.std.proofs.Common.{◌≡◌, ℕ, ◌+◌, ◌-◌, ◌*◌, ◌/◌, ◌%◌, ◌<◌, ◌≤◌, nat_eq, nat_lt, Bool, true, false, List, [], length, get_or, drop, arith, sym, ap, ◌∙◌, Some, slice_get, zero, suc, refl}
-use Rattle.std.specs.List.{AllPass}
-use Rattle.std.proofs.lemmas.Bool.{le-ltb, lt-ltb}
+use Rattle.std.proofs.Common.{◌≡◌, ℕ, ◌+◌, ◌-◌, ◌*◌, ◌/◌, ◌%◌, ◌<◌, ◌≤◌, nat_eq, false, List, [], length, get_or, arith, sym, ap, ◌∙◌, Some, slice_get, zero, suc, refl}
+use Rattle.std.proofs.lemmas.Bool.{le-ltb}
 use Rattle.std.proofs.lemmas.Bool.Decides.{nat_tests}
 use Rattle.std.proofs.lemmas.List.{same_lists, get_or_default}
-use Rattle.std.proofs.lemmas.List.Elements.{All-take, All-drop}
 use Rattle.std.proofs.lemmas.List.FromFn.{get_or-map-range_with_len, length-map-range_with_len}
-use Rattle.icu_trie_core.specs.Blocks.{block}
 use Rattle.icu_trie_core.specs.Format.{long_offset, offset_in_block}
 use Rattle.icu_trie_compaction.specs.Layout.{AllBelow}
 use Rattle.icu_trie_compaction.specs.Inside.IndexParts.{IsGrown, high_bits, packed_cell, packed_cells}
-use Rattle.icu_trie_compaction.specs.Inside.Placed.{IsPlaced}
 use Rattle.icu_trie_compaction.proofs.Growing.{cell_there}
 
 -- the two high bits and the 16 low ones are the offset
@@ -102,16 +98,6 @@ packed-below small fit i l = by (i % 9) refl
     by : (r : ℕ) → i % 9 ≡ r → get_or (packed_cells small) i 0 < 0x10000
     by zero e = omega (arith, cell, cell_high small (i / 9) i (omega (arith, e)), high-below small (8 * (i / 9)) (omega (arith, lt)) fit)
     by (suc r) e = omega (arith, cell, cell_low small (i / 9) r i (omega (arith, e)) (omega (arith, e)))
-
--- cells of placed blocks are below what the blocks' cells are below
-pub drawn-below : (n k : ℕ) (xs before ys offsets : List ℕ) → IsPlaced k 0 (block k xs) before ys offsets → length before ≡ 0 → AllBelow n xs → AllBelow n ys
-drawn-below n k xs before ys offsets placed none below i l =
-    let test : ℕ → Bool = λ x. nat_lt x n in
-    let P : ℕ → Type 0 = λ x. nat_lt x n ≡ true in
-    let all : AllPass test xs = λ i d l. lt-ltb (get_or xs i d) n (omega (arith, get_or_default xs i d 0 l, below i l)) in
-    let pass = placed.drawn test (λ j h. All-take P k (drop (k * (0 + j)) xs) (All-drop P (k * (0 + j)) xs all)) (λ i d h. absurd (omega (arith, h, none))) in
-    let e : nat_lt (get_or ys i 0) n ≡ true = pass i 0 l in
-    grind (arith, nat_tests, e)
 
 -- an index-3 block whose 36 cells are those of 32 offsets gives them
 pub offset_packed : (index small : List ℕ) (at p : ℕ) → p < 32 → length small ≡ 32 → at + 36 ≤ length index → AllBelow 0x40000 small

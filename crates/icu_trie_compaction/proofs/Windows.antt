@@ -6,8 +6,8 @@ use Rattle.std.specs.Cmp.Lexicographic.{pointwise}
 use Rattle.std.proofs.lemmas.Bool.Decides.{nat_tests}
 use Rattle.std.proofs.lemmas.Cmp.{lists_equiv}
 use Rattle.std.proofs.lemmas.Slice.Eq.{slice_eq-Decides}
-use Rattle.std.proofs.lemmas.List.{drop-append-le, take-append-le, drop_at, take_all, length-take, length-drop, get_or-take, get_or-drop, drop-take, take-take, drop-drop}
-use Rattle.icu_trie_core.specs.Blocks.{window, block}
+use Rattle.std.proofs.lemmas.List.{drop-append-le, take-append-le, take_all, length-take, length-drop, get_or-take, get_or-drop, drop-take, take-take, drop-drop}
+use Rattle.icu_trie_core.specs.Blocks.{window}
 
 -- `==` of numbers is an equivalence
 nat_laws : IsEquivalence nat_eq
@@ -47,21 +47,9 @@ window-append k at xs ys h =
     let b : k ≤ length (drop at xs) = omega (arith, length-drop at xs) in
     rw drop-append-le (take-append-le k (drop at xs) ys b)
 
--- what was appended to a list is a window
-pub window-end : (k at : ℕ) (xs ys : List ℕ) → length xs ≡ at → length ys ≡ k → window k at (xs ++ ys) ≡ ys
-window-end k at xs ys h l = rw drop_at (take_all k ys (omega arith))
-
 -- a block ends before the next one starts
 pub times-below : (k p n : ℕ) → p < n → k * p + k ≤ k * n
 times-below k p n h = grind arith
-
--- the range of a slice that is a block
-pub part-block : (k i : ℕ) (cells : List ℕ) → take (k * i + k - k * i) (drop (k * i) cells) ≡ block k cells i
-part-block k i cells = let n : k * i + k - k * i ≡ k = omega arith in ap (λ m. take m (drop (k * i) cells)) n
-
--- its length
-pub length-part : (k i m : ℕ) (cells : List ℕ) → i < m → k * m ≤ length cells → length (take (k * i + k - k * i) (drop (k * i) cells)) ≡ k
-length-part k i m cells h le = omega (arith, ap length (part-block k i cells), length-take k (drop (k * i) cells), length-drop (k * i) cells, times-below k i m h)
 
 -- what `==` says of a tail of a slice
 pub tail-decides : (xs ys : List ℕ) (at : ℕ) (r : Bool) → r ≡ pointwise nat_eq (take (length xs - at) (drop at xs)) ys → Decides r (drop at xs ≡ ys)

@@ -88,10 +88,3 @@ Reaches-after f start mid limit value (Some end) before le e =
       equal = λ u a d. elim (cases_lt u mid) [ inl p ↦ before u a p | inr p ↦ e.equal u p d ];
       differs = e.differs;
     }
-
--- a greater limit
-pub EndsAt-below : {A : Type 0} {f : ℕ → Option A} {start limit : ℕ} {value : A} {end : ℕ} (next : ℕ) → limit ≤ next → end < limit → EndsAt f start limit value end → EndsAt f start next value end
-EndsAt-below next le lt e = record { begun = e.begun; within = omega (arith, le, lt); equal = e.equal; differs = λ _. e.differs lt }
-
-pub BreaksOff-below : {A : Type 0} {f : ℕ → Option A} {start limit : ℕ} {value : A} (next : ℕ) → limit ≤ next → BreaksOff f start limit value → BreaksOff f start next value
-BreaksOff-below next le e = let w = e.within in record { place = e.place; begun = e.begun; within = omega (arith, le, w); equal = e.equal; missing = e.missing }

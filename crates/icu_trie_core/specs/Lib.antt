@@ -2,10 +2,9 @@ pub mod Format
 pub mod FastIndex
 pub mod Coherence
 pub mod Blocks
-pub mod Numbers
-pub mod SignedNumbers
+pub mod ValueNumbers
+pub mod ValueNumberLaws
 pub mod Runs
 pub mod Seen
 pub mod Range
-pub mod TypeNumbers
 pub mod Inside

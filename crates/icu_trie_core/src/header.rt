@@ -2,7 +2,7 @@
 ghost use Rattle.std.specs.Prelude.{◌≡◌, ℕ, ◌≤◌};
 ghost use Rattle.icu_trie_core.specs.Format.{fast_limit};
 ghost use Rattle.icu_trie_core.specs.FastIndex.{fast_index_len};
-ghost use Rattle.icu_trie_core.specs.TypeNumbers.{GivesType};
+ghost use Rattle.icu_trie_core.specs.ValueNumbers.{GivesType};
 
 use crate::error::CodePointTrieError;
 use crate::impl_const::{

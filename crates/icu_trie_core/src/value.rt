@@ -1,8 +1,9 @@
 //! The values of a trie.
 ghost use Rattle.std.specs.Prelude.{◌≡◌, ℕ, ◌^◌, ◌↔◌, IsTrue, IfOk, OnErr, Option, Some, None};
 ghost use Rattle.std.specs.Int.{w8, w16, w32, cast_unsigned};
-ghost use Rattle.icu_trie_core.specs.Numbers.{fitting};
-ghost use Rattle.icu_trie_core.specs.SignedNumbers.{signed_fitting, character};
+ghost use Rattle.std.proofs.Common.{lit≤};
+ghost use Rattle.icu_trie_core.specs.ValueNumbers.{fitting, signed_fitting, character};
+ghost use Rattle.icu_trie_core.specs.ValueNumberLaws.{fitting-small, equal_numbers, signed_fitting-number, equal_signed_numbers, character-scalar};
 
 use icu_zerovec::ule::AsULE;
 use thiserror::Error;
@@ -44,8 +45,6 @@ pub trait TrieValue: AsULE + Eq {
 pub struct NotAValue;
 
 impl TrieValue for u8 {
-    ghost use Rattle.icu_trie_core.specs.Numbers.{fitting-small, equal_numbers};
-
     type TryFromU32Error = NotAValue;
 
     ghost number = { λ x. x };
@@ -66,8 +65,6 @@ impl TrieValue for u8 {
 }
 
 impl TrieValue for u16 {
-    ghost use Rattle.icu_trie_core.specs.Numbers.{fitting-small, equal_numbers};
-
     type TryFromU32Error = NotAValue;
 
     ghost number = { λ x. x };
@@ -88,8 +85,6 @@ impl TrieValue for u16 {
 }
 
 impl TrieValue for u32 {
-    ghost use Rattle.icu_trie_core.specs.Numbers.{fitting-small, equal_numbers};
-
     type TryFromU32Error = NotAValue;
 
     ghost number = { λ x. x };
@@ -110,8 +105,6 @@ impl TrieValue for u32 {
 }
 
 impl TrieValue for i8 {
-    ghost use Rattle.icu_trie_core.specs.SignedNumbers.{back_i8, equal_i8};
-
     type TryFromU32Error = NotAValue;
 
     ghost number = { cast_unsigned w32 };
@@ -126,14 +119,12 @@ impl TrieValue for i8 {
         i8::try_from(i.cast_signed()).map_err(|_| NotAValue)
     }
 
-    ghost number_gives_back = { back_i8 };
+    ghost number_gives_back = { signed_fitting-number w8 (lit≤ tt) };
 
-    ghost equal_by_number = { equal_i8 };
+    ghost equal_by_number = { equal_signed_numbers w8 (lit≤ tt) };
 }
 
 impl TrieValue for i16 {
-    ghost use Rattle.icu_trie_core.specs.SignedNumbers.{back_i16, equal_i16};
-
     type TryFromU32Error = NotAValue;
 
     ghost number = { cast_unsigned w32 };
@@ -148,14 +139,12 @@ impl TrieValue for i16 {
         i16::try_from(i.cast_signed()).map_err(|_| NotAValue)
     }
 
-    ghost number_gives_back = { back_i16 };
+    ghost number_gives_back = { signed_fitting-number w16 (lit≤ tt) };
 
-    ghost equal_by_number = { equal_i16 };
+    ghost equal_by_number = { equal_signed_numbers w16 (lit≤ tt) };
 }
 
 impl TrieValue for i32 {
-    ghost use Rattle.icu_trie_core.specs.SignedNumbers.{back_i32, equal_i32};
-
     type TryFromU32Error = NotAValue;
 
     ghost number = { cast_unsigned w32 };
@@ -170,15 +159,12 @@ impl TrieValue for i32 {
         Ok(i.cast_signed())
     }
 
-    ghost number_gives_back = { back_i32 };
+    ghost number_gives_back = { signed_fitting-number w32 (lit≤ tt) };
 
-    ghost equal_by_number = { equal_i32 };
+    ghost equal_by_number = { equal_signed_numbers w32 (lit≤ tt) };
 }
 
 impl TrieValue for char {
-    ghost use Rattle.icu_trie_core.specs.Numbers.{equal_numbers};
-    ghost use Rattle.icu_trie_core.specs.SignedNumbers.{back_character};
-
     type TryFromU32Error = NotAValue;
 
     ghost number = { λ c. c };
@@ -193,7 +179,7 @@ impl TrieValue for char {
         char::from_u32(i).ok_or(NotAValue)
     }
 
-    ghost number_gives_back = { back_character };
+    ghost number_gives_back = { character-scalar };
 
     ghost equal_by_number = { λ x y _ _. equal_numbers x y };
 }

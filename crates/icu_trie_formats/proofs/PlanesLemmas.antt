@@ -6,7 +6,7 @@ use Rattle.icu_zerovec.specs.PackedBytes.{number_of}
 use Rattle.icu_zerovec.specs.declared.ule.UleError.{UleError}
 use Rattle.icu_zerovec.specs.declared.ule.UleError.TheVariants.{Length, Cell}
 use Rattle.icu_trie_core.specs.declared.error.CodePointTrieError.{CodePointTrieError}
-use Rattle.icu_trie_core.specs.Numbers.{fitting}
+use Rattle.icu_trie_core.specs.ValueNumbers.{fitting}
 use Rattle.icu_trie.specs.Parts.{fault}
 use Rattle.icu_trie_formats.specs.Planes.{planes_header, planes_index, planes_data}
 use Rattle.icu_trie_formats.specs.declared.planes.table.TheConstants.{INDEX, DATA}

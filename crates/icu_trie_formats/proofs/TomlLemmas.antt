@@ -6,7 +6,7 @@ use Rattle.icu_zerovec.specs.FirstFault.{and_then}
 use Rattle.icu_trie_formats.specs.TrieToml.{list_of, TrieFault, TomlParts, GivesHeader, header_with, type_of, typed_data, trie_with, trie_of, IsRefusedTrie, GivesTrie}
 use Rattle.icu_trie_formats.specs.declared.trie_toml.TrieFromTomlError.{TrieFromTomlError}
 use Rattle.icu_trie.specs.Parts.{Parts}
-use Rattle.icu_trie_core.specs.TypeNumbers.{type_number}
+use Rattle.icu_trie_core.specs.ValueNumbers.{type_number}
 use Rattle.icu_trie_core.specs.declared.header.TrieType.{TrieType}
 use Rattle.icu_trie_core.specs.declared.header.TrieType.TheVariants.{Fast, Small}
 use Rattle.icu_trie_core.specs.declared.header.CodePointTrieHeader.{CodePointTrieHeader}

@@ -4,7 +4,7 @@ use Rattle.std.specs.Option.{ok_or}
 use Rattle.serde_json.specs.Data.{Data, object, array, number, string, unsigned, Items, no_items, item, no_members, member}
 use Rattle.serde_json.specs.Find.{get, as_object, as_array, as_number, as_str, as_u64}
 use Rattle.serde_json.specs.View.{items_of}
-use Rattle.icu_trie_core.specs.Numbers.{fitting}
+use Rattle.icu_trie_core.specs.ValueNumbers.{fitting}
 use Rattle.icu_trie.specs.Parts.{Parts, fault}
 use Rattle.icu_trie_core.specs.declared.header.TrieType.{TrieType}
 use Rattle.icu_trie_core.specs.declared.header.TrieType.TheVariants.{Fast, Small}

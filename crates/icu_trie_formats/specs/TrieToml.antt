@@ -2,8 +2,7 @@
 use Rattle.std.specs.Prelude.{◌≡◌, ℕ, ◌^◌, ℤ, pos, negsuc, List, [], ◌∷◌, codes, Option, Some, None, Result, Ok, Err, nat_lt, if◌then◌else◌, option_and_then, option_map}
 use Rattle.std.specs.Option.{ok_or, option_or}
 use Rattle.toml.specs.Data.{Data, Items, no_items, item, Members, as_integer, as_array, get_member}
-use Rattle.icu_trie_core.specs.Numbers.{fitting}
-use Rattle.icu_trie_core.specs.TypeNumbers.{type_number, GivesType}
+use Rattle.icu_trie_core.specs.ValueNumbers.{fitting, type_number, GivesType}
 use Rattle.icu_trie.specs.Parts.{Parts, fault}
 use Rattle.icu_trie_core.specs.declared.header.TrieType.{TrieType}
 use Rattle.icu_trie_core.specs.declared.header.TrieType.TheVariants.{Fast, Small}

@@ -206,9 +206,6 @@ module _ (b b' : Blocks) (n number : ℕ) (sound : IsBlocks b) (there : n < leng
 pub number_at-none : (b : Blocks) (rest c : ℕ) → IsBlocks b → length b.mixed.items ≡ 0 → number_at b rest c ≡ rest
 number_at-none b rest c sound none = number_at-same b rest c (get_or_past b.mixed.items (c / 16) false (omega (arith, none))) ∙ get_or_past b.numbers.items (c / 16) rest (omega (arith, none, sound.same_count))
 
-pub all-there : (b : Blocks) → IsBlocks b → (length b.mixed.items ≡ 0 → ⊥) → length b.mixed.items ≡ 0x11000
-all-there b sound some = elim sound.none_or_all [ inl e ↦ absurd (some e) | inr e ↦ e ∙ block_count-is ]
-
 -- the number of a code point of a block
 pub number_at-cell : (b : Blocks) (rest n i : ℕ) → is_mixed b n ≡ true → i < 16 → number_at b rest (16 * n + i) ≡ get_or b.cells.items (get_or b.numbers.items n 0 + i) 0
 number_at-cell b rest n i h l =

@@ -2,7 +2,7 @@
 ghost use Rattle.std.specs.Prelude.{◌≡◌, ℕ, ◌+◌, ◌<◌, ◌^◌, [], ◌∷◌, ◌++◌, List, IfOk, IfErr, decimal, string_bytes};
 ghost use Rattle.std.specs.Io.KnownBytes.{Appends};
 ghost use Rattle.icu_zerovec.specs.CodePoints.{code_point_limit};
-ghost use Rattle.icu_trie_core.specs.Numbers.{fitting};
+ghost use Rattle.icu_trie_core.specs.ValueNumbers.{fitting};
 ghost use Rattle.icu_trie.specs.Ranges.{answers, IsCoherentTrie};
 ghost use Rattle.icu_trie_core.specs.Runs.{Run, AreMaximalRuns};
 ghost use Rattle.ucptab_table.specs.TableText.{answer_line, answers_text, fault_text, hex_text, run_line, runs_text};

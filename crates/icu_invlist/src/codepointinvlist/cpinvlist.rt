@@ -1,7 +1,6 @@
 //! The set of an inversion list.
-ghost use Rattle.std.specs.Prelude.{◌≡◌, ℕ, suc, ◌+◌, ◌^◌, ◌<◌, ◌≤◌, List, [], ◌∷◌, length, slice_index, slice_get, map, min, not, Some, None, if◌then◌else◌, IfOk, OnOk, OnErr, IfErr, IfSome, IsTrue, ◌++◌, drop, true, false, ◌↔◌};
-ghost use Rattle.std.specs.List.{take_while, All, Contains, flat_map};
-ghost use Rattle.icu_zerovec.specs.PackedBytes.{low_bytes};
+ghost use Rattle.std.specs.Prelude.{◌≡◌, ℕ, ◌+◌, ◌^◌, ◌<◌, ◌≤◌, List, [], ◌∷◌, length, slice_index, slice_get, min, not, Some, None, if◌then◌else◌, IfOk, OnOk, OnErr, IfErr, IfSome, IsTrue, ◌++◌, drop, true, false, ◌↔◌};
+ghost use Rattle.std.specs.List.{take_while, All, Contains};
 ghost use Rattle.std.specs.List.Sorted.{IsStrictlyIncreasing};
 ghost use Rattle.std.proofs.Math.Utf8.{scalar};
 ghost use Rattle.std.specs.Str.{chars, encode_utf8_all};
@@ -9,14 +8,18 @@ ghost use mathlib.Core.Bool.{beq};
 ghost use mathlib.Core.List.{reverse};
 ghost use Rattle.icu_zerovec.specs.CodePoints.{code_point_limit};
 ghost use Rattle.icu_invlist.specs.InversionList.{AreApart, IsOfCodePoints, IsValid, holds, in_ranges, HoldsAll, IsSubset, ranges_of, members_below, characters, complement_of};
-ghost use Rattle.icu_invlist.specs.Inside.Places.{below};
 ghost use Rattle.icu_invlist.specs.Refusals.{IsRefusedList, IsRefusedSlice};
+
+mod packing;
+mod places;
+mod subsets;
 
 use crate::codepointinvlist::error::{InvalidSetError, SetError};
 use crate::codepointinvlist::iter::{IterChars, IterRanges, IterRangesComplemented, start_of_gap};
 use crate::codepointinvlist::utils::{RangeOf, is_valid_slice, is_valid_zv};
 use icu_zerovec::ule::AsULE;
 use icu_zerovec::{CODE_POINT_LIMIT, MemoryError, PotentialCodePoint, ZeroVec};
+use packing::{cut_to_points, pack, unpacked};
 use std::alloc::Global;
 use std::marker::Model;
 use std::ops::RangeInclusive;
@@ -42,46 +45,6 @@ impl<'data> Model for CodePointInversionList<'data> {
     ghost view = { λ a. a.ends };
 
     ghost invariant = { λ a. IsValid a.ends };
-}
-
-/// Copies ends that are packed.
-fn unpacked(
-    alloc: Global,
-    ends: &ZeroVec<'_, PotentialCodePoint>,
-) -> Result<Vec<PotentialCodePoint>, MemoryError>
-    ensures { IfOk result (λ v. v.items ≡ ends.now) }
-{
-    let mut points = Vec::with_capacity(alloc, ends.len())?;
-    for end in ends.iter() {
-        points.push(end)?;
-    }
-    Ok(points)
-}
-
-/// The packed bytes of the ends, the lowest byte of each first.
-fn pack(alloc: Global, ends: &[u32]) -> Result<Vec<u8>, MemoryError>
-    requires { IsValid ends.now }
-    ensures { IfOk result (λ v. v.items ≡ flat_map (low_bytes 3) ends.now) }
-{
-    let mut bytes = Vec::with_capacity(alloc, ends.len() * 3)?;
-    for end in ends {
-        let cell = PotentialCodePoint::from_u24(*end).to_unaligned();
-        bytes.push_reserved(cell[0]);
-        bytes.push_reserved(cell[1]);
-        bytes.push_reserved(cell[2]);
-    }
-    Ok(bytes)
-}
-
-/// Cuts the numbers to 24 bits: what has more becomes 0xFFFFFF, which is no end either.
-fn cut_to_points(alloc: Global, ends: &[u32]) -> Result<Vec<PotentialCodePoint>, MemoryError>
-    ensures { IfOk result (λ v. v.items ≡ map (λ x. min x 0xFFFFFF) ends.now) }
-{
-    let mut points = Vec::with_capacity(alloc, ends.len())?;
-    for end in ends {
-        points.push(PotentialCodePoint::from_u24((*end).min(0xFF_FFFF)))?;
-    }
-    Ok(points)
 }
 
 /// How a set is made.
@@ -208,110 +171,6 @@ impl<'data> CodePointInversionList<'data> {
         u32::from(self.ends.as_slice().at(i))
     }
 
-    /// How many ends are not above `c`, which is at least `low` and at most `low + size`. Each step
-    /// halves what is left, whatever it reads, so that the steps of a known size are laid out
-    /// without a loop.
-    #[inline(always)]
-    fn place_between(&self, low: usize, size: usize, c: u32) -> usize
-        requires from { low ≤ below self.now (suc c) }
-        requires to { below self.now (suc c) ≤ low + size }
-        requires within { low + size ≤ length self.now }
-        ensures place { result ≡ below self.now (suc c) }
-    {
-        // A set is known to be valid where its ends are named.
-        let _ = &self.ends;
-        let mut low = low;
-        let mut size = size;
-        while size > 1 {
-            let half = size / 2;
-            low = if self.end_at(low + half) <= c {
-                low + half
-            } else {
-                low
-            };
-            size -= half;
-        }
-        if size == 1 && self.end_at(low) <= c {
-            low + 1
-        } else {
-            low
-        }
-    }
-
-    /// How many ends are not above `c`, of a set that has this many ends. The two of one range are
-    /// looked at side by side.
-    #[inline(always)]
-    fn place_of_few(&self, count: usize, c: u32) -> usize
-        requires { count ≡ length self.now }
-        ensures { result ≡ below self.now (suc c) }
-    {
-        if count == 2 {
-            return usize::from(self.end_at(0) <= c) + usize::from(self.end_at(1) <= c);
-        }
-        self.place_between(0, count, c)
-    }
-
-    /// How many ends are not above `c`. Most code points of most texts stand before the first end,
-    /// past the last or among the first few, where little is searched or nothing. Of very few ends
-    /// each is looked at.
-    #[inline(always)]
-    fn place_of(&self, c: u32) -> usize
-        ensures valid { IsValid self.now }
-        ensures place { result ≡ below self.now (suc c) }
-        ensures within { result ≤ length self.now }
-    {
-        let count = self.count();
-        if count <= 4 {
-            self.place_of_few(count, c)
-        } else if c < self.end_at(0) {
-            0
-        } else if self.end_at(count - 1) <= c {
-            count
-        } else if count > 16 && c < self.end_at(16) {
-            self.place_between(0, 16, c)
-        } else {
-            self.place_between(0, count, c)
-        }
-    }
-
-    /// How many ends are not above `c`, which are at least `from`. The steps double until one
-    /// passes `c`, and what it spans is searched.
-    #[tactic(auto, using(crate::proofs::PlaceLemmas::place_front, crate::proofs::PlaceLemmas::place_behind))]
-    fn place_past(&self, from: usize, c: u32) -> usize
-        requires { from ≤ below self.now (suc c) }
-        ensures { result ≡ below self.now (suc c) }
-    {
-        let count = self.count();
-        let mut low = from;
-        let mut size = 4;
-        while low + size < count {
-            if c < self.end_at(low + size) {
-                return self.place_between(low, size, c);
-            }
-            low += size;
-            size *= 2;
-        }
-        self.place_between(low, count - low, c)
-    }
-
-    /// The same, where it is likely that few more ends than `from` are not above `c`.
-    fn place_from(&self, from: usize, c: u32) -> usize
-        requires { from ≤ below self.now (suc c) }
-        ensures place { result ≡ below self.now (suc c) }
-        ensures within { result ≤ length self.now }
-    {
-        let count = self.count();
-        let near = (from + 4).min(count);
-        let mut place = from;
-        while place < near {
-            if c < self.end_at(place) {
-                return place;
-            }
-            place += 1;
-        }
-        self.place_past(place, c)
-    }
-
     /// The ends, packed.
     pub(crate) fn packed(&self) -> &ZeroVec<'data, PotentialCodePoint>
         ensures ends { result.now ≡ self.now }
@@ -362,18 +221,6 @@ impl<'data> CodePointInversionList<'data> {
         self.contains32(u32::from(c))
     }
 
-    /// Whether the set holds all code points from a start to before `end`, where `place` is how
-    /// many ends are not above that start.
-    fn reaches(&self, place: usize, end: u32) -> bool
-        requires { place ≤ length self.now }
-        ensures { (start : ℕ) → place ≡ below self.now (suc start) → start < end
-            → (IsTrue result ↔ HoldsAll self.now start end) }
-    {
-        // A set is known to be valid where its ends are named.
-        let _ = &self.ends;
-        place % 2 == 1 && end <= self.end_at(place)
-    }
-
     /// Whether the range names a code point, and the set holds all that it names. The surrogates
     /// between two characters are named too.
     pub fn contains_range<R: RangeOf<char>>(&self, range: R) -> bool
@@ -384,53 +231,6 @@ impl<'data> CodePointInversionList<'data> {
         let (start, end) = range.deconstruct();
         let end = end.min(CODE_POINT_LIMIT);
         start < end && self.reaches(self.place_of(start), end)
-    }
-
-    /// Whether no end of the other set, which has some, stands outside those of this one.
-    fn spans(&self, other: &CodePointInversionList<'_>) -> bool
-        requires { 0 < length other.now }
-        ensures { IsSubset other.now self.now → IsTrue result }
-    {
-        let count = self.count();
-        let others = other.count();
-        if count == 0 {
-            return false;
-        }
-        self.end_at(0) <= other.end_at(0) && other.end_at(others - 1) <= self.end_at(count - 1)
-    }
-
-    /// Whether the set holds all that the other one holds, which has few ranges: each is searched
-    /// for.
-    fn holds_each(&self, other: &CodePointInversionList<'_>) -> bool
-        ensures { IsTrue result ↔ IsSubset other.now self.now }
-    {
-        let mut i = 0;
-        let count = other.count();
-        while i < count {
-            let found = self.place_of(other.end_at(i));
-            if !self.reaches(found, other.end_at(i + 1)) {
-                return false;
-            }
-            i += 2;
-        }
-        true
-    }
-
-    /// The same where it has many ranges: each is searched for from the one before on.
-    fn holds_in_order(&self, other: &CodePointInversionList<'_>) -> bool
-        ensures { IsTrue result ↔ IsSubset other.now self.now }
-    {
-        let mut place = 0;
-        let mut i = 0;
-        let count = other.count();
-        while i < count {
-            place = self.place_from(place, other.end_at(i));
-            if !self.reaches(place, other.end_at(i + 1)) {
-                return false;
-            }
-            i += 2;
-        }
-        true
     }
 
     /// Whether the set holds all that the other one holds. The empty set is part of each.

@@ -228,6 +228,65 @@ fn reads_of_one_walk_over_many_blocks(rt: HostRuntime) -> Result<(), Fail> {
     Ok(())
 }
 
+/// The cell of `c` of a trie that may lie, by cells of the test's own, and how many were read.
+fn looked_up_in_any<L: Ledger>(
+    trie: &CodePointTrie<'_, u8>,
+    c: u32,
+    blank: Blank,
+) -> (Option<u8>, u64)
+    requires name { blank.name ≡ L.name }
+    requires parts { blank.parts ≡ L.parts }
+    requires some { 0 < blank.parts }
+{
+    let (header, index, values) = trie.parts();
+    let mut cells = CountedParts {
+        index,
+        values,
+        reads: Steps::<L>::new(blank),
+        shown: 0,
+    };
+    let value = look_up(&header, &mut cells, c);
+    (value, cells.shown)
+}
+
+/// The look-up at `c` finds this cell by so many reads.
+fn ask_counted(
+    rt: &impl Abort,
+    trie: &CodePointTrie<'_, u8>,
+    c: u32,
+    cell: Option<u8>,
+    reads: u64,
+) {
+    let found = looked_up_in_any::<Brand>(trie, c, Blank::new(1));
+    expect_at(rt, found, (cell, reads), c);
+}
+
+/// An index with one block of 512 of which each offset has 18 bits: the longest way, five reads.
+#[test]
+fn a_look_up_reads_five_cells_at_most(rt: HostRuntime) -> Result<(), Fail> {
+    let mut index = [0u16; 128];
+    // The index-2 block starts at 65, and its ninth cell, for 0x1000, names the 18-bit block at 80.
+    index[64] = 65;
+    index[65 + 8] = 0x8000 + 80;
+    // The fourth offset of the block is 3, that of 0x1030.
+    index[80 + 4] = 3;
+    let mut values = [0u8; 66];
+    values[3 + 5] = 42;
+    let header = small_header(0x2000, 0);
+    let trie = CodePointTrie::alloc_from_slices(rt.alloc(), header, &index, &values)?;
+    for (c, cell, reads) in [
+        (0x1035, Some(42), 5),
+        (0x1034, Some(0), 5),
+        (0x41, Some(0), 2),
+        (0x1400, Some(0), 4),
+        (0x2000, Some(0), 1),
+        (0x110000, None, 0),
+    ] {
+        ask_counted(&rt, &trie, c, cell, reads);
+    }
+    Ok(())
+}
+
 /// The cell of `c` by `look_up` and by `look_up_whole`, over cells of the test's own, whether the
 /// range from there on is found, and whether the trie is coherent.
 type Found = (Option<u8>, Option<u8>, bool, bool);

@@ -1,14 +1,8 @@
 //! Tries that are made of parts: which are refused, and what a lying header answers.
-ghost use Rattle.std.specs.Prelude.{◌≡◌, ◌<◌};
-
 use super::{ZEROS, data, expect_at, expect_same, say, small_header, trie_of};
-use icu_collections::codepointtrie::{
-    Cells, CodePointTrie, CodePointTrieError, PartsError, Steps, look_up,
-};
+use icu_collections::codepointtrie::{CodePointTrie, CodePointTrieError, PartsError};
 use icu_collections::zerovec::ZeroVec;
-use std::marker::Brand;
 use std::process::Abort;
-use std::sync::ledger::{Blank, Ledger};
 
 /// The fault of these parts.
 fn fault_of(
@@ -143,81 +137,4 @@ fn lying_headers_are_answered(rt: HostRuntime) {
         &data(1, 2, 3),
         &[(0, 1), (0x1000, 3), (0x2000, 2)],
     );
-}
-
-/// Cells of a test's own, with a count that can be shown.
-#[derive(Drop)]
-struct CountedCells<'a, L: Ledger> {
-    index: &'a [u16],
-    values: &'a [u8],
-    reads: Steps<L>,
-    shown: u64,
-}
-
-impl<'a, L: Ledger> Cells<u8> for CountedCells<'a, L> {
-    ghost index = { λ cells. cells.index.now };
-
-    ghost values = { λ cells. cells.values.now };
-
-    ghost reads = { λ cells. cells.reads };
-
-    fn index_len(&self) -> usize {
-        self.index.len()
-    }
-
-    fn data_len(&self) -> usize {
-        self.values.len()
-    }
-
-    fn index_cell(&mut self, i: usize) -> Option<u16> {
-        self.reads.tick();
-        self.shown = self.shown.saturating_add(1);
-        self.index.get(i).copied()
-    }
-
-    fn data_cell(&mut self, i: usize) -> Option<u8> {
-        self.reads.tick();
-        self.shown = self.shown.saturating_add(1);
-        self.values.get(i).copied()
-    }
-}
-
-/// The answer at `c` over cells of the test's own, and how many were read.
-fn counted<L: Ledger>(index: &[u16], values: &[u8], c: u32, blank: Blank) -> (Option<u8>, u64)
-    requires name { blank.name ≡ L.name }
-    requires parts { blank.parts ≡ L.parts }
-    requires some { 0 < blank.parts }
-{
-    let mut cells = CountedCells {
-        index,
-        values,
-        reads: Steps::<L>::new(blank),
-        shown: 0,
-    };
-    let answer = look_up(&small_header(0x2000, 0), &mut cells, c);
-    (answer, cells.shown)
-}
-
-/// An index with one block of 512 of which each offset has 18 bits: the longest way, five reads.
-#[test]
-fn a_look_up_reads_five_cells_at_most(rt: HostRuntime) {
-    let mut index = [0u16; 128];
-    // The index-2 block starts at 65, and its ninth cell, for 0x1000, names the 18-bit block at 80.
-    index[64] = 65;
-    index[65 + 8] = 0x8000 + 80;
-    // The fourth offset of the block is 3, that of 0x1030.
-    index[80 + 4] = 3;
-    let mut values = [0u8; 66];
-    values[3 + 5] = 42;
-    for (c, answer, reads) in [
-        (0x1035, Some(42), 5),
-        (0x1034, Some(0), 5),
-        (0x41, Some(0), 2),
-        (0x1400, Some(0), 4),
-        (0x2000, Some(0), 1),
-        (0x110000, None, 0),
-    ] {
-        let found = counted::<Brand>(&index, &values, c, Blank::new(1));
-        expect_at(&rt, found, (answer, reads), c);
-    }
 }

@@ -62,7 +62,8 @@ impl AsULE for Side {
 }
 
 impl TrieValue for Side {
-    ghost use Rattle.icu_trie_core.specs.Numbers.{fitting, fitting-small, equal_numbers};
+    ghost use Rattle.icu_trie_core.specs.ValueNumbers.{fitting};
+    ghost use Rattle.icu_trie_core.specs.ValueNumberLaws.{fitting-small, equal_numbers};
 
     type TryFromU32Error = NotAValue;
 

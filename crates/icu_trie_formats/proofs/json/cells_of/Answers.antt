@@ -2,7 +2,7 @@ use Rattle.std.proofs.Common.{◌^◌, sym, ap, ◌∙◌}
 use Rattle.std.specs.Prelude.{codes, option_and_then}
 use Rattle.std.specs.Option.{ok_or}
 use Rattle.serde_json.specs.View.{view}
-use Rattle.icu_trie_core.specs.Numbers.{fitting}
+use Rattle.icu_trie_core.specs.ValueNumbers.{fitting}
 use Rattle.icu_trie_formats.specs.TrieJson.{number_or, no_number}
 use Rattle.icu_zerovec.proofs.FirstFaultLemmas.{stops, goes_on, at_end}
 use Rattle.icu_trie_formats.proofs.json.cells_of.Goals as goal

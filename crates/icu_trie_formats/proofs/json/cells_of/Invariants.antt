@@ -1,7 +1,7 @@
 use Rattle.std.proofs.Common.{◌≡◌, ◌^◌, drop, map}
 use Rattle.std.specs.Prelude.{codes}
 use Rattle.serde_json.specs.View.{view}
-use Rattle.icu_trie_core.specs.Numbers.{fitting}
+use Rattle.icu_trie_core.specs.ValueNumbers.{fitting}
 use Rattle.icu_zerovec.specs.FirstFault.{read_from}
 use Rattle.icu_trie_formats.specs.TrieJson.{number_or, cells_of}
 use Rattle.icu_zerovec.proofs.FirstFaultLemmas.{with_front}

@@ -32,41 +32,6 @@ fn builder_for_call(
     Ok(Some(builder))
 }
 
-/// A full builder of A to Z, and the set with these ends.
-fn builder_and_set(
-    alloc: Global,
-    ends: &[u32],
-) -> Result<
-    (
-        CodePointInversionListBuilder,
-        CodePointInversionList<'static>,
-    ),
-    SetError,
-> {
-    let set = set_of(alloc, ends)?;
-    Ok((full_builder_of(alloc, &LETTERS)?, set))
-}
-
-/// The same, where there was memory for both; a call that may be refused follows at once.
-fn both_for_call(
-    rt: &(impl AllocGlobal + Print),
-    ends: &[u32],
-) -> Result<
-    Option<
-        (
-            CodePointInversionListBuilder,
-            CodePointInversionList<'static>,
-        ),
-    >,
-    Fail,
-> {
-    let Ok(both) = builder_and_set(rt.alloc(), ends) else {
-        return Ok(None);
-    };
-    println!(rt; "call")?;
-    Ok(Some(both))
-}
-
 /// The builder's set has these ends, where there is memory to make and to list it.
 fn expect_left(
     rt: &(impl Abort + AllocGlobal),
@@ -76,23 +41,6 @@ fn expect_left(
     if let Ok(built) = builder.build() {
         expect_listed(rt, built, want);
     }
-}
-
-/// The call is over, as `expect_answer`, and the set that it was lent has these ends still.
-fn expect_answer_and_lent(
-    rt: &(impl Abort + AllocGlobal + Print),
-    answer: Result<(), MemoryError>,
-    both: (
-        CodePointInversionListBuilder,
-        CodePointInversionList<'static>,
-    ),
-    after: &[u32],
-    lent: &[u32],
-) -> Result<(), Fail> {
-    let (builder, set) = both;
-    let told = expect_answer(rt, answer, builder, after);
-    expect_listed(rt, set, lent);
-    told
 }
 
 /// The call is over: the builder's set is `after`, and where the call was refused it is that of A
@@ -109,4 +57,46 @@ fn expect_answer(
         Err(_) => expect_left(rt, builder, &LETTERS),
     }
     Ok(())
+}
+
+/// Changes a full builder of A to Z: its set is `after` then, and where the change was refused it
+/// is that of A to Z.
+fn expect_change<F: FnOnce(&mut CodePointInversionListBuilder) -> Result<(), MemoryError>>(
+    rt: &(impl Abort + AllocGlobal + Print),
+    change: F,
+    after: &[u32],
+) -> Result<(), Fail>
+    requires { F.IsAlwaysCallable change }
+{
+    let Some(mut builder) = builder_for_call(rt, &LETTERS)? else {
+        return Ok(());
+    };
+    let answer = change(&mut builder);
+    expect_answer(rt, answer, builder, after)
+}
+
+/// The same by a set with the ends `lent`, which has them still.
+fn expect_change_by<F>(
+    rt: &(impl Abort + AllocGlobal + Print),
+    lent: &[u32],
+    change: F,
+    after: &[u32],
+) -> Result<(), Fail>
+where
+    F: FnOnce(
+        &mut CodePointInversionListBuilder,
+        &CodePointInversionList<'_>,
+    ) -> Result<(), MemoryError>,
+    requires { F.IsAlwaysCallable change }
+{
+    let Ok(set) = set_of(rt.alloc(), lent) else {
+        return Ok(());
+    };
+    let Some(mut builder) = builder_for_call(rt, &LETTERS)? else {
+        return Ok(());
+    };
+    let answer = change(&mut builder, &set);
+    let told = expect_answer(rt, answer, builder, after);
+    expect_listed(rt, set, lent);
+    told
 }

@@ -1,4 +1,4 @@
-use Rattle.std.proofs.Common.{◌≡◌, List, []}
+use Rattle.std.proofs.Common.{[]}
 use Rattle.std.specs.Char.Escape.{encode_utf16}
 use Rattle.uses.proofs.words.first_result.Goals as goal
 

@@ -1,4 +1,4 @@
-use Rattle.std.proofs.Common.{◌≡◌, [], ◌∷◌, Ok, Err, Some, None, Option, Result, String, List, ℕ, ℤ, Vec, pos, map, sym, ap, subst, ◌∙◌, refl}
+use Rattle.std.proofs.Common.{◌≡◌, [], ◌∷◌, Ok, Err, Some, None, Option, Result, String, List, ℕ, ℤ, Vec, pos, map, ap, subst, ◌∙◌, refl}
 use Rattle.std.specs.Prelude.{OnOk, IfOk, IfSome, codes}
 use Rattle.std.specs.Result.{result_ok}
 use Rattle.std.specs.Global.{Global}

@@ -1,7 +1,7 @@
 use Rattle.std.proofs.Common.{sym, ◌∙◌, ◌++◌, ap, List, ℕ, [], ◌∷◌, map, string_bytes}
 use Rattle.std.specs.Option.{ok_or}
 use Rattle.std.proofs.lemmas.List.{map-append}
-use Rattle.serde_json.specs.View.{view, items_view}
+use Rattle.serde_json.specs.View.{view}
 use Rattle.icu_zerovec.specs.FirstFault.{read_from}
 use Rattle.icu_zerovec.proofs.FirstFaultLemmas.{with_front, stops, goes_on, at_end, at_start}
 use Rattle.icu_text_sets.specs.TextSet.{texts_of}

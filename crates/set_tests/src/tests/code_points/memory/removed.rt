@@ -4,63 +4,55 @@ use super::*;
 /// Calls: `CodePointInversionListBuilder::remove_char`.
 #[test]
 fn remove_char_refused(rt: HostRuntime) -> Result<(), Fail> {
-    let Some(mut builder) = builder_for_call(&rt, &LETTERS)? else {
-        return Ok(());
-    };
-    let answer = builder.remove_char('C');
-    expect_answer(&rt, answer, builder, &[0x41, 0x43, 0x44, 0x5B])
+    expect_change(
+        &rt,
+        |builder| builder.remove_char('C'),
+        &[0x41, 0x43, 0x44, 0x5B],
+    )
 }
 
 /// Calls: `CodePointInversionListBuilder::remove32`.
 #[test]
 fn remove32_refused(rt: HostRuntime) -> Result<(), Fail> {
-    let Some(mut builder) = builder_for_call(&rt, &LETTERS)? else {
-        return Ok(());
-    };
-    let answer = builder.remove32(0x43);
-    expect_answer(&rt, answer, builder, &[0x41, 0x43, 0x44, 0x5B])
+    expect_change(
+        &rt,
+        |builder| builder.remove32(0x43),
+        &[0x41, 0x43, 0x44, 0x5B],
+    )
 }
 
 /// Calls: `CodePointInversionListBuilder::remove_range`.
 #[test]
 fn remove_range_refused(rt: HostRuntime) -> Result<(), Fail> {
-    let Some(mut builder) = builder_for_call(&rt, &LETTERS)? else {
-        return Ok(());
-    };
-    let answer = builder.remove_range('C'..'E');
-    expect_answer(&rt, answer, builder, &[0x41, 0x43, 0x45, 0x5B])
+    expect_change(
+        &rt,
+        |builder| builder.remove_range('C'..'E'),
+        &[0x41, 0x43, 0x45, 0x5B],
+    )
 }
 
 /// Calls: `CodePointInversionListBuilder::remove_range32`.
 #[test]
 fn remove_range32_refused(rt: HostRuntime) -> Result<(), Fail> {
-    let Some(mut builder) = builder_for_call(&rt, &LETTERS)? else {
-        return Ok(());
-    };
-    let answer = builder.remove_range32(0x43..0x45);
-    expect_answer(&rt, answer, builder, &[0x41, 0x43, 0x45, 0x5B])
+    expect_change(
+        &rt,
+        |builder| builder.remove_range32(0x43..0x45),
+        &[0x41, 0x43, 0x45, 0x5B],
+    )
 }
 
 /// Calls: `CodePointInversionListBuilder::remove_set`.
 #[test]
 fn remove_set_refused(rt: HostRuntime) -> Result<(), Fail> {
     let lent = [0x43, 0x45, 0x47, 0x48, 0x4A, 0x4B, 0x50, 0x52];
-    let Some((mut builder, set)) = both_for_call(&rt, &lent)? else {
-        return Ok(());
-    };
-    let answer = builder.remove_set(&set);
     let after = [0x41, 0x43, 0x45, 0x47, 0x48, 0x4A, 0x4B, 0x50, 0x52, 0x5B];
-    expect_answer_and_lent(&rt, answer, (builder, set), &after, &lent)
+    expect_change_by(&rt, &lent, |builder, set| builder.remove_set(set), &after)
 }
 
 /// Calls: `CodePointInversionListBuilder::retain_set`.
 #[test]
 fn retain_set_refused(rt: HostRuntime) -> Result<(), Fail> {
     let lent = [0x43, 0x45, 0x47, 0x48, 0x4A, 0x4B, 0x50, 0x52];
-    let Some((mut builder, set)) = both_for_call(&rt, &lent)? else {
-        return Ok(());
-    };
-    let answer = builder.retain_set(&set);
     let after = [0x43, 0x45, 0x47, 0x48, 0x4A, 0x4B, 0x50, 0x52];
-    expect_answer_and_lent(&rt, answer, (builder, set), &after, &lent)
+    expect_change_by(&rt, &lent, |builder, set| builder.retain_set(set), &after)
 }

@@ -2,7 +2,7 @@ use Rattle.std.proofs.Common.{◌≡◌, ◌+◌, ◌-◌, ◌*◌, ◌≤◌, t
 use Rattle.std.specs.List.{flat_map}
 use Rattle.std.specs.Vec.{vec_len, vec_capacity}
 use Rattle.icu_zerovec.specs.PackedBytes.{low_bytes}
-use Rattle.icu_invlist.proofs.codepointinvlist.cpinvlist.pack.Given as goal
+use Rattle.icu_invlist.proofs.codepointinvlist.cpinvlist.packing.pack.Given as goal
 
 abbrev pub invariant-loop-end : goal.invariant-loop-end
 invariant-loop-end l = record {
