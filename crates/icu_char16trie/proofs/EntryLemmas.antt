@@ -1,6 +1,7 @@
 -- What the entries of a branch give, one after another.
-use Rattle.std.proofs.Common.{◌≡◌, ℕ, ℤ, ◌+◌, ◌<◌, ◌≤◌, List, [], ◌∷◌, ◌++◌, Option, Some, true, false, nat_eq, refl, sym, ap, subst, ◌∙◌, arith, slice_get, append_assoc}
+use Rattle.std.proofs.Common.{◌≡◌, ℕ, ℤ, ◌+◌, ◌<◌, ◌≤◌, List, [], ◌∷◌, ◌++◌, Some, true, false, nat_eq, refl, sym, ap, subst, ◌∙◌, arith, slice_get, append_assoc}
 use Rattle.std.proofs.lemmas.Bool.{ne_eqb, eq-eqb}
+use Rattle.std.proofs.lemmas.Option.{same_Some}
 use Rattle.icu_char16trie.specs.Grammar.{Part, Holds, Matches, Children, none, more}
 use Rattle.icu_char16trie.specs.UnitMap.{under}
 use Rattle.icu_char16trie.specs.Pending.{ArmsHold}
@@ -59,15 +60,12 @@ pub children_nil : (units : List ℕ) {arms : List (ℕ × ℕ)} {m : List (List
 children_nil units (none arms m a e) h = e
 children_nil units (more u q rest arms m others all a node c e) h = absurd (no_arm (sym h ∙ a))
 
-some_eq : (a b : ℕ) → ◌≡◌ {A = Option ℕ} (Some b) (Some a) → a ≡ b
-some_eq a b h = cc
-
 -- the part of a branch
 pub branch_plain : (units : List ℕ) {p low : ℕ} {m : List (List ℕ × ℤ)} → Matches units p low m → low < 0x30 → 0 < low → ArmsHold units p (low + 1) m
 branch_plain units {p = p} {low = low} {m = m} h lt pos =
     let b = matches_branch units h lt in
     let not_zero : nat_eq low 0 ≡ false = ne_eqb low 0 (λ e. absurd (omega arith)) in
-    let len : b.n ≡ low = some_eq b.n low (rw not_zero at b.len) in
+    let len : b.n ≡ low = sym (same_Some low b.n (rw not_zero at b.len)) in
     let part : Part units p (b.n + 1) b.arms = rw not_zero at b.part in
     (b.arms, subst (λ z. Part units p (z + 1) b.arms) len part, b.children)
 
@@ -76,6 +74,6 @@ branch_long units {p = p} {low = low} {m = m} h zero' n g =
     let b = matches_branch units h (omega arith) in
     let is_zero : nat_eq low 0 ≡ true = eq-eqb low 0 (omega arith) in
     let at : slice_get units p ≡ Some b.n = rw is_zero at b.len in
-    let len : b.n ≡ n = some_eq b.n n (sym g ∙ at) in
+    let len : b.n ≡ n = same_Some b.n n (sym at ∙ g) in
     let part : Part units (p + 1) (b.n + 1) b.arms = rw is_zero at b.part in
     (b.arms, subst (λ z. Part units (p + 1) (z + 1) b.arms) len part, b.children)

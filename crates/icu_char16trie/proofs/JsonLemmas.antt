@@ -1,6 +1,6 @@
 -- The units of a JSON array, and that what is written of a trie is read back.
 use Rattle.std.proofs.Common.{◌≡◌, ℕ, suc, ◌+◌, ◌<◌, ◌^◌, true, List, [], ◌∷◌, Ok, refl, ap, ◌∙◌, arith, map}
-use Rattle.std.proofs.lemmas.Bool.Decides.{nat_tests}
+use Rattle.std.proofs.lemmas.Bool.{lt-ltb}
 use Rattle.std.specs.Prelude.{All, nat_lt}
 use Rattle.serde_json.proofs.OnLiterals.{serde_json_on_literals}
 use Rattle.serde_json.specs.Data.{Data, number, unsigned}
@@ -17,14 +17,11 @@ list_of-items_of : (ds : List Data) → list_of (items_of ds) ≡ ds
 list_of-items_of [] = refl
 list_of-items_of (d ∷ ds) = ap (λ z. d ∷ z) (list_of-items_of ds)
 
-below_yes : (a b : ℕ) → a < b → nat_lt a b ≡ true
-below_yes a b h = grind (arith, nat_tests)
-
 units_read : (i : ℕ) (units : List ℕ) → All (λ u. u < 2 ^ 16) units → read_from unit_or i (map (λ u. number (unsigned u)) units) ≡ Ok units
 unfolding read_from
 units_read i [] h = refl
 units_read i (u ∷ units) h =
-    let small : nat_lt u 0x1_0000 ≡ true = below_yes u 0x1_0000 (h 0 0 (omega arith)) in
+    let small : nat_lt u 0x1_0000 ≡ true = lt-ltb u 0x1_0000 (h 0 0 (omega arith)) in
     rw small (ap (before (Ok u)) (units_read (i + 1) units (λ k d lt. h (suc k) d (omega arith))))
 
 -- what is written is read back

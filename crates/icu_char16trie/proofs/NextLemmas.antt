@@ -1,7 +1,8 @@
 -- How the next item is found.
 use Rattle.icu_zerovec.specs.Slice.{slice_values}
-use Rattle.std.proofs.Common.{◌≡◌, ℕ, ℤ, ◌+◌, ◌%◌, ◌<◌, ◌≤◌, List, [], ◌∷◌, ◌++◌, Option, Some, None, Ok, Err, Bool, true, false, nat_lt, length-append, refl, sym, ap, subst, ◌∙◌, arith, length, take, slice_get, append-nil, reverse, inl, inr, string_bytes, String, Global}
-use Rattle.std.proofs.lemmas.Bool.Decides.{nat_tests}
+use Rattle.std.proofs.Common.{◌≡◌, ℕ, ℤ, ◌+◌, ◌%◌, ◌<◌, ◌≤◌, List, [], ◌∷◌, ◌++◌, Option, Some, None, Ok, Err, Bool, true, false, length-append, refl, sym, ap, subst, ◌∙◌, arith, length, take, slice_get, append-nil, reverse, inl, inr, string_bytes, String, Global}
+use Rattle.std.proofs.lemmas.Bool.{lt-ltb, le-ltb}
+use Rattle.std.proofs.lemmas.Option.{none-some}
 use Rattle.std.specs.Prelude.{IfSome, IsSome, MatchOption, is_some}
 use Rattle.std.specs.Str.{IsCharBoundary}
 use Rattle.std.proofs.lemmas.List.Sums.{sum_by-append}
@@ -21,12 +22,6 @@ use Rattle.icu_char16trie.proofs.NodeLemmas.{holds_within}
 use Rattle.icu_char16trie.proofs.OpeningLemmas.{one_pushed}
 use Rattle.icu_char16trie.proofs.WorkLemmas.{weight_some, weight_le, work_push}
 
-below_no : (a b : ℕ) → b ≤ a → nat_lt a b ≡ false
-below_no a b h = grind (arith, nat_tests)
-
-below_yes : (a b : ℕ) → a < b → nat_lt a b ≡ true
-below_yes a b h = grind (arith, nat_tests)
-
 -- the entry of a node's own value
 abbrev own : Option ℤ → UnitMap
 own None = []
@@ -39,12 +34,9 @@ record ByLead (units : List ℕ) (p lead : ℕ) (entries : UnitMap) : Type 0 whe
   last : 0x8000 ≤ lead → rest ≡ []
   node : lead < 0x8000 → Matches units (node_end (p + 1) lead) (lead % 64) rest
 
-no_some : {x : ℕ} → ◌≡◌ {A = Option ℕ} None (Some x) → ⊥
-no_some h = cc
-
 plain_end : (p lead : ℕ) → lead < 0x40 → node_end p lead ≡ p
 unfolding node_end
-plain_end p lead h = rw (below_yes lead 0x4040 (omega arith)) refl
+plain_end p lead h = rw (lt-ltb lead 0x4040 (omega arith)) refl
 
 holds_by : (units : List ℕ) {p : ℕ} {m : UnitMap} → Holds units p m → (lead : ℕ) → slice_get units p ≡ Some lead → ByLead units p lead m
 holds_by units (final p lead' n m g big s e) lead h =
@@ -52,7 +44,7 @@ holds_by units (final p lead' n m g big s e) lead h =
     let big' : 0x8000 ≤ lead = omega arith in
     record {
       rest = [];
-      is = rw (below_no lead 0x40 (omega arith), below_no lead 0x8000 big', ← same, s) e;
+      is = rw (le-ltb lead 0x40 (omega arith), le-ltb lead 0x8000 big', ← same, s) e;
       last = λ _. refl;
       node = λ small. absurd (omega arith);
     }
@@ -62,7 +54,7 @@ holds_by units (plain p lead' m g small node) lead h =
     let low : lead % 64 ≡ lead = omega arith in
     record {
       rest = m;
-      is = rw (below_yes lead 0x40 small') refl;
+      is = rw (lt-ltb lead 0x40 small') refl;
       last = λ big. absurd (omega arith);
       node = λ _. rw (plain_end (p + 1) lead small', low, ← same) node;
     }
@@ -70,14 +62,14 @@ holds_by units (valued p lead' n m rest g big small s node e) lead h =
     let same : lead' ≡ lead = cc in
     record {
       rest = rest;
-      is = rw (below_no lead 0x40 (omega arith), below_yes lead 0x8000 (omega arith), ← same, s) e;
+      is = rw (le-ltb lead 0x40 (omega arith), lt-ltb lead 0x8000 (omega arith), ← same, s) e;
       last = λ big'. absurd (omega arith);
       node = λ _. rw (← same) node;
     }
 
 stands_by : (units : List ℕ) (p lead : ℕ) (entries : UnitMap) → Stands units (Node p) entries → slice_get units p ≡ Some lead → ByLead units p lead entries
 stands_by units p lead entries (inl h) g = holds_by units h lead g
-stands_by units p lead entries (inr h) g = absurd (no_some (sym h.0 ∙ g))
+stands_by units p lead entries (inr h) g = absurd (none-some _ (sym h.0 ∙ g))
 
 stands_absent : (units : List ℕ) (p : ℕ) (entries : UnitMap) → Stands units (Node p) entries → slice_get units p ≡ None → entries ≡ []
 stands_absent units p entries (inl h) g = absurd (holds_within units h g)

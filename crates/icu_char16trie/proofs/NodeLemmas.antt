@@ -2,7 +2,7 @@
 use Rattle.std.proofs.Common.{◌≡◌, ℕ, ℤ, ◌+◌, ◌-◌, ◌<◌, ◌≤◌, Bool, true, false, cond, nat_eq, List, [], ◌∷◌, ◌++◌, Option, Some, None, refl, sym, ap, ◌∙◌, arith, length, take, drop, slice_get, ◌⊎◌, inl, inr, append-nil, add-one, add-zero, drop-cons, get_or, ◌%◌}
 use Rattle.std.specs.Int.{cast_signed, w32}
 use Rattle.icu_char16trie.specs.Numbers.{short_number, node_number, node_end}
-use Rattle.std.proofs.lemmas.Option.{slice_get_within, get_or_from_slice_get, slice_get-get_or}
+use Rattle.std.proofs.lemmas.Option.{none-some, slice_get_within, get_or_from_slice_get, slice_get-get_or}
 use Rattle.std.proofs.lemmas.Bool.{eqb-true}
 use Rattle.icu_char16trie.specs.Grammar.{Part, last, entry, split, branch_len, branch_start, Holds, final, plain, valued, Matches, run, branch, Children, none, more, IsAscending, UnitsFrom}
 use Rattle.icu_char16trie.specs.UnitMap.{under, after, value_of, same_key, goes_on, key_goes_on, arm_of}
@@ -19,9 +19,6 @@ cond_some : (b : Bool) (q r : ℕ) (o : Option ℕ) → cond b (Some q) o ≡ So
 cond_some true q r o h = inl (refl, cc)
 cond_some false q r o h = inr (refl, h)
 
-no_some : {q : ℕ} → ◌≡◌ {A = Option ℕ} None (Some q) → ⊥
-no_some h = cc
-
 -- nothing of the arms begins with a unit that they lack
 pub children_other : (units : List ℕ) {arms : List (ℕ × ℕ)} {m : List (List ℕ × ℤ)} → Children units arms m → (u : ℕ) → arm_of arms u ≡ None → after u m ≡ []
 unfolding arm_of after
@@ -32,7 +29,7 @@ children_other units (more x q rest arms m others all a node c e) u h =
 
 pub children_found : (units : List ℕ) {arms : List (ℕ × ℕ)} {m : List (List ℕ × ℤ)} → Children units arms m → IsAscending arms → (u q : ℕ) → arm_of arms u ≡ Some q → Holds units q (after u m)
 unfolding arm_of
-children_found units (none arms m a e) up u q h = absurd (no_some (rw a at h))
+children_found units (none arms m a e) up u q h = absurd (none-some _ (rw a at h))
 children_found units (more x q' rest arms m others all a node c e) up u q h =
     let up' : UnitsFrom (x + 1) rest × IsAscending rest = rw a at up in
     elim (cond_some (nat_eq x u) q' q (arm_of rest u) (rw a at h)) [

@@ -1,6 +1,7 @@
 -- Units are a trie of one map, whose keys ascend.
-use Rattle.std.proofs.Common.{◌≡◌, ℕ, ℤ, ◌+◌, ◌-◌, ◌≤◌, List, [], ◌∷◌, ◌++◌, Option, Some, slice_get, take, drop, refl, sym, ap, ◌∙◌, arith, inl, inr}
+use Rattle.std.proofs.Common.{◌≡◌, ℕ, ℤ, ◌+◌, ◌-◌, ◌≤◌, List, [], ◌∷◌, ◌++◌, slice_get, take, drop, refl, sym, ap, ◌∙◌, arith, inl, inr}
 use Rattle.std.specs.Int.{cast_signed, w32}
+use Rattle.std.proofs.lemmas.Option.{same_Some}
 use Rattle.icu_char16trie.specs.Grammar.{Part, last, entry, split, UnitsFrom, IsAscending, Holds, final, plain, valued, Matches, run, branch, Children, none, more, IsTrieOf}
 use Rattle.icu_char16trie.specs.Grammar as grammar
 use Rattle.icu_char16trie.specs.UnitMap.{under, KeyBelow, KeyBelowAll, IsAscendingKeys}
@@ -8,32 +9,29 @@ use Rattle.icu_char16trie.proofs.PartLemmas.{last_is, entry_found, split_found}
 use Rattle.icu_char16trie.proofs.NodeLemmas.{run_first, matches_run, matches_branch, holds_final, holds_plain, holds_valued, holds_within}
 use Rattle.icu_char16trie.proofs.EntryLemmas.{children_cons, children_nil}
 
-some_eq : (a b : ℕ) → ◌≡◌ {A = Option ℕ} (Some b) (Some a) → a ≡ b
-some_eq a b h = cc
-
 -- ---- one map
 
 part_one : (units : List ℕ) {p n : ℕ} {arms arms' : List (ℕ × ℕ)} → Part units p n arms → Part units p n arms' → arms ≡ arms'
 part_one units (last p n u arms few g a) y = a ∙ sym (last_is units y (omega arith) u g)
 part_one units (entry p n u v child rest arms many few g g' c r a) y =
     let e = entry_found units y many few u v g g' in
-    let same : child ≡ e.child = some_eq child e.child (sym e.at ∙ c) in
+    let same : child ≡ e.child = same_Some child e.child (sym c ∙ e.at) in
     a ∙ ap (λ z. (u, z) ∷ rest) same ∙ ap (λ z. (u, e.child) ∷ z) (part_one units r e.others) ∙ sym e.is
 part_one units (split p n s d low lower upper arms many g g' c l r b f a) y =
     let e = split_found units y many s d g g' in
-    let same : e.low ≡ low = some_eq e.low low (sym c ∙ e.at) in
+    let same : e.low ≡ low = same_Some e.low low (sym e.at ∙ c) in
     a ∙ ap (λ z. z ++ upper) (part_one units l (rw same at e.below)) ∙ ap (λ z. e.lower ++ z) (part_one units r e.above) ∙ sym e.is
 
 mutual
   holds_one : (units : List ℕ) {p : ℕ} {m m' : List (List ℕ × ℤ)} → Holds units p m → Holds units p m' → m ≡ m'
   holds_one units (final p lead n m g big s e) y =
       let f = holds_final units y lead g big in
-      let same : n ≡ f.0 = some_eq n f.0 (sym f.1 ∙ s) in
+      let same : n ≡ f.0 = same_Some n f.0 (sym s ∙ f.1) in
       e ∙ ap (λ z. ([], cast_signed w32 z) ∷ []) same ∙ sym f.2
   holds_one units (plain p lead m g small h) y = matches_one units h (holds_plain units y lead g small)
   holds_one units (valued p lead n m rest g big small s h e) y =
       let f = holds_valued units y lead g big small in
-      let same : n ≡ f.n = some_eq n f.n (sym f.number ∙ s) in
+      let same : n ≡ f.n = same_Some n f.n (sym s ∙ f.number) in
       e ∙ ap (λ z. ([], cast_signed w32 z) ∷ rest) same ∙ ap (λ z. ([], cast_signed w32 f.n) ∷ z) (matches_one units h f.node) ∙ sym f.is
 
   matches_one : (units : List ℕ) {p low : ℕ} {m m' : List (List ℕ × ℤ)} → Matches units p low m → Matches units p low m' → m ≡ m'
@@ -42,7 +40,7 @@ mutual
       e ∙ ap (under (take (low - 0x2f) (drop p units))) (holds_one units h r.node) ∙ sym r.keys
   matches_one units (branch p low n arms m small len many part up c) y =
       let b = matches_branch units y small in
-      let same : b.n ≡ n = some_eq b.n n (sym len ∙ b.len) in
+      let same : b.n ≡ n = same_Some b.n n (sym b.len ∙ len) in
       let arms_same : arms ≡ b.arms = part_one units part (rw same at b.part) in
       children_one units c (rw arms_same b.children)
 

@@ -1,5 +1,6 @@
 -- What stands at a place says of the place's value and its end.
-use Rattle.std.proofs.Common.{◌≡◌, ℕ, ℤ, ◌<◌, ◌≤◌, true, false, not, nat_lt, List, [], ◌∷◌, ◌++◌, refl, sym, ap, ◌∙◌, arith, slice_get, inl, inr}
+use Rattle.std.proofs.Common.{◌≡◌, ℕ, ℤ, ◌<◌, ◌≤◌, true, false, not, List, [], ◌∷◌, ◌++◌, refl, sym, ap, ◌∙◌, arith, slice_get, inl, inr}
+use Rattle.std.proofs.lemmas.Bool.{lt-ltb, le-ltb}
 use Rattle.std.proofs.lemmas.Bool.Decides.{nat_tests}
 use Rattle.std.specs.Prelude.{nat_le}
 use Rattle.icu_char16trie.specs.Grammar.{Holds, final, plain, valued, IsTrieOf}
@@ -12,12 +13,6 @@ use Rattle.icu_char16trie.specs.declared.place.Place.TheVariants.{Nowhere, Node,
 use Rattle.icu_char16trie.proofs.MapLemmas.{value_after_all, goes_on_after_all, after_all_push}
 use Rattle.icu_char16trie.proofs.NodeLemmas.{matches_no_root, matches_on, run_keys_first, value_under, holds_has, HasEntry}
 
-below_no : (a b : ℕ) → b ≤ a → nat_lt a b ≡ false
-below_no a b h = grind (arith, nat_tests)
-
-below_yes : (a b : ℕ) → a < b → nat_lt a b ≡ true
-below_yes a b h = grind (arith, nat_tests)
-
 from_no : (a b : ℕ) → b < a → nat_le a b ≡ false
 from_no a b h = grind (arith, nat_tests)
 
@@ -27,11 +22,11 @@ from_yes a b h = grind (arith, nat_tests)
 value_holds : (units : List ℕ) {p : ℕ} {m : List (List ℕ × ℤ)} → Holds units p m → value_at units (Node p) ≡ value_of m []
 unfolding value_of same_key
 value_holds units (final p lead n m g le s e) =
-    rw (g, below_no lead 0x40 (omega arith), below_no lead 0x8000 le, s, e) refl
+    rw (g, le-ltb lead 0x40 (omega arith), le-ltb lead 0x8000 le, s, e) refl
 value_holds units (plain p lead m g lt node) =
-    rw (g, below_yes lead 0x40 lt) (sym (matches_no_root units node))
+    rw (g, lt-ltb lead 0x40 lt) (sym (matches_no_root units node))
 value_holds units (valued p lead n m rest g ge lt s node e) =
-    rw (g, below_no lead 0x40 ge, below_yes lead 0x8000 lt, s, e) refl
+    rw (g, le-ltb lead 0x40 ge, lt-ltb lead 0x8000 lt, s, e) refl
 
 empty_holds : (units : List ℕ) {p : ℕ} {m : List (List ℕ × ℤ)} → Holds units p m → is_empty_at units (Node p) ≡ not (goes_on m [])
 unfolding goes_on key_goes_on

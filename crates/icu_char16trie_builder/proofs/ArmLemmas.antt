@@ -2,7 +2,7 @@
 use Rattle.std.proofs.Common.{◌≡◌, ℕ, zero, suc, Option, Some, None, take, drop, get_or, length-append, ◌^◌, ◌+◌, ◌<◌, ◌≤◌, List, [], ◌∷◌, ◌++◌, refl, sym, ap, subst, ◌∙◌, arith, length, append_assoc, append-nil}
 use Rattle.icu_char16trie.specs.UnitMap.{under, KeyBelowAll, IsAscendingKeys}
 use Rattle.std.proofs.lemmas.List.{take-append-drop, drop-drop}
-use Rattle.std.proofs.lemmas.Option.{slice_get-get_or}
+use Rattle.std.proofs.lemmas.Option.{none-some, slice_get-get_or}
 use Rattle.icu_char16trie_builder.proofs.CutLemmas.{cut_append, cut_group, room_append, room_group, longer_right, begin_right, begin_above, next_begin, ascends_strip, drop_here, longer_begin, ascends_left as ascends_left_map, ascends_right as ascends_right_map}
 use Rattle.icu_char16trie_builder.specs.Inside.Cuts.{cut, room, arm_units, arm_map, arm_room, AreBelow, AllLonger, IsGroup, BeginsFrom, AllBeginFrom, unit_of, ArmsSoFar, IsPart}
 use Rattle.icu_char16trie_builder.specs.Inside.Written.{Below, From, Ascends}
@@ -133,10 +133,7 @@ some_count d u es (suc count) h out = omega arith
 
 -- a first unit is one of the keys' first units
 first_begin : (d u s : ℕ) (es : List Entry) → unit_of es d ≡ Some u → AllBeginFrom s (cut d es) → s ≤ u
-first_begin d u s [] h b = absurd (none_some u h)
-  where
-    none_some : (u : ℕ) → ◌≡◌ {A = Option ℕ} None (Some u) → ⊥
-    none_some u h = cc
+first_begin d u s [] h b = absurd (none-some _ h)
 first_begin d u s (e ∷ es) h b = let c : BeginsFrom s (u ∷ drop (d + 1) e.key.now) = subst (λ z. BeginsFrom s z) (drop_here e.key.now d u h) b.0 in c
 
 -- all keys begin from the first one's unit
@@ -148,10 +145,7 @@ all_from_first d u (e ∷ es) h a =
     (subst (λ z. BeginsFrom u z) (sym same) here, begin_above u (drop (d + 1) e.key.now) (cut d es) (subst (λ z. KeyBelowAll z (cut d es)) same a.0))
 
 not_empty : (d u : ℕ) (es : List Entry) → unit_of es d ≡ Some u → (e : Entry) × (rest : List Entry) × (es ≡ e ∷ rest)
-not_empty d u [] h = absurd (none_some u h)
-  where
-    none_some : (u : ℕ) → ◌≡◌ {A = Option ℕ} None (Some u) → ⊥
-    none_some u h = cc
+not_empty d u [] h = absurd (none-some _ h)
 not_empty d u (e ∷ rest) h = (e, rest, refl)
 
 -- one more arm

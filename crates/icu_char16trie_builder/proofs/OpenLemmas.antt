@@ -2,7 +2,7 @@
 use Rattle.std.proofs.Common.{◌≡◌, ℕ, ℤ, suc, ◌+◌, ◌-◌, ◌*◌, ◌/◌, ◌<◌, ◌≤◌, List, [], ◌∷◌, ◌++◌, Option, Some, None, refl, sym, ap, subst, ◌∙◌, arith, length, take, drop, slice_get, reverse, append-nil, length-append, inl, inr}
 use Rattle.std.proofs.lemmas.Bool.{cases_lt}
 use Rattle.std.proofs.lemmas.List.{length-take-le, length-drop, nil_from_length, take_all}
-use Rattle.std.proofs.lemmas.Option.{slice_get_within}
+use Rattle.std.proofs.lemmas.Option.{none-some, same_Some, slice_get_within}
 use Rattle.std.specs.Borrow.{Bor}
 use Rattle.icu_char16trie.specs.Grammar.{Holds}
 use Rattle.icu_char16trie.specs.UnitMap.{UnitMap, under, IsAscendingKeys}
@@ -142,12 +142,9 @@ pub record IsRun (d k : ℕ) (front : List ℕ) (es : List Entry) : Type 0 where
 
 pub run_is : (d u j : ℕ) (es : List Entry) (first : Entry) (units rest front : List ℕ) → IsGroup d u es → slice_get es 0 ≡ Some first → units ≡ drop d first.key.now → rest ≡ drop 1 units
     → j ≤ 15 → j ≤ length rest → AllShare (d + 1) j rest es → front ≡ take (1 + j) units → IsRun d (1 + j) front es
-run_is d u j [] first units rest front g at e f few le a is = absurd (none_some at)
-  where
-    none_some : ◌≡◌ {A = Option Entry} None (Some first) → ⊥
-    none_some h = cc
+run_is d u j [] first units rest front g at e f few le a is = absurd (none-some _ at)
 run_is d u j (x ∷ es) first units rest front g at e f few le a is =
-    let same : x ≡ first = some_eq at in
+    let same : x ≡ first = same_Some _ _ at in
     let units_is : units ≡ u ∷ rest =
     let h : units ≡ u ∷ drop (d + 1) x.key.now = e ∙ ap (λ z. drop d z.key.now) (sym same) ∙ drop_here x.key.now d u g.0 in
     h ∙ ap (λ z. u ∷ z) (sym (f ∙ ap (drop 1) h)) in
@@ -165,9 +162,6 @@ run_is d u j (x ∷ es) first units rest front g at e f few le a is =
       share = λ y ys s. rw count (shared_long d (suc j) (u ∷ rest) y.key.now (omega arith) (omega (arith, le)) (subst (λ z. AllShare d (suc j) (u ∷ rest) z) s share).0);
       second = λ y z ys s. rw count (shared_long d (suc j) (u ∷ rest) z.key.now (omega arith) (omega (arith, le)) (subst (λ w. AllShare d (suc j) (u ∷ rest) w) s share).1.0);
     }
-  where
-    some_eq : ◌≡◌ {A = Option Entry} (Some x) (Some first) → x ≡ first
-    some_eq h = cc
 
 -- the entries of a run, as a step has them
 pub gives_run : (d k : ℕ) (value : Option ℤ) (old mid new : List Step) (front : Bor (List ℕ)) (es : Bor (List Entry)) (s : State) (goal : UnitMap)
@@ -265,16 +259,10 @@ first_below d arms rest a e h = let k : AreBelow d (a ∷ rest) = subst (λ z. A
 -- ---- entries, as the functions that open a node have them
 
 pub first_longer : (d u : ℕ) (es : List Entry) (e : Entry) → slice_get es 0 ≡ Some e → IsGroup d u es → d < length e.key.now
-first_longer d u [] e at g = absurd (none_some at)
-  where
-    none_some : ◌≡◌ {A = Option Entry} None (Some e) → ⊥
-    none_some h = cc
+first_longer d u [] e at g = absurd (none-some _ at)
 first_longer d u (x ∷ es) e at g =
-    let same : x ≡ e = some_eq at in
+    let same : x ≡ e = same_Some _ _ at in
     subst (λ z. d < length z.key.now) same (slice_get_within x.key.now d u g.0)
-  where
-    some_eq : ◌≡◌ {A = Option Entry} (Some x) (Some e) → x ≡ e
-    some_eq h = cc
 
 pub rest_longer : (d : ℕ) (es rest : List Entry) (e : Entry) → es ≡ e ∷ rest → IsAscendingKeys (cut d es) → AllLonger d rest
 rest_longer d es rest e f h =
@@ -304,11 +292,5 @@ tail_spent d old new tail es rest e f none t g =
     omega (arith, grew_length (3 + 2 * length tail) old new g, ap (room d) f, ap length t, length-drop d e.key.now)
 
 pub first_deep : (d : ℕ) (es : List Entry) (e : Entry) → slice_get es 0 ≡ Some e → AllLonger d es → d < length e.key.now
-first_deep d [] e at h = absurd (none_some at)
-  where
-    none_some : ◌≡◌ {A = Option Entry} None (Some e) → ⊥
-    none_some h = cc
-first_deep d (x ∷ es) e at h = subst (λ z. d < length z.key.now) (some_eq at) h.0
-  where
-    some_eq : ◌≡◌ {A = Option Entry} (Some x) (Some e) → x ≡ e
-    some_eq h = cc
+first_deep d [] e at h = absurd (none-some _ at)
+first_deep d (x ∷ es) e at h = subst (λ z. d < length z.key.now) (same_Some _ _ at) h.0

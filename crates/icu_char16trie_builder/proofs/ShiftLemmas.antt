@@ -1,5 +1,6 @@
 -- What stands in a list of units stands in it behind others, so many places further on.
 use Rattle.std.proofs.Common.{◌≡◌, ℕ, ℤ, suc, ◌+◌, ◌-◌, ◌/◌, ◌%◌, ◌<◌, Bool, true, false, cond, nat_lt, nat_eq, List, [], ◌∷◌, ◌++◌, Option, Some, None, refl, sym, ap, ◌∙◌, arith, length, slice_get}
+use Rattle.std.proofs.lemmas.Option.{none-some, same_Some}
 use Rattle.std.specs.Prelude.{option_and_then}
 use Rattle.icu_char16trie.specs.Numbers.{low_half, both_halves, short_number, short_end, node_number, node_end, delta_number, delta_end, entry_child, lower_part}
 use Rattle.icu_char16trie.specs.Grammar.{UnitsBelow, UnitsFrom, IsAscending, Part, last, entry, split, branch_start, Holds, final, plain, valued, Matches, run, branch, Children, none, more}
@@ -68,20 +69,14 @@ delta_end_moved : (p w : ℕ) → delta_end (suc p) w ≡ suc (delta_end p w)
 unfolding delta_end
 delta_end_moved p w = end_moved (nat_lt w 0xfc00) (nat_lt w 0xffff) p
 
-some_eq : {a b : ℕ} → ◌≡◌ {A = Option ℕ} (Some a) (Some b) → a ≡ b
-some_eq h = cc
-
-no_some : {q : ℕ} → ◌≡◌ {A = Option ℕ} None (Some q) → ⊥
-no_some h = cc
-
 jump_moved : (o : Option ℕ) (e child : ℕ) → option_and_then (λ j. Some (e + j)) o ≡ Some child → option_and_then (λ j. Some (suc e + j)) o ≡ Some (suc child)
-jump_moved None e child h = absurd (no_some h)
-jump_moved (Some j) e child h = let s : e + j ≡ child = some_eq h in ap Some (rw (on e j) (ap suc s))
+jump_moved None e child h = absurd (none-some _ h)
+jump_moved (Some j) e child h = let s : e + j ≡ child = same_Some _ _ h in ap Some (rw (on e j) (ap suc s))
 
 child_moved_by : (b : Bool) (o : Option ℕ) (e q child : ℕ) → 0 < q → cond b (option_and_then (λ j. Some (e + j)) o) (Some (q - 1)) ≡ Some child
     → cond b (option_and_then (λ j. Some (suc e + j)) o) (Some (suc q - 1)) ≡ Some (suc child)
 child_moved_by true o e q child pos h = jump_moved o e child h
-child_moved_by false o e q child pos h = let s : q - 1 ≡ child = some_eq h in ap Some (omega (arith, s))
+child_moved_by false o e q child pos h = let s : q - 1 ≡ child = same_Some _ _ h in ap Some (omega (arith, s))
 
 child_moved : (x : ℕ) (units : List ℕ) (q v child : ℕ) → 0 < q → entry_child units q v ≡ Some child → entry_child (x ∷ units) (suc q) v ≡ Some (suc child)
 unfolding entry_child

@@ -1,6 +1,7 @@
 -- What was saved stays when more units are written, and a step makes what it says.
-use Rattle.std.proofs.Common.{◌≡◌, ℕ, ℤ, zero, suc, Some, None, slice_get, ◌+◌, ◌-◌, ◌/◌, ◌<◌, ◌≤◌, List, [], ◌∷◌, ◌++◌, Option, refl, sym, ap, subst, ◌∙◌, arith, length, length-append, reverse}
+use Rattle.std.proofs.Common.{◌≡◌, ℕ, ℤ, zero, suc, Some, slice_get, ◌+◌, ◌-◌, ◌/◌, ◌<◌, ◌≤◌, List, [], ◌∷◌, ◌++◌, Option, refl, sym, ap, subst, ◌∙◌, arith, length, length-append, reverse}
 use Rattle.std.proofs.lemmas.List.{length-reverse, reverse-append}
+use Rattle.std.proofs.lemmas.Option.{none-some, same_Some}
 use Rattle.icu_char16trie.specs.Grammar.{Holds}
 use Rattle.icu_char16trie.specs.UnitMap.{UnitMap, under}
 use Rattle.icu_char16trie_builder.specs.Inside.Written.{PartAt, Below, From, Ascends, Grew, own_entry}
@@ -160,15 +161,9 @@ start_leads es below =
 
 -- a node of a list of known ones
 pub known_at : (units : List ℕ) (known : List KnownNode) (i : ℕ) (k : KnownNode) (m : UnitMap) → AreKnown units known → slice_get known i ≡ Some k → cut k.depth k.entries.now ≡ m → IsSaved units k.place (node m)
-known_at units [] i k m h g e = absurd (none_some g)
-  where
-    none_some : ◌≡◌ {A = Option KnownNode} None (Some k) → ⊥
-    none_some h = cc
+known_at units [] i k m h g e = absurd (none-some _ g)
 known_at units (x ∷ known) zero k m h g e =
-    subst (λ z. IsSaved units k.place (node z)) e (subst (λ z. IsSaved units z.place (node (cut z.depth z.entries.now))) (some_eq g) h.0)
-  where
-    some_eq : ◌≡◌ {A = Option KnownNode} (Some x) (Some k) → x ≡ k
-    some_eq h = cc
+    subst (λ z. IsSaved units k.place (node z)) e (subst (λ z. IsSaved units z.place (node (cut z.depth z.entries.now))) (same_Some _ _ g) h.0)
 known_at units (x ∷ known) (suc i) k m h g e = known_at units known i k m h.1 g e
 
 pub ready : (units places : List ℕ) (known : List KnownNode) (x : Step) (others : List Step) (goal : UnitMap) → Leads units places known (x ∷ others) goal → IsReady x

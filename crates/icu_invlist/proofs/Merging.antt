@@ -307,6 +307,10 @@ joined a b out cut more whole p q x y z =
     ∙ ap (λ (ys : List ℕ). out ++ ys) (take_all (length a - p) (drop p a) (omega (arith, length-drop p a)))))
 
 -- ---- sets whose ends stand apart
+-- before its own ends begin, the second list holds nothing
+second_none : (a b : List ℕ) (s : StandBefore a b) (c : ℕ) → c < s.end → holds b c ≡ false
+second_none a b s c h = holds-below b c ∙ ap is_odd (let k = below-mono b (suc c) s.end (omega arith) in let n = s.second in let z : below b (suc c) ≡ 0 = omega arith in z)
+
 -- all ends of the first list are passed and none of the second; the operation keeps the first, or leaves it out
 stood : (f : Bool → Bool → Bool) (a b out : List ℕ) → f false false ≡ false → IsValid a → (s : StandBefore a b) → (f true false ≡ true) × (out ≡ a) ⊎ (f true false ≡ false) × (out ≡ [])
     → Merging f a b out s.end (length a) 0
@@ -316,26 +320,20 @@ stood f a b out none v s (inl (t, e)) = rw e (record {
   run = whole_front;
   small = s.within;
   parity = is_even a (length a) v refl ∙ (sym none ∙ ap (λ x. f x false) (sym (is_even a (length a) v refl)));
-  set = λ c h. sym (ap (f (holds a c)) (second_none c h) ∙ keeps (λ x. f x false) none t (holds a c));
+  set = λ c h. sym (ap (f (holds a c)) (second_none a b s c h) ∙ keeps (λ x. f x false) none t (holds a c));
 })
   where
     whole_front : Run 0 s.end a
     whole_front = let front : Run 0 s.end (take (length a) a) = rw s.first (run-front 0 (suc code_point_limit) s.end a (run_from_valid a v)) in
         subst (λ (xs : List ℕ). Run 0 s.end xs) (take_all (length a) a (omega arith)) front
-
-    second_none : (c : ℕ) → c < s.end → holds b c ≡ false
-    second_none c h = holds-below b c ∙ ap is_odd (let k = below-mono b (suc c) s.end (omega arith) in let n = s.second in let z : below b (suc c) ≡ 0 = omega arith in z)
 stood f a b out none v s (inr (t, e)) = rw e (record {
   first = s.first;
   second = s.second;
   run = tt;
   small = s.within;
   parity = sym none ∙ ap (λ x. f x false) (sym (is_even a (length a) v refl));
-  set = λ c h. holds-nil c ∙ sym (ap (f (holds a c)) (second_none c h) ∙ leaves (λ x. f x false) none t (holds a c));
+  set = λ c h. holds-nil c ∙ sym (ap (f (holds a c)) (second_none a b s c h) ∙ leaves (λ x. f x false) none t (holds a c));
 })
-  where
-    second_none : (c : ℕ) → c < s.end → holds b c ≡ false
-    second_none c h = holds-below b c ∙ ap is_odd (let k = below-mono b (suc c) s.end (omega arith) in let n = s.second in let z : below b (suc c) ≡ 0 = omega arith in z)
 
 -- the operation keeps both
 pub stood_both : (f : Bool → Bool → Bool) (a b : List ℕ) → f false false ≡ false → IsValid a → IsValid b → StandBefore a b → f true false ≡ true → f false true ≡ true

@@ -4,6 +4,7 @@ use Rattle.std.specs.Prelude.{nat_eq}
 use Rattle.std.specs.Option.{option_or, unwrap_or}
 use Rattle.std.specs.List.{range_with_len, Contains, count_by}
 use Rattle.std.specs.Cmp.Lexicographic.{pointwise}
+use Rattle.std.proofs.lemmas.Bool.{cases_lt}
 use Rattle.std.proofs.lemmas.Bool.Decides.{nat_tests}
 use Rattle.std.proofs.lemmas.List.{same_lists, length-map, length-replicate, get_or-replicate, get_or_append_left, get_or-append-add}
 use Rattle.std.proofs.lemmas.List.Sums.{sum_by-cons}
@@ -39,11 +40,8 @@ Contains-right xs ys p h = (length xs + h.0, omega (arith, h.1, length-append xs
 -- a number strictly between two is in the list, or none is
 find-between : (low high : ℕ) (bs : List ℕ) → ((p : ℕ) × Has bs p × (low < p) × (p < high)) ⊎ ((p : ℕ) → Has bs p → low < p → p < high → ⊥)
 find-between low high [] = inr (λ p h. absurd h)
-find-between low high (b ∷ bs) = by (split low b) (split b high) (find-between low high bs)
+find-between low high (b ∷ bs) = by (cases_lt low b) (cases_lt b high) (find-between low high bs)
   where
-    split : (m n : ℕ) → (m < n) ⊎ (n ≤ m)
-    split m n = search arith
-
     by : ((low < b) ⊎ (b ≤ low)) → ((b < high) ⊎ (high ≤ b)) → (((p : ℕ) × Has bs p × (low < p) × (p < high)) ⊎ ((p : ℕ) → Has bs p → low < p → p < high → ⊥)) → ((p : ℕ) × Has (b ∷ bs) p × (low < p) × (p < high)) ⊎ ((p : ℕ) → Has (b ∷ bs) p → low < p → p < high → ⊥)
     by (inl m) (inl n) r = inl (b, inl refl, m, n)
     by m n (inl w) = inl (w.0, inr w.1, w.2, w.3)

@@ -1,5 +1,5 @@
 -- Placing blocks anywhere among some cells.
-use Rattle.std.proofs.Common.{◌≡◌, ℕ, ◌+◌, ◌-◌, ◌*◌, ◌<◌, ◌≤◌, ◌≢◌, ◌&&◌, Bool, true, false, not, true≢false, List, [], ◌∷◌, ◌++◌, length, get_or, take, drop, map, refl, arith, ◌∙◌, sym, ap, subst, below_more, ◌⊎◌, inl, inr}
+use Rattle.std.proofs.Common.{◌≡◌, ℕ, ◌+◌, ◌-◌, ◌*◌, ◌<◌, ◌≤◌, ◌≢◌, ◌&&◌, Bool, true, false, not, true≢false, List, [], ◌∷◌, ◌++◌, length, get_or, take, drop, map, refl, arith, ◌∙◌, sym, ap, subst, below_more, inl, inr}
 use Rattle.std.specs.Prelude.{nat_eq}
 use Rattle.std.specs.Cmp.Lexicographic.{pointwise}
 use Rattle.std.specs.List.{range_with_len, filter, Contains, IsDistinct, AllPass}
@@ -7,7 +7,7 @@ use Rattle.std.specs.Set.{unique_keys, is_member}
 use Rattle.std.proofs.lemmas.Map.Made.{is_member-filter, is_member-Decides}
 use Rattle.std.proofs.lemmas.List.FromFn.{length-map-range_with_len, get_or-map-range_with_len}
 use Rattle.std.proofs.Math.Nat.{mul-le-mul_left}
-use Rattle.std.proofs.lemmas.Bool.{false_from_ne_true, or_cases}
+use Rattle.std.proofs.lemmas.Bool.{cases_lt, false_from_ne_true, or_cases}
 use Rattle.std.proofs.lemmas.List.{take_all, take-take, length-append, length-take, length-drop, get_or_append_left, get_or_at}
 use Rattle.icu_trie_core.specs.Blocks.{window, count_different}
 use Rattle.icu_trie_compaction.specs.Different.{count_different_but}
@@ -140,7 +140,7 @@ module _ (k first j : ℕ) (b : ℕ → List ℕ) (before stored offsets : List 
         least = below_more (λ i. IsLeast k (get_or offsets' i 0) stored' (b (first + i))) j
             (λ i lt. rw (ap (λ os. get_or os i 0) o, get_or_append_left offsets (at ∷ []) 0 i (omega (arith, lt, l.count))) (least-kept k (get_or offsets i 0) stored stored' (b (first + i)) kept (l.least i lt)))
             (rw (ap (λ os. get_or os j 0) o, get_or_at offsets at [] 0 j l.count) here);
-        short = λ p st. elim (split (length stored) (length stored')) [
+        short = λ p st. elim (cases_lt (length stored) (length stored')) [
           | inl lt ↦ let g = grown lt in omega (arith, g.0, compacting-fresh g.1 p st)
           | inr ge ↦
               let m = count_different_but-mono p b first j (j + 1) (omega arith) in
@@ -149,9 +149,6 @@ module _ (k first j : ℕ) (b : ℕ → List ℕ) (before stored offsets : List 
         ];
         drawn = λ p all pass. drawn p (all j (omega arith)) (l.drawn p (λ i lt. all i (omega (arith, lt))) pass);
       }
-    where
-      split : (a b : ℕ) → (a < b) ⊎ (b ≤ a)
-      split a b = search arith
 
   -- where the limit is passed
   pub compacting-full : (m limit : ℕ) → j < m → ((q : ℕ) → window k q stored ≢ b (first + j)) → limit < length stored → limit + k < length before + k * count_different b first m

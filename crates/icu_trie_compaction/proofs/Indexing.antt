@@ -1,7 +1,7 @@
 -- Placing the blocks of 512 one after another.
-use Rattle.std.proofs.Common.{◌≡◌, ◌≢◌, ◌⊎◌, inl, inr, ℕ, ◌+◌, ◌-◌, ◌*◌, ◌<◌, ◌≤◌, false, true, nat_lt, List, [], ◌∷◌, ◌++◌, length, get_or, take, drop, refl, arith, ◌∙◌, sym, ap, subst, below_more, Some}
+use Rattle.std.proofs.Common.{◌≡◌, ◌≢◌, inl, inr, ℕ, ◌+◌, ◌-◌, ◌*◌, ◌<◌, ◌≤◌, false, true, nat_lt, List, [], ◌∷◌, ◌++◌, length, get_or, take, drop, refl, arith, ◌∙◌, sym, ap, subst, below_more, Some}
 use Rattle.std.specs.List.{AllPass}
-use Rattle.std.proofs.lemmas.Bool.{lt-ltb}
+use Rattle.std.proofs.lemmas.Bool.{cases_lt, lt-ltb}
 use Rattle.std.proofs.lemmas.Bool.Decides.{nat_tests}
 use Rattle.std.proofs.lemmas.List.{length-append, length-take, length-drop, get_or_append_left, get_or_at, get_or_default}
 use Rattle.icu_trie_core.specs.Blocks.{window, block, count_different}
@@ -147,18 +147,15 @@ module _ (start : ℕ) (fast offsets : List ℕ) (j : ℕ) (stored cells : List 
             (rw new here);
         below = λ i lt. below_more (λ i. get_or cells' i 0 < 0x10000) j (λ i lt. omega (arith, old i lt, l.below i (omega (arith, lt, l.count)))) (omega (arith, new, low)) i (omega (arith, lt, len));
         fit = fit;
-        short = elim (split (length stored) (length stored')) [
+        short = elim (cases_lt (length stored) (length stored')) [
           | inl lt ↦ omega (arith, indexing-fresh (fresh lt), wide, l.short)
           | inr ge ↦ omega (arith, ge, l.short, more)
         ];
-        tight = λ below. elim (split (length stored) (length stored')) [
+        tight = λ below. elim (cases_lt (length stored) (length stored')) [
           | inl lt ↦ omega (arith, indexing-fresh (fresh lt), narrow (block-below below), l.tight below)
           | inr ge ↦ omega (arith, ge, l.tight below, more)
         ];
       }
-    where
-      split : (a b : ℕ) → (a < b) ⊎ (b ≤ a)
-      split a b = search arith
 
   -- where a block is refused
   pub indexing-full : (m : ℕ) → j < m → IsUnplaced start fast stored (block 32 offsets j) → 0x7fff ≤ start + length stored

@@ -1,5 +1,4 @@
-use Rattle.icu_zerovec.specs.Slice.{slice_values}
-use Rattle.std.proofs.Common.{◌+◌, ◌%◌, arith, ◌∙◌, sym, ap, refl, ◌≡◌}
+use Rattle.std.proofs.Common.{◌+◌, ◌%◌, arith, ◌∙◌, sym, ap, ◌≡◌}
 use Rattle.std.proofs.lemmas.Nat.{and_mask}
 use Rattle.icu_char16trie.specs.Numbers.{short_end}
 use Rattle.icu_char16trie.specs.Steps.{gone, last, here, on}
