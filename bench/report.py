@@ -1,7 +1,7 @@
 """Prints what the program bench measured, in markdown: report.py MEASURED..
 
-Each file is one run of the program. A time is the least of all runs: they differ in where the code stands in
-memory, which costs short loops up to a half more or less on some processors.
+Each file is one run of the program. A time is the least of all runs: they differ in where the code
+stands in memory, which costs short loops up to a half more or less on some processors.
 """
 import collections
 import math
@@ -87,8 +87,10 @@ def main():
         print("### Units of unit tries that are built\n")
         table(["list", "keys", "units", "ICU's fast", "ICU's small"], units)
     print("### Summary\n")
-    table(["kernel", "rows", "ours / Rust", "ours / ICU", "worst row, to the better"],
-          [summary(kernel, rows) for kernel, rows in times.items()])
+    table(
+        ["kernel", "rows", "ours / Rust", "ours / ICU", "worst row, to the better"],
+        [summary(kernel, rows) for kernel, rows in times.items()],
+    )
 
 
 main()

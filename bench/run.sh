@@ -1,8 +1,10 @@
 #!/bin/sh
-# Measures this repository beside ICU4C and plain Rust, over the same data in one run, and prints markdown: the rows
-# of each kernel, and a summary. README.md says what is measured and how to read it.
+# Measures this repository beside ICU4C and plain Rust, over the same data in one run, and prints
+# markdown: the rows of each kernel, and a summary. README.md says what is measured and how to read
+# it.
 # Usage: bench/run.sh [KERNEL..]       a kernel's name or the front of it; none: all
-# TABLES=FOLDER adds the tables NAME.txt of a folder to those of tests/data. CODE=FOLDER keeps the machine code there.
+# TABLES=FOLDER adds the tables NAME.txt of a folder to those of tests/data. CODE=FOLDER keeps the
+# machine code there.
 set -eu
 here=$(dirname -- "$(readlink -f -- "$0")")
 root=$here/..
@@ -12,7 +14,8 @@ command -v rt >/dev/null || stop "no rt: put the kit's folder bin on PATH"
 command -v rustc >/dev/null || stop "no rustc"
 command -v g++ >/dev/null || stop "no g++"
 command -v python3 >/dev/null || stop "no python3"
-echo '#include <unicode/ucptrie.h>' | g++ -x c++ -E - >/dev/null 2>&1 || stop "no ICU: install libicu-dev"
+echo '#include <unicode/ucptrie.h>' | g++ -x c++ -E - >/dev/null 2>&1 ||
+    stop "no ICU: install libicu-dev"
 kit=$(dirname -- "$(dirname -- "$(readlink -f -- "$(command -v rt)")")")
 
 work=$(mktemp -d)
@@ -32,7 +35,8 @@ if ! (cd "$work/crates/bench_ours" && rt lib) >"$work/log" 2>&1; then
 fi
 ours=$work/crates/bench_ours/out/libbench_ours.a
 rust=$work/libpeer.a
-rustc --edition 2024 -O -C target-cpu=x86-64-v2 -C panic=abort --crate-type staticlib -o "$rust" "$here/peer/lib.rs"
+rustc --edition 2024 -O -C target-cpu=x86-64-v2 -C panic=abort --crate-type staticlib -o "$rust" \
+    "$here/peer/lib.rs"
 for file in "$here"/driver/*.cpp; do
     g++ -std=c++17 -O3 -march=x86-64-v2 -c -o "$work/$(basename "$file" .cpp).o" "$file"
 done
@@ -43,7 +47,8 @@ if [ -n "${CODE:-}" ]; then
     objdump -dC --no-show-raw-insn "$work"/*.o >"$CODE/icu.s"
 fi
 
-# Where a loop stands in memory may cost it a half more on some processors, so all code is measured at four places.
+# Where a loop stands in memory may cost it a half more on some processors, so all code is measured
+# at four places.
 set -- -- "$@"
 for table in "$root"/tests/data/*.runs.txt ${TABLES:+"$TABLES"/*.runs.txt}; do
     set -- "${table%.runs.txt}.txt" "$@"

@@ -1,4 +1,5 @@
-"""The kit's command rt as a module, for the scripts beside: it knows with which words the gate checks a crate, and which of what is built is still of the files as they are."""
+"""The kit's command rt as a module, for the scripts beside: it knows with which words the gate
+checks a crate, and which of what is built is still of the files as they are."""
 import importlib.machinery
 import importlib.util
 import os
@@ -16,7 +17,10 @@ def top():
 
 def load():
     """rt's own module, set up as rt ci does it."""
-    loader = importlib.machinery.SourceFileLoader("rt", os.path.realpath(shutil.which("rt") or sys.exit("no rt: put the kit's folder bin on PATH")))
+    loader = importlib.machinery.SourceFileLoader(
+        "rt",
+        os.path.realpath(shutil.which("rt") or sys.exit("no rt: put the kit's folder bin on PATH")),
+    )
     made = importlib.util.module_from_spec(importlib.util.spec_from_loader("rt", loader))
     loader.exec_module(made)
     made.rtlib.Crate = made.Crate
@@ -50,15 +54,26 @@ def is_fresh(crate, program):
 
 
 def built(crate):
-    """The path of the crate's program, or of its tests where it is a library, or None where it can't be built. What rt ci left is taken, and nothing is proved again; where it
-    isn't of the files as they are, it is proved and built."""
+    """The path of the crate's program, or of its tests where it is a library, or None where it
+    can't be built. What rt ci left is taken, and nothing is proved again; where it isn't of the
+    files as they are, it is proved and built."""
     program = f"{crate.folder}/out/{crate.name}{'' if crate.is_program else '_tests'}"
     if is_fresh(crate, program):
         return program
     begun = time.time_ns()
     words = ["rt", "run" if crate.is_program else "test"]
-    ran = subprocess.run(words, cwd=crate.folder, stdin=subprocess.DEVNULL, stdout=subprocess.PIPE, stderr=subprocess.STDOUT, text=True, errors="replace")
-    if not os.access(program, os.X_OK) or not re.search(r"^(linked |rt: nothing has changed)", ran.stdout, re.M):
+    ran = subprocess.run(
+        words,
+        cwd=crate.folder,
+        stdin=subprocess.DEVNULL,
+        stdout=subprocess.PIPE,
+        stderr=subprocess.STDOUT,
+        text=True,
+        errors="replace",
+    )
+    if not os.access(program, os.X_OK) or not re.search(
+        r"^(linked |rt: nothing has changed)", ran.stdout, re.M
+    ):
         print("\n".join(ran.stdout.split("\n")[-20:]), file=sys.stderr)
         return None
     # A file that is edited while rt builds stays newer than the program.

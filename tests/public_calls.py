@@ -1,4 +1,5 @@
-"""The public calls of the libraries, as their sources have them, and what their signatures say of memory."""
+"""The public calls of the libraries, as their sources have them, and what their signatures say of
+memory."""
 import glob
 import os
 import re
@@ -7,8 +8,23 @@ import re
 SHOWN, ENGINE = "icu_collections", "ucptab_table"
 # What answers a want of memory, beside each enum with a variant `Memory`.
 ANSWERS = {"MemoryError", "AllocError", "ApplyRefused"}
-# Traits whose methods are called by an operator or by a format, and those whose methods are the caller's own.
-UNNAMED = {"Clone", "Copy", "Debug", "Display", "Drop", "Eq", "Error", "Hash", "Model", "PartialEq", "Cells", "Sink", "Source"}
+# Traits whose methods are called by an operator or by a format, and those whose methods are the
+# caller's own.
+UNNAMED = {
+    "Clone",
+    "Copy",
+    "Debug",
+    "Display",
+    "Drop",
+    "Eq",
+    "Error",
+    "Hash",
+    "Model",
+    "PartialEq",
+    "Cells",
+    "Sink",
+    "Source",
+}
 # Types of which nothing is left at run time.
 GHOSTS = {"Steps"}
 # What a call is said to do about memory; where several bear one name, the last of these holds.
@@ -17,7 +33,8 @@ KINDS = ["converts", "none", "takes", "answers"]
 ITEM = re.compile(
     r"^(?P<head>(?:pub )?(?:impl|trait)\b[^{;]*)\{"
     r"|^(?P<end>\})"
-    r"|^ *(?P<public>pub )?(?:const )?fn (?P<name>\w+)(?P<signature>(?:[^{};]|\{[^{}]*\})*?)(?=\n? *(?:requires|ensures|decreases)\b|[{;])",
+    r"|^ *(?P<public>pub )?(?:const )?fn (?P<name>\w+)(?P<signature>(?:[^{};]|\{[^{}]*\})*?)"
+    r"(?=\n? *(?:requires|ensures|decreases)\b|[{;])",
     re.M,
 )
 
@@ -39,11 +56,15 @@ def without_generics(text):
 
 
 def shown():
-    """Each type, trait and function that icu_collections shows by its name, with the module that it stands in there; and each module that it shows whole, by its folder or file."""
+    """Each type, trait and function that icu_collections shows by its name, with the module that it
+    stands in there; and each module that it shows whole, by its folder or file."""
     names, modules = {}, {}
     for path in sources(SHOWN):
         module = os.path.basename(path)[:-3].replace("lib", SHOWN)
-        for crate, within, last in re.findall(r"pub use (\w+)((?:::\w+)*?)(?:::(\w+|\{[^}]*\}))?(?: as \w+)?;", plain(open(path).read())):
+        for crate, within, last in re.findall(
+            r"pub use (\w+)((?:::\w+)*?)(?:::(\w+|\{[^}]*\}))?(?: as \w+)?;",
+            plain(open(path).read()),
+        ):
             for name in re.findall(r"\w+", last or crate):
                 folder = f"crates/{crate}/src{within.replace('::', '/')}"
                 if not last:
@@ -56,13 +77,20 @@ def shown():
 
 
 def calls_of(path, names, traits, module, answers):
-    """The public calls of a file, each with its kind: `names` are those that are shown, `traits` the traits among them; `module` is its own where it is shown whole, else None."""
+    """The public calls of a file, each with its kind: `names` are those that are shown, `traits`
+    the traits among them; `module` is its own where it is shown whole, else None."""
     owner, trait = None, None
     for item in ITEM.finditer(plain(open(path).read())):
         if item["end"]:
             owner, trait = None, None
         elif item["head"]:
-            words = without_generics(re.sub(r"^(?:pub )?(?:impl|trait)\s*", "", re.sub(r"^impl<(?:[^<>]|<[^<>]*>)*>", "impl ", item["head"])))
+            words = without_generics(
+                re.sub(
+                    r"^(?:pub )?(?:impl|trait)\s*",
+                    "",
+                    re.sub(r"^impl<(?:[^<>]|<[^<>]*>)*>", "impl ", item["head"]),
+                )
+            )
             left, _, right = words.partition(" for ")
             if "trait " in item["head"]:
                 trait = owner = re.findall(r"\w+", left)[0]
@@ -76,11 +104,14 @@ def calls_of(path, names, traits, module, answers):
             kind = "converts" if trait == "From" else memory_of(item["signature"], answers)
             yield f"{trait if trait in traits else owner}::{item['name']}", kind
         elif not owner and (module or item["name"] in names):
-            yield f"{names.get(item['name'], module)}::{item['name']}", memory_of(item["signature"], answers)
+            yield f"{names.get(item['name'], module)}::{item['name']}", memory_of(
+                item["signature"], answers
+            )
 
 
 def memory_of(signature, answers):
-    """The kind of a function with this signature: `answers` where it answers a want of memory, `takes` where it only takes an allocator, else `none`."""
+    """The kind of a function with this signature: `answers` where it answers a want of memory,
+    `takes` where it only takes an allocator, else `none`."""
     taken, _, answer = signature.partition("->")
     if answers & set(re.findall(r"\w+", answer)):
         return "answers"
@@ -92,17 +123,34 @@ def public_calls():
     names, modules = shown()
     crates = sorted({os.path.basename(it) for it in glob.glob("crates/icu_*")} - {SHOWN}) + [ENGINE]
     text = {path: plain(open(path).read()) for crate in crates for path in sources(crate)}
-    answers = ANSWERS | {name for it in text.values() for name, body in re.findall(r"^pub enum (\w+)[^{]*\{(.*?)^\}", it, re.M | re.S) if re.search(r"\bMemory\b", body)}
-    # What a module that is shown whole makes public: its own items, and those that it names by `pub use`.
+    answers = ANSWERS | {
+        name
+        for it in text.values()
+        for name, body in re.findall(r"^pub enum (\w+)[^{]*\{(.*?)^\}", it, re.M | re.S)
+        if re.search(r"\bMemory\b", body)
+    }
+    # What a module that is shown whole makes public: its own items, and those that it names by `pub
+    # use`.
     for path, it in text.items():
         for folder, module in modules.items():
             if path.startswith(folder):
-                for last in re.findall(r"^pub use [\w:]*?(\w+|\{[^}]*\});|^pub (?:struct|enum|trait) (\w+)", it, re.M):
-                    names.update({name: names.get(name, module) for name in re.findall(r"\w+", "".join(last))})
-    traits = {name for it in text.values() for name in re.findall(r"^pub trait (\w+)", it, re.M)} & names.keys()
+                for last in re.findall(
+                    r"^pub use [\w:]*?(\w+|\{[^}]*\});|^pub (?:struct|enum|trait) (\w+)", it, re.M
+                ):
+                    names.update(
+                        {
+                            name: names.get(name, module)
+                            for name in re.findall(r"\w+", "".join(last))
+                        }
+                    )
+    traits = {
+        name for it in text.values() for name in re.findall(r"^pub trait (\w+)", it, re.M)
+    } & names.keys()
     found = {}
     for path in text:
-        whole = next((module for folder, module in modules.items() if path.startswith(folder)), None)
+        whole = next(
+            (module for folder, module in modules.items() if path.startswith(folder)), None
+        )
         if path == f"crates/{ENGINE}/src/lib.rt":
             whole = ENGINE
         module = whole and os.path.basename(path)[:-3].replace("lib", whole).replace("mod", whole)

@@ -1,5 +1,7 @@
-/* Loaded before the C library (LD_PRELOAD): the request for memory number REFUSE (from 1) is refused, as by malloc that gives NULL. Where it is, the byte `x` and a
-   newline are written to standard output, so that it stands between what the program prints before and after. Needs no header and no other library than glibc. */
+/* Loaded before the C library (LD_PRELOAD): the request for memory number REFUSE (from 1) is
+   refused, as by malloc that gives NULL. Where it is, the byte `x` and a newline are written to
+   standard output, so that it stands between what the program prints before and after. Needs no
+   header and no other library than glibc. */
 typedef unsigned long size;
 extern void *__libc_malloc(size), *__libc_realloc(void *, size);
 extern char *getenv(const char *);

@@ -46,7 +46,8 @@ BuildCall ours_build_8, ours_build_16, ours_build_32;
 #define BOTH(name)                                                                                \
     uint64_t name##_setfor_8(const TrieParts *, uint8_t value, size_t turns);                     \
     uint64_t name##_contains(const uint8_t *, size_t, const uint32_t *points, size_t);            \
-    uint64_t name##_contains_text(const uint8_t *, size_t, const uint8_t *text, size_t);          \
+    uint64_t name##_contains_text(const uint8_t *, size_t, const uint8_t *text, size_t,           \
+                                  size_t turns);                                                  \
     uint64_t name##_position(const uint8_t *, size_t, const uint32_t *points, size_t);            \
     uint64_t name##_set_iter(const uint8_t *, size_t, size_t turns);                              \
     uint64_t name##_contains_set(const uint8_t *, size_t, const uint8_t *, size_t, size_t turns); \

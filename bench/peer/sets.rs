@@ -104,6 +104,12 @@ pub unsafe fn set<'a>(bytes: *const u8, len: usize) -> Set<&'a [Cell]> {
     Set::of_cells(unsafe { slice(bytes as *const Cell, len / 3) })
 }
 
+/// The sum with how many of the characters of a text are in the set.
+#[inline(never)]
+fn add_held<C: AsRef<[Cell]>>(set: &Set<C>, text: &str, sum: u64) -> u64 {
+    text.chars().fold(sum, |sum, c| sum + set.contains(c) as u64)
+}
+
 #[unsafe(no_mangle)]
 unsafe extern "C" fn rust_contains(
     ends: *const u8,
@@ -121,10 +127,10 @@ unsafe extern "C" fn rust_contains_text(
     len: usize,
     text: *const u8,
     count: usize,
+    turns: usize,
 ) -> u64 {
     let (set, text) = unsafe { (set(ends, len), slice(text, count)) };
-    std::str::from_utf8(text)
-        .map_or(u64::MAX, |text| text.chars().map(|c| set.contains(c) as u64).sum())
+    std::str::from_utf8(text).map_or(u64::MAX, |text| over(turns, |sum| add_held(&set, text, sum)))
 }
 
 #[unsafe(no_mangle)]

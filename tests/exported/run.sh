@@ -1,9 +1,10 @@
 #!/bin/sh
-# Reads tries in TOML as ICU's icuexportdata writes them, and compares their ranges with those that another
-# program found: tests/data/east_asian_width.toml with the ranges that the same file has, and, where gcc and
-# ICU 72 or newer (libicu-dev) are at hand, the tries that ICU4C builds and exports here from each NAME.txt
-# with a NAME.runs.txt beside it, of tests/data and of the folder that the variable TABLES names, if it is set.
-# Its last line is 'all exported tries as expected', with status 0, or says what failed, with status 1.
+# Reads tries in TOML as ICU's icuexportdata writes them, and compares their ranges with those that
+# another program found: tests/data/east_asian_width.toml with the ranges that the same file has,
+# and, where gcc and ICU 72 or newer (libicu-dev) are at hand, the tries that ICU4C builds and
+# exports here from each NAME.txt with a NAME.runs.txt beside it, of tests/data and of the folder
+# that the variable TABLES names, if it is set. Its last line is 'all exported tries as expected',
+# with status 0, or says what failed, with status 1.
 set -eu
 here=$(dirname -- "$(readlink -f -- "$0")")
 root=$here/../..
@@ -27,12 +28,17 @@ compare() {
     fi
 }
 
-# The ranges that icuexportdata wrote beside the trie, as lines HEX;N and HEX..HEX;N. It leaves gaps where the
-# value is 0, and none where the property has a value at every code point.
+# The ranges that icuexportdata wrote beside the trie, as lines HEX;N and HEX..HEX;N. It leaves gaps
+# where the value is 0, and none where the property has a value at every code point.
 ranges() {
-    sed -n 's/^ *{a=0x\([0-9a-f]*\), b=0x\([0-9a-f]*\), v=\([0-9]*\).*/\1 \2 \3/p' "$1" | while read -r a b v; do
-        [ "$a" = "$b" ] && printf '%04X;%d\n' "0x$a" "$v" || printf '%04X..%04X;%d\n' "0x$a" "0x$b" "$v"
-    done
+    sed -n 's/^ *{a=0x\([0-9a-f]*\), b=0x\([0-9a-f]*\), v=\([0-9]*\).*/\1 \2 \3/p' "$1" |
+        while read -r a b v; do
+            if [ "$a" = "$b" ]; then
+                printf '%04X;%d\n' "0x$a" "$v"
+            else
+                printf '%04X..%04X;%d\n' "0x$a" "0x$b" "$v"
+            fi
+        done
 }
 
 cp "$root/tests/data/east_asian_width.toml" trie.toml
@@ -44,7 +50,10 @@ if gcc -O2 -o "$work/export" "$here/export.c" -licuuc 2>/dev/null; then
         for runs in "$folder"/*.runs.txt; do
             name=$(basename "${runs%.runs.txt}")
             for kind in "fast 32" "small 32" "fast 16" "small 8"; do
-                case "$name $kind" in general_category* | *32) ;; radical_stroke*16) ;; *) continue ;; esac
+                case "$name $kind" in
+                    general_category* | *32 | radical_stroke*16) ;;
+                    *) continue ;;
+                esac
                 # shellcheck disable=SC2086
                 "$work/export" $kind <"$folder/$name.txt" >trie.toml
                 compare "$name, $kind bits" "$runs"

@@ -34,7 +34,7 @@ pub(crate) fn two_at(units: ZeroSlice<'_, u16>, place: usize) -> Option<(u16, u1
 }
 
 /// A number in two halves.
-pub(crate) fn joined(high: u16, low: u16) -> u32
+pub(crate) fn from_halves(high: u16, low: u16) -> u32
     ensures { result ≡ high * 0x10000 + low }
 {
     (u32::from(high) << 16) | u32::from(low)
@@ -45,7 +45,7 @@ fn low_half(units: ZeroSlice<'_, u16>, place: usize, high: u16) -> Option<u32>
     ensures { result ≡ low_half (slice_values units.entry) place high }
 {
     let low = unit_at(units, place)?;
-    Some(joined(high, low))
+    Some(from_halves(high, low))
 }
 
 /// A number in two units.

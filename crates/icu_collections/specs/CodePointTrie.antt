@@ -11,6 +11,6 @@ pub use Rattle.icu_trie.specs.Ranges.{AreRangesFrom, HasCodePoints, IsCoherentTr
 pub use Rattle.icu_trie.specs.Iterators.{GivesNextRange}
 pub use Rattle.icu_trie.specs.RangesOfValue.{AreRangesOfValue, AreRunsOfValue, GivesNextOfValue, with_value}
 pub use Rattle.icu_trie.specs.MappedRanges.{Answers, AreAnswered, AreMappedRangesOf, AreMappedRunsFrom, GivesMapped, IsAnswered, LongestMappedRun, MapsTo}
-pub use Rattle.icu_trie.specs.MappedTrie.{AnswersAlways, CallsInTurn, IsTrieOfAnswers, MapsInTurn, answered}
+pub use Rattle.icu_trie.specs.MappedTrie.{AnswersAlways, CallsInTurn, IsTrieOfAnswers, MapsInTurn, ok_answer}
 pub use Rattle.icu_trie.specs.Conversion.{Becomes}
 pub use Rattle.icu_trie.specs.Typed.{IsOfType, IsTyped}

@@ -1,16 +1,58 @@
 //! Collections for Unicode data: the crate `icu_collections` of ICU4X, with contracts.
 //!
-//! All items lie in crates of their own, one for each layer, and are shown here under the Rust
-//! crate's paths:
+//! | What you have | What keeps it |
+//! |---|---|
+//! | a value for each code point, as a property of characters | [`codepointtrie`] |
+//! | a set of code points | [`codepointinvlist`] |
+//! | a set of code points and of longer texts | [`codepointinvliststringlist`] |
+//! | a number for each word of a list | [`char16trie`] |
+//! | a list of numbers or characters, packed and read in place | [`zerovec`] |
+//! | ranges with values, to be joined where they touch and have equal values | [`iterator_utils`] |
 //!
-//! - [`codepointtrie`]: maps from code points to values
-//! - [`codepointinvlist`]: sets of code points
-//! - [`codepointinvliststringlist`]: sets of code points and texts
-//! - [`char16trie`]: maps from keys of 16-bit units to numbers, built and read in place
-//! - [`zerovec`]: the packed vectors that they are kept in
-//! - [`iterator_utils`]: ranges with values that touch and have equal values, joined
+//! # Values
 //!
-//! Its own code is tests alone: those that need more than one of the crates below.
+//! Rows of ranges become a trie, which answers every number of 32 bits in at most five reads:
+//!
+//! ```
+//! let writes = [Write::Range(0x41..=0x5A, 1u8), Write::One(0x1F600, 2)];
+//! let trie = build_from_writes(alloc, 0, 255, TrieType::Fast, &writes)?;
+//! Ok(trie.get32(0x41)) // 1: the last write that covers it
+//! ```
+//!
+//! The ranges of one value are a set: `trie.get_set_for_value(alloc, category)?`.
+//!
+//! # Sets
+//!
+//! A builder takes characters, ranges and sets, by union, difference, intersection and symmetric
+//! difference:
+//!
+//! ```
+//! let mut builder = CodePointInversionListBuilder::new(alloc);
+//! builder.add_set(set)?;
+//! builder.complement_range('a'..='z')?;
+//! let changed = builder.build()?;
+//! ```
+//!
+//! # Words
+//!
+//! Keys are lists of 16-bit units. They are added in any order; what is built is asked unit by
+//! unit, or lists its entries in unit order:
+//!
+//! ```
+//! let mut builder = Char16TrieBuilder::new(alloc);
+//! builder.add(&[0x61, 0x62], 2).ok()?;
+//! builder.add(&[0x61], 1).ok()?;
+//! let trie = builder.build().ok()?;
+//! ```
+//!
+//! ```
+//! let mut cursor = trie.cursor();
+//! let _ = cursor.write_str(word);
+//! cursor.value()
+//! ```
+//!
+//! The crate `uses` has these lines, proved and run. All items lie in crates of their own, one for
+//! each layer, and are shown here under the Rust crate's paths; this crate has no code.
 #![tactic(auto)]
 
 pub mod char16trie;

@@ -4,10 +4,10 @@ use Rattle.std.specs.Option.{MatchOption}
 use Rattle.std.proofs.lemmas.Bool.{cases_lt, cases_order, cases_eq, both_ways, eq-eqb, ne_eqb, cond-true, cond-false, lt-ltb, le-ltb}
 use Rattle.icu_zerovec.specs.CodePoints.{code_point_limit}
 use Rattle.icu_invlist.specs.InversionList.{holds, is_odd, IsValid, toggle_front, toggle_back, complement_of}
-use Rattle.icu_invlist.specs.Inside.Places.{Run, below}
+use Rattle.icu_invlist.specs.Inside.Places.{Run, ends_below}
 use Rattle.icu_invlist.specs.Inside.StillGiven.{gaps_left, start_at}
-use Rattle.icu_invlist.proofs.RunLemmas.{below-before, below-yes, below-no, run-wider}
-use Rattle.icu_invlist.proofs.Parity.{holds-below}
+use Rattle.icu_invlist.proofs.RunLemmas.{ends_below-before, ends_below-yes, ends_below-no, run-wider}
+use Rattle.icu_invlist.proofs.Parity.{holds-ends_below}
 use Rattle.icu_invlist.proofs.Toggles.{odd_next, odd_before}
 use Rattle.icu_invlist.proofs.MemberLemmas.{no_single, rest_valid}
 use Rattle.icu_invlist.proofs.ValidLists.{run_from_valid, valid_from_run}
@@ -37,13 +37,13 @@ back-length lo (e ∷ xs) r = elim (cases_eq e code_point_limit) [
   | inr k ↦ rw (back_more e xs k) (let n = back-length (suc e) xs r.2 in omega arith)
 ]
 
-back-below : (lo c : ℕ) (xs : List ℕ) → c < code_point_limit → Run lo (suc code_point_limit) xs → below (toggle_back xs) (suc c) ≡ below xs (suc c)
-back-below lo c [] h r = below-no code_point_limit (suc c) [] (omega arith)
-back-below lo c (e ∷ xs) h r = elim (cases_eq e code_point_limit) [
-  | inl k ↦ rw (back_is e xs k, below-no e (suc c) xs (omega arith)) (sym (below-before (suc e) (suc code_point_limit) xs (suc c) r.2 (omega arith)))
+back-ends_below : (lo c : ℕ) (xs : List ℕ) → c < code_point_limit → Run lo (suc code_point_limit) xs → ends_below (toggle_back xs) (suc c) ≡ ends_below xs (suc c)
+back-ends_below lo c [] h r = ends_below-no code_point_limit (suc c) [] (omega arith)
+back-ends_below lo c (e ∷ xs) h r = elim (cases_eq e code_point_limit) [
+  | inl k ↦ rw (back_is e xs k, ends_below-no e (suc c) xs (omega arith)) (sym (ends_below-before (suc e) (suc code_point_limit) xs (suc c) r.2 (omega arith)))
   | inr k ↦ rw (back_more e xs k) (elim (cases_lt e (suc c)) [
-    | inl l ↦ rw (below-yes e (suc c) (toggle_back xs) l, below-yes e (suc c) xs l) (ap suc (back-below (suc e) c xs h r.2))
-    | inr l ↦ rw (below-no e (suc c) (toggle_back xs) l, below-no e (suc c) xs l) (back-below (suc e) c xs h r.2)
+    | inl l ↦ rw (ends_below-yes e (suc c) (toggle_back xs) l, ends_below-yes e (suc c) xs l) (ap suc (back-ends_below (suc e) c xs h r.2))
+    | inr l ↦ rw (ends_below-no e (suc c) (toggle_back xs) l, ends_below-no e (suc c) xs l) (back-ends_below (suc e) c xs h r.2)
   ])
 ]
 
@@ -68,11 +68,11 @@ front-length (e ∷ xs) = elim (cases_eq e 0) [
   | inr k ↦ rw (front_more e xs k) (omega arith)
 ]
 
-front-holds : (c : ℕ) (xs : List ℕ) → is_odd (below (toggle_front xs) (suc c)) ≡ not (is_odd (below xs (suc c)))
-front-holds c [] = rw (below-yes 0 (suc c) [] (omega arith)) (odd_next 0)
+front-holds : (c : ℕ) (xs : List ℕ) → is_odd (ends_below (toggle_front xs) (suc c)) ≡ not (is_odd (ends_below xs (suc c)))
+front-holds c [] = rw (ends_below-yes 0 (suc c) [] (omega arith)) (odd_next 0)
 front-holds c (e ∷ xs) = elim (cases_eq e 0) [
-  | inl k ↦ rw (front_is e xs k, below-yes e (suc c) xs (omega arith)) (odd_before (below xs (suc c)) ∙ ap (λ (n : ℕ). not (is_odd n)) (omega arith))
-  | inr k ↦ rw (front_more e xs k, below-yes 0 (suc c) (e ∷ xs) (omega arith)) (ap is_odd (omega arith) ∙ odd_next (below (e ∷ xs) (suc c)))
+  | inl k ↦ rw (front_is e xs k, ends_below-yes e (suc c) xs (omega arith)) (odd_before (ends_below xs (suc c)) ∙ ap (λ (n : ℕ). not (is_odd n)) (omega arith))
+  | inr k ↦ rw (front_more e xs k, ends_below-yes 0 (suc c) (e ∷ xs) (omega arith)) (ap is_odd (omega arith) ∙ odd_next (ends_below (e ∷ xs) (suc c)))
 ]
 
 -- ---- both
@@ -81,8 +81,8 @@ complement_valid xs v = valid_from_run (complement_of xs) (front-run (toggle_bac
     (let a = front-length (toggle_back xs) in let b = back-length 0 xs (run_from_valid xs v) in let d = v.even in omega arith)
 
 pub complement-holds : (xs : List ℕ) (c : ℕ) → IsValid xs → c < code_point_limit → holds (complement_of xs) c ≡ not (holds xs c)
-complement-holds xs c v h = holds-below (complement_of xs) c ∙ (front-holds c (toggle_back xs)
-    ∙ ap not (ap is_odd (back-below 0 c xs h (run_from_valid xs v)) ∙ sym (holds-below xs c)))
+complement-holds xs c v h = holds-ends_below (complement_of xs) c ∙ (front-holds c (toggle_back xs)
+    ∙ ap not (ap is_odd (back-ends_below 0 c xs h (run_from_valid xs v)) ∙ sym (holds-ends_below xs c)))
 
 -- ---- the gaps that are left
 -- a gap behind a range of the set
@@ -117,12 +117,12 @@ next_gap start e ends ys zs o r s v a b m t = elim (cases_eq e code_point_limit)
 zero_first : (x : ℕ) (ys : List ℕ) → Run 0 (suc code_point_limit) (x ∷ ys) → holds (x ∷ ys) 0 ≡ true → x ≡ 0
 zero_first x ys r h = elim (cases_eq x 0) [
   | inl e ↦ e
-  | inr e ↦ absurd (both_ways _ (ap is_odd (below-no x 1 ys (omega arith) ∙ below-before (suc x) (suc code_point_limit) ys 1 r.2 (omega arith))) (sym (holds-below (x ∷ ys) 0) ∙ h))
+  | inr e ↦ absurd (both_ways _ (ap is_odd (ends_below-no x 1 ys (omega arith) ∙ ends_below-before (suc x) (suc code_point_limit) ys 1 r.2 (omega arith))) (sym (holds-ends_below (x ∷ ys) 0) ∙ h))
 ]
 
 pub gaps_from_zero : (xs ys zs : List ℕ) (q r : Option ℕ) → IsValid xs → holds xs 0 ≡ true → MatchOption q ((xs ≡ []) × (ys ≡ [])) (λ x. xs ≡ x ∷ ys)
     → MatchOption r ((ys ≡ []) × (zs ≡ [])) (λ x. ys ≡ x ∷ zs) → gaps_left (start_at r) zs ≡ complement_of xs
-gaps_from_zero xs ys zs None r v h m n = absurd (both_ways _ (holds-below [] 0) (rw m.0 at h))
+gaps_from_zero xs ys zs None r v h m n = absurd (both_ways _ (holds-ends_below [] 0) (rw m.0 at h))
 gaps_from_zero xs ys zs (Some x) r v h m n =
     let up : Run 0 (suc code_point_limit) (x ∷ ys) = rw m at (run_from_valid xs v) in
     let e : x ≡ 0 = zero_first x ys up (rw m at h) in
@@ -141,5 +141,5 @@ gaps_from_start (e ∷ xs) v h = elim (cases_eq e code_point_limit) [
   | inl k ↦ rw (back_is e xs k) refl
   | inr k ↦ rw (back_more e xs k) (sym (front_more e (toggle_back xs) (λ z.
       let r = run_from_valid (e ∷ xs) v in
-      both_ways _ h (holds-below (e ∷ xs) 0 ∙ ap is_odd (below-yes e 1 xs (omega arith) ∙ ap suc (below-before (suc e) (suc code_point_limit) xs 1 r.2 (omega arith)))))))
+      both_ways _ h (holds-ends_below (e ∷ xs) 0 ∙ ap is_odd (ends_below-yes e 1 xs (omega arith) ∙ ap suc (ends_below-before (suc e) (suc code_point_limit) xs 1 r.2 (omega arith)))))))
 ]

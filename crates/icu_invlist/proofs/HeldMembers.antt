@@ -10,8 +10,8 @@ use Rattle.std.proofs.Math.Utf8.{scalar}
 use Rattle.icu_zerovec.specs.CodePoints.{code_point_limit}
 use Rattle.icu_invlist.specs.InversionList.{holds, is_odd, IsValid, members, characters}
 use Rattle.icu_invlist.specs.Inside.Places.{Run}
-use Rattle.icu_invlist.proofs.RunLemmas.{below-before, run-append, run-wider}
-use Rattle.icu_invlist.proofs.Parity.{holds-below}
+use Rattle.icu_invlist.proofs.RunLemmas.{ends_below-before, run-append, run-wider}
+use Rattle.icu_invlist.proofs.Parity.{holds-ends_below}
 use Rattle.icu_invlist.proofs.MemberLemmas.{pair_past, pair_in, pair_before}
 use Rattle.icu_invlist.proofs.ValidLists.{run_from_valid, rises}
 
@@ -47,12 +47,12 @@ none_contained c (k, h, e) = omega (arith, h)
 
 -- ---- the members of a list that rises
 none_held : (c : ℕ) → holds [] c ≡ false
-none_held c = holds-below [] c
+none_held c = holds-ends_below [] c
 
 not_below : (lo hi c : ℕ) (xs : List ℕ) → Run lo hi xs → holds xs c ≡ true → lo ≤ c
 not_below lo hi c xs r h = elim (cases_lt c lo) [
-  | inl k ↦ let z = below-before lo hi xs (suc c) r k in
-      absurd (true≢false (sym h ∙ holds-below xs c ∙ ap is_odd z))
+  | inl k ↦ let z = ends_below-before lo hi xs (suc c) r k in
+      absurd (true≢false (sym h ∙ holds-ends_below xs c ∙ ap is_odd z))
   | inr k ↦ k
 ]
 

@@ -8,9 +8,9 @@ use Rattle.std.proofs.lemmas.List.Elements.{All-cons, All-nil}
 use Rattle.std.specs.List.{All}
 use Rattle.icu_zerovec.specs.CodePoints.{code_point_limit}
 use Rattle.icu_invlist.specs.InversionList.{holds, is_odd, IsOfCodePoints, IsValid, ranges_of, members_below}
-use Rattle.icu_invlist.specs.Inside.Places.{Run, below}
-use Rattle.icu_invlist.proofs.RunLemmas.{below-before, below-yes, below-no, run-wider}
-use Rattle.icu_invlist.proofs.Parity.{holds-below, odd_same}
+use Rattle.icu_invlist.specs.Inside.Places.{Run, ends_below}
+use Rattle.icu_invlist.proofs.RunLemmas.{ends_below-before, ends_below-yes, ends_below-no, run-wider}
+use Rattle.icu_invlist.proofs.Parity.{holds-ends_below, odd_same}
 use Rattle.icu_invlist.proofs.ValidLists.{run_from_valid, valid_from_run}
 
 pub length-ranges : (xs : List ℕ) → length (ranges_of xs) ≡ length xs / 2
@@ -41,17 +41,17 @@ flag n = n % 2
 flag-is : (n : ℕ) → cond (is_odd n) 1 0 ≡ n % 2
 flag-is n = elim (cases_eq (n % 2) 1) [ inl h ↦ rw (eq-eqb _ _ h) (sym h) | inr h ↦ rw (ne_eqb _ _ h) (omega arith) ]
 
-held : (xs : List ℕ) (c : ℕ) → cond (holds xs c) 1 0 ≡ below xs (suc c) % 2
-held xs c = ap (λ (b : Bool). cond b 1 0) (holds-below xs c) ∙ flag-is (below xs (suc c))
+held : (xs : List ℕ) (c : ℕ) → cond (holds xs c) 1 0 ≡ ends_below xs (suc c) % 2
+held xs c = ap (λ (b : Bool). cond b 1 0) (holds-ends_below xs c) ∙ flag-is (ends_below xs (suc c))
 
 first_pair : (lo hi s e c : ℕ) (xs : List ℕ) → Run lo hi (s ∷ e ∷ xs)
-    → below (s ∷ e ∷ xs) (suc c) % 2 + (min e c - min s c) ≡ below xs (suc c) % 2 + (min e (suc c) - min s (suc c))
+    → ends_below (s ∷ e ∷ xs) (suc c) % 2 + (min e c - min s c) ≡ ends_below xs (suc c) % 2 + (min e (suc c) - min s (suc c))
 first_pair lo hi s e c xs r = elim (cases_lt c s) [
-  | inl h ↦ rw (below-no s (suc c) (e ∷ xs) h, below-no e (suc c) xs (omega (arith, r.2.0))) (omega (arith, r.2.0))
+  | inl h ↦ rw (ends_below-no s (suc c) (e ∷ xs) h, ends_below-no e (suc c) xs (omega (arith, r.2.0))) (omega (arith, r.2.0))
   | inr h ↦ elim (cases_lt c e) [
-    | inl k ↦ let z = below-before (suc e) hi xs (suc c) r.2.2 (omega arith) in
-        rw (below-yes s (suc c) (e ∷ xs) (omega arith), below-no e (suc c) xs k, z) (omega (arith, r.2.0))
-    | inr k ↦ rw (below-yes s (suc c) (e ∷ xs) (omega arith), below-yes e (suc c) xs (omega arith)) (omega (arith, r.2.0))
+    | inl k ↦ let z = ends_below-before (suc e) hi xs (suc c) r.2.2 (omega arith) in
+        rw (ends_below-yes s (suc c) (e ∷ xs) (omega arith), ends_below-no e (suc c) xs k, z) (omega (arith, r.2.0))
+    | inr k ↦ rw (ends_below-yes s (suc c) (e ∷ xs) (omega arith), ends_below-yes e (suc c) xs (omega arith)) (omega (arith, r.2.0))
   ]
 ]
 
@@ -107,7 +107,7 @@ pub members-before : (lo hi m : ℕ) (xs : List ℕ) → Run lo hi xs → m ≤ 
 unfolding members_below
 members-before lo hi zero xs r h = refl
 members-before lo hi (suc m) xs r h = let a = members-before lo hi m xs r (omega arith) in let b = held xs m in
-    let z = below-before lo hi xs (suc m) r h in omega arith
+    let z = ends_below-before lo hi xs (suc m) r h in omega arith
 
 -- a run from a place on
 pub run-drop : (lo hi i : ℕ) (xs : List ℕ) → Run lo hi xs → Run lo hi (drop i xs)
@@ -122,20 +122,20 @@ drop_pair xs i h = rw (drop_more xs i 0 (omega arith), drop_more xs (i + 1) 0 h)
 module _ (lo hi s e c : ℕ) (xs : List ℕ) (r : Run lo hi (s ∷ e ∷ xs)) where
   pub pair_past : e ≤ c → (holds (s ∷ e ∷ xs) c ≡ holds xs c) × (members_below (s ∷ e ∷ xs) c ≡ (e - s) + members_below xs c)
   pair_past h = (
-    rw (holds-below (s ∷ e ∷ xs) c, holds-below xs c) (odd_same _ _
-        (rw (below-yes s (suc c) (e ∷ xs) (omega (arith, r.2.0)), below-yes e (suc c) xs (omega arith)) (omega arith))),
+    rw (holds-ends_below (s ∷ e ∷ xs) c, holds-ends_below xs c) (odd_same _ _
+        (rw (ends_below-yes s (suc c) (e ∷ xs) (omega (arith, r.2.0)), ends_below-yes e (suc c) xs (omega arith)) (omega arith))),
     (let p = members-pair lo hi s e c xs r in omega (arith, r.2.0)),
   )
 
   pub pair_in : s ≤ c → c < e → (holds (s ∷ e ∷ xs) c ≡ true) × (members_below (s ∷ e ∷ xs) c ≡ c - s)
   pair_in h k = (
-    holds-below (s ∷ e ∷ xs) c ∙ eq-eqb _ _ (let z = below-before (suc e) hi xs (suc c) r.2.2 (omega arith) in
-        rw (below-yes s (suc c) (e ∷ xs) (omega arith), below-no e (suc c) xs k, z) (omega arith)),
+    holds-ends_below (s ∷ e ∷ xs) c ∙ eq-eqb _ _ (let z = ends_below-before (suc e) hi xs (suc c) r.2.2 (omega arith) in
+        rw (ends_below-yes s (suc c) (e ∷ xs) (omega arith), ends_below-no e (suc c) xs k, z) (omega arith)),
     (let p = members-pair lo hi s e c xs r in let z = members-before (suc e) hi c xs r.2.2 (omega arith) in omega (arith, r.2.0)),
   )
 
   pub pair_before : c < s → holds (s ∷ e ∷ xs) c ≡ false
-  pair_before h = holds-below (s ∷ e ∷ xs) c ∙ ne_eqb _ _ (λ k. let z = below-before s hi (s ∷ e ∷ xs) (suc c) (omega arith, r.1, r.2) h in omega arith)
+  pair_before h = holds-ends_below (s ∷ e ∷ xs) c ∙ ne_eqb _ _ (λ k. let z = ends_below-before s hi (s ∷ e ∷ xs) (suc c) (omega arith, r.1, r.2) h in omega arith)
 
 -- what a walk over the ranges knows at place i
 pub record Walked (xs : List ℕ) (i c before : ℕ) : Type 0 where

@@ -7,20 +7,20 @@ use Rattle.std.proofs.lemmas.List.{append-nil, drop_all, length-append, length-d
 use Rattle.icu_zerovec.specs.CodePoints.{code_point_limit}
 use Rattle.icu_invlist.specs.InversionList.{holds, is_odd, IsValid, Acts}
 use Rattle.icu_invlist.specs.Inside.Merging.{Merging, Merged, MovesOver, Walks, StandBefore}
-use Rattle.icu_invlist.specs.Inside.Places.{Run, below}
+use Rattle.icu_invlist.specs.Inside.Places.{Run, ends_below}
 use mathlib.Core.Bool.{beq}
 use mir.Val.{bool_byte}
-use Rattle.icu_invlist.proofs.RunLemmas.{below-append, below-before, below-past, below-mono, below-le, below-zero, run-append, run-wider, run-front, run-back}
+use Rattle.icu_invlist.proofs.RunLemmas.{ends_below-append, ends_below-before, ends_below-past, ends_below-mono, ends_below-le, ends_below-zero, run-append, run-wider, run-front, run-back}
 use Rattle.icu_invlist.proofs.PlaceLemmas.{all_below, least_at, stays_at, moves_over, stays_over}
 use Rattle.icu_invlist.proofs.EqualSets.{parity}
 use Rattle.icu_invlist.proofs.Toggles.{odd_next}
-use Rattle.icu_invlist.proofs.Parity.{holds-below, holds-nil, odd_same}
+use Rattle.icu_invlist.proofs.Parity.{holds-ends_below, holds-nil, odd_same}
 use Rattle.icu_invlist.proofs.ValidLists.{valid_from_run, run_from_valid}
 
 pub none_yet : (f : Bool → Bool → Bool) (a b : List ℕ) → f false false ≡ false → Merging f a b [] 0 0 0
 none_yet f a b e = record {
-  first = sym (below-zero a);
-  second = sym (below-zero b);
+  first = sym (ends_below-zero a);
+  second = sym (ends_below-zero b);
   run = tt;
   small = omega arith;
   parity = sym e;
@@ -28,27 +28,27 @@ none_yet f a b e = record {
 }
 
 module _ (f : Bool → Bool → Bool) (a b out r : List ℕ) (passed i j n p q : ℕ) (m : Merging f a b out passed i j)
-    (after : passed ≤ n) (within : n ≤ code_point_limit) (ia : i ≡ below a n) (jb : j ≡ below b n) (pa : p ≡ below a (suc n)) (qb : q ≡ below b (suc n))
+    (after : passed ≤ n) (within : n ≤ code_point_limit) (ia : i ≡ ends_below a n) (jb : j ≡ ends_below b n) (pa : p ≡ ends_below a (suc n)) (qb : q ≡ ends_below b (suc n))
     (inside : Run n (suc n) r) (odd : is_odd (length (out ++ r)) ≡ f (is_odd p) (is_odd q)) where
   grown-run : Run 0 (suc n) (out ++ r)
   grown-run = run-append 0 n (suc n) out r (omega arith) (omega arith) (run-wider 0 passed 0 n out (omega arith) after m.run) inside
 
   out_at : (c : ℕ) → c < n → holds (out ++ r) c ≡ holds out c
-  out_at c h = rw (holds-below, holds-below out c) (ap is_odd
-      (let e = below-append out r (suc c) in let k = below-before n (suc n) r (suc c) inside (omega arith) in omega arith))
+  out_at c h = rw (holds-ends_below, holds-ends_below out c) (ap is_odd
+      (let e = ends_below-append out r (suc c) in let k = ends_below-before n (suc n) r (suc c) inside (omega arith) in omega arith))
 
   set_at : (c : ℕ) → c < suc n → holds (out ++ r) c ≡ f (holds a c) (holds b c)
   set_at c h = elim (cases_lt c passed) [
     | inl k ↦ out_at c (omega arith) ∙ m.set c k
     | inr k ↦ elim (cases_lt c n) [
-      | inl l ↦ out_at c l ∙ (rw (holds-below out c, holds-below a c, holds-below b c)
-          (let x : below out (suc c) ≡ length out = below-past 0 passed out (suc c) m.run (omega arith) in
-          let y : below a (suc c) ≡ i = (let s = below-mono a passed (suc c) (omega arith) in let t = below-mono a (suc c) n (omega arith) in let u = m.first in omega arith) in
-          let z : below b (suc c) ≡ j = (let s = below-mono b passed (suc c) (omega arith) in let t = below-mono b (suc c) n (omega arith) in let u = m.second in omega arith) in
+      | inl l ↦ out_at c l ∙ (rw (holds-ends_below out c, holds-ends_below a c, holds-ends_below b c)
+          (let x : ends_below out (suc c) ≡ length out = ends_below-past 0 passed out (suc c) m.run (omega arith) in
+          let y : ends_below a (suc c) ≡ i = (let s = ends_below-mono a passed (suc c) (omega arith) in let t = ends_below-mono a (suc c) n (omega arith) in let u = m.first in omega arith) in
+          let z : ends_below b (suc c) ≡ j = (let s = ends_below-mono b passed (suc c) (omega arith) in let t = ends_below-mono b (suc c) n (omega arith) in let u = m.second in omega arith) in
           rw (x, y, z) m.parity))
-      | inr l ↦ rw (holds-below (out ++ r) c, holds-below a c, holds-below b c)
+      | inr l ↦ rw (holds-ends_below (out ++ r) c, holds-ends_below a c, holds-ends_below b c)
           (let e : c ≡ n = omega arith in
-          rw (e, ← pa, ← qb, below-past 0 (suc n) (out ++ r) (suc n) grown-run (omega arith)) odd)
+          rw (e, ← pa, ← qb, ends_below-past 0 (suc n) (out ++ r) (suc n) grown-run (omega arith)) odd)
     ]
   ]
 
@@ -56,9 +56,9 @@ module _ (f : Bool → Bool → Bool) (a b out r : List ℕ) (passed i j n p q :
   merged_more = record { first = pa; second = qb; run = grown-run; small = omega arith; parity = odd; set = set_at }
 
 -- a list whose ends below `passed` are i, over an end n that is not below `passed`
-over : (xs : List ℕ) (i passed n p : ℕ) → IsValid xs → i ≡ below xs passed → i < length xs → passed ≤ n → MovesOver n xs i p → (i ≡ below xs n) × (p ≡ below xs (suc n))
+over : (xs : List ℕ) (i passed n p : ℕ) → IsValid xs → i ≡ ends_below xs passed → i < length xs → passed ≤ n → MovesOver n xs i p → (i ≡ ends_below xs n) × (p ≡ ends_below xs (suc n))
 over xs i passed n p v e h l o =
-    let s : i ≡ below xs n = stays_at xs i passed n v e l (λ _. o.least) in (
+    let s : i ≡ ends_below xs n = stays_at xs i passed n v e l (λ _. o.least) in (
       s,
       elim o.place [
         | inl k ↦ k.1 ∙ moves_over xs i n v s h k.0
@@ -208,9 +208,9 @@ is_even : (xs : List ℕ) (n : ℕ) → IsValid xs → n ≡ length xs → is_od
 is_even xs n v e = rw e (ne_eqb _ _ (λ k. let t = v.even in omega arith))
 
 -- past all ends of a list its set holds nothing
-holds_none : (xs : List ℕ) (i passed c : ℕ) → IsValid xs → i ≡ below xs passed → i ≡ length xs → passed ≤ c → holds xs c ≡ false
-holds_none xs i passed c v e h l = holds-below xs c ∙ is_even xs (below xs (suc c)) v
-    (let s = below-mono xs passed (suc c) (omega arith) in let t = below-le xs (suc c) in omega arith)
+holds_none : (xs : List ℕ) (i passed c : ℕ) → IsValid xs → i ≡ ends_below xs passed → i ≡ length xs → passed ≤ c → holds xs c ≡ false
+holds_none xs i passed c v e h l = holds-ends_below xs c ∙ is_even xs (ends_below xs (suc c)) v
+    (let s = ends_below-mono xs passed (suc c) (omega arith) in let t = ends_below-le xs (suc c) in omega arith)
 
 -- the second list is passed, and the operation leaves the rest of the first out
 rest_left : (f : Bool → Bool → Bool) (a b out : List ℕ) (passed i j : ℕ) → Merging f a b out passed i j → IsValid a → IsValid b → j ≡ length b
@@ -221,7 +221,7 @@ rest_left f a b out passed i j m v w e none =
       λ c l. elim (cases_lt c passed) [
         | inl p ↦ m.set c p
         | inr p ↦ rw (holds_none b j passed c w m.second e p, none (holds a c))
-            (holds-below out c ∙ rw (below-past 0 passed out (suc c) m.run (omega arith)) eo)
+            (holds-ends_below out c ∙ rw (ends_below-past 0 passed out (suc c) m.run (omega arith)) eo)
       ],
     )
   where
@@ -236,7 +236,7 @@ rest_kept f a b out passed i j m v w e keep =
     let k = m.first in
     let back : Run passed (suc code_point_limit) (drop i a) = rw k (run-back 0 (suc code_point_limit) passed a r) in
     let front : Run 0 passed (take i a) = rw k (run-front 0 (suc code_point_limit) passed a r) in
-    let il : i ≤ length a = (let t = below-le a passed in omega arith) in
+    let il : i ≤ length a = (let t = ends_below-le a passed in omega arith) in
     let lt : length (take i a) ≡ i = length-take-le i a il in
     let ld : length (drop i a) + i ≡ length a = (let t = length-drop i a in omega arith) in
     let po : length out % 2 ≡ i % 2 = parity _ _ (m.parity ∙ rw (is_even b j w e) (keep (is_odd i))) in
@@ -244,16 +244,16 @@ rest_kept f a b out passed i j m v w e keep =
     let whole : Run 0 (suc code_point_limit) (out ++ drop i a) = run-append 0 passed (suc code_point_limit) out (drop i a) (omega arith) m.small m.run back in (
       valid_from_run (out ++ drop i a) whole (let t = v.even in omega arith),
       λ c l. elim (cases_lt c passed) [
-        | inl p ↦ rw (holds-below (out ++ drop i a) c) (ap is_odd
-            (let s = below-append out (drop i a) (suc c) in let t = below-before passed (suc code_point_limit) (drop i a) (suc c) back (omega arith) in
-            let z : below (out ++ drop i a) (suc c) ≡ below out (suc c) = omega arith in z) ∙ (sym (holds-below out c) ∙ m.set c p))
-        | inr p ↦ rw (holds_none b j passed c w m.second e p, keep (holds a c), holds-below (out ++ drop i a) c, holds-below a c)
+        | inl p ↦ rw (holds-ends_below (out ++ drop i a) c) (ap is_odd
+            (let s = ends_below-append out (drop i a) (suc c) in let t = ends_below-before passed (suc code_point_limit) (drop i a) (suc c) back (omega arith) in
+            let z : ends_below (out ++ drop i a) (suc c) ≡ ends_below out (suc c) = omega arith in z) ∙ (sym (holds-ends_below out c) ∙ m.set c p))
+        | inr p ↦ rw (holds_none b j passed c w m.second e p, keep (holds a c), holds-ends_below (out ++ drop i a) c, holds-ends_below a c)
             (odd_same _ _
-            (let s = below-append out (drop i a) (suc c) in
-            let t = below-past 0 passed out (suc c) m.run (omega arith) in
-            let u : below a (suc c) ≡ below (take i a) (suc c) + below (drop i a) (suc c) =
-            subst (λ (xs : List ℕ). below xs (suc c) ≡ below (take i a) (suc c) + below (drop i a) (suc c)) (take-append-drop i a) (below-append (take i a) (drop i a) (suc c)) in
-            let x = below-past 0 passed (take i a) (suc c) front (omega arith) in omega arith))
+            (let s = ends_below-append out (drop i a) (suc c) in
+            let t = ends_below-past 0 passed out (suc c) m.run (omega arith) in
+            let u : ends_below a (suc c) ≡ ends_below (take i a) (suc c) + ends_below (drop i a) (suc c) =
+            subst (λ (xs : List ℕ). ends_below xs (suc c) ≡ ends_below (take i a) (suc c) + ends_below (drop i a) (suc c)) (take-append-drop i a) (ends_below-append (take i a) (drop i a) (suc c)) in
+            let x = ends_below-past 0 passed (take i a) (suc c) front (omega arith) in omega arith))
       ],
     )
 
@@ -309,7 +309,7 @@ joined a b out cut more whole p q x y z =
 -- ---- sets whose ends stand apart
 -- before its own ends begin, the second list holds nothing
 second_none : (a b : List ℕ) (s : StandBefore a b) (c : ℕ) → c < s.end → holds b c ≡ false
-second_none a b s c h = holds-below b c ∙ ap is_odd (let k = below-mono b (suc c) s.end (omega arith) in let n = s.second in let z : below b (suc c) ≡ 0 = omega arith in z)
+second_none a b s c h = holds-ends_below b c ∙ ap is_odd (let k = ends_below-mono b (suc c) s.end (omega arith) in let n = s.second in let z : ends_below b (suc c) ≡ 0 = omega arith in z)
 
 -- all ends of the first list are passed and none of the second; the operation keeps the first, or leaves it out
 stood : (f : Bool → Bool → Bool) (a b out : List ℕ) → f false false ≡ false → IsValid a → (s : StandBefore a b) → (f true false ≡ true) × (out ≡ a) ⊎ (f true false ≡ false) × (out ≡ [])
@@ -372,16 +372,16 @@ stand_by_ends a b n v w e some least h = record {
   end = get_or b 0 0;
   within = (let k = w.within 0 0 least in omega arith);
   first = sym e ∙ all_below a n (get_or b 0 0) (run_from_valid a v) e some h;
-  second = stays_at b 0 0 (get_or b 0 0) w (sym (below-zero b)) (omega arith) (λ _. omega arith);
+  second = stays_at b 0 0 (get_or b 0 0) w (sym (ends_below-zero b)) (omega arith) (λ _. omega arith);
 }
 
 pub stand_of_none : (a b : List ℕ) → length a ≡ 0 → StandBefore a b
-stand_of_none a b e = record { end = 0; within = omega arith; first = e ∙ sym (below-zero a); second = sym (below-zero b) }
+stand_of_none a b e = record { end = 0; within = omega arith; first = e ∙ sym (ends_below-zero a); second = sym (ends_below-zero b) }
 
 pub stand_before_none : (a b : List ℕ) → IsValid a → length b ≡ 0 → StandBefore a b
 stand_before_none a b v e = record {
   end = suc code_point_limit;
   within = omega arith;
-  first = sym (below-past 0 (suc code_point_limit) a (suc code_point_limit) (run_from_valid a v) (omega arith));
-  second = (let k = below-le b (suc code_point_limit) in omega arith);
+  first = sym (ends_below-past 0 (suc code_point_limit) a (suc code_point_limit) (run_from_valid a v) (omega arith));
+  second = (let k = ends_below-le b (suc code_point_limit) in omega arith);
 }

@@ -2,8 +2,8 @@
 use Rattle.std.proofs.Common.{◌≡◌, ℕ, ◌%◌, List, [], refl, ap, arith, suc, Bool, true, false, cond}
 use Rattle.std.proofs.lemmas.Bool.{eq-eqb, ne_eqb}
 use Rattle.icu_invlist.specs.InversionList.{holds, is_odd}
-use Rattle.icu_invlist.specs.Inside.Places.{below}
-use Rattle.icu_invlist.proofs.RunLemmas.{up_to-below}
+use Rattle.icu_invlist.specs.Inside.Places.{ends_below}
+use Rattle.icu_invlist.proofs.RunLemmas.{up_to-ends_below}
 
 pub odd_same : (m n : ℕ) → m % 2 ≡ n % 2 → is_odd m ≡ is_odd n
 odd_same m n e = rw e refl
@@ -12,8 +12,8 @@ pub odd_is : (n : ℕ) (v : Bool) → n % 2 ≡ cond v 1 0 → is_odd n ≡ v
 odd_is n true e = eq-eqb _ _ e
 odd_is n false e = ne_eqb _ _ (λ k. omega arith)
 
-pub holds-below : (xs : List ℕ) (c : ℕ) → holds xs c ≡ is_odd (below xs (suc c))
-holds-below xs c = ap is_odd (up_to-below xs c)
+pub holds-ends_below : (xs : List ℕ) (c : ℕ) → holds xs c ≡ is_odd (ends_below xs (suc c))
+holds-ends_below xs c = ap is_odd (up_to-ends_below xs c)
 
 pub holds-nil : (c : ℕ) → holds [] c ≡ false
-holds-nil c = holds-below [] c
+holds-nil c = holds-ends_below [] c

@@ -3,12 +3,12 @@ use Rattle.std.proofs.Common.{ℕ, ◌+◌, ◌-◌, ◌*◌, ◌<◌, ◌≤◌
 use Rattle.std.specs.Prelude.{IsTrue, ◌↔◌}
 use mir.Val.{bool_byte}
 use Rattle.std.proofs.lemmas.Bool.{cases_lt, false≢true}
-use Rattle.icu_invlist.specs.Inside.Places.{AreStepsBelow, Run, below}
-use Rattle.icu_invlist.proofs.RunLemmas.{below-front, below-more}
+use Rattle.icu_invlist.specs.Inside.Places.{AreStepsBelow, Run, ends_below}
+use Rattle.icu_invlist.proofs.RunLemmas.{ends_below-front, ends_below-more}
 
 -- an end stands below m exactly before the place of m
-pub place_of_end : (hi : ℕ) (xs : List ℕ) (k m : ℕ) → Run 0 hi xs → k < length xs → (get_or xs k 0 < m) ↔ (k < below xs m)
-place_of_end hi xs k m r h = (λ l. below-more 0 hi m xs r k l h, λ l. below-front 0 hi m xs r k l)
+pub place_of_end : (hi : ℕ) (xs : List ℕ) (k m : ℕ) → Run 0 hi xs → k < length xs → (get_or xs k 0 < m) ↔ (k < ends_below xs m)
+place_of_end hi xs k m r h = (λ l. ends_below-more 0 hi m xs r k l h, λ l. ends_below-front 0 hi m xs r k l)
 
 abbrev Tells : Bool → ℕ → ℕ → Type 0
 Tells true k p = k < p

@@ -7,9 +7,9 @@ use Rattle.std.proofs.lemmas.List.{append_assoc, append-nil, drop_all, drop-appe
 use Rattle.std.specs.List.{copy_within, splice}
 use Rattle.icu_zerovec.specs.CodePoints.{code_point_limit}
 use Rattle.icu_invlist.specs.InversionList.{holds, is_odd, between, IsValid}
-use Rattle.icu_invlist.specs.Inside.Places.{IsFilled, Run, below}
-use Rattle.icu_invlist.proofs.RunLemmas.{below-append, below-before, below-front, below-past, below-le, below-yes, below-no, run-append, run-front, run-back, below-mono, below-zero}
-use Rattle.icu_invlist.proofs.Parity.{odd_same, odd_is, holds-below}
+use Rattle.icu_invlist.specs.Inside.Places.{IsFilled, Run, ends_below}
+use Rattle.icu_invlist.proofs.RunLemmas.{ends_below-append, ends_below-before, ends_below-front, ends_below-past, ends_below-le, ends_below-yes, ends_below-no, run-append, run-front, run-back, ends_below-mono, ends_below-zero}
+use Rattle.icu_invlist.proofs.Parity.{odd_same, odd_is, holds-ends_below}
 use Rattle.icu_invlist.proofs.ValidLists.{run_from_valid, valid_from_run}
 
 pub before_range : (s e c : ℕ) → c < s → between s e c ≡ false
@@ -22,61 +22,61 @@ pub past_range : (s e c : ℕ) → e ≤ c → between s e c ≡ false
 past_range s e c h = elim (cases_lt c s) [ inl k ↦ before_range s e c k | inr k ↦ rw (le-leb s c k, le-ltb c e h) refl ]
 
 -- the ends that stand before place `below xs c`, and the others
-pub below-split : (xs : List ℕ) (n c : ℕ) → below xs c ≡ below (take n xs) c + below (drop n xs) c
-below-split xs n c = ap (λ (ys : List ℕ). below ys c) (sym (take-append-drop n xs)) ∙ below-append (take n xs) (drop n xs) c
+pub ends_below-split : (xs : List ℕ) (n c : ℕ) → ends_below xs c ≡ ends_below (take n xs) c + ends_below (drop n xs) c
+ends_below-split xs n c = ap (λ (ys : List ℕ). ends_below ys c) (sym (take-append-drop n xs)) ∙ ends_below-append (take n xs) (drop n xs) c
 
-pub length_front : (xs : List ℕ) (c : ℕ) → length (take (below xs c) xs) ≡ below xs c
-length_front xs c = length-take-le (below xs c) xs (below-le xs c)
+pub length_front : (xs : List ℕ) (c : ℕ) → length (take (ends_below xs c) xs) ≡ ends_below xs c
+length_front xs c = length-take-le (ends_below xs c) xs (ends_below-le xs c)
 
 -- r in place of the ends from s to e
 abbrev pub spliced : List ℕ → ℕ → ℕ → List ℕ → List ℕ
-spliced xs s e r = splice xs (below xs s) (below xs (suc e)) r
+spliced xs s e r = splice xs (ends_below xs s) (ends_below xs (suc e)) r
 
 module _ (xs : List ℕ) (s e hi : ℕ) (r : List ℕ) (up : Run 0 hi xs) (less : s ≤ e) (within : e < hi) (inside : Run s (suc e) r) where
   pub spliced-run : Run 0 hi (spliced xs s e r)
-  spliced-run = run-append 0 s hi (take (below xs s) xs) (r ++ drop (below xs (suc e)) xs) (omega arith) (omega arith) (run-front 0 hi s xs up)
-      (run-append s (suc e) hi r (drop (below xs (suc e)) xs) (omega arith) (omega arith) inside (run-back 0 hi (suc e) xs up))
+  spliced-run = run-append 0 s hi (take (ends_below xs s) xs) (r ++ drop (ends_below xs (suc e)) xs) (omega arith) (omega arith) (run-front 0 hi s xs up)
+      (run-append s (suc e) hi r (drop (ends_below xs (suc e)) xs) (omega arith) (omega arith) inside (run-back 0 hi (suc e) xs up))
 
-  pub spliced-below : (c : ℕ) → below (spliced xs s e r) c ≡ below (take (below xs s) xs) c + (below r c + below (drop (below xs (suc e)) xs) c)
-  spliced-below c = below-append (take (below xs s) xs) (r ++ drop (below xs (suc e)) xs) c
-      ∙ ap (λ (n : ℕ). below (take (below xs s) xs) c + n) (below-append r (drop (below xs (suc e)) xs) c)
+  pub spliced-ends_below : (c : ℕ) → ends_below (spliced xs s e r) c ≡ ends_below (take (ends_below xs s) xs) c + (ends_below r c + ends_below (drop (ends_below xs (suc e)) xs) c)
+  spliced-ends_below c = ends_below-append (take (ends_below xs s) xs) (r ++ drop (ends_below xs (suc e)) xs) c
+      ∙ ap (λ (n : ℕ). ends_below (take (ends_below xs s) xs) c + n) (ends_below-append r (drop (ends_below xs (suc e)) xs) c)
 
   -- before the range nothing changes
-  pub spliced-before : (c : ℕ) → c < s → below (spliced xs s e r) (suc c) ≡ below xs (suc c)
+  pub spliced-before : (c : ℕ) → c < s → ends_below (spliced xs s e r) (suc c) ≡ ends_below xs (suc c)
   spliced-before c h =
-      let a = spliced-below (suc c) in
-      let b = below-split xs (below xs s) (suc c) in
-      let d = below-before s hi (drop (below xs s) xs) (suc c) (run-back 0 hi s xs up) (omega arith) in
-      let f = below-before s (suc e) r (suc c) inside (omega arith) in
-      let g = below-before (suc e) hi (drop (below xs (suc e)) xs) (suc c) (run-back 0 hi (suc e) xs up) (omega arith) in
+      let a = spliced-ends_below (suc c) in
+      let b = ends_below-split xs (ends_below xs s) (suc c) in
+      let d = ends_below-before s hi (drop (ends_below xs s) xs) (suc c) (run-back 0 hi s xs up) (omega arith) in
+      let f = ends_below-before s (suc e) r (suc c) inside (omega arith) in
+      let g = ends_below-before (suc e) hi (drop (ends_below xs (suc e)) xs) (suc c) (run-back 0 hi (suc e) xs up) (omega arith) in
       omega arith
 
-  pub spliced-in : (c : ℕ) → s ≤ c → c < e → below (spliced xs s e r) (suc c) ≡ below xs s + below r (suc c)
+  pub spliced-in : (c : ℕ) → s ≤ c → c < e → ends_below (spliced xs s e r) (suc c) ≡ ends_below xs s + ends_below r (suc c)
   spliced-in c h k =
-      let a = spliced-below (suc c) in
-      let b = below-past 0 s (take (below xs s) xs) (suc c) (run-front 0 hi s xs up) (omega arith) in
+      let a = spliced-ends_below (suc c) in
+      let b = ends_below-past 0 s (take (ends_below xs s) xs) (suc c) (run-front 0 hi s xs up) (omega arith) in
       let d = length_front xs s in
-      let g = below-before (suc e) hi (drop (below xs (suc e)) xs) (suc c) (run-back 0 hi (suc e) xs up) (omega arith) in
+      let g = ends_below-before (suc e) hi (drop (ends_below xs (suc e)) xs) (suc c) (run-back 0 hi (suc e) xs up) (omega arith) in
       omega arith
 
-  pub spliced-past : (c : ℕ) → e ≤ c → below (spliced xs s e r) (suc c) + below xs (suc e) ≡ below xs (suc c) + (below xs s + length r)
+  pub spliced-past : (c : ℕ) → e ≤ c → ends_below (spliced xs s e r) (suc c) + ends_below xs (suc e) ≡ ends_below xs (suc c) + (ends_below xs s + length r)
   spliced-past c h =
-      let a = spliced-below (suc c) in
-      let b = below-past 0 s (take (below xs s) xs) (suc c) (run-front 0 hi s xs up) (omega arith) in
+      let a = spliced-ends_below (suc c) in
+      let b = ends_below-past 0 s (take (ends_below xs s) xs) (suc c) (run-front 0 hi s xs up) (omega arith) in
       let d = length_front xs s in
-      let f = below-past s (suc e) r (suc c) inside (omega arith) in
-      let p = below-split xs (below xs (suc e)) (suc c) in
-      let q = below-past 0 (suc e) (take (below xs (suc e)) xs) (suc c) (run-front 0 hi (suc e) xs up) (omega arith) in
+      let f = ends_below-past s (suc e) r (suc c) inside (omega arith) in
+      let p = ends_below-split xs (ends_below xs (suc e)) (suc c) in
+      let q = ends_below-past 0 (suc e) (take (ends_below xs (suc e)) xs) (suc c) (run-front 0 hi (suc e) xs up) (omega arith) in
       let t = length_front xs (suc e) in
       omega arith
 
-  pub spliced-length : length (spliced xs s e r) + below xs (suc e) ≡ length xs + (below xs s + length r)
+  pub spliced-length : length (spliced xs s e r) + ends_below xs (suc e) ≡ length xs + (ends_below xs s + length r)
   spliced-length =
-      let a = length-append (take (below xs s) xs) (r ++ drop (below xs (suc e)) xs) in
-      let b = length-append r (drop (below xs (suc e)) xs) in
+      let a = length-append (take (ends_below xs s) xs) (r ++ drop (ends_below xs (suc e)) xs) in
+      let b = length-append r (drop (ends_below xs (suc e)) xs) in
       let d = length_front xs s in
-      let f = length-drop (below xs (suc e)) xs in
-      let g = below-le xs (suc e) in
+      let f = length-drop (ends_below xs (suc e)) xs in
+      let g = ends_below-le xs (suc e) in
       omega arith
 
 -- at most the two borders
@@ -95,14 +95,14 @@ borders-length true false s e = refl
 borders-length false true s e = refl
 borders-length false false s e = refl
 
-borders-in : (f g : Bool) (s e c : ℕ) → s ≤ c → c < e → below (borders f g s e) (suc c) ≡ cond f 1 0
-borders-in true true s e c h k = rw (below-yes s (suc c) (e ∷ []) (omega arith), below-no e (suc c) [] (omega arith)) refl
-borders-in true false s e c h k = below-yes s (suc c) [] (omega arith)
-borders-in false true s e c h k = below-no e (suc c) [] (omega arith)
+borders-in : (f g : Bool) (s e c : ℕ) → s ≤ c → c < e → ends_below (borders f g s e) (suc c) ≡ cond f 1 0
+borders-in true true s e c h k = rw (ends_below-yes s (suc c) (e ∷ []) (omega arith), ends_below-no e (suc c) [] (omega arith)) refl
+borders-in true false s e c h k = ends_below-yes s (suc c) [] (omega arith)
+borders-in false true s e c h k = ends_below-no e (suc c) [] (omega arith)
 borders-in false false s e c h k = refl
 
 module _ (xs : List ℕ) (s e : ℕ) (value f g : Bool) (valid : IsValid xs) (less : s < e) (within : e ≤ code_point_limit)
-    (first : (below xs s + cond f 1 0) % 2 ≡ cond value 1 0) (second : (below xs (suc e) + cond g 1 0) % 2 ≡ cond value 1 0) where
+    (first : (ends_below xs s + cond f 1 0) % 2 ≡ cond value 1 0) (second : (ends_below xs (suc e) + cond g 1 0) % 2 ≡ cond value 1 0) where
   pub filled-valid : IsValid (spliced xs s e (borders f g s e))
   filled-valid = valid_from_run _ (spliced-run xs s e (suc code_point_limit) (borders f g s e) (run_from_valid xs valid) (omega arith) (omega arith) (borders-run f g s e less))
       (let a = spliced-length xs s e (suc code_point_limit) (borders f g s e) (run_from_valid xs valid) (omega arith) (omega arith) (borders-run f g s e less) in
@@ -111,12 +111,12 @@ module _ (xs : List ℕ) (s e : ℕ) (value f g : Bool) (valid : IsValid xs) (le
 
   pub filled-holds : IsFilled xs s e value (spliced xs s e (borders f g s e))
   filled-holds c = elim (cases_lt c s) [
-    | inl h ↦ rw (before_range s e c h, holds-below, holds-below xs c) (ap is_odd (spliced-before xs s e (suc code_point_limit) (borders f g s e) (run_from_valid xs valid) (omega arith) (omega arith) (borders-run f g s e less) c h))
+    | inl h ↦ rw (before_range s e c h, holds-ends_below, holds-ends_below xs c) (ap is_odd (spliced-before xs s e (suc code_point_limit) (borders f g s e) (run_from_valid xs valid) (omega arith) (omega arith) (borders-run f g s e less) c h))
     | inr h ↦ elim (cases_lt c e) [
-      | inl k ↦ rw (in_range s e c h k, holds-below) (odd_is _ value
+      | inl k ↦ rw (in_range s e c h k, holds-ends_below) (odd_is _ value
           (let a = spliced-in xs s e (suc code_point_limit) (borders f g s e) (run_from_valid xs valid) (omega arith) (omega arith) (borders-run f g s e less) c h k in
           let b = borders-in f g s e c h k in omega arith))
-      | inr k ↦ rw (past_range s e c k, holds-below, holds-below xs c) (odd_same _ _
+      | inr k ↦ rw (past_range s e c k, holds-ends_below, holds-ends_below xs c) (odd_same _ _
           (let a = spliced-past xs s e (suc code_point_limit) (borders f g s e) (run_from_valid xs valid) (omega arith) (omega arith) (borders-run f g s e less) c k in
           let b = borders-length f g s e in omega arith))
     ]
@@ -140,7 +140,7 @@ needed-parity n value = elim (cases_eq (n % 2) 1) [
     by_value_even n true h = omega arith
     by_value_even n false h = omega arith
 
-pub filled : (xs ys : List ℕ) (i j s e : ℕ) (value f g : Bool) → IsValid xs → s < e → e ≤ code_point_limit → i ≡ below xs s → j ≡ below xs (e + 1)
+pub filled : (xs ys : List ℕ) (i j s e : ℕ) (value f g : Bool) → IsValid xs → s < e → e ≤ code_point_limit → i ≡ ends_below xs s → j ≡ ends_below xs (e + 1)
     → f ≡ needed i value → g ≡ needed j value → ys ≡ splice xs i j (borders f g s e) → IsValid ys × IsFilled xs s e value ys
 filled xs ys i j s e value f g v h l a b p q y = rw (y, p, q, a, b, add-one) (
   filled-valid xs s e value _ _ v h l (needed-parity _ value) (needed-parity _ value),
@@ -154,9 +154,9 @@ room_for i j value true false h a b n = elim (cases_eq i j) [ inl e ↦ omega ar
 room_for i j value false true h a b n = omega arith
 room_for i j value false false h a b n = omega arith
 
-pub room : (xs : List ℕ) (i j s e : ℕ) (value : Bool) → s < e → i ≡ below xs s → j ≡ below xs (e + 1)
+pub room : (xs : List ℕ) (i j s e : ℕ) (value : Bool) → s < e → i ≡ ends_below xs s → j ≡ ends_below xs (e + 1)
     → (needed i value ≡ true → needed j value ≡ true → i ≡ j → ⊥) → i + (cond (needed i value) 1 0 + cond (needed j value) 1 0) ≤ j
-room xs i j s e value h a b n = room_for i j value _ _ (let k = below-mono xs s (e + 1) (omega arith) in omega arith) (needed-parity i value) (needed-parity j value) n
+room xs i j s e value h a b n = room_for i j value _ _ (let k = ends_below-mono xs s (e + 1) (omega arith) in omega arith) (needed-parity i value) (needed-parity j value) n
 
 pub plain : (n : ℕ) → nat_eq (n % 2) 1 ≡ needed n false
 plain n = same_flag (nat_eq (n % 2) 1)
@@ -165,17 +165,17 @@ plain n = same_flag (nat_eq (n % 2) 1)
     same_flag true = refl
     same_flag false = refl
 
-pub side_room : (xs : List ℕ) (i j s e : ℕ) → IsValid xs → s < e → e ≤ code_point_limit → i ≡ below xs s → j ≡ below xs (e + 1) → ((s ≡ 0) ⊎ (e ≡ code_point_limit))
+pub side_room : (xs : List ℕ) (i j s e : ℕ) → IsValid xs → s < e → e ≤ code_point_limit → i ≡ ends_below xs s → j ≡ ends_below xs (e + 1) → ((s ≡ 0) ⊎ (e ≡ code_point_limit))
     → i + (cond (nat_eq (i % 2) 1) 1 0 + cond (nat_eq (j % 2) 1) 1 0) ≤ j
 side_room xs i j s e v h w a b side = rw (plain i, plain j) (room xs i j s e false h a b (λ p q r.
     let x = eqb-true _ _ (plain i ∙ p) in let y = eqb-true _ _ (plain j ∙ q) in elim side [
-      | inl z ↦ absurd (let t : i ≡ 0 = a ∙ rw z (below-zero xs) in omega arith)
-      | inr z ↦ absurd (let t : j ≡ length xs = b ∙ below-past 0 (suc code_point_limit) xs (e + 1) (run_from_valid xs v) (omega arith) in let u = v.even in omega arith)
+      | inl z ↦ absurd (let t : i ≡ 0 = a ∙ rw z (ends_below-zero xs) in omega arith)
+      | inr z ↦ absurd (let t : j ≡ length xs = b ∙ ends_below-past 0 (suc code_point_limit) xs (e + 1) (run_from_valid xs v) (omega arith) in let u = v.even in omega arith)
     ]))
 
 pub emptied : (xs : List ℕ) (s e last c : ℕ) → last ≡ min e code_point_limit → last ≤ s → c < code_point_limit → holds [] c ≡ (holds xs c && between s e c)
 emptied xs s e last c l h k = let n : between s e c ≡ false = elim (cases_lt c s) [ inl a ↦ before_range s e c a | inr a ↦ past_range s e c (omega arith) ] in
-    holds-below [] c ∙ rw n (sym (and_no (holds xs c)))
+    holds-ends_below [] c ∙ rw n (sym (and_no (holds xs c)))
   where
     and_no : (b : Bool) → (b && false) ≡ false
     and_no true = refl
@@ -207,8 +207,8 @@ two_put_in xs zs p n s e pn h two =
     rw (moved, first, second, one) refl
 
 -- the count stays where the next end is not below
-pub stays_below : (hi : ℕ) (xs : List ℕ) (i c : ℕ) → Run 0 hi xs → i ≤ below xs c → c ≤ get_or xs i 0 → i ≡ below xs c
-stays_below hi xs i c r h k = elim (cases_lt i (below xs c)) [
-  | inl l ↦ absurd (let f = below-front 0 hi c xs r i l in omega arith)
+pub stays_below : (hi : ℕ) (xs : List ℕ) (i c : ℕ) → Run 0 hi xs → i ≤ ends_below xs c → c ≤ get_or xs i 0 → i ≡ ends_below xs c
+stays_below hi xs i c r h k = elim (cases_lt i (ends_below xs c)) [
+  | inl l ↦ absurd (let f = ends_below-front 0 hi c xs r i l in omega arith)
   | inr l ↦ omega arith
 ]

@@ -13,7 +13,7 @@ use Rattle.serde_json.specs.declared.value.Value.{Value}
 use Rattle.icu_zerovec.specs.CodePoints.{code_point_limit}
 use Rattle.icu_invlist.specs.InversionList.{IsValid}
 use Rattle.icu_invlist.specs.Inside.Places.{Run}
-use Rattle.icu_invlist.specs.SetJson.{IsHex, IsPoint, IsRange, SayEnds, IsSaid, upper_hex, upper_hex4, spelled, range_text, texts_of, written_of, ends_of}
+use Rattle.icu_invlist.specs.SetJson.{IsHex, IsPoint, IsRange, SayEnds, IsSaid, upper_hex, upper_hex4, spelling_of, range_text, texts_of, written_of, ends_of}
 use Rattle.icu_invlist.specs.Inside.GivenEnds.{GivesEnds}
 use Rattle.icu_invlist.specs.declared.codepointinvlist.error.SetJsonError.{SetJsonError}
 use Rattle.icu_invlist.specs.declared.codepointinvlist.error.SetJsonError.TheVariants as errors
@@ -42,7 +42,7 @@ hex_spelled p h =
     let d = hex_value (p % 16) (omega arith) in
     record { a = _; b = _; c = _; d = _; is = refl; digits = (omega arith, omega arith, omega arith, omega arith); value = rw (a, b, c, d) (omega arith) }
 
-point_spelled : (p : ℕ) → IsPoint (spelled p) p
+point_spelled : (p : ℕ) → IsPoint (spelling_of p) p
 point_spelled p = elim (cases_lt p 0xD800) [
   | inl h ↦ inl (rw (lt-leb 0xD800 p h) refl)
   | inr h ↦ elim (cases_lt p 0xE000) [
@@ -51,7 +51,7 @@ point_spelled p = elim (cases_lt p 0xD800) [
   ]
 ]
 
-point_scalars : (p : ℕ) → p < code_point_limit → scalars (spelled p) ≡ true
+point_scalars : (p : ℕ) → p < code_point_limit → scalars (spelling_of p) ≡ true
 point_scalars p l = elim (cases_lt p 0xD800) [
   | inl h ↦ rw (lt-leb 0xD800 p h) (and_from (scalar p) true (rw (lt-ltb p 0xD800 h) refl) refl)
   | inr h ↦ elim (cases_lt p 0xE000) [
@@ -65,7 +65,7 @@ point_scalars p l = elim (cases_lt p 0xD800) [
 range_spelled : (a b : ℕ) → IsRange (range_text a b) a b
 range_spelled a b = elim (cases_eq a b) [
   | inl e ↦ rw (eq-eqb a b e) (inl (point_spelled a, sym e))
-  | inr e ↦ rw (ne_eqb a b e) (inr (spelled a, 0x2D ∷ [], spelled b, refl, point_spelled a, inl refl, point_spelled b))
+  | inr e ↦ rw (ne_eqb a b e) (inr (spelling_of a, 0x2D ∷ [], spelling_of b, refl, point_spelled a, inl refl, point_spelled b))
 ]
 
 scalars-append : (xs ys : List ℕ) → scalars xs ≡ true → scalars ys ≡ true → scalars (xs ++ ys) ≡ true
@@ -75,15 +75,15 @@ scalars-append (x ∷ xs) ys h k = let p = and_parts (scalar x) (scalars xs) h i
 range_scalars : (a b : ℕ) → a < code_point_limit → b < code_point_limit → scalars (range_text a b) ≡ true
 range_scalars a b h k = elim (cases_eq a b) [
   | inl e ↦ rw (eq-eqb a b e) (point_scalars a h)
-  | inr e ↦ rw (ne_eqb a b e) (scalars-append (spelled a) (0x2D ∷ spelled b) (point_scalars a h) (and_from true (scalars (spelled b)) refl (point_scalars b k)))
+  | inr e ↦ rw (ne_eqb a b e) (scalars-append (spelling_of a) (0x2D ∷ spelling_of b) (point_scalars a h) (and_from true (scalars (spelling_of b)) refl (point_scalars b k)))
 ]
 
 -- ---- sets
 -- a string of characters
-abbrev pub shown : List ℕ → Data
-shown t = string (encode_utf8_all t)
+abbrev pub text_data : List ℕ → Data
+text_data t = string (encode_utf8_all t)
 
-said_from_run : (lo : ℕ) (ends : List ℕ) → Run lo (suc code_point_limit) ends → length ends % 2 ≡ 0 → SayEnds (items_of (map shown (texts_of ends))) ends
+said_from_run : (lo : ℕ) (ends : List ℕ) → Run lo (suc code_point_limit) ends → length ends % 2 ≡ 0 → SayEnds (items_of (map text_data (texts_of ends))) ends
 said_from_run lo [] r e = refl
 said_from_run lo (s ∷ []) r e = absurd (omega arith)
 said_from_run lo (s ∷ t ∷ ends) r e =
@@ -97,15 +97,15 @@ pub texts_more : (xs : List ℕ) (i : ℕ) → i + 1 < length xs → texts_of (d
 texts_more xs i h = rw (drop_pair xs i h) refl
 
 pub texts_step : (xs : List ℕ) (vs ws : List Value) (v : Value) (i s e : ℕ) → i + 1 < length xs → s ≡ get_or xs i 0 → e ≡ get_or xs (i + 1) 0 → ws ≡ vs ++ v ∷ []
-    → view v ≡ shown (range_text s (e - 1)) → map view vs ++ map shown (texts_of (drop i xs)) ≡ map shown (texts_of xs)
-    → map view ws ++ map shown (texts_of (drop (i + 2) xs)) ≡ map shown (texts_of xs)
+    → view v ≡ text_data (range_text s (e - 1)) → map view vs ++ map text_data (texts_of (drop i xs)) ≡ map text_data (texts_of xs)
+    → map view ws ++ map text_data (texts_of (drop (i + 2) xs)) ≡ map text_data (texts_of xs)
 texts_step xs vs ws v i s e h a b w x so_far =
-    let rest = map shown (texts_of (drop (i + 2) xs)) in
-    let t : map shown (texts_of (drop i xs)) ≡ shown (range_text s (e - 1)) ∷ rest = rw (texts_more xs i h, a, b) refl in
-    let m : map view ws ≡ map view vs ++ shown (range_text s (e - 1)) ∷ [] = rw (w, map-append, x) refl in
-    ap (λ ds. ds ++ rest) m ∙ (append_assoc (map view vs) (shown (range_text s (e - 1)) ∷ []) rest ∙ (ap (λ ds. map view vs ++ ds) (sym t) ∙ so_far))
+    let rest = map text_data (texts_of (drop (i + 2) xs)) in
+    let t : map text_data (texts_of (drop i xs)) ≡ text_data (range_text s (e - 1)) ∷ rest = rw (texts_more xs i h, a, b) refl in
+    let m : map view ws ≡ map view vs ++ text_data (range_text s (e - 1)) ∷ [] = rw (w, map-append, x) refl in
+    ap (λ ds. ds ++ rest) m ∙ (append_assoc (map view vs) (text_data (range_text s (e - 1)) ∷ []) rest ∙ (ap (λ ds. map view vs ++ ds) (sym t) ∙ so_far))
 
-pub texts_all : (xs : List ℕ) (vs : List Value) (i : ℕ) → length xs ≤ i → map view vs ++ map shown (texts_of (drop i xs)) ≡ map shown (texts_of xs) → map view vs ≡ map shown (texts_of xs)
+pub texts_all : (xs : List ℕ) (vs : List Value) (i : ℕ) → length xs ≤ i → map view vs ++ map text_data (texts_of (drop i xs)) ≡ map text_data (texts_of xs) → map view vs ≡ map text_data (texts_of xs)
 texts_all xs vs i h so_far = sym (append-nil (map view vs)) ∙ rw (drop_all i xs h) at so_far
 
 -- ---- what is read

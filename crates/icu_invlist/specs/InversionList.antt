@@ -1,7 +1,7 @@
 -- Inversion lists, as ICU's UnicodeSet has them: a set of code points is the ascending list of its
 -- ends. The set begins at the first end, stops before the second, begins again at the third, and so
 -- on.
-use Rattle.std.specs.Prelude.{ℕ, zero, suc, ◌+◌, ◌-◌, ◌%◌, ◌<◌, ◌≤◌, ◌≡◌, List, [], ◌∷◌, ◌++◌, length, Bool, true, false, cond, if◌then◌else◌, not, nat_le, nat_lt, ◌==◌, ◌&&◌, ◌||◌}
+use Rattle.std.specs.Prelude.{ℕ, zero, suc, ◌+◌, ◌-◌, ◌%◌, ◌<◌, ◌≤◌, ◌≡◌, List, [], ◌∷◌, ◌++◌, length, Bool, true, false, if◌then◌else◌, not, nat_le, nat_lt, ◌==◌, ◌&&◌, ◌||◌}
 use Rattle.std.specs.List.{count_by, All, filter, range_with_len}
 use Rattle.std.proofs.Math.Utf8.{scalar}
 use Rattle.std.specs.List.Sorted.{IsStrictlyIncreasing}
@@ -100,7 +100,7 @@ characters ends = filter scalar (members ends)
 -- how many numbers below n the set holds
 unfoldable pub members_below : List ℕ → ℕ → ℕ
 members_below ends zero = 0
-members_below ends (suc n) = members_below ends n + cond (holds ends n) 1 0
+members_below ends (suc n) = members_below ends n + (if holds ends n then 1 else 0)
 
 -- ---- the list of what the set does not hold
 -- the ends with 0 put in front, or taken away where it is there

@@ -21,8 +21,8 @@ abbrev pub end_of_included : ℕ → ℕ
 end_of_included e = min (e + 1) (2 ^ 32 - 1)
 
 -- a range of points as one of their numbers
-abbrev pub numbered : {X : Type 0} → (X → ℕ) → RangeInclusive X → RangeInclusive ℕ
-numbered number r = record {
+abbrev pub range_of_numbers : {X : Type 0} → (X → ℕ) → RangeInclusive X → RangeInclusive ℕ
+range_of_numbers number r = record {
   start = number (range_inclusive_start r);
   end = number (range_inclusive_end r);
   exhausted = range_inclusive_exhausted r;

@@ -25,12 +25,12 @@ upper_hex4 p = upper_hex (p / 4096 % 16) ∷ upper_hex (p / 256 % 16) ∷ upper_
     ∷ upper_hex (p % 16) ∷ []
 
 -- a point
-abbrev pub spelled : ℕ → List ℕ
-spelled p = if nat_le 0xD800 p && nat_lt p 0xE000 then 0x55 ∷ 0x2B ∷ upper_hex4 p else p ∷ []
+abbrev pub spelling_of : ℕ → List ℕ
+spelling_of p = if nat_le 0xD800 p && nat_lt p 0xE000 then 0x55 ∷ 0x2B ∷ upper_hex4 p else p ∷ []
 
 -- a range from a through b
 abbrev pub range_text : ℕ → ℕ → List ℕ
-range_text a b = if a == b then spelled a else spelled a ++ 0x2D ∷ spelled b
+range_text a b = if a == b then spelling_of a else spelling_of a ++ 0x2D ∷ spelling_of b
 
 -- the characters of the strings of a set
 abbrev pub texts_of : List ℕ → List (List ℕ)

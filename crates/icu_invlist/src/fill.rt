@@ -3,12 +3,12 @@
 //!
 //! Between the ends that stand below a range and those that stand above it, at most the two borders
 //! of the range are left: its start where the answer changes there, and its end likewise.
-ghost use Rattle.std.specs.Prelude.{◌≡◌, ℕ, suc, false, true, ◌+◌, ◌*◌, ◌-◌, ◌<◌, ◌≤◌, ◌++◌, List, [], ◌∷◌, length, cond, not, nat_le, vec_len, ◌⊎◌, OnOk, OnErr, IsTrue, ◌↔◌};
+ghost use Rattle.std.specs.Prelude.{◌≡◌, ℕ, suc, false, true, ◌+◌, ◌*◌, ◌-◌, ◌<◌, ◌≤◌, ◌++◌, List, [], ◌∷◌, length, if◌then◌else◌, not, nat_le, vec_len, ◌⊎◌, OnOk, OnErr, IsTrue, ◌↔◌};
 ghost use Rattle.std.specs.List.{splice};
 ghost use Rattle.std.specs.Vec.{vec_capacity};
 ghost use Rattle.icu_zerovec.specs.CodePoints.{code_point_limit};
 ghost use Rattle.icu_invlist.specs.InversionList.{IsValid, Acts, either, without, both, one_of, between, holds, is_odd};
-ghost use Rattle.icu_invlist.specs.Inside.Places.{AreStepsBelow, IsFilled, Run, below};
+ghost use Rattle.icu_invlist.specs.Inside.Places.{AreStepsBelow, IsFilled, Run, ends_below};
 
 use icu_zerovec::{CODE_POINT_LIMIT, MemoryError};
 
@@ -17,7 +17,7 @@ use icu_zerovec::{CODE_POINT_LIMIT, MemoryError};
 fn is_below(ends: &[u32], place: usize, c: u32) -> bool
     requires rises { Run 0 (suc code_point_limit) ends.now }
     requires within { place < length ends.now }
-    ensures { IsTrue result ↔ (place < below ends.now c) }
+    ensures { IsTrue result ↔ (place < ends_below ends.now c) }
 {
     ends[place] < c
 }
@@ -26,10 +26,10 @@ fn is_below(ends: &[u32], place: usize, c: u32) -> bool
 #[inline(always)]
 fn steps_below(ends: &[u32], low: usize, step: usize, c: u32) -> usize
     requires rises { Run 0 (suc code_point_limit) ends.now }
-    requires from { low ≤ below ends.now c }
+    requires from { low ≤ ends_below ends.now c }
     requires some { 0 < step }
     requires within { low + 3 * step ≤ length ends.now }
-    ensures { AreStepsBelow (below ends.now c) low step result }
+    ensures { AreStepsBelow (ends_below ends.now c) low step result }
 {
     let first = is_below(ends, low + step - 1, c);
     let second = is_below(ends, low + 2 * step - 1, c);
@@ -42,8 +42,8 @@ fn steps_below(ends: &[u32], low: usize, step: usize, c: u32) -> usize
 #[inline(always)]
 fn narrowed(ends: &[u32], c: u32) -> (usize, usize)
     requires { Run 0 (suc code_point_limit) ends.now }
-    ensures from { result.0 ≤ below ends.now c }
-    ensures to { below ends.now c ≤ result.0 + result.1 }
+    ensures from { result.0 ≤ ends_below ends.now c }
+    ensures to { ends_below ends.now c ≤ result.0 + result.1 }
     ensures within { result.0 + result.1 ≤ length ends.now }
 {
     let mut low = 0;
@@ -60,7 +60,7 @@ fn narrowed(ends: &[u32], c: u32) -> (usize, usize)
 /// searched.
 fn count_below(ends: &[u32], c: u32) -> usize
     requires { Run 0 (suc code_point_limit) ends.now }
-    ensures count { result ≡ below ends.now c }
+    ensures count { result ≡ ends_below ends.now c }
     ensures within { result ≤ length ends.now }
 {
     let count = ends.len();
@@ -78,8 +78,8 @@ fn count_below(ends: &[u32], c: u32) -> usize
 /// The same, where at least `from` ends stand below `c`, and mostly no more.
 fn count_below_from(ends: &[u32], from: usize, c: u32) -> usize
     requires rises { Run 0 (suc code_point_limit) ends.now }
-    requires from { from ≤ below ends.now c }
-    ensures count { result ≡ below ends.now c }
+    requires from { from ≤ ends_below ends.now c }
+    ensures count { result ≡ ends_below ends.now c }
     ensures within { result ≤ length ends.now }
 {
     if from < ends.len() && c <= ends[from] {
@@ -99,11 +99,11 @@ fn overwrite(
     second: bool,
     end: u32,
 )
-    requires room { lower + (cond first 1 0 + cond second 1 0) ≤ upper }
+    requires room { lower + ((if first then 1 else 0) + (if second then 1 else 0)) ≤ upper }
     requires within { upper ≤ length ends.old.items }
     ensures { ends.new.items
         ≡ splice ends.old.items lower upper
-        (cond first (start ∷ []) [] ++ cond second (end ∷ []) []) }
+        ((if first then start ∷ [] else []) ++ (if second then end ∷ [] else [])) }
 {
     let mut place = lower;
     if first {
@@ -231,7 +231,7 @@ pub(crate) fn remove(ends: &mut Vec<u32>, start: u32, end: u32) -> Result<(), Me
 /// Whether `x` is no end.
 fn is_new(ends: &[u32], x: u32) -> bool
     requires { Run 0 (suc code_point_limit) ends.now }
-    ensures { IsTrue result ↔ (below ends.now x ≡ below ends.now (x + 1)) }
+    ensures { IsTrue result ↔ (ends_below ends.now x ≡ ends_below ends.now (x + 1)) }
 {
     ends.binary_search(&x).is_err()
 }
@@ -240,13 +240,13 @@ fn is_new(ends: &[u32], x: u32) -> bool
 fn toggle(ends: &mut Vec<u32>, x: u32)
     requires rises { Run 0 (suc code_point_limit) ends.old.items }
     requires within { x ≤ code_point_limit }
-    requires room { below ends.old.items x ≡ below ends.old.items (x + 1)
+    requires room { ends_below ends.old.items x ≡ ends_below ends.old.items (x + 1)
         → vec_len ends.old < vec_capacity ends.old }
     ensures rises { Run 0 (suc code_point_limit) ends.new.items }
     ensures length { is_odd (length ends.new.items) ≡ not (is_odd (length ends.old.items)) }
     ensures set { (c : ℕ) → holds ends.new.items c ≡ one_of (nat_le x c) (holds ends.old.items c) }
     ensures grows { vec_len ends.new ≤ vec_len ends.old + 1 }
-    ensures shrinks { (below ends.old.items x ≡ below ends.old.items (x + 1) → ⊥)
+    ensures shrinks { (ends_below ends.old.items x ≡ ends_below ends.old.items (x + 1) → ⊥)
         → vec_len ends.new + 1 ≡ vec_len ends.old }
     ensures capacity { vec_capacity ends.old ≤ vec_capacity ends.new }
 {

@@ -2,7 +2,7 @@
 ghost use Rattle.std.specs.Prelude.{◌≡◌, ℕ, ◌+◌, ◌*◌, ◌<◌, ◌≤◌, ◌^◌, ◌++◌, List, option_map, IfSome, Some, IfOk, OnOk, string_bytes};
 ghost use Rattle.std.specs.Str.{chars, encode_utf8_all};
 ghost use Rattle.icu_zerovec.specs.CodePoints.{code_point_limit};
-ghost use Rattle.icu_invlist.specs.SetJson.{first_of, digit_at, hex_at, point_at, range_at, IsRange, upper_hex, upper_hex4, spelled, range_text};
+ghost use Rattle.icu_invlist.specs.SetJson.{first_of, digit_at, hex_at, point_at, range_at, IsRange, upper_hex, upper_hex4, spelling_of, range_text};
 
 use icu_zerovec::MemoryError;
 use std::alloc::Global;
@@ -118,7 +118,7 @@ fn push_hex(text: &mut String, number: u32) -> Result<(), MemoryError>
 fn push_point(text: &mut String, point: u32) -> Result<(), MemoryError>
     requires { point < code_point_limit }
     ensures { OnOk result
-        (string_bytes text.new ≡ string_bytes text.old ++ encode_utf8_all (spelled point)) }
+        (string_bytes text.new ≡ string_bytes text.old ++ encode_utf8_all (spelling_of point)) }
 {
     match char::from_u32(point) {
         Some(c) => text.push(c)?,

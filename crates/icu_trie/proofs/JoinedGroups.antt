@@ -2,7 +2,7 @@
 use Rattle.std.proofs.Common.{◌≡◌, ℕ, ◌≤◌, List, [], ◌∷◌, ◌++◌, length, Bool, true, false, refl, ap, arith, zero, suc}
 use Rattle.std.proofs.lemmas.List.{length-append}
 use Rattle.icu_trie_core.specs.declared.range.CodePointMapRange.{CodePointMapRange}
-use Rattle.icu_trie.specs.JoinedRanges.{AreJoined, GoOn, StopsAt, continues, group_of, joined, joined_from, merged}
+use Rattle.icu_trie.specs.JoinedRanges.{AreJoined, GoOn, StopsAt, continues, group_of, joined_ranges, joined_ranges_from, merged_range}
 
 module _ {A : Type 0} (eq : A → A → Bool) where
   -- the first group: r and the ranges that go on with it, and what comes after them
@@ -12,9 +12,9 @@ module _ {A : Type 0} (eq : A → A → Bool) where
     pub parts : xs ≡ others ++ rest
     pub go_on : GoOn eq r others
     pub stops : StopsAt eq (group_of eq r others) rest
-    pub first : joined_from eq r xs ≡ group_of eq r others ∷ joined eq rest
+    pub first : joined_ranges_from eq r xs ≡ group_of eq r others ∷ joined_ranges eq rest
 
-  group_with : (r x : CodePointMapRange A) (xs : List (CodePointMapRange A)) (b : Bool) → continues eq r x ≡ b → FirstGroup (merged eq r x) xs → FirstGroup r (x ∷ xs)
+  group_with : (r x : CodePointMapRange A) (xs : List (CodePointMapRange A)) (b : Bool) → continues eq r x ≡ b → FirstGroup (merged_range eq r x) xs → FirstGroup r (x ∷ xs)
   group_with r x xs true e g = record {
     others = x ∷ g.others;
     rest = g.rest;
@@ -27,9 +27,9 @@ module _ {A : Type 0} (eq : A → A → Bool) where
 
   first_group : (r : CodePointMapRange A) (xs : List (CodePointMapRange A)) → FirstGroup r xs
   first_group r [] = record { others = []; rest = []; parts = refl; go_on = tt; stops = tt; first = refl }
-  first_group r (x ∷ xs) = group_with r x xs (continues eq r x) refl (first_group (merged eq r x) xs)
+  first_group r (x ∷ xs) = group_with r x xs (continues eq r x) refl (first_group (merged_range eq r x) xs)
 
-  groups : (n : ℕ) (xs : List (CodePointMapRange A)) → length xs ≤ n → AreJoined eq xs (joined eq xs)
+  groups : (n : ℕ) (xs : List (CodePointMapRange A)) → length xs ≤ n → AreJoined eq xs (joined_ranges eq xs)
   groups n [] h = refl
   groups zero (x ∷ xs) h = absurd (omega arith)
   groups (suc n) (x ∷ xs) h =
@@ -38,5 +38,5 @@ module _ {A : Type 0} (eq : A → A → Bool) where
       rw g.first (x, g.others, g.rest, ap (λ ys. x ∷ ys) g.parts, g.go_on, refl, g.stops, groups n g.rest l)
 
   -- one range for each group of ranges that go on with one another
-  pub joined-are : (xs : List (CodePointMapRange A)) → AreJoined eq xs (joined eq xs)
-  joined-are xs = groups (length xs) xs (omega arith)
+  pub joined_ranges-are : (xs : List (CodePointMapRange A)) → AreJoined eq xs (joined_ranges eq xs)
+  joined_ranges-are xs = groups (length xs) xs (omega arith)

@@ -15,7 +15,7 @@ use Rattle.icu_trie.specs.declared.ranges.CodePointMapRangeIterator.{CodePointMa
 use Rattle.icu_trie_core.specs.Range.{first_of, last_of, run_of}
 use Rattle.icu_trie.specs.Ranges.{IsRangeOfCodePoints}
 use Rattle.icu_trie.specs.Iterators.{GivesNextRange}
-use Rattle.icu_trie.specs.JoinedRanges.{continues, merged, joined_from, joined}
+use Rattle.icu_trie.specs.JoinedRanges.{continues, merged_range, joined_ranges_from, joined_ranges}
 use Rattle.icu_trie.specs.MappedRanges.{MapsTo, AreMappedRunsFrom, Answers, AreAnswered, IsAnswered, GivesMapped, mapped_source, mapped_callee}
 use Rattle.icu_trie.specs.declared.mapped_ranges.MappedRanges.{MappedRanges}
 use Rattle.icu_trie.proofs.GivenRanges.{AreOfCodePoints}
@@ -93,26 +93,26 @@ module _ {B : Type 0} (eq : B → B → Bool) where
   continues-starts : (r x : CodePointMapRange B) → continues eq r x ≡ true → first_of x ≡ last_of r + 1
   continues-starts r x on = grind (arith, nat_tests)
 
-  merged-range : (r x : CodePointMapRange B) → continues eq r x ≡ true → IsRangeOfCodePoints r → IsRangeOfCodePoints x → IsRangeOfCodePoints (merged eq r x)
-  merged-range r x on first second =
+  merged_range-range : (r x : CodePointMapRange B) → continues eq r x ≡ true → IsRangeOfCodePoints r → IsRangeOfCodePoints x → IsRangeOfCodePoints (merged_range eq r x)
+  merged_range-range r x on first second =
       let next = continues-starts r x on in
       let up = first.0 in let on_up = second.0 in
       (omega (arith, next, up, on_up), second.1, refl)
 
-  joined-ranges : (r x : CodePointMapRange B) (xs : List (CodePointMapRange B)) (b : Bool) → continues eq r x ≡ b → IsRangeOfCodePoints r
-      → (continues eq r x ≡ true → All IsRangeOfCodePoints (joined_from eq (merged eq r x) xs)) → All IsRangeOfCodePoints (joined_from eq x xs)
-      → All IsRangeOfCodePoints (joined_from eq r (x ∷ xs))
-  joined-ranges r x xs true on here more other = rw on (more on)
-  joined-ranges r x xs false off here more other = rw off (All-cons IsRangeOfCodePoints r (joined_from eq x xs) here other)
+  joined_ranges-ranges : (r x : CodePointMapRange B) (xs : List (CodePointMapRange B)) (b : Bool) → continues eq r x ≡ b → IsRangeOfCodePoints r
+      → (continues eq r x ≡ true → All IsRangeOfCodePoints (joined_ranges_from eq (merged_range eq r x) xs)) → All IsRangeOfCodePoints (joined_ranges_from eq x xs)
+      → All IsRangeOfCodePoints (joined_ranges_from eq r (x ∷ xs))
+  joined_ranges-ranges r x xs true on here more other = rw on (more on)
+  joined_ranges-ranges r x xs false off here more other = rw off (All-cons IsRangeOfCodePoints r (joined_ranges_from eq x xs) here other)
 
-  joined_from-ranges : (xs : List (CodePointMapRange B)) (r : CodePointMapRange B) → IsRangeOfCodePoints r → AreOfCodePoints xs → All IsRangeOfCodePoints (joined_from eq r xs)
-  joined_from-ranges [] r here rest = All-cons IsRangeOfCodePoints r [] here (λ k d lt. absurd (omega (arith, lt)))
-  joined_from-ranges (x ∷ xs) r here rest =
-      joined-ranges r x xs (continues eq r x) refl here (λ on. joined_from-ranges xs (merged eq r x) (merged-range r x on here rest.0) rest.1) (joined_from-ranges xs x rest.0 rest.1)
+  joined_ranges_from-ranges : (xs : List (CodePointMapRange B)) (r : CodePointMapRange B) → IsRangeOfCodePoints r → AreOfCodePoints xs → All IsRangeOfCodePoints (joined_ranges_from eq r xs)
+  joined_ranges_from-ranges [] r here rest = All-cons IsRangeOfCodePoints r [] here (λ k d lt. absurd (omega (arith, lt)))
+  joined_ranges_from-ranges (x ∷ xs) r here rest =
+      joined_ranges-ranges r x xs (continues eq r x) refl here (λ on. joined_ranges_from-ranges xs (merged_range eq r x) (merged_range-range r x on here rest.0) rest.1) (joined_ranges_from-ranges xs x rest.0 rest.1)
 
-  pub All-joined : (xs : List (CodePointMapRange B)) → AreOfCodePoints xs → All IsRangeOfCodePoints (joined eq xs)
-  All-joined [] are = λ k d lt. absurd (omega (arith, lt))
-  All-joined (x ∷ xs) are = joined_from-ranges xs x are.0 are.1
+  pub All-joined_ranges : (xs : List (CodePointMapRange B)) → AreOfCodePoints xs → All IsRangeOfCodePoints (joined_ranges eq xs)
+  All-joined_ranges [] are = λ k d lt. absurd (omega (arith, lt))
+  All-joined_ranges (x ∷ xs) are = joined_ranges_from-ranges xs x are.0 are.1
 
 -- ---- over a coherent trie
 module _ {A B : Type 0} (eq : B → B → Bool) (same : (y : B) → eq y y ≡ true) (h : A → B) (answer : ℕ → Option A) where
@@ -145,15 +145,15 @@ module _ {A B : Type 0} (eq : B → B → Bool) (same : (y : B) → eq y y ≡ t
   continues_is r x within next = rw (lt-ltb (last_of r) 4294967295 (omega (arith, within)), next, eq-eqb (last_of r + 1) (last_of r + 1) refl) refl
 
   -- a range so far and the next one: they are joined, or the first is a run
-  joined-step : (r : CodePointMapRange B) (x : CodePointMapRange A) (rest : List (CodePointMapRange B)) → range_inclusive_exhausted r.range ≡ false → MapsTo eq h answer (first_of r) (last_of r) r.value
+  joined_ranges-step : (r : CodePointMapRange B) (x : CodePointMapRange A) (rest : List (CodePointMapRange B)) → range_inclusive_exhausted r.range ≡ false → MapsTo eq h answer (first_of r) (last_of r) r.value
       → first_of x ≡ last_of r + 1 → LongestRun answer (first_of x) (last_of x) (Some x.value)
-      → (MapsTo eq h answer (first_of r) (last_of x) r.value → AreMappedRunsFrom eq h answer (first_of r) (joined_from eq (merged eq r (mapped h x)) rest))
-      → (MapsTo eq h answer (first_of x) (last_of x) (h x.value) → AreMappedRunsFrom eq h answer (first_of x) (joined_from eq (mapped h x) rest))
-      → (b : Bool) → eq (h x.value) r.value ≡ b → AreMappedRunsFrom eq h answer (first_of r) (joined_from eq r (mapped h x ∷ rest))
-  joined-step r x rest fresh maps next run more other true on =
+      → (MapsTo eq h answer (first_of r) (last_of x) r.value → AreMappedRunsFrom eq h answer (first_of r) (joined_ranges_from eq (merged_range eq r (mapped h x)) rest))
+      → (MapsTo eq h answer (first_of x) (last_of x) (h x.value) → AreMappedRunsFrom eq h answer (first_of x) (joined_ranges_from eq (mapped h x) rest))
+      → (b : Bool) → eq (h x.value) r.value ≡ b → AreMappedRunsFrom eq h answer (first_of r) (joined_ranges_from eq r (mapped h x ∷ rest))
+  joined_ranges-step r x rest fresh maps next run more other true on =
       let c = continues_is r x maps.within next ∙ on in
       rw c (more (maps_more (first_of r) (last_of r) (last_of x) r.value x.value maps (rw (sym next) run) on))
-  joined-step r x rest fresh maps next run more other false off =
+  joined_ranges-step r x rest fresh maps next run more other false off =
       let c = continues_is r x maps.within next ∙ off in
       let ordered = run.ordered in
       rw c (
@@ -167,16 +167,16 @@ module _ {A B : Type 0} (eq : B → B → Bool) (same : (y : B) → eq y y ≡ t
       )
 
   -- joined from a range so far
-  joined_from-maximal : (rest : List (CodePointMapRange A)) (r : CodePointMapRange B) → range_inclusive_exhausted r.range ≡ false → MapsTo eq h answer (first_of r) (last_of r) r.value
+  joined_ranges_from-maximal : (rest : List (CodePointMapRange A)) (r : CodePointMapRange B) → range_inclusive_exhausted r.range ≡ false → MapsTo eq h answer (first_of r) (last_of r) r.value
       → AreOfCodePoints rest → AreRunsFrom answer (last_of r + 1) (map run_of rest)
-      → AreMappedRunsFrom eq h answer (first_of r) (joined_from eq r (map (mapped h) rest))
-  joined_from-maximal [] r fresh maps are end = (refl, fresh, record { maps = maps; ends = λ x lt. absurd (omega (arith, end, lt)) }, end)
-  joined_from-maximal (x ∷ rest) r fresh maps are runs =
-      joined-step r x (map (mapped h) rest) fresh maps runs.0 runs.1
-      (λ more. joined_from-maximal rest (merged eq r (mapped h x)) refl more are.1 runs.2)
-      (λ other. joined_from-maximal rest (mapped h x) are.0.2 other are.1 runs.2)
+      → AreMappedRunsFrom eq h answer (first_of r) (joined_ranges_from eq r (map (mapped h) rest))
+  joined_ranges_from-maximal [] r fresh maps are end = (refl, fresh, record { maps = maps; ends = λ x lt. absurd (omega (arith, end, lt)) }, end)
+  joined_ranges_from-maximal (x ∷ rest) r fresh maps are runs =
+      joined_ranges-step r x (map (mapped h) rest) fresh maps runs.0 runs.1
+      (λ more. joined_ranges_from-maximal rest (merged_range eq r (mapped h x)) refl more are.1 runs.2)
+      (λ other. joined_ranges_from-maximal rest (mapped h x) are.0.2 other are.1 runs.2)
       (eq (h x.value) r.value) refl
 
-  pub joined-maximal : (xs : List (CodePointMapRange A)) → AreOfCodePoints xs → AreRunsFrom answer 0 (map run_of xs) → AreMappedRunsFrom eq h answer 0 (joined eq (map (mapped h) xs))
-  joined-maximal [] are runs = runs
-  joined-maximal (x ∷ xs) are runs = rw (sym runs.0) (joined_from-maximal xs (mapped h x) are.0.2 (maps_run (first_of x) (last_of x) x.value runs.1) are.1 runs.2)
+  pub joined_ranges-maximal : (xs : List (CodePointMapRange A)) → AreOfCodePoints xs → AreRunsFrom answer 0 (map run_of xs) → AreMappedRunsFrom eq h answer 0 (joined_ranges eq (map (mapped h) xs))
+  joined_ranges-maximal [] are runs = runs
+  joined_ranges-maximal (x ∷ xs) are runs = rw (sym runs.0) (joined_ranges_from-maximal xs (mapped h x) are.0.2 (maps_run (first_of x) (last_of x) x.value runs.1) are.1 runs.2)

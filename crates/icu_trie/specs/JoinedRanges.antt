@@ -11,34 +11,35 @@ module _ {A : Type 0} (eq : A → A → Bool) where
       && eq x.value r.value
 
   -- from the start of r to the end of x, with the value of r
-  abbrev pub merged : CodePointMapRange A → CodePointMapRange A → CodePointMapRange A
-  merged r x = record
+  abbrev pub merged_range : CodePointMapRange A → CodePointMapRange A → CodePointMapRange A
+  merged_range r x = record
       { range = record { start = first_of r; end = last_of x; exhausted = false }; value = r.value }
 
   -- the joined ranges after r, what was joined so far: a range that goes on with r is joined to it,
   -- and the first one that does not is the start of the next group
-  abbrev pub joined_from : CodePointMapRange A → List (CodePointMapRange A)
+  abbrev pub joined_ranges_from : CodePointMapRange A → List (CodePointMapRange A)
       → List (CodePointMapRange A)
-  joined_from r [] = r ∷ []
-  joined_from r (x ∷ xs) =
-      if continues r x then joined_from (merged r x) xs else r ∷ joined_from x xs
+  joined_ranges_from r [] = r ∷ []
+  joined_ranges_from r (x ∷ xs) =
+      if continues r x then joined_ranges_from (merged_range r x) xs
+      else r ∷ joined_ranges_from x xs
 
   -- the joined ranges: one for each group of ranges that go on with one another, with the first
   -- one's value
-  abbrev pub joined : List (CodePointMapRange A) → List (CodePointMapRange A)
-  joined [] = []
-  joined (x ∷ xs) = joined_from x xs
+  abbrev pub joined_ranges : List (CodePointMapRange A) → List (CodePointMapRange A)
+  joined_ranges [] = []
+  joined_ranges (x ∷ xs) = joined_ranges_from x xs
 
   -- ---- what they are, without a way to find them
   -- each of the ranges goes on with r and those before it
   abbrev pub GoOn : CodePointMapRange A → List (CodePointMapRange A) → Type 0
   GoOn r [] = Unit {0}
-  GoOn r (x ∷ xs) = (continues r x ≡ true) × GoOn (merged r x) xs
+  GoOn r (x ∷ xs) = (continues r x ≡ true) × GoOn (merged_range r x) xs
 
   -- r and the ranges that go on with it as one, with the value of r
   abbrev pub group_of : CodePointMapRange A → List (CodePointMapRange A) → CodePointMapRange A
   group_of r [] = r
-  group_of r (x ∷ xs) = group_of (merged r x) xs
+  group_of r (x ∷ xs) = group_of (merged_range r x) xs
 
   -- the first of the ranges, if there is one, doesn't go on with r
   abbrev pub StopsAt : CodePointMapRange A → List (CodePointMapRange A) → Type 0

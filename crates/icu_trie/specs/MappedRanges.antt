@@ -10,7 +10,7 @@ use Rattle.icu_trie.specs.Parts.{Parts}
 use Rattle.icu_trie_core.specs.Range.{first_of, last_of}
 use Rattle.icu_trie.specs.Ranges.{AreRangesFrom}
 use Rattle.icu_trie.specs.Iterators.{GivesNextRange}
-use Rattle.icu_trie.specs.JoinedRanges.{joined}
+use Rattle.icu_trie.specs.JoinedRanges.{joined_ranges}
 use Rattle.itertools.specs.Adaptor.{fuse_can}
 use Rattle.icu_trie.specs.Coalescer.{coalescer_source, coalescer_steps}
 
@@ -61,7 +61,7 @@ pub record AreMappedRangesOf {F A B : Type 0} (of_number : ℕ → Option A) (po
   pub given : AreRangesFrom of_number p 0 all
   pub answered : List (CodePointMapRange B)
   pub answers : AreAnswered post f all answered
-  pub joins : ranges ≡ joined eq answered
+  pub joins : ranges ≡ joined_ranges eq answered
 
 module _ {F A : Type 0} {m : _} where
   -- the iterator over the ranges that are to be mapped, and the closure

@@ -6,8 +6,8 @@ use Rattle.icu_trie.specs.Parts.{Parts, last_cell}
 use Rattle.icu_trie.specs.Conversion.{with_null_value}
 
 -- a value as the answer of a closure that may refuse
-abbrev pub answered : {B E : Type 0} → B → Result B E
-answered y = Ok y
+abbrev pub ok_answer : {B E : Type 0} → B → Result B E
+ok_answer y = Ok y
 
 module _ {F A B E : Type 0} (step : F → A → Result B E → F → Type 0) where
   -- each call of the closure, in whichever state, answers h of its argument

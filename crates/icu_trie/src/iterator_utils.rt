@@ -3,7 +3,7 @@ ghost use Rattle.std.specs.Prelude.{◌≡◌, ◌+◌, None};
 ghost use Rattle.std.specs.Iterator.{IsFinite, count_map};
 ghost use Rattle.std.specs.Option.{option_len};
 ghost use Rattle.itertools.specs.Adaptor.{fuse_can, fuse_left, IsFresh, EachRunBehind, Gives};
-ghost use Rattle.icu_trie.specs.JoinedRanges.{joined, continues};
+ghost use Rattle.icu_trie.specs.JoinedRanges.{joined_ranges, continues};
 ghost use Rattle.icu_trie.specs.Coalescer.{coalescer_source, coalescer_peek, coalescer_steps};
 
 use icu_trie_core::range::CodePointMapRange;
@@ -31,7 +31,7 @@ impl<I: Iterator<Item = CodePointMapRange<U>>, U: Eq> RangeListIteratorCoalescer
         ensures peek { coalescer_peek result ≡ None }
         ensures runs { EachRunBehind
             (coalescer_steps I.next_gives U.PartialEq.eq) result I.next_gives iter
-            (λ p q. Gives p q (joined U.PartialEq.eq)) }
+            (λ p q. Gives p q (joined_ranges U.PartialEq.eq)) }
     {
         Self {
             iter: iter.fuse(),

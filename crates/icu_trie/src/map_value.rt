@@ -2,7 +2,7 @@
 ghost use Rattle.std.specs.Prelude.{◌≡◌, ℕ, Result, IfOk, IfErr};
 ghost use Rattle.std.specs.Option.{option_map};
 ghost use Rattle.icu_trie.specs.declared.map_value.MapError.TheVariants.{Memory};
-ghost use Rattle.icu_trie.specs.MappedTrie.{answered, AnswersAlways, MapsInTurn, AnswersAll, BreaksOffAt};
+ghost use Rattle.icu_trie.specs.MappedTrie.{ok_answer, AnswersAlways, MapsInTurn, AnswersAll, BreaksOffAt};
 ghost use Rattle.icu_trie.specs.Parts.{trie_value};
 ghost use Rattle.icu_trie.specs.Ranges.{IsCoherentTrie, answers};
 ghost use Rattle.icu_zerovec.specs.Slice.{slice_values};
@@ -107,9 +107,9 @@ impl<'trie, T: TrieValue> CodePointTrie<'trie, T> {
         requires { F.IsAlwaysCallable f }
         ensures maps { MapsInTurn F.step f T.of_number P.number self.now result }
         ensures same { (h : T → Result P E) → AnswersAlways F.step h → IfOk result (λ t. (u : ℕ)
-            → option_map (answered {E = E}) (answers t u) ≡ option_map h (answers self.now u)) }
+            → option_map (ok_answer {E = E}) (answers t u) ≡ option_map h (answers self.now u)) }
         ensures value { (h : T → Result P E) → AnswersAlways F.step h → IfOk result (λ t. (u : ℕ)
-            → option_map (answered {E = E}) (trie_value t u)
+            → option_map (ok_answer {E = E}) (trie_value t u)
             ≡ option_map h (trie_value self.now u)) }
         ensures coherent { (h : T → Result P E) → AnswersAlways F.step h
             → IsCoherentTrie T.of_number self.now

@@ -24,11 +24,11 @@ pub data JsonFault : Type 0 where
   of_parts : CodePointTrieError → JsonFault
 
 -- a whole number of 32 bits, written without a fraction
-abbrev pub whole : ℕ → Option ℕ
-whole n = if nat_lt n (2 ^ 32) then Some n else None
+abbrev pub u32_of : ℕ → Option ℕ
+u32_of n = if nat_lt n (2 ^ 32) then Some n else None
 
 abbrev pub number_of : Data → Option ℕ
-number_of d = option_and_then whole (option_and_then as_u64 (as_number d))
+number_of d = option_and_then u32_of (option_and_then as_u64 (as_number d))
 
 -- the number that a value is, if it has this range, or the fault of the key
 abbrev pub number_or : {T : Type 0} → (ℕ → Option T) → List ℕ → Data → Result T JsonFault

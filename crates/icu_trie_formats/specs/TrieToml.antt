@@ -34,13 +34,13 @@ pub record TomlParts : Type 0 where
   pub fields : TomlFields
 
 -- a whole number of 32 bits
-abbrev pub whole : ℤ → Option ℕ
-whole (pos n) = if nat_lt n (2 ^ 32) then Some n else None
-whole (negsuc n) = None
+abbrev pub u32_of : ℤ → Option ℕ
+u32_of (pos n) = if nat_lt n (2 ^ 32) then Some n else None
+u32_of (negsuc n) = None
 
 -- the number that a value is, if it is a whole number that the range has
 abbrev pub number_of : {T : Type 0} → (ℕ → Option T) → Data → Option T
-number_of range d = option_and_then range (option_and_then whole (as_integer d))
+number_of range d = option_and_then range (option_and_then u32_of (as_integer d))
 
 -- the same, or the fault of the key
 abbrev pub number_or : {T : Type 0} → (ℕ → Option T) → List ℕ → Data → Result T TomlFault

@@ -107,9 +107,9 @@ row_of_fields (Some points) None = Err NotARow
 row_of_fields (Some points) (Some value) = row_of_numbers points value
 
 -- the one write, or the fault
-abbrev pub written : Result (Write ℕ) RowFault → Result (Option (Write ℕ)) RowFault
-written (Ok write) = Ok (Some write)
-written (Err fault) = Err fault
+abbrev pub some_write : Result (Write ℕ) RowFault → Result (Option (Write ℕ)) RowFault
+some_write (Ok write) = Ok (Some write)
+some_write (Err fault) = Err fault
 
 -- a line without its comment, from the first `#` on, and without blanks round it
 abbrev pub content_of : List ℕ → List ℕ
@@ -121,7 +121,7 @@ unfoldable pub row_of : List ℕ → Result (Option (Write ℕ)) RowFault
 row_of line =
     let content = content_of line in
     if length content == 0 then Ok None
-    else written (row_of_fields (code_points_of (trimmed (before 59 content)))
+    else some_write (row_of_fields (code_points_of (trimmed (before 59 content)))
     (decimal_number (trimmed (after 59 content))))
 
 -- the write of a line, where it has one

@@ -3,5 +3,5 @@ use Rattle.std.specs.Prelude.{ℕ, ℤ, List, String, string_bytes}
 use Rattle.std.specs.Global.{Global}
 
 -- the bytes of a text, and its value
-abbrev pub shown : String Global × ℤ → List ℕ × ℤ
-shown y = (string_bytes y.0, y.1)
+abbrev pub bytes_and_number : String Global × ℤ → List ℕ × ℤ
+bytes_and_number y = (string_bytes y.0, y.1)

@@ -4,7 +4,7 @@ ghost use Rattle.std.specs.Char.Escape.{encode_utf16};
 ghost use Rattle.std.specs.List.{flat_map};
 ghost use Rattle.std.specs.Str.{chars};
 ghost use Rattle.icu_collections.specs.Char16Trie.{AreEntries, IsTrieOf, UnitMap, goes_on, result_of, value_of};
-ghost use Rattle.uses.specs.Listing.{shown};
+ghost use Rattle.uses.specs.Listing.{bytes_and_number};
 
 use icu_collections::char16trie::{Char16Trie, Char16TrieBuilder, TrieResult};
 use std::alloc::Global;
@@ -47,7 +47,7 @@ pub fn list_of(alloc: Global, trie: &Char16Trie<'_>) -> Option<Vec<(String, i32)
 /// where memory is refused.
 pub fn two_words(alloc: Global) -> Option<Vec<(String, i32)>>
     ensures { IfSome result
-        (λ list. map shown list.items ≡ (codes "a", pos 1) ∷ (codes "ab", pos 2) ∷ []) }
+        (λ list. map bytes_and_number list.items ≡ (codes "a", pos 1) ∷ (codes "ab", pos 2) ∷ []) }
 {
     let mut builder = Char16TrieBuilder::new(alloc);
     builder.add(&[0x61, 0x62], 2).ok()?;

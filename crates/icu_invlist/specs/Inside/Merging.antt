@@ -2,13 +2,13 @@
 use Rattle.std.specs.Prelude.{ℕ, suc, ◌+◌, ◌<◌, ◌≤◌, ◌≡◌, ◌⊎◌, List, length, slice_index, take, Bool}
 use Rattle.icu_zerovec.specs.CodePoints.{code_point_limit}
 use Rattle.icu_invlist.specs.InversionList.{holds, is_odd, IsValid}
-use Rattle.icu_invlist.specs.Inside.Places.{Run, below}
+use Rattle.icu_invlist.specs.Inside.Places.{Run, ends_below}
 
 -- The ends below `passed` are passed: i of a and j of b. The ends in `out` are those of f of the
 -- two sets, as far as the walk has come
 pub record Merging (f : Bool → Bool → Bool) (a b out : List ℕ) (passed i j : ℕ) : Type 0 where
-  pub first : i ≡ below a passed
-  pub second : j ≡ below b passed
+  pub first : i ≡ ends_below a passed
+  pub second : j ≡ ends_below b passed
   pub run : Run 0 passed out
   pub small : passed ≤ suc code_point_limit
   pub parity : is_odd (length out) ≡ f (is_odd i) (is_odd j)
@@ -38,5 +38,5 @@ pub record Walks (f : Bool → Bool → Bool) (a b out : List ℕ) (i j w : ℕ)
 pub record StandBefore (a b : List ℕ) : Type 0 where
   pub end : ℕ
   pub within : end ≤ suc code_point_limit
-  pub first : length a ≡ below a end
-  pub second : 0 ≡ below b end
+  pub first : length a ≡ ends_below a end
+  pub second : 0 ≡ ends_below b end

@@ -4,7 +4,7 @@ ghost use Rattle.std.specs.Range.{range_inclusive_start};
 ghost use Rattle.std.proofs.Common.{lit≤};
 ghost use Rattle.icu_zerovec.specs.CodePoints.{code_point_limit};
 ghost use Rattle.icu_invlist.specs.InversionList.{IsValid};
-ghost use Rattle.icu_invlist.specs.NamedCodePoints.{open_start, open_end, end_of_included, end_of_inclusive, is_used_up, numbered};
+ghost use Rattle.icu_invlist.specs.NamedCodePoints.{open_start, open_end, end_of_included, end_of_inclusive, is_used_up, range_of_numbers};
 
 use icu_zerovec::{CODE_POINT_LIMIT, PotentialCodePoint, ZeroVec};
 use std::ops::{Range, RangeFrom, RangeFull, RangeInclusive, RangeTo, RangeToInclusive};
@@ -24,7 +24,7 @@ pub trait RangePoint: Copy {
 
     /// Whether the range was iterated to its last number: its ends are in order, and it is empty.
     fn is_used_up(range: &RangeInclusive<Self>) -> bool
-        ensures { result ≡ is_used_up (numbered number range.now) };
+        ensures { result ≡ is_used_up (range_of_numbers number range.now) };
 
     /// A range with no end of its own ends within them.
     ghost open_end_fits: { code_point_limit ≤ last_end };
@@ -102,7 +102,7 @@ impl<X: RangePoint> RangeOf<X> for Range<X> {
 impl<X: RangePoint> RangeOf<X> for RangeInclusive<X> {
     ghost start = { λ r. X.number (range_inclusive_start r) };
 
-    ghost end = { λ r. end_of_inclusive (numbered X.number r) };
+    ghost end = { λ r. end_of_inclusive (range_of_numbers X.number r) };
 
     fn deconstruct(self) -> (u32, u32) {
         let start = (*self.start()).number();

@@ -1,5 +1,5 @@
 use Rattle.std.proofs.Common.{◌+◌, arith, false}
-use Rattle.icu_invlist.proofs.RunLemmas.{below-mono}
+use Rattle.icu_invlist.proofs.RunLemmas.{ends_below-mono}
 use Rattle.icu_invlist.proofs.ValidLists.{run_from_valid}
 use Rattle.icu_invlist.proofs.Splices.{filled, plain, side_room}
 use Rattle.icu_invlist.proofs.fill.clear_side.Goals as goal
@@ -12,7 +12,7 @@ count_below_from-upper-requires-clause-rises c = rw c.deref-2.ensures.value (run
 
 pub count_below_from-upper-requires-clause-from : goal.count_below_from-upper-requires-clause-from
 count_below_from-upper-requires-clause-from c = rw (c.count_below-lower.ensures.count, c.deref.ensures.value, c.deref-2.ensures.value)
-    (below-mono c.args.ends.now.items c.args.start (c.args.end + 1) (let r = c.requires.rises in omega arith))
+    (ends_below-mono c.args.ends.now.items c.args.start (c.args.end + 1) (let r = c.requires.rises in omega arith))
 
 pub overwrite-requires-clause-room : goal.overwrite-requires-clause-room
 overwrite-requires-clause-room c = side_room c.args.ends.now.items c.count_below-lower.result c.count_below_from-upper.result c.args.start c.args.end

@@ -1,11 +1,11 @@
 use Rattle.std.proofs.Common.{◌+◌, ◌≤◌, length}
-use Rattle.icu_invlist.specs.Inside.Places.{below}
+use Rattle.icu_invlist.specs.Inside.Places.{ends_below}
 use Rattle.icu_invlist.proofs.fill.count_below.Given as goal
 
 abbrev pub invariant-loop-size : goal.invariant-loop-size
 invariant-loop-size l = record {
-  from : l.low ≤ below l.ends l.c;
-  to : below l.ends l.c ≤ l.low + l.size;
+  from : l.low ≤ ends_below l.ends l.c;
+  to : ends_below l.ends l.c ≤ l.low + l.size;
   within : l.low + l.size ≤ length l.ends;
 }
 

@@ -1,8 +1,8 @@
 use Rattle.std.proofs.Common.{◌≡◌, ◌+◌, arith, sym, refl, true}
 use Rattle.std.proofs.lemmas.Bool.{both_ways}
 use Rattle.std.proofs.lemmas.Result.{on_ok_weaker}
-use Rattle.icu_invlist.specs.Inside.Places.{below}
-use Rattle.icu_invlist.proofs.RunLemmas.{below-mono}
+use Rattle.icu_invlist.specs.Inside.Places.{ends_below}
+use Rattle.icu_invlist.proofs.RunLemmas.{ends_below-mono}
 use Rattle.icu_invlist.proofs.ValidLists.{run_from_valid}
 use Rattle.icu_invlist.proofs.Splices.{filled, room}
 use Rattle.icu_invlist.proofs.fill.fill.Goals as goal
@@ -16,12 +16,12 @@ count_below_from-upper-requires-clause-rises c = rw c.deref-2.ensures.value (run
 
 pub count_below_from-upper-requires-clause-from : goal.count_below_from-upper-requires-clause-from
 count_below_from-upper-requires-clause-from c = rw (c.count_below-lower.ensures.count, c.deref.ensures.value, c.deref-2.ensures.value)
-    (below-mono c.args.ends.now.items c.args.start (c.args.end + 1) (let r = c.requires.rises in omega arith))
+    (ends_below-mono c.args.ends.now.items c.args.start (c.args.end + 1) (let r = c.requires.rises in omega arith))
 
 pub overwrite-requires-clause-room : goal.overwrite-requires-clause-room
 overwrite-requires-clause-room c =
-    let i : c.count_below-lower.result ≡ below c.args.ends.now.items c.args.start = cc in
-    let j : c.count_below_from-upper.result ≡ below c.args.ends.now.items (c.args.end + 1) = cc in
+    let i : c.count_below-lower.result ≡ ends_below c.args.ends.now.items c.args.start = cc in
+    let j : c.count_below_from-upper.result ≡ ends_below c.args.ends.now.items (c.args.end + 1) = cc in
     room c.args.ends.now.items c.count_below-lower.result c.count_below_from-upper.result c.args.start c.args.end c.args.value c.requires.rises i j
     (elim c.else-first.branch [
       | else-first-via-then-first+then-second+else-lower-upper w ↦ (λ a b e. w.if-lower-upper.false e)

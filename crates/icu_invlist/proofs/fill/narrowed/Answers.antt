@@ -1,9 +1,9 @@
 use Rattle.std.proofs.Common.{arith, inl, inr}
-use Rattle.icu_invlist.proofs.RunLemmas.{below-le}
+use Rattle.icu_invlist.proofs.RunLemmas.{ends_below-le}
 use Rattle.icu_invlist.proofs.fill.narrowed.Goals as goal
 
 pub loop-size-init : goal.loop-size-init
-loop-size-init c = record { from = omega arith; to = (let b = below-le c.args.ends.now c.args.c in omega arith); within = omega arith }
+loop-size-init c = record { from = omega arith; to = (let b = ends_below-le c.args.ends.now c.args.c in omega arith); within = omega arith }
 
 pub loop-size-preserved : goal.loop-size-preserved
 loop-size-preserved c =

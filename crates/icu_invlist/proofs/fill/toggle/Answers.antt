@@ -3,7 +3,7 @@ use Rattle.std.specs.List.{insert}
 use Rattle.std.proofs.lemmas.Bool.{cond-true}
 use Rattle.std.proofs.lemmas.List.Edits.{length-insert}
 use Rattle.std.proofs.lemmas.Result.{MatchResult-at_ok, MatchResult-at_err}
-use Rattle.icu_invlist.specs.Inside.Places.{below}
+use Rattle.icu_invlist.specs.Inside.Places.{ends_below}
 use Rattle.icu_invlist.specs.InversionList.{is_odd}
 use Rattle.icu_invlist.proofs.Toggles.{end_found, put_in, take_out, odd_next, Toggled}
 use Rattle.icu_invlist.proofs.fill.toggle.Goals as goal
@@ -12,10 +12,10 @@ taken_out : (c : goal.After-remove) → Toggled c.args.ends.now.items c.args.x c
 taken_out c =
     let f = end_found c.args.ends.now.items c.args.x c.binary_search.result c.requires.rises (rw c.deref.ensures.value at c.binary_search.ensures.position) in
     let q = MatchResult-at_ok _ _ c.in-Ok.place c.in-Ok.is f in
-    take_out c.args.ends.now.items c.remove.new.self.items c.args.x c.in-Ok.place (below c.args.ends.now.items (c.args.x + 1))
+    take_out c.args.ends.now.items c.remove.new.self.items c.args.x c.in-Ok.place (ends_below c.args.ends.now.items (c.args.x + 1))
     c.requires.rises c.requires.within q.0 refl (λ e. q.2 (sym q.0 ∙ e)) c.remove.ensures.items
 
-is_none : (c : goal.After-insert) → (c.in-Err.place ≡ below c.args.ends.now.items c.args.x) × (below c.args.ends.now.items c.args.x ≡ below c.args.ends.now.items (c.args.x + 1))
+is_none : (c : goal.After-insert) → (c.in-Err.place ≡ ends_below c.args.ends.now.items c.args.x) × (ends_below c.args.ends.now.items c.args.x ≡ ends_below c.args.ends.now.items (c.args.x + 1))
 is_none c = MatchResult-at_err _ _ c.in-Err.place c.in-Err.is
     (end_found c.args.ends.now.items c.args.x c.binary_search.result c.requires.rises (rw c.deref.ensures.value at c.binary_search.ensures.position))
 
@@ -24,7 +24,7 @@ inserted c = c.insert.ensures.items ∙ cond-true _ _ _ (c.insert.ensures.succee
 
 put : (c : goal.After-insert) → Toggled c.args.ends.now.items c.args.x c.insert.new.self.items
 put c = let q = is_none c in
-    put_in c.args.ends.now.items c.insert.new.self.items c.args.x c.in-Err.place (below c.args.ends.now.items (c.args.x + 1))
+    put_in c.args.ends.now.items c.insert.new.self.items c.args.x c.in-Err.place (ends_below c.args.ends.now.items (c.args.x + 1))
     c.requires.rises c.requires.within q.0 refl (q.0 ∙ q.1) (inserted c)
 
 pub remove-requires : goal.remove-requires

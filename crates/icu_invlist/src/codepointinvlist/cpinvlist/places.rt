@@ -1,7 +1,7 @@
 //! Where a code point stands among the ends of a set.
 ghost use Rattle.std.specs.Prelude.{◌≡◌, ℕ, suc, ◌+◌, ◌<◌, ◌≤◌, length, IsTrue, ◌↔◌};
 ghost use Rattle.icu_invlist.specs.InversionList.{IsValid, HoldsAll};
-ghost use Rattle.icu_invlist.specs.Inside.Places.{below};
+ghost use Rattle.icu_invlist.specs.Inside.Places.{ends_below};
 
 use super::CodePointInversionList;
 
@@ -11,10 +11,10 @@ impl<'data> CodePointInversionList<'data> {
     /// without a loop.
     #[inline(always)]
     fn place_between(&self, low: usize, size: usize, c: u32) -> usize
-        requires from { low ≤ below self.now (suc c) }
-        requires to { below self.now (suc c) ≤ low + size }
+        requires from { low ≤ ends_below self.now (suc c) }
+        requires to { ends_below self.now (suc c) ≤ low + size }
         requires within { low + size ≤ length self.now }
-        ensures place { result ≡ below self.now (suc c) }
+        ensures place { result ≡ ends_below self.now (suc c) }
     {
         // A set is known to be valid where its ends are named.
         let _ = &self.ends;
@@ -41,7 +41,7 @@ impl<'data> CodePointInversionList<'data> {
     #[inline(always)]
     fn place_of_few(&self, count: usize, c: u32) -> usize
         requires { count ≡ length self.now }
-        ensures { result ≡ below self.now (suc c) }
+        ensures { result ≡ ends_below self.now (suc c) }
     {
         if count == 2 {
             return usize::from(self.end_at(0) <= c) + usize::from(self.end_at(1) <= c);
@@ -55,7 +55,7 @@ impl<'data> CodePointInversionList<'data> {
     #[inline(always)]
     pub(super) fn place_of(&self, c: u32) -> usize
         ensures valid { IsValid self.now }
-        ensures place { result ≡ below self.now (suc c) }
+        ensures place { result ≡ ends_below self.now (suc c) }
         ensures within { result ≤ length self.now }
     {
         let count = self.count();
@@ -76,8 +76,8 @@ impl<'data> CodePointInversionList<'data> {
     /// passes `c`, and what it spans is searched.
     #[tactic(auto, using(crate::proofs::PlaceLemmas::place_front, crate::proofs::PlaceLemmas::place_behind))]
     fn place_past(&self, from: usize, c: u32) -> usize
-        requires { from ≤ below self.now (suc c) }
-        ensures { result ≡ below self.now (suc c) }
+        requires { from ≤ ends_below self.now (suc c) }
+        ensures { result ≡ ends_below self.now (suc c) }
     {
         let count = self.count();
         let mut low = from;
@@ -94,8 +94,8 @@ impl<'data> CodePointInversionList<'data> {
 
     /// The same, where it is likely that few more ends than `from` are not above `c`.
     pub(super) fn place_from(&self, from: usize, c: u32) -> usize
-        requires { from ≤ below self.now (suc c) }
-        ensures place { result ≡ below self.now (suc c) }
+        requires { from ≤ ends_below self.now (suc c) }
+        ensures place { result ≡ ends_below self.now (suc c) }
         ensures within { result ≤ length self.now }
     {
         let count = self.count();
@@ -114,7 +114,7 @@ impl<'data> CodePointInversionList<'data> {
     /// many ends are not above that start.
     pub(super) fn reaches(&self, place: usize, end: u32) -> bool
         requires { place ≤ length self.now }
-        ensures { (start : ℕ) → place ≡ below self.now (suc start) → start < end
+        ensures { (start : ℕ) → place ≡ ends_below self.now (suc start) → start < end
             → (IsTrue result ↔ HoldsAll self.now start end) }
     {
         // A set is known to be valid where its ends are named.

@@ -9,7 +9,7 @@ use Rattle.icu_collections.specs.Char16Trie.{IsTrieOf}
 use Rattle.icu_collections.specs.Char16Trie.{AreEntries}
 use Rattle.icu_collections.specs.Char16Trie.{with_entry}
 use Rattle.icu_collections.proofs.CallerLemmas.{texts_of_entries, text_of}
-use Rattle.uses.specs.Listing.{shown}
+use Rattle.uses.specs.Listing.{bytes_and_number}
 use Rattle.uses.proofs.words.two_words.Goals as goal
 
 ok_fact : {A E : Type 0} (r : Result A E) (x : A) (P : Type 0) → Some x ≡ result_ok r → OnOk r P → P
@@ -37,7 +37,7 @@ shown_words = refl
 
 listed : (r : Option (Vec (String Global × ℤ) Global)) (units : List ℕ) → IsTrieOf units words
     → IfSome r (λ list. (m : UnitMap) → IsTrieOf units m → AreEntries (map Ok list.items) m)
-    → IfSome r (λ list. map shown list.items ≡ (codes "a", pos 1) ∷ (codes "ab", pos 2) ∷ [])
+    → IfSome r (λ list. map bytes_and_number list.items ≡ (codes "a", pos 1) ∷ (codes "ab", pos 2) ∷ [])
 listed None units trie h = h
 listed (Some list) units trie h = texts_of_entries list.items words (h words trie) ∙ shown_words
 

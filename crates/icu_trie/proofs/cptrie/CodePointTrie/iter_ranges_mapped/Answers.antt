@@ -2,7 +2,7 @@ use Rattle.std.proofs.Common.{refl}
 use Rattle.icu_trie.specs.MappedRanges.{iter_mapped_source, iter_mapped_steps, GivesMapped}
 use Rattle.icu_trie.specs.Coalescer.{coalescer_steps}
 use Rattle.icu_trie.proofs.GivenRanges.{AreOfCodePoints-from_ranges}
-use Rattle.icu_trie.proofs.MappedLemmas.{Drains-inside, Drains-behind, answered-from_run, AreAnswered-by, AreOfCodePoints-answered, All-joined, joined-maximal}
+use Rattle.icu_trie.proofs.MappedLemmas.{Drains-inside, Drains-behind, answered-from_run, AreAnswered-by, AreOfCodePoints-answered, All-joined_ranges, joined_ranges-maximal}
 use Rattle.icu_trie.proofs.cptrie.CodePointTrie.iter_ranges_mapped.Goals as goal
 
 pub returns-clause-ranges : goal.returns-clause-ranges
@@ -18,7 +18,7 @@ returns-clause-shape g c = λ ys d.
     let z = Drains-behind _ c.new.ensures.runs ys inner in
     let x = answered-from_run g.T.TrieValue.of_number (goal.F-post g) c.args.map z.0 _ z.1.1.0 z.1.0 refl z.1.1.1 z.1.1.2 in
     let are = AreOfCodePoints-from_ranges _ _ 0 x.0 (c.iter_ranges.ensures.ranges x.0 x.1) in
-    rw z.2 (All-joined _ z.0 (AreOfCodePoints-answered (goal.F-post g) c.args.map x.0 z.0 x.2 are))
+    rw z.2 (All-joined_ranges _ z.0 (AreOfCodePoints-answered (goal.F-post g) c.args.map x.0 z.0 x.2 are))
 
 pub returns-clause-runs : goal.returns-clause-runs
 returns-clause-runs g c = λ h by coherent ys d.
@@ -27,4 +27,4 @@ returns-clause-runs g c = λ h by coherent ys d.
     let x = answered-from_run g.T.TrieValue.of_number (goal.F-post g) c.args.map z.0 _ z.1.1.0 z.1.0 refl z.1.1.1 z.1.1.2 in
     let are = AreOfCodePoints-from_ranges _ _ 0 x.0 (c.iter_ranges.ensures.ranges x.0 x.1) in
     let maximal = c.iter_ranges.ensures.runs coherent x.0 x.1 in
-    rw (z.2, AreAnswered-by (goal.F-post g) c.args.map h by x.0 z.0 x.2) (joined-maximal _ g.met.U.Eq.laws.refl h _ x.0 are maximal)
+    rw (z.2, AreAnswered-by (goal.F-post g) c.args.map h by x.0 z.0 x.2) (joined_ranges-maximal _ g.met.U.Eq.laws.refl h _ x.0 are maximal)

@@ -1,6 +1,6 @@
 use Rattle.std.proofs.Common.{rules, refl, sym, ◌∙◌}
 use Rattle.itertools.proofs.AdaptorLemmas.{Partway-start, Partway-as, Partway-next, Partway-end}
-use Rattle.icu_trie.proofs.JoinedLemmas.{joined_from-continued}
+use Rattle.icu_trie.proofs.JoinedLemmas.{joined_ranges_from-continued}
 use Rattle.icu_trie.proofs.iterator_utils.RangeListIteratorCoalescerIterator.next.Goals.{in-Some, in-None+in_ok-range-in-None}
 use Rattle.icu_trie.proofs.iterator_utils.RangeListIteratorCoalescerIterator.next.Goals as goal
 
@@ -14,7 +14,7 @@ loop-next-init g c = elim c.match-take.branch [
 ]
 
 pub loop-next-preserved : goal.loop-next-preserved
-loop-next-preserved g c = (Partway-as (Partway-next c.loop-next.invariant.0 _ c.in-Some-next.ensures.steps c.in-Some-next.ensures.goes) refl (λ h k. (tt, λ rest z. joined_from-continued g.U.PartialEq.eq c.loop-next.range c.in-Some-next.next c.new-range.result rest (sym c.is_continued.ensures ∙ c.if-is_continued.true) (c.new-range.ensures.start ∙ c.start.ensures) (c.new-range.ensures.end ∙ c.end.ensures) c.new-range.ensures.exhausted)), (search rules))
+loop-next-preserved g c = (Partway-as (Partway-next c.loop-next.invariant.0 _ c.in-Some-next.ensures.steps c.in-Some-next.ensures.goes) refl (λ h k. (tt, λ rest z. joined_ranges_from-continued g.U.PartialEq.eq c.loop-next.range c.in-Some-next.next c.new-range.result rest (sym c.is_continued.ensures ∙ c.if-is_continued.true) (c.new-range.ensures.start ∙ c.start.ensures) (c.new-range.ensures.end ∙ c.end.ensures) c.new-range.ensures.exhausted)), (search rules))
 
 pub returns-else-is_continued-clause-steps : goal.returns-else-is_continued-clause-steps
 returns-else-is_continued-clause-steps g c = Partway-end (Partway-next c.loop-next.invariant.0 _ c.in-Some-next.ensures.steps c.in-Some-next.ensures.goes) refl tt (λ h k. (tt, λ rest z. rw (sym c.is_continued.ensures, c.if-is_continued.false) refl))

@@ -2,7 +2,7 @@ use Rattle.std.proofs.Common.{◌<◌, ◌+◌, suc, length, get_or, arith, refl
 use Rattle.std.proofs.lemmas.Bool.{both_ways, false≢true}
 use Rattle.icu_zerovec.specs.CodePoints.{code_point_limit}
 use Rattle.icu_invlist.proofs.PlaceLemmas.{all_from_subset, holds_more, holds_whole, last_of_pair}
-use Rattle.icu_invlist.proofs.RunLemmas.{below-mono, run-rises}
+use Rattle.icu_invlist.proofs.RunLemmas.{ends_below-mono, run-rises}
 use Rattle.icu_invlist.proofs.ValidLists.{run_from_valid}
 use Rattle.icu_invlist.proofs.codepointinvlist.cpinvlist.CodePointInversionList.holds_in_order.Goals as goal
 
@@ -17,7 +17,7 @@ loop-i-preserved c =
       before = holds_more c.args.other.now c.args.self.now c.loop-i.i c.loop-i.invariant.before (rw (← start, ← end) ((c.reaches.ensures c.end_at.result c.place_from-place.ensures.place rises).0 c.if-not-reaches.false));
       from = λ h. (let r = run-rises 0 (suc code_point_limit) c.args.other.now (run_from_valid c.args.other.now v) c.loop-i.i (c.loop-i.i + 2) 0 (omega arith) h in
           let p = c.place_from-place.ensures.place in
-          let m = below-mono c.args.self.now (suc c.end_at.result) (suc (get_or c.args.other.now (c.loop-i.i + 2) 0)) (omega arith) in omega arith);
+          let m = ends_below-mono c.args.self.now (suc c.end_at.result) (suc (get_or c.args.other.now (c.loop-i.i + 2) 0)) (omega arith) in omega arith);
     }
 
 pub returns-then-not-reaches : goal.returns-then-not-reaches

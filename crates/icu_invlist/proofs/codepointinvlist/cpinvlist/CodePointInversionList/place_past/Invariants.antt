@@ -1,11 +1,11 @@
 use Rattle.std.proofs.Common.{suc, ◌-◌, ◌*◌, ◌+◌, ◌<◌, ◌≤◌, length}
-use Rattle.icu_invlist.specs.Inside.Places.{below}
+use Rattle.icu_invlist.specs.Inside.Places.{ends_below}
 use Rattle.icu_invlist.proofs.codepointinvlist.cpinvlist.CodePointInversionList.place_past.Given as goal
 
 abbrev pub invariant-loop-low : goal.invariant-loop-low
 invariant-loop-low l = record {
-  from : l.low ≤ below l.self (suc l.c);
-  most : below l.self (suc l.c) ≤ length l.self;
+  from : l.low ≤ ends_below l.self (suc l.c);
+  most : ends_below l.self (suc l.c) ≤ length l.self;
   some : 0 < l.size;
   small : l.size ≤ 2 * length l.self + 4;
   bounded : length l.self ≤ 0x110001;

@@ -3,16 +3,16 @@ use Rattle.std.proofs.lemmas.Bool.{cond-true, cond-false, ne_eqb}
 use Rattle.icu_zerovec.specs.CodePoints.{code_point_limit}
 use Rattle.icu_invlist.specs.InversionList.{holds}
 use Rattle.icu_invlist.proofs.MemberLemmas.{walked_room, walked_in, walked_past, total-le}
-use Rattle.icu_invlist.proofs.Parity.{holds-below}
+use Rattle.icu_invlist.proofs.Parity.{holds-ends_below}
 use Rattle.icu_invlist.proofs.PlaceLemmas.{within-place, least_at}
-use Rattle.icu_invlist.proofs.RunLemmas.{below-front}
+use Rattle.icu_invlist.proofs.RunLemmas.{ends_below-front}
 use Rattle.icu_invlist.proofs.ValidLists.{run_from_valid}
 use Rattle.icu_invlist.proofs.codepointinvlist.cpinvlist.CodePointInversionList.position32.Goals as goal
 
 pub returns-then-place-eq0 : goal.returns-then-place-eq0
 returns-then-place-eq0 c =
     let p = c.place_of-place.ensures.place in let z = c.if-place-eq0.true in
-    let h : holds c.args.self.now c.args.c ≡ false = holds-below c.args.self.now c.args.c ∙ ne_eqb _ _ (λ k. omega arith) in
+    let h : holds c.args.self.now c.args.c ≡ false = holds-ends_below c.args.self.now c.args.c ∙ ne_eqb _ _ (λ k. omega arith) in
     sym (cond-false _ _ _ h)
 
 pub overflow_add-before : goal.overflow_add-before
@@ -29,7 +29,7 @@ loop-i-preserved c =
     let odd = c.if-place-eq0.false in
     let even = c.loop-i.invariant.walked.even in
     let n : c.loop-i.i + 1 < length c.args.self.now = (let w = c.place_of-place.ensures.within in omega arith) in
-    let f = below-front 0 (suc code_point_limit) (suc c.args.c) c.args.self.now (run_from_valid c.args.self.now v) (c.loop-i.i + 1) (omega arith) in
+    let f = ends_below-front 0 (suc code_point_limit) (suc c.args.c) c.args.self.now (run_from_valid c.args.self.now v) (c.loop-i.i + 1) (omega arith) in
     record {
       walked = walked_past c.args.self.now c.loop-i.i c.args.c c.loop-i.before c.end_at-in-loop-i.result c.end_at.result v c.loop-i.invariant.walked n
           c.end_at-in-loop-i.ensures.end c.end_at.ensures.end (let e = c.end_at.ensures.end in omega arith);
@@ -39,7 +39,7 @@ loop-i-preserved c =
 pub overflow_sub-result : goal.overflow_sub-result
 overflow_sub-result c =
     let p = c.place_of-place.ensures.place in let w = c.loop-i.invariant.within in
-    let f = below-front 0 (suc code_point_limit) (suc c.args.c) c.args.self.now (run_from_valid c.args.self.now c.place_of-place.ensures.valid) c.loop-i.i (omega arith) in
+    let f = ends_below-front 0 (suc code_point_limit) (suc c.args.c) c.args.self.now (run_from_valid c.args.self.now c.place_of-place.ensures.valid) c.loop-i.i (omega arith) in
     let e = c.end_at-2.ensures.end in omega arith
 
 pub overflow_add-result : goal.overflow_add-result
@@ -56,7 +56,7 @@ returns c =
     let h = within-place c.args.self.now c.place_of-place.result (suc c.args.c) v p odd in
     let l = least_at c.args.self.now c.place_of-place.result (suc c.args.c) v p h in
     let l' : suc c.args.c ≤ get_or c.args.self.now (c.loop-i.i + 1) 0 = rw last at l in
-    let f = below-front 0 (suc code_point_limit) (suc c.args.c) c.args.self.now (run_from_valid c.args.self.now v) c.loop-i.i (let w = c.loop-i.invariant.within in omega arith) in
+    let f = ends_below-front 0 (suc code_point_limit) (suc c.args.c) c.args.self.now (run_from_valid c.args.self.now v) c.loop-i.i (let w = c.loop-i.invariant.within in omega arith) in
     let n = walked_in c.args.self.now c.loop-i.i c.args.c c.loop-i.before c.end_at-2.result (get_or c.args.self.now (c.loop-i.i + 1) 0) v c.loop-i.invariant.walked (omega arith)
     c.end_at-2.ensures.end refl (let e = c.end_at-2.ensures.end in omega arith) (omega arith) in
     ap Some (sym n.1) ∙ sym (cond-true _ _ _ n.0)

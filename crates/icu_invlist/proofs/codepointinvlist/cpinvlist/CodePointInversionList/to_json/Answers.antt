@@ -5,7 +5,7 @@ use Rattle.serde_json.proofs.Views.{view-Array}
 use Rattle.serde_json.specs.Data.{array, string}
 use Rattle.serde_json.specs.View.{view, items_of}
 use Rattle.icu_invlist.specs.SetJson.{texts_of, ends_of}
-use Rattle.icu_invlist.proofs.WrittenSets.{shown, texts_step, texts_all, written_back}
+use Rattle.icu_invlist.proofs.WrittenSets.{text_data, texts_step, texts_all, written_back}
 use Rattle.icu_invlist.proofs.codepointinvlist.cpinvlist.CodePointInversionList.to_json.Goals as goal
 
 view-String : (s : String Global) → view (Value.String s) ≡ string (string_bytes s)
@@ -19,7 +19,7 @@ loop-i-preserved c = record {
       c.end_at.ensures.end c.end_at-in-loop-i.ensures.end c.in_ok-push.ensures.items (view-String c.in_ok-text.text ∙ ap string c.in_ok-text.ensures) c.loop-i.invariant.texts;
 }
 
-written : (c : goal.After-loop-i) → map view c.loop-i.items.items ≡ map shown (texts_of c.args.self.now)
+written : (c : goal.After-loop-i) → map view c.loop-i.items.items ≡ map text_data (texts_of c.args.self.now)
 written c = texts_all c.args.self.now c.loop-i.items.items c.loop-i.i (omega (arith, c.count-count.ensures.count)) c.loop-i.invariant.texts
 
 pub returns-clause-ok : goal.returns-clause-ok
