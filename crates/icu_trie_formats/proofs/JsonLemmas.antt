@@ -14,7 +14,8 @@ use Rattle.icu_trie_core.specs.declared.header.TrieType.{TrieType}
 use Rattle.icu_trie_core.specs.declared.header.TrieType.TheVariants.{Fast, Small}
 use Rattle.icu_trie_core.specs.declared.header.CodePointTrieHeader.{CodePointTrieHeader}
 use Rattle.icu_zerovec.specs.FirstFault.{and_then, before, read_from}
-use Rattle.icu_trie_formats.specs.TrieJson.{JsonFault, list_of, number_of, number_or, value_of, values_of, cells_of, no_number, no_value, header_of, header_json, json_of, trie_object, numbers_json, unless_fault, trie_with, trie_of_json}
+use Rattle.icu_trie_formats.specs.TrieJson.{JsonFault, list_of, number_of, number_or, value_of, values_of, cells_of, no_number, no_value, header_of, header_json, json_of, trie_object, numbers_json, of_parts, trie_with, trie_of_json}
+use Rattle.icu_trie_formats.specs.TrieOfParts.{unless_fault}
 use Rattle.icu_trie_formats.specs.Inside.Numbers.{IsGivenBack}
 
 pub list_of-items_view : (vs : List Value) → list_of (items_view vs) ≡ map view vs
@@ -86,7 +87,7 @@ json_read num range t h index values none =
     ∙ ap (λ z. and_then z (λ index. and_then (values_of range (list_of (items_of (map (λ n. number (unsigned n)) (map num t.values))))) (λ values. trie_with range t.header index values))) (cells_from 0 t.index index)
     ∙ ap (λ z. and_then (values_of range z) (λ values. trie_with range t.header t.index values)) (list_back (map (λ n. number (unsigned n)) (map num t.values)))
     ∙ ap (λ z. and_then z (λ values. trie_with range t.header t.index values)) (values_from num range 0 t.values values)
-    ∙ ap (λ z. unless_fault z t) none
+    ∙ ap (λ z. unless_fault of_parts z t) none
 
 pub written : {T : Type 0} (num : T → ℕ) (t : Parts T) (v h i d : Data) (header : CodePointTrieHeader) (index : List ℕ) (values : List T) → header ≡ t.header → index ≡ t.index → values ≡ t.values
     → v ≡ trie_object h i d → h ≡ header_json header → i ≡ numbers_json (map (λ n. n) index) → d ≡ numbers_json (map num values) → v ≡ json_of num t

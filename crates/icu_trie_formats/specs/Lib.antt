@@ -1,4 +1,5 @@
 pub mod Planes
+pub mod TrieOfParts
 pub mod TrieJson
 pub mod TrieToml
 pub mod Inside

@@ -5,12 +5,13 @@ use Rattle.serde_json.specs.Data.{Data, object, array, number, string, unsigned,
 use Rattle.serde_json.specs.Find.{get, as_object, as_array, as_number, as_str, as_u64}
 use Rattle.serde_json.specs.View.{items_of}
 use Rattle.icu_trie_core.specs.ValueNumbers.{fitting}
-use Rattle.icu_trie.specs.Parts.{Parts, fault}
+use Rattle.icu_trie.specs.Parts.{Parts}
 use Rattle.icu_trie_core.specs.declared.header.TrieType.{TrieType}
 use Rattle.icu_trie_core.specs.declared.header.TrieType.TheVariants.{Fast, Small}
 use Rattle.icu_trie_core.specs.declared.header.CodePointTrieHeader.{CodePointTrieHeader}
 use Rattle.icu_trie_core.specs.declared.error.CodePointTrieError.{CodePointTrieError}
 use Rattle.icu_zerovec.specs.FirstFault.{and_then, read_from}
+use Rattle.icu_trie_formats.specs.TrieOfParts.{trie_of_parts}
 use Rattle.icu_trie_formats.specs.declared.json.TrieJsonError.{TrieJsonError}
 use Rattle.icu_trie_formats.specs.declared.json.TrieJsonError.TheVariants.{Shape, Number, Value, Trie, Memory}
 
@@ -109,17 +110,10 @@ value_of of_number i d =
 abbrev pub values_of : {T : Type 0} → (ℕ → Option T) → List Data → Result (List T) JsonFault
 values_of of_number items = read_from (value_of of_number) 0 items
 
--- the parts, unless they have a fault
-abbrev pub unless_fault : {T : Type 0} → Option CodePointTrieError → Parts T
-    → Result (Parts T) JsonFault
-unless_fault None parts = Ok parts
-unless_fault (Some e) parts = Err (of_parts e)
-
+-- the trie of these parts, or their first fault
 abbrev pub trie_with : {T : Type 0} → (ℕ → Option T) → CodePointTrieHeader → List ℕ → List T
     → Result (Parts T) JsonFault
-trie_with of_number h index values =
-    unless_fault (fault of_number h index values)
-    (record { header = h; index = index; values = values })
+trie_with of_number h index values = trie_of_parts of_parts of_number h index values
 
 -- the trie that an object says, or its first fault: of the header, of the index, of the data, of
 -- the parts

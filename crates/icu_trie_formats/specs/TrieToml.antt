@@ -3,13 +3,14 @@ use Rattle.std.specs.Prelude.{◌≡◌, ℕ, ◌^◌, ℤ, pos, negsuc, List, [
 use Rattle.std.specs.Option.{ok_or, option_or}
 use Rattle.toml.specs.Data.{Data, Items, no_items, item, Members, as_integer, as_array, get_member}
 use Rattle.icu_trie_core.specs.ValueNumbers.{fitting, type_number, GivesType}
-use Rattle.icu_trie.specs.Parts.{Parts, fault}
+use Rattle.icu_trie.specs.Parts.{Parts}
 use Rattle.icu_trie_core.specs.declared.header.TrieType.{TrieType}
 use Rattle.icu_trie_core.specs.declared.header.TrieType.TheVariants.{Fast, Small}
 use Rattle.icu_trie_core.specs.declared.header.CodePointTrieHeader.{CodePointTrieHeader}
 use Rattle.icu_trie_core.specs.declared.error.CodePointTrieError.{CodePointTrieError}
 use Rattle.icu_trie_core.specs.declared.error.CodePointTrieError.TheVariants.{FromDeserialized}
 use Rattle.icu_zerovec.specs.FirstFault.{and_then, read_from}
+use Rattle.icu_trie_formats.specs.TrieOfParts.{trie_of_parts}
 use Rattle.icu_trie_formats.specs.declared.trie_toml.TomlError.{TomlError}
 use Rattle.icu_trie_formats.specs.declared.trie_toml.TomlError.TheVariants.{Missing, OutOfRange, Memory}
 use Rattle.icu_trie_formats.specs.declared.trie_toml.TomlFields.{TomlFields}
@@ -184,18 +185,10 @@ values_of of_number ns = read_from (λ _ n. value_of of_number n) 0 ns
 abbrev pub typed_data : {T : Type 0} → (ℕ → Option T) → TomlParts → Result (List T) TrieFault
 typed_data of_number t = and_then (data_of t) (values_of of_number)
 
--- the parts, unless they have a fault
-abbrev pub unless_fault : {T : Type 0} → Option CodePointTrieError → Parts T
-    → Result (Parts T) TrieFault
-unless_fault None parts = Ok parts
-unless_fault (Some e) parts = Err (of_parts e)
-
 -- the trie of these parts, or their first fault
 abbrev pub trie_with : {T : Type 0} → (ℕ → Option T) → CodePointTrieHeader → List ℕ → List T
     → Result (Parts T) TrieFault
-trie_with of_number h index values =
-    unless_fault (fault of_number h index values)
-    (record { header = h; index = index; values = values })
+trie_with of_number h index values = trie_of_parts of_parts of_number h index values
 
 -- the trie that a table says, or the first fault: of its type, of its data, of a value, of the
 -- parts

@@ -1,7 +1,7 @@
 //! Sets of code points.
-ghost use Rattle.std.specs.Prelude.{◌≡◌, ◌+◌, ◌<◌, ◌≤◌, ℕ, Bool, true, false, not, IfOk, IfSome};
+ghost use Rattle.std.specs.Prelude.{◌≡◌, ◌+◌, ◌<◌, ◌≤◌, ℕ, Bool, true, false, length, not, slice_get, IfOk, IfSome};
 ghost use Rattle.std.specs.List.{All};
-ghost use Rattle.icu_collections.specs.CodePointInversionList.{Acts, IsOfCodePoints, IsValid, between, code_point_limit, either, holds, in_ranges, one_of, ranges_of};
+ghost use Rattle.icu_collections.specs.CodePointInversionList.{Acts, AreApart, IsOfCodePoints, IsValid, between, code_point_limit, either, holds, in_ranges, one_of, ranges_of};
 ghost use Rattle.icu_collections.specs.SetJson.{ends_of};
 
 use icu_collections::codepointinvlist::{
@@ -18,9 +18,10 @@ pub fn holds_a_far_number(set: &CodePointInversionList<'_>) -> bool
     set.contains32(0x11_0000)
 }
 
-/// The first range has a code point, and none above the code space.
+/// The first range, if there is one. It has a code point, and none above the code space.
 pub fn first_range(set: &CodePointInversionList<'_>) -> Option<RangeInclusive<u32>>
-    ensures { IfSome result IsOfCodePoints }
+    ensures first { result ≡ slice_get (ranges_of set.now) 0 }
+    ensures within { IfSome result IsOfCodePoints }
 {
     set.get_nth_range(0)
 }
@@ -28,14 +29,12 @@ pub fn first_range(set: &CodePointInversionList<'_>) -> Option<RangeInclusive<u3
 /// How many ranges there are: each has a code point and ends within the code space, they ascend,
 /// and a code point is in one of them exactly if the set holds it.
 pub fn count_ranges(set: &CodePointInversionList<'_>) -> usize
+    ensures count { result ≡ length (ranges_of set.now) }
     ensures within { All IsOfCodePoints (ranges_of set.now) }
+    ensures apart { AreApart (ranges_of set.now) }
     ensures held { (c : ℕ) → in_ranges (ranges_of set.now) c ≡ holds set.now c }
 {
-    let mut count: usize = 0;
-    for _range in set.iter_ranges() {
-        count = count.saturating_add(1);
-    }
-    count
+    set.iter_ranges().count()
 }
 
 /// A set that is written to JSON and read back is the set, where memory was found.

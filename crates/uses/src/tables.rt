@@ -3,7 +3,7 @@ ghost use Rattle.std.specs.Prelude.{◌≡◌, ◌<◌, ◌≤◌, ◌↔◌, �
 ghost use Rattle.std.specs.Option.{option_map};
 ghost use Rattle.icu_collections.specs.CodePointInversionList.{holds};
 ghost use Rattle.icu_collections.specs.CodePointTrie.{AreMaximalRuns, answers, trie_value, value_run};
-ghost use Rattle.icu_collections.specs.CodePointTrieBuilder.{answer_after, value_after};
+ghost use Rattle.icu_collections.specs.CodePointTrieBuilder.{IsAfter, answer_after, value_after};
 
 use icu_collections::codepointinvlist::CodePointInversionList;
 use icu_collections::codepointtrie::{
@@ -54,7 +54,8 @@ pub fn written_twice<T: TrieValue>(
 /// Writes a value, and says whether memory was found for it. Where it was not, the map is as it
 /// was.
 pub fn try_to_write<T: TrieValue>(builder: &mut CodePointTrieBuilder<T>, c: u32, value: T) -> bool
-    ensures { result ≡ false → builder.new ≡ builder.old }
+    ensures refused { result ≡ false → builder.new ≡ builder.old }
+    ensures written { result ≡ true → IsAfter (Write.One c value ∷ []) builder.old builder.new }
 {
     builder.set_value(c, value).is_ok()
 }
