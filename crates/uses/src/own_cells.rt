@@ -76,8 +76,8 @@ pub fn look_up_in_slices(
     look_up_counted::<Brand>(header, index, values, c, Blank::new(1))
 }
 
-/// Where the fast index is whole, `look_up_whole` is `look_up`, over any cells; each makes at most
-/// five reads.
+/// Where the fast index is whole, `look_up_whole` is `look_up`, and both give the format's answer,
+/// over any cells; each makes at most five reads.
 pub fn both_look_ups<C: Cells<u32>>(
     header: &CodePointTrieHeader,
     cells: &mut C,
@@ -86,6 +86,7 @@ pub fn both_look_ups<C: Cells<u32>>(
     requires fast_index { fast_index_len header.now.trie_type ≤ length (C.index cells.old) }
     requires blocks { passes_data header.now.trie_type (C.index cells.old)
         (length (C.values cells.old)) ≡ false }
+    ensures answer { result.0 ≡ answer header.now (C.index cells.old) (C.values cells.old) c }
     ensures same { result.0 ≡ result.1 }
     ensures reads { C.reads cells.new ≤ C.reads cells.old + 10 }
 {

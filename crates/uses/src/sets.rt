@@ -1,5 +1,5 @@
 //! Sets of code points.
-ghost use Rattle.std.specs.Prelude.{◌≡◌, ◌+◌, ◌<◌, ◌≤◌, ℕ, Bool, true, false, length, not, slice_get, IfOk, IfSome};
+ghost use Rattle.std.specs.Prelude.{◌≡◌, ◌+◌, ◌<◌, ◌≤◌, ℕ, Bool, true, false, length, not, slice_get, IfErr, IfOk, IfSome};
 ghost use Rattle.std.specs.List.{All};
 ghost use Rattle.icu_collections.specs.CodePointInversionList.{Acts, AreApart, IsOfCodePoints, IsValid, between, code_point_limit, either, holds, in_ranges, one_of, ranges_of};
 ghost use Rattle.icu_collections.specs.SetJson.{ends_of};
@@ -37,12 +37,13 @@ pub fn count_ranges(set: &CodePointInversionList<'_>) -> usize
     set.iter_ranges().count()
 }
 
-/// A set that is written to JSON and read back is the set, where memory was found.
+/// A set that is written to JSON and read back is the set, and only want of memory is refused.
 pub fn stored(
     alloc: Global,
     set: &CodePointInversionList<'_>,
 ) -> Result<CodePointInversionList<'static>, SetJsonError>
-    ensures { IfOk result (λ s. s ≡ set.now) }
+    ensures same { IfOk result (λ s. s ≡ set.now) }
+    ensures err { IfErr result (λ e. e ≡ SetJsonError.Memory) }
 {
     let Ok(value) = set.to_json(alloc) else {
         return Err(SetJsonError::Memory);

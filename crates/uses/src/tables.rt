@@ -1,9 +1,10 @@
 //! Properties of characters in tries that are built, stored and read.
-ghost use Rattle.std.specs.Prelude.{◌≡◌, ◌<◌, ◌≤◌, ◌↔◌, ℕ, [], ◌∷◌, true, false, Some, IfOk, IfSome, List, map};
+ghost use Rattle.std.specs.Prelude.{◌≡◌, ◌<◌, ◌≤◌, ◌↔◌, ℕ, [], ◌∷◌, true, false, Some, Err, IfOk, IfSome, List, map, ◌≢◌};
+ghost use Rattle.std.specs.List.{count_by};
 ghost use Rattle.std.specs.Option.{option_map};
 ghost use Rattle.icu_collections.specs.CodePointInversionList.{holds};
 ghost use Rattle.icu_collections.specs.CodePointTrie.{AreMaximalRuns, answers, trie_value, value_run};
-ghost use Rattle.icu_collections.specs.CodePointTrieBuilder.{IsAfter, answer_after, value_after};
+ghost use Rattle.icu_collections.specs.CodePointTrieBuilder.{IsAfter, answer_after, is_accepted, value_after};
 
 use icu_collections::codepointinvlist::CodePointInversionList;
 use icu_collections::codepointtrie::{
@@ -89,12 +90,15 @@ pub fn set_of_category(
     Ok(set)
 }
 
-/// The ranges of a table, collected: they are the maximal runs of what its rows say.
+/// The ranges of a table, collected: they are the maximal runs of what its rows say. A table of a
+/// few rows always fits.
 pub fn runs_of_rows(
     alloc: Global,
     rows: &[Write<u8>],
 ) -> Result<Vec<CodePointMapRange<u8>>, BuildError>
-    ensures { IfOk result (λ v. AreMaximalRuns (value_after rows.now 0) (map value_run v.items)) }
+    ensures runs { IfOk result
+        (λ v. AreMaximalRuns (value_after rows.now 0) (map value_run v.items)) }
+    ensures fits { count_by is_accepted rows.now ≤ 256 → result ≢ Err BuildError.TooLarge }
 {
     let trie = build_from_writes(alloc, 0, 255, TrieType::Fast, rows)?;
     let ranges = trie.iter_ranges().collect::<Vec<_>>(alloc)?;
