@@ -22,18 +22,13 @@ work=$(mktemp -d)
 trap 'rm -rf "$work"' EXIT
 trap 'exit 130' INT TERM
 
-# The crate that the driver calls is no part of the repository, so it is built in a copy.
-crates="icu_zerovec icu_invlist icu_trie icu_trie_builder icu_char16trie icu_char16trie_builder"
-"$root/tests/stage.sh" "$work" "bench_ours staticlib: $crates" "$here/ours/lib.rt.txt" lib.rt
-for file in "$here"/ours/*.rt.txt; do
-    cp "$file" "$work/crates/bench_ours/src/$(basename "$file" .rt.txt).rt"
-done
+# What the driver calls of this repository is the crate bench_ours, a static library.
 echo "bench: proves and builds; from a clean clone this takes some minutes" >&2
-if ! (cd "$work/crates/bench_ours" && rt lib) >"$work/log" 2>&1; then
+if ! (cd "$root/crates/bench_ours" && rt lib) >"$work/log" 2>&1; then
     tail -n 20 "$work/log" >&2
     stop "rt lib failed"
 fi
-ours=$work/crates/bench_ours/out/libbench_ours.a
+ours=$root/crates/bench_ours/out/libbench_ours.a
 rust=$work/libpeer.a
 rustc --edition 2024 -O -C target-cpu=x86-64-v2 -C panic=abort --crate-type staticlib -o "$rust" \
     "$here/peer/lib.rs"

@@ -65,12 +65,7 @@ pub extern "C" fn ours_contains(alloc: Global, ends: &[u8], points: &[u32]) -> u
 
 /// How many of the characters of a text are in the set, counted so many times.
 #[unsafe(no_mangle)]
-pub extern "C" fn ours_contains_text(
-    alloc: Global,
-    ends: &[u8],
-    text: &[u8],
-    turns: usize,
-) -> u64 {
+pub extern "C" fn ours_contains_text(alloc: Global, ends: &[u8], text: &[u8], turns: usize) -> u64 {
     let (Some(set), Ok(text)) = (set_of(alloc, ends), std::str::from_utf8(text)) else {
         return u64::MAX;
     };
