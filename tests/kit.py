@@ -15,16 +15,17 @@ def top():
     return os.path.dirname(os.path.dirname(os.path.realpath(__file__)))
 
 
+def rt_path():
+    """Where the command rt lies."""
+    return os.path.realpath(shutil.which("rt") or sys.exit("no rt: put the kit's folder bin on PATH"))
+
+
 def load():
-    """rt's own module, set up as rt ci does it."""
-    loader = importlib.machinery.SourceFileLoader(
-        "rt",
-        os.path.realpath(shutil.which("rt") or sys.exit("no rt: put the kit's folder bin on PATH")),
-    )
+    """rt's own module."""
+    loader = importlib.machinery.SourceFileLoader("rt", rt_path())
     made = importlib.util.module_from_spec(importlib.util.spec_from_loader("rt", loader))
     loader.exec_module(made)
     made.rtlib.Crate = made.Crate
-    made.Crate.cuts_libraries = True
     return made
 
 

@@ -10,21 +10,9 @@ SHOWN, ENGINE = "icu_collections", "ucptab_table"
 ANSWERS = {"MemoryError", "AllocError", "ApplyRefused"}
 # Traits whose methods are called by an operator or by a format, and those whose methods are the
 # caller's own.
-UNNAMED = {
-    "Clone",
-    "Copy",
-    "Debug",
-    "Display",
-    "Drop",
-    "Eq",
-    "Error",
-    "Hash",
-    "Model",
-    "PartialEq",
-    "Cells",
-    "Sink",
-    "Source",
-}
+UNNAMED = set(
+    "Clone Copy Debug Display Drop Eq Error Hash Model PartialEq Cells Sink Source".split()
+)
 # Types of which nothing is left at run time.
 GHOSTS = {"Steps"}
 # What a call is said to do about memory; where several bear one name, the last of these holds.
