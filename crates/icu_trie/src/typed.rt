@@ -58,16 +58,28 @@ pub trait TypedCodePointTrie<'trie, T: TrieValue> {
 
     /// The value of a code point of the basic multilingual plane, surrogates among them. In a fast
     /// trie it takes two reads.
-    fn get16(&self, bmp: u16) -> T
-        ensures { Some result ≡ trie_value (parts self.now) bmp };
+    #[inline(always)]
+    final fn get16(&self, bmp: u16) -> T
+        ensures { Some result ≡ trie_value (parts self.now) bmp }
+    {
+        self.get32(u32::from(bmp))
+    }
 
     /// The value of a code point from 0x10000 on. As `get32`, and the same below.
-    fn get32_supplementary(&self, supplementary: u32) -> T
-        ensures { Some result ≡ trie_value (parts self.now) supplementary };
+    #[inline(always)]
+    final fn get32_supplementary(&self, supplementary: u32) -> T
+        ensures { Some result ≡ trie_value (parts self.now) supplementary }
+    {
+        self.get32(supplementary)
+    }
 
     /// The number of the value of the code point `c`: what `get32` answers, by `to_u32`.
-    fn get32_u32(&self, c: u32) -> u32
-        ensures { Some result ≡ option_map T.number (trie_value (parts self.now) c) };
+    #[inline(always)]
+    final fn get32_u32(&self, c: u32) -> u32
+        ensures { Some result ≡ option_map T.number (trie_value (parts self.now) c) }
+    {
+        self.get32(c).to_u32()
+    }
 
     /// The value of a code point below the fast limit, which is 0x10000 for a fast trie and 0x1000
     /// for a small one. `None` from it on.
@@ -150,21 +162,6 @@ impl<'trie, T: TrieValue> TypedCodePointTrie<'trie, T> for FastCodePointTrie<'tr
     }
 
     #[inline(always)]
-    fn get16(&self, bmp: u16) -> T {
-        self.inner.value_by_type(TrieType::Fast, u32::from(bmp))
-    }
-
-    #[inline(always)]
-    fn get32_supplementary(&self, supplementary: u32) -> T {
-        self.inner.value_by_type(TrieType::Fast, supplementary)
-    }
-
-    #[inline(always)]
-    fn get32_u32(&self, c: u32) -> u32 {
-        self.get32(c).to_u32()
-    }
-
-    #[inline(always)]
     fn get32_by_fast_index(&self, c: u32) -> Option<T> {
         fast_value_of(&self.inner, TrieType::Fast, c)
     }
@@ -224,21 +221,6 @@ impl<'trie, T: TrieValue> TypedCodePointTrie<'trie, T> for SmallCodePointTrie<'t
     #[inline(always)]
     fn get(&self, c: char) -> T {
         self.inner.character_by_type(TrieType::Small, c)
-    }
-
-    #[inline(always)]
-    fn get16(&self, bmp: u16) -> T {
-        self.inner.value_by_type(TrieType::Small, u32::from(bmp))
-    }
-
-    #[inline(always)]
-    fn get32_supplementary(&self, supplementary: u32) -> T {
-        self.inner.value_by_type(TrieType::Small, supplementary)
-    }
-
-    #[inline(always)]
-    fn get32_u32(&self, c: u32) -> u32 {
-        self.get32(c).to_u32()
     }
 
     #[inline(always)]
