@@ -1,6 +1,6 @@
 -- How the next item is found.
 use Rattle.icu_zerovec.specs.Slice.{slice_values}
-use Rattle.std.proofs.Common.{◌≡◌, ℕ, ℤ, ◌+◌, ◌%◌, ◌<◌, ◌≤◌, List, [], ◌∷◌, ◌++◌, Option, Some, None, Ok, Err, Bool, true, false, length-append, refl, sym, ap, subst, ◌∙◌, arith, length, take, slice_get, append-nil, reverse, inl, inr, string_bytes, String, Global}
+use Rattle.std.proofs.Common.{◌≡◌, ℕ, ℤ, ◌+◌, ◌-◌, ◌/◌, ◌%◌, ◌<◌, ◌≤◌, List, [], ◌∷◌, ◌++◌, Option, Some, None, Ok, Err, Bool, true, false, length-append, refl, sym, ap, subst, ◌∙◌, arith, length, take, slice_get, append-nil, reverse, inl, inr, string_bytes, String, Global}
 use Rattle.std.proofs.lemmas.Bool.{lt-ltb, le-ltb}
 use Rattle.std.proofs.lemmas.Option.{none-some}
 use Rattle.std.specs.Prelude.{IfSome, IsSome, MatchOption, is_some}
@@ -8,7 +8,7 @@ use Rattle.std.specs.Str.{IsCharBoundary}
 use Rattle.std.proofs.lemmas.List.Sums.{sum_by-append}
 use Rattle.icu_zerovec.specs.declared.memory.MemoryError.{MemoryError}
 use Rattle.icu_char16trie.specs.Grammar.{Holds, final, plain, valued, Matches}
-use Rattle.icu_char16trie.specs.Numbers.{node_end}
+use Rattle.icu_char16trie.specs.Numbers.{node_end, end_by}
 use Rattle.icu_char16trie.specs.UnitMap.{UnitMap, under}
 use Rattle.icu_char16trie.specs.UnitPlaces.{Stands, value_by}
 use Rattle.icu_char16trie.specs.Pending.{Spells, ArmsHold, PartsGive, IsPending, IsOver, Gives, TakesFirst, IsNodeValue, weight, node_work, parts_work, work_left}
@@ -35,8 +35,8 @@ record ByLead (units : List ℕ) (p lead : ℕ) (entries : UnitMap) : Type 0 whe
   node : lead < 0x8000 → Matches units (node_end (p + 1) lead) (lead % 64) rest
 
 plain_end : (p lead : ℕ) → lead < 0x40 → node_end p lead ≡ p
-unfolding node_end
-plain_end p lead h = rw (lt-ltb lead 0x4040 (omega arith)) refl
+unfolding end_by
+plain_end p lead h = rw (lt-ltb (lead / 64 - 1) 0x100 (omega arith)) refl
 
 holds_by : (units : List ℕ) {p : ℕ} {m : UnitMap} → Holds units p m → (lead : ℕ) → slice_get units p ≡ Some lead → ByLead units p lead m
 holds_by units (final p lead' n m g big s e) lead h =

@@ -1,7 +1,7 @@
 //! Numbers in the units of a trie.
 ghost use Rattle.icu_zerovec.specs.Slice.{slice_values};
 ghost use Rattle.std.specs.Prelude.{◌≡◌, ℕ, ◌+◌, ◌*◌, ◌^◌, ◌<◌, ◌≤◌, slice_get, length, bit_and, Some, None, IfSome, MatchOption};
-ghost use Rattle.icu_char16trie.specs.Numbers.{short_number, short_end, node_number, node_end, delta_number, delta_end, low_half, both_halves, entry_child, lower_part};
+ghost use Rattle.icu_char16trie.specs.Numbers.{number_by, end_by, short_number, short_end, node_number, node_end, delta_number, delta_end, low_half, both_halves, entry_child, lower_part};
 
 use icu_zerovec::ZeroSlice;
 
@@ -56,98 +56,96 @@ fn both_halves(units: ZeroSlice<'_, u16>, place: usize) -> Option<u32>
     low_half(units, place + 1, high)
 }
 
-/// The number of a final value or a jump, by the low 15 bits of the unit before `place`.
-#[tactic(auto, unfolding(crate::specs::Numbers::short_number))]
-pub(crate) fn short_number(units: ZeroSlice<'_, u16>, place: usize, low_bits: u16) -> Option<u32>
-    ensures { result ≡ short_number (slice_values units.entry) place low_bits }
+/// A number by its lead: below `two` the lead is the number, from there to below `three` it is
+/// `two` more than the high half, and else both halves stand at `place`.
+#[inline(always)]
+#[tactic(auto, unfolding(crate::specs::Numbers::number_by))]
+fn number_by(
+    units: ZeroSlice<'_, u16>,
+    place: usize,
+    lead: u16,
+    two: u16,
+    three: u16,
+) -> Option<u32>
+    ensures { result ≡ number_by two three (slice_values units.entry) place lead }
 {
-    if low_bits < 0x4000 {
-        Some(u32::from(low_bits))
-    } else if low_bits < 0x7fff {
-        low_half(units, place, low_bits - 0x4000)
+    if lead < two {
+        Some(u32::from(lead))
+    } else if lead < three {
+        low_half(units, place, lead - two)
     } else {
         both_halves(units, place)
     }
 }
 
 /// The place after it.
-#[tactic(auto, unfolding(crate::specs::Numbers::short_end))]
+#[inline(always)]
+#[tactic(auto, unfolding(crate::specs::Numbers::end_by))]
+fn end_by(place: usize, lead: u16, two: u16, three: u16) -> usize
+    requires { place < 2 ^ 63 }
+    ensures end { result ≡ end_by two three place lead }
+    ensures near { result ≤ place + 2 }
+    ensures above { place ≤ result }
+{
+    if lead < two {
+        place
+    } else if lead < three {
+        place + 1
+    } else {
+        place + 2
+    }
+}
+
+/// The number of a final value or a jump, by the low 15 bits of the unit before `place`.
+pub(crate) fn short_number(units: ZeroSlice<'_, u16>, place: usize, low_bits: u16) -> Option<u32>
+    ensures { result ≡ short_number (slice_values units.entry) place low_bits }
+{
+    number_by(units, place, low_bits, 0x4000, 0x7fff)
+}
+
+/// The place after it.
 pub(crate) fn short_end(place: usize, low_bits: u16) -> usize
     requires { place < 2 ^ 63 }
     ensures end { result ≡ short_end place low_bits }
     ensures near { result ≤ place + 2 }
     ensures above { place ≤ result }
 {
-    if low_bits < 0x4000 {
-        place
-    } else if low_bits < 0x7fff {
-        place + 1
-    } else {
-        place + 2
-    }
+    end_by(place, low_bits, 0x4000, 0x7fff)
 }
 
 /// The number of an intermediate value, by the lead unit before `place`.
-#[tactic(auto, unfolding(crate::specs::Numbers::node_number))]
 pub(crate) fn node_number(units: ZeroSlice<'_, u16>, place: usize, lead: u16) -> Option<u32>
     requires lead { 0x40 ≤ lead }
     ensures { result ≡ node_number (slice_values units.entry) place lead }
 {
-    if lead < 0x4040 {
-        Some(u32::from((lead >> 6) - 1))
-    } else if lead < 0x7fc0 {
-        low_half(units, place, (lead >> 6) - 0x101)
-    } else {
-        both_halves(units, place)
-    }
+    number_by(units, place, (lead >> 6) - 1, 0x100, 0x1fe)
 }
 
-/// The place after it.
-#[tactic(auto, unfolding(crate::specs::Numbers::node_end))]
+/// The place after it, and `place` itself where the lead unit has no value.
 pub(crate) fn node_end(place: usize, lead: u16) -> usize
     requires { place < 2 ^ 63 }
     ensures end { result ≡ node_end place lead }
     ensures near { result ≤ place + 2 }
     ensures above { place ≤ result }
 {
-    if lead < 0x4040 {
-        place
-    } else if lead < 0x7fc0 {
-        place + 1
-    } else {
-        place + 2
-    }
+    end_by(place, (lead >> 6).saturating_sub(1), 0x100, 0x1fe)
 }
 
 /// The delta of a split, by the unit before `place`.
-#[tactic(auto, unfolding(crate::specs::Numbers::delta_number))]
 pub(crate) fn delta_number(units: ZeroSlice<'_, u16>, place: usize, delta: u16) -> Option<u32>
     ensures { result ≡ delta_number (slice_values units.entry) place delta }
 {
-    if delta < 0xfc00 {
-        Some(u32::from(delta))
-    } else if delta < 0xffff {
-        low_half(units, place, delta - 0xfc00)
-    } else {
-        both_halves(units, place)
-    }
+    number_by(units, place, delta, 0xfc00, 0xffff)
 }
 
 /// The place after it.
-#[tactic(auto, unfolding(crate::specs::Numbers::delta_end))]
 pub(crate) fn delta_end(place: usize, delta: u16) -> usize
     requires { place < 2 ^ 63 }
     ensures end { result ≡ delta_end place delta }
     ensures near { result ≤ place + 2 }
     ensures above { place ≤ result }
 {
-    if delta < 0xfc00 {
-        place
-    } else if delta < 0xffff {
-        place + 1
-    } else {
-        place + 2
-    }
+    end_by(place, delta, 0xfc00, 0xffff)
 }
 
 /// Where the node of an entry stands, whose value unit stands before `place`.

@@ -2,7 +2,7 @@
 use Rattle.std.proofs.Common.{◌≡◌, ℕ, ℤ, suc, ◌+◌, ◌-◌, ◌/◌, ◌%◌, ◌<◌, Bool, true, false, cond, nat_lt, nat_eq, List, [], ◌∷◌, ◌++◌, Option, Some, None, refl, sym, ap, ◌∙◌, arith, length, slice_get}
 use Rattle.std.proofs.lemmas.Option.{none-some, same_Some}
 use Rattle.std.specs.Prelude.{option_and_then}
-use Rattle.icu_char16trie.specs.Numbers.{low_half, both_halves, short_number, short_end, node_number, node_end, delta_number, delta_end, entry_child, lower_part}
+use Rattle.icu_char16trie.specs.Numbers.{low_half, both_halves, number_by, end_by, short_number, short_end, delta_number, delta_end, entry_child, lower_part}
 use Rattle.icu_char16trie.specs.Grammar.{UnitsBelow, UnitsFrom, IsAscending, Part, last, entry, split, branch_start, Holds, final, plain, valued, Matches, run, branch, Children, none, more}
 use Rattle.icu_char16trie_builder.specs.Inside.Written.{heads, PartAt}
 
@@ -40,34 +40,18 @@ get_on x units p k = rw (on p k) refl
 both_moved : (x : ℕ) (units : List ℕ) (p : ℕ) → both_halves (x ∷ units) (suc p) ≡ both_halves units p
 both_moved x units p = rw (on p 1) refl
 
-short_moved : (x : ℕ) (units : List ℕ) (p w : ℕ) → short_number (x ∷ units) (suc p) w ≡ short_number units p w
-unfolding short_number
-short_moved x units p w = ap (λ z. cond (nat_lt w 0x4000) (Some w) (cond (nat_lt w 0x7fff) (low_half units p (w - 0x4000)) z)) (both_moved x units p)
+pub number_moved : (two three x : ℕ) (units : List ℕ) (p w : ℕ) → number_by two three (x ∷ units) (suc p) w ≡ number_by two three units p w
+unfolding number_by
+number_moved two three x units p w = ap (λ z. cond (nat_lt w two) (Some w) (cond (nat_lt w three) (low_half units p (w - two)) z)) (both_moved x units p)
 
-node_moved : (x : ℕ) (units : List ℕ) (p w : ℕ) → node_number (x ∷ units) (suc p) w ≡ node_number units p w
-unfolding node_number
-node_moved x units p w = ap (λ z. cond (nat_lt w 0x4040) (Some (w / 64 - 1)) (cond (nat_lt w 0x7fc0) (low_half units p (w / 64 - 0x101)) z)) (both_moved x units p)
+end_moved_by : (b c : Bool) (p : ℕ) → cond b (suc p) (cond c (suc p + 1) (suc p + 2)) ≡ suc (cond b p (cond c (p + 1) (p + 2)))
+end_moved_by true c p = refl
+end_moved_by false true p = on p 1
+end_moved_by false false p = on p 2
 
-delta_moved : (x : ℕ) (units : List ℕ) (p w : ℕ) → delta_number (x ∷ units) (suc p) w ≡ delta_number units p w
-unfolding delta_number
-delta_moved x units p w = ap (λ z. cond (nat_lt w 0xfc00) (Some w) (cond (nat_lt w 0xffff) (low_half units p (w - 0xfc00)) z)) (both_moved x units p)
-
-end_moved : (b c : Bool) (p : ℕ) → cond b (suc p) (cond c (suc p + 1) (suc p + 2)) ≡ suc (cond b p (cond c (p + 1) (p + 2)))
-end_moved true c p = refl
-end_moved false true p = on p 1
-end_moved false false p = on p 2
-
-pub short_end_moved : (p w : ℕ) → short_end (suc p) w ≡ suc (short_end p w)
-unfolding short_end
-short_end_moved p w = end_moved (nat_lt w 0x4000) (nat_lt w 0x7fff) p
-
-node_end_moved : (p w : ℕ) → node_end (suc p) w ≡ suc (node_end p w)
-unfolding node_end
-node_end_moved p w = end_moved (nat_lt w 0x4040) (nat_lt w 0x7fc0) p
-
-delta_end_moved : (p w : ℕ) → delta_end (suc p) w ≡ suc (delta_end p w)
-unfolding delta_end
-delta_end_moved p w = end_moved (nat_lt w 0xfc00) (nat_lt w 0xffff) p
+end_moved : (two three p w : ℕ) → end_by two three (suc p) w ≡ suc (end_by two three p w)
+unfolding end_by
+end_moved two three p w = end_moved_by (nat_lt w two) (nat_lt w three) p
 
 jump_moved : (o : Option ℕ) (e child : ℕ) → option_and_then (λ j. Some (e + j)) o ≡ Some child → option_and_then (λ j. Some (suc e + j)) o ≡ Some (suc child)
 jump_moved None e child h = absurd (none-some _ h)
@@ -80,11 +64,11 @@ child_moved_by false o e q child pos h = let s : q - 1 ≡ child = same_Some _ _
 
 child_moved : (x : ℕ) (units : List ℕ) (q v child : ℕ) → 0 < q → entry_child units q v ≡ Some child → entry_child (x ∷ units) (suc q) v ≡ Some (suc child)
 unfolding entry_child
-child_moved x units q v child pos h = rw (short_moved x units q v, short_end_moved q v) (child_moved_by (nat_lt v 0x8000) (short_number units q v) (short_end q v) q child pos h)
+child_moved x units q v child pos h = rw (number_moved 0x4000 0x7fff x units q v, end_moved 0x4000 0x7fff q v) (child_moved_by (nat_lt v 0x8000) (short_number units q v) (short_end q v) q child pos h)
 
 lower_moved : (x : ℕ) (units : List ℕ) (q d low : ℕ) → lower_part units q d ≡ Some low → lower_part (x ∷ units) (suc q) d ≡ Some (suc low)
 unfolding lower_part
-lower_moved x units q d low h = rw (delta_moved x units q d, delta_end_moved q d) (jump_moved (delta_number units q d) (delta_end q d) low h)
+lower_moved x units q d low h = rw (number_moved 0xfc00 0xffff x units q d, end_moved 0xfc00 0xffff q d) (jump_moved (delta_number units q d) (delta_end q d) low h)
 
 pub part_moved : (x : ℕ) (units : List ℕ) {p n : ℕ} {arms : List (ℕ × ℕ)} → Part units p n arms → Part (x ∷ units) (suc p) n (moved arms)
 unfolding moved
@@ -92,11 +76,11 @@ part_moved x units (last p n u arms e g a) = last (suc p) n u (moved arms) e g (
 part_moved x units (entry p n u v child rest arms many le5 g g' c r a) =
     entry (suc p) n u v (suc child) (moved rest) (moved arms) many le5 g (get_on x units p 1 ∙ g')
     (rw (on p 2) (child_moved x units (p + 2) v child (omega arith) c))
-    (rw (on p 2, short_end_moved (p + 2) (v % 0x8000)) (part_moved x units r)) (ap moved a)
+    (rw (on p 2, end_moved 0x4000 0x7fff (p + 2) (v % 0x8000)) (part_moved x units r)) (ap moved a)
 part_moved x units (split p n s d low lower upper arms many g g' c l r b f a) =
     split (suc p) n s d (suc low) (moved lower) (moved upper) (moved arms) many g (get_on x units p 1 ∙ g')
     (rw (on p 2) (lower_moved x units (p + 2) d low c)) (part_moved x units l)
-    (rw (on p 2, delta_end_moved (p + 2) d) (part_moved x units r))
+    (rw (on p 2, end_moved 0xfc00 0xffff (p + 2) d) (part_moved x units r))
     (below_moved s lower b) (from_moved s upper f) (ap moved a ∙ moved_append lower upper)
 
 branch_start_by : (b : Bool) (p : ℕ) → cond b (suc p + 1) (suc p) ≡ suc (cond b (p + 1) p)
@@ -110,11 +94,11 @@ mutual
   unfolding moved
 
   pub holds_moved : (x : ℕ) (units : List ℕ) {p : ℕ} {m : List (List ℕ × ℤ)} → Holds units p m → Holds (x ∷ units) (suc p) m
-  holds_moved x units (final p lead n m g le s e) = final (suc p) lead n m g le (rw (on p 1) (short_moved x units (p + 1) (lead - 0x8000) ∙ s)) e
+  holds_moved x units (final p lead n m g le s e) = final (suc p) lead n m g le (rw (on p 1) (number_moved 0x4000 0x7fff x units (p + 1) (lead - 0x8000) ∙ s)) e
   holds_moved x units (plain p lead m g lt node) = plain (suc p) lead m g lt (rw (on p 1) (matches_moved x units node))
   holds_moved x units (valued p lead n m rest g ge lt s node e) =
-      valued (suc p) lead n m rest g ge lt (rw (on p 1) (node_moved x units (p + 1) lead ∙ s))
-      (rw (on p 1, node_end_moved (p + 1) lead) (matches_moved x units node)) e
+      valued (suc p) lead n m rest g ge lt (rw (on p 1) (number_moved 0x100 0x1fe x units (p + 1) (lead / 64 - 1) ∙ s))
+      (rw (on p 1, end_moved 0x100 0x1fe (p + 1) (lead / 64 - 1)) (matches_moved x units node)) e
 
   pub matches_moved : (x : ℕ) (units : List ℕ) {p low : ℕ} {m : List (List ℕ × ℤ)} → Matches units p low m → Matches (x ∷ units) (suc p) low m
   matches_moved x units (run p low m rest h l within node e) =

@@ -1,27 +1,9 @@
 //! The numbers of a trie as units, written from the end of the trie to its front: what is pushed
 //! later stands earlier.
-ghost use Rattle.std.specs.Prelude.{◌≡◌, ℕ, ◌+◌, ◌-◌, ◌*◌, ◌/◌, ◌%◌, ◌^◌, ◌<◌, ◌≤◌, List, [], ◌∷◌, ◌++◌, length, reverse, OnOk};
-ghost use Rattle.icu_char16trie_builder.specs.Inside.Encoding.{short_units, delta_units, node_units, final_units};
+ghost use Rattle.std.specs.Prelude.{◌≡◌, ℕ, ◌+◌, ◌-◌, ◌*◌, ◌/◌, ◌%◌, ◌^◌, ◌<◌, ◌≤◌, List, [], ◌∷◌, ◌++◌, length, reverse, OnOk, IfOk};
+ghost use Rattle.icu_char16trie_builder.specs.Inside.Encoding.{lead_by, tail_by, short_units, delta_units, node_units, final_units};
 
 use std::alloc::AllocError;
-
-/// Writes two units in front of the others.
-fn put_two(out: &mut Vec<u16>, first: u16, second: u16) -> Result<(), AllocError>
-    ensures { OnOk result (reverse out.new.items ≡ first ∷ second ∷ reverse out.old.items) }
-{
-    out.push(second)?;
-    out.push(first)?;
-    Ok(())
-}
-
-/// Writes three units in front of the others.
-fn put_three(out: &mut Vec<u16>, first: u16, second: u16, third: u16) -> Result<(), AllocError>
-    ensures { OnOk result (reverse out.new.items ≡ first ∷ second ∷ third ∷ reverse out.old.items) }
-{
-    out.push(third)?;
-    put_two(out, first, second)?;
-    Ok(())
-}
 
 /// Writes one unit in front of the others.
 pub(crate) fn put_one(out: &mut Vec<u16>, first: u16) -> Result<(), AllocError>
@@ -31,84 +13,60 @@ pub(crate) fn put_one(out: &mut Vec<u16>, first: u16) -> Result<(), AllocError>
     Ok(())
 }
 
-/// The high half of a number.
-fn high_half(number: u32) -> u16
-    ensures half { result ≡ number / 0x10000 }
+/// Writes the units that follow a number's lead, and gives the lead: the number itself below `two`,
+/// from there to below `three` the high half and `two` more, and else `three`.
+#[tactic(auto, unfolding(crate::specs::Inside::Encoding::lead_by, crate::specs::Inside::Encoding::tail_by))]
+fn put_tail(out: &mut Vec<u16>, number: u32, two: u16, three: u16) -> Result<u16, AllocError>
+    requires { two < three }
+    ensures lead { IfOk result (λ lead. lead ≡ lead_by two three number) }
+    ensures within { IfOk result (λ lead. lead ≤ three) }
+    ensures tail { OnOk result
+        (reverse out.new.items ≡ tail_by two three number ++ reverse out.old.items) }
 {
-    (number >> 16) as u16
-}
-
-/// The low half of a number.
-fn low_unit(number: u32) -> u16
-    ensures { result ≡ number % 0x10000 }
-{
-    (number & 0xffff) as u16
+    if number < u32::from(two) {
+        return Ok(number as u16);
+    }
+    let high = (number >> 16) as u16;
+    out.push((number & 0xffff) as u16)?;
+    if number < u32::from(three - two) * 0x10000 {
+        return Ok(two + high);
+    }
+    out.push(high)?;
+    Ok(three)
 }
 
 /// Writes the jump of an entry: one unit below 0x4000, two below 0x3FFF_0000, and else three.
-#[tactic(auto, unfolding(crate::specs::Inside::Encoding::short_units))]
 pub(crate) fn put_short(out: &mut Vec<u16>, number: u32) -> Result<(), AllocError>
     ensures { OnOk result (reverse out.new.items ≡ short_units number ++ reverse out.old.items) }
 {
-    if number < 0x4000 {
-        put_one(out, number as u16)?;
-    } else if number < 0x3fff0000 {
-        put_two(out, 0x4000 + high_half(number), low_unit(number))?;
-    } else {
-        put_three(out, 0x7fff, high_half(number), low_unit(number))?;
-    }
-    Ok(())
+    let lead = put_tail(out, number, 0x4000, 0x7fff)?;
+    put_one(out, lead)
 }
 
-/// Writes the delta of a split: one unit below 0xFC00, two below 0x03FF_0000, and else three.
-#[tactic(auto, unfolding(crate::specs::Inside::Encoding::delta_units))]
-pub(crate) fn put_delta(out: &mut Vec<u16>, number: u32) -> Result<(), AllocError>
-    ensures { OnOk result (reverse out.new.items ≡ delta_units number ++ reverse out.old.items) }
+/// Writes a final value: one unit below 0x4000, two below 0x3FFF_0000, and else three.
+pub(crate) fn put_final(out: &mut Vec<u16>, number: u32) -> Result<(), AllocError>
+    ensures { OnOk result (reverse out.new.items ≡ final_units number ++ reverse out.old.items) }
 {
-    if number < 0xfc00 {
-        put_one(out, number as u16)?;
-    } else if number < 0x3ff0000 {
-        put_two(out, 0xfc00 + high_half(number), low_unit(number))?;
-    } else {
-        put_three(out, 0xffff, high_half(number), low_unit(number))?;
-    }
-    Ok(())
+    let lead = put_tail(out, number, 0x4000, 0x7fff)?;
+    put_one(out, 0x8000 + lead)
 }
 
 /// Writes the lead of a match node with these low six bits and a value: one unit below 0x100, two
 /// below 0xFE_0000, and else three.
-#[tactic(auto, unfolding(crate::specs::Inside::Encoding::node_units))]
 pub(crate) fn put_value(out: &mut Vec<u16>, number: u32, low: u16) -> Result<(), AllocError>
     requires { low < 0x40 }
     ensures { OnOk result (reverse out.new.items ≡ node_units number low ++ reverse out.old.items) }
 {
-    if number < 0x100 {
-        put_one(out, (number as u16 + 1) * 64 + low)?;
-    } else if number < 0xfe0000 {
-        put_two(
-            out,
-            (high_half(number) + 0x101) * 64 + low,
-            low_unit(number),
-        )?;
-    } else {
-        put_three(out, 0x7fc0 + low, high_half(number), low_unit(number))?;
-    }
-    Ok(())
+    let lead = put_tail(out, number, 0x100, 0x1fe)?;
+    put_one(out, (lead + 1) * 64 + low)
 }
 
-/// Writes a final value: one unit below 0x4000, two below 0x3FFF_0000, and else three.
-#[tactic(auto, unfolding(crate::specs::Inside::Encoding::final_units))]
-pub(crate) fn put_final(out: &mut Vec<u16>, number: u32) -> Result<(), AllocError>
-    ensures { OnOk result (reverse out.new.items ≡ final_units number ++ reverse out.old.items) }
+/// Writes the delta of a split: one unit below 0xFC00, two below 0x03FF_0000, and else three.
+pub(crate) fn put_delta(out: &mut Vec<u16>, number: u32) -> Result<(), AllocError>
+    ensures { OnOk result (reverse out.new.items ≡ delta_units number ++ reverse out.old.items) }
 {
-    if number < 0x4000 {
-        put_one(out, 0x8000 + number as u16)?;
-    } else if number < 0x3fff0000 {
-        put_two(out, 0xc000 + high_half(number), low_unit(number))?;
-    } else {
-        put_three(out, 0xffff, high_half(number), low_unit(number))?;
-    }
-    Ok(())
+    let lead = put_tail(out, number, 0xfc00, 0xffff)?;
+    put_one(out, lead)
 }
 
 /// Writes units in front of the others.
