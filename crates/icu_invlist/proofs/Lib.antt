@@ -17,6 +17,7 @@ pub mod CharacterLemmas
 pub mod TextLemmas
 pub mod JsonLemmas
 pub mod WrittenSets
+pub mod MemberCounts
 pub mod HeldMembers
 pub mod HeldRanges
 pub mod FirstRefusal

@@ -254,16 +254,25 @@ impl<'data> CodePointInversionList<'data> {
         }
     }
 
-    /// How many smaller code points the set holds, if it holds the character.
+    /// How many smaller code points the set holds, if it holds the character: less than
+    /// [`size`](Self::size).
     pub fn position(&self, c: char) -> Option<usize>
-        ensures { result ≡ (if holds self.now c then Some (members_below self.now c) else None) }
+        ensures place { result
+            ≡ (if holds self.now c then Some (members_below self.now c) else None) }
+        ensures below { IfSome result (λ place. place < members_below self.now code_point_limit) }
+        ensures valid { IsValid self.now }
     {
         self.position32(u32::from(c))
     }
 
-    /// How many smaller code points the set holds, if it holds this one.
+    /// How many smaller code points the set holds, if it holds this one: less than
+    /// [`size`](Self::size). No number above 0x10FFFF has a place.
     pub fn position32(&self, c: u32) -> Option<usize>
-        ensures { result ≡ (if holds self.now c then Some (members_below self.now c) else None) }
+        ensures place { result
+            ≡ (if holds self.now c then Some (members_below self.now c) else None) }
+        ensures far { code_point_limit ≤ c → result ≡ None }
+        ensures below { IfSome result (λ place. place < members_below self.now code_point_limit) }
+        ensures valid { IsValid self.now }
     {
         let place = self.place_of(c);
         if place % 2 == 0 {

@@ -1,16 +1,17 @@
-use Rattle.std.proofs.Common.{◌∙◌, ◌≡◌, ◌+◌, ◌%◌, ◌<◌, ◌≤◌, suc, length, get_or, arith, sym, refl, ap, Some, false}
-use Rattle.std.proofs.lemmas.Bool.{cond-true, cond-false, ne_eqb}
+use Rattle.std.proofs.Common.{◌∙◌, ◌≡◌, ◌+◌, ◌%◌, ◌<◌, ◌≤◌, suc, length, get_or, arith, sym, refl, ap, Some, true, false}
+use Rattle.std.proofs.lemmas.Bool.{both_ways, cond-true, cond-false, eq-eqb, ne_eqb}
 use Rattle.icu_zerovec.specs.CodePoints.{code_point_limit}
 use Rattle.icu_invlist.specs.InversionList.{holds}
+use Rattle.icu_invlist.proofs.MemberCounts.{place-within}
 use Rattle.icu_invlist.proofs.MemberLemmas.{walked_room, walked_in, walked_past, total-le}
 use Rattle.icu_invlist.proofs.Parity.{holds-ends_below}
-use Rattle.icu_invlist.proofs.PlaceLemmas.{within-place, least_at}
+use Rattle.icu_invlist.proofs.PlaceLemmas.{not_past_limit, within-place, least_at}
 use Rattle.icu_invlist.proofs.RunLemmas.{ends_below-front}
 use Rattle.icu_invlist.proofs.ValidLists.{run_from_valid}
 use Rattle.icu_invlist.proofs.codepointinvlist.cpinvlist.CodePointInversionList.position32.Goals as goal
 
-pub returns-then-place-eq0 : goal.returns-then-place-eq0
-returns-then-place-eq0 c =
+pub returns-then-place-eq0-clause-place : goal.returns-then-place-eq0-clause-place
+returns-then-place-eq0-clause-place c =
     let p = c.place_of-place.ensures.place in let z = c.if-place-eq0.true in
     let h : holds c.args.self.now c.args.c ≡ false = holds-ends_below c.args.self.now c.args.c ∙ ne_eqb _ _ (λ k. omega arith) in
     sym (cond-false _ _ _ h)
@@ -47,8 +48,8 @@ overflow_add-result c =
     let t = total-le 0 (suc code_point_limit) c.args.self.now (omega arith) (run_from_valid c.args.self.now c.place_of-place.ensures.valid) in
     let s = c.loop-i.invariant.walked.small in let r = c.ranges.c.fits in omega arith
 
-pub returns : goal.returns
-returns c =
+pub returns-clause-place : goal.returns-clause-place
+returns-clause-place c =
     let v = c.place_of-place.ensures.valid in
     let p = c.place_of-place.ensures.place in
     let odd : c.place_of-place.result % 2 ≡ 1 = (let z = c.if-place-eq0.false in omega arith) in
@@ -60,3 +61,15 @@ returns c =
     let n = walked_in c.args.self.now c.loop-i.i c.args.c c.loop-i.before c.end_at-2.result (get_or c.args.self.now (c.loop-i.i + 1) 0) v c.loop-i.invariant.walked (omega arith)
     c.end_at-2.ensures.end refl (let e = c.end_at-2.ensures.end in omega arith) (omega arith) in
     ap Some (sym n.1) ∙ sym (cond-true _ _ _ n.0)
+
+pub returns-clause-far : goal.returns-clause-far
+returns-clause-far c = λ far.
+    let p = c.place_of-place.ensures.place in let z = c.if-place-eq0.false in
+    let h : holds c.args.self.now c.args.c ≡ true = holds-ends_below c.args.self.now c.args.c ∙ eq-eqb _ _ (omega arith) in
+    absurd (both_ways _ (not_past_limit c.args.self.now c.args.c c.place_of-place.ensures.valid far) h)
+
+pub returns-clause-below : goal.returns-clause-below
+returns-clause-below c =
+    let p = c.place_of-place.ensures.place in let z = c.if-place-eq0.false in
+    let h : holds c.args.self.now c.args.c ≡ true = holds-ends_below c.args.self.now c.args.c ∙ eq-eqb _ _ (omega arith) in
+    place-within c.args.self.now c.args.c _ c.place_of-place.ensures.valid h (returns-clause-place c)

@@ -1,0 +1,33 @@
+-- How many members sets have below a number.
+use Rattle.std.proofs.Common.{◌≡◌, ◌∙◌, ℕ, ◌+◌, ◌<◌, ◌≤◌, List, Some, None, Bool, true, false, ap, arith, suc, zero, cond, inl, inr}
+use Rattle.std.proofs.lemmas.Bool.{cases_lt, both_ways, cond-true}
+use Rattle.icu_zerovec.specs.CodePoints.{code_point_limit}
+use Rattle.icu_invlist.specs.InversionList.{IsValid, holds, members_below}
+use Rattle.icu_invlist.proofs.PlaceLemmas.{not_past_limit}
+
+-- ---- a member has fewer members below it than there are
+grows : (xs : List ℕ) (m n : ℕ) → m ≤ n → members_below xs m ≤ members_below xs n
+unfolding members_below
+grows xs m zero h = let e : m ≡ 0 = omega arith in rw e (omega arith)
+grows xs m (suc n) h = elim (cases_lt m (suc n)) [
+  | inl l ↦ let i = grows xs m n (omega arith) in omega arith
+  | inr g ↦ let e : m ≡ suc n = omega arith in rw e (omega arith)
+]
+
+past_member : (xs : List ℕ) (c : ℕ) → holds xs c ≡ true → members_below xs (suc c) ≡ members_below xs c + 1
+unfolding members_below
+past_member xs c h = ap (λ (b : Bool). members_below xs c + cond b 1 0) h
+
+pub fewer_below : (xs : List ℕ) (c n : ℕ) → c < n → holds xs c ≡ true → members_below xs c < members_below xs n
+fewer_below xs c n l h = let a = past_member xs c h in let g = grows xs (suc c) n l in omega arith
+
+-- a member is a code point
+pub held_within : (xs : List ℕ) (c : ℕ) → IsValid xs → holds xs c ≡ true → c < code_point_limit
+held_within xs c v h = elim (cases_lt c code_point_limit) [ inl l ↦ l | inr g ↦ absurd (both_ways _ (not_past_limit xs c v g) h) ]
+
+-- the place of a member is below the size
+pub place-within : (xs : List ℕ) (c place : ℕ) → IsValid xs → holds xs c ≡ true → Some place ≡ cond (holds xs c) (Some (members_below xs c)) None → place < members_below xs code_point_limit
+place-within xs c place v h e =
+    let is : Some place ≡ Some (members_below xs c) = e ∙ cond-true _ _ _ h in
+    let same : place ≡ members_below xs c = cc in
+    let b = fewer_below xs c code_point_limit (held_within xs c v h) h in omega arith
