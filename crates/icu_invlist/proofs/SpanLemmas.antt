@@ -1,13 +1,13 @@
 -- The walk of a span over the characters of a text.
-use Rattle.std.proofs.Common.{◌≡◌, ◌∙◌, sym, ap, refl, ℕ, ◌+◌, List, [], ◌∷◌, ◌++◌, length, take, reverse, Bool, true, false, arith, encode_utf8}
+use Rattle.std.proofs.Common.{◌≡◌, ◌∙◌, sym, ap, refl, ℕ, ◌+◌, List, [], ◌∷◌, ◌++◌, append_assoc, length, take, drop, reverse, Bool, true, false, arith, encode_utf8}
 use Rattle.std.specs.List.{take_while}
-use Rattle.std.specs.Str.{chars, encode_utf8_all, IsUtf8}
+use Rattle.std.specs.Str.{IsCharBoundary, chars, encode_utf8_all, IsUtf8}
 use Rattle.std.proofs.lemmas.Bool.{cond-true, cond-false}
 use Rattle.std.proofs.lemmas.List.{length-append, nil_from_length, append-nil, reverse-append}
 use Rattle.std.proofs.Math.Seq.{take-append_seam}
 use Rattle.std.proofs.lemmas.List.Sums.{take_while-cons}
 use Rattle.std.specs.Char.{IsScalar}
-use Rattle.std.proofs.lemmas.Str.{chars_past_char, IsUtf8-past_char, chars_from_encodes, IsUtf8-nil, IsUtf8-encode, IsUtf8-take, IsCharBoundary-at_seam, chars-append, chars-nil}
+use Rattle.std.proofs.lemmas.Str.{chars_past_char, IsUtf8-past_char, chars_from_encodes, IsUtf8-nil, IsUtf8-encode, IsUtf8-append, IsUtf8-take, IsCharBoundary-at_seam, IsCharBoundary-from_drop, chars-append, chars-nil, drop_past_char, length-encode}
 
 -- how long the front is that passes
 abbrev pub front : (ℕ → Bool) → List ℕ → ℕ
@@ -15,15 +15,19 @@ front p text = length (encode_utf8_all (take_while p (chars text)))
 
 pub record Spanned (p : ℕ → Bool) (text rest : List ℕ) (n : ℕ) : Type 0 where
   pub utf8 : IsUtf8 rest
+  pub left : drop n text ≡ rest
   pub all : n + length rest ≡ length text
   pub so_far : n + front p rest ≡ front p text
 
 pub span_start : (p : ℕ → Bool) (text rest : List ℕ) → IsUtf8 text → rest ≡ text → Spanned p text rest 0
-span_start p text rest u e = rw e (record { utf8 = u; all = omega arith; so_far = omega arith })
+span_start p text rest u e = rw e (record { utf8 = u; left = refl; all = omega arith; so_far = omega arith })
 
 module _ (p : ℕ → Bool) (text rest more : List ℕ) (n c : ℕ) (s : Spanned p text rest n) (step : rest ≡ encode_utf8 c ++ more) where
   characters : chars rest ≡ c ∷ chars more
   characters = chars_past_char rest more c s.utf8 step
+
+  left_past : drop (n + length (encode_utf8 c)) text ≡ more
+  left_past = rw (length-encode c) (drop_past_char text more n c (s.left ∙ step))
 
   pub span_past : p c ≡ true → Spanned p text more (n + length (encode_utf8 c))
   span_past y =
@@ -32,7 +36,7 @@ module _ (p : ℕ → Bool) (text rest more : List ℕ) (n c : ℕ) (s : Spanned
       ap (λ (cs : List ℕ). length (encode_utf8_all cs)) e ∙ length-append (encode_utf8 c) (encode_utf8_all (take_while p (chars more))) in
       let g : length rest ≡ length (encode_utf8 c) + length more = ap (λ (bs : List ℕ). length bs) step ∙ length-append (encode_utf8 c) more in
       let a = s.all in let b = s.so_far in
-      record { utf8 = IsUtf8-past_char rest more c s.utf8 step; all = omega arith; so_far = omega arith }
+      record { utf8 = IsUtf8-past_char rest more c s.utf8 step; left = left_past; all = omega arith; so_far = omega arith }
 
   pub span_room : n + length (encode_utf8 c) + length more ≡ length text
   span_room = let g : length rest ≡ length (encode_utf8 c) + length more = ap (λ (bs : List ℕ). length bs) step ∙ length-append (encode_utf8 c) more in let a = s.all in omega arith
@@ -49,6 +53,10 @@ span_ends p text rest n s e =
     let f : front p rest ≡ 0 = ap (front p) r ∙ ap (λ (cs : List ℕ). length (encode_utf8_all (take_while p cs))) (sym k) in
     let b = s.so_far in omega arith
 
+-- a character starts where the walk stands, or the text ends
+pub span_boundary : (p : ℕ → Bool) (text rest : List ℕ) (n : ℕ) → Spanned p text rest n → IsCharBoundary text n
+span_boundary p text rest n s = IsCharBoundary-from_drop text n (let a = s.all in omega arith) (rw s.left s.utf8)
+
 -- ---- from the back
 -- how long the tail is that passes
 abbrev pub tail : (ℕ → Bool) → List ℕ → ℕ
@@ -56,6 +64,9 @@ tail p text = length (encode_utf8_all (take_while p (reverse (chars text))))
 
 pub record SpannedBack (p : ℕ → Bool) (text rest : List ℕ) : Type 0 where
   pub utf8 : IsUtf8 rest
+  pub behind : List ℕ
+  pub behind_utf8 : IsUtf8 behind
+  pub parts : text ≡ rest ++ behind
   pub so_far : length rest + tail p text ≡ length text + tail p rest
 
 module _ (p : ℕ → Bool) (text rest less : List ℕ) (c : ℕ) (s : SpannedBack p text rest) (scalar : IsScalar c) (step : rest ≡ less ++ encode_utf8 c) where
@@ -83,7 +94,13 @@ module _ (p : ℕ → Bool) (text rest less : List ℕ) (c : ℕ) (s : SpannedBa
       let f : tail p rest ≡ length (encode_utf8 c) + tail p less =
       ap (λ (cs : List ℕ). length (encode_utf8_all cs)) e ∙ length-append (encode_utf8 c) (encode_utf8_all (take_while p (reverse (chars less)))) in
       let a = s.so_far in let b = lengths in
-      record { utf8 = less_utf8; so_far = omega arith }
+      record {
+        utf8 = less_utf8;
+        behind = encode_utf8 c ++ s.behind;
+        behind_utf8 = IsUtf8-append (encode_utf8 c) s.behind (IsUtf8-encode c scalar) s.behind_utf8;
+        parts = s.parts ∙ ap (λ (bs : List ℕ). bs ++ s.behind) step ∙ append_assoc less (encode_utf8 c) s.behind;
+        so_far = omega arith;
+      }
 
   pub back_stops : p c ≡ false → length rest + tail p text ≡ length text
   back_stops y =
@@ -95,3 +112,10 @@ back_ends p text rest s e =
     let r : rest ≡ [] = nil_from_length rest e in
     let f : tail p rest ≡ 0 = ap (tail p) r ∙ ap (λ (cs : List ℕ). length (encode_utf8_all (take_while p (reverse cs)))) chars-nil in
     let a = s.so_far in omega arith
+
+pub back_start : (p : ℕ → Bool) (text rest : List ℕ) → IsUtf8 text → rest ≡ text → SpannedBack p text rest
+back_start p text rest u e = rw e (record { utf8 = u; behind = []; behind_utf8 = IsUtf8-nil; parts = sym (append-nil text); so_far = refl })
+
+-- a character starts where the walk stands, or the text ends
+pub back_boundary : (p : ℕ → Bool) (text rest : List ℕ) → SpannedBack p text rest → IsCharBoundary text (length rest)
+back_boundary p text rest s = IsCharBoundary-at_seam text rest s.behind s.parts s.behind_utf8

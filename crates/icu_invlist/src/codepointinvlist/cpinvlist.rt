@@ -3,7 +3,7 @@ ghost use Rattle.std.specs.Prelude.{◌≡◌, ℕ, ◌+◌, ◌^◌, ◌<◌, �
 ghost use Rattle.std.specs.List.{take_while, All, Contains};
 ghost use Rattle.std.specs.List.Sorted.{IsStrictlyIncreasing};
 ghost use Rattle.std.proofs.Math.Utf8.{scalar};
-ghost use Rattle.std.specs.Str.{chars, encode_utf8_all};
+ghost use Rattle.std.specs.Str.{IsCharBoundary, chars, encode_utf8_all};
 ghost use mathlib.Core.Bool.{beq};
 ghost use mathlib.Core.List.{reverse};
 ghost use Rattle.icu_zerovec.specs.CodePoints.{code_point_limit};
@@ -383,11 +383,13 @@ impl<'data> CodePointInversionList<'data> {
 /// How far a text lies in a set.
 impl<'data> CodePointInversionList<'data> {
     /// The length in bytes of the longest front of the text whose characters are all held, or, for
-    /// `held` false, all not held.
+    /// `held` false, all not held. A character starts there, or the text ends: so
+    /// `&text[set.span(text, true)..]` is what follows.
     pub fn span(&self, text: &str, held: bool) -> usize
-        ensures { result
+        ensures place { result
             ≡ length (encode_utf8_all
             (take_while (λ c. beq (holds self.now c) held) (chars text.now))) }
+        ensures boundary { IsCharBoundary text.now result }
     {
         let mut length = 0;
         for c in text.chars() {
@@ -400,12 +402,14 @@ impl<'data> CodePointInversionList<'data> {
     }
 
     /// The place of the byte from which on all characters of the text are held, or, for `held`
-    /// false, all not held: the start of its longest such tail.
+    /// false, all not held: the start of its longest such tail. A character starts there, or the
+    /// text ends: so `&text[..set.span_back(text, true)]` is what stands before.
     pub fn span_back(&self, text: &str, held: bool) -> usize
-        ensures { result + length
+        ensures place { result + length
             (encode_utf8_all
             (take_while (λ c. beq (holds self.now c) held) (reverse (chars text.now))))
             ≡ length text.now }
+        ensures boundary { IsCharBoundary text.now result }
     {
         let mut start = text.len();
         for c in text.chars().rev() {
