@@ -1,8 +1,8 @@
 -- Two valid lists with the same members are equal.
-use Rattle.std.proofs.Common.{◌≡◌, ℕ, ◌%◌, ◌<◌, ◌≤◌, List, [], ◌∷◌, refl, ap, sym, ◌∙◌, arith, suc, true, false, inl, inr}
+use Rattle.std.proofs.Common.{◌≡◌, ℕ, ◌%◌, ◌<◌, ◌≤◌, List, [], ◌∷◌, Bool, refl, ap, sym, ◌∙◌, arith, suc, true, false, inl, inr}
 use Rattle.std.proofs.lemmas.Bool.{cases_lt, cases_order, cases_eq, eq-eqb, ne_eqb, eqb-true, eqb-false}
 use Rattle.icu_zerovec.specs.CodePoints.{code_point_limit}
-use Rattle.icu_invlist.specs.InversionList.{holds, is_odd, IsValid}
+use Rattle.icu_invlist.specs.InversionList.{holds, is_odd, IsSubset, IsValid}
 use Rattle.icu_invlist.specs.Inside.Places.{Run, ends_below}
 use Rattle.icu_invlist.proofs.RunLemmas.{ends_below-before, ends_below-past, ends_below-yes}
 use Rattle.icu_invlist.proofs.Parity.{holds-ends_below}
@@ -50,3 +50,12 @@ same_sets xs ys v w h = same 0 (suc code_point_limit) xs ys (run_from_valid xs v
       | inl k ↦ parity _ _ (sym (holds-ends_below xs c) ∙ (h c k ∙ holds-ends_below ys c))
       | inr k ↦ holds-past xs c v k ∙ sym (holds-past ys c w k)
     ])
+
+both_imply : (a b : Bool) → (a ≡ true → b ≡ true) → (b ≡ true → a ≡ true) → a ≡ b
+both_imply true b f g = sym (f refl)
+both_imply false true f g = g refl
+both_imply false false f g = refl
+
+-- sets that are part of each other are equal
+pub same_parts : (xs ys : List ℕ) → IsValid xs → IsValid ys → IsSubset xs ys → IsSubset ys xs → xs ≡ ys
+same_parts xs ys v w f g = same_sets xs ys v w (λ c l. both_imply (holds xs c) (holds ys c) (f c l) (g c l))

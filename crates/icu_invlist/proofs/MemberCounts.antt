@@ -1,8 +1,9 @@
 -- How many members sets have below a number.
-use Rattle.std.proofs.Common.{◌≡◌, ◌∙◌, ℕ, ◌+◌, ◌<◌, ◌≤◌, List, Some, None, Bool, true, false, ap, arith, suc, zero, cond, inl, inr}
+use Rattle.std.proofs.Common.{◌≡◌, ◌∙◌, ℕ, ◌+◌, ◌<◌, ◌≤◌, List, Some, None, Bool, true, false, not, ap, refl, arith, suc, zero, cond, inl, inr}
 use Rattle.std.proofs.lemmas.Bool.{cases_lt, both_ways, cond-true}
 use Rattle.icu_zerovec.specs.CodePoints.{code_point_limit}
-use Rattle.icu_invlist.specs.InversionList.{IsValid, holds, members_below}
+use Rattle.icu_invlist.specs.InversionList.{IsValid, complement_of, holds, members_below}
+use Rattle.icu_invlist.proofs.Complements.{complement-holds}
 use Rattle.icu_invlist.proofs.PlaceLemmas.{not_past_limit}
 
 -- ---- a member has fewer members below it than there are
@@ -31,3 +32,20 @@ place-within xs c place v h e =
     let is : Some place ≡ Some (members_below xs c) = e ∙ cond-true _ _ _ h in
     let same : place ≡ members_below xs c = cc in
     let b = fewer_below xs c code_point_limit (held_within xs c v h) h in omega arith
+
+-- ---- a set and its complement
+flags : (a b : Bool) → b ≡ not a → cond a 1 0 + cond b 1 0 ≡ 1
+flags true b e = rw e refl
+flags false b e = rw e refl
+
+-- where the one set holds what the other does not, all numbers are counted
+pub counts_of_complements : (xs ys : List ℕ) (n : ℕ) → ((c : ℕ) → c < n → holds ys c ≡ not (holds xs c)) → members_below xs n + members_below ys n ≡ n
+unfolding members_below
+counts_of_complements xs ys zero h = refl
+counts_of_complements xs ys (suc n) h =
+    let i = counts_of_complements xs ys n (λ c l. h c (omega arith)) in
+    let f = flags (holds xs n) (holds ys n) (h n (omega arith)) in omega arith
+
+-- the size of a set and that of its complement make the code space
+pub sizes_of_complements : (xs : List ℕ) → IsValid xs → members_below xs code_point_limit + members_below (complement_of xs) code_point_limit ≡ code_point_limit
+sizes_of_complements xs v = counts_of_complements xs (complement_of xs) code_point_limit (λ c l. complement-holds xs c v l)

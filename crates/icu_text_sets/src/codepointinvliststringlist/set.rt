@@ -122,7 +122,8 @@ impl<'data> CodePointInversionListAndStringList<'data> {
     /// Whether the set holds the text of these bytes, as [`contains_str`](Self::contains_str) has
     /// it. Bytes that are no UTF-8 are no text, and not held.
     pub fn contains_utf8(&self, bytes: &[u8]) -> bool
-        ensures { result ≡ is_utf8 bytes.now && member self.now bytes.now }
+        ensures held { result ≡ is_utf8 bytes.now && member self.now bytes.now }
+        ensures text { IsUtf8 bytes.now → result ≡ member self.now bytes.now }
     {
         match str::from_utf8(bytes) {
             Ok(text) => self.contains_str(text),
