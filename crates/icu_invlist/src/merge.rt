@@ -351,9 +351,10 @@ fn leave<O: SetOperation>(ends: &mut Vec<u32>)
     }
 }
 
-/// Changes the ends to those of the set that the operation gives of theirs and the other one. Where
-/// all ends of one set stand below those of the other, nothing is walked over, and memory is asked
-/// for only if ends are added. Another set of one range is taken as the range.
+/// Changes the ends to those of the set that the operation gives of theirs and the other one.
+/// Nothing is walked over where all of them stand below those of the other set, nor, by an
+/// operation that brings in nothing of it, where they stand above: memory is then asked for only if
+/// ends are added. Another set of one range is taken as the range.
 #[inline]
 pub(crate) fn change<O: SetOperation>(
     alloc: Global,
