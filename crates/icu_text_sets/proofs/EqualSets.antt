@@ -11,7 +11,7 @@ use Rattle.std.proofs.lemmas.Cmp.{nat_list_cmp_total, tied_itself}
 use Rattle.std.proofs.lemmas.Slice.Eq.{bytes_eq-Decides}
 use Rattle.std.proofs.lemmas.Bool.{or_cases, false_from_ne_true}
 use Rattle.std.proofs.lemmas.Bool.Decides.{Decides-and}
-use Rattle.icu_text_sets.specs.TextSet.{TextSet, text_cmp, is_among, texts_of, IsStringList, same_set}
+use Rattle.icu_text_sets.specs.TextSet.{TextSet, text_cmp, is_among, member, texts_of, IsStringList, same_set}
 
 total : IsTotalOrder text_cmp
 total = nat_list_cmp_total
@@ -78,6 +78,10 @@ pub sets_decide : (a b : TextSet) → Decides (same_set a b) (a ≡ b)
 sets_decide a b =
     let parts = Decides-and (pointwise nat_eq a.code_points b.code_points) (pointwise bytes_eq a.strings b.strings) (bytes_eq-Decides a.code_points b.code_points) (texts_decide a.strings b.strings) in
     (λ h. let p = parts.0 h in λ i. record { code_points = p.0 i; strings = p.1 i }, λ e. parts.1 (ap (λ s. s.code_points) e, ap (λ s. s.strings) e))
+
+-- equal sets hold the same texts
+pub equal_sets_hold_alike : (a b : TextSet) (text : List ℕ) → same_set a b ≡ true → member a text ≡ member b text
+equal_sets_hold_alike a b text h = ap (λ s. member s text) ((sets_decide a b).0 h)
 
 pub strings_as_texts : (xs ys : List (String Global)) → pointwise string_eq xs ys ≡ pointwise bytes_eq (texts_of xs) (texts_of ys)
 strings_as_texts [] [] = refl

@@ -1,3 +1,4 @@
+pub mod CallerLemmas
 pub mod Ascending
 pub mod Walks
 pub mod Gathering
