@@ -1,9 +1,17 @@
 -- The words of unit tries: maps from lists of units, the grammar of their units, what cursors and
 -- entries give, and what a builder holds.
-pub use Rattle.icu_char16trie.specs.UnitMap.{IsAscendingKeys, UnitMap, after, after_all, goes_on, under, value_of}
+pub use Rattle.icu_char16trie.specs.UnitMap.{IsAscendingKeys, KeyBelow, KeyBelowAll, UnitMap, under}
+unfoldable pub use Rattle.icu_char16trie.specs.UnitMap.{after, after_all, same_key, value_of}
+unfoldable pub use Rattle.icu_char16trie.specs.UnitMap.{goes_on, key_goes_on}
 pub use Rattle.icu_char16trie.specs.Grammar.{IsTrieOf}
-pub use Rattle.icu_char16trie.specs.UnitPlaces.{At, IsAfter}
+pub use Rattle.icu_char16trie.specs.UnitPlaces.{At, InRun, IsAfter, Stands, ends_by, is_empty_at, value_at, value_by}
+pub use Rattle.icu_char16trie.specs.Steps.{StepsAlong, StepsTo}
 pub use Rattle.icu_char16trie.specs.Passed.{Passes, answer_at, result_of}
 pub use Rattle.icu_char16trie.specs.Entries.{AreCutShort, AreEntries, GivesNext, IsDone, IsLeft}
 pub use Rattle.icu_char16trie.specs.LossyText.{key_text}
 unfoldable pub use Rattle.icu_char16trie_builder.specs.Entries.{most_units, with_entry}
+-- The format, unit by unit, how a unit leads on, and what an iterator has still to give
+pub use Rattle.icu_char16trie.specs.Numbers
+pub use Rattle.icu_char16trie.specs.Grammar
+pub use Rattle.icu_char16trie.specs.Steps
+pub use Rattle.icu_char16trie.specs.Pending

@@ -1,10 +1,11 @@
 -- The words of sets of code points: inversion lists, what they hold, their ranges, and operations
 -- on them.
 pub use Rattle.icu_zerovec.specs.CodePoints.{code_point_limit}
-pub use Rattle.icu_invlist.specs.InversionList.{IsValid, holds, is_odd, ends_up_to}
+pub use Rattle.icu_invlist.specs.InversionList.{IsValid, holds, is_odd}
+unfoldable pub use Rattle.icu_invlist.specs.InversionList.{ends_up_to, members, members_below}
 pub use Rattle.icu_invlist.specs.Changes.{Changes}
 pub use Rattle.icu_invlist.specs.InversionList.{Acts, HoldsAll, IsSubset, between, both, either, one_of, without}
 pub use Rattle.icu_invlist.specs.InversionList.{AreApart, IsOfCodePoints, StartsBehind, in_ranges, ranges_of}
-pub use Rattle.icu_invlist.specs.InversionList.{characters, complement_of, members, members_below}
-pub use Rattle.icu_invlist.specs.NamedCodePoints.{IsUnionOf, adds, end_of_included, end_of_inclusive, open_end, open_start}
+pub use Rattle.icu_invlist.specs.InversionList.{characters, complement_of, toggle_back, toggle_front}
+pub use Rattle.icu_invlist.specs.NamedCodePoints.{IsUnionOf, adds, end_of_included, end_of_inclusive, is_used_up, open_end, open_start, range_of_numbers}
 pub use Rattle.icu_invlist.specs.Refusals.{IsRefusedList, IsRefusedRange, IsRefusedSlice}

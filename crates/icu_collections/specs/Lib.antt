@@ -7,9 +7,11 @@ pub mod CodePointTrie
 pub mod CodePointTrieBuilder
 pub mod Char16Trie
 pub mod IteratorUtils
--- What the JSON and TOML forms are
+-- What the JSON and TOML forms are, and the first fault of a reader that goes from item to item
+pub use Rattle.icu_zerovec.specs.FirstFault
 pub use Rattle.icu_invlist.specs.SetJson
 pub use Rattle.icu_text_sets.specs.TextSetJson
+pub use Rattle.icu_trie_formats.specs.TrieOfParts
 pub use Rattle.icu_trie_formats.specs.TrieJson
 pub use Rattle.icu_trie_formats.specs.TrieToml
 pub use Rattle.icu_trie_formats.specs.Planes
