@@ -14,3 +14,5 @@ pub use Rattle.icu_invlist.proofs.MemberCounts.{fewer_below, counts_of_complemen
 pub use Rattle.icu_invlist.proofs.PlaceLemmas.{not_past_limit}
 -- Strings in JSON say one list of ends
 pub use Rattle.icu_invlist.proofs.WrittenSets.{said_alone}
+-- The items of a JSON array, as they are read
+pub use Rattle.icu_invlist.proofs.JsonLemmas.{list_of-items_view}

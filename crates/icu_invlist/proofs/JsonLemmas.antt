@@ -7,7 +7,7 @@ use Rattle.serde_json.specs.Find.{as_str}
 use Rattle.serde_json.specs.View.{view, items_view}
 use Rattle.serde_json.specs.declared.value.Value.{Value}
 use Rattle.icu_zerovec.specs.FirstFault.{and_then, before, read_from}
-use Rattle.icu_zerovec.proofs.FirstFaultLemmas.{with_front, stops, goes_on, at_end, at_start}
+use Rattle.icu_zerovec.proofs.CallerLemmas.{with_front, stops, goes_on, at_end, at_start}
 use Rattle.icu_invlist.specs.SetJson.{range_at, range_or, ends_of_ranges, ends_in, list_of, SayEnds}
 use Rattle.icu_invlist.proofs.TextLemmas.{range_found, range_only}
 use Rattle.icu_invlist.specs.declared.codepointinvlist.error.SetJsonError.{SetJsonError}

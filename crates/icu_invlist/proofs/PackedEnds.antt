@@ -7,7 +7,7 @@ use Rattle.icu_zerovec.specs.PackedBytes.{low_bytes, number_of}
 use Rattle.icu_zerovec.specs.PackedLaws.{number_of-3, low_bytes-small}
 use Rattle.icu_zerovec.specs.declared.ule.UleError.{UleError}
 use Rattle.icu_zerovec.specs.declared.ule.UleError.TheVariants.{Length, Cell}
-use Rattle.icu_zerovec.proofs.CellsLemmas.{IsPacked-flat_map, values_of-flat_map}
+use Rattle.icu_zerovec.proofs.CallerLemmas.{IsPacked-flat_map, values_of-flat_map}
 use Rattle.icu_invlist.specs.InversionList.{IsValid}
 
 small_ends : (xs : List ℕ) → IsValid xs → AllByRecursion (λ x. x < 2 ^ 24) xs

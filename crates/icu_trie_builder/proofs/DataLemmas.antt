@@ -15,7 +15,7 @@ use Rattle.icu_trie_builder.specs.NullBlock.{HoldsOne, SomeHoldsOne}
 use Rattle.icu_trie_builder.specs.Inside.FilledBlocks.{IsMoved, IsNull, HasNoNull}
 use Rattle.icu_trie_compaction.specs.Layout.{AllBelow}
 use Rattle.icu_trie_builder.specs.declared.null_block.NullBlock.{NullBlock}
-use Rattle.icu_trie_compaction.specs.Inside.Placed.{IsPlaced, IsCopied}
+use Rattle.icu_trie_compaction.specs.Placed.{IsPlaced, IsCopied}
 use Rattle.icu_trie_compaction.proofs.CallerLemmas.{parts, cell_there, length-window, window-read, count_different-le_count}
 use Rattle.icu_trie_builder.proofs.NullLemmas.{window-kept}
 

@@ -12,7 +12,7 @@ use Rattle.icu_trie_core.specs.Blocks.{window, block, block_of, count_different}
 use Rattle.icu_trie_core.specs.Format.{fast_limit}
 use Rattle.icu_trie_builder.specs.Bounds.{fast_blocks, small_blocks, lone_small_blocks, stands_in, stands_below}
 use Rattle.icu_trie_compaction.specs.Different.{count_different_but}
-use Rattle.icu_trie_compaction.specs.Inside.Placed.{AllStandIn, IsCopied}
+use Rattle.icu_trie_compaction.specs.Placed.{AllStandIn, IsCopied}
 use Rattle.icu_trie_compaction.proofs.CallerLemmas.{count_different_but-within, count_different_but-le, block-block_of, count_different-within, parts, list_decides, length-window, window-window}
 
 -- the lone small blocks are no more than all small ones

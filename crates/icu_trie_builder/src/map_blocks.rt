@@ -4,7 +4,7 @@ ghost use Rattle.std.specs.List.{AllPass};
 ghost use Rattle.icu_zerovec.specs.CodePoints.{code_point_limit};
 ghost use Rattle.icu_trie_core.specs.Blocks.{window, block, count_different};
 ghost use Rattle.icu_trie_compaction.specs.Different.{count_different_but};
-ghost use Rattle.icu_trie_compaction.specs.Inside.Placed.{AllStandIn, IsPlaced};
+ghost use Rattle.icu_trie_compaction.specs.Placed.{AllStandIn, IsPlaced};
 ghost use Rattle.icu_trie_compaction.specs.Windows.{IsLeast, IsTable};
 ghost use Rattle.icu_trie_compaction.specs.declared.error.BuildError.TheVariants.{TooLarge};
 

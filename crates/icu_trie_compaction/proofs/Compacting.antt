@@ -11,7 +11,7 @@ use Rattle.std.proofs.lemmas.Bool.{cases_lt, false_from_ne_true, or_cases}
 use Rattle.std.proofs.lemmas.List.{take_all, take-take, length-append, length-take, length-drop, get_or_append_left, get_or_at}
 use Rattle.icu_trie_core.specs.Blocks.{window, count_different}
 use Rattle.icu_trie_compaction.specs.Different.{count_different_but}
-use Rattle.icu_trie_compaction.specs.Inside.Placed.{AllStandIn, IsPlaced}
+use Rattle.icu_trie_compaction.specs.Placed.{AllStandIn, IsPlaced}
 use Rattle.icu_trie_compaction.specs.Windows.{IsLeast}
 use Rattle.icu_trie_compaction.proofs.Counts.{length-le-distinct_count, unique_keys-member, unique_keys-apart, absent-apart, distinct_count-mono}
 use Rattle.icu_trie_compaction.proofs.Windows.{list_laws, list_decides, window-append, times-below}

@@ -7,7 +7,7 @@ use Rattle.std.proofs.lemmas.List.Elements.{All-take, All-drop}
 use Rattle.icu_trie_core.specs.Blocks.{block}
 use Rattle.icu_trie_compaction.specs.Layout.{AllBelow}
 use Rattle.icu_trie_compaction.specs.Inside.IndexParts.{Index2At}
-use Rattle.icu_trie_compaction.specs.Inside.Placed.{IsPlaced}
+use Rattle.icu_trie_compaction.specs.Placed.{IsPlaced}
 use Rattle.icu_trie_compaction.specs.Windows.{IsLeast}
 use Rattle.icu_trie_compaction.proofs.Indexing.{all-below, below-all}
 use Rattle.icu_trie_compaction.proofs.Windows.{window-read}

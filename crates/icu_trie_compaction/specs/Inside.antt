@@ -1,4 +1,3 @@
 -- Words that the functions inside the crate and their proofs need. No public contract cites them.
-pub mod Placed
 pub mod IndexParts
 pub mod Index3Cells

@@ -6,7 +6,7 @@ ghost use Rattle.std.specs.Int.{div_ceil};
 ghost use Rattle.icu_trie_core.specs.Blocks.{block};
 ghost use Rattle.icu_trie_compaction.specs.Layout.{AllBelow};
 ghost use Rattle.icu_trie_compaction.specs.Inside.IndexParts.{Index2At};
-ghost use Rattle.icu_trie_compaction.specs.Inside.Placed.{IsPlaced};
+ghost use Rattle.icu_trie_compaction.specs.Placed.{IsPlaced};
 ghost use Rattle.icu_trie_compaction.specs.declared.error.BuildError.TheVariants.{TooLarge};
 
 use crate::blocks::{block_at, place_block};

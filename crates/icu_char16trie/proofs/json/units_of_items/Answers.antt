@@ -2,7 +2,7 @@ use Rattle.std.proofs.Common.{sym, ap, ◌∙◌, inr, map}
 use Rattle.std.specs.Option.{ok_or}
 use Rattle.serde_json.specs.View.{view}
 use Rattle.icu_zerovec.specs.FirstFault.{read_from}
-use Rattle.icu_zerovec.proofs.FirstFaultLemmas.{with_front, stops, goes_on, at_end, at_start}
+use Rattle.icu_zerovec.proofs.CallerLemmas.{with_front, stops, goes_on, at_end, at_start}
 use Rattle.icu_char16trie.specs.Char16Json.{unit_or}
 use Rattle.icu_char16trie.specs.declared.json.Char16JsonError.TheVariants as errors
 use Rattle.icu_char16trie.proofs.JsonLemmas.{list_of-items_view}

@@ -1,7 +1,7 @@
 use Rattle.std.proofs.Common.{◌≡◌, drop, map}
 use Rattle.serde_json.specs.View.{view, items_view}
 use Rattle.icu_zerovec.specs.FirstFault.{read_from}
-use Rattle.icu_zerovec.proofs.FirstFaultLemmas.{with_front}
+use Rattle.icu_zerovec.proofs.CallerLemmas.{with_front}
 use Rattle.icu_char16trie.specs.Char16Json.{unit_or, list_of}
 use Rattle.icu_char16trie.proofs.json.units_of_items.Given as goal
 

@@ -7,7 +7,7 @@ use Rattle.icu_trie_builder.specs.Inside.Data.{IsData}
 use Rattle.icu_trie_builder.specs.Inside.FilledBlocks.{IsMoved, IsNull}
 use Rattle.icu_trie_compaction.specs.Layout.{AllBelow}
 use Rattle.icu_trie_compaction.specs.Different.{count_different_but}
-use Rattle.icu_trie_compaction.specs.Inside.Placed.{IsCopied, IsPlaced}
+use Rattle.icu_trie_compaction.specs.Placed.{IsCopied, IsPlaced}
 use Rattle.icu_trie_compaction.specs.declared.error.BuildError.TheVariants.{TooLarge}
 use Rattle.icu_trie_builder.proofs.DataLemmas.{fast_len, fast_one, fast_two, fast_three, small_three, fast_shared, small_shared, first_len, fast_cells, offsets_low, two-drawn, null-cases, null-number, NullOrNone, is_data, written-back}
 use Rattle.icu_trie_compaction.proofs.CallerLemmas.{count_different-le_count, parts}

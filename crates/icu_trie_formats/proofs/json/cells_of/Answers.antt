@@ -4,7 +4,7 @@ use Rattle.std.specs.Option.{ok_or}
 use Rattle.serde_json.specs.View.{view}
 use Rattle.icu_trie_core.specs.ValueNumbers.{fitting}
 use Rattle.icu_trie_formats.specs.TrieJson.{number_or, no_number}
-use Rattle.icu_zerovec.proofs.FirstFaultLemmas.{stops, goes_on, at_end}
+use Rattle.icu_zerovec.proofs.CallerLemmas.{stops, goes_on, at_end}
 use Rattle.icu_trie_formats.proofs.json.cells_of.Goals as goal
 
 pub returns-in_default-number_of-clause-err : goal.returns-in_default-number_of-clause-err

@@ -4,7 +4,7 @@ use Rattle.serde_json.specs.View.{view}
 use Rattle.icu_trie_core.specs.ValueNumbers.{fitting}
 use Rattle.icu_zerovec.specs.FirstFault.{read_from}
 use Rattle.icu_trie_formats.specs.TrieJson.{number_or, cells_of}
-use Rattle.icu_zerovec.proofs.FirstFaultLemmas.{with_front}
+use Rattle.icu_zerovec.proofs.CallerLemmas.{with_front}
 use Rattle.icu_trie_formats.proofs.json.cells_of.Given as goal
 
 -- the cells so far, before those of the items that are left, are those of all

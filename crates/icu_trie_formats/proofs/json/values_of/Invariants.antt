@@ -2,7 +2,7 @@ use Rattle.std.proofs.Common.{◌≡◌, drop, map}
 use Rattle.serde_json.specs.View.{view}
 use Rattle.icu_zerovec.specs.FirstFault.{read_from}
 use Rattle.icu_trie_formats.specs.TrieJson.{value_of, values_of}
-use Rattle.icu_zerovec.proofs.FirstFaultLemmas.{with_front}
+use Rattle.icu_zerovec.proofs.CallerLemmas.{with_front}
 use Rattle.icu_trie_formats.proofs.json.values_of.Given as goal
 
 -- the values so far, before those of the items that are left, are those of all

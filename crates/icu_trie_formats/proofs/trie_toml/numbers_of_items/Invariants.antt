@@ -2,7 +2,7 @@ use Rattle.std.proofs.Common.{◌≡◌, drop, map}
 use Rattle.toml.specs.View.{view}
 use Rattle.icu_zerovec.specs.FirstFault.{read_from}
 use Rattle.icu_trie_formats.specs.TrieToml.{number_or, numbers_of}
-use Rattle.icu_zerovec.proofs.FirstFaultLemmas.{with_front}
+use Rattle.icu_zerovec.proofs.CallerLemmas.{with_front}
 use Rattle.icu_trie_formats.proofs.trie_toml.numbers_of_items.Given as goal
 
 -- the numbers so far, before those of the items that are left, are those of all

@@ -2,7 +2,7 @@ use Rattle.std.proofs.Common.{sym, ap, ◌∙◌}
 use Rattle.std.specs.Prelude.{codes}
 use Rattle.std.specs.Option.{ok_or}
 use Rattle.icu_trie_formats.specs.TrieToml.{value_of, unread}
-use Rattle.icu_zerovec.proofs.FirstFaultLemmas.{stops, goes_on, at_end}
+use Rattle.icu_zerovec.proofs.CallerLemmas.{stops, goes_on, at_end}
 use Rattle.icu_trie_formats.proofs.trie_toml.values_of.Goals as goal
 
 pub returns-in_default-try_from_u32-clause-err : goal.returns-in_default-try_from_u32-clause-err

@@ -1,7 +1,7 @@
 use Rattle.std.proofs.Common.{◌≡◌, drop, map}
 use Rattle.icu_zerovec.specs.FirstFault.{read_from}
 use Rattle.icu_trie_formats.specs.TrieToml.{value_of, values_of}
-use Rattle.icu_zerovec.proofs.FirstFaultLemmas.{with_front}
+use Rattle.icu_zerovec.proofs.CallerLemmas.{with_front}
 use Rattle.icu_trie_formats.proofs.trie_toml.values_of.Given as goal
 
 -- the values so far, before those of the cells that are left, are those of all

@@ -3,10 +3,10 @@ use Rattle.std.specs.Option.{ok_or}
 use Rattle.std.proofs.lemmas.List.{map-append}
 use Rattle.serde_json.specs.View.{view}
 use Rattle.icu_zerovec.specs.FirstFault.{read_from}
-use Rattle.icu_zerovec.proofs.FirstFaultLemmas.{with_front, stops, goes_on, at_end, at_start}
+use Rattle.icu_zerovec.proofs.CallerLemmas.{with_front, stops, goes_on, at_end, at_start}
 use Rattle.icu_text_sets.specs.TextSet.{texts_of}
 use Rattle.icu_text_sets.specs.TextSetJson.{no_string, text_or}
-use Rattle.icu_invlist.proofs.JsonLemmas.{list_of-items_view}
+use Rattle.icu_invlist.proofs.CallerLemmas.{list_of-items_view}
 use Rattle.icu_text_sets.proofs.codepointinvliststringlist.json.strings_of_items.Goals as goal
 
 pub loop-i-init : goal.loop-i-init
