@@ -40,9 +40,9 @@ pub fn trie_of<'a, T: TrieValue>(parts: &Parts<'a>) -> Option<CodePointTrie<'a, 
     CodePointTrie::try_new(header, index, data).ok()
 }
 
-/// What `sum` becomes when the values of these code points are added to it. It stays a call, so that
-/// its loop can be found in the machine code; and since each turn hands its sum to the next, no turn
-/// is left out.
+/// What `sum` becomes when the values of these code points are added to it. It stays a call, so
+/// that its loop can be found in the machine code; and since each turn hands its sum to the next,
+/// no turn is left out.
 #[inline(never)]
 fn add_values<T: TrieValue>(trie: &CodePointTrie<'_, T>, points: &[u32], sum: u64) -> u64 {
     let mut sum = sum;

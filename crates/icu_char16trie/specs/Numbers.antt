@@ -1,4 +1,4 @@
--- Numbers in the units of a trie, as in ICU's ucharstrie.h. The unit before p has the number's
+-- Numbers in the units of a trie, as ICU's ucharstrie.h has them. The unit before p is the number's
 -- lead, which says how many units of it follow at p: none, one with its low half, or two with both.
 -- A number is None where one of its units is not there; the place after it is known even then.
 --
