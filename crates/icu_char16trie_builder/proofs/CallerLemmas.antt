@@ -11,6 +11,8 @@ use Rattle.icu_char16trie.specs.LossyText.{key_text}
 use Rattle.icu_char16trie.specs.Entries.{AreEntries, AreCutShort}
 use Rattle.icu_char16trie_builder.specs.Entries.{with_entry, most_units}
 use Rattle.icu_char16trie_builder.proofs.EntryLemmas.{IsCompared, compared, same_key_eq, same_key_self, ascends_with}
+-- Keys that go on beyond some units
+pub use Rattle.icu_char16trie_builder.proofs.LongerKeys.{goes_on-with_entry, none_beyond}
 
 -- ---- the entries with one more
 
@@ -57,6 +59,18 @@ unfolding with_entry value_of
 value_of-with_entry key v [] w = refl
 value_of-with_entry key v (e ∷ m) w =
     value_by key v e m (with_entry key v m) w (slice_cmp nat_cmp key e.0) (compared key e.0) (value_of-with_entry key v m w)
+
+-- the key that was added has the value that it was added with
+pub value_of-added : (key : List ℕ) (v : ℤ) (m : UnitMap) → value_of (with_entry key v m) key ≡ Some v
+value_of-added key v m = rw (value_of-with_entry key v m key, same_key_self key) refl
+
+-- and each other one the value that it had
+pub value_of-others : (key : List ℕ) (v : ℤ) (m : UnitMap) (w : List ℕ) → (key ≡ w → ⊥) → value_of (with_entry key v m) w ≡ value_of m w
+value_of-others key v m w other = value_of-with_entry key v m w ∙ by (same_key key w) refl
+  where
+    by : (b : Bool) → same_key key w ≡ b → cond b (Some v) (value_of m w) ≡ value_of m w
+    by true h = absurd (other (same_key_eq key w h))
+    by false h = refl
 
 most_by : (key : List ℕ) (v : ℤ) (e : List ℕ × ℤ) (m rest : UnitMap) (o : Ordering) → IsCompared key e.0 o → (o ≡ Equal → ⊥)
     → most_units rest ≡ 2 * length key + 16 + most_units m

@@ -7,4 +7,5 @@ pub mod ArmLemmas
 pub mod OpenLemmas
 pub mod KnownLemmas
 pub mod EntryLemmas
+mod LongerKeys
 pub mod CallerLemmas

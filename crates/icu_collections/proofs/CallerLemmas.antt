@@ -1,7 +1,15 @@
 -- What callers may cite, of all crates below.
-pub use Rattle.icu_zerovec.proofs.CallerLemmas.{get-values_of, length-values_of}
+-- Packed vectors: their values, the one encoding of each value, and a conversion that keeps the bytes
+pub use Rattle.icu_zerovec.proofs.CallerLemmas.{canonical_char, canonical_i16, canonical_i32, canonical_i8, canonical_point, canonical_u16, canonical_u32, canonical_u8, converted_err, converted_ok, drained_list, get-values_of, length-values_of, pack-get}
+-- Sets: what they hold, their ranges and sizes, and when two are equal
 pub use Rattle.icu_invlist.proofs.CallerLemmas.{complement_valid, complement-holds, holds-nil, not_past_limit, ranges_apart, ranges_hold, ranges_within, said_alone}
+pub use Rattle.icu_invlist.proofs.CallerLemmas.{counts_of_complements, fewer_below, same_parts, same_sets, sizes_of_complements}
+pub use Rattle.icu_text_sets.proofs.CallerLemmas.{equal_sets_hold_alike, sets_decide}
 pub use Rattle.icu_trie_core.proofs.CallerLemmas.{AreMaximalRuns-same, AreMaximalRuns-some, LongestRun-from_gives, runs-unique, value_runs-some}
 pub use Rattle.icu_trie.proofs.CallerLemmas.{All-given, All-selected, AreMappedRunsFrom-same, joined_ranges-are}
+-- A trie of a map: its writes, its answers, its ranges, and its null block
 pub use Rattle.icu_trie_builder.proofs.CallerLemmas.{IsAfter-append, error-of-map, map_answer-after, mapped-ranges-of-map, ranges-of-map, value_after-append}
+pub use Rattle.icu_trie_builder.proofs.CallerLemmas.{NamesNull-some, answer_at, longest_of_map, no_answer_at}
+-- Entries of unit tries: those with one more, and those of a run of `iter2`
 pub use Rattle.icu_char16trie_builder.proofs.CallerLemmas.{AreEntries-of_run, IsAscendingKeys-with_entry, most_units-with_entry, shown, text_of, texts_of_entries, value_of-with_entry}
+pub use Rattle.icu_char16trie_builder.proofs.CallerLemmas.{goes_on-with_entry, none_beyond, value_of-added, value_of-others}

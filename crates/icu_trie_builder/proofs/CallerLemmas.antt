@@ -1,9 +1,11 @@
 -- What other crates may cite of maps that are written to and built.
-use Rattle.std.proofs.Common.{◌≡◌, ℕ, ◌≤◌, Bool, true, false, List, map, Some, ap, ◌∙◌, nat_le, cond, refl, arith}
+use Rattle.std.proofs.Common.{◌≡◌, ℕ, ◌*◌, ◌≤◌, Bool, true, false, List, map, Some, ap, ◌∙◌, nat_le, cond, refl, arith}
 use Rattle.std.proofs.lemmas.Bool.Decides.{nat_tests}
 use Rattle.icu_trie_core.proofs.CallerLemmas.{value_runs-some}
+use Rattle.icu_trie_core.specs.Format.{fast_offset, small_offset}
 use Rattle.icu_trie_core.specs.Range.{run_of, value_run}
 use Rattle.icu_trie_core.specs.Runs.{AreMaximalRuns}
+use Rattle.icu_trie_core.specs.declared.header.CodePointTrieHeader.{CodePointTrieHeader}
 use Rattle.icu_trie_core.specs.declared.range.CodePointMapRange.{CodePointMapRange}
 use Rattle.icu_trie.proofs.CallerLemmas.{AreMappedRunsFrom-same}
 use Rattle.icu_trie.specs.MappedRanges.{AreMappedRunsFrom}
@@ -12,10 +14,13 @@ use Rattle.icu_trie.specs.Ranges.{answers}
 use Rattle.icu_trie_builder.proofs.RangesOfMap.{answers-at}
 use Rattle.icu_trie_builder.specs.CodePointMap.{CodePointMap, IsAfter, map_answer, map_value}
 use Rattle.icu_trie_builder.specs.MapAnswers.{AnswersMap, HasRangesOf}
+use Rattle.icu_trie_builder.specs.NullBlock.{NamesNull, SomeHoldsOne}
 use Rattle.icu_trie_builder.specs.Writes.{answer_after, value_after}
 use Rattle.icu_trie_builder.specs.declared.writes.Write.{Write}
 -- The writes of two lists, one after the other
 pub use Rattle.icu_trie_builder.proofs.AfterLemmas.{IsAfter-append, value_after-append}
+-- What a look-up and a walk over the cells of a trie of a map give
+pub use Rattle.icu_trie_builder.proofs.RangesOfMap.{answer_at, longest_of_map, no_answer_at}
 
 -- A map that was the default everywhere answers by the writes alone
 pub map_answer-after : {T : Type 0} (default error : T) (ws : List (Write T)) (blank written : CodePointMap T)
@@ -42,3 +47,11 @@ module _ {T : Type 0} (f : ℕ → T) (error : T) (t : Parts T) where
   -- The last cell of a trie of a map is the map's error value
   pub error-of-map : AnswersMap f error t → last_cell t.values ≡ Some error
   error-of-map of = rw (of.look_up 0x110000) at (of.value 0x110000)
+
+-- Where some aligned block holds one number, the header names such a block as null
+pub NamesNull-some : (h : CodePointTrieHeader) (index : List ℕ) (f : ℕ → ℕ) → NamesNull h index f
+    → SomeHoldsOne h.trie_type h.high_start f (λ _. Unit {0}) (λ _. Unit {0})
+    → SomeHoldsOne h.trie_type h.high_start f (λ b. fast_offset index (b * 64) ≡ Some h.data_null_offset)
+    (λ b. small_offset h.trie_type index (b * 16) ≡ Some h.data_null_offset)
+unfolding NamesNull
+NamesNull-some h index f named some = named some

@@ -1,7 +1,9 @@
 -- A trie that answers a map has its ranges and its value sets.
-use Rattle.std.proofs.Common.{◌≡◌, ℕ, ◌<◌, Some, arith, sym, ◌∙◌, ap}
+use Rattle.std.proofs.Common.{◌≡◌, ℕ, ◌+◌, ◌<◌, ◌≤◌, Some, None, arith, sym, ◌∙◌, ap}
 use Rattle.std.proofs.lemmas.Bool.Decides.{nat_tests}
 use Rattle.icu_trie_core.proofs.CallerLemmas.{AreMaximalRuns-same, AreMaximalRuns-some}
+use Rattle.icu_trie_core.specs.Format.{answer}
+use Rattle.icu_trie_core.specs.Runs.{LongestRun}
 use Rattle.icu_trie.specs.Parts.{Parts}
 use Rattle.icu_trie.specs.Ranges.{answers}
 use Rattle.icu_trie_builder.specs.MapAnswers.{AnswersMap, HasRangesOf}
@@ -19,6 +21,28 @@ module _ {T : Type 0} (f : ℕ → T) (error : T) (t : Parts T) (a : AnswersMap 
       λ e. answers-at c l ∙ ap (λ x. Some x) e,
     );
   }
+
+-- ---- a look-up or a walk over whatever cells hold the trie
+module _ {T : Type 0} (f : ℕ → T) (error : T) (t : Parts T) (of : AnswersMap f error t) where
+  -- the answer in the code space is the map's value
+  pub answer_at : (u : ℕ) → u ≤ 0x10FFFF → answer t.header t.index t.values u ≡ Some (f u)
+  answer_at u l = grind (arith, nat_tests, of.look_up u)
+
+  -- and there is none above it
+  pub no_answer_at : (u : ℕ) → 0x10FFFF < u → answer t.header t.index t.values u ≡ None
+  no_answer_at u l = grind (arith, nat_tests, of.look_up u)
+
+  -- the longest run of the answers, which a walk gives, is the map's
+  pub longest_of_map : (first last : ℕ) (v : T) → LongestRun (answer t.header t.index t.values) first last (Some v) → LongestRun f first last v
+  longest_of_map first last v run = record {
+    ordered = run.ordered;
+    within = run.within;
+    equal = λ u l k. some_same (sym (answer_at u (omega (arith, k, run.within))) ∙ run.equal u l k);
+    ends = λ l e. run.ends l (answer_at (last + 1) (omega (arith, l)) ∙ ap Some e);
+  }
+    where
+      some_same : {a b : T} → Some a ≡ Some b → a ≡ b
+      some_same e = cc
 
 -- maps that are equal on the code points have the same ranges and value sets
 pub HasRangesOf-alike : {T : Type 0} (f g : ℕ → T) → ((k : ℕ) → k < 0x110000 → f k ≡ g k) → (t : Parts T) → HasRangesOf f t → HasRangesOf g t
