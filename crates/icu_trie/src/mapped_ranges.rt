@@ -52,7 +52,7 @@ impl<'trie, T: TrieValue> CodePointTrie<'trie, T> {
 
 /// The ranges of a trie, each with the answer of a closure to its value. Ranges of equal answers
 /// are not joined. Part of [`IterRangesMapped`], which joins them.
-#[derive(Drop)]
+#[derive(Debug, Drop)]
 pub struct MappedRanges<'a, T: TrieValue, F> {
     ranges: CodePointMapRangeIterator<'a, T>,
     map: F,
@@ -83,7 +83,7 @@ impl<'a, T: TrieValue, U, F: Fn(T) -> U> Iterator for MappedRanges<'a, T, F> {
 
 /// The ranges of a trie under a map of its values, those that touch and have equal answers joined.
 /// Once there is none it gives none for ever.
-#[derive(Drop)]
+#[derive(Debug, Drop)]
 pub struct IterRangesMapped<'a, T: TrieValue, U, F> {
     ranges: RangeListIteratorCoalescer<MappedRanges<'a, T, F>, U>,
 }

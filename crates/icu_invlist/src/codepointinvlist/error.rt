@@ -8,12 +8,12 @@ use thiserror::Error;
 
 /// This list is no inversion list: it has an odd number of ends, does not ascend, or has an end
 /// above 0x110000.
-#[derive(Debug, Drop, Error)]
+#[derive(Debug, Drop, PartialEq, Error)]
 #[error("Invalid set")]
 pub struct InvalidSetError(pub Vec<PotentialCodePoint>);
 
 /// Why no set was made of a list of ends.
-#[derive(Debug, Drop, Error)]
+#[derive(Debug, Drop, PartialEq, Error)]
 pub enum SetError {
     /// The list is no inversion list.
     #[error(transparent)]

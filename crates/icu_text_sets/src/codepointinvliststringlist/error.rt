@@ -4,7 +4,7 @@ use icu_invlist::codepointinvlist::SetJsonError;
 use thiserror::Error;
 
 /// Why a list of strings is no list of a set's strings. Each case has the strings at fault.
-#[derive(Debug, Drop, Error)]
+#[derive(Debug, Drop, PartialEq, Error)]
 pub enum InvalidStringList {
     /// The string is exactly one code point, which belongs among the code points.
     #[error("Invalid string length for string: {0}")]
@@ -18,7 +18,7 @@ pub enum InvalidStringList {
 }
 
 /// Why no set was read from JSON.
-#[derive(Debug, Drop, Error)]
+#[derive(Debug, Drop, PartialEq, Error)]
 pub enum StringListJsonError {
     /// The value is no object, with the empty text; or it has no member of this key, or at
     /// `str_list` no array stands.
