@@ -2,7 +2,7 @@
 use crate::tests::equality::expect_owned;
 use crate::tests::support::{expect_bytes, expect_same};
 use icu_zerovec::ule::AsULE;
-use icu_zerovec::{PotentialCodePoint, ZeroSlice, ZeroVec};
+use icu_zerovec::{PotentialCodePoint, ZeroVec};
 use std::fmt::Debug;
 use std::process::Abort;
 use std::test::Fail;
@@ -13,44 +13,19 @@ fn expect_places<T: AsULE + Debug + PartialEq>(
     vector: &ZeroVec<'_, T>,
     values: &[T],
 ) {
+    let view = vector.as_slice();
     for place in 0..=values.len() {
-        expect_same(
-            rt,
-            vector.get(place),
-            values.get(place).copied(),
-            "a place of a vector",
-        );
-    }
-}
-
-/// The same of a view.
-fn expect_places_of_view<T: AsULE + Debug + PartialEq>(
-    rt: &impl Abort,
-    view: ZeroSlice<'_, T>,
-    values: &[T],
-) {
-    for place in 0..=values.len() {
-        expect_same(
-            rt,
-            view.get(place),
-            values.get(place).copied(),
-            "a place of a view",
-        );
-    }
-}
-
-/// The values stand at the places that a view is known to have.
-fn expect_known_places<T: AsULE + Debug + PartialEq>(
-    rt: &impl Abort,
-    view: ZeroSlice<'_, T>,
-    values: &[T],
-) {
-    for (place, value) in values.iter().enumerate() {
+        let want = values.get(place).copied();
+        let found = (vector.get(place), view.get(place));
+        expect_same(rt, found, (want, want), "a place");
         if place < view.len() {
-            expect_same(rt, view.at(place), *value, "a known place of a view");
+            expect_same(rt, Some(view.at(place)), want, "a known place of a view");
         }
     }
 }
+
+/// How many values there are, whether there are none, and the first and the last one.
+type Ends<T> = (usize, bool, Option<T>, Option<T>);
 
 /// The first and the last value, and how many there are.
 fn expect_ends<T: AsULE + Debug + PartialEq>(
@@ -58,22 +33,22 @@ fn expect_ends<T: AsULE + Debug + PartialEq>(
     vector: &ZeroVec<'_, T>,
     values: &[T],
 ) {
-    expect_same(rt, vector.len(), values.len(), "length");
-    expect_same(rt, vector.is_empty(), values.is_empty(), "whether empty");
-    expect_same(rt, vector.first(), values.first().copied(), "first value");
-    expect_same(rt, vector.last(), values.last().copied(), "last value");
-}
-
-/// The same of a view.
-fn expect_ends_of_view<T: AsULE + Debug + PartialEq>(
-    rt: &impl Abort,
-    view: ZeroSlice<'_, T>,
-    values: &[T],
-) {
-    expect_same(rt, view.len(), values.len(), "length of a view");
-    expect_same(rt, view.is_empty(), values.is_empty(), "whether empty");
-    expect_same(rt, view.first(), values.first().copied(), "first of a view");
-    expect_same(rt, view.last(), values.last().copied(), "last of a view");
+    let view = vector.as_slice();
+    let want: Ends<T> = (
+        values.len(),
+        values.is_empty(),
+        values.first().copied(),
+        values.last().copied(),
+    );
+    let found = (
+        vector.len(),
+        vector.is_empty(),
+        vector.first(),
+        vector.last(),
+    );
+    expect_same(rt, found, want, "a vector");
+    let found = (view.len(), view.is_empty(), view.first(), view.last());
+    expect_same(rt, found, want, "a view");
 }
 
 /// The values, one after another.
@@ -83,46 +58,23 @@ fn expect_items<T: AsULE + Debug + PartialEq>(
     values: &[T],
 ) {
     expect_same(rt, vector.iter().len(), values.len(), "values to come");
+    let mut viewed = vector.as_slice().iter();
     for (value, want) in vector.iter().zip(values.iter()) {
-        expect_same(rt, value, *want, "a value of a vector");
+        let found = (Some(value), viewed.next());
+        expect_same(rt, found, (Some(*want), Some(*want)), "a value");
     }
-}
-
-/// The same of a view.
-fn expect_items_of_view<T: AsULE + Debug + PartialEq>(
-    rt: &impl Abort,
-    view: ZeroSlice<'_, T>,
-    values: &[T],
-) {
-    for (value, want) in view.iter().zip(values.iter()) {
-        expect_same(rt, value, *want, "a value of a view");
-    }
-}
-
-/// A view has these bytes and values.
-fn expect_view<T: AsULE + Debug + PartialEq>(
-    rt: &impl Abort,
-    view: ZeroSlice<'_, T>,
-    bytes: &[u8],
-    values: &[T],
-) {
-    expect_bytes(rt, view.as_bytes(), bytes);
-    expect_places_of_view(rt, view, values);
-    expect_known_places(rt, view, values);
-    expect_ends_of_view(rt, view, values);
-    expect_items_of_view(rt, view, values);
 }
 
 /// These bytes are these values, whichever call reads them.
 fn expect_values<T: AsULE + Debug + PartialEq>(rt: &impl Abort, bytes: &[u8], values: &[T]) {
     let Ok(vector) = ZeroVec::<T>::parse_bytes(bytes) else {
-        panic!(rt; "{bytes:?} is refused");
+        rt.panic("refused");
     };
     expect_bytes(rt, vector.as_bytes(), bytes);
+    expect_bytes(rt, vector.as_slice().as_bytes(), bytes);
     expect_places(rt, &vector, values);
     expect_ends(rt, &vector, values);
     expect_items(rt, &vector, values);
-    expect_view(rt, vector.as_slice(), bytes, values);
 }
 
 /// These bytes are these values, and none are none, borrowed and owned.

@@ -1,5 +1,5 @@
 //! The same bytes as values of another type of the same width.
-use crate::tests::support::{expect_bytes, expect_of, expect_same};
+use crate::tests::support::{expect, expect_bytes, expect_same};
 use icu_zerovec::ule::{AsULE, UleError};
 use icu_zerovec::{PotentialCodePoint, ZeroVec};
 use std::process::Abort;
@@ -12,12 +12,12 @@ fn expect_list<T: AsULE>(
     values: &[T],
 ) -> Result<(), Fail> {
     let made = ZeroVec::alloc_from_slice(rt.alloc(), values)?;
-    expect_of(rt, vector == made, "the values", made.as_bytes());
+    expect(rt, vector == made, "the values");
     Ok(())
 }
 
 /// The bytes of numbers without sign as numbers with sign.
-fn signed_of(bytes: &[u8]) -> Result<ZeroVec<'_, i32>, UleError> {
+pub fn signed_of(bytes: &[u8]) -> Result<ZeroVec<'_, i32>, UleError> {
     ZeroVec::<u32>::parse_bytes(bytes)?.try_into_converted::<i32>()
 }
 
@@ -31,7 +31,7 @@ fn numbers_converted(rt: HostRuntime) -> Result<(), Fail> {
 }
 
 /// The bytes of characters as code points.
-fn points_of(bytes: &[u8]) -> Result<ZeroVec<'_, PotentialCodePoint>, UleError> {
+pub fn points_of(bytes: &[u8]) -> Result<ZeroVec<'_, PotentialCodePoint>, UleError> {
     ZeroVec::<char>::parse_bytes(bytes)?.try_into_converted::<PotentialCodePoint>()
 }
 

@@ -1,5 +1,5 @@
 //! Vectors are equal, and hash alike, by their lists of values, whoever owns the bytes.
-use crate::tests::support::{expect_bytes, expect_of, hash_of};
+use crate::tests::support::{expect, expect_bytes, expect_same, hash_of};
 use icu_zerovec::ule::AsULE;
 use icu_zerovec::{ZeroSlice, ZeroVec};
 use std::fmt::Debug;
@@ -7,18 +7,18 @@ use std::process::Abort;
 use std::test::Fail;
 
 /// A vector and its view are equal to another vector, and hash as that one does.
-fn expect_equal<T: AsULE>(
-    rt: &impl Abort,
-    vector: &ZeroVec<'_, T>,
-    lent: &ZeroVec<'_, T>,
-    bytes: &[u8],
-) {
+fn expect_equal<T: AsULE>(rt: &impl Abort, vector: &ZeroVec<'_, T>, lent: &ZeroVec<'_, T>) {
     let view = vector.as_slice();
+    expect(rt, *vector == *lent, "an equal vector");
+    expect(rt, view == lent.as_slice(), "an equal view");
+    let hashes = (hash_of(vector), hash_of(&view));
     let hash = hash_of(lent);
-    expect_of(rt, *vector == *lent, "an equal vector", bytes);
-    expect_of(rt, view == lent.as_slice(), "an equal view", bytes);
-    expect_of(rt, hash_of(vector) == hash, "the hash of a vector", bytes);
-    expect_of(rt, hash_of(&view) == hash, "the hash of a view", bytes);
+    expect_same(
+        rt,
+        hashes,
+        (hash, hash),
+        "hashes of a vector and of its view",
+    );
 }
 
 /// A vector has these bytes, and is equal to the one that borrows them.
@@ -29,7 +29,7 @@ fn expect_like_lent<T: AsULE>(
 ) -> Result<(), Fail> {
     expect_bytes(rt, vector.as_bytes(), bytes);
     let lent = ZeroVec::<T>::parse_bytes(bytes)?;
-    expect_equal(rt, &vector, &lent, bytes);
+    expect_equal(rt, &vector, &lent);
     Ok(())
 }
 
@@ -40,9 +40,9 @@ fn expect_copies<T: AsULE>(
     bytes: &[u8],
 ) -> Result<(), Fail> {
     let copy = view;
-    expect_of(rt, copy == view.clone()?, "a cloned view", bytes);
+    expect(rt, copy == view.clone()?, "a cloned view");
     let lent = ZeroVec::<T>::parse_bytes(bytes)?;
-    expect_of(rt, copy.as_zerovec() == lent, "the vector of a view", bytes);
+    expect(rt, copy.as_zerovec() == lent, "the vector of a view");
     Ok(())
 }
 
@@ -62,15 +62,10 @@ pub fn expect_owned<T: AsULE + Debug>(
 }
 
 /// Two vectors, and their views, are unequal, and hash differently.
-fn expect_unequal(rt: &impl Abort, one: &ZeroVec<'_, u16>, other: &ZeroVec<'_, u16>, bytes: &[u8]) {
-    expect_of(rt, *one != *other, "another vector", bytes);
-    expect_of(
-        rt,
-        one.as_slice() != other.as_slice(),
-        "another view",
-        bytes,
-    );
-    expect_of(rt, hash_of(one) != hash_of(other), "another hash", bytes);
+fn expect_unequal(rt: &impl Abort, one: &ZeroVec<'_, u16>, other: &ZeroVec<'_, u16>) {
+    expect(rt, *one != *other, "another vector");
+    expect(rt, one.as_slice() != other.as_slice(), "another view");
+    expect(rt, hash_of(one) != hash_of(other), "another hash");
 }
 
 #[test]
@@ -83,7 +78,7 @@ fn unequal_lists(rt: HostRuntime) -> Result<(), Fail> {
     ] {
         let one = ZeroVec::<u16>::parse_bytes(&[1, 0])?;
         let other = ZeroVec::<u16>::parse_bytes(bytes)?;
-        expect_unequal(&rt, &one, &other, bytes);
+        expect_unequal(&rt, &one, &other);
     }
     Ok(())
 }

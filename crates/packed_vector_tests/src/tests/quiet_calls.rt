@@ -1,45 +1,37 @@
 //! No call that has no allocator takes memory, nor does `into_owned` where the vector owns its
 //! bytes already, also once it was converted. The script `tests/refused_memory` sees that a test
 //! whose name ends in `_quiet` asks for nothing between the lines `call` and `done`.
-use crate::tests::refused_memory::say;
-use crate::tests::support::{expect, expect_same, hash_of};
+use crate::tests::conversions::signed_of;
+use crate::tests::support::{expect, expect_same, hash_of, say};
 use icu_zerovec::ule::{AsULE, UleError};
-use icu_zerovec::{PotentialCodePoint, ZeroSlice, ZeroVec};
+use icu_zerovec::{PotentialCodePoint, ZeroVec};
 use std::test::Fail;
 
 /// How many values there are, whether there is none, the second, the first and the last one, and
 /// how many come one after another.
 type Reads = (usize, bool, Option<u32>, Option<u32>, Option<u32>, usize);
 
-/// What a vector of these bytes reads.
-fn reads_of(bytes: &[u8]) -> Result<Reads, UleError> {
+/// What a vector of these bytes reads, and what its view does.
+fn reads_of(bytes: &[u8]) -> Result<(Reads, Reads), UleError> {
     let lent = ZeroVec::<u32>::parse_bytes(bytes)?;
-    Ok((
+    let view = lent.as_slice();
+    let reads = (
         lent.len(),
         lent.is_empty(),
         lent.get(1),
         lent.first(),
         lent.last(),
         lent.iter().count(),
-    ))
-}
-
-/// What a view reads.
-fn reads_of_view(view: ZeroSlice<'_, u32>) -> Reads {
-    (
+    );
+    let reads_of_view = (
         view.len(),
         view.is_empty(),
         view.get(1),
         view.first(),
         view.last(),
         view.iter().count(),
-    )
-}
-
-/// What the view of a vector of these bytes reads.
-fn views_of(bytes: &[u8]) -> Result<Reads, UleError> {
-    let lent = ZeroVec::<u32>::parse_bytes(bytes)?;
-    Ok(reads_of_view(lent.as_slice()))
+    );
+    Ok((reads, reads_of_view))
 }
 
 /// Calls: `ZeroVec::parse_bytes`, `ZeroVec::len`, `ZeroVec::is_empty`, `ZeroVec::get`,
@@ -53,11 +45,14 @@ fn reads_quiet(rt: HostRuntime) {
     };
     say(&rt, "call");
     let reads = reads_of(owner.as_bytes());
-    let views = views_of(owner.as_bytes());
     say(&rt, "done");
-    let want = Ok((2, false, Some(0x42), Some(0x41), Some(0x42), 2));
-    expect_same(&rt, reads, want, "reads of a vector");
-    expect_same(&rt, views, want, "reads of a view");
+    let want = (2, false, Some(0x42), Some(0x41), Some(0x42), 2);
+    expect_same(
+        &rt,
+        reads,
+        Ok((want, want)),
+        "reads of a vector and of its view",
+    );
 }
 
 /// The place of one number in a vector of these bytes, and that of another in its view.
@@ -131,8 +126,7 @@ fn owned_bytes_quiet(rt: HostRuntime) -> Result<(), Fail> {
 
 /// The last value of these bytes as numbers with sign.
 fn last_converted(bytes: &[u8]) -> Result<Option<i32>, UleError> {
-    let signed = ZeroVec::<u32>::parse_bytes(bytes)?.try_into_converted::<i32>()?;
-    Ok(signed.last())
+    Ok(signed_of(bytes)?.last())
 }
 
 /// Calls: `ZeroVec::try_into_converted`, `ZeroVec::into_owned`.

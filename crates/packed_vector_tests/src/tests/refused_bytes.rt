@@ -1,4 +1,5 @@
 //! Bytes that are no values.
+use crate::tests::support::expect_same;
 use icu_zerovec::ule::{AsULE, UleError};
 use icu_zerovec::{PotentialCodePoint, ZeroVec};
 use std::process::Abort;
@@ -6,7 +7,7 @@ use std::process::Abort;
 /// These bytes are refused so.
 fn expect_refused<T: AsULE>(rt: &impl Abort, bytes: &[u8], want: UleError) {
     let refused = ZeroVec::<T>::parse_bytes(bytes).err();
-    assert_eq!(rt; refused, Some(want), "at {bytes:?}");
+    expect_same(rt, (bytes, refused), (bytes, Some(want)), "refused");
 }
 
 #[test]

@@ -2,18 +2,13 @@
 //! test whose name ends in `_refused` with its first, second, .. request refused, until a run
 //! refuses nothing: a refusal between the lines `call` and `done` has to be answered by the line
 //! `refused`.
-use crate::tests::support::{expect, expect_bytes, expect_same};
+use crate::tests::conversions::points_of;
+use crate::tests::support::{expect, expect_bytes, expect_same, say};
 use icu_zerovec::ule::AsULE;
-use icu_zerovec::{MemoryError, PotentialCodePoint, ZeroVec};
+use icu_zerovec::{MemoryError, ZeroVec};
 use std::alloc::Global;
 use std::process::Abort;
 use std::test::Fail;
-
-/// Prints the line.
-pub fn say(rt: &(impl Abort + Print), line: &str) {
-    let printed = println!(rt; "{line}");
-    assert!(rt; printed.is_ok());
-}
 
 /// Says that memory was refused.
 fn say_refused(rt: &(impl Abort + Print), error: MemoryError) {
@@ -54,6 +49,18 @@ fn alloc_from_iter_refused(rt: HostRuntime) {
     expect_made(&rt, made, &[0x34, 0x12, 255, 0]);
 }
 
+/// An iterator that does not know how many values are to come asks for memory as they come.
+///
+/// Calls: `ZeroVec::alloc_from_iter`.
+#[test]
+fn alloc_from_iter_of_unknown_length_refused(rt: HostRuntime) {
+    let text = "ABCDEFGHIJKLMNOPQ";
+    say(&rt, "call");
+    let made = ZeroVec::alloc_from_iter(rt.alloc(), text.bytes().filter(|byte| *byte != b'A'));
+    say(&rt, "done");
+    expect_made(&rt, made, b"BCDEFGHIJKLMNOPQ");
+}
+
 /// The refusal of a call that gives the value back, as the crates above convert it.
 fn one_number(alloc: Global, number: u16) -> Result<Vec<u16>, MemoryError> {
     let mut numbers = Vec::new(alloc);
@@ -64,7 +71,7 @@ fn one_number(alloc: Global, number: u16) -> Result<Vec<u16>, MemoryError> {
 /// The numbers are these, or memory was refused.
 fn expect_numbers(rt: &(impl Abort + Print), made: Result<Vec<u16>, MemoryError>, want: &[u16]) {
     match made {
-        Ok(numbers) => assert_eq!(rt; numbers.as_slice(), want),
+        Ok(numbers) => expect_same(rt, numbers.as_slice(), want, "the numbers"),
         Err(error) => say_refused(rt, error),
     }
 }
@@ -122,7 +129,7 @@ fn into_owned_refused(rt: HostRuntime) -> Result<(), Fail> {
 #[test]
 fn converted_into_owned_refused(rt: HostRuntime) -> Result<(), Fail> {
     let bytes = [0x41, 0, 0, 0x42, 0, 0];
-    let points = ZeroVec::<char>::parse_bytes(&bytes)?.try_into_converted::<PotentialCodePoint>()?;
+    let points = points_of(&bytes)?;
     say(&rt, "call");
     let owned = points.into_owned(rt.alloc());
     say(&rt, "done");

@@ -4,13 +4,10 @@ use std::hash::{DefaultHasher, Hash, Hasher};
 use std::process::Abort;
 
 /// What is said holds.
-pub fn expect(rt: &impl Abort, holds: bool, what: &str) {
-    assert!(rt; holds, "{what}");
-}
-
-/// What is said of these bytes holds.
-pub fn expect_of(rt: &impl Abort, holds: bool, what: &str, bytes: &[u8]) {
-    assert!(rt; holds, "{what} of {bytes:?}");
+pub fn expect(rt: &impl Abort, holds: bool, what: &'static str) {
+    if !holds {
+        rt.panic(what);
+    }
 }
 
 /// What was found is what is wanted.
@@ -20,7 +17,14 @@ pub fn expect_same<T: Copy + Debug + PartialEq>(rt: &impl Abort, found: T, want:
 
 /// The bytes are these.
 pub fn expect_bytes(rt: &impl Abort, found: &[u8], want: &[u8]) {
-    assert_eq!(rt; found, want);
+    expect_same(rt, found, want, "the bytes");
+}
+
+/// Prints the line.
+pub fn say(rt: &(impl Abort + Print), line: &str) {
+    if rt.println(line).is_err() {
+        rt.panic("nothing can be printed");
+    }
 }
 
 /// The hash of a value by the standard hasher.
