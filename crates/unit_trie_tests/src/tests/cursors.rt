@@ -1,5 +1,5 @@
 //! Steps of cursors and of iterators.
-use crate::tests::support::{expect, expect_same, trie_of};
+use crate::tests::support::{expect_same, trie_of};
 use icu_char16trie::char16trie::{Char16Trie, Char16TrieCursor, Char16TrieIterator, TrieResult};
 use icu_zerovec::ZeroSlice;
 use std::alloc::AllocError;
@@ -28,32 +28,28 @@ fn expect_no_match(rt: &impl Abort, trie: Char16Trie<'_>, units: &[u16]) {
     }
 }
 
+/// Units of tries whose keys a number above the code points would be, were it cut to units.
+static TAKEN_FOR_KEYS: [&[u16]; 4] = [
+    &[0x30, 0xD800, 0x8005],
+    &[0x30, 0x61, 0xFFFF],
+    &[0x31, 0xDC00, 0xDC00, 0x8001],
+    &[0x30, 0, 0x8001],
+];
+
 /// A number above the code points is not cut to units that are keys.
 #[test]
 fn numbers_above_the_code_points(rt: HostRuntime) -> Result<(), Fail> {
-    for units in [
-        [0x30, 0xD800, 0x8005].as_slice(),
-        [0x30, 0x61, 0xFFFF].as_slice(),
-        [0x31, 0xDC00, 0xDC00, 0x8001].as_slice(),
-        [0x30, 0, 0x8001].as_slice(),
-    ] {
+    for units in TAKEN_FOR_KEYS.iter() {
         expect_no_match(&rt, trie_of(rt.alloc(), units)?, units);
     }
     Ok(())
 }
 
-/// The text can be written, and leads to this value, with no key beyond it.
-fn expect_written(rt: &impl Abort, mut cursor: Char16TrieCursor<'_>, text: &str, want: i32) {
+/// Whether the text can be written, the value that it leads to, and whether no key goes on beyond
+/// it.
+fn written(mut cursor: Char16TrieCursor<'_>, text: &str) -> (bool, Option<i32>, bool) {
     let written = cursor.write_str(text).is_ok();
-    let found = (written, cursor.value(), cursor.is_empty());
-    expect_same(rt, found, (true, Some(want), true), text);
-}
-
-#[test]
-fn texts_written_to_a_cursor(rt: HostRuntime) -> Result<(), Fail> {
-    let trie = trie_of(rt.alloc(), &[0x31, 0x61, 0x62, 0x8003])?;
-    expect_written(&rt, trie.cursor(), "ab", 3);
-    Ok(())
+    (written, cursor.value(), cursor.is_empty())
 }
 
 /// Whether no key goes on beyond the root, beyond a character that matches nothing, and beyond a
@@ -67,14 +63,6 @@ fn nowhere(units: ZeroSlice<'_, u16>) -> (bool, bool, bool, Option<i32>) {
     (at_root, beyond, cursor.is_empty(), cursor.value())
 }
 
-#[test]
-fn steps_to_nowhere(rt: HostRuntime) -> Result<(), Fail> {
-    let trie = trie_of(rt.alloc(), &[0x31, 0x61, 0x62, 0x8003])?;
-    let found = nowhere(trie.data.as_slice());
-    expect_same(&rt, found, (false, true, true, None), "x, then a");
-    Ok(())
-}
-
 /// Whether `b` can be written to a clone of a cursor after `a`, and the values of both.
 fn steps_of_a_clone(trie: &Char16Trie<'_>) -> Result<(bool, Option<i32>, Option<i32>), AllocError> {
     let mut first = trie.cursor();
@@ -85,24 +73,23 @@ fn steps_of_a_clone(trie: &Char16Trie<'_>) -> Result<(bool, Option<i32>, Option<
 }
 
 #[test]
-fn steps_of_a_cloned_cursor(rt: HostRuntime) -> Result<(), Fail> {
+fn steps_of_a_cursor(rt: HostRuntime) -> Result<(), Fail> {
     let trie = trie_of(rt.alloc(), &[0x31, 0x61, 0x62, 0x8003])?;
+    let found = written(trie.cursor(), "ab");
+    expect_same(&rt, found, (true, Some(3), true), "ab");
+    let found = nowhere(trie.data.as_slice());
+    expect_same(&rt, found, (false, true, true, None), "x, then a");
     let found = steps_of_a_clone(&trie).ok();
     expect_same(&rt, found, Some((true, None, Some(3))), "a, then b");
     Ok(())
 }
 
-/// The character can be written by a format, and leads to this value.
-fn expect_formatted(rt: &impl Abort, mut cursor: Char16TrieCursor<'_>, c: char, want: i32) {
-    let written = write!(&mut cursor, "{c}").is_ok();
-    expect(rt, written && cursor.value() == Some(want), "a format");
-}
-
-#[test]
-fn format_written_to_a_cursor(rt: HostRuntime) -> Result<(), Fail> {
-    let smile = trie_of(rt.alloc(), &[0x31, 0xD83D, 0xDE00, 0x8001])?;
-    expect_formatted(&rt, smile.cursor(), '\u{1f600}', 1);
-    Ok(())
+/// The value that a character leads to, where it can be written by a format.
+fn formatted(mut cursor: Char16TrieCursor<'_>, c: char) -> Option<i32> {
+    match write!(&mut cursor, "{c}") {
+        Ok(()) => cursor.value(),
+        Err(_) => None,
+    }
 }
 
 /// What the first unit of a character gives, then a wrong second one to a clone, and then the right
@@ -117,8 +104,10 @@ fn results_by_units(
 }
 
 #[test]
-fn steps_of_an_iterator(rt: HostRuntime) -> Result<(), Fail> {
+fn units_of_a_character(rt: HostRuntime) -> Result<(), Fail> {
     let smile = trie_of(rt.alloc(), &[0x31, 0xD83D, 0xDE00, 0x8001])?;
+    let found = formatted(smile.cursor(), '\u{1f600}');
+    expect_same(&rt, found, Some(1), "a format");
     let found = results_by_units(smile.data.as_slice()).ok();
     let want = (
         TrieResult::NoValue,

@@ -32,17 +32,16 @@ fn expect_fault(
     Ok(())
 }
 
+static TEXTS: [(&str, &[u16]); 4] = [
+    (r#"{"data":[49,97,98,32771]}"#, &[0x31, 0x61, 0x62, 0x8003]),
+    (r#"{"trie_data":[32775]}"#, &[0x8007]),
+    (r#"{"data":[],"other":1}"#, &[]),
+    (r#"{"data":[0,65535]}"#, &[0, 65535]),
+];
+
 #[test]
 fn json_texts(rt: HostRuntime) -> Result<(), Fail> {
-    for (text, units) in [
-        (
-            r#"{"data":[49,97,98,32771]}"#,
-            [0x31, 0x61, 0x62, 0x8003].as_slice(),
-        ),
-        (r#"{"trie_data":[32775]}"#, [0x8007].as_slice()),
-        (r#"{"data":[],"other":1}"#, [].as_slice()),
-        (r#"{"data":[0,65535]}"#, [0, 65535].as_slice()),
-    ] {
+    for (text, units) in TEXTS.iter() {
         expect_units(&rt, text, units)?;
     }
     Ok(())
@@ -56,30 +55,24 @@ fn written_to_json(rt: HostRuntime) -> Result<(), Fail> {
     Ok(())
 }
 
-#[test]
-fn json_texts_refused_by_their_shape(rt: HostRuntime) -> Result<(), Fail> {
-    for text in [
-        r#"{"data":[],"trie_data":[]}"#,
-        r#"{"data":[65536],"trie_data":1}"#,
-        r#"{"other":[]}"#,
-        r#"[1,2]"#,
-        r#"{"data":{"data":[]}}"#,
-    ] {
-        expect_fault(&rt, text, Char16JsonError::Shape)?;
-    }
-    Ok(())
-}
+static FAULTS: [(&str, Char16JsonError); 10] = [
+    (r#"{"data":[],"trie_data":[]}"#, Char16JsonError::Shape),
+    (r#"{"data":[65536],"trie_data":1}"#, Char16JsonError::Shape),
+    (r#"{"other":[]}"#, Char16JsonError::Shape),
+    (r#"[1,2]"#, Char16JsonError::Shape),
+    (r#"{"data":{"data":[]}}"#, Char16JsonError::Shape),
+    (r#"{"data":[1,65536]}"#, Char16JsonError::Number(1)),
+    (r#"{"data":[-1,65536]}"#, Char16JsonError::Number(0)),
+    (r#"{"data":[1,1.5]}"#, Char16JsonError::Number(1)),
+    (r#"{"data":["1"]}"#, Char16JsonError::Number(0)),
+    (r#"{"trie_data":[7,null]}"#, Char16JsonError::Number(1)),
+];
 
+/// Texts that are refused by their shape, or by a number.
 #[test]
-fn json_texts_refused_by_a_number(rt: HostRuntime) -> Result<(), Fail> {
-    for (text, item) in [
-        (r#"{"data":[1,65536]}"#, 1),
-        (r#"{"data":[-1,65536]}"#, 0),
-        (r#"{"data":[1,1.5]}"#, 1),
-        (r#"{"data":["1"]}"#, 0),
-        (r#"{"trie_data":[7,null]}"#, 1),
-    ] {
-        expect_fault(&rt, text, Char16JsonError::Number(item))?;
+fn refused_json_texts(rt: HostRuntime) -> Result<(), Fail> {
+    for (text, fault) in FAULTS.iter() {
+        expect_fault(&rt, text, *fault)?;
     }
     Ok(())
 }

@@ -68,20 +68,23 @@ fn expect_six(rt: &(impl Abort + Print), last: Result<Option<i32>, MemoryError>)
     }
 }
 
-/// After want of memory no item comes.
-///
-/// Calls: `Iter2::next`.
-#[test]
-fn iter2_refused(rt: HostRuntime) {
-    let Ok(trie) = trie_of(rt.alloc(), &SIX) else {
+/// The entries of these units end with the value 6, and after want of memory no item comes.
+fn ask_entries(rt: &(impl Abort + AllocGlobal + Print), units: &[u16]) {
+    let Ok(trie) = trie_of(rt.alloc(), units) else {
         return;
     };
     let mut entries = trie.iter2(rt.alloc());
-    say(&rt, "call");
+    say(rt, "call");
     let last = last_value(&mut entries);
-    say(&rt, "done");
-    expect_six(&rt, last);
-    expect(&rt, entries.next().is_none(), "no item");
+    say(rt, "done");
+    expect_six(rt, last);
+    expect(rt, entries.next().is_none(), "no item");
+}
+
+/// Calls: `Iter2::next`.
+#[test]
+fn iter2_refused(rt: HostRuntime) {
+    ask_entries(&rt, &SIX);
 }
 
 /// The same where a key ends with a lead surrogate, and another one has its trail too.
@@ -89,15 +92,7 @@ fn iter2_refused(rt: HostRuntime) {
 /// Calls: `Iter2::next`.
 #[test]
 fn iter2_of_surrogates_refused(rt: HostRuntime) {
-    let Ok(trie) = trie_of(rt.alloc(), &[0x30, 0xD83D, 0xB0, 0xDE00, 0x8006]) else {
-        return;
-    };
-    let mut entries = trie.iter2(rt.alloc());
-    say(&rt, "call");
-    let last = last_value(&mut entries);
-    say(&rt, "done");
-    expect_six(&rt, last);
-    expect(&rt, entries.next().is_none(), "no item");
+    ask_entries(&rt, &[0x30, 0xD83D, 0xB0, 0xDE00, 0x8006]);
 }
 
 /// A JSON value has the key of the units, or memory was refused.
@@ -161,7 +156,17 @@ fn look_ups_of(trie: &Char16Trie<'_>) -> (bool, Option<i32>, bool, TrieResult) {
     (written, cursor.value(), cursor.is_empty(), result)
 }
 
-/// Look-ups take no memory, and neither does an iterator that is not asked.
+/// The value of a clone of a cursor after one more character is written to it, and what a clone of
+/// an iterator tells of the character.
+fn look_up_by_clones(trie: &Char16Trie<'_>, c: char) -> Option<(Option<i32>, TrieResult)> {
+    let mut cursor = trie.cursor().clone().ok()?;
+    cursor.write_char(c).ok()?;
+    let mut iterator = trie.iter().clone().ok()?;
+    Some((cursor.value(), iterator.next(c)))
+}
+
+/// Look-ups take no memory, clones of what looks up take none, and neither does an iterator that is
+/// not asked.
 ///
 /// Calls: `Char16Trie::cursor`, `Char16Trie::iter`, `Char16Trie::iter2`,
 /// `Char16TrieCursor::write_str`, `Char16TrieCursor::value`, `Char16TrieCursor::is_empty`,
@@ -173,10 +178,13 @@ fn look_ups_quiet(rt: HostRuntime) {
     };
     say(&rt, "call");
     let found = look_ups_of(&trie);
+    let by_clones = look_up_by_clones(&trie, 'f');
     let entries = trie.iter2(rt.alloc());
     say(&rt, "done");
     let want = (true, Some(3), true, TrieResult::FinalValue(4));
     expect_same(&rt, found, want, "c and d");
+    let want = Some((Some(6), TrieResult::FinalValue(6)));
+    expect_same(&rt, by_clones, want, "f by clones");
     let _ = entries;
 }
 

@@ -1,34 +1,24 @@
 //! Printed texts of errors and of tries.
 use crate::tests::support::{expect_text, trie_of};
 use icu_char16trie::char16trie::Char16JsonError;
-use std::fmt::Display;
-use std::process::Abort;
 use std::test::Fail;
 
-/// An error is told so.
-fn expect_told<T: Display>(
-    rt: &(impl Abort + AllocGlobal),
-    told: &T,
-    want: &str,
-) -> Result<(), Fail> {
-    expect_text(rt, format!(in rt.alloc(); "{told}")?, want);
-    Ok(())
-}
+static ERRORS: [(Char16JsonError, &str); 3] = [
+    (
+        Char16JsonError::Shape,
+        "no object with one array `data` or `trie_data`",
+    ),
+    (
+        Char16JsonError::Number(3),
+        "item 3 is no whole number up to 65535",
+    ),
+    (Char16JsonError::Memory, "no memory"),
+];
 
 #[test]
 fn texts_of_errors(rt: HostRuntime) -> Result<(), Fail> {
-    for (error, want) in [
-        (
-            Char16JsonError::Shape,
-            "no object with one array `data` or `trie_data`",
-        ),
-        (
-            Char16JsonError::Number(3),
-            "item 3 is no whole number up to 65535",
-        ),
-        (Char16JsonError::Memory, "no memory"),
-    ] {
-        expect_told(&rt, &error, want)?;
+    for (error, want) in ERRORS.iter() {
+        expect_text(&rt, format!(in rt.alloc(); "{error}")?, want);
     }
     Ok(())
 }
