@@ -5,8 +5,9 @@ mod code_points;
 mod texts;
 
 use icu_invlist::codepointinvlist::{CodePointInversionList, SetError};
-use serde_json::Value;
 use std::alloc::Global;
+use std::fmt::Debug;
+use std::hash::{DefaultHasher, Hash, Hasher};
 use std::process::Abort;
 use std::test::Fail;
 
@@ -16,12 +17,14 @@ fn set_of(alloc: Global, ends: &[u32]) -> Result<CodePointInversionList<'static>
 }
 
 /// What is said holds.
-fn expect(rt: &impl Abort, holds: bool, what: &str) {
-    assert!(rt; holds, "{what}");
+fn expect(rt: &impl Abort, holds: bool, what: &'static str) {
+    if !holds {
+        rt.panic(what);
+    }
 }
 
-/// The number is the wanted one.
-fn expect_number(rt: &impl Abort, found: usize, want: usize, what: &str) {
+/// What was found is what is wanted.
+fn expect_same<T: Copy + Debug + PartialEq>(rt: &impl Abort, found: T, want: T, what: &str) {
     assert_eq!(rt; found, want, "{what}");
 }
 
@@ -46,20 +49,31 @@ fn expect_set(
     Ok(())
 }
 
-/// The value of a text, where there was memory for it; a call that may be refused follows at once.
-fn json_for_call(rt: &(impl AllocGlobal + Print), text: &str) -> Result<Option<Value>, Fail> {
-    let Ok(value) = Value::from_str(rt.alloc(), text) else {
-        return Ok(None);
-    };
-    println!(rt; "call")?;
-    Ok(Some(value))
+/// The set has these ends, where there is memory to list them.
+fn expect_listed(rt: &(impl Abort + AllocGlobal), set: CodePointInversionList<'_>, want: &[u32]) {
+    if let Ok(ends) = set.get_inversion_list_vec(rt.alloc()) {
+        expect_ends(rt, ends, want);
+    }
+}
+
+/// The hash of a value by the standard hasher.
+fn hash_of<T: Hash>(x: &T) -> u64 {
+    let mut state = DefaultHasher::new();
+    x.hash(&mut state);
+    state.finish()
+}
+
+/// Prints the line.
+fn say(rt: &(impl Abort + Print), line: &str) {
+    if rt.println(line).is_err() {
+        rt.panic("nothing can be printed");
+    }
 }
 
 /// Says that a call is over, and whether it was refused.
-fn tell(rt: &impl Print, refused: bool) -> Result<(), Fail> {
-    println!(rt; "done")?;
+fn tell(rt: &(impl Abort + Print), refused: bool) {
+    say(rt, "done");
     if refused {
-        println!(rt; "refused")?;
+        say(rt, "refused");
     }
-    Ok(())
 }

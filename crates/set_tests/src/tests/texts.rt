@@ -22,10 +22,19 @@ fn strings_of(alloc: Global, texts: &[&str]) -> Result<Vec<String>, MemoryError>
     Ok(strings)
 }
 
+/// The set of these code points and texts.
+fn set_of_both(
+    alloc: Global,
+    points: CodePointInversionList<'static>,
+    texts: &[&str],
+) -> Option<CodePointInversionListAndStringList<'static>> {
+    let strings = strings_of(alloc, texts).ok()?;
+    CodePointInversionListAndStringList::try_from(points, strings).ok()
+}
+
 /// The set of all code points and "ab", where there is memory for it.
 fn all_and_ab(alloc: Global) -> Option<CodePointInversionListAndStringList<'static>> {
-    let strings = strings_of(alloc, &["ab"]).ok()?;
-    CodePointInversionListAndStringList::try_from(CodePointInversionList::all(), strings).ok()
+    set_of_both(alloc, CodePointInversionList::all(), &["ab"])
 }
 
 /// What is printed of a refusal.
@@ -34,10 +43,9 @@ fn expect_said<E: Display + Drop>(
     refusal: Option<E>,
     want: &str,
 ) -> Result<(), Fail> {
-    let Some(error) = refusal else {
-        panic!(rt; "taken, and not refused with: {want}");
-    };
-    let said = error.to_string(rt.alloc())?;
-    expect_text(rt, said, want);
+    let text = refusal
+        .ok_or("taken, and not refused")?
+        .to_string(rt.alloc())?;
+    expect_text(rt, text, want);
     Ok(())
 }

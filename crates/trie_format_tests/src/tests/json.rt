@@ -1,5 +1,5 @@
 //! Tries in JSON: faults, the way there and back, texts, and refused memory.
-use super::support::{expect_answers, expect_text, joined, say};
+use super::support::{expect, expect_answers, expect_same, expect_told, joined, say};
 use icu_trie::cptrie::CodePointTrie;
 use icu_trie::error::CodePointTrieError;
 use icu_trie_formats::json::{TrieJsonError, from_json, to_json};
@@ -41,16 +41,6 @@ fn fault_of(alloc: Global, parts: &[&str]) -> Result<Option<TrieJsonError>, Fail
     Ok(from_json::<u8>(alloc, &value).err())
 }
 
-/// The fault is the wanted one.
-fn expect_fault(
-    rt: &impl Abort,
-    fault: Option<TrieJsonError>,
-    want: TrieJsonError,
-    parts: &[&str],
-) {
-    assert_eq!(rt; fault, Some(want), "of {parts:?}");
-}
-
 #[test]
 fn values_refused_by_their_header(rt: HostRuntime) -> Result<(), Fail> {
     let rows: [(&[&str], TrieJsonError); 8] = [
@@ -70,7 +60,7 @@ fn values_refused_by_their_header(rt: HostRuntime) -> Result<(), Fail> {
         (&[HEADER, "1}}"], TrieJsonError::Shape("trie_type")),
     ];
     for (parts, fault) in rows {
-        expect_fault(&rt, fault_of(rt.alloc(), parts)?, fault, parts);
+        expect_same(&rt, fault_of(rt.alloc(), parts)?, Some(fault), "the fault");
     }
     Ok(())
 }
@@ -97,7 +87,7 @@ fn values_refused_by_their_arrays(rt: HostRuntime) -> Result<(), Fail> {
         ),
     ];
     for (parts, fault) in rows {
-        expect_fault(&rt, fault_of(rt.alloc(), parts)?, fault, parts);
+        expect_same(&rt, fault_of(rt.alloc(), parts)?, Some(fault), "the fault");
     }
     Ok(())
 }
@@ -116,7 +106,7 @@ fn parts_of_no_trie(rt: HostRuntime) -> Result<(), Fail> {
     ];
     for (parts, fault) in rows {
         let found = fault_of(rt.alloc(), parts)?;
-        expect_fault(&rt, found, TrieJsonError::Trie(fault), parts);
+        expect_same(&rt, found, Some(TrieJsonError::Trie(fault)), "the fault");
     }
     Ok(())
 }
@@ -135,16 +125,11 @@ fn there_and_back_of(alloc: Global, value: &Value) -> Result<Value, Fail> {
     Ok(to_json(alloc, &trie)?)
 }
 
-/// Both values are one.
-fn expect_same_value(rt: &impl Abort, value: Value, other: Value) {
-    assert!(rt; value == other);
-}
-
 #[test]
 fn there_and_back(rt: HostRuntime) -> Result<(), Fail> {
     let value = value_of(rt.alloc(), &WHOLE).ok_or("no value")?;
     let written = there_and_back_of(rt.alloc(), &value)?;
-    expect_same_value(&rt, written, value);
+    expect(&rt, written == value, "the value");
     Ok(())
 }
 
@@ -154,14 +139,10 @@ fn planes_read_back(alloc: Global) -> Result<CodePointTrie<'static, u8>, Fail> {
     Ok(from_json(alloc, &written)?)
 }
 
-/// Both tries are one.
-fn expect_same_trie(rt: &impl Abort, trie: CodePointTrie<'_, u8>, other: CodePointTrie<'_, u8>) {
-    assert!(rt; trie == other);
-}
-
 #[test]
 fn planes_there_and_back(rt: HostRuntime) -> Result<(), Fail> {
-    expect_same_trie(&rt, planes_read_back(rt.alloc())?, get_planes_trie());
+    let trie = planes_read_back(rt.alloc())?;
+    expect(&rt, trie == get_planes_trie(), "the trie");
     Ok(())
 }
 
@@ -187,27 +168,17 @@ fn texts_of_errors(rt: HostRuntime) -> Result<(), Fail> {
         (TrieJsonError::Memory, "no memory"),
     ];
     for (error, want) in texts {
-        expect_text(&rt, format!(in rt.alloc(); "{error}")?, want);
+        expect_told(&rt, &error, want)?;
     }
     Ok(())
-}
-
-/// The value has data.
-fn expect_data(rt: &impl Abort, value: Value) {
-    assert!(rt; value.get("data").is_some());
 }
 
 /// The value has data, or the want of memory was told, which is said.
 fn expect_written(rt: &(impl Abort + Print), written: Result<Value, MemoryError>) {
     match written {
-        Ok(value) => expect_data(rt, value),
+        Ok(value) => expect(rt, value.get("data").is_some(), "data"),
         Err(MemoryError) => say(rt, "refused"),
     }
-}
-
-/// The trie is that of the planes.
-fn expect_planes(rt: &impl Abort, trie: CodePointTrie<'_, u8>) {
-    assert!(rt; trie == get_planes_trie());
 }
 
 /// Calls: `json::to_json`.
@@ -218,7 +189,7 @@ fn to_json_refused(rt: HostRuntime) {
     let written = to_json(rt.alloc(), &planes);
     say(&rt, "done");
     expect_written(&rt, written);
-    expect_planes(&rt, planes);
+    expect(&rt, planes == get_planes_trie(), "as it was");
 }
 
 /// The trie has its high value, or the want of memory was told, which is said.
@@ -226,7 +197,7 @@ fn expect_read(rt: &(impl Abort + Print), trie: Result<CodePointTrie<'_, u8>, Tr
     match trie {
         Ok(trie) => expect_answers(rt, trie, &[(0x1000, 7)]),
         Err(error) => {
-            expect_fault(rt, Some(error), TrieJsonError::Memory, &WHOLE);
+            expect_same(rt, error, TrieJsonError::Memory, "the fault");
             say(rt, "refused");
         }
     }
@@ -236,11 +207,6 @@ fn expect_read(rt: &(impl Abort + Print), trie: Result<CodePointTrie<'_, u8>, Tr
 fn two_values(alloc: Global) -> Option<(Value, Value)> {
     let value = value_of(alloc, &WHOLE)?;
     Some((value, value_of(alloc, &WHOLE)?))
-}
-
-/// The value is as it was copied.
-fn expect_unchanged(rt: &impl Abort, value: Value, copy: Value) {
-    assert!(rt; value == copy);
 }
 
 /// Calls: `json::from_json`.
@@ -253,5 +219,5 @@ fn from_json_refused(rt: HostRuntime) {
     let trie = from_json::<u8>(rt.alloc(), &value);
     say(&rt, "done");
     expect_read(&rt, trie);
-    expect_unchanged(&rt, value, copy);
+    expect(&rt, value == copy, "as it was");
 }

@@ -1,5 +1,5 @@
 //! The trie of the planes.
-use super::support::say;
+use super::support::{expect, expect_same, say};
 use icu_trie::cptrie::CodePointTrie;
 use icu_trie::error::CodePointTrieError;
 use icu_trie::ranges::CodePointMapRange;
@@ -8,30 +8,21 @@ use icu_zerovec::ZeroVec;
 use std::process::Abort;
 use std::test::Fail;
 
-/// The number that is answered is the wanted one.
-fn expect_number(rt: &impl Abort, found: u32, want: u32, c: u32) {
-    assert_eq!(rt; found, want, "at {c:x}");
-}
-
 #[test]
 fn each_code_point_has_its_plane(rt: HostRuntime) {
     let planes = get_planes_trie();
     for c in 0..0x11_0000_u32 {
-        expect_number(&rt, u32::from(planes.get32(c)), c >> 16, c);
+        expect(&rt, u32::from(planes.get32(c)) == c >> 16, "a plane");
     }
-    expect_number(&rt, u32::from(planes.get32(0x11_0000)), 0, 0x11_0000);
+    expect_same(&rt, planes.get32(0x11_0000), 0, "past the last plane");
 }
 
 /// The index takes 1168 cells of two bytes.
-fn expect_whole(rt: &impl Abort, bytes: usize) {
-    assert_eq!(rt; bytes, 2336);
-}
-
 #[test]
 fn bytes_of_the_index(rt: HostRuntime) {
     let planes = get_planes_trie();
     let (_, index, _) = planes.parts();
-    expect_whole(&rt, index.as_bytes().len());
+    expect_same(&rt, index.as_bytes().len(), 2336, "bytes");
 }
 
 /// The trie of the planes over the first cells of its index, so many.
@@ -47,39 +38,49 @@ fn trie_of_front<'a>(
 }
 
 /// The front has too few cells for the fast look-ups.
-fn expect_refused(rt: &impl Abort, fault: Option<CodePointTrieError>, len: usize) {
-    assert_eq!(rt;
-        fault,
-        Some(CodePointTrieError::IndexTooShortForFastAccess),
-        "{len} cells"
-    );
-}
-
 #[test]
 fn short_fronts_of_the_index(rt: HostRuntime) -> Result<(), Fail> {
     let planes = get_planes_trie();
+    let want = Some(CodePointTrieError::IndexTooShortForFastAccess);
     for len in 0..64_usize {
         let fault = trie_of_front(&planes, len)?.err();
-        expect_refused(&rt, fault, len);
+        expect_same(&rt, (len, fault), (len, want), "the fault of a front");
     }
     Ok(())
 }
 
-/// What a look-up can't find is answered by the error value, which is 0. The last plane is the high
-/// value's.
-fn expect_value(rt: &impl Abort, found: u8, c: u32, len: usize) {
-    let plane = c >> 16;
-    let whole = u32::from(found) == plane || (found == 0 && plane < 16);
-    assert!(rt; whole, "{found} at {c:x}, {len} cells");
-}
-
-/// Each plane's first code point and its last one have its number, or no answer.
-fn expect_planes(rt: &impl Abort, trie: CodePointTrie<'_, u8>, len: usize) {
+/// Each plane's first code point and its last one have its number, or no answer: what a look-up
+/// can't find is answered by the error value, which is 0. The last plane is the high value's.
+fn expect_planes(rt: &impl Abort, trie: &CodePointTrie<'_, u8>, len: usize) {
     for plane in 0..17_u32 {
         for c in [plane << 16, (plane << 16) + 0xFFFF] {
-            expect_value(rt, trie.get32(c), c, len);
+            let found = u32::from(trie.get32(c));
+            let want = if found == 0 && plane < 16 { 0 } else { plane };
+            expect_same(rt, (len, c, found), (len, c, want), "an answer");
         }
     }
+}
+
+/// The range starts at this code point, has one at least, and ends within the code points.
+fn follows(range: &CodePointMapRange<u8>, start: u32) -> bool {
+    let (first, last) = (*range.range.start(), *range.range.end());
+    first == start && first <= last && last < 0x11_0000
+}
+
+/// The ranges follow one another, and end. Of a coherent trie they end with the code points.
+fn expect_walked(rt: &impl Abort, trie: &CodePointTrie<'_, u8>, len: usize) {
+    let mut next = 0u32;
+    for range in trie.iter_ranges() {
+        expect_same(
+            rt,
+            (len, next, follows(&range, next)),
+            (len, next, true),
+            "a range",
+        );
+        next = range.range.end().saturating_add(1);
+    }
+    let is_whole = next == 0x11_0000 || !trie.is_coherent();
+    expect_same(rt, (len, is_whole), (len, true), "the last range");
 }
 
 #[test]
@@ -87,41 +88,10 @@ fn fronts_of_the_index(rt: HostRuntime) -> Result<(), Fail> {
     let planes = get_planes_trie();
     for len in 64..1169_usize {
         let trie = trie_of_front(&planes, len)??;
-        expect_planes(&rt, trie, len);
+        expect_planes(&rt, &trie, len);
+        expect_walked(&rt, &trie, len);
     }
     Ok(())
-}
-
-/// The range starts at this code point, has one at least, and ends within the code points.
-fn expect_range(rt: &impl Abort, range: &CodePointMapRange<u8>, start: u32) {
-    let ends = (*range.range.start(), *range.range.end());
-    let follows = ends.0 == start && ends.0 <= ends.1 && ends.1 < 0x11_0000;
-    assert!(rt; follows, "{ends:?} after {start:x}");
-}
-
-/// The ranges follow one another, and end. Of a coherent trie they end with the code points.
-fn expect_walked(rt: &impl Abort, trie: CodePointTrie<'_, u8>, len: usize) {
-    let mut next = 0u32;
-    for range in trie.iter_ranges() {
-        expect_range(rt, &range, next);
-        next = range.range.end().saturating_add(1);
-    }
-    assert!(rt; next == 0x11_0000 || !trie.is_coherent(), "{len} cells");
-}
-
-#[test]
-fn fronts_of_the_index_walked(rt: HostRuntime) -> Result<(), Fail> {
-    let planes = get_planes_trie();
-    for len in 64..1169_usize {
-        let trie = trie_of_front(&planes, len)??;
-        expect_walked(&rt, trie, len);
-    }
-    Ok(())
-}
-
-/// The trie is coherent, or isn't, as wanted.
-fn expect_coherent(rt: &impl Abort, trie: CodePointTrie<'_, u8>, want: bool, len: usize) {
-    assert_eq!(rt; trie.is_coherent(), want, "{len} cells");
 }
 
 /// The trie of the planes is coherent, and isn't over a front of its index.
@@ -130,7 +100,7 @@ fn coherence_of_fronts(rt: HostRuntime) -> Result<(), Fail> {
     let planes = get_planes_trie();
     for (len, want) in [(64, false), (1000, false), (1167, false), (1168, true)] {
         let trie = trie_of_front(&planes, len)??;
-        expect_coherent(&rt, trie, want, len);
+        expect_same(&rt, (len, trie.is_coherent()), (len, want), "coherence");
     }
     Ok(())
 }
@@ -142,5 +112,5 @@ fn planes_quiet(rt: HostRuntime) {
     let planes = get_planes_trie();
     let found = planes.get32(0x1_F600);
     say(&rt, "done");
-    expect_number(&rt, u32::from(found), 1, 0x1_F600);
+    expect_same(&rt, found, 1, "the plane");
 }

@@ -1,7 +1,9 @@
 //! What the tests of both forms share.
 use icu_trie::cptrie::CodePointTrie;
 use std::alloc::Global;
+use std::fmt::{Debug, Display};
 use std::process::Abort;
+use std::test::Fail;
 
 /// The text that the parts make, `None` where memory was refused.
 pub fn joined(alloc: Global, parts: &[&str]) -> Option<String> {
@@ -12,20 +14,39 @@ pub fn joined(alloc: Global, parts: &[&str]) -> Option<String> {
     Some(text)
 }
 
-/// The text is the wanted one.
-pub fn expect_text(rt: &impl Abort, text: String, want: &str) {
-    assert_eq!(rt; text.as_str(), want);
+/// What is said holds.
+pub fn expect(rt: &impl Abort, holds: bool, what: &'static str) {
+    if !holds {
+        rt.panic(what);
+    }
+}
+
+/// What was found is what is wanted.
+pub fn expect_same<T: Copy + Debug + PartialEq>(rt: &impl Abort, found: T, want: T, what: &str) {
+    assert_eq!(rt; found, want, "{what}");
+}
+
+/// The error is told so.
+pub fn expect_told<E: Display>(
+    rt: &(impl Abort + AllocGlobal),
+    error: &E,
+    want: &str,
+) -> Result<(), Fail> {
+    let text = error.to_string(rt.alloc())?;
+    expect_same(rt, text.as_str(), want, "the text");
+    Ok(())
 }
 
 /// The trie answers each number with its value.
 pub fn expect_answers(rt: &impl Abort, trie: CodePointTrie<'_, u8>, answers: &[(u32, u8)]) {
     for (c, want) in answers {
-        assert_eq!(rt; trie.get32(*c), *want, "at {c:x}");
+        expect_same(rt, (*c, trie.get32(*c)), (*c, *want), "an answer");
     }
 }
 
 /// Prints the line.
 pub fn say(rt: &(impl Abort + Print), line: &str) {
-    let printed = println!(rt; "{line}");
-    assert!(rt; printed.is_ok());
+    if rt.println(line).is_err() {
+        rt.panic("nothing can be printed");
+    }
 }

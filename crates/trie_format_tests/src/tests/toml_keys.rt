@@ -1,10 +1,9 @@
 //! Tries in TOML, key by key: each number that is missing or out of its range is named, and what
 //! the type's number says.
-use super::support::joined;
+use super::support::{expect_same, joined};
 use icu_trie::header::{CodePointTrieHeader, TrieType};
 use icu_trie_formats::trie_toml::{CodePointTrieToml, TomlError};
 use std::alloc::Global;
-use std::process::Abort;
 use std::test::Fail;
 
 /// No cell, which is enough where a number is refused.
@@ -58,31 +57,17 @@ fn read_with(
     Ok(CodePointTrieToml::from_table(alloc, &table))
 }
 
-/// The table is refused with this fault.
-fn expect_fault(rt: &impl Abort, read: Result<CodePointTrieToml, TomlError>, want: TomlError) {
-    let found = read.err();
-    assert_eq!(rt; found, Some(want));
-}
-
 #[test]
-fn numbers_that_are_missing(rt: HostRuntime) -> Result<(), Fail> {
+fn numbers_that_are_missing_or_too_large(rt: HostRuntime) -> Result<(), Fail> {
     for (i, number) in NUMBERS.iter().enumerate() {
-        expect_fault(
+        let fault = read_with(rt.alloc(), i, "")?.err();
+        expect_same(&rt, fault, Some(TomlError::Missing(number.0)), "missing");
+        let fault = read_with(rt.alloc(), i, number.2)?.err();
+        expect_same(
             &rt,
-            read_with(rt.alloc(), i, "")?,
-            TomlError::Missing(number.0),
-        );
-    }
-    Ok(())
-}
-
-#[test]
-fn numbers_that_are_too_large(rt: HostRuntime) -> Result<(), Fail> {
-    for (i, number) in NUMBERS.iter().enumerate() {
-        expect_fault(
-            &rt,
-            read_with(rt.alloc(), i, number.2)?,
-            TomlError::OutOfRange(number.0),
+            fault,
+            Some(TomlError::OutOfRange(number.0)),
+            "too large",
         );
     }
     Ok(())
@@ -106,11 +91,6 @@ fn greatest_numbers(rt: HostRuntime) -> Result<(), Fail> {
         trie_type: TrieType::Fast,
     };
     let found = header_in(read_with(rt.alloc(), 7, "")?);
-    expect_header(&rt, found, want);
+    expect_same(&rt, found, Some(want), "the header");
     Ok(())
-}
-
-/// The header is the wanted one.
-fn expect_header(rt: &impl Abort, found: Option<CodePointTrieHeader>, want: CodePointTrieHeader) {
-    assert_eq!(rt; found, Some(want));
 }

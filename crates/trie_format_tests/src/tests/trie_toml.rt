@@ -1,5 +1,5 @@
 //! Tries in TOML: faults, the data that count, texts, and refused memory.
-use super::support::{expect_answers, expect_text, joined, say};
+use super::support::{expect, expect_answers, expect_same, expect_told, joined, say};
 use icu_trie::cptrie::CodePointTrie;
 use icu_trie::error::CodePointTrieError;
 use icu_trie::header::{CodePointTrieHeader, TrieType};
@@ -50,30 +50,18 @@ fn read_of(alloc: Global, parts: &[&str]) -> Result<CodePointTrieToml, Fail> {
     Ok(CodePointTrieToml::from_table(alloc, &table)?)
 }
 
-/// The table has an index of 64 cells.
-fn expect_index(rt: &impl Abort, read: CodePointTrieToml) {
-    assert_eq!(rt; read.index_slice().len(), 64);
-}
-
 #[test]
-fn an_index_is_read(rt: HostRuntime) -> Result<(), Fail> {
-    expect_index(&rt, read_of(rt.alloc(), &NAMED)?);
+fn a_table_is_read(rt: HostRuntime) -> Result<(), Fail> {
+    let read = read_of(rt.alloc(), &NAMED)?;
+    expect_same(&rt, read.index_slice().len(), 64, "cells of the index");
+    let trie = CodePointTrie::<u8>::try_from(&read)?;
+    expect_answers(&rt, trie, &[(0x41, 5), (0x1000, 7), (0x11_0000, 9)]);
     Ok(())
-}
-
-/// The header that the table has.
-fn header_in(read: CodePointTrieToml) -> Result<CodePointTrieHeader, CodePointTrieError> {
-    CodePointTrieHeader::try_from(&read)
-}
-
-/// The header is the wanted one.
-fn expect_header(rt: &impl Abort, header: CodePointTrieHeader, want: CodePointTrieHeader) {
-    assert_eq!(rt; header, want);
 }
 
 #[test]
 fn a_header_is_read(rt: HostRuntime) -> Result<(), Fail> {
-    let header = header_in(read_of(rt.alloc(), &NAMED)?)?;
+    let header = CodePointTrieHeader::try_from(&read_of(rt.alloc(), &NAMED)?)?;
     let want = CodePointTrieHeader {
         high_start: 4096,
         shifted12_high_start: 1,
@@ -82,15 +70,7 @@ fn a_header_is_read(rt: HostRuntime) -> Result<(), Fail> {
         null_value: 5,
         trie_type: TrieType::Small,
     };
-    expect_header(&rt, header, want);
-    Ok(())
-}
-
-#[test]
-fn a_table_is_read(rt: HostRuntime) -> Result<(), Fail> {
-    let read = read_of(rt.alloc(), &NAMED)?;
-    let trie = CodePointTrie::<u8>::try_from(&read)?;
-    expect_answers(&rt, trie, &[(0x41, 5), (0x1000, 7), (0x11_0000, 9)]);
+    expect_same(&rt, header, want, "the header");
     Ok(())
 }
 
@@ -102,29 +82,20 @@ fn first_byte_in(read: CodePointTrieToml) -> Option<u8> {
     }
 }
 
-/// There is such a cell, and it is the wanted one.
-fn expect_first(rt: &impl Abort, first: Option<u8>, want: u8) {
-    assert_eq!(rt; first, Some(want));
-}
-
 #[test]
 fn first_array_of_data_counts(rt: HostRuntime) -> Result<(), Fail> {
     let data = "type = 1\ndata_32 = [1]\ndata_16 = [2]\ndata_8 = [3]";
     let read = read_of(rt.alloc(), &[INDEX, FIELDS, data])?;
-    expect_first(&rt, first_byte_in(read), 3);
+    expect_same(&rt, first_byte_in(read), Some(3), "the first cell");
     Ok(())
-}
-
-/// The trie answers 5 for the letter.
-fn expect_five(rt: &impl Abort, trie: CodePointTrie<'_, u32>) {
-    assert_eq!(rt; trie.get('A'), 5);
 }
 
 #[test]
 fn first_array_of_data_makes_the_trie(rt: HostRuntime) -> Result<(), Fail> {
     let data = "type = 1\ndata_16 = [1, 65535]\ndata_8";
     let read = read_of(rt.alloc(), &[INDEX, FIELDS, data, CELLS])?;
-    expect_five(&rt, CodePointTrie::<u32>::try_from(&read)?);
+    let found = CodePointTrie::<u32>::try_from(&read)?.get('A');
+    expect_same(&rt, found, 5, "the value of the letter");
     Ok(())
 }
 
@@ -132,11 +103,6 @@ fn first_array_of_data_makes_the_trie(rt: HostRuntime) -> Result<(), Fail> {
 fn fault_of(alloc: Global, parts: &[&str]) -> Result<Option<TomlError>, Fail> {
     let table = table_of(alloc, parts).ok_or("no table")?;
     Ok(CodePointTrieToml::from_table(alloc, &table).err())
-}
-
-/// The fault is the wanted one.
-fn expect_fault(rt: &impl Abort, fault: Option<TomlError>, want: TomlError, parts: &[&str]) {
-    assert_eq!(rt; fault, Some(want), "of {parts:?}");
 }
 
 #[test]
@@ -175,7 +141,7 @@ fn tables_with_a_first_fault(rt: HostRuntime) -> Result<(), Fail> {
         ),
     ];
     for (parts, fault) in rows {
-        expect_fault(&rt, fault_of(rt.alloc(), parts)?, fault, parts);
+        expect_same(&rt, fault_of(rt.alloc(), parts)?, Some(fault), "the fault");
     }
     Ok(())
 }
@@ -186,85 +152,71 @@ fn trie_fault_of(alloc: Global, parts: &[&str]) -> Result<Option<TrieFromTomlErr
     Ok(CodePointTrie::<u8>::try_from(&read).err())
 }
 
-/// The fault of the trie is the wanted one.
-fn expect_trie_fault(
-    rt: &impl Abort,
-    fault: Option<TrieFromTomlError>,
-    want: TrieFromTomlError,
-    parts: &[&str],
-) {
-    assert_eq!(rt; fault, Some(want), "of {parts:?}");
-}
-
 #[test]
 fn tables_of_no_trie(rt: HostRuntime) -> Result<(), Fail> {
-    let rows: [(&[&str], &'static str); 3] = [
+    let rows: [(&[&str], CodePointTrieError); 4] = [
         (
             &[INDEX, FIELDS, "type = 2\n"],
-            "Cannot parse value for trie_type",
+            CodePointTrieError::FromDeserialized {
+                reason: "Cannot parse value for trie_type",
+            },
         ),
         (
             &[INDEX, FIELDS, "type = 1\n"],
-            "Did not find data array for CodePointTrie in TOML",
+            CodePointTrieError::FromDeserialized {
+                reason: "Did not find data array for CodePointTrie in TOML",
+            },
         ),
         (
             &[INDEX, FIELDS, "type = 1\ndata_16 = [300]\n"],
-            "Could not parse data array to typed array",
+            CodePointTrieError::FromDeserialized {
+                reason: "Could not parse data array to typed array",
+            },
+        ),
+        (
+            &["index = []\n", FIELDS, "type = 1\ndata_16 = [5]\n"],
+            CodePointTrieError::IndexTooShortForFastAccess,
         ),
     ];
-    for (parts, reason) in rows {
-        let error = TrieFromTomlError::Trie(CodePointTrieError::FromDeserialized { reason });
-        expect_trie_fault(&rt, trie_fault_of(rt.alloc(), parts)?, error, parts);
+    for (parts, fault) in rows {
+        let found = trie_fault_of(rt.alloc(), parts)?;
+        expect_same(
+            &rt,
+            found,
+            Some(TrieFromTomlError::Trie(fault)),
+            "the fault",
+        );
     }
-    Ok(())
-}
-
-#[test]
-fn a_table_with_no_index(rt: HostRuntime) -> Result<(), Fail> {
-    let parts = ["index = []\n", FIELDS, "type = 1\ndata_16 = [5]\n"];
-    let fault = trie_fault_of(rt.alloc(), &parts)?;
-    let error = TrieFromTomlError::Trie(CodePointTrieError::IndexTooShortForFastAccess);
-    expect_trie_fault(&rt, fault, error, &parts);
     Ok(())
 }
 
 #[test]
 fn texts_of_errors(rt: HostRuntime) -> Result<(), Fail> {
-    let texts = [
-        (TomlError::Missing("index"), "no value at the key `index`"),
-        (
-            TomlError::OutOfRange("type"),
-            "the value at the key `type` is of another kind or out of its range",
-        ),
-        (TomlError::Memory, "no memory"),
-    ];
-    for (error, want) in texts {
-        expect_text(&rt, format!(in rt.alloc(); "{error}")?, want);
-    }
-    Ok(())
-}
-
-#[test]
-fn texts_of_errors_of_a_trie(rt: HostRuntime) -> Result<(), Fail> {
-    let texts = [
-        (TrieFromTomlError::Memory, "no memory"),
-        (
-            TrieFromTomlError::Trie(CodePointTrieError::InvalidNullValue),
-            "The null value is not a valid `T`",
-        ),
-    ];
-    for (error, want) in texts {
-        expect_text(&rt, format!(in rt.alloc(); "{error}")?, want);
-    }
-    Ok(())
+    expect_told(
+        &rt,
+        &TomlError::Missing("index"),
+        "no value at the key `index`",
+    )?;
+    expect_told(
+        &rt,
+        &TomlError::OutOfRange("type"),
+        "the value at the key `type` is of another kind or out of its range",
+    )?;
+    expect_told(&rt, &TomlError::Memory, "no memory")?;
+    expect_told(&rt, &TrieFromTomlError::Memory, "no memory")?;
+    expect_told(
+        &rt,
+        &TrieFromTomlError::Trie(CodePointTrieError::InvalidNullValue),
+        "The null value is not a valid `T`",
+    )
 }
 
 /// The table was read, or the want of memory was told, which is said.
 fn expect_read(rt: &(impl Abort + Print), read: Result<CodePointTrieToml, TomlError>) {
     match read {
-        Ok(read) => expect_index(rt, read),
+        Ok(read) => expect_same(rt, read.index_slice().len(), 64, "cells of the index"),
         Err(error) => {
-            expect_fault(rt, Some(error), TomlError::Memory, &WHOLE);
+            expect_same(rt, error, TomlError::Memory, "the fault");
             say(rt, "refused");
         }
     }
@@ -274,11 +226,6 @@ fn expect_read(rt: &(impl Abort + Print), read: Result<CodePointTrieToml, TomlEr
 fn two_tables(alloc: Global) -> Option<(Table, Table)> {
     let table = table_of(alloc, &WHOLE)?;
     Some((table, table_of(alloc, &WHOLE)?))
-}
-
-/// The table is as it was copied.
-fn expect_unchanged(rt: &impl Abort, table: Table, copy: Table) {
-    assert!(rt; table == copy);
 }
 
 /// Calls: `CodePointTrieToml::from_table`.
@@ -291,7 +238,7 @@ fn from_table_refused(rt: HostRuntime) {
     let read = CodePointTrieToml::from_table(rt.alloc(), &table);
     say(&rt, "done");
     expect_read(&rt, read);
-    expect_unchanged(&rt, table, copy);
+    expect(&rt, table == copy, "as it was");
 }
 
 /// The trie has its high value, or the want of memory was told, which is said.
@@ -299,7 +246,7 @@ fn expect_trie(rt: &(impl Abort + Print), trie: Result<CodePointTrie<'_, u8>, Tr
     match trie {
         Ok(trie) => expect_answers(rt, trie, &[(0x1000, 7)]),
         Err(error) => {
-            expect_trie_fault(rt, Some(error), TrieFromTomlError::Memory, &WHOLE);
+            expect_same(rt, error, TrieFromTomlError::Memory, "the fault");
             say(rt, "refused");
         }
     }
@@ -321,7 +268,7 @@ fn trie_from_toml_refused(rt: HostRuntime) {
     let trie = CodePointTrie::<u8>::try_from(&read);
     say(&rt, "done");
     expect_trie(&rt, trie);
-    expect_parts(&rt, parts_of(&read));
+    expect_same(&rt, parts_of(&read), PARTS, "as it was");
 }
 
 /// How many cells the table has, whether the data are bytes, and its header's number of the first
@@ -336,15 +283,8 @@ fn parts_of(read: &CodePointTrieToml) -> (usize, bool, Option<u32>) {
     )
 }
 
-/// The parts are the wanted ones.
-fn expect_parts(rt: &impl Abort, found: (usize, bool, Option<u32>)) {
-    assert_eq!(rt; found, (64, true, Some(0x1000)));
-}
-
-/// The type is the wanted one.
-fn expect_type(rt: &impl Abort, found: Option<TrieType>, want: TrieType) {
-    assert_eq!(rt; found, Some(want));
-}
+/// What they are in the table of a trie.
+const PARTS: (usize, bool, Option<u32>) = (64, true, Some(0x1000));
 
 /// Calls: `CodePointTrieToml::index_slice`, `CodePointTrieToml::data_slice`,
 /// `CodePointTrieHeader::try_from`, `TrieType::try_from`.
@@ -357,6 +297,6 @@ fn parts_quiet(rt: HostRuntime) {
     let found = parts_of(&read);
     let fast = TrieType::try_from(0);
     say(&rt, "done");
-    expect_parts(&rt, found);
-    expect_type(&rt, fast.ok(), TrieType::Fast);
+    expect_same(&rt, found, PARTS, "the parts");
+    expect_same(&rt, fast.ok(), Some(TrieType::Fast), "the type");
 }

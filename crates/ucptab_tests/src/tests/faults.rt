@@ -40,26 +40,21 @@ fn expect_shown(
 }
 
 #[test]
-fn faults_show_their_lines(rt: HostRuntime) -> Result<(), Fail> {
+fn faults_are_shown(rt: HostRuntime) -> Result<(), Fail> {
     let faults = [
-        (1, RowFault::NotARow, "line 1: not a row"),
-        (20, RowFault::CodePoint, "line 20: code point too large"),
+        (TableError::Row(1, RowFault::NotARow), "line 1: not a row"),
         (
-            u64::MAX,
-            RowFault::Reversed,
+            TableError::Row(20, RowFault::CodePoint),
+            "line 20: code point too large",
+        ),
+        (
+            TableError::Row(u64::MAX, RowFault::Reversed),
             "line 18446744073709551615: range reversed",
         ),
-        (7, RowFault::Value, "line 7: value too large"),
-    ];
-    for (number, fault, want) in faults {
-        expect_shown(&rt, TableError::Row(number, fault), want)?;
-    }
-    Ok(())
-}
-
-#[test]
-fn other_faults_are_shown(rt: HostRuntime) -> Result<(), Fail> {
-    let faults = [
+        (
+            TableError::Row(7, RowFault::Value),
+            "line 7: value too large",
+        ),
         (TableError::TooLarge, "too large"),
         (TableError::Memory, "no memory"),
         (TableError::Read, "read fault"),

@@ -1,15 +1,10 @@
 //! Runs whose requests of memory the script `tests/refused_memory` refuses in turn.
 use super::support::{
-    Ending, Run, Told, USAGE, answer, expect_bytes, expect_status, sound, spoken, usage, words_of,
+    Ending, Run, Told, USAGE, answer, expect_bytes, expect_same, expect_status, say, sound, spoken,
+    usage, words_of,
 };
 use std::process::Abort;
 use ucptab_table::fault::TableError;
-
-/// Prints the line.
-fn say(rt: &(impl Abort + Print), line: &str) {
-    let printed = println!(rt; "{line}");
-    assert!(rt; printed.is_ok());
-}
 
 /// The run printed these bytes, or it said that memory was refused, by its line alone and its
 /// status.
@@ -52,19 +47,14 @@ fn run_words_refused(rt: HostRuntime) {
     expect_spoken(&rt, "fast 0 9 41 10000", b"0041;1\n10000;2\n", lines);
 }
 
-/// The fault is that of no memory.
-fn expect_no_memory(rt: &(impl Abort + Print), fault: TableError) {
-    assert_eq!(rt; fault, TableError::Memory);
-    say(rt, "refused");
-}
-
 /// The engine wrote these bytes, or it said that memory was refused and wrote none.
 fn expect_written(rt: &(impl Abort + Print), answer: Told, bytes: &[u8], run: Run<'_>) {
     match answer.fault {
         None => expect_bytes(rt, answer.bytes, bytes, run),
         Some(fault) => {
             expect_bytes(rt, answer.bytes, b"", run);
-            expect_no_memory(rt, fault);
+            expect_same(rt, fault, TableError::Memory, "the fault");
+            say(rt, "refused");
         }
     }
 }

@@ -13,7 +13,7 @@ fn expect_row(rt: &(impl Abort + AllocGlobal), line: &str, want: &str) -> Result
 }
 
 #[test]
-fn rows_with_a_write(rt: HostRuntime) -> Result<(), Fail> {
+fn rows_and_lines_without_one(rt: HostRuntime) -> Result<(), Fail> {
     let rows = [
         ("0041;1", "Ok(Some(One(65, 1)))"),
         ("\t 41 ;\t7 ", "Ok(Some(One(65, 7)))"),
@@ -26,17 +26,17 @@ fn rows_with_a_write(rt: HostRuntime) -> Result<(), Fail> {
             "0010FFFF;0000000012 # a comment; with #",
             "Ok(Some(One(1114111, 12)))",
         ),
+        ("", "Ok(None)"),
+        (" \t", "Ok(None)"),
+        ("  # 0041;1", "Ok(None)"),
+        ("FFFFFFFF;9999999999", "Err(CodePoint)"),
+        ("110000..0;1", "Err(CodePoint)"),
+        ("0..110000;1", "Err(CodePoint)"),
+        ("5A..41;9999999999", "Err(Reversed)"),
+        ("41;4294967296", "Err(Value)"),
     ];
     for (line, want) in rows {
         expect_row(&rt, line, want)?;
-    }
-    Ok(())
-}
-
-#[test]
-fn lines_without_a_row(rt: HostRuntime) -> Result<(), Fail> {
-    for line in ["", " \t", "  # 0041;1"] {
-        expect_row(&rt, line, "Ok(None)")?;
     }
     Ok(())
 }
@@ -67,21 +67,6 @@ fn lines_of_no_row(rt: HostRuntime) -> Result<(), Fail> {
     ];
     for line in lines {
         expect_row(&rt, line, "Err(NotARow)")?;
-    }
-    Ok(())
-}
-
-#[test]
-fn rows_with_a_wrong_number(rt: HostRuntime) -> Result<(), Fail> {
-    let rows = [
-        ("FFFFFFFF;9999999999", "Err(CodePoint)"),
-        ("110000..0;1", "Err(CodePoint)"),
-        ("0..110000;1", "Err(CodePoint)"),
-        ("5A..41;9999999999", "Err(Reversed)"),
-        ("41;4294967296", "Err(Value)"),
-    ];
-    for (line, want) in rows {
-        expect_row(&rt, line, want)?;
     }
     Ok(())
 }

@@ -4,20 +4,29 @@ use std::process::Abort;
 use std::test::Fail;
 
 #[test]
-fn lines_are_printed(rt: HostRuntime) -> Result<(), Fail> {
-    let words = "fast 4294967295 9 41 0 00000041 fffe 10ffff 110000 FfFfFfFf 1f600";
-    let lines =
-        b"0041;1\n0000;4294967295\n0041;1\nFFFE;4294967295\n10FFFF;4294967295\n110000;9\nFFFFFFFF;9\n1F600;4294967295\n";
-    expect_run(&rt, sound(words, b"0041;1\n"), 0, lines)
-}
-
-#[test]
 fn asked_numbers_are_answered(rt: HostRuntime) -> Result<(), Fail> {
-    let line = "fast 0 9 0041 005B 110000";
-    let answers = b"0041;1\n005B;0\n110000;9\n";
-    expect_run(&rt, sound(line, b"0041..005A;1"), 0, answers)?;
-    let table = b" 1F600 ; 7 # face\n\n";
-    expect_run(&rt, sound("small 0 9 1f600", table), 0, b"1F600;7\n")
+    let runs: [(&str, &[u8], &[u8]); 4] = [
+        (
+            "fast 4294967295 9 41 0 00000041 fffe 10ffff 110000 FfFfFfFf 1f600",
+            b"0041;1\n",
+            b"0041;1\n0000;4294967295\n0041;1\nFFFE;4294967295\n10FFFF;4294967295\n110000;9\nFFFFFFFF;9\n1F600;4294967295\n",
+        ),
+        (
+            "fast 0 9 0041 005B 110000",
+            b"0041..005A;1",
+            b"0041;1\n005B;0\n110000;9\n",
+        ),
+        ("small 0 9 1f600", b" 1F600 ; 7 # face\n\n", b"1F600;7\n"),
+        (
+            "small 0000000007 4294967295 0 FFFFFFFF",
+            b"",
+            b"0000;7\nFFFFFFFF;4294967295\n",
+        ),
+    ];
+    for (words, table, lines) in runs {
+        expect_run(&rt, sound(words, table), 0, lines)?;
+    }
+    Ok(())
 }
 
 #[test]
@@ -82,7 +91,7 @@ const CATEGORIES: &[u8] =
 
 /// A trie of either type over the categories prints these lines where these words are asked.
 fn expect_categories(
-    rt: &(impl Abort + AllocGlobal),
+    rt: &(impl Abort + AllocGlobal + Print),
     asked: &str,
     lines: &[u8],
 ) -> Result<(), Fail> {
@@ -93,18 +102,14 @@ fn expect_categories(
     Ok(())
 }
 
+/// An excerpt of a real table, asked at numbers and as ranges: what no row names has the default,
+/// and touching rows of one value are one range.
 #[test]
 fn general_categories(rt: HostRuntime) -> Result<(), Fail> {
     let asked = " 41 1F600 10FFFF 5B A014 A015 DFFF AD 20 1F 1F6D8 110000";
     let answers =
         b"0041;10\n1F600;27\n10FFFF;3\n005B;255\nA014;8\nA015;255\nDFFF;5\n00AD;2\n0020;30\n001F;1\n1F6D8;255\n110000;254\n";
-    expect_categories(&rt, asked, answers)
-}
-
-/// An excerpt of a real table, as ranges: what no row names has the default, and touching rows of
-/// one value are one range.
-#[test]
-fn ranges_of_general_categories(rt: HostRuntime) -> Result<(), Fail> {
+    expect_categories(&rt, asked, answers)?;
     let ranges =
         b"0000..001F;1\n0020;30\n0021..002F;255\n0030..0039;14\n003A..0040;255\n0041..005A;10\n005B..0060;255\n0061..007A;6\n007B..00AC;255\n00AD;2\n00AE..4DFF;255\n4E00..A014;8\nA015..D7FF;255\nD800..DFFF;5\nE000..1F3FF;255\n1F400..1F6D7;27\n1F6D8..10FFFD;255\n10FFFE..10FFFF;3\n";
     expect_categories(&rt, "", ranges)

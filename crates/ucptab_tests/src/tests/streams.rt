@@ -1,5 +1,7 @@
 //! Streams that fail.
-use super::support::{Run, Told, answer, expect_bytes, expect_run, expect_status, outcome, sound};
+use super::support::{
+    Run, Told, answer, expect_bytes, expect_run, expect_same, expect_status, outcome, sound,
+};
 use std::process::Abort;
 use std::test::Fail;
 use ucptab_table::fault::TableError;
@@ -31,11 +33,11 @@ fn a_failing_write_is_told(rt: HostRuntime) -> Result<(), Fail> {
 
 /// The run has this status, whatever it printed.
 fn expect_only_status(
-    rt: &(impl Abort + AllocGlobal),
+    rt: &(impl Abort + AllocGlobal + Print),
     run: Run<'_>,
     status: u8,
 ) -> Result<(), Fail> {
-    let end = outcome(rt.alloc(), run)?;
+    let end = outcome(rt, run)?;
     expect_status(rt, end.status, status, run);
     Ok(())
 }
@@ -57,7 +59,8 @@ fn failing_writes_keep_the_status(rt: HostRuntime) -> Result<(), Fail> {
 
 /// The run of the engine has this fault, and wrote nothing that is kept.
 fn expect_fault(rt: &impl Abort, answer: Told, fault: Option<TableError>, run: Run<'_>) {
-    assert_eq!(rt; answer.fault, fault, "the fault of {run:?}");
+    let reads = (run.failing_read, run.failing_write);
+    expect_same(rt, (reads, answer.fault), (reads, fault), "the fault");
     let written: &[u8] = match fault {
         None => b"0041;1\n",
         Some(_) => b"",

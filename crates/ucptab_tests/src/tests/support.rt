@@ -4,6 +4,7 @@ ghost use Rattle.std.specs.Prelude.{◌≡◌, ◌<◌, Some};
 use icu_trie_core::cells::Steps;
 use icu_trie_core::header::TrieType;
 use std::alloc::{AllocError, Global};
+use std::fmt::Debug;
 use std::marker::Brand;
 use std::process::Abort;
 use std::sync::ledger::{Blank, Ledger};
@@ -67,7 +68,7 @@ impl<L: Ledger> Sink for Written<L> {
 }
 
 /// A run of the program.
-#[derive(Clone, Copy, Debug)]
+#[derive(Clone, Copy)]
 pub struct Run<'a> {
     /// The words, which single spaces part.
     pub words: &'a str,
@@ -136,37 +137,11 @@ fn empty<K: Ledger>(
     })
 }
 
-fn outcome_over<L: Ledger, K: Ledger>(
-    alloc: Global,
-    words: &[String],
-    run: Run<'_>,
-    reads: Blank,
-    writes: Blank,
-) -> Result<Ending, AllocError>
-    requires name { reads.name ≡ L.name }
-    requires parts { reads.parts ≡ L.parts }
-    requires some { 0 < reads.parts }
-    requires other_name { writes.name ≡ K.name }
-    requires other_parts { writes.parts ≡ K.parts }
-    requires other_some { 0 < writes.parts }
-{
-    let mut reader = table_of(run, Steps::<L>::new(reads));
-    let mut writer = empty(alloc, run.failing_write, Steps::<K>::new(writes))?;
-    let status = run_words(alloc, words, &mut reader, &mut writer);
-    let bytes = Vec::from_slice(alloc, &writer.bytes)?;
-    Ok(Ending { status, bytes })
-}
-
-/// How the run ends.
-pub fn outcome(alloc: Global, run: Run<'_>) -> Result<Ending, AllocError> {
-    let words = words_of(alloc, run.words)?;
-    outcome_over::<Brand, Brand>(alloc, &words, run, Blank::new(1), Blank::new(1))
-}
-
 /// Prints the line.
-fn say(rt: &(impl Abort + Print), line: &str) {
-    let printed = println!(rt; "{line}");
-    assert!(rt; printed.is_ok());
+pub fn say(rt: &(impl Abort + Print), line: &str) {
+    if rt.println(line).is_err() {
+        rt.panic("nothing can be printed");
+    }
 }
 
 fn spoken_over<L: Ledger, K: Ledger>(
@@ -200,6 +175,15 @@ pub fn spoken(
     run: Run<'_>,
 ) -> Result<Ending, AllocError> {
     spoken_over::<Brand, Brand>(rt, words, run, Blank::new(1), Blank::new(1))
+}
+
+/// How the run ends.
+pub fn outcome(
+    rt: &(impl Abort + AllocGlobal + Print),
+    run: Run<'_>,
+) -> Result<Ending, AllocError> {
+    let words = words_of(rt.alloc(), run.words)?;
+    spoken(rt, &words, run)
 }
 
 fn usage_over<K: Ledger>(
@@ -273,24 +257,34 @@ pub fn answer(
     answer_over::<Brand, Brand>(rt, asked, run, Blank::new(1), Blank::new(1))
 }
 
+/// What was found is what is wanted.
+pub fn expect_same<T: Copy + Debug + PartialEq>(rt: &impl Abort, found: T, want: T, what: &str) {
+    assert_eq!(rt; found, want, "{what}");
+}
+
 /// The run has this status.
 pub fn expect_status(rt: &impl Abort, status: u8, want: u8, run: Run<'_>) {
-    assert_eq!(rt; status, want, "the status of {run:?}");
+    expect_same(rt, (run.input, status), (run.input, want), run.words);
 }
 
 /// The run printed these bytes.
 pub fn expect_bytes(rt: &impl Abort, bytes: Vec<u8>, want: &[u8], run: Run<'_>) {
-    assert_eq!(rt; bytes.as_slice(), want, "printed by {run:?}");
+    expect_same(
+        rt,
+        (run.input, bytes.as_slice()),
+        (run.input, want),
+        run.words,
+    );
 }
 
 /// The run ends with this status and has printed these bytes.
 pub fn expect_run(
-    rt: &(impl Abort + AllocGlobal),
+    rt: &(impl Abort + AllocGlobal + Print),
     run: Run<'_>,
     status: u8,
     bytes: &[u8],
 ) -> Result<(), Fail> {
-    let end = outcome(rt.alloc(), run)?;
+    let end = outcome(rt, run)?;
     expect_status(rt, end.status, status, run);
     expect_bytes(rt, end.bytes, bytes, run);
     Ok(())
@@ -298,5 +292,5 @@ pub fn expect_run(
 
 /// The text is the wanted one.
 pub fn expect_text(rt: &impl Abort, text: String, want: &str, what: &str) {
-    assert_eq!(rt; text.as_str(), want, "of {what}");
+    expect_same(rt, text.as_str(), want, what);
 }

@@ -1,4 +1,4 @@
-//! The words of the program: which are taken, and which are answered by the usage line.
+//! The words of the program that are answered by the usage line.
 use super::support::{USAGE, expect_run, sound};
 use std::test::Fail;
 
@@ -28,10 +28,4 @@ fn words_are_tested(rt: HostRuntime) -> Result<(), Fail> {
         expect_run(&rt, sound(line, b"x"), 2, USAGE)?;
     }
     Ok(())
-}
-
-#[test]
-fn words_are_taken(rt: HostRuntime) -> Result<(), Fail> {
-    let words = "small 0000000007 4294967295 0 FFFFFFFF";
-    expect_run(&rt, sound(words, b""), 0, b"0000;7\nFFFFFFFF;4294967295\n")
 }

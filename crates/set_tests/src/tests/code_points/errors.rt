@@ -1,22 +1,18 @@
 //! Lists and ranges that are no sets, and the texts of errors.
 use super::*;
-use crate::tests::{expect, expect_number, expect_text, set_of};
+use crate::tests::{expect, expect_same, expect_text, set_of};
 use icu_invlist::codepointinvlist::{
-    InvalidSetError, RangeError, SetJsonError, TryRangeError, is_valid_zv,
+    InvalidSetError, RangeError, SetError, SetJsonError, TryRangeError, is_valid_zv,
 };
 use icu_zerovec::{PotentialCodePoint, ZeroVec};
+use std::fmt::Display;
 use std::ops::Range;
-
-/// The number that is shown is the wanted one.
-fn expect_point(rt: &impl Abort, point: PotentialCodePoint, want: u32) {
-    assert_eq!(rt; u32::from(point), want);
-}
 
 /// The numbers that are shown are these.
 fn expect_points(rt: &impl Abort, points: Vec<PotentialCodePoint>, shown: &[u32]) {
-    expect_number(rt, points.len(), shown.len(), "numbers shown");
+    expect_same(rt, points.len(), shown.len(), "numbers shown");
     for (point, want) in points.iter().zip(shown.iter()) {
-        expect_point(rt, *point, *want);
+        expect_same(rt, u32::from(*point), *want, "a number shown");
     }
 }
 
@@ -28,7 +24,7 @@ fn expect_refused(
 ) {
     match made {
         Err(SetError::Invalid(InvalidSetError(points))) => expect_points(rt, points, shown),
-        _ => panic!(rt; "not refused"),
+        _ => rt.panic("not refused"),
     }
 }
 
@@ -55,56 +51,48 @@ fn invalid_packed_list(rt: HostRuntime) -> Result<(), Fail> {
     Ok(())
 }
 
-/// The range is refused with these ends.
-fn expect_refused_range(
-    rt: &impl Abort,
-    made: Result<CodePointInversionList<'static>, TryRangeError>,
-    start: u32,
-    end: u32,
-) {
-    let want = TryRangeError::Invalid(RangeError(start, end));
-    assert_eq!(rt; made.err(), Some(want));
-}
-
 #[test]
 fn empty_and_reversed_ranges(rt: HostRuntime) {
-    let empty = CodePointInversionList::try_from(rt.alloc(), 'A'..'A');
-    expect_refused_range(&rt, empty, 65, 65);
-    let reversed = Range {
-        start: 'B',
-        end: 'A',
-    };
-    let reversed = CodePointInversionList::try_from(rt.alloc(), reversed);
-    expect_refused_range(&rt, reversed, 66, 65);
-    let before_all = CodePointInversionList::try_from(rt.alloc(), ..'\0');
-    expect_refused_range(&rt, before_all, 0, 0);
+    let found = [
+        CodePointInversionList::try_from(rt.alloc(), 'A'..'A').err(),
+        CodePointInversionList::try_from(
+            rt.alloc(),
+            Range {
+                start: 'B',
+                end: 'A',
+            },
+        )
+        .err(),
+        CodePointInversionList::try_from(rt.alloc(), ..'\0').err(),
+    ];
+    let want = [
+        Some(TryRangeError::Invalid(RangeError(65, 65))),
+        Some(TryRangeError::Invalid(RangeError(66, 65))),
+        Some(TryRangeError::Invalid(RangeError(0, 0))),
+    ];
+    expect_same(&rt, found, want, "refused ranges");
 }
 
-#[test]
-fn texts_of_invalid_sets(rt: HostRuntime) -> Result<(), Fail> {
-    let invalid = InvalidSetError(Vec::new(rt.alloc()));
-    expect_text(&rt, invalid.to_string(rt.alloc())?, "Invalid set");
-    let invalid = SetError::Invalid(invalid);
-    expect_text(&rt, invalid.to_string(rt.alloc())?, "Invalid set");
+/// The error is told so.
+fn expect_told<E: Display + Drop>(
+    rt: &(impl Abort + AllocGlobal),
+    error: E,
+    want: &str,
+) -> Result<(), Fail> {
+    let text = error.to_string(rt.alloc())?;
+    expect_text(rt, text, want);
     Ok(())
 }
 
 #[test]
 fn texts_of_errors(rt: HostRuntime) -> Result<(), Fail> {
-    expect_text(&rt, SetError::Memory.to_string(rt.alloc())?, "no memory");
+    expect_told(&rt, InvalidSetError(Vec::new(rt.alloc())), "Invalid set")?;
+    let invalid = SetError::Invalid(InvalidSetError(Vec::new(rt.alloc())));
+    expect_told(&rt, invalid, "Invalid set")?;
+    expect_told(&rt, SetError::Memory, "no memory")?;
     let range = RangeError(65, 60);
-    expect_text(&rt, range.to_string(rt.alloc())?, "Invalid range: 65..60");
-    let range = TryRangeError::from(range);
-    expect_text(&rt, range.to_string(rt.alloc())?, "Invalid range: 65..60");
-    expect_text(
-        &rt,
-        TryRangeError::Memory.to_string(rt.alloc())?,
-        "no memory",
-    );
-    expect_text(
-        &rt,
-        SetJsonError::Memory.to_string(rt.alloc())?,
-        "no memory",
-    );
-    Ok(())
+    expect_told(&rt, range, "Invalid range: 65..60")?;
+    expect_told(&rt, TryRangeError::from(range), "Invalid range: 65..60")?;
+    expect_told(&rt, TryRangeError::Memory, "no memory")?;
+    expect_told(&rt, SetJsonError::Memory, "no memory")
 }

@@ -1,16 +1,13 @@
 //! The ranges, the gaps and the characters of sets.
 use super::*;
-use crate::tests::{expect_number, set_of};
-use std::ops::RangeInclusive;
+use crate::tests::{expect_same, set_of};
 
 /// The range is the one that begins at this place of the list.
 fn expect_range(rt: &impl Abort, range: RangeInclusive<u32>, ends: &[u32], place: usize) {
     let start = ends.get(place).copied();
     let end = ends.get(place.saturating_add(1)).copied();
-    assert_eq!(rt;
-        (Some(*range.start()), range.end().checked_add(1)),
-        (start, end)
-    );
+    let found = (Some(*range.start()), range.end().checked_add(1));
+    expect_same(rt, found, (start, end), "a range");
 }
 
 /// The set's ranges are those of the list.
@@ -20,7 +17,7 @@ fn expect_ranges(rt: &impl Abort, set: &CodePointInversionList<'_>, ends: &[u32]
         expect_range(rt, range, ends, given);
         given = given.saturating_add(2);
     }
-    expect_number(rt, given, ends.len(), "ends of ranges");
+    expect_same(rt, given, ends.len(), "ends of ranges");
 }
 
 /// The set's gaps are the ranges of the list.
@@ -30,38 +27,26 @@ fn expect_gaps(rt: &impl Abort, set: &CodePointInversionList<'_>, ends: &[u32]) 
         expect_range(rt, range, ends, given);
         given = given.saturating_add(2);
     }
-    expect_number(rt, given, ends.len(), "ends of gaps");
+    expect_same(rt, given, ends.len(), "ends of gaps");
 }
 
 #[test]
 fn ranges_and_gaps(rt: HostRuntime) -> Result<(), Fail> {
-    let ends = [0xA, 0x14, 0x28, 0x32];
-    let set = set_of(rt.alloc(), &ends)?;
-    expect_ranges(&rt, &set, &ends);
-    expect_gaps(&rt, &set, &[0, 0xA, 0x14, 0x28, 0x32, 0x11_0000]);
-    expect_number(&rt, set.iter_ranges().len(), 2, "ranges");
-    Ok(())
-}
-
-#[test]
-fn gaps_of_a_set_of_both_ends(rt: HostRuntime) -> Result<(), Fail> {
-    let set = set_of(rt.alloc(), &[0, 0xA, 0x14, 0x11_0000])?;
-    expect_gaps(&rt, &set, &[0xA, 0x14]);
-    Ok(())
-}
-
-#[test]
-fn ranges_and_gaps_of_none_and_all(rt: HostRuntime) -> Result<(), Fail> {
-    let empty = set_of(rt.alloc(), &[])?;
-    expect_ranges(&rt, &empty, &[]);
-    expect_gaps(&rt, &empty, &[0, 0x11_0000]);
+    for (ends, gaps) in [
+        (
+            [0xA, 0x14, 0x28, 0x32].as_slice(),
+            [0, 0xA, 0x14, 0x28, 0x32, 0x11_0000].as_slice(),
+        ),
+        ([0, 0xA, 0x14, 0x11_0000].as_slice(), [0xA, 0x14].as_slice()),
+        ([].as_slice(), [0, 0x11_0000].as_slice()),
+    ] {
+        let set = set_of(rt.alloc(), ends)?;
+        expect_ranges(&rt, &set, ends);
+        expect_gaps(&rt, &set, gaps);
+        expect_same(&rt, set.iter_ranges().len(), ends.len() / 2, "ranges");
+    }
     expect_gaps(&rt, &CodePointInversionList::all(), &[]);
     Ok(())
-}
-
-/// The character that is given is the wanted one.
-fn expect_char(rt: &impl Abort, found: Option<char>, want: Option<char>) {
-    assert_eq!(rt; found, want);
 }
 
 /// The surrogate is no character.
@@ -70,7 +55,7 @@ fn characters(rt: HostRuntime) -> Result<(), Fail> {
     let set = set_of(rt.alloc(), &[0x41, 0x44, 0x45, 0x46, 0xD800, 0xD801])?;
     let mut chars = set.iter_chars();
     for want in [Some('A'), Some('B'), Some('C'), Some('E'), None] {
-        expect_char(&rt, chars.next(), want);
+        expect_same(&rt, chars.next(), want, "a character");
     }
     Ok(())
 }

@@ -1,41 +1,51 @@
 //! What sets answer.
 use super::*;
-use crate::tests::{expect, expect_number, set_of};
-use std::ops::RangeInclusive;
+use crate::tests::{expect_same, set_of};
+use icu_invlist::codepointinvlist::SetError;
 
-/// Whether the one set holds the other.
-fn expect_subset(
-    rt: &(impl Abort + AllocGlobal),
-    whole: &[u32],
-    part: &[u32],
-    want: bool,
-    what: &str,
-) -> Result<(), Fail> {
-    let whole = set_of(rt.alloc(), whole)?;
-    let part = set_of(rt.alloc(), part)?;
-    expect(rt, whole.contains_set(&part) == want, what);
-    Ok(())
+/// Whether the set with the ends `whole` holds the other.
+fn is_subset(alloc: Global, whole: &[u32], part: &[u32]) -> Result<bool, SetError> {
+    let whole = set_of(alloc, whole)?;
+    Ok(whole.contains_set(&set_of(alloc, part)?))
 }
 
 #[test]
 fn subsets(rt: HostRuntime) -> Result<(), Fail> {
-    expect_subset(&rt, &[0x41, 0x44], &[0x42, 0x45], false, "overlapping")?;
-    expect_subset(&rt, &[0x41, 0x44], &[], true, "empty")?;
-    let whole = [0xA, 0x14, 0x28, 0x32, 0x46, 0x50, 0x64, 0x6E];
-    let part = [0xF, 0x14, 0x2C, 0x31, 0x46, 0x50, 0x64, 0x6D];
-    expect_subset(&rt, &whole, &part, true, "the smaller in the greater")?;
-    expect_subset(&rt, &part, &whole, false, "the greater in the smaller")
+    let greater = [0xA, 0x14, 0x28, 0x32, 0x46, 0x50, 0x64, 0x6E].as_slice();
+    let smaller = [0xF, 0x14, 0x2C, 0x31, 0x46, 0x50, 0x64, 0x6D].as_slice();
+    for (whole, part, want, what) in [
+        (
+            [0x41, 0x44].as_slice(),
+            [0x42, 0x45].as_slice(),
+            false,
+            "overlapping",
+        ),
+        ([0x41, 0x44].as_slice(), [].as_slice(), true, "empty"),
+        (greater, smaller, true, "the smaller in the greater"),
+        (smaller, greater, false, "the greater in the smaller"),
+    ] {
+        expect_same(&rt, is_subset(rt.alloc(), whole, part)?, want, what);
+    }
+    Ok(())
 }
 
 #[test]
 fn ranges_held(rt: HostRuntime) -> Result<(), Fail> {
     let letters = set_of(rt.alloc(), &[0x41, 0x44])?;
-    expect(&rt, letters.contains_range('A'..='C'), "A to C");
-    expect(&rt, !letters.contains_range('A'..='D'), "A to D");
-    expect(&rt, !letters.contains_range('B'..'B'), "no character");
-    expect(&rt, letters.contains('C'), "C");
-    let all = CodePointInversionList::all();
-    expect(&rt, all.contains_range(..), "all in all");
+    let found = [
+        letters.contains_range('A'..='C'),
+        letters.contains_range('A'..='D'),
+        letters.contains_range('B'..'B'),
+        letters.contains('C'),
+        CodePointInversionList::all().contains_range(..),
+    ];
+    let want = [true, false, false, true, true];
+    expect_same(
+        &rt,
+        found,
+        want,
+        "A to C, A to D, no character, C, all in all",
+    );
     Ok(())
 }
 
@@ -44,61 +54,81 @@ fn letters_and_surrogate(alloc: Global) -> Result<CodePointInversionList<'static
     set_of(alloc, &[0x41, 0x44, 0x45, 0x46, 0xD800, 0xD801])
 }
 
-/// The range of the set with this index.
-fn expect_nth(
-    rt: &impl Abort,
-    set: &CodePointInversionList<'_>,
-    index: usize,
-    want: Option<RangeInclusive<u32>>,
-) {
-    assert_eq!(rt; set.get_nth_range(index), want, "{index}");
-}
-
 #[test]
 fn nth_ranges(rt: HostRuntime) -> Result<(), Fail> {
     let set = letters_and_surrogate(rt.alloc())?;
-    expect_nth(&rt, &set, 0, Some(0x41..=0x43));
-    expect_nth(&rt, &set, 1, Some(0x45..=0x45));
-    expect_nth(&rt, &set, 2, Some(0xD800..=0xD800));
-    expect_nth(&rt, &set, 3, None);
-    expect_nth(&rt, &set, usize::MAX, None);
-    expect_number(&rt, set.get_range_count(), 3, "ranges");
-    expect_number(&rt, set.size(), 5, "size");
+    for (index, want) in [
+        (0, Some((0x41, 0x43))),
+        (1, Some((0x45, 0x45))),
+        (2, Some((0xD800, 0xD800))),
+        (3, None),
+        (usize::MAX, None),
+    ] {
+        expect_same(
+            &rt,
+            (index, ends_of(set.get_nth_range(index))),
+            (index, want),
+            "a range",
+        );
+    }
+    expect_same(
+        &rt,
+        (set.get_range_count(), set.size()),
+        (3, 5),
+        "ranges and size",
+    );
     Ok(())
 }
 
-/// How many of the set's numbers stand below this one, where the set holds it.
-fn expect_position(rt: &impl Abort, set: &CodePointInversionList<'_>, c: u32, want: Option<usize>) {
-    assert_eq!(rt; set.position32(c), want, "{c}");
-}
-
+/// How many of the set's numbers stand below each, where the set holds it.
 #[test]
 fn positions(rt: HostRuntime) -> Result<(), Fail> {
     let set = letters_and_surrogate(rt.alloc())?;
-    expect_position(&rt, &set, 0x43, Some(2));
-    expect_position(&rt, &set, 0x44, None);
-    expect_position(&rt, &set, 0x45, Some(3));
-    expect_position(&rt, &set, 0xD800, Some(4));
-    expect_position(&rt, &set, u32::MAX, None);
-    expect(&rt, set.position('E') == Some(3), "the place of E");
+    for (c, want) in [
+        (0x43, Some(2)),
+        (0x44, None),
+        (0x45, Some(3)),
+        (0xD800, Some(4)),
+        (u32::MAX, None),
+    ] {
+        expect_same(&rt, (c, set.position32(c)), (c, want), "a place");
+    }
+    expect_same(&rt, set.position('E'), Some(3), "the place of E");
+    Ok(())
+}
+
+/// Nor has the set of A to Z the greatest number, or a range of the greatest index.
+#[test]
+fn places_of_the_greatest_number(rt: HostRuntime) -> Result<(), Fail> {
+    let letters = set_of(rt.alloc(), &[0x41, 0x5B])?;
+    expect_same(
+        &rt,
+        letters.position32(u32::MAX),
+        None,
+        "the greatest number",
+    );
+    let range = ends_of(letters.get_nth_range(usize::MAX));
+    expect_same(&rt, range, None, "the greatest index");
     Ok(())
 }
 
 #[test]
-fn spans_of_accented_letters(rt: HostRuntime) -> Result<(), Fail> {
+fn spans(rt: HostRuntime) -> Result<(), Fail> {
     let accented = set_of(rt.alloc(), &[0xE9, 0xEA])?;
-    expect_number(&rt, accented.span("ééa", true), 4, "ééa");
-    expect_number(&rt, accented.span_back("aéé", true), 1, "aéé");
-    expect_number(&rt, accented.span("", true), 0, "no text");
-    Ok(())
-}
-
-#[test]
-fn spans_of_letters(rt: HostRuntime) -> Result<(), Fail> {
+    let found = [
+        accented.span("ééa", true),
+        accented.span_back("aéé", true),
+        accented.span("", true),
+    ];
+    expect_same(&rt, found, [4, 1, 0], "ééa, aéé, no text");
     let letters = set_of(rt.alloc(), &[0x41, 0x44, 0x46, 0x4B])?;
-    expect_number(&rt, letters.span("XYZABFH", false), 3, "front not held");
-    expect_number(&rt, letters.span_back("XYZABFH", true), 3, "back held");
-    expect_number(&rt, letters.span_back("ABCXYZ", true), 6, "no back held");
-    expect_number(&rt, letters.span_back("ABCXYZ", false), 3, "back not held");
+    let found = [
+        letters.span("XYZABFH", false),
+        letters.span_back("XYZABFH", true),
+        letters.span_back("ABCXYZ", true),
+        letters.span_back("ABCXYZ", false),
+    ];
+    let what = "front not held, back held, no back held, back not held";
+    expect_same(&rt, found, [3, 3, 6, 3], what);
     Ok(())
 }

@@ -38,14 +38,7 @@ fn refused_in_json(rt: HostRuntime) -> Result<(), Fail> {
     ] {
         expect_unread(&rt, text, want)?;
     }
-    Ok(())
-}
-
-#[test]
-fn text_of_no_memory(rt: HostRuntime) -> Result<(), Fail> {
-    let text = StringListJsonError::Memory.to_string(rt.alloc())?;
-    expect_text(&rt, text, "no memory");
-    Ok(())
+    expect_said(&rt, Some(StringListJsonError::Memory), "no memory")
 }
 
 /// The set of two characters and two other texts.
@@ -55,28 +48,17 @@ fn gathered(alloc: Global) -> Result<CodePointInversionListAndStringList<'static
 
 /// The value of that set.
 fn json_of_gathered(alloc: Global) -> Result<Value, MemoryError> {
-    let set = gathered(alloc)?;
-    set.to_json(alloc)
+    gathered(alloc)?.to_json(alloc)
 }
 
 #[test]
 fn written_to_json(rt: HostRuntime) -> Result<(), Fail> {
-    let value = json_of_gathered(rt.alloc())?;
+    let text = json_of_gathered(rt.alloc())?.to_string(rt.alloc())?;
     expect_text(
         &rt,
-        value.to_string(rt.alloc())?,
+        text,
         "{\"cp_inv_list\":[\"a-b\"],\"str_list\":[\"\",\"abc\"]}",
     );
-    Ok(())
-}
-
-/// The set is the one that was written.
-fn expect_gathered(
-    rt: &(impl Abort + AllocGlobal),
-    set: CodePointInversionListAndStringList<'_>,
-) -> Result<(), Fail> {
-    let want = gathered(rt.alloc())?;
-    expect(rt, set == want, "read back");
     Ok(())
 }
 
@@ -84,5 +66,6 @@ fn expect_gathered(
 fn read_back_from_json(rt: HostRuntime) -> Result<(), Fail> {
     let value = json_of_gathered(rt.alloc())?;
     let read = CodePointInversionListAndStringList::from_json(rt.alloc(), &value)?;
-    expect_gathered(&rt, read)
+    expect(&rt, read == gathered(rt.alloc())?, "read back");
+    Ok(())
 }

@@ -1,6 +1,6 @@
 //! Sets and lists that are made.
 use super::*;
-use crate::tests::{expect_ends, expect_number};
+use crate::tests::{expect_ends, expect_same};
 use icu_zerovec::{PotentialCodePoint, ZeroVec};
 
 /// The call is over: the set has these ends, where it was made.
@@ -8,43 +8,38 @@ fn expect_made(
     rt: &(impl Abort + AllocGlobal + Print),
     made: Option<CodePointInversionList<'_>>,
     ends: &[u32],
-) -> Result<(), Fail> {
-    tell(rt, made.is_none())?;
+) {
+    tell(rt, made.is_none());
     if let Some(set) = made {
         expect_listed(rt, set, ends);
     }
-    Ok(())
+}
+
+/// The set that was lent is that of the basic plane still.
+fn expect_bmp(rt: &(impl Abort + AllocGlobal), lent: CodePointInversionList<'_>) {
+    expect_listed(rt, lent, &[0, 0x1_0000]);
 }
 
 /// The builder has room left, which the set that it makes does not keep.
 ///
 /// Calls: `CodePointInversionListBuilder::build`.
 #[test]
-fn build_refused(rt: HostRuntime) -> Result<(), Fail> {
-    let Some(builder) = roomy_builder_for_call(&rt)? else {
-        return Ok(());
-    };
-    let made = builder.build();
-    expect_made(&rt, made.ok(), &LETTERS)
-}
-
-/// A builder of A to Z, where there was memory for it; a call that may be refused follows at once.
-fn roomy_builder_for_call(
-    rt: &(impl AllocGlobal + Print),
-) -> Result<Option<CodePointInversionListBuilder>, Fail> {
+fn build_refused(rt: HostRuntime) {
     let Ok(builder) = builder_of(rt.alloc(), &LETTERS) else {
-        return Ok(None);
+        return;
     };
-    println!(rt; "call")?;
-    Ok(Some(builder))
+    say(&rt, "call");
+    let made = builder.build();
+    expect_made(&rt, made.ok(), &LETTERS);
 }
 
 /// Calls: `CodePointInversionListBuilder::try_clone`.
 #[test]
-fn try_clone_of_builder_refused(rt: HostRuntime) -> Result<(), Fail> {
-    let Some(builder) = roomy_builder_for_call(&rt)? else {
-        return Ok(());
+fn try_clone_of_builder_refused(rt: HostRuntime) {
+    let Ok(builder) = builder_of(rt.alloc(), &LETTERS) else {
+        return;
     };
+    say(&rt, "call");
     match builder.try_clone() {
         Ok(other) => expect_answer(&rt, Ok(()), other, &LETTERS),
         Err(error) => expect_answer(&rt, Err(error), builder, &LETTERS),
@@ -53,73 +48,70 @@ fn try_clone_of_builder_refused(rt: HostRuntime) -> Result<(), Fail> {
 
 /// Calls: `CodePointInversionList::try_from_u32_inversion_list_slice`.
 #[test]
-fn try_from_u32_inversion_list_slice_refused(rt: HostRuntime) -> Result<(), Fail> {
-    println!(rt; "call")?;
+fn try_from_u32_inversion_list_slice_refused(rt: HostRuntime) {
+    say(&rt, "call");
     let made = CodePointInversionList::try_from_u32_inversion_list_slice(rt.alloc(), &LETTERS);
-    expect_made(&rt, made.ok(), &LETTERS)
+    expect_made(&rt, made.ok(), &LETTERS);
 }
 
 /// Calls: `CodePointInversionList::from_valid_slice`.
 #[test]
-fn from_valid_slice_refused(rt: HostRuntime) -> Result<(), Fail> {
+fn from_valid_slice_refused(rt: HostRuntime) {
     let all = CodePointInversionList::all();
-    expect_number(&rt, all.get_range_count(), 1, "ranges of all code points");
+    expect_same(&rt, all.get_range_count(), 1, "ranges of all code points");
     let Ok(ends) = all.get_inversion_list_vec(rt.alloc()) else {
-        return Ok(());
+        return;
     };
-    println!(rt; "call")?;
+    say(&rt, "call");
     let made = CodePointInversionList::from_valid_slice(rt.alloc(), &ends);
-    expect_made(&rt, made.ok(), &[0, 0x11_0000])
+    expect_made(&rt, made.ok(), &[0, 0x11_0000]);
 }
 
 /// Calls: `CodePointInversionList::try_from`.
 #[test]
-fn try_from_range_refused(rt: HostRuntime) -> Result<(), Fail> {
-    println!(rt; "call")?;
+fn try_from_range_refused(rt: HostRuntime) {
+    say(&rt, "call");
     let made = CodePointInversionList::try_from(rt.alloc(), 'A'..='Z');
-    expect_made(&rt, made.ok(), &LETTERS)
+    expect_made(&rt, made.ok(), &LETTERS);
 }
 
 /// Calls: `CodePointInversionList::from_iter`.
 #[test]
-fn from_iter_refused(rt: HostRuntime) -> Result<(), Fail> {
-    println!(rt; "call")?;
+fn from_iter_refused(rt: HostRuntime) {
+    say(&rt, "call");
     let made = CodePointInversionList::from_iter(
         rt.alloc(),
         [0x41..=0x50, 0x51..=0x5A].into_iter(),
     );
-    expect_made(&rt, made.ok(), &LETTERS)
+    expect_made(&rt, made.ok(), &LETTERS);
 }
 
 /// Calls: `CodePointInversionList::into_owned`.
 #[test]
-fn into_owned_refused(rt: HostRuntime) -> Result<(), Fail> {
-    println!(rt; "call")?;
+fn into_owned_refused(rt: HostRuntime) {
+    say(&rt, "call");
     let made = CodePointInversionList::bmp().into_owned(rt.alloc());
-    expect_made(&rt, made.ok(), &[0, 0x1_0000])
+    expect_made(&rt, made.ok(), &[0, 0x1_0000]);
 }
 
 /// Calls: `CodePointInversionList::try_clone`.
 #[test]
-fn try_clone_refused(rt: HostRuntime) -> Result<(), Fail> {
-    println!(rt; "call")?;
-    let made = CodePointInversionList::bmp().try_clone(rt.alloc());
-    expect_made(&rt, made.ok(), &[0, 0x1_0000])
+fn try_clone_refused(rt: HostRuntime) {
+    let bmp = CodePointInversionList::bmp();
+    say(&rt, "call");
+    let made = bmp.try_clone(rt.alloc());
+    expect_made(&rt, made.ok(), &[0, 0x1_0000]);
+    expect_bmp(&rt, bmp);
 }
 
 /// The call is over: the list is refused, and its two numbers are shown where there was memory for
 /// them.
-fn expect_two_shown(
-    rt: &(impl Abort + Print),
-    made: Result<CodePointInversionList<'_>, SetError>,
-) -> Result<(), Fail> {
+fn expect_two_shown(rt: &(impl Abort + Print), made: Result<CodePointInversionList<'_>, SetError>) {
     match made {
-        Ok(_) => panic!(rt; "an invalid list"),
+        Ok(_) => rt.panic("an invalid list"),
         Err(SetError::Invalid(error)) => {
-            let shown = error.0.len();
-            tell(rt, false)?;
-            expect_number(rt, shown, 2, "numbers shown");
-            Ok(())
+            tell(rt, false);
+            expect_same(rt, error.0.len(), 2, "numbers shown");
         }
         Err(SetError::Memory) => tell(rt, true),
     }
@@ -131,27 +123,26 @@ fn expect_two_shown(
 #[test]
 fn try_from_inversion_list_refused(rt: HostRuntime) -> Result<(), Fail> {
     let list = ZeroVec::<PotentialCodePoint>::parse_bytes(&[1, 0, 0, 1, 0, 0])?;
-    println!(rt; "call")?;
+    say(&rt, "call");
     let made = CodePointInversionList::try_from_inversion_list(rt.alloc(), list);
-    expect_two_shown(&rt, made)
+    expect_two_shown(&rt, made);
+    Ok(())
 }
 
 /// The call is over: the ends are those of the basic plane, where they were listed.
-fn expect_list_of_bmp(
-    rt: &(impl Abort + Print),
-    made: Result<Vec<u32>, MemoryError>,
-) -> Result<(), Fail> {
-    tell(rt, made.is_err())?;
+fn expect_list_of_bmp(rt: &(impl Abort + Print), made: Result<Vec<u32>, MemoryError>) {
+    tell(rt, made.is_err());
     if let Ok(ends) = made {
         expect_ends(rt, ends, &[0, 0x1_0000]);
     }
-    Ok(())
 }
 
 /// Calls: `CodePointInversionList::get_inversion_list_vec`.
 #[test]
-fn get_inversion_list_vec_refused(rt: HostRuntime) -> Result<(), Fail> {
-    println!(rt; "call")?;
-    let made = CodePointInversionList::bmp().get_inversion_list_vec(rt.alloc());
-    expect_list_of_bmp(&rt, made)
+fn get_inversion_list_vec_refused(rt: HostRuntime) {
+    let bmp = CodePointInversionList::bmp();
+    say(&rt, "call");
+    let made = bmp.get_inversion_list_vec(rt.alloc());
+    expect_list_of_bmp(&rt, made);
+    expect_bmp(&rt, bmp);
 }

@@ -1,0 +1,170 @@
+//! The builder's calls as rows of tables name them.
+use crate::tests::set_of;
+use icu_invlist::codepointinvlist::{
+    CodePointInversionList, CodePointInversionListBuilder, SetError,
+};
+use icu_zerovec::MemoryError;
+use std::alloc::Global;
+use std::ops::Range;
+
+/// A builder of the set with these ends.
+pub fn builder_of(alloc: Global, ends: &[u32]) -> Result<CodePointInversionListBuilder, SetError> {
+    let mut builder = CodePointInversionListBuilder::new(alloc);
+    builder.add_set(&set_of(alloc, ends)?)?;
+    Ok(builder)
+}
+
+/// A change of a builder's set by another set.
+#[derive(Clone, Copy)]
+pub enum Operation {
+    Union,
+    Difference,
+    Intersection,
+    SymmetricDifference,
+}
+
+impl Operation {
+    /// Changes the builder's set by this one.
+    pub fn apply(
+        self,
+        builder: &mut CodePointInversionListBuilder,
+        set: &CodePointInversionList<'_>,
+    ) -> Result<(), MemoryError> {
+        match self {
+            Operation::Union => builder.add_set(set),
+            Operation::Difference => builder.remove_set(set),
+            Operation::Intersection => builder.retain_set(set),
+            Operation::SymmetricDifference => builder.complement_set(set),
+        }
+    }
+}
+
+/// An addition to a builder's set. A range reaches to its second number, which it holds unless it
+/// is named by the end that it stays below.
+#[derive(Clone, Copy)]
+pub enum Addition {
+    Char(char),
+    Number(u32),
+    Chars(char, char),
+    CharsBelow(char, char),
+    Numbers(u32, u32),
+    All,
+}
+
+impl Addition {
+    /// Adds to the builder's set.
+    pub fn apply(self, builder: &mut CodePointInversionListBuilder) -> Result<(), MemoryError> {
+        match self {
+            Addition::Char(c) => builder.add_char(c),
+            Addition::Number(c) => builder.add32(c),
+            Addition::Chars(first, last) => builder.add_range(first..=last),
+            Addition::CharsBelow(start, end) => builder.add_range(start..end),
+            Addition::Numbers(first, last) => builder.add_range32(first..=last),
+            Addition::All => builder.add_range32(..),
+        }
+    }
+}
+
+/// A removal from a builder's set. A range reaches to its second number, which it holds unless it
+/// is named by the end that it stays below.
+#[derive(Clone, Copy)]
+pub enum Removal {
+    Char(char),
+    Number(u32),
+    CharsBelow(char, char),
+    CharsFrom(char),
+    Numbers(u32, u32),
+    NumbersBelow(u32, u32),
+}
+
+impl Removal {
+    /// Removes from the builder's set.
+    pub fn apply(self, builder: &mut CodePointInversionListBuilder) -> Result<(), MemoryError> {
+        match self {
+            Removal::Char(c) => builder.remove_char(c),
+            Removal::Number(c) => builder.remove32(c),
+            Removal::CharsBelow(start, end) => builder.remove_range(start..end),
+            Removal::CharsFrom(start) => builder.remove_range(start..),
+            Removal::Numbers(first, last) => builder.remove_range32(first..=last),
+            Removal::NumbersBelow(start, end) => builder.remove_range32(start..end),
+        }
+    }
+}
+
+/// What is kept of a builder's set. A range reaches to its second number, which it holds unless it
+/// is named by the end that it stays below.
+#[derive(Clone, Copy)]
+pub enum Keeping {
+    Char(char),
+    Number(u32),
+    Chars(char, char),
+    CharsBelow(char, char),
+    Numbers(u32, u32),
+    NumbersBelow(u32, u32),
+}
+
+impl Keeping {
+    /// Keeps this of the builder's set alone.
+    pub fn apply(self, builder: &mut CodePointInversionListBuilder) {
+        match self {
+            Keeping::Char(c) => builder.retain_char(c),
+            Keeping::Number(c) => builder.retain32(c),
+            Keeping::Chars(first, last) => builder.retain_range(first..=last),
+            Keeping::CharsBelow(start, end) => builder.retain_range(start..end),
+            Keeping::Numbers(first, last) => builder.retain_range32(first..=last),
+            Keeping::NumbersBelow(start, end) => builder.retain_range32(Range { start, end }),
+        }
+    }
+}
+
+/// What is turned round in a builder's set. A range reaches to its second number, which it holds
+/// unless it is named by the end that it stays below.
+#[derive(Clone, Copy)]
+pub enum Turn {
+    All,
+    Char(char),
+    Number(u32),
+    Chars(char, char),
+    CharsBelow(char, char),
+    Numbers(u32, u32),
+    NumbersBelow(u32, u32),
+}
+
+impl Turn {
+    /// Turns this round in the builder's set.
+    pub fn apply(self, builder: &mut CodePointInversionListBuilder) -> Result<(), MemoryError> {
+        match self {
+            Turn::All => builder.complement(),
+            Turn::Char(c) => builder.complement_char(c),
+            Turn::Number(c) => builder.complement32(c),
+            Turn::Chars(first, last) => builder.complement_range(first..=last),
+            Turn::CharsBelow(start, end) => builder.complement_range(start..end),
+            Turn::Numbers(first, last) => builder.complement_range32(first..=last),
+            Turn::NumbersBelow(start, end) => builder.complement_range32(start..end),
+        }
+    }
+}
+
+/// A change of a builder's set.
+#[derive(Clone, Copy)]
+pub enum Change {
+    Add(Addition),
+    Remove(Removal),
+    Keep(Keeping),
+    Turn(Turn),
+}
+
+impl Change {
+    /// Changes the builder's set.
+    pub fn apply(self, builder: &mut CodePointInversionListBuilder) -> Result<(), MemoryError> {
+        match self {
+            Change::Add(addition) => addition.apply(builder),
+            Change::Remove(removal) => removal.apply(builder),
+            Change::Keep(keeping) => {
+                keeping.apply(builder);
+                Ok(())
+            }
+            Change::Turn(turn) => turn.apply(builder),
+        }
+    }
+}
