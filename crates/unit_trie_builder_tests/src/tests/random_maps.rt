@@ -1,7 +1,7 @@
 //! Maps made at random: added in random order, built, and read back; compared with a `BTreeMap`.
 use crate::tests::random::{Kind, Random};
-use crate::tests::support::{expect, value_of};
-use icu_char16trie::char16trie::{Char16Trie, Iter2};
+use crate::tests::support::{expect, gives};
+use icu_char16trie::char16trie::Char16Trie;
 use icu_char16trie_builder::builder::Char16TrieBuilder;
 use icu_char16trie_builder::error::AddError;
 use icu_zerovec::MemoryError;
@@ -70,19 +70,6 @@ fn fronts_agree(trie: &Char16Trie<'_>, map: &Map, key: &[u16]) -> bool {
     cursor.value() == map.get(key).copied()
 }
 
-/// Whether each key of the map has its value in the trie, and each front of a short one.
-fn keys_agree(trie: &Char16Trie<'_>, map: &Map) -> bool {
-    for (key, value) in map {
-        let is_short = key.len() <= 8;
-        if value_of(trie, key.as_slice()) != Some(*value)
-            || is_short && !fronts_agree(trie, map, key.as_slice())
-        {
-            return false;
-        }
-    }
-    true
-}
-
 /// Whether keys made at random, most of which are not there, have the same answer in both.
 fn others_agree(
     alloc: Global,
@@ -99,43 +86,19 @@ fn others_agree(
     Ok(true)
 }
 
-/// Whether the next item is the key as text, with its value.
-fn gives(
-    alloc: Global,
-    items: &mut Iter2<'_>,
-    key: &[u16],
-    value: i32,
-) -> Result<bool, MemoryError> {
-    let Some(item) = items.next() else {
-        return Ok(false);
-    };
-    let (text, found) = item?;
-    let wanted = String::from_utf16_lossy(alloc, key)?;
-    Ok(found == value && text.as_str() == wanted.as_str())
-}
-
-/// Whether the items are the entries of the map, in its order, and no other one.
-fn lists(alloc: Global, mut items: Iter2<'_>, map: &Map) -> Result<bool, MemoryError> {
+/// Whether each entry of the map is an entry of the trie, in the map's order, and no other one is,
+/// and each front of a short key has the same answer in both.
+fn lists(alloc: Global, trie: &Char16Trie<'_>, map: &Map) -> Result<bool, MemoryError> {
+    let mut items = trie.iter2(alloc);
     for (key, value) in map {
-        if !gives(alloc, &mut items, key.as_slice(), *value)? {
+        let is_short = key.len() <= 8;
+        if !gives(alloc, trie, &mut items, key.as_slice(), *value)?
+            || is_short && !fronts_agree(trie, map, key.as_slice())
+        {
             return Ok(false);
         }
     }
     Ok(items.next().is_none())
-}
-
-/// Whether a trie is the map.
-fn is_trie_of(
-    alloc: Global,
-    random: &mut Random,
-    trie: Char16Trie<'_>,
-    map: &Map,
-) -> Result<bool, MemoryError> {
-    Ok(
-        keys_agree(&trie, map)
-            && others_agree(alloc, random, &trie, map)?
-            && lists(alloc, trie.iter2(alloc), map)?,
-    )
 }
 
 /// Whether the map of a seed is built as it has to be.
@@ -148,7 +111,7 @@ fn is_right(alloc: Global, seed: u64) -> Result<bool, Fail> {
     let right = add_random(alloc, &mut random, first, &mut builder, &mut map)?
         && add_random(alloc, &mut random, second, &mut builder, &mut map)?;
     let trie = builder.build()?;
-    Ok(right && is_trie_of(alloc, &mut random, trie, &map)?)
+    Ok(right && lists(alloc, &trie, &map)? && others_agree(alloc, &mut random, &trie, &map)?)
 }
 
 /// Each kind of keys alone and beside each other kind.

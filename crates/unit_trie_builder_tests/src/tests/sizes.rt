@@ -1,5 +1,5 @@
 //! Branches of many units, jumps and deltas of two units, long linear matches.
-use crate::tests::support::{expect, expect_same, value_of};
+use crate::tests::support::{expect, expect_same, gives, value_of};
 use icu_char16trie::char16trie::{Char16Trie, Iter2};
 use icu_char16trie_builder::builder::Char16TrieBuilder;
 use icu_zerovec::MemoryError;
@@ -73,26 +73,29 @@ fn trie_of_ten(alloc: Global) -> Result<Char16Trie<'static>, Fail> {
     Ok(builder.build()?)
 }
 
-/// The value of so many units k.
-fn value_of_copies(
-    alloc: Global,
-    trie: &Char16Trie<'_>,
-    k: u16,
-    count: usize,
-) -> Result<Option<i32>, AllocError> {
-    let key = copies_of(alloc, k, count)?;
-    Ok(value_of(trie, key.as_slice()))
+/// Whether each of the ten keys has its value, is the next item, and has none without its last
+/// unit, and no other item comes.
+fn has_ten(alloc: Global, trie: &Char16Trie<'_>) -> Result<bool, MemoryError> {
+    let mut items = trie.iter2(alloc);
+    for k in 1..11 {
+        let key = copies_of(alloc, k, 20_000)?;
+        let Some(shorter) = key.as_slice().get(..19_999) else {
+            return Ok(false);
+        };
+        if value_of(trie, shorter).is_some()
+            || !gives(alloc, trie, &mut items, key.as_slice(), i32::from(k))?
+        {
+            return Ok(false);
+        }
+    }
+    Ok(items.next().is_none())
 }
 
 /// A delta passes 0xFBFF, and needs two units.
 #[test]
 fn ten_keys_of_20_000_units(rt: HostRuntime) -> Result<(), Fail> {
     let trie = trie_of_ten(rt.alloc())?;
-    for k in 1..11 {
-        let whole = value_of_copies(rt.alloc(), &trie, k, 20_000)?;
-        let shorter = value_of_copies(rt.alloc(), &trie, k, 19_999)?;
-        expect_same(&rt, whole, Some(i32::from(k)), "20,000 units");
-        expect_same(&rt, shorter, None, "one unit less");
-    }
+    let whole = has_ten(rt.alloc(), &trie)?;
+    expect(&rt, whole, "ten keys of 20,000 units");
     Ok(())
 }

@@ -1,7 +1,7 @@
 //! What all tests compare with, and how tries are built and read.
-use icu_char16trie::char16trie::Char16Trie;
+use icu_char16trie::char16trie::{Char16Trie, Iter2};
 use icu_char16trie_builder::builder::Char16TrieBuilder;
-use icu_zerovec::{MemoryError, ZeroVec};
+use icu_zerovec::MemoryError;
 use std::alloc::Global;
 use std::fmt::Debug;
 use std::process::Abort;
@@ -22,24 +22,26 @@ pub fn expect_text(rt: &impl Abort, text: String, want: &str) {
     assert_eq!(rt; text.as_str(), want);
 }
 
-/// The entries are added, in this order.
-pub fn add_all(builder: &mut Char16TrieBuilder, entries: &[(&[u16], i32)]) -> Result<(), Fail> {
-    for (key, value) in entries {
-        builder.add(key, *value)?;
-    }
-    Ok(())
-}
+/// An entry: its key, its value, and its key as a text, where a surrogate without its partner is
+/// U+FFFD.
+pub type Entry = (&'static [u16], i32, &'static str);
 
-/// The trie of these entries, added in this order.
-pub fn built(alloc: Global, entries: &[(&[u16], i32)]) -> Result<Char16Trie<'static>, Fail> {
+/// The trie of these entries, added in their order or the last one first.
+pub fn built(
+    alloc: Global,
+    entries: &[Entry],
+    last_first: bool,
+) -> Result<Char16Trie<'static>, Fail> {
     let mut builder = Char16TrieBuilder::new(alloc);
-    add_all(&mut builder, entries)?;
+    for i in 0..entries.len() {
+        let (key, value, _) = if last_first {
+            entries[entries.len() - 1 - i]
+        } else {
+            entries[i]
+        };
+        builder.add(key, value)?;
+    }
     Ok(builder.build()?)
-}
-
-/// The trie of these units.
-pub fn trie_of(alloc: Global, units: &[u16]) -> Result<Char16Trie<'static>, MemoryError> {
-    Ok(Char16Trie::new(ZeroVec::alloc_from_slice(alloc, units)?))
 }
 
 /// The value of a key, looked up unit by unit.
@@ -51,37 +53,71 @@ pub fn value_of(trie: &Char16Trie<'_>, key: &[u16]) -> Option<i32> {
     cursor.value()
 }
 
-/// An entry as `text=value;`.
-fn line_of(alloc: Global, text: String, value: i32) -> Result<String, MemoryError> {
-    Ok(format!(in alloc; "{text}={value};")?)
+/// Whether the next item is this text with this value.
+fn is_next(items: &mut Iter2<'_>, text: &str, value: i32) -> Result<bool, MemoryError> {
+    let Some(item) = items.next() else {
+        return Ok(false);
+    };
+    let (found, number) = item?;
+    Ok(number == value && found.as_str() == text)
 }
 
-/// One item more of `iter2`, as its line.
-fn add_line(
+/// Whether the key has this value, and is as a text with this value the next item.
+pub fn gives(
     alloc: Global,
-    said: &mut String,
-    item: Result<(String, i32), MemoryError>,
-) -> Result<(), MemoryError> {
-    let (text, value) = item?;
-    let line = line_of(alloc, text, value)?;
-    Ok(said.push_str(line.as_str())?)
+    trie: &Char16Trie<'_>,
+    items: &mut Iter2<'_>,
+    key: &[u16],
+    value: i32,
+) -> Result<bool, MemoryError> {
+    let text = String::from_utf16_lossy(alloc, key)?;
+    Ok(value_of(trie, key) == Some(value) && is_next(items, text.as_str(), value)?)
 }
 
-/// The entries of `iter2` one after another.
-pub fn entries_of(alloc: Global, trie: &Char16Trie<'_>) -> Result<String, MemoryError> {
-    let mut said = String::new(alloc);
-    for item in trie.iter2(alloc) {
-        add_line(alloc, &mut said, item)?;
+/// Whether the trie has these entries, which are in unit order, and no other item.
+fn has_entries(
+    alloc: Global,
+    trie: &Char16Trie<'_>,
+    entries: &[Entry],
+) -> Result<bool, MemoryError> {
+    let mut items = trie.iter2(alloc);
+    for (key, value, text) in entries {
+        if value_of(trie, key) != Some(*value) || !is_next(&mut items, text, *value)? {
+            return Ok(false);
+        }
     }
-    Ok(said)
+    Ok(items.next().is_none())
 }
 
-/// The entries of the trie are these.
+/// What is said of these entries holds.
+fn expect_of(rt: &impl Abort, holds: bool, what: &str, entries: &[Entry]) {
+    assert!(rt; holds, "{what}: {entries:?}");
+}
+
+/// Whether the trie has these units.
+fn has_units(trie: &Char16Trie<'_>, units: &[u16]) -> bool {
+    for (i, unit) in units.iter().enumerate() {
+        if trie.data.get(i) != Some(*unit) {
+            return false;
+        }
+    }
+    trie.data.len() == units.len()
+}
+
+/// Each of these entries, which are in unit order, is in the trie that is built of them, in
+/// whatever order they are added, and no other one; and the trie has these units, if any are told.
 pub fn expect_entries(
     rt: &(impl Abort + AllocGlobal),
-    trie: Char16Trie<'_>,
-    entries: &str,
-) -> Result<(), MemoryError> {
-    expect_text(rt, entries_of(rt.alloc(), &trie)?, entries);
+    entries: &[Entry],
+    units: Option<&[u16]>,
+) -> Result<(), Fail> {
+    for last_first in [false, true] {
+        let trie = built(rt.alloc(), entries, last_first)?;
+        let whole = has_entries(rt.alloc(), &trie, entries)?;
+        expect_of(rt, whole, "entries", entries);
+        if let Some(units) = units {
+            expect_of(rt, has_units(&trie, units), "units", entries);
+        }
+    }
     Ok(())
 }
