@@ -37,6 +37,20 @@ fn expect_same<T: PartialEq + Debug + Drop>(rt: &impl Abort, found: T, want: T, 
     assert_eq!(rt; found, want, "{what}");
 }
 
+/// What was found is what was wanted of a trie with this high start and this null data offset.
+fn expect_of<T: PartialEq + Debug + Drop>(
+    rt: &impl Abort,
+    found: T,
+    want: T,
+    (high_start, null_offset): (u32, u32),
+) {
+    assert_eq!(rt;
+        found,
+        want,
+        "high start {high_start:x}, null offset {null_offset:x}"
+    );
+}
+
 /// What was found at the code point `c` is what was wanted.
 fn expect_at<T: PartialEq + Debug + Drop>(rt: &impl Abort, found: T, want: T, c: u32) {
     assert_eq!(rt; found, want, "at {c:x}");
@@ -73,8 +87,14 @@ fn small_header(high_start: u32, null_value: u32) -> CodePointTrieHeader {
     }
 }
 
-/// 64 cells, then a high value and an error value.
-fn data(each: u8, high: u8, error: u8) -> [u8; 66] {
+/// Data of 64 cells of one number, of a high value and of an error value.
+type Cells = (u8, u8, u8);
+
+const SEVENS: Cells = (7, 7, 9);
+
+const ONES: Cells = (1, 2, 3);
+
+fn data((each, high, error): Cells) -> [u8; 66] {
     let mut data = [each; 66];
     data[64] = high;
     data[65] = error;
@@ -100,4 +120,19 @@ fn trie_of<'a>(
     data: &'a [u8],
 ) -> CodePointTrie<'a, u8> {
     lent_trie(header, index, data).expect(rt, "a trie")
+}
+
+/// A small trie of these parts, by its high start and its null data offset. The null value is 0,
+/// and no index-2 cell is the null one.
+fn small_trie<'a>(
+    rt: &impl Abort,
+    (high_start, data_null_offset): (u32, u32),
+    index: &'a [u8],
+    data: &'a [u8],
+) -> CodePointTrie<'a, u8> {
+    let header = CodePointTrieHeader {
+        data_null_offset,
+        ..small_header(high_start, 0)
+    };
+    trie_of(rt, header, index, data)
 }

@@ -8,43 +8,8 @@ use icu_collections::zerovec::MemoryError;
 use std::process::Abort;
 use std::test::Fail;
 
-/// A write of the default value counts as any other.
-#[test]
-fn default_write_over_a_range(rt: HostRuntime) {
-    for trie_type in BOTH {
-        let writes = [Write::Range(0x41..=0x5A, 1u8), Write::One(0x41, 0)];
-        let expected = [
-            (0, 0),
-            (0x40, 0),
-            (0x41, 0),
-            (0x42, 1),
-            (0x5A, 1),
-            (0x5B, 0),
-            (0xFFFF, 0),
-            (0x10000, 0),
-            (0x10FFFF, 0),
-            (0x110000, 9),
-            (u32::MAX, 9),
-        ];
-        expect_numbers(&rt, built(&rt, trie_type, (0, 9), &writes), &expected);
-    }
-}
-
-/// A range is cut at the end of the code space, and one that starts after it writes nothing.
-#[test]
-fn writes_at_the_end_of_the_code_space(rt: HostRuntime) {
-    for trie_type in BOTH {
-        let writes = [
-            Write::Range(0x10FFFF..=0x110005, 1u8),
-            Write::Range(0x110000..=0x200000, 2),
-        ];
-        let expected = [(0, 0), (0x10FFFE, 0), (0x10FFFF, 1), (0x110000, 9)];
-        expect_numbers(&rt, built(&rt, trie_type, (0, 9), &writes), &expected);
-    }
-}
-
 /// Each code point from 0x10000 to 0x20FFF has itself as its value, and none beside them.
-fn expect_own_numbers(rt: &impl Abort, trie: CodePointTrie<'_, u32>) {
+fn expect_own_numbers(rt: &impl Abort, trie: &CodePointTrie<'_, u32>) {
     for c in 0x10000u32..0x21000 {
         expect_number(rt, c, trie.get32(c), c);
     }
@@ -61,7 +26,7 @@ fn expect_own_numbers(rt: &impl Abort, trie: CodePointTrie<'_, u32>) {
 fn a_number_for_each_code_point(rt: HostRuntime) -> Result<(), Fail> {
     let writes = own_numbers(rt.alloc(), 0x10000, 0x20FFF)?;
     for trie_type in BOTH {
-        expect_own_numbers(&rt, built(&rt, trie_type, (0, 9), &writes));
+        expect_own_numbers(&rt, &built(&rt, trie_type, (0, 9), &writes));
     }
     Ok(())
 }
@@ -79,7 +44,7 @@ fn write_more(builder: &mut CodePointTrieBuilder<u16>) -> Result<(), ApplyRefuse
 }
 
 /// The trie of all these writes.
-fn expect_all_writes(rt: &impl Abort, trie: CodePointTrie<'_, u16>) {
+fn expect_all_writes(rt: &impl Abort, trie: &CodePointTrie<'_, u16>) {
     expect(rt, trie.error_value() == 6, "error value");
     let expected = [
         (0, 5),
@@ -107,7 +72,7 @@ fn calls_one_by_one(rt: HostRuntime) {
     expect(&rt, write_one_by_one(&mut builder).is_ok(), "one by one");
     expect(&rt, write_more(&mut builder).is_ok(), "a list");
     match builder.build() {
-        Ok(trie) => expect_all_writes(&rt, trie),
+        Ok(trie) => expect_all_writes(&rt, &trie),
         Err(_) => expect(&rt, false, "not built"),
     }
 }

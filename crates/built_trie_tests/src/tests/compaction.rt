@@ -1,42 +1,46 @@
 //! Data whose blocks share cells: the null block, and blocks that begin with the end of the one
 //! before.
 
-use crate::tests::support::{BOTH, built, expect, expect_numbers, expect_ranges};
-use icu_collections::codepointtrie::{CodePointTrie, TrieType, TrieValue, Write};
+use crate::tests::support::{
+    BOTH, built, expect, expect_cells, expect_map, expect_number, expect_numbers, expect_ranges,
+};
+use icu_collections::codepointtrie::json::to_json;
+use icu_collections::codepointtrie::{CodePointTrie, TrieType, Write};
 use std::alloc::{AllocError, Global};
 use std::process::Abort;
 use std::test::Fail;
 
-/// The trie has at most so many cells of data.
-fn expect_data<T: TrieValue>(rt: &impl Abort, trie: CodePointTrie<'_, T>, most: usize) {
-    let (_, _, data) = trie.parts();
-    let found = data.len();
-    assert!(rt; found <= most, "{found} cells of data");
+/// A number of the header of a trie, in its JSON form.
+fn in_json(alloc: Global, trie: &CodePointTrie<'_, u8>, key: &str) -> Option<u64> {
+    let value = to_json(alloc, trie).ok()?;
+    value.get("header")?.get(key)?.as_u64()
 }
 
-/// The trie has at most so many cells of index.
-fn expect_index(rt: &impl Abort, trie: CodePointTrie<'_, u16>, most: usize) {
-    let (_, index, _) = trie.parts();
-    let found = index.len();
-    assert!(rt; found <= most, "{found} cells of index");
-}
-
-/// The null block of the trie holds this number, and blocks of 512 hold nothing else.
-fn expect_null(rt: &impl Abort, trie: CodePointTrie<'_, u8>, null_value: u32) {
+/// The null block of the trie holds this number, and blocks of 512 hold nothing else; its JSON form
+/// says the same.
+fn expect_null(rt: &(impl Abort + AllocGlobal), trie: &CodePointTrie<'_, u8>, null_value: u32) {
     let (header, _, _) = trie.parts();
-    assert_eq!(rt; header.null_value, null_value);
-    assert!(rt; header.data_null_offset != 0xfffff, "no null block");
-    assert!(rt; header.index3_null_offset != 0x7fff, "no null block of 512");
+    let offsets = (
+        u64::from(header.data_null_offset),
+        u64::from(header.index3_null_offset),
+    );
+    expect_number(rt, 0, header.null_value, null_value);
+    expect(rt, offsets.0 != 0xfffff, "no null block");
+    expect(rt, offsets.1 != 0x7fff, "no null block of 512");
+    for (key, want) in [
+        ("null_value", u64::from(null_value)),
+        ("data_null_offset", offsets.0),
+        ("index3_null_offset", offsets.1),
+    ] {
+        expect(rt, in_json(rt.alloc(), trie, key) == Some(want), key);
+    }
 }
 
 /// Fives below 0x10000, and zeros after them.
 #[test]
 fn one_number_on_each_side_of_a_limit(rt: HostRuntime) {
-    for trie_type in BOTH {
-        let writes = [Write::Range(0..=0xFFFF, 5)];
-        let expected = [(0, 0xFFFF, 5), (0x10000, 0x10FFFF, 0)];
-        expect_ranges(&rt, built(&rt, trie_type, (0, 9), &writes), &expected);
-    }
+    let ranges = [(0, 0xFFFF, 5), (0x10000, 0x10FFFF, 0)];
+    expect_map(&rt, 0, &[Write::Range(0..=0xFFFF, 5)], &ranges, &[]);
 }
 
 /// A block of 64 that begins with sixteen zeros, and zeros in the blocks of 16 that are the most.
@@ -57,16 +61,17 @@ fn zeros_after_a_fast_block(
 #[test]
 fn null_block_after_a_fast_block(rt: HostRuntime) {
     for trie_type in BOTH {
-        let expected = [
+        let ranges = [
             (0, 0x3FF, 5),
             (0x400, 0x40F, 0),
             (0x410, 0xFFFF, 5),
             (0x10000, 0x10FFFE, 0),
             (0x10FFFF, 0x10FFFF, 3),
         ];
-        expect_ranges(&rt, zeros_after_a_fast_block(&rt, trie_type), &expected);
-        expect_null(&rt, zeros_after_a_fast_block(&rt, trie_type), 0);
-        expect_data(&rt, zeros_after_a_fast_block(&rt, trie_type), 320);
+        let trie = zeros_after_a_fast_block(&rt, trie_type);
+        expect_ranges(&rt, &trie, &ranges);
+        expect_null(&rt, &trie, 0);
+        expect_cells(&rt, &trie, usize::MAX, 320);
     }
 }
 
@@ -88,8 +93,9 @@ fn overlapping_data_blocks(rt: HostRuntime) -> Result<(), Fail> {
     let writes = overlapping_writes(rt.alloc())?;
     let expected = [(0x10000, 1), (0x10010, 9), (0x1063F, 808), (0x10640, 0)];
     for trie_type in BOTH {
-        expect_data(&rt, built(&rt, trie_type, (0, 9), &writes), 1000);
-        expect_numbers(&rt, built(&rt, trie_type, (0, 9), &writes), &expected);
+        let trie = built(&rt, trie_type, (0, 9), &writes);
+        expect_cells(&rt, &trie, usize::MAX, 1000);
+        expect_numbers(&rt, &trie, &expected);
     }
     Ok(())
 }
@@ -105,9 +111,10 @@ fn small_blocks_in_a_fast_block(rt: HostRuntime) -> Result<(), Fail> {
     for j in 0..16u32 {
         writes.push(Write::One(0x20000 + j, j + 8))?;
     }
-    expect_data(&rt, built(&rt, TrieType::Fast, (0, 9), &writes), 194);
+    let trie = built(&rt, TrieType::Fast, (0, 9), &writes);
+    expect_cells(&rt, &trie, usize::MAX, 194);
     let expected = [(0x43F, 64), (0x20000, 8), (0x2000F, 23), (0x20010, 0)];
-    expect_numbers(&rt, built(&rt, TrieType::Fast, (0, 9), &writes), &expected);
+    expect_numbers(&rt, &trie, &expected);
     expect(&rt, writes.len() == 80, "writes");
     Ok(())
 }
@@ -129,7 +136,8 @@ fn overlapping_index_writes(alloc: Global) -> Result<Vec<Write<u16>>, AllocError
 #[test]
 fn overlapping_index_blocks(rt: HostRuntime) -> Result<(), Fail> {
     let writes = overlapping_index_writes(rt.alloc())?;
-    expect_index(&rt, built(&rt, TrieType::Fast, (0, 9), &writes), 3000);
+    let trie = built(&rt, TrieType::Fast, (0, 9), &writes);
+    expect_cells(&rt, &trie, 3000, usize::MAX);
     let expected = [
         (0xFFFF, 0),
         (0x10000, 1),
@@ -139,7 +147,7 @@ fn overlapping_index_blocks(rt: HostRuntime) -> Result<(), Fail> {
         (0x1C800, 0),
     ];
     for trie_type in BOTH {
-        expect_numbers(&rt, built(&rt, trie_type, (0, 9), &writes), &expected);
+        expect_numbers(&rt, &built(&rt, trie_type, (0, 9), &writes), &expected);
     }
     Ok(())
 }

@@ -5,17 +5,16 @@ use icu_collections::codepointtrie::{CodePointTrie, TrieType, TrieValue, Write};
 use std::alloc::Global;
 use std::process::Abort;
 
-/// The value is at 0x20000, and these numbers where they are asked for.
+/// The value is at 0x20000, and these numbers are there and past the code points.
 fn expect_signed<T: TrieValue>(
     rt: &impl Abort,
-    trie: CodePointTrie<'_, T>,
+    trie: &CodePointTrie<'_, T>,
     value: T,
-    numbers: &[(u32, u32)],
+    numbers: (u32, u32),
 ) {
     expect(rt, trie.get32(0x20000) == value, "the value");
-    for (c, number) in numbers {
-        expect_number(rt, *c, trie.get32_u32(*c), *number);
-    }
+    expect_number(rt, 0x20000, trie.get32_u32(0x20000), numbers.0);
+    expect_number(rt, 0x110000, trie.get32_u32(0x110000), numbers.1);
 }
 
 /// A negative value keeps its sign, and has the number of its two's complement of 32 bits.
@@ -23,12 +22,11 @@ fn expect_signed<T: TrieValue>(
 fn negative_value(rt: HostRuntime) {
     for trie_type in BOTH {
         let of_8 = built(&rt, trie_type, (0i8, 9), &[Write::One(0x20000, -1)]);
-        expect_signed(&rt, of_8, -1, &[(0x20000, 0xFFFFFFFF)]);
+        expect_signed(&rt, &of_8, -1, (0xFFFFFFFF, 9));
         let of_16 = built(&rt, trie_type, (0i16, 9), &[Write::One(0x20000, -300)]);
-        expect_signed(&rt, of_16, -300, &[(0x20000, 0xFFFFFED4)]);
+        expect_signed(&rt, &of_16, -300, (0xFFFFFED4, 9));
         let of_32 = built(&rt, trie_type, (0i32, -9), &[Write::One(0x20000, i32::MIN)]);
-        let numbers = [(0x20000, 0x80000000), (0x110000, 0xFFFFFFF7)];
-        expect_signed(&rt, of_32, i32::MIN, &numbers);
+        expect_signed(&rt, &of_32, i32::MIN, (0x80000000, 0xFFFFFFF7));
     }
 }
 
@@ -51,19 +49,27 @@ fn numbers_of_values(rt: HostRuntime) {
     expect_value(&rt, 0x110000, None::<char>);
 }
 
-/// What each getter answers of a trie of characters.
-fn expect_answers(rt: &impl Abort, trie: CodePointTrie<'_, char>) {
-    expect(rt, trie.get('a') == 'A', "get of 61");
-    expect(rt, trie.get('\u{10428}') == '\u{10400}', "get of 10428");
-    expect(rt, trie.get16(0x61) == 'A', "get16 of 61");
-    expect(rt, trie.get16(0xD800) == 'B', "get16 of d800");
-    expect(rt, trie.get16(0xFFFF) == '-', "get16 of ffff");
-    let found = trie.get32_supplementary(0x10428);
-    expect(rt, found == '\u{10400}', "get32_supplementary of 10428");
-    let found = trie.get32_supplementary(0x10429);
-    expect(rt, found == '-', "get32_supplementary of 10429");
-    expect_number(rt, 0x10428, trie.get32_u32(0x10428), 0x10400);
-    expect_number(rt, 0x110000, trie.get32_u32(0x110000), 0xFFFD);
+/// What the getters answer of a trie of characters.
+fn answers_of(trie: CodePointTrie<'_, char>) -> ([char; 7], [u32; 2]) {
+    let characters = [
+        trie.get('a'),
+        trie.get('\u{10428}'),
+        trie.get16(0x61),
+        trie.get16(0xD800),
+        trie.get16(0xFFFF),
+        trie.get32_supplementary(0x10428),
+        trie.get32_supplementary(0x10429),
+    ];
+    (
+        characters,
+        [trie.get32_u32(0x10428), trie.get32_u32(0x110000)],
+    )
+}
+
+fn expect_answers(rt: &impl Abort, (characters, numbers): ([char; 7], [u32; 2])) {
+    let wanted = ['A', '\u{10400}', 'A', 'B', '-', '\u{10400}', '-'];
+    assert_eq!(rt; characters, wanted);
+    assert_eq!(rt; numbers, [0x10400, 0xFFFD]);
 }
 
 /// Characters that stand for others, as in a mapping of characters to their upper case.
@@ -75,7 +81,8 @@ fn each_getter(rt: HostRuntime) {
             Write::One(0xD800, 'B'),
             Write::One(0x10428, '\u{10400}'),
         ];
-        expect_answers(&rt, built(&rt, trie_type, ('-', '\u{FFFD}'), &writes));
+        let trie = built(&rt, trie_type, ('-', '\u{FFFD}'), &writes);
+        expect_answers(&rt, answers_of(trie));
     }
 }
 
@@ -94,49 +101,29 @@ fn lent<'a>(trie: &'a CodePointTrie<'_, u16>) -> Option<CodePointTrie<'a, u16>> 
     CodePointTrie::try_new(header, index.as_zerovec(), data.as_zerovec()).ok()
 }
 
-/// A copy of the trie.
-fn copy_of(
-    alloc: Global,
-    trie: Option<CodePointTrie<'_, u16>>,
-) -> Option<CodePointTrie<'static, u16>> {
-    match trie {
-        Some(trie) => trie.try_clone(alloc).ok(),
-        None => None,
-    }
+/// Whether a trie of the parts of this one, which it borrows, equals it, and a copy of that one
+/// does too, and both have 5 at 0x20000.
+fn are_equal(alloc: Global, trie: &CodePointTrie<'_, u16>) -> Option<(bool, bool, u16, u16)> {
+    let lent = lent(trie)?;
+    let copy = lent.try_clone(alloc).ok()?;
+    Some((
+        lent == *trie,
+        copy == *trie,
+        lent.get32(0x20000),
+        copy.get32(0x20000),
+    ))
 }
 
-/// There is a trie, it equals the other one, and has 5 at 0x20000.
-fn expect_equal(
-    rt: &impl Abort,
-    found: Option<CodePointTrie<'_, u16>>,
-    wanted: &CodePointTrie<'_, u16>,
-    what: &str,
-) {
-    match found {
-        Some(trie) => {
-            expect(rt, trie == *wanted, what);
-            expect(rt, trie.get32(0x20000) == 5, what);
-        }
-        None => expect(rt, false, what),
-    }
-}
-
-/// A trie of the parts of another one, which it borrows, equals it, and so does a copy.
+/// A trie of the parts of another one, which it borrows, equals it, and so does a copy. Tries that
+/// differ in their error values alone are not equal.
 #[test]
 fn parts_and_copies(rt: HostRuntime) {
     for trie_type in BOTH {
         let trie = five(&rt, trie_type, 9);
         expect(&rt, trie.parts().0.trie_type == trie_type, "type");
-        expect_equal(&rt, lent(&trie), &trie, "lent");
-        expect_equal(&rt, copy_of(rt.alloc(), lent(&trie)), &trie, "copy");
-    }
-}
-
-/// Tries that differ in their error values alone are not equal.
-#[test]
-fn other_error_value(rt: HostRuntime) {
-    for trie_type in BOTH {
+        let found = are_equal(rt.alloc(), &trie);
+        expect(&rt, found == Some((true, true, 5, 5)), "lent, and a copy");
         let other = five(&rt, trie_type, 8);
-        expect(&rt, other != five(&rt, trie_type, 9), "error values");
+        expect(&rt, other != trie, "error values");
     }
 }

@@ -1,7 +1,8 @@
 //! Ranges and tries under a map of the values, of built tries.
 
-use crate::tests::support::{BOTH, built, expect};
-use icu_collections::codepointtrie::{CodePointMapRange, CodePointTrie, MapError, TrieType, Write};
+use crate::tests::support::{BOTH, built, expect, over_the_fast_limit};
+use icu_collections::codepointtrie::{CodePointMapRange, CodePointTrie, MapError, TrieType};
+use std::fmt::Debug;
 use std::ops::RangeInclusive;
 use std::process::Abort;
 use std::test::Fail;
@@ -11,49 +12,24 @@ fn with<T>(range: RangeInclusive<u32>, value: T) -> CodePointMapRange<T> {
     CodePointMapRange { range, value }
 }
 
-/// Runs that begin before the fast limit and go on after it: 0, and then 1, 2 and 1.
-fn over_the_fast_limit(rt: &(impl Abort + AllocGlobal)) -> CodePointTrie<'static, u8> {
-    let writes = [
-        Write::Range(0xFFC0..=0xFFCF, 1),
-        Write::Range(0xFFD0..=0xFFFF, 2),
-        Write::Range(0x10000..=0x1000F, 1),
-    ];
-    built(rt, TrieType::Fast, (0, 9), &writes)
-}
-
-fn expect_ones(rt: &impl Abort, found: Vec<RangeInclusive<u32>>) {
-    let wanted = [0xFFC0..=0xFFCF, 0x10000..=0x1000F];
-    assert_eq!(rt; found.as_slice(), wanted.as_slice());
+/// What was found is what is wanted, in its order.
+fn expect_items<T: PartialEq + Debug + Drop>(rt: &impl Abort, found: Vec<T>, wanted: &[T]) {
+    assert_eq!(rt; found.as_slice(), wanted);
 }
 
 #[test]
-fn runs_of_a_value_over_the_fast_limit(rt: HostRuntime) -> Result<(), Fail> {
-    let trie = over_the_fast_limit(&rt);
-    expect_ones(&rt, trie.iter_ranges_for_value(1).collect(rt.alloc())?);
-    Ok(())
-}
-
-fn expect_mapped(rt: &impl Abort, found: Vec<CodePointMapRange<bool>>) {
+fn runs_over_the_fast_limit(rt: HostRuntime) -> Result<(), Fail> {
+    let trie = over_the_fast_limit(&rt, TrieType::Fast);
+    let ones = trie.iter_ranges_for_value(1).collect(rt.alloc())?;
+    expect_items(&rt, ones, &[0xFFC0..=0xFFCF, 0x10000..=0x1000F]);
+    let mapped = trie.iter_ranges_mapped(|v| v != 0).collect(rt.alloc())?;
     let wanted = [
         with(0..=0xFFBF, false),
         with(0xFFC0..=0x1000F, true),
         with(0x10010..=0x10FFFF, false),
     ];
-    assert_eq!(rt; found.as_slice(), wanted.as_slice());
-}
-
-#[test]
-fn mapped_runs_over_the_fast_limit(rt: HostRuntime) -> Result<(), Fail> {
-    let trie = over_the_fast_limit(&rt);
-    expect_mapped(
-        &rt,
-        trie.iter_ranges_mapped(|v| v != 0).collect(rt.alloc())?,
-    );
+    expect_items(&rt, mapped, &wanted);
     Ok(())
-}
-
-fn expect_eight(rt: &impl Abort, found: Vec<CodePointMapRange<u16>>) {
-    assert_eq!(rt; found.as_slice(), [with(0..=0x10FFFF, 8u16)].as_slice());
 }
 
 /// The trie of 7 for all and the error value 9, one higher.
@@ -62,7 +38,8 @@ fn expect_one_higher(
     trie: CodePointTrie<'_, u16>,
 ) -> Result<(), Fail> {
     expect(rt, trie.get32(0x110000) == 10, "error value");
-    expect_eight(rt, trie.iter_ranges().collect(rt.alloc())?);
+    let ranges = trie.iter_ranges().collect(rt.alloc())?;
+    expect_items(rt, ranges, &[with(0..=0x10FFFF, 8u16)]);
     Ok(())
 }
 

@@ -100,23 +100,28 @@ fn expect_value(rt: &impl Abort, trie: &CodePointTrie<'_, u32>, writes: &[Writte
 /// It has them round every border, and at random code points.
 fn expect_values(
     rt: &impl Abort,
-    trie: CodePointTrie<'_, u32>,
+    trie: &CodePointTrie<'_, u32>,
     writes: &[Written],
     borders: &[u32],
     random: &mut Random,
 ) {
     for border in borders {
-        expect_value(rt, &trie, writes, border.saturating_sub(1));
-        expect_value(rt, &trie, writes, *border);
-        expect_value(rt, &trie, writes, border.saturating_add(1));
+        expect_value(rt, trie, writes, border.saturating_sub(1));
+        expect_value(rt, trie, writes, *border);
+        expect_value(rt, trie, writes, border.saturating_add(1));
     }
     for _ in 0..50 {
-        expect_value(rt, &trie, writes, random.next() % 0x110010);
+        expect_value(rt, trie, writes, random.next() % 0x110010);
     }
 }
 
 /// Its ranges are whole, have the values of the writes, and end where the value changes.
-fn expect_runs(rt: &impl Abort, trie: CodePointTrie<'_, u32>, writes: &[Written], borders: &[u32]) {
+fn expect_runs(
+    rt: &impl Abort,
+    trie: &CodePointTrie<'_, u32>,
+    writes: &[Written],
+    borders: &[u32],
+) {
     let mut next = 0u32;
     for range in trie.iter_ranges() {
         let (first, last) = (*range.range.start(), *range.range.end());
@@ -152,7 +157,7 @@ fn mixed_blocks(borders: &[u32], size: u32, low: u32, high: u32) -> usize {
 /// It has no more cells of data than its map has different blocks for.
 fn expect_few_cells(
     rt: &impl Abort,
-    trie: CodePointTrie<'_, u32>,
+    trie: &CodePointTrie<'_, u32>,
     limit: u32,
     writes: &[Written],
     borders: &[u32],
@@ -183,15 +188,9 @@ fn ask_random_map(
             TrieType::Small => 0x1000,
         };
         let trie = built(rt, trie_type, (0, 9), &taken);
-        expect_values(rt, trie, &writes, &borders, random);
-        expect_runs(rt, built(rt, trie_type, (0, 9), &taken), &writes, &borders);
-        expect_few_cells(
-            rt,
-            built(rt, trie_type, (0, 9), &taken),
-            limit,
-            &writes,
-            &borders,
-        );
+        expect_values(rt, &trie, &writes, &borders, random);
+        expect_runs(rt, &trie, &writes, &borders);
+        expect_few_cells(rt, &trie, limit, &writes, &borders);
     }
     Ok(())
 }

@@ -1,6 +1,8 @@
 //! How many cells a built trie has, and which maps are too large.
 
-use crate::tests::support::{BOTH, built, expect, expect_number, expect_numbers, own_numbers};
+use crate::tests::support::{
+    BOTH, built, expect, expect_cells, expect_number, expect_numbers, own_numbers,
+};
 use icu_collections::codepointtrie::{
     BuildError, CodePointTrie, TrieType, Write, build_from_writes,
 };
@@ -8,23 +10,9 @@ use std::alloc::{AllocError, Global};
 use std::process::Abort;
 use std::test::Fail;
 
-/// The trie has at most so many cells of data.
-fn expect_data(rt: &impl Abort, trie: &CodePointTrie<'_, u32>, most: usize) {
-    let (_, _, data) = trie.parts();
-    let found = data.len();
-    assert!(rt; found <= most, "{found} cells of data");
-}
-
-/// The trie has at most so many cells of index.
-fn expect_index(rt: &impl Abort, trie: &CodePointTrie<'_, u32>, most: usize) {
-    let (_, index, _) = trie.parts();
-    let found = index.len();
-    assert!(rt; found <= most, "{found} cells of index");
-}
-
 /// Each code point from 0x10000 to 0x3EDEF has itself as its value, and none beside them: data
 /// offsets on both sides of 0xFFFF, so that index-3 blocks of both widths are read.
-fn expect_own_numbers(rt: &impl Abort, trie: CodePointTrie<'_, u32>) {
+fn expect_own_numbers(rt: &impl Abort, trie: &CodePointTrie<'_, u32>) {
     for c in 0x10000u32..0x3EDF0 {
         expect_number(rt, c, trie.get32(c), c);
     }
@@ -43,9 +31,10 @@ fn expect_own_numbers(rt: &impl Abort, trie: CodePointTrie<'_, u32>) {
 #[test]
 fn twelve_thousand_small_blocks(rt: HostRuntime) -> Result<(), Fail> {
     let writes = own_numbers(rt.alloc(), 0x10000, 0x3EDEF)?;
-    expect_data(&rt, &built(&rt, TrieType::Fast, (0, 9), &writes), 192_224);
+    let fast = built(&rt, TrieType::Fast, (0, 9), &writes);
+    expect_cells(&rt, &fast, usize::MAX, 192_224);
     for trie_type in BOTH {
-        expect_own_numbers(&rt, built(&rt, trie_type, (0, 9), &writes));
+        expect_own_numbers(&rt, &built(&rt, trie_type, (0, 9), &writes));
     }
     Ok(())
 }
@@ -64,11 +53,11 @@ fn distant_writes(alloc: Global) -> Result<Vec<Write<u32>>, AllocError> {
 #[test]
 fn eight_hundred_blocks(rt: HostRuntime) -> Result<(), Fail> {
     let writes = distant_writes(rt.alloc())?;
-    expect_data(&rt, &built(&rt, TrieType::Fast, (0, 9), &writes), 13_024);
-    expect_index(&rt, &built(&rt, TrieType::Fast, (0, 9), &writes), 28_800);
+    let fast = built(&rt, TrieType::Fast, (0, 9), &writes);
+    expect_cells(&rt, &fast, 28_800, 13_024);
     let expected = [(0x10000, 1), (0x10001, 0), (0x73C00, 799), (0x73C01, 0)];
     for trie_type in BOTH {
-        expect_numbers(&rt, built(&rt, trie_type, (0, 9), &writes), &expected);
+        expect_numbers(&rt, &built(&rt, trie_type, (0, 9), &writes), &expected);
     }
     Ok(())
 }

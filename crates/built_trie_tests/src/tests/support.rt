@@ -64,7 +64,7 @@ pub fn expect_number(rt: &impl Abort, c: u32, found: u32, wanted: u32) {
 /// The value at each of these code points has this number.
 pub fn expect_numbers<T: TrieValue>(
     rt: &impl Abort,
-    trie: CodePointTrie<'_, T>,
+    trie: &CodePointTrie<'_, T>,
     expected: &[(u32, u32)],
 ) {
     for (c, number) in expected {
@@ -73,13 +73,13 @@ pub fn expect_numbers<T: TrieValue>(
 }
 
 /// The range has these first and last code points and this value.
-fn is_range(range: &CodePointMapRange<u8>, wanted: (u32, u32, u8)) -> bool {
+pub fn is_range(range: &CodePointMapRange<u8>, wanted: (u32, u32, u8)) -> bool {
     let (first, last, value) = wanted;
     range.range == (first..=last) && range.value == value
 }
 
 /// The trie has these ranges, each with its first and last code point and its value, and no more.
-pub fn expect_ranges(rt: &impl Abort, trie: CodePointTrie<'_, u8>, expected: &[(u32, u32, u8)]) {
+pub fn expect_ranges(rt: &impl Abort, trie: &CodePointTrie<'_, u8>, expected: &[(u32, u32, u8)]) {
     let mut found = 0;
     for range in trie.iter_ranges() {
         assert!(rt; found < expected.len(), "more than {found} ranges");
@@ -87,4 +87,46 @@ pub fn expect_ranges(rt: &impl Abort, trie: CodePointTrie<'_, u8>, expected: &[(
         found += 1;
     }
     assert!(rt; found == expected.len(), "{found} ranges");
+}
+
+/// The tries of both types that are built of these writes over the first number, with the error
+/// value 9, have these ranges, and these numbers at the code points that are told.
+pub fn expect_map(
+    rt: &(impl Abort + AllocGlobal),
+    default: u8,
+    writes: &[Write<u8>],
+    ranges: &[(u32, u32, u8)],
+    numbers: &[(u32, u32)],
+) {
+    for trie_type in BOTH {
+        let trie = built(rt, trie_type, (default, 9), writes);
+        expect_ranges(rt, &trie, ranges);
+        expect_numbers(rt, &trie, numbers);
+    }
+}
+
+/// The trie has at most so many cells of index and of data.
+pub fn expect_cells<T: TrieValue>(
+    rt: &impl Abort,
+    trie: &CodePointTrie<'_, T>,
+    most_index: usize,
+    most_data: usize,
+) {
+    let (_, index, data) = trie.parts();
+    let (index, data) = (index.len(), data.len());
+    let few = index <= most_index && data <= most_data;
+    assert!(rt; few, "{index} cells of index, {data} of data");
+}
+
+/// Equal values on both sides of the fast limit, in blocks of 64 and of 16: 0, and then 1, 2 and 1.
+pub fn over_the_fast_limit(
+    rt: &(impl Abort + AllocGlobal),
+    trie_type: TrieType,
+) -> CodePointTrie<'static, u8> {
+    let writes = [
+        Write::Range(0xFFC0..=0xFFCF, 1),
+        Write::Range(0xFFD0..=0xFFFF, 2),
+        Write::Range(0x10000..=0x1000F, 1),
+    ];
+    built(rt, trie_type, (0, 9), &writes)
 }

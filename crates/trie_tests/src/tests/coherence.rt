@@ -1,67 +1,51 @@
 //! Which tries are coherent, and what is answered where a header says what is not so.
-use super::{BOTH, ZEROS, built, data, expect, expect_at, small_header, trie_of};
+use super::{
+    BOTH, Cells, ONES, SEVENS, ZEROS, built, data, expect, expect_at, expect_of, small_header,
+    small_trie, trie_of,
+};
 use icu_collections::codepointtrie::{CodePointTrie, CodePointTrieHeader, Write};
 use std::alloc::Global;
 use std::process::Abort;
 
-/// A small trie over an index of zeros, by its high start and its null data offset. The null value
-/// is 0, and no index-2 cell is the null one.
-fn trie_by<'a>(
-    rt: &impl Abort,
-    (high_start, data_null_offset): (u32, u32),
-    data: &'a [u8],
-) -> CodePointTrie<'a, u8> {
-    let header = CodePointTrieHeader {
-        data_null_offset,
-        ..small_header(high_start, 0)
-    };
-    trie_of(rt, header, &ZEROS, data)
-}
+/// Headers, by their high start and their null data offset, each over an index of zeros and such
+/// data, and whether the trie is coherent.
+static HEADERS: [((u32, u32), Cells, bool); 13] = [
+    // What these say is so.
+    ((0x1000, 0xfffff), SEVENS, true),
+    ((0x1000, 0xfffff), ONES, true),
+    ((0, 0xfffff), SEVENS, true),
+    ((0x200, 0xfffff), SEVENS, true),
+    ((0x1000, 0), (0, 7, 9), true),
+    // The high start is no multiple of 512, or above the code points.
+    ((0x1001, 0xfffff), SEVENS, false),
+    ((0xFFFF_FFFF, 0xfffff), SEVENS, false),
+    ((0x11_0200, 0xfffff), SEVENS, false),
+    // The null block has other values.
+    ((0x1000, 0), SEVENS, false),
+    // Cells of the index are missing.
+    ((0x1200, 0xfffff), SEVENS, false),
+    ((0x2000, 0xfffff), ONES, false),
+    // The fast index goes on above the high start with another value.
+    ((0xE00, 0xfffff), ONES, false),
+    ((0, 0xfffff), ONES, false),
+];
 
-/// Whether the trie is coherent is as wanted.
-fn expect_coherent(rt: &impl Abort, trie: CodePointTrie<'_, u8>, want: bool, what: (u32, u32)) {
-    assert_eq!(rt; trie.is_coherent(), want, "{what:?}");
-}
-
-/// What these headers say is so.
 #[test]
-fn coherent_headers(rt: HostRuntime) {
-    for (header, data) in [
-        ((0x1000, 0xfffff), data(7, 7, 9)),
-        ((0x1000, 0xfffff), data(1, 2, 3)),
-        ((0, 0xfffff), data(7, 7, 9)),
-        ((0x200, 0xfffff), data(7, 7, 9)),
-        ((0x1000, 0), data(0, 7, 9)),
-    ] {
-        expect_coherent(&rt, trie_by(&rt, header, &data), true, header);
-    }
-}
-
-/// The high start is no multiple of 512, or above the code points; the null block has other values;
-/// cells of the index are missing; the fast index goes on above the high start with another value.
-#[test]
-fn lying_headers(rt: HostRuntime) {
-    for (header, data) in [
-        ((0x1001, 0xfffff), data(7, 7, 9)),
-        ((0xFFFF_FFFF, 0xfffff), data(7, 7, 9)),
-        ((0x11_0200, 0xfffff), data(7, 7, 9)),
-        ((0x1000, 0), data(7, 7, 9)),
-        ((0x1200, 0xfffff), data(7, 7, 9)),
-        ((0x2000, 0xfffff), data(1, 2, 3)),
-        ((0xE00, 0xfffff), data(1, 2, 3)),
-        ((0, 0xfffff), data(1, 2, 3)),
-    ] {
-        expect_coherent(&rt, trie_by(&rt, header, &data), false, header);
+fn coherence_by_headers(rt: HostRuntime) {
+    for (header, cells, want) in HEADERS.iter() {
+        let cells = data(*cells);
+        let coherent = small_trie(&rt, *header, &ZEROS, &cells).is_coherent();
+        expect_of(&rt, coherent, *want, *header);
     }
 }
 
 /// The first sixteen cells of the null block of 64 are the null value, and the next one isn't.
 #[test]
 fn null_block_of_sixteen_alone(rt: HostRuntime) {
-    let mut cells = data(0, 7, 9);
+    let mut cells = data((0, 7, 9));
     cells[16] = 1;
-    let header = (0x1000, 0);
-    expect_coherent(&rt, trie_by(&rt, header, &cells), false, header);
+    let coherent = small_trie(&rt, (0x1000, 0), &ZEROS, &cells).is_coherent();
+    expect(&rt, !coherent, "the seventeenth cell is another value");
 }
 
 /// A small trie with one block of 512 above its fast limit, by its index-2 cell and the null one.
@@ -90,77 +74,73 @@ fn index_of(cell: u16) -> [u8; 280] {
     index
 }
 
-/// The block of 512 has the value 1 where it isn't named as null, and bit 15 belongs to its name.
+/// Index-2 cells, the null one, data, and whether the trie is coherent. All data offsets are 0.
+static INDEX_2_CELLS: [(u16, u16, Cells, bool); 10] = [
+    // The block has the value 1 where it isn't named as null, and bit 15 belongs to its name.
+    (100, 0x7fff, ONES, true),
+    (0x8064, 0x7fff, ONES, true),
+    (100, 100, ONES, false),
+    (0x8064, 0x8064, ONES, false),
+    (0x8064, 100, ONES, true),
+    (100, 0x8064, ONES, true),
+    (130, 0x7fff, ONES, false),
+    (0x7ffe, 0x7fff, ONES, false),
+    // The block is named as null, and is.
+    (100, 100, (0, 2, 3), true),
+    (0x8064, 0x8064, (0, 2, 3), true),
+];
+
 #[test]
 fn coherence_by_index_2_cells(rt: HostRuntime) {
-    let ones = data(1, 2, 3);
-    for (cell, null_cell, want) in [
-        (100, 0x7fff, true),
-        (0x8064, 0x7fff, true),
-        (100, 100, false),
-        (0x8064, 0x8064, false),
-        (0x8064, 100, true),
-        (100, 0x8064, true),
-        (130, 0x7fff, false),
-        (0x7ffe, 0x7fff, false),
-    ] {
-        let index = index_of(cell);
-        let trie = trie_of_cell(&rt, null_cell, &index, &ones);
-        expect_coherent(&rt, trie, want, (u32::from(cell), u32::from(null_cell)));
+    for (cell, null_cell, cells, want) in INDEX_2_CELLS.iter() {
+        let (index, cells) = (index_of(*cell), data(*cells));
+        let coherent = trie_of_cell(&rt, *null_cell, &index, &cells).is_coherent();
+        expect_at(&rt, coherent, *want, u32::from(*cell));
     }
 }
 
-/// The block of 512 is named as null, and is.
-#[test]
-fn null_index_2_cells(rt: HostRuntime) {
-    let nulls = data(0, 2, 3);
-    for cell in [100, 0x8064] {
-        let index = index_of(cell);
-        let trie = trie_of_cell(&rt, cell, &index, &nulls);
-        expect_coherent(&rt, trie, true, (u32::from(cell), u32::from(cell)));
-    }
-}
+/// The value of a code point by a header, which is also the packed byte of its cell.
+static ANSWERS: [((u32, u32), Cells, u32, u8); 7] = [
+    ((0x1001, 0xfffff), SEVENS, 0x1000, 9),
+    ((0x1001, 0xfffff), SEVENS, 0x1001, 7),
+    ((0x1000, 0), SEVENS, 0, 7),
+    ((0xFFFF_FFFF, 0xfffff), SEVENS, 0x1000, 9),
+    ((0x2000, 0xfffff), ONES, 0, 1),
+    ((0x2000, 0xfffff), ONES, 0x1000, 3),
+    ((0x2000, 0xfffff), ONES, 0x2000, 2),
+];
 
-/// The value of `c`, also as the packed bytes of its cell.
-fn expect_value(rt: &impl Abort, trie: CodePointTrie<'_, u8>, c: u32, value: u8) {
-    expect_at(rt, trie.get32(c), value, c);
-    let packed = trie.get32_ule(c) == Some([value].as_slice());
-    assert!(rt; packed, "at {c:x}");
+/// The value of a code point, and whether its packed bytes are this one.
+fn value_at(trie: CodePointTrie<'_, u8>, c: u32, byte: u8) -> (u8, bool) {
+    let packed = trie.get32_ule(c) == Some([byte].as_slice());
+    (trie.get32(c), packed)
 }
 
 #[test]
 fn values_by_lying_headers(rt: HostRuntime) {
-    let sevens = data(7, 7, 9);
-    let ones = data(1, 2, 3);
-    for (header, data, c, value) in [
-        ((0x1001, 0xfffff), &sevens, 0x1000, 9),
-        ((0x1001, 0xfffff), &sevens, 0x1001, 7),
-        ((0x1000, 0), &sevens, 0, 7),
-        ((0xFFFF_FFFF, 0xfffff), &sevens, 0x1000, 9),
-        ((0x2000, 0xfffff), &ones, 0, 1),
-        ((0x2000, 0xfffff), &ones, 0x1000, 3),
-        ((0x2000, 0xfffff), &ones, 0x2000, 2),
-    ] {
-        expect_value(&rt, trie_by(&rt, header, data), c, value);
+    for (header, cells, c, value) in ANSWERS.iter() {
+        let cells = data(*cells);
+        let found = value_at(small_trie(&rt, *header, &ZEROS, &cells), *c, *value);
+        expect_at(&rt, found, (*value, true), *c);
     }
 }
 
-/// So many ranges come from 0 on.
-fn expect_count(rt: &impl Abort, trie: CodePointTrie<'_, u8>, want: usize, header: (u32, u32)) {
-    assert_eq!(rt; trie.iter_ranges().count(), want, "{header:?}");
-}
+/// How many ranges come from 0 on.
+static COUNTS: [((u32, u32), Cells, usize); 4] = [
+    ((0x1000, 0xfffff), SEVENS, 1),
+    ((0x1000, 0), SEVENS, 0x1001),
+    ((0xFFFF_FFFF, 0xfffff), SEVENS, 0),
+    ((0x2000, 0xfffff), ONES, 0),
+];
 
 #[test]
 fn ranges_end(rt: HostRuntime) {
-    let sevens = data(7, 7, 9);
-    let ones = data(1, 2, 3);
-    for (header, data, count) in [
-        ((0x1000, 0xfffff), &sevens, 1),
-        ((0x1000, 0), &sevens, 0x1001),
-        ((0xFFFF_FFFF, 0xfffff), &sevens, 0),
-        ((0x2000, 0xfffff), &ones, 0),
-    ] {
-        expect_count(&rt, trie_by(&rt, header, data), count, header);
+    for (header, cells, want) in COUNTS.iter() {
+        let cells = data(*cells);
+        let count = small_trie(&rt, *header, &ZEROS, &cells)
+            .iter_ranges()
+            .count();
+        expect_of(&rt, count, *want, *header);
     }
 }
 

@@ -58,23 +58,6 @@ fn owned_flags(alloc: Global) -> Result<ZeroVec<'static, Flag>, MemoryError> {
     ZeroVec::alloc_from_slice(alloc, &[OFF, ON, ON, OFF])
 }
 
-/// What is said of these bytes holds.
-fn expect_of(rt: &impl Abort, holds: bool, what: &str, bytes: &[u8]) {
-    assert!(rt; holds, "{what}: {bytes:?}");
-}
-
-/// The two are equal, as vectors and as slices, and hash alike.
-fn expect_alike(rt: &impl Abort, lent: ZeroVec<'_, Flag>, owned: ZeroVec<'_, Flag>, bytes: &[u8]) {
-    expect_of(rt, lent == owned, "equal", bytes);
-    expect_of(
-        rt,
-        lent.as_slice() == owned.as_slice(),
-        "equal slices",
-        bytes,
-    );
-    expect_of(rt, hash_of(&lent) == hash_of(&owned), "hashes", bytes);
-}
-
 /// The second flag, by the bytes of the vector.
 fn second_parsed_again(flags: &ZeroVec<'_, Flag>) -> Option<Flag> {
     match parsed_again(flags) {
@@ -83,34 +66,33 @@ fn second_parsed_again(flags: &ZeroVec<'_, Flag>) -> Option<Flag> {
     }
 }
 
-/// The vector keeps its bytes, and they are not refused.
-fn expect_kept(rt: &impl Abort, lent: ZeroVec<'_, Flag>, bytes: &[u8]) {
-    expect_of(rt, lent.as_bytes() == bytes, "kept", bytes);
-    let second = second_parsed_again(&lent);
-    expect_of(rt, second == Some(ON), "parsed again", bytes);
+/// Whether the flags of these bytes equal those of [`owned_flags`], as vectors and as slices, and
+/// hash alike; whether they keep the bytes, and the second of them is on.
+fn compared(alloc: Global, bytes: &[u8]) -> Option<[bool; 5]> {
+    let lent = ZeroVec::<Flag>::parse_bytes(bytes).ok()?;
+    let owned = owned_flags(alloc).ok()?;
+    Some([
+        lent == owned,
+        lent.as_slice() == owned.as_slice(),
+        hash_of(&lent) == hash_of(&owned),
+        lent.as_bytes() == bytes,
+        second_parsed_again(&lent) == Some(ON),
+    ])
 }
 
+/// Other bytes are the same flags, and other flags are neither equal nor hash alike.
 #[test]
-fn encodings_of_flags(rt: HostRuntime) -> Result<(), Fail> {
-    for bytes in [[0, 1, 1, 0], [0, 7, 1, 0], [0, 255, 128, 0]] {
-        expect_kept(&rt, ZeroVec::parse_bytes(&bytes)?, &bytes);
-        let owned = owned_flags(rt.alloc())?;
-        expect_alike(&rt, ZeroVec::parse_bytes(&bytes)?, owned, &bytes);
+fn encodings_of_flags(rt: HostRuntime) {
+    for (bytes, alike) in [
+        ([0, 1, 1, 0], true),
+        ([0, 7, 1, 0], true),
+        ([0, 255, 128, 0], true),
+        ([0, 255, 0, 0], false),
+    ] {
+        let found = compared(rt.alloc(), &bytes);
+        let want = (bytes, Some([alike, alike, alike, true, true]));
+        expect_same(&rt, (bytes, found), want, "flags");
     }
-    Ok(())
-}
-
-/// The two are neither equal nor hash alike.
-fn expect_other(rt: &impl Abort, other: ZeroVec<'_, Flag>, owned: ZeroVec<'_, Flag>) {
-    expect(rt, other != owned, "other flags are not equal");
-    expect(rt, hash_of(&other) != hash_of(&owned), "nor hash alike");
-}
-
-#[test]
-fn other_flags(rt: HostRuntime) -> Result<(), Fail> {
-    let owned = owned_flags(rt.alloc())?;
-    expect_other(&rt, ZeroVec::parse_bytes(&[0, 255, 0, 0])?, owned);
-    Ok(())
 }
 
 /// The vector has these bytes.
@@ -125,41 +107,31 @@ fn bytes_of_flags(rt: HostRuntime) -> Result<(), Fail> {
     Ok(())
 }
 
-/// Two flags, off and on, as the numbers of their bytes.
-fn flags_as_numbers() -> Result<ZeroVec<'static, u8>, UleError> {
-    ZeroVec::<Flag>::parse_bytes(&[0, 255])?.try_into_converted::<u8>()
-}
+/// Two flags, off and on, as the numbers of their bytes and how many these are; the first flag and
+/// the last one of the numbers; and why the flags are no sides.
+type Converted = (
+    (Option<u8>, Option<u8>, usize),
+    (Option<Flag>, Option<Flag>),
+    Option<UleError>,
+);
 
-/// Two flags, off and on, of a vector that was one of numbers.
-fn flags_of_numbers() -> Result<ZeroVec<'static, Flag>, UleError> {
-    flags_as_numbers()?.try_into_converted::<Flag>()
-}
-
-/// The two numbers, and how many there are.
-fn numbers_in(bytes: ZeroVec<'_, u8>) -> (Option<u8>, Option<u8>, usize) {
-    (bytes.get(0), bytes.get(1), bytes.len())
-}
-
-/// The first flag and the last one.
-fn ends_of(flags: ZeroVec<'_, Flag>) -> (Option<Flag>, Option<Flag>) {
-    (flags.first(), flags.last())
-}
-
-/// Why flags are no sides.
-fn fault_as_sides(flags: ZeroVec<'_, Flag>) -> Option<UleError> {
-    flags.try_into_converted::<Side>().err()
+fn converted() -> Result<Converted, UleError> {
+    let numbers = ZeroVec::<Flag>::parse_bytes(&[0, 255])?.try_into_converted::<u8>()?;
+    let read = (numbers.get(0), numbers.get(1), numbers.len());
+    let flags = numbers.try_into_converted::<Flag>()?;
+    let ends = (flags.first(), flags.last());
+    Ok((read, ends, flags.try_into_converted::<Side>().err()))
 }
 
 /// A conversion keeps the bytes as they are, and doesn't pack the values anew.
 #[test]
-fn flags_converted(rt: HostRuntime) -> Result<(), Fail> {
-    let found = numbers_in(flags_as_numbers()?);
-    expect_same(&rt, found, (Some(0), Some(255), 2), "numbers of flags");
-    let found = ends_of(flags_of_numbers()?);
-    expect_same(&rt, found, (Some(OFF), Some(ON)), "flags of numbers");
-    let refused = fault_as_sides(flags_of_numbers()?);
-    expect_same(&rt, refused, Some(UleError::Cell(1)), "sides of flags");
-    Ok(())
+fn flags_converted(rt: HostRuntime) {
+    let want = (
+        (Some(0), Some(255), 2),
+        (Some(OFF), Some(ON)),
+        Some(UleError::Cell(1)),
+    );
+    expect_same(&rt, converted().ok(), Some(want), "flags of two bytes");
 }
 
 #[test]
@@ -173,26 +145,26 @@ const BEFORE: Side = Side { byte: 0 };
 
 const AFTER: Side = Side { byte: 1 };
 
-/// The two are equal and hash alike.
-fn expect_same_sides(rt: &impl Abort, lent: ZeroVec<'_, Side>, owned: ZeroVec<'_, Side>) {
-    expect(rt, lent == owned, "equal sides");
-    expect(rt, hash_of(&lent) == hash_of(&owned), "hashes of sides");
-}
+/// Whether the sides of three bytes are equal to their copy and hash alike; the second one, the
+/// third one and the one behind them; and whether the copy has the same bytes.
+type Sides = (bool, bool, [Option<Side>; 3], bool);
 
-/// The second side, the third one and the one behind them.
-fn sides_from_the_second(sides: ZeroVec<'_, Side>) -> (Option<Side>, Option<Side>, Option<Side>) {
-    (sides.get(1), sides.get(2), sides.get(3))
+fn sides_of(alloc: Global, sides: &[Side; 3], bytes: &[u8; 3]) -> Option<Sides> {
+    let owned = ZeroVec::alloc_from_slice(alloc, sides).ok()?;
+    let lent = ZeroVec::<Side>::parse_bytes(bytes).ok()?;
+    Some((
+        lent == owned,
+        hash_of(&lent) == hash_of(&owned),
+        [lent.get(1), lent.get(2), lent.get(3)],
+        owned.as_bytes() == bytes.as_slice(),
+    ))
 }
 
 #[test]
-fn bytes_of_sides(rt: HostRuntime) -> Result<(), Fail> {
-    let found = sides_from_the_second(ZeroVec::parse_bytes(&[1, 0, 1])?);
-    expect_same(&rt, found, (Some(BEFORE), Some(AFTER), None), "sides");
-    let owned = ZeroVec::alloc_from_slice(rt.alloc(), &[AFTER, BEFORE, AFTER])?;
-    expect_bytes(&rt, owned, &[1, 0, 1]);
-    let owned = ZeroVec::alloc_from_slice(rt.alloc(), &[AFTER, BEFORE, AFTER])?;
-    expect_same_sides(&rt, ZeroVec::parse_bytes(&[1, 0, 1])?, owned);
-    Ok(())
+fn bytes_of_sides(rt: HostRuntime) {
+    let found = sides_of(rt.alloc(), &[AFTER, BEFORE, AFTER], &[1, 0, 1]);
+    let want = (true, true, [Some(BEFORE), Some(AFTER), None], true);
+    expect_same(&rt, found, Some(want), "three sides");
 }
 
 /// The place of the first byte that is no side.
@@ -203,7 +175,12 @@ fn fault_of(bytes: &[u8]) -> Option<UleError> {
 #[test]
 fn bytes_that_are_no_sides(rt: HostRuntime) {
     for (bytes, want) in [([2, 0, 0], 0), ([0, 1, 2], 2), ([1, 255, 9], 1)] {
-        let fault = fault_of(&bytes) == Some(UleError::Cell(want));
-        expect_of(&rt, fault, "no sides", &bytes);
+        let found = fault_of(&bytes);
+        expect_same(
+            &rt,
+            (bytes, found),
+            (bytes, Some(UleError::Cell(want))),
+            "no sides",
+        );
     }
 }

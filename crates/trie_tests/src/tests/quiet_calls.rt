@@ -1,16 +1,17 @@
 //! Calls that ask for no memory: all reads of a trie, of its ranges and of its cells, and its
 //! conversions. The script `tests/refused_memory` sees that a test whose name ends in `_quiet` asks
 //! for nothing between the lines `call` and `done`.
-use super::{ZEROS, data, expect_same, lent_trie, say, small_header};
+use super::{ONES, ZEROS, data, expect_same, say, small_header, trie_of};
 use icu_trie::cptrie::CodePointTrie;
 use icu_trie::iterator_utils::RangeListIteratorCoalescer;
 use icu_trie::typed::{FastCodePointTrie, SmallCodePointTrie, Typed, TypedCodePointTrie};
 use icu_trie_core::header::{CodePointTrieHeader, TrieType};
 use icu_trie_core::value::TrieValue;
+use std::process::Abort;
 
 /// The trie of 1 below 0x1000, 2 from there on, and the error value 3.
-fn trie_of_two(cells: &[u8; 66]) -> Option<CodePointTrie<'_, u8>> {
-    lent_trie(small_header(0x1000, 1), &ZEROS, cells)
+fn trie_of_two<'a>(rt: &impl Abort, cells: &'a [u8; 66]) -> CodePointTrie<'a, u8> {
+    trie_of(rt, small_header(0x1000, 1), &ZEROS, cells)
 }
 
 /// The values by the getters, and whether the trie is coherent.
@@ -27,9 +28,12 @@ fn reads_of(trie: &CodePointTrie<'_, u8>) -> ([u8; 6], u32, bool) {
 }
 
 /// How many bytes a cell has, and how many cells the trie.
-fn lengths_of(trie: &CodePointTrie<'_, u8>) -> (Option<usize>, usize, usize) {
+fn lengths_of(trie: &CodePointTrie<'_, u8>) -> (usize, usize, usize) {
     let (_, index, cells) = trie.parts();
-    let bytes = trie.get32_ule(0x41).map(|bytes| bytes.len());
+    let bytes = match trie.get32_ule(0x41) {
+        Some(bytes) => bytes.len(),
+        None => 0,
+    };
     (bytes, index.len(), cells.len())
 }
 
@@ -39,47 +43,43 @@ fn lengths_of(trie: &CodePointTrie<'_, u8>) -> (Option<usize>, usize, usize) {
 /// `CodePointTrie::parts`, `CodePointTrie::is_coherent`.
 #[test]
 fn reads_quiet(rt: HostRuntime) {
-    let cells = data(1, 2, 3);
+    let cells = data(ONES);
     say(&rt, "call");
-    let trie = trie_of_two(&cells);
-    let reads = trie.as_ref().map(|trie| reads_of(trie));
-    let lengths = trie.as_ref().map(|trie| lengths_of(trie));
+    let trie = trie_of_two(&rt, &cells);
+    let reads = reads_of(&trie);
+    let lengths = lengths_of(&trie);
     say(&rt, "done");
-    expect_same(&rt, reads, Some(([2, 1, 1, 2, 3, 1], 3, true)), "values");
-    expect_same(&rt, lengths, Some((Some(1), 64, 66)), "lengths");
-}
-
-/// The first code point past the fast index of a type, and how many cells that index has.
-fn fast_index_of(trie_type: TrieType) -> (u32, usize) {
-    (trie_type.fast_limit(), trie_type.fast_index_len())
+    expect_same(&rt, reads, ([2, 1, 1, 2, 3, 1], 3, true), "values");
+    expect_same(&rt, lengths, (1, 64, 66), "lengths");
 }
 
 /// Calls: `TrieType::fast_limit`, `TrieType::fast_index_len`.
 #[test]
 fn fast_indices_quiet(rt: HostRuntime) {
     say(&rt, "call");
-    let fast = fast_index_of(TrieType::Fast);
-    let small = fast_index_of(TrieType::Small);
+    let (fast, small) = (TrieType::Fast, TrieType::Small);
+    let limits = (fast.fast_limit(), small.fast_limit());
+    let lengths = (fast.fast_index_len(), small.fast_index_len());
     say(&rt, "done");
-    expect_same(&rt, fast, (0x10000, 1024), "fast index of a fast trie");
-    expect_same(&rt, small, (0x1000, 64), "fast index of a small trie");
+    expect_same(&rt, limits, (0x10000, 0x1000), "first code points past it");
+    expect_same(&rt, lengths, (1024, 64), "cells of the fast index");
 }
 
 /// How many ranges there are, how many of them have the value 2, how many are left where all have
-/// one value, and the last code point of the first.
-fn ranges_of(trie: &CodePointTrie<'_, u8>) -> (usize, usize, usize, Option<u32>) {
-    let first = trie.get_range(0).map(|range| *range.range.end());
-    (
+/// one value and where those that touch and have one value are joined, and the last code point of
+/// the first.
+fn ranges_of(trie: &CodePointTrie<'_, u8>) -> ([usize; 4], Option<u32>) {
+    let counts = [
         trie.iter_ranges().count(),
         trie.iter_ranges_for_value(2).count(),
         trie.iter_ranges_mapped(|_| 7_u8).count(),
-        first,
-    )
-}
-
-/// How many ranges are left where those that touch and have one value are joined.
-fn joined_of(trie: &CodePointTrie<'_, u8>) -> usize {
-    RangeListIteratorCoalescer::new(trie.iter_ranges()).count()
+        RangeListIteratorCoalescer::new(trie.iter_ranges()).count(),
+    ];
+    let first = match trie.get_range(0) {
+        Some(range) => Some(*range.range.end()),
+        None => None,
+    };
+    (counts, first)
 }
 
 /// Calls: `CodePointTrie::get_range`, `CodePointTrie::iter_ranges`,
@@ -88,14 +88,11 @@ fn joined_of(trie: &CodePointTrie<'_, u8>) -> usize {
 /// `RangeListIteratorCoalescer::new`, `RangeListIteratorCoalescer::next`.
 #[test]
 fn ranges_quiet(rt: HostRuntime) {
-    let cells = data(1, 2, 3);
+    let cells = data(ONES);
     say(&rt, "call");
-    let trie = trie_of_two(&cells);
-    let ranges = trie.as_ref().map(|trie| ranges_of(trie));
-    let joined = trie.as_ref().map(|trie| joined_of(trie));
+    let ranges = ranges_of(&trie_of_two(&rt, &cells));
     say(&rt, "done");
-    expect_same(&rt, ranges, Some((2, 1, 1, Some(0xFFF))), "ranges");
-    expect_same(&rt, joined, Some(2), "joined ranges");
+    expect_same(&rt, ranges, ([2, 1, 1, 2], Some(0xFFF)), "ranges");
 }
 
 /// What a trie of a known type reads.
@@ -140,15 +137,15 @@ fn told_value(trie: CodePointTrie<'_, u8>) -> u8 {
 /// `TypedCodePointTrie::get32_u32`, `TypedCodePointTrie::get32_by_fast_index`.
 #[test]
 fn typed_tries_quiet(rt: HostRuntime) {
-    let cells = data(1, 2, 3);
+    let cells = data(ONES);
     say(&rt, "call");
-    let lent = trie_of_two(&cells);
-    let small = lent.as_ref().and_then(|trie| small_values(trie));
-    let told = lent.map(|trie| told_value(trie));
+    let trie = trie_of_two(&rt, &cells);
+    let small = small_values(&trie);
+    let told = told_value(trie);
     say(&rt, "done");
     let reads = ([2, 1, 1, 2], 1, Some(1));
     expect_same(&rt, small, Some((2, 2, reads)), "a small trie");
-    expect_same(&rt, told, Some(2), "as its type is told");
+    expect_same(&rt, told, 2, "as its type is told");
 }
 
 /// The value of a fast trie at 0x41, by the trie as a fast one, lent and given.
@@ -161,23 +158,17 @@ fn fast_values(trie: CodePointTrie<'_, u8>) -> Option<(u8, u8)> {
     Some((lent, fast.to_untyped().get32(0x41)))
 }
 
-/// A fast trie over an index of zeros.
-fn fast_trie<'a>(index: &'a [u8; 2048], cells: &'a [u8; 66]) -> Option<CodePointTrie<'a, u8>> {
-    let header = CodePointTrieHeader {
-        trie_type: TrieType::Fast,
-        ..small_header(0, 1)
-    };
-    lent_trie(header, index, cells)
-}
-
 /// Calls: `FastCodePointTrie::try_from`, `FastCodePointTrie::as_untyped_ref`,
 /// `FastCodePointTrie::to_untyped`.
 #[test]
 fn fast_tries_quiet(rt: HostRuntime) {
-    let (index, cells) = ([0; 2048], data(1, 2, 3));
+    let header = CodePointTrieHeader {
+        trie_type: TrieType::Fast,
+        ..small_header(0, 1)
+    };
+    let (index, cells) = ([0; 2048], data(ONES));
     say(&rt, "call");
-    let trie = fast_trie(&index, &cells);
-    let values = trie.and_then(|trie| fast_values(trie));
+    let values = fast_values(trie_of(&rt, header, &index, &cells));
     say(&rt, "done");
     expect_same(&rt, values, Some((1, 1)), "a fast trie");
 }
@@ -191,9 +182,9 @@ fn signed_value(trie: CodePointTrie<'_, u8>) -> Option<i8> {
 /// Calls: `CodePointTrie::try_into_converted`, `TrieValue::to_u32`, `TrieValue::try_from_u32`.
 #[test]
 fn conversions_quiet(rt: HostRuntime) {
-    let cells = data(1, 2, 3);
+    let cells = data(ONES);
     say(&rt, "call");
-    let signed = trie_of_two(&cells).and_then(|trie| signed_value(trie));
+    let signed = signed_value(trie_of_two(&rt, &cells));
     let unsigned = (7_u8.to_u32(), 7_u16.to_u32(), 7_u32.to_u32());
     let others = (
         (-1_i8).to_u32(),

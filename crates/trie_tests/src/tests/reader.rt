@@ -1,8 +1,7 @@
 //! Ranges of tries that were made of parts, whose header says what is not so.
-use super::{ZEROS, data, expect, expect_same, say, small_header, trie_of};
+use super::{Cells, ONES, SEVENS, ZEROS, data, expect_at, expect_of, expect_same, say, small_trie};
 use icu_invlist::codepointinvlist::CodePointInversionList;
 use icu_trie::cptrie::CodePointTrie;
-use icu_trie_core::header::CodePointTrieHeader;
 use icu_trie_core::range::CodePointMapRange;
 use icu_zerovec::MemoryError;
 use std::process::Abort;
@@ -10,61 +9,35 @@ use std::test::Fail;
 
 mod mapped;
 
-/// A small trie whose null value is 0, and that has no null index-3 block.
-fn small_trie<'a>(
-    rt: &impl Abort,
-    high_start: u32,
-    data_null_offset: u32,
-    index: &'a [u8],
-    data: &'a [u8],
-) -> CodePointTrie<'a, u8> {
-    let header = CodePointTrieHeader {
-        data_null_offset,
-        ..small_header(high_start, 0)
-    };
-    trie_of(rt, header, index, data)
+/// The first and the last code point of a range, and its value.
+fn ends_of(range: CodePointMapRange<u8>) -> (u32, u32, u8) {
+    (*range.range.start(), *range.range.end(), range.value)
 }
 
 /// The range of a trie from `c` on.
-fn range_at(trie: CodePointTrie<'_, u8>, c: u32) -> Option<CodePointMapRange<u8>> {
-    trie.get_range(c)
+fn range_at(trie: CodePointTrie<'_, u8>, c: u32) -> Option<(u32, u32, u8)> {
+    Some(ends_of(trie.get_range(c)?))
 }
 
-/// The range from `c` on is this one, if any, under this high start.
-fn expect_range(
-    rt: &impl Abort,
-    found: Option<CodePointMapRange<u8>>,
-    want: Option<(u32, u32, u8)>,
-    c: u32,
-    high_start: u32,
-) {
-    let want = match want {
-        Some((first, last, value)) => Some(CodePointMapRange {
-            range: first..=last,
-            value,
-        }),
-        None => None,
-    };
-    assert_eq!(rt; found, want, "at {c:x}, high start {high_start:x}");
-}
+/// The range from a code point on by a header, if any.
+static RANGES: [((u32, u32), Cells, u32, Option<(u32, u32, u8)>); 9] = [
+    ((0x1000, 0xfffff), SEVENS, 0, Some((0, 0x10FFFF, 7))),
+    ((0x1000, 0xfffff), SEVENS, 0x110000, None),
+    ((0x1000, 0), SEVENS, 0, Some((0, 0, 7))),
+    ((0x1000, 0), SEVENS, 0xFFF, Some((0xFFF, 0xFFF, 7))),
+    ((0x1000, 0), SEVENS, 0x1000, Some((0x1000, 0x10FFFF, 7))),
+    ((0xFFFF_FFFF, 0xfffff), SEVENS, 0, None),
+    ((0x2000, 0xfffff), ONES, 0, None),
+    ((0x2000, 0xfffff), ONES, 0x1000, None),
+    ((0x2000, 0xfffff), ONES, 0x2000, Some((0x2000, 0x10FFFF, 2))),
+];
 
 #[test]
 fn ranges_by_lying_headers(rt: HostRuntime) {
-    let sevens = data(7, 7, 9);
-    let ones = data(1, 2, 3);
-    for (high_start, data_null_offset, data, c, expected) in [
-        (0x1000, 0xfffff, &sevens, 0, Some((0, 0x10FFFF, 7))),
-        (0x1000, 0xfffff, &sevens, 0x110000, None),
-        (0x1000, 0, &sevens, 0, Some((0, 0, 7))),
-        (0x1000, 0, &sevens, 0xFFF, Some((0xFFF, 0xFFF, 7))),
-        (0x1000, 0, &sevens, 0x1000, Some((0x1000, 0x10FFFF, 7))),
-        (0xFFFF_FFFF, 0xfffff, &sevens, 0, None),
-        (0x2000, 0xfffff, &ones, 0, None),
-        (0x2000, 0xfffff, &ones, 0x1000, None),
-        (0x2000, 0xfffff, &ones, 0x2000, Some((0x2000, 0x10FFFF, 2))),
-    ] {
-        let trie = small_trie(&rt, high_start, data_null_offset, &ZEROS, data);
-        expect_range(&rt, range_at(trie, c), expected, c, high_start);
+    for (header, cells, c, want) in RANGES.iter() {
+        let cells = data(*cells);
+        let found = range_at(small_trie(&rt, *header, &ZEROS, &cells), *c);
+        expect_of(&rt, (*c, found), (*c, *want), *header);
     }
 }
 
@@ -74,30 +47,21 @@ fn ranges_by_an_unaligned_high_start(rt: HostRuntime) {
     let mut index = [0; 150];
     index[128] = 65;
     index[146] = 74;
-    let sevens = data(7, 7, 9);
+    let sevens = data(SEVENS);
     for c in [0, 0x1000, 0x1001] {
-        let trie = small_trie(&rt, 0x1001, 0xfffff, &index, &sevens);
-        let found = range_at(trie, c);
-        expect_range(&rt, found, Some((c, 0x10FFFF, 7)), c, 0x1001);
+        let found = range_at(small_trie(&rt, (0x1001, 0xfffff), &index, &sevens), c);
+        expect_at(&rt, found, Some((c, 0x10FFFF, 7)), c);
     }
 }
 
-/// The range numbered `i` is the code point `i` alone, and the last one all from 0x1000 on.
-fn expect_single(rt: &impl Abort, range: &CodePointMapRange<u8>, i: usize) {
-    let last = if i < 0x1000 { i } else { 0x10FFFF };
-    let found = (
-        *range.range.start() as usize,
-        *range.range.end() as usize,
-        range.value,
-    );
-    assert_eq!(rt; found, (i, last, 7));
-}
-
-/// Each code point below 0x1000 is a range, and all behind them are one.
-fn expect_singles(rt: &impl Abort, ranges: Vec<CodePointMapRange<u8>>) {
+/// Each code point below 0x1000 is a range, and all from there on are one.
+fn expect_singles(rt: &impl Abort, ranges: &[CodePointMapRange<u8>]) {
     expect_same(rt, ranges.len(), 4097, "ranges");
     for (i, range) in ranges.iter().enumerate() {
-        expect_single(rt, range, i);
+        let last = if i < 0x1000 { i } else { 0x10FFFF };
+        let (start, end) = (*range.range.start(), *range.range.end());
+        let found = (start as usize, end as usize, range.value);
+        expect_same(rt, found, (i, last, 7), "a range");
     }
 }
 
@@ -105,20 +69,11 @@ fn expect_singles(rt: &impl Abort, ranges: Vec<CodePointMapRange<u8>>) {
 /// is alone.
 #[test]
 fn ranges_that_touch(rt: HostRuntime) -> Result<(), Fail> {
-    let sevens = data(7, 7, 9);
-    let trie = small_trie(&rt, 0x1000, 0, &ZEROS, &sevens);
+    let sevens = data(SEVENS);
+    let trie = small_trie(&rt, (0x1000, 0), &ZEROS, &sevens);
     let ranges: Vec<_> = trie.iter_ranges().collect(rt.alloc())?;
-    expect_singles(&rt, ranges);
+    expect_singles(&rt, &ranges);
     Ok(())
-}
-
-/// The set of the code points with this value, in the trie whose ranges touch.
-fn set_of(
-    rt: &(impl Abort + AllocGlobal),
-    value: u8,
-) -> Result<CodePointInversionList<'static>, MemoryError> {
-    let sevens = data(7, 7, 9);
-    small_trie(rt, 0x1000, 0, &ZEROS, &sevens).get_set_for_value(rt.alloc(), value)
 }
 
 /// The set holds all code points.
@@ -128,22 +83,21 @@ fn is_all(set: CodePointInversionList<'_>) -> bool {
 
 #[test]
 fn sets_of_ranges_that_touch(rt: HostRuntime) -> Result<(), Fail> {
-    let all = is_all(set_of(&rt, 7)?);
-    expect(&rt, all, "all have the value 7");
-    let none = set_of(&rt, 9)?.is_empty();
-    expect(&rt, none, "none has the value 9");
+    let sevens = data(SEVENS);
+    let trie = small_trie(&rt, (0x1000, 0), &ZEROS, &sevens);
+    let all = is_all(trie.get_set_for_value(rt.alloc(), 7)?);
+    let none = trie.get_set_for_value(rt.alloc(), 9)?.is_empty();
+    expect_same(&rt, (all, none), (true, true), "7 is all's, 9 none's");
     Ok(())
 }
 
-/// The code points below 0x1000 are in the set, and the next one isn't.
-fn expect_low_ones(rt: &impl Abort, set: CodePointInversionList<'_>) {
-    expect(rt, set.contains32(0), "the first code point");
-    expect(
-        rt,
+/// Whether the first code point is in the set, the last one below 0x1000, and the next one.
+fn low_ones(set: CodePointInversionList<'_>) -> (bool, bool, bool) {
+    (
+        set.contains32(0),
         set.contains32(0xFFF),
-        "the last code point below 0x1000",
-    );
-    expect(rt, !set.contains32(0x1000), "the code point 0x1000");
+        set.contains32(0x1000),
+    )
 }
 
 fn expect_low_ones_or_refusal(
@@ -151,7 +105,7 @@ fn expect_low_ones_or_refusal(
     found: Result<CodePointInversionList<'_>, MemoryError>,
 ) {
     match found {
-        Ok(set) => expect_low_ones(rt, set),
+        Ok(set) => expect_same(rt, low_ones(set), (true, true, false), "below 0x1000"),
         Err(error) => {
             expect_same(rt, error, MemoryError, "refused memory");
             say(rt, "refused");
@@ -162,8 +116,8 @@ fn expect_low_ones_or_refusal(
 /// Calls: `CodePointTrie::get_set_for_value`.
 #[test]
 fn get_set_for_value_refused(rt: HostRuntime) {
-    let ones = data(1, 2, 3);
-    let trie = small_trie(&rt, 0x1000, 0xfffff, &ZEROS, &ones);
+    let ones = data(ONES);
+    let trie = small_trie(&rt, (0x1000, 0xfffff), &ZEROS, &ones);
     say(&rt, "call");
     let found = trie.get_set_for_value(rt.alloc(), 1);
     say(&rt, "done");

@@ -3,7 +3,7 @@
 ghost use Rattle.std.specs.Prelude.{◌≡◌, ◌<◌};
 ghost use Rattle.icu_zerovec.specs.Slice.{slice_values};
 
-use super::{BOTH, ZEROS, built, data, expect_at, say, small_header, trie_of};
+use super::{BOTH, ONES, ZEROS, built, data, expect_at, say, small_header, trie_of};
 use icu_collections::codepointtrie::{
     Cells, CodePointMapRange, CodePointTrie, Steps, TrieValue, Write, is_coherent, look_up,
     look_up_whole, walk,
@@ -59,12 +59,17 @@ impl<'a, T: TrieValue, L: Ledger> Cells<T> for CountedParts<'a, T, L> {
     }
 }
 
-/// The range from `c` on by a walk over cells of the test's own, and how many were read.
-fn walked<T: TrieValue, L: Ledger>(
-    trie: &CodePointTrie<'_, T>,
-    c: u32,
-    blank: Blank,
-) -> (Option<CodePointMapRange<T>>, u64)
+/// What a walk, `look_up_whole` and `look_up` find at a code point, each with how many cells it
+/// read, and whether the trie is coherent.
+type Answers<T> = (
+    (Option<CodePointMapRange<T>>, u64),
+    (Option<T>, u64),
+    (Option<T>, u64),
+    bool,
+);
+
+/// The answers at `c` over cells of the test's own.
+fn counted<T: TrieValue, L: Ledger>(trie: &CodePointTrie<'_, T>, c: u32, blank: Blank) -> Answers<T>
     requires name { blank.name ≡ L.name }
     requires parts { blank.parts ≡ L.parts }
     requires some { 0 < blank.parts }
@@ -77,28 +82,19 @@ fn walked<T: TrieValue, L: Ledger>(
         shown: 0,
     };
     let range = walk(&header, &mut cells, c);
-    (range, cells.shown)
+    let walked = cells.shown;
+    cells.shown = 0;
+    let whole = look_up_whole(&header, &mut cells, c);
+    let read = cells.shown;
+    cells.shown = 0;
+    let value = look_up(&header, &mut cells, c);
+    let looked_up = (value, cells.shown);
+    let coherent = is_coherent(&header, &mut cells);
+    ((range, walked), (whole, read), looked_up, coherent)
 }
 
-/// The cell of `c` by cells of the test's own, and how many were read.
-fn looked_up<T: TrieValue, L: Ledger>(
-    trie: &CodePointTrie<'_, T>,
-    c: u32,
-    blank: Blank,
-) -> (Option<T>, u64)
-    requires name { blank.name ≡ L.name }
-    requires parts { blank.parts ≡ L.parts }
-    requires some { 0 < blank.parts }
-{
-    let (header, index, values) = trie.parts();
-    let mut cells = CountedParts {
-        index,
-        values,
-        reads: Steps::<L>::new(blank),
-        shown: 0,
-    };
-    let value = look_up_whole(&header, &mut cells, c);
-    (value, cells.shown)
+fn asked<T: TrieValue>(trie: &CodePointTrie<'_, T>, c: u32) -> Answers<T> {
+    counted::<T, Brand>(trie, c, Blank::new(1))
 }
 
 /// A call at `c` read so many cells at least, and so many at most.
@@ -106,41 +102,33 @@ fn expect_reads(rt: &impl Abort, reads: u64, least: u64, most: u64, c: u32) {
     assert!(rt; least <= reads && reads <= most, "{reads} reads at {c:x}");
 }
 
-/// The walk from `c` on finds this range, and reads no more cells than it may.
-fn ask_walk<T: TrieValue + Debug>(
-    rt: &impl Abort,
-    trie: &CodePointTrie<'_, T>,
-    c: u32,
-    range: Option<CodePointMapRange<T>>,
-) {
-    let (found, reads) = walked::<T, Brand>(trie, c, Blank::new(1));
-    // The answer lies in the cells, so that a walk with no read has not been counted.
-    let least = if range.is_some() { 1 } else { 0 };
-    expect_reads(rt, reads, least, MOST_READS, c);
-    expect_at(rt, found, range, c);
-}
-
-/// The look-up at `c` finds this value, and reads no more cells than it may.
-fn ask_look_up<T: TrieValue + Debug>(
-    rt: &impl Abort,
-    trie: &CodePointTrie<'_, T>,
-    c: u32,
-    value: Option<T>,
-) {
-    let (found, reads) = looked_up::<T, Brand>(trie, c, Blank::new(1));
-    expect_reads(rt, reads, 0, MOST_READS_OF_LOOK_UP, c);
-    expect_at(rt, found, value, c);
-}
-
-/// The range from `first` on that has a value up to a last code point, if any.
-fn range_from<T>(first: u32, rest: Option<(u32, T)>) -> Option<CodePointMapRange<T>> {
-    match rest {
-        Some((last, value)) => Some(CodePointMapRange {
-            range: first..=last,
-            value,
-        }),
+/// The first and the last code point of a range, and its value.
+fn ends_of<T: Copy>(range: Option<CodePointMapRange<T>>) -> Option<(u32, u32, T)> {
+    match range {
+        Some(it) => Some((*it.range.start(), *it.range.end(), it.value)),
         None => None,
     }
+}
+
+/// The range from `c` on, by a walk over cells of the test's own and by the trie itself, and the
+/// value are these, and neither the walk nor the look-up reads more cells than it may.
+fn expect_answers<T: TrieValue + Debug>(
+    rt: &impl Abort,
+    trie: &CodePointTrie<'_, T>,
+    c: u32,
+    want: Option<(u32, T)>,
+) {
+    let ((range, walked), (found, read), _, _) = asked(trie, c);
+    // The answer lies in the cells, so that a walk with no read has not been counted.
+    let (least, ends, value) = match want {
+        Some((last, value)) => (1, Some((c, last, value)), Some(value)),
+        None => (0, None, None),
+    };
+    expect_reads(rt, walked, least, MOST_READS, c);
+    expect_reads(rt, read, 0, MOST_READS_OF_LOOK_UP, c);
+    expect_at(rt, found, value, c);
+    expect_at(rt, ends_of(range), ends, c);
+    expect_at(rt, ends_of(trie.get_range(c)), ends, c);
 }
 
 /// From each first code point on, the trie has the value up to the last one. Behind the code points
@@ -151,10 +139,7 @@ fn ask<T: TrieValue + Debug>(
     expected: &[(u32, Option<(u32, T)>)],
 ) {
     for (first, rest) in expected {
-        let (first, rest) = (*first, *rest);
-        ask_walk(rt, trie, first, range_from(first, rest));
-        expect_at(rt, trie.get_range(first), range_from(first, rest), first);
-        ask_look_up(rt, trie, first, rest.map(|(_, value)| value));
+        expect_answers(rt, trie, *first, *rest);
     }
 }
 
@@ -176,19 +161,14 @@ fn ask_one_run(rt: &impl Abort, trie: &CodePointTrie<'_, u8>, run: u8, last: u8)
     );
 }
 
+/// The run has the default value, or another one: its blocks are no null blocks then, which need no
+/// read.
 #[test]
 fn reads_of_one_walk(rt: HostRuntime) {
     for trie_type in BOTH {
         let last = [Write::One(0x10FFFF, 1)];
         let trie = built(&rt, rt.alloc(), trie_type, (0u8, 9), &last);
         ask_one_run(&rt, &trie, 0, 1);
-    }
-}
-
-/// The run has not the default value: its blocks are no null blocks, which need no read.
-#[test]
-fn reads_of_one_walk_without_null_blocks(rt: HostRuntime) {
-    for trie_type in BOTH {
         let all = [Write::Range(0..=0x10FFFE, 1), Write::One(0x10FFFF, 2)];
         let trie = built(&rt, rt.alloc(), trie_type, (0u8, 9), &all);
         ask_one_run(&rt, &trie, 1, 2);
@@ -228,39 +208,6 @@ fn reads_of_one_walk_over_many_blocks(rt: HostRuntime) -> Result<(), Fail> {
     Ok(())
 }
 
-/// The cell of `c` of a trie that may lie, by cells of the test's own, and how many were read.
-fn looked_up_in_any<L: Ledger>(
-    trie: &CodePointTrie<'_, u8>,
-    c: u32,
-    blank: Blank,
-) -> (Option<u8>, u64)
-    requires name { blank.name ≡ L.name }
-    requires parts { blank.parts ≡ L.parts }
-    requires some { 0 < blank.parts }
-{
-    let (header, index, values) = trie.parts();
-    let mut cells = CountedParts {
-        index,
-        values,
-        reads: Steps::<L>::new(blank),
-        shown: 0,
-    };
-    let value = look_up(&header, &mut cells, c);
-    (value, cells.shown)
-}
-
-/// The look-up at `c` finds this cell by so many reads.
-fn ask_counted(
-    rt: &impl Abort,
-    trie: &CodePointTrie<'_, u8>,
-    c: u32,
-    cell: Option<u8>,
-    reads: u64,
-) {
-    let found = looked_up_in_any::<Brand>(trie, c, Blank::new(1));
-    expect_at(rt, found, (cell, reads), c);
-}
-
 /// An index with one block of 512 of which each offset has 18 bits: the longest way, five reads.
 #[test]
 fn a_look_up_reads_five_cells_at_most(rt: HostRuntime) -> Result<(), Fail> {
@@ -282,46 +229,21 @@ fn a_look_up_reads_five_cells_at_most(rt: HostRuntime) -> Result<(), Fail> {
         (0x2000, Some(0), 1),
         (0x110000, None, 0),
     ] {
-        ask_counted(&rt, &trie, c, cell, reads);
+        let (_, _, found, _) = asked(&trie, c);
+        expect_at(&rt, found, (cell, reads), c);
     }
     Ok(())
-}
-
-/// The cell of `c` by `look_up` and by `look_up_whole`, over cells of the test's own, whether the
-/// range from there on is found, and whether the trie is coherent.
-type Found = (Option<u8>, Option<u8>, bool, bool);
-
-fn found_over<L: Ledger>(trie: &CodePointTrie<'_, u8>, c: u32, blank: Blank) -> (Option<u8>, bool)
-    requires name { blank.name ≡ L.name }
-    requires parts { blank.parts ≡ L.parts }
-    requires some { 0 < blank.parts }
-{
-    let (header, index, values) = trie.parts();
-    let mut cells = CountedParts {
-        index,
-        values,
-        reads: Steps::<L>::new(blank),
-        shown: 0,
-    };
-    let value = look_up(&header, &mut cells, c);
-    (value, is_coherent(&header, &mut cells))
-}
-
-fn found_at(trie: &CodePointTrie<'_, u8>, c: u32) -> Found {
-    let (value, coherent) = found_over::<Brand>(trie, c, Blank::new(1));
-    let (whole, _) = looked_up::<u8, Brand>(trie, c, Blank::new(1));
-    let (range, _) = walked::<u8, Brand>(trie, c, Blank::new(1));
-    (value, whole, range.is_some(), coherent)
 }
 
 /// Calls: `codepointtrie::look_up`, `codepointtrie::look_up_whole`, `codepointtrie::walk`,
 /// `codepointtrie::is_coherent`.
 #[test]
 fn cells_quiet(rt: HostRuntime) {
-    let cells = data(1, 2, 3);
+    let cells = data(ONES);
     let trie = trie_of(&rt, small_header(0x1000, 1), &ZEROS, &cells);
     say(&rt, "call");
-    let found = found_at(&trie, 0x41);
+    let ((range, _), (whole, _), (value, _), coherent) = asked(&trie, 0x41);
     say(&rt, "done");
-    expect_at(&rt, found, (Some(1), Some(1), true, true), 0x41);
+    let found = (range.is_some(), whole, value, coherent);
+    expect_at(&rt, found, (true, Some(1), Some(1), true), 0x41);
 }

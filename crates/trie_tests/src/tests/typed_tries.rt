@@ -19,88 +19,78 @@ fn three_runs(rt: &impl Abort, alloc: Global, trie_type: TrieType) -> CodePointT
     built(rt, alloc, trie_type, (0, 9), &writes)
 }
 
-/// Each getter of a typed trie answers as the trie itself, for any typed trie.
-fn ask_each<'trie, X: TypedCodePointTrie<'trie, u8>>(rt: &impl Abort, trie: &X) {
-    expect_same(rt, trie.get32(0xFFFF), 2, "get32 at FFFF");
-    expect_same(rt, trie.get32(0x110000), 9, "get32 at 110000");
-    expect_same(rt, trie.get('\u{10000}'), 1, "get at 10000");
-    expect_same(rt, trie.get16(0xFFC0), 1, "get16 at FFC0");
-    let high = trie.get32_supplementary(0x1000F);
-    expect_same(rt, high, 1, "get32_supplementary at 1000F");
-    expect_same(rt, trie.get32_u32(0x10010), 0, "get32_u32 at 10010");
+/// What the getters of a typed trie answer, for any typed trie, and what its fast index answers for
+/// its last code point and the next one.
+fn answers_of<'trie, X: TypedCodePointTrie<'trie, u8>>(
+    trie: &X,
+    last: u32,
+) -> ([u8; 5], u32, [Option<u8>; 2]) {
+    let values = [
+        trie.get32(0xFFFF),
+        trie.get32(0x110000),
+        trie.get('\u{10000}'),
+        trie.get16(0xFFC0),
+        trie.get32_supplementary(0x1000F),
+    ];
+    let fast = [
+        trie.get32_by_fast_index(last),
+        trie.get32_by_fast_index(last.saturating_add(1)),
+    ];
+    (values, trie.get32_u32(0x10010), fast)
 }
 
-/// A fast trie, lent.
-fn ask_fast(rt: &impl Abort, trie: &CodePointTrie<'_, u8>, lent: FastCodePointTrie<'_, u8>) {
-    ask_each(rt, &lent);
-    let below = lent.get32_by_fast_index(0xFFFF);
-    expect_same(rt, below, Some(2), "below the fast limit");
-    let above = lent.get32_by_fast_index(0x10000);
-    expect_same(rt, above, None, "at the fast limit");
-    expect(rt, *lent.as_untyped_ref() == *trie, "the same trie");
+/// They are those of the three runs.
+fn expect_answers(rt: &impl Abort, found: ([u8; 5], u32, [Option<u8>; 2]), last: u8) {
+    expect_same(
+        rt,
+        found,
+        ([2, 9, 1, 1, 1], 0, [Some(last), None]),
+        "answers",
+    );
 }
 
-/// A small trie, lent.
-fn ask_small(rt: &impl Abort, trie: &CodePointTrie<'_, u8>, lent: SmallCodePointTrie<'_, u8>) {
-    ask_each(rt, &lent);
-    let below = lent.get32_by_fast_index(0xFFF);
-    expect_same(rt, below, Some(0), "below the fast limit");
-    let above = lent.get32_by_fast_index(0x1000);
-    expect_same(rt, above, None, "at the fast limit");
-    expect(rt, *lent.as_untyped_ref() == *trie, "the same trie");
+/// Whether the trie is told as a fast one, lent as a fast one, and lent as a small one.
+fn kinds_of(trie: &CodePointTrie<'_, u8>) -> (bool, bool, bool) {
+    (
+        matches!(trie.as_typed_ref(), Typed::Fast(_)),
+        FastCodePointTrie::try_from(trie).is_ok(),
+        SmallCodePointTrie::try_from(trie).is_ok(),
+    )
 }
 
-fn is_typed_fast(trie: &CodePointTrie<'_, u8>) -> bool {
-    matches!(trie.as_typed_ref(), Typed::Fast(_))
-}
-
-fn is_typed_small(trie: &CodePointTrie<'_, u8>) -> bool {
-    matches!(trie.as_typed_ref(), Typed::Small(_))
-}
-
-fn lent_as_fast<'a>(trie: &'a CodePointTrie<'_, u8>) -> Option<FastCodePointTrie<'a, u8>> {
-    FastCodePointTrie::try_from(trie).ok()
-}
-
-fn lent_as_small<'a>(trie: &'a CodePointTrie<'_, u8>) -> Option<SmallCodePointTrie<'a, u8>> {
-    SmallCodePointTrie::try_from(trie).ok()
-}
-
+/// A trie is lent as its type, with the constant of the type, is the same trie still, and answers
+/// for itself.
 #[test]
 fn fast_trie(rt: HostRuntime) {
     let trie = three_runs(&rt, rt.alloc(), TrieType::Fast);
-    expect(&rt, is_typed_fast(&trie), "typed as fast");
-    expect(&rt, lent_as_small(&trie).is_none(), "refused as small");
-    let lent = lent_as_fast(&trie).expect(&rt, "a fast trie");
-    ask_fast(&rt, &trie, lent);
+    expect_same(&rt, kinds_of(&trie), (true, true, false), "a fast trie");
+    let lent = FastCodePointTrie::try_from(&trie).expect(&rt, "a fast trie");
+    expect_answers(&rt, answers_of(&lent, 0xFFFF), 2);
+    expect(&rt, *lent.as_untyped_ref() == trie, "the same trie");
+    let of_type = FastCodePointTrie::<'static, u8>::TRIE_TYPE;
+    expect_same(&rt, of_type, TrieType::Fast, "the type of fast tries");
 }
 
-/// The trie, as a fast one and back.
-fn through_fast<'a>(trie: CodePointTrie<'a, u8>) -> Option<CodePointTrie<'a, u8>> {
+/// Whether the trie, as a fast one and back, is as its copy, and why it is no small one.
+fn through_fast(
+    trie: CodePointTrie<'_, u8>,
+    copy: &CodePointTrie<'_, u8>,
+) -> Option<(bool, Option<TypedCodePointTrieError>)> {
     match trie.to_typed() {
-        Typed::Fast(fast) => Some(fast.to_untyped()),
+        Typed::Fast(fast) => {
+            let back = fast.to_untyped();
+            Some((back == *copy, SmallCodePointTrie::try_from(back).err()))
+        }
         Typed::Small(_) => None,
     }
-}
-
-/// The trie is the one that was copied.
-fn is_as_copied(trie: &CodePointTrie<'_, u8>, copy: CodePointTrie<'_, u8>) -> bool {
-    *trie == copy
-}
-
-/// Why the trie is no small one.
-fn fault_as_small(trie: CodePointTrie<'_, u8>) -> Option<TypedCodePointTrieError> {
-    SmallCodePointTrie::try_from(trie).err()
 }
 
 #[test]
 fn fast_trie_and_back(rt: HostRuntime) -> Result<(), Fail> {
     let trie = three_runs(&rt, rt.alloc(), TrieType::Fast);
     let copy = trie.try_clone(rt.alloc())?;
-    let untyped = through_fast(trie).expect(&rt, "a fast trie");
-    expect(&rt, is_as_copied(&untyped, copy), "the same trie");
-    let refused = fault_as_small(untyped);
-    expect_same(&rt, refused, Some(TypedCodePointTrieError), "not small");
+    let want = Some((true, Some(TypedCodePointTrieError)));
+    expect_same(&rt, through_fast(trie, &copy), want, "the same, not small");
     Ok(())
 }
 
@@ -115,18 +105,11 @@ fn through_small(trie: CodePointTrie<'_, u8>, c: u32) -> Option<u8> {
 #[test]
 fn small_trie(rt: HostRuntime) {
     let trie = three_runs(&rt, rt.alloc(), TrieType::Small);
-    expect(&rt, is_typed_small(&trie), "typed as small");
-    expect(&rt, lent_as_fast(&trie).is_none(), "refused as fast");
-    let lent = lent_as_small(&trie).expect(&rt, "a small trie");
-    ask_small(&rt, &trie, lent);
+    expect_same(&rt, kinds_of(&trie), (false, false, true), "a small trie");
+    let lent = SmallCodePointTrie::try_from(&trie).expect(&rt, "a small trie");
+    expect_answers(&rt, answers_of(&lent, 0xFFF), 0);
+    expect(&rt, *lent.as_untyped_ref() == trie, "the same trie");
+    let of_type = SmallCodePointTrie::<'static, u8>::TRIE_TYPE;
+    expect_same(&rt, of_type, TrieType::Small, "the type of small tries");
     expect_same(&rt, through_small(trie, 0xFFC0), Some(1), "at FFC0");
-}
-
-/// The constant of a typed trie is the type of its tries.
-#[test]
-fn types_of_typed_tries(rt: HostRuntime) {
-    let fast = FastCodePointTrie::<'static, u8>::TRIE_TYPE;
-    expect_same(&rt, fast, TrieType::Fast, "the type of fast tries");
-    let small = SmallCodePointTrie::<'static, u8>::TRIE_TYPE;
-    expect_same(&rt, small, TrieType::Small, "the type of small tries");
 }

@@ -8,7 +8,6 @@ use icu_collections::codepointtrie::{
 use icu_collections::zerovec::{MemoryError, ZeroVec};
 use std::alloc::Global;
 use std::process::Abort;
-use std::test::Fail;
 
 /// A write of the default over a range.
 fn letters(rt: &impl Abort, alloc: Global, trie_type: TrieType) -> CodePointTrie<'static, u8> {
@@ -16,20 +15,14 @@ fn letters(rt: &impl Abort, alloc: Global, trie_type: TrieType) -> CodePointTrie
     built(rt, alloc, trie_type, (0u8, 9), &writes)
 }
 
-/// Why the values are no numbers of two bytes.
-fn fault_as_wide(trie: CodePointTrie<'_, u8>) -> Option<ConvertError> {
-    trie.try_into_converted::<u16>().err()
-}
-
-/// Why the values are no sides.
-fn fault_as_sides(trie: CodePointTrie<'_, u8>) -> Option<ConvertError> {
-    trie.try_into_converted::<Side>().err()
-}
-
-/// The trie, read as signed bytes.
-fn as_signed<'a>(rt: &impl Abort, trie: CodePointTrie<'a, u8>) -> CodePointTrie<'a, i8> {
-    trie.try_into_converted::<i8>()
-        .expect(rt, "any byte is one")
+/// Two values of the trie and its null value, as signed bytes.
+fn signed_values(trie: CodePointTrie<'_, u8>) -> Option<[i8; 3]> {
+    let signed = trie.try_into_converted::<i8>().ok()?;
+    Some([
+        signed.get32(0x42),
+        signed.get32(0x110000),
+        signed.null_value(),
+    ])
 }
 
 /// The place of the last cell.
@@ -43,28 +36,22 @@ fn faults_of_copies(
     alloc: Global,
     trie: &CodePointTrie<'_, u8>,
 ) -> Result<(Option<ConvertError>, Option<ConvertError>), MemoryError> {
-    let wide = fault_as_wide(trie.try_clone(alloc)?);
-    let sides = fault_as_sides(trie.try_clone(alloc)?);
+    let wide = trie.try_clone(alloc)?.try_into_converted::<u16>().err();
+    let sides = trie.try_clone(alloc)?.try_into_converted::<Side>().err();
     Ok((wide, sides))
-}
-
-fn expect_signed(rt: &impl Abort, signed: CodePointTrie<'_, i8>) {
-    expect_same(rt, signed.get32(0x42), 1, "signed at 42");
-    expect_same(rt, signed.get32(0x110000), 9, "signed at 110000");
 }
 
 /// The trie is read as signed bytes, and refused as numbers of another width and as sides.
 #[test]
-fn converted_values(rt: HostRuntime) -> Result<(), Fail> {
+fn converted_values(rt: HostRuntime) {
     for trie_type in BOTH {
         let trie = letters(&rt, rt.alloc(), trie_type);
-        let faults = faults_of_copies(rt.alloc(), &trie)?;
+        let faults = faults_of_copies(rt.alloc(), &trie).ok();
         let cell = ConvertError::Cell(last_cell(&trie));
         let want = (Some(ConvertError::Width), Some(cell));
-        expect_same(&rt, faults, want, "wide, and sides");
-        expect_signed(&rt, as_signed(&rt, trie));
+        expect_same(&rt, faults, Some(want), "wide, and sides");
+        expect_same(&rt, signed_values(trie), Some([1, 9, 0]), "signed");
     }
-    Ok(())
 }
 
 /// The trie of these parts, which it owns, if neither they nor their memory are refused.
@@ -79,22 +66,17 @@ fn owned_trie(
     CodePointTrie::try_new(header, index, data).ok()
 }
 
-fn null_value_of(trie: CodePointTrie<'_, i8>) -> i8 {
-    trie.null_value()
-}
-
 #[test]
-fn converted_null_value(rt: HostRuntime) -> Result<(), Fail> {
+fn converted_null_value(rt: HostRuntime) {
     let header = CodePointTrieHeader {
         shifted12_high_start: 0,
         ..small_header(0, 7)
     };
     let trie = owned_trie(rt.alloc(), header, &[0; 64], &[0; 66]).expect(&rt, "a trie");
-    let same = null_value_of(as_signed(&rt, trie.try_clone(rt.alloc())?));
-    expect_same(&rt, same, 7, "null value");
-    let sides = fault_as_sides(trie);
-    expect_same(&rt, sides, Some(ConvertError::ErrorOrNull), "sides");
-    Ok(())
+    let faults = faults_of_copies(rt.alloc(), &trie).ok();
+    let want = (Some(ConvertError::Width), Some(ConvertError::ErrorOrNull));
+    expect_same(&rt, faults, Some(want), "wide, and sides");
+    expect_same(&rt, signed_values(trie), Some([0, 0, 7]), "signed");
 }
 
 /// The packed bytes of a code point's cell are these.

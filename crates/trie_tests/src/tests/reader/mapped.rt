@@ -1,6 +1,5 @@
 //! Ranges that are joined, chosen by their value or mapped, and tries of mapped values.
-use super::super::{ZEROS, data, expect, expect_at, expect_same, say};
-use super::small_trie;
+use super::super::{ONES, SEVENS, ZEROS, data, expect, expect_at, expect_same, say, small_trie};
 use icu_trie::cptrie::CodePointTrie;
 use icu_trie::iterator_utils::RangeListIteratorCoalescer;
 use icu_trie::map_value::MapError;
@@ -20,16 +19,12 @@ fn expect_items<T: PartialEq + Debug + Drop>(rt: &impl Abort, found: Vec<T>, wan
     assert_eq!(rt; found.as_slice(), want);
 }
 
+/// Ranges that touch are joined, and nothing is behind the greatest number.
 #[test]
-fn ranges_that_touch_are_joined(rt: HostRuntime) -> Result<(), Fail> {
+fn joined_ranges(rt: HostRuntime) -> Result<(), Fail> {
     let ranges = [with(0..=3, 1u8), with(4..=6, 1), with(8..=9, 1)];
     let joined: Vec<_> = RangeListIteratorCoalescer::new(ranges.into_iter()).collect(rt.alloc())?;
     expect_items(&rt, joined, &[with(0..=6, 1u8), with(8..=9, 1)]);
-    Ok(())
-}
-
-#[test]
-fn nothing_is_behind_the_greatest_number(rt: HostRuntime) -> Result<(), Fail> {
     let ranges = [with(5..=u32::MAX, 1u8), with(0..=2, 1)];
     let joined: Vec<_> = RangeListIteratorCoalescer::new(ranges.into_iter()).collect(rt.alloc())?;
     expect_items(&rt, joined, &[with(5..=u32::MAX, 1u8), with(0..=2, 1)]);
@@ -43,8 +38,8 @@ fn expect_ranges_of(
     value: u8,
     want: &[RangeInclusive<u32>],
 ) -> Result<(), Fail> {
-    let ones = data(1, 2, 3);
-    let trie = small_trie(rt, 0x1000, 0xfffff, &ZEROS, &ones);
+    let ones = data(ONES);
+    let trie = small_trie(rt, (0x1000, 0xfffff), &ZEROS, &ones);
     let found: Vec<_> = trie.iter_ranges_for_value(value).collect(rt.alloc())?;
     expect_items(rt, found, want);
     Ok(())
@@ -59,8 +54,8 @@ fn ranges_of_a_value(rt: HostRuntime) -> Result<(), Fail> {
 
 #[test]
 fn mapped_ranges(rt: HostRuntime) -> Result<(), Fail> {
-    let ones = data(1, 2, 3);
-    let trie = small_trie(&rt, 0x1000, 0xfffff, &ZEROS, &ones);
+    let ones = data(ONES);
+    let trie = small_trie(&rt, (0x1000, 0xfffff), &ZEROS, &ones);
     let evens: Vec<_> = trie.iter_ranges_mapped(|x| x % 2 == 0).collect(rt.alloc())?;
     expect_items(
         &rt,
@@ -74,8 +69,8 @@ fn mapped_ranges(rt: HostRuntime) -> Result<(), Fail> {
 /// is alone, and they are joined by their equal answers.
 #[test]
 fn mapped_ranges_that_touch(rt: HostRuntime) -> Result<(), Fail> {
-    let sevens = data(7, 7, 9);
-    let trie = small_trie(&rt, 0x1000, 0, &ZEROS, &sevens);
+    let sevens = data(SEVENS);
+    let trie = small_trie(&rt, (0x1000, 0), &ZEROS, &sevens);
     let same: Vec<_> = trie.iter_ranges_mapped(|x| x).collect(rt.alloc())?;
     expect_items(&rt, same, &[with(0..=0x10FFFF, 7u8)]);
     Ok(())
@@ -88,8 +83,8 @@ fn is_two(mapped: Result<CodePointTrie<'_, u8>, MapError<&str>>) -> bool {
 
 #[test]
 fn refusal_of_a_value(rt: HostRuntime) {
-    let ones = data(1, 2, 3);
-    let trie = small_trie(&rt, 0x1000, 0xfffff, &ZEROS, &ones);
+    let ones = data(ONES);
+    let trie = small_trie(&rt, (0x1000, 0xfffff), &ZEROS, &ones);
     let mapped = trie.try_alloc_map_value(
         rt.alloc(),
         |x: u8| if x == 2 { Err("two") } else { Ok(x) },
@@ -111,20 +106,26 @@ fn texts_of_errors(rt: HostRuntime) -> Result<(), Fail> {
     Ok(())
 }
 
-/// Each value is 0x100 more than in the trie that was mapped.
-fn expect_mapped(rt: &impl Abort, mapped: CodePointTrie<'_, u16>) {
-    for (c, want) in [(0xFFF, 0x101), (0x1000, 0x102), (0x110000, 0x103)] {
-        expect_at(rt, mapped.get32(c), want, c);
-    }
-    expect_same(rt, mapped.null_value(), 0x100, "null value");
+/// The values of three code points, and the null value.
+fn four_values(trie: CodePointTrie<'_, u16>) -> [u16; 4] {
+    [
+        trie.get32(0xFFF),
+        trie.get32(0x1000),
+        trie.get32(0x110000),
+        trie.null_value(),
+    ]
 }
 
+/// Each value is 0x100 more than in the trie that was mapped.
 fn expect_mapped_or_refusal(
     rt: &(impl Abort + Print),
     mapped: Result<CodePointTrie<'_, u16>, MapError<u8>>,
 ) {
     match mapped {
-        Ok(mapped) => expect_mapped(rt, mapped),
+        Ok(mapped) => {
+            let want = [0x101, 0x102, 0x103, 0x100];
+            expect_same(rt, four_values(mapped), want, "mapped values");
+        }
         Err(error) => {
             expect_same(rt, error, MapError::Memory, "refused memory");
             say(rt, "refused");
@@ -135,8 +136,8 @@ fn expect_mapped_or_refusal(
 /// Calls: `CodePointTrie::try_alloc_map_value`.
 #[test]
 fn try_alloc_map_value_refused(rt: HostRuntime) {
-    let ones = data(1, 2, 3);
-    let trie = small_trie(&rt, 0x1000, 0xfffff, &ZEROS, &ones);
+    let ones = data(ONES);
+    let trie = small_trie(&rt, (0x1000, 0xfffff), &ZEROS, &ones);
     say(&rt, "call");
     let mapped = trie.try_alloc_map_value(rt.alloc(), |x: u8| Ok::<u16, u8>(u16::from(x) + 0x100));
     say(&rt, "done");
