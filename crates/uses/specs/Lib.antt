@@ -1,1 +1,2 @@
+pub mod Categories
 pub mod Listing

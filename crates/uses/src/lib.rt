@@ -5,8 +5,10 @@
 //! - `sets`: sets of code points
 //! - `words`: word lists in unit tries
 //! - `own_cells`: a look-up over cells of the caller's own, which counts its reads
+//! - `categories`: an enum of the caller's own as the value of a trie
 #![tactic(auto)]
 
+pub mod categories;
 pub mod own_cells;
 pub mod sets;
 pub mod tables;

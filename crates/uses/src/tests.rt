@@ -1,6 +1,7 @@
 //! The callers, run.
 
-use crate::{own_cells, sets, tables, words};
+use crate::categories::Category;
+use crate::{categories, own_cells, sets, tables, words};
 use icu_collections::char16trie::{Char16Trie, TrieResult};
 use icu_collections::codepointinvlist::{CodePointInversionList, CodePointInversionListBuilder};
 use icu_collections::codepointtrie::{
@@ -185,4 +186,20 @@ fn cells_of_ones_own(rt: HostRuntime) {
     expect(&rt, found == Some(7), "below");
     let found = own_cells::look_up_in_slices(&header, &[0; 64], &values, 0x11_0000);
     expect(&rt, found.is_none(), "above");
+}
+
+#[test]
+fn categories_of_characters(rt: HostRuntime) {
+    let rows = [
+        Write::Range(0x30..=0x39, Category::Number),
+        Write::Range(0x41..=0x5A, Category::Letter),
+        Write::One(0x42, Category::Other),
+    ];
+    let Ok(trie) = categories::categories_of(rt.alloc(), &rows) else {
+        panic!(rt; "built");
+    };
+    expect(&rt, categories::is_letter(&trie, 'A'), "A");
+    expect(&rt, !categories::is_letter(&trie, 'B'), "B");
+    expect(&rt, !categories::is_letter(&trie, '1'), "1");
+    expect(&rt, trie.get('1') == Category::Number, "a number");
 }
