@@ -189,6 +189,20 @@ fn cells_of_ones_own(rt: HostRuntime) {
 }
 
 #[test]
+fn the_longest_word_of_a_text(rt: HostRuntime) {
+    let Ok(trie) = word_trie(rt.alloc()) else {
+        panic!(rt; "trie");
+    };
+    let text = [0x61, 0x62, 0x63];
+    let whole = words::longest_match(&trie, &text);
+    expect(&rt, whole == Some((2, 2)), "ab of abc");
+    let short = words::longest_match(&trie, &[0x61, 0x63]);
+    expect(&rt, short == Some((1, 1)), "a of ac");
+    expect(&rt, words::longest_match(&trie, &[0x62]).is_none(), "b");
+    expect(&rt, words::longest_match(&trie, &[]).is_none(), "empty");
+}
+
+#[test]
 fn categories_of_characters(rt: HostRuntime) {
     let rows = [
         Write::Range(0x30..=0x39, Category::Number),
