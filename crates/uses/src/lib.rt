@@ -6,11 +6,15 @@
 //! - `words`: word lists in unit tries
 //! - `own_cells`: a look-up over cells of the caller's own, which counts its reads
 //! - `categories`: an enum of the caller's own as the value of a trie
+//! - `built`: what is known of a built trie beside its answers
+//! - `strangers`: tries of parts of any origin
 #![tactic(auto)]
 
+pub mod built;
 pub mod categories;
 pub mod own_cells;
 pub mod sets;
+pub mod strangers;
 pub mod tables;
 #[cfg(test)]
 mod tests;

@@ -1,7 +1,7 @@
 //! The callers, run.
 
 use crate::categories::Category;
-use crate::{categories, own_cells, sets, tables, words};
+use crate::{built, categories, own_cells, sets, strangers, tables, words};
 use icu_collections::char16trie::{Char16Trie, TrieResult};
 use icu_collections::codepointinvlist::{CodePointInversionList, CodePointInversionListBuilder};
 use icu_collections::codepointtrie::{
@@ -216,4 +216,45 @@ fn categories_of_characters(rt: HostRuntime) {
     expect(&rt, !categories::is_letter(&trie, 'B'), "B");
     expect(&rt, !categories::is_letter(&trie, '1'), "1");
     expect(&rt, trie.get('1') == Category::Number, "a number");
+}
+
+#[test]
+fn what_a_built_trie_is(rt: HostRuntime) {
+    let alloc = rt.alloc();
+    let cells = built::cells_of(alloc, 0u8, 9, TrieType::Small, &rows());
+    expect(&rt, cells.is_ok(), "cells");
+}
+
+#[test]
+fn tries_from_strangers(rt: HostRuntime) {
+    let Ok(trie) = build_from_writes(rt.alloc(), 0u8, 9, TrieType::Small, &rows()) else {
+        panic!(rt; "built");
+    };
+    let Some(runs) = strangers::trusted_runs(rt.alloc(), &trie) else {
+        panic!(rt; "runs");
+    };
+    expect(&rt, runs.len() == 6, "six runs");
+    let Some(range) = strangers::trusted_range(&trie, 'A') else {
+        panic!(rt; "range");
+    };
+    expect(&rt, range.value == 1, "of 1");
+    expect(&rt, range.range == (0x41..=0x59), "A to Y");
+}
+
+#[test]
+fn a_trie_of_bytes(rt: HostRuntime) {
+    let header = CodePointTrieHeader {
+        high_start: 0,
+        shifted12_high_start: 0,
+        index3_null_offset: 0x7fff,
+        data_null_offset: 0xfffff,
+        null_value: 0,
+        trie_type: TrieType::Small,
+    };
+    let Some(trie) = strangers::trie_of_bytes::<u8>(header, &[0; 128], &[7; 128]) else {
+        panic!(rt; "trie");
+    };
+    expect(&rt, trie.get32(0x41) == 7, "below");
+    let refused = strangers::trie_of_bytes::<u8>(header, &[0; 127], &[7; 128]);
+    expect(&rt, refused.is_none(), "half a unit");
 }
