@@ -1,5 +1,5 @@
 //! Properties of characters in tries that are built, stored and read.
-ghost use Rattle.std.specs.Prelude.{◌≡◌, ◌<◌, ◌≤◌, ◌↔◌, ℕ, [], ◌∷◌, true, false, Some, Err, IfOk, IfSome, List, map, ◌≢◌};
+ghost use Rattle.std.specs.Prelude.{◌≡◌, ◌<◌, ◌≤◌, ◌↔◌, ℕ, [], ◌∷◌, true, false, Some, Err, IfOk, IfSome, List, ◌++◌, map, ◌≢◌};
 ghost use Rattle.std.specs.List.{count_by};
 ghost use Rattle.std.specs.Option.{option_map};
 ghost use Rattle.icu_collections.specs.CodePointInversionList.{holds};
@@ -48,6 +48,23 @@ pub fn written_twice<T: TrieValue>(
     let mut builder = CodePointTrieBuilder::new(alloc, default, error, TrieType::Small);
     builder.set_value(first.0, first.1)?;
     builder.set_value(second.0, second.1)?;
+    let trie = builder.build()?;
+    Ok(trie.get32(c))
+}
+
+/// The value of a code point by two tables, the second one over the first. A table that is refused
+/// is want of memory, as `?` has it.
+pub fn amended_value(
+    alloc: Global,
+    first: &[Write<u8>],
+    second: &[Write<u8>],
+    c: u32,
+) -> Result<u8, BuildError>
+    ensures { IfOk result (λ v. v ≡ answer_after 0 255 (first.now ++ second.now) c) }
+{
+    let mut builder = CodePointTrieBuilder::new(alloc, 0, 255, TrieType::Fast);
+    builder.apply(first)?;
+    builder.apply(second)?;
     let trie = builder.build()?;
     Ok(trie.get32(c))
 }

@@ -95,6 +95,9 @@ fn tables_that_are_built(rt: HostRuntime) {
         tables::general_category(alloc, &rows(), 'Z') == Ok(2),
         "Z",
     );
+    let over = [Write::One(0x5A, 7)];
+    let amended = tables::amended_value(alloc, &rows(), &over, 0x5A);
+    expect(&rt, amended == Ok(7), "amended");
     let twice = tables::written_twice(alloc, 0u16, 9, (0x41, 300), (0x41, 301), 0x41);
     expect(&rt, twice == Ok(301), "twice");
     let mut builder = CodePointTrieBuilder::new(alloc, 0u8, 9, TrieType::Fast);
