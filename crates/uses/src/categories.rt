@@ -133,11 +133,7 @@ pub fn categories_of(
     ensures { IfOk result
         (λ trie. (c : ℕ) → trie_value trie c ≡ Some (answer_after Other Other rows.now c)) }
 {
-    build_from_writes(
-        alloc,
-        Category::Other,
-        Category::Other,
-        TrieType::Small,
-        rows,
-    )
+    let none = Category::Other;
+    let trie = build_from_writes(alloc, none, none, TrieType::Small, rows)?;
+    Ok(trie)
 }

@@ -4,7 +4,7 @@ use Rattle.icu_collections.proofs.CallerLemmas.{NamesNull-some}
 use Rattle.uses.proofs.built.with_null_block.Goals as goal
 
 pub returns : goal.returns
-returns c =
+returns g c =
     let trie = c.in_ok-trie.trie in
     let below : c.args.b * 64 < fast_limit trie.header.trie_type = rw c.in_ok-trie.ensures.trie_type c.requires.below in
     elim (NamesNull-some _ _ _ c.in_ok-trie.ensures.built.null_block (inl (c.args.b, below, c.requires.one, tt))) [

@@ -4,7 +4,7 @@ use Rattle.icu_collections.specs.CodePointTrieBuilder.{IsAfter, answer_after}
 use Rattle.uses.proofs.tables.amended_value.Goals as goal
 
 pub returns : goal.returns
-returns g c =
+returns c =
     let first : IsAfter c.args.first.now c.new-builder.result c.apply.new.self = search rules in
     let second : IsAfter c.args.second.now c.apply.new.self c.apply-2.new.self = search rules in
     let both = IsAfter-append _ _ _ _ _ first second in
