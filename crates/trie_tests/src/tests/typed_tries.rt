@@ -94,14 +94,6 @@ fn fast_trie_and_back(rt: HostRuntime) -> Result<(), Fail> {
     Ok(())
 }
 
-/// The value of `c` in the trie, as a small one and back.
-fn through_small(trie: CodePointTrie<'_, u8>, c: u32) -> Option<u8> {
-    match SmallCodePointTrie::try_from(trie) {
-        Ok(small) => Some(small.to_untyped().get32(c)),
-        Err(_) => None,
-    }
-}
-
 #[test]
 fn small_trie(rt: HostRuntime) {
     let trie = three_runs(&rt, rt.alloc(), TrieType::Small);
@@ -111,5 +103,18 @@ fn small_trie(rt: HostRuntime) {
     expect(&rt, *lent.as_untyped_ref() == trie, "the same trie");
     let of_type = SmallCodePointTrie::<'static, u8>::TRIE_TYPE;
     expect_same(&rt, of_type, TrieType::Small, "the type of small tries");
+}
+
+/// The value of `c` in the trie, as a small one and back.
+fn through_small(trie: CodePointTrie<'_, u8>, c: u32) -> Option<u8> {
+    match SmallCodePointTrie::try_from(trie) {
+        Ok(small) => Some(small.to_untyped().get32(c)),
+        Err(_) => None,
+    }
+}
+
+#[test]
+fn small_trie_and_back(rt: HostRuntime) {
+    let trie = three_runs(&rt, rt.alloc(), TrieType::Small);
     expect_same(&rt, through_small(trie, 0xFFC0), Some(1), "at FFC0");
 }
