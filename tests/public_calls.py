@@ -21,7 +21,7 @@ KINDS = ["converts", "none", "takes", "answers"]
 ITEM = re.compile(
     r"^(?P<head>(?:pub )?(?:impl|trait)\b[^{;]*)\{"
     r"|^(?P<end>\})"
-    r"|^ *(?P<public>pub )?(?:const )?fn (?P<name>\w+)(?P<signature>(?:[^{};]|\{[^{}]*\})*?)"
+    r"|^ *(?P<public>pub )?(?:const |final )*fn (?P<name>\w+)(?P<signature>(?:[^{};]|\{[^{}]*\})*?)"
     r"(?=\n? *(?:requires|ensures|decreases)\b|[{;])",
     re.M,
 )
