@@ -1,6 +1,6 @@
 //! What is written into a map of the code points.
 
-pub use icu_trie_compaction::refused::ApplyRefused;
+pub use icu_zerovec::memory::ApplyRefused;
 use std::ops::RangeInclusive;
 
 /// One write into a map of the code points.

@@ -3,6 +3,7 @@ ghost use Rattle.std.specs.Prelude.{◌≡◌};
 ghost use Rattle.icu_trie_compaction.specs.declared.error.BuildError.TheVariants.{Memory};
 
 use icu_zerovec::MemoryError;
+use icu_zerovec::memory::ApplyRefused;
 use std::alloc::{AllocError, AllocFailed};
 use thiserror::Error;
 
@@ -37,6 +38,14 @@ impl From<MemoryError> for BuildError {
     ghost from_gives = { λ _ e. e ≡ Memory };
 
     fn from(_error: MemoryError) -> BuildError {
+        BuildError::Memory
+    }
+}
+
+impl From<ApplyRefused> for BuildError {
+    ghost from_gives = { λ _ e. e ≡ Memory };
+
+    fn from(_error: ApplyRefused) -> BuildError {
         BuildError::Memory
     }
 }

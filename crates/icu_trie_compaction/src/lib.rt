@@ -6,7 +6,7 @@
 //!   hash, which `hashing` computes
 //! - `index`: the index that gives each block of data its offset. `index3` and `index2` place its
 //!   blocks; `packing` has the 18-bit form of an index-3 block, `lengths` the lengths of blocks
-//! - `error`: why a trie could not be built; `refused`: why a list of writes was not made
+//! - `error`: why a trie could not be built
 #![tactic(auto)]
 
 pub mod blocks;
@@ -17,5 +17,4 @@ mod index2;
 mod index3;
 mod lengths;
 mod packing;
-pub mod refused;
 pub mod window_table;

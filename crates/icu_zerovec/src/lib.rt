@@ -13,7 +13,7 @@
 //! - `integers`, `code_point`: the values that there are: integers, `char`, [`PotentialCodePoint`]
 //! - `vec`, `slice`, `iter`: the vector, its lent view, its values one after another
 //! - `equality`: vectors are equal, and hash alike, by their lists of values
-//! - `memory`: want of memory, one error for all crates above
+//! - `memory`: want of memory, one error for all crates above, and that of a list of writes
 //! - `cells`: the work, over plain bytes
 #![tactic(auto)]
 
