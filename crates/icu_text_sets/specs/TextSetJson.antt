@@ -8,7 +8,7 @@ use Rattle.serde_json.specs.View.{items_of}
 use Rattle.icu_invlist.specs.InversionList.{IsValid}
 use Rattle.icu_invlist.specs.SetJson.{ends_of, list_of, written_of}
 use Rattle.icu_invlist.specs.declared.codepointinvlist.error.SetJsonError.{SetJsonError}
-use Rattle.icu_invlist.specs.declared.codepointinvlist.error.SetJsonError.TheVariants.{InvalidSet}
+use Rattle.icu_invlist.specs.declared.codepointinvlist.error.SetJsonError.TheVariants.{NotAnArray, NotAString, NotARange, InvalidSet, Memory}
 use Rattle.icu_zerovec.specs.FirstFault.{and_then, read_from}
 use Rattle.icu_text_sets.specs.TextSet.{TextSet}
 use Rattle.icu_text_sets.specs.TextFaults.{TextFault, fault, fault_of}
@@ -39,6 +39,14 @@ json_fault_of (errors.Set e) = Some (no_set e)
 json_fault_of (errors.NotAString i) = Some (no_string i)
 json_fault_of (errors.Strings e) = Some (text_fault (fault_of e))
 json_fault_of errors.Memory = None
+
+-- refused code points among the refusals of a set with strings: want of memory stays what it is
+abbrev pub set_refusal : SetJsonError → StringListJsonError
+set_refusal NotAnArray = errors.Set NotAnArray
+set_refusal (NotAString i) = errors.Set (NotAString i)
+set_refusal (NotARange i) = errors.Set (NotARange i)
+set_refusal InvalidSet = errors.Set InvalidSet
+set_refusal Memory = errors.Memory
 
 -- ---- the strings
 -- the text that item i is

@@ -2,6 +2,7 @@
 ghost use Rattle.std.specs.Prelude.{◌≡◌};
 ghost use Rattle.icu_invlist.specs.declared.codepointinvlist.error.SetError.TheVariants.{Memory};
 ghost use Rattle.icu_invlist.specs.declared.codepointinvlist.error.TryRangeError.TheVariants.{Memory as RangeMemory};
+ghost use Rattle.icu_invlist.specs.declared.codepointinvlist.error.SetJsonError.TheVariants.{Memory as JsonMemory};
 
 use icu_zerovec::{MemoryError, PotentialCodePoint};
 use thiserror::Error;
@@ -74,4 +75,12 @@ pub enum SetJsonError {
     /// Memory was refused.
     #[error("no memory")]
     Memory,
+}
+
+impl From<MemoryError> for SetJsonError {
+    ghost from_gives = { λ _ e. e ≡ JsonMemory };
+
+    fn from(_error: MemoryError) -> SetJsonError {
+        SetJsonError::Memory
+    }
 }

@@ -1,6 +1,8 @@
 //! Why lists of strings, and JSON values, are refused.
+ghost use Rattle.std.specs.Prelude.{◌≡◌};
 
 use icu_invlist::codepointinvlist::SetJsonError;
+use icu_zerovec::MemoryError;
 use thiserror::Error;
 
 /// Why a list of strings is no list of a set's strings. Each case has the strings at fault.
@@ -36,4 +38,28 @@ pub enum StringListJsonError {
     /// Memory was refused.
     #[error("no memory")]
     Memory,
+}
+
+/// For `?` after a set of code points was read. Want of memory stays what it is.
+impl From<SetJsonError> for StringListJsonError {
+    ghost use Rattle.icu_text_sets.specs.TextSetJson.{set_refusal};
+
+    ghost from_gives = { λ x e. e ≡ set_refusal x };
+
+    fn from(error: SetJsonError) -> StringListJsonError {
+        match error {
+            SetJsonError::Memory => StringListJsonError::Memory,
+            error => StringListJsonError::Set(error),
+        }
+    }
+}
+
+impl From<MemoryError> for StringListJsonError {
+    ghost use Rattle.icu_text_sets.specs.declared.codepointinvliststringlist.error.StringListJsonError.TheVariants.{Memory};
+
+    ghost from_gives = { λ _ e. e ≡ Memory };
+
+    fn from(_error: MemoryError) -> StringListJsonError {
+        StringListJsonError::Memory
+    }
 }

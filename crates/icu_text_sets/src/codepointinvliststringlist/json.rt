@@ -72,10 +72,7 @@ fn strings_of(alloc: Global, value: &Value) -> Result<Vec<String>, StringListJso
 fn set_error(error: SetJsonError) -> StringListJsonError
     ensures { json_fault_of result ≡ set_fault_of error }
 {
-    match error {
-        SetJsonError::Memory => StringListJsonError::Memory,
-        error => StringListJsonError::Set(error),
-    }
+    StringListJsonError::from(error)
 }
 
 impl<'data> CodePointInversionListAndStringList<'data> {
