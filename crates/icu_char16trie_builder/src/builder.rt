@@ -1,11 +1,11 @@
 //! Entries are added, and become a trie.
-ghost use Rattle.std.specs.Prelude.{◌≡◌, ◌↔◌, ℕ, ℤ, ◌+◌, ◌*◌, ◌<◌, ◌≤◌, List, [], ◌∷◌, length, take, IsTrue, IsSome, IsNone, IfOk, OnOk, OnErr, Err, Option, MatchOption, is_some};
+ghost use Rattle.std.specs.Prelude.{◌≡◌, ◌↔◌, ℕ, ℤ, ◌+◌, ◌*◌, ◌<◌, ◌≤◌, ◌⊎◌, List, [], ◌∷◌, length, take, IsTrue, IsSome, IsNone, IfOk, IfErr, OnOk, OnErr, Err, Option, MatchOption, is_some};
 ghost use Rattle.icu_char16trie.specs.Grammar.{IsTrieOf};
 ghost use Rattle.icu_char16trie.specs.UnitMap.{UnitMap, value_of, IsAscendingKeys};
 ghost use Rattle.icu_char16trie_builder.specs.Entries.{with_entry, entry_map, most_units};
 ghost use Rattle.icu_char16trie_builder.specs.Inside.Cuts.{cut, room};
 ghost use Rattle.icu_char16trie_builder.specs.declared.error.AddError.TheVariants.{KeyTooLong, Duplicate};
-ghost use Rattle.icu_char16trie_builder.specs.declared.error.BuildError.TheVariants.{TooLarge};
+ghost use Rattle.icu_char16trie_builder.specs.declared.error.BuildError.TheVariants.{TooLarge, Memory};
 
 use crate::entry::Entry;
 use crate::error::{AddError, BuildError};
@@ -182,6 +182,7 @@ impl Char16TrieBuilder {
         ensures trie { IfOk result (λ trie. IsTrieOf trie self) }
         ensures bound { IfOk result (λ trie. length trie ≤ most_units self) }
         ensures empty { self ≡ [] → IfOk result (λ trie. trie ≡ []) }
+        ensures refusals { IfErr result (λ e. (e ≡ TooLarge) ⊎ (e ≡ Memory)) }
         ensures too_large { result ≡ Err TooLarge → 0x7FFF_FFFF < most_units self }
         ensures fits { OnOk result (most_units self ≤ 0x7FFF_FFFF) }
     {

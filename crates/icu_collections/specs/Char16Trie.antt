@@ -10,6 +10,7 @@ pub use Rattle.icu_char16trie.specs.Passed.{Passes, answer_at, result_of}
 pub use Rattle.icu_char16trie.specs.Entries.{AreCutShort, AreEntries, GivesNext, IsDone, IsLeft}
 pub use Rattle.icu_char16trie.specs.LossyText.{key_text}
 unfoldable pub use Rattle.icu_char16trie_builder.specs.Entries.{most_units, with_entry}
+pub use Rattle.icu_char16trie_builder.specs.Errors.{entry_refusal}
 -- The format, unit by unit, how a unit leads on, and what an iterator has still to give
 pub use Rattle.icu_char16trie.specs.Numbers
 pub use Rattle.icu_char16trie.specs.Grammar
