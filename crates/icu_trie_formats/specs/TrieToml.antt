@@ -202,7 +202,14 @@ trie_of of_number t =
 abbrev pub IsRefusedTrie : {A : Type 0} → Result A TrieFault → TrieFromTomlError → Type 0
 IsRefusedTrie r (refusals.Trie (FromDeserialized reason)) = r ≡ Err (unread reason.now)
 IsRefusedTrie r (refusals.Trie e) = r ≡ Err (of_parts e)
+IsRefusedTrie r (refusals.Table _) = ⊥
 IsRefusedTrie r refusals.Memory = Unit {0}
+
+-- a refused table among the refusals of a trie: want of memory stays what it is
+abbrev pub table_refusal : TomlError → TrieFromTomlError
+table_refusal (Missing key) = refusals.Table (Missing key)
+table_refusal (OutOfRange key) = refusals.Table (OutOfRange key)
+table_refusal Memory = refusals.Memory
 
 -- what the conversion gives
 abbrev pub GivesTrie : {T : Type 0} → (ℕ → Option T) → TomlParts

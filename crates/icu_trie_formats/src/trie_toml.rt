@@ -30,12 +30,26 @@ pub enum TomlError {
     Memory,
 }
 
+impl From<MemoryError> for TomlError {
+    ghost use Rattle.icu_trie_formats.specs.declared.trie_toml.TomlError.TheVariants.{Memory};
+
+    ghost from_gives = { λ _ e. e ≡ Memory };
+
+    fn from(_error: MemoryError) -> TomlError {
+        TomlError::Memory
+    }
+}
+
 /// Why what a table holds is no trie.
 #[derive(Clone, Copy, Debug, PartialEq, Error)]
 pub enum TrieFromTomlError {
     /// The parts make no trie.
     #[error("{0}")]
     Trie(CodePointTrieError),
+    /// The table itself was refused. No conversion gives this: it stands here for `?`, in a
+    /// function that reads a table and makes a trie of it.
+    #[error("{0}")]
+    Table(TomlError),
     /// Memory was refused.
     #[error("no memory")]
     Memory,
@@ -58,6 +72,20 @@ impl From<MemoryError> for TrieFromTomlError {
 
     fn from(_error: MemoryError) -> TrieFromTomlError {
         TrieFromTomlError::Memory
+    }
+}
+
+/// For `?` after a table was read. Want of memory stays what it is.
+impl From<TomlError> for TrieFromTomlError {
+    ghost use Rattle.icu_trie_formats.specs.TrieToml.{table_refusal};
+
+    ghost from_gives = { λ x e. e ≡ table_refusal x };
+
+    fn from(error: TomlError) -> TrieFromTomlError {
+        match error {
+            TomlError::Memory => TrieFromTomlError::Memory,
+            TomlError::Missing(_) | TomlError::OutOfRange(_) => TrieFromTomlError::Table(error),
+        }
     }
 }
 
