@@ -9,7 +9,7 @@ pub use Rattle.icu_trie_core.proofs.CallerLemmas.{AreMaximalRuns-same, AreMaxima
 pub use Rattle.icu_trie.proofs.CallerLemmas.{All-given, All-selected, AreMappedRunsFrom-same, joined_ranges-are}
 -- A trie of a map: its writes, its answers, its ranges, and its null block
 pub use Rattle.icu_trie_builder.proofs.CallerLemmas.{IsAfter-append, error-of-map, map_answer-after, mapped-ranges-of-map, ranges-of-map, value_after-append}
-pub use Rattle.icu_trie_builder.proofs.CallerLemmas.{NamesNull-some, answer_at, longest_of_map, no_answer_at}
+pub use Rattle.icu_trie_builder.proofs.CallerLemmas.{NamesNull-some, answer-of-map, longest_of_map, no_answer-of-map}
 -- Entries of unit tries: those with one more, and those of a run of `iter2`
 pub use Rattle.icu_char16trie_builder.proofs.CallerLemmas.{AreEntries-of_run, IsAscendingKeys-with_entry, most_units-with_entry, shown, text_of, texts_of_entries, value_of-with_entry}
 pub use Rattle.icu_char16trie_builder.proofs.CallerLemmas.{goes_on-with_entry, none_beyond, value_of-added, value_of-others}

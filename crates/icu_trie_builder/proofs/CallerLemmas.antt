@@ -20,7 +20,7 @@ use Rattle.icu_trie_builder.specs.declared.writes.Write.{Write}
 -- The writes of two lists, one after the other
 pub use Rattle.icu_trie_builder.proofs.AfterLemmas.{IsAfter-append, value_after-append}
 -- What a look-up and a walk over the cells of a trie of a map give
-pub use Rattle.icu_trie_builder.proofs.RangesOfMap.{answer_at, longest_of_map, no_answer_at}
+pub use Rattle.icu_trie_builder.proofs.RangesOfMap.{answer-of-map, longest_of_map, no_answer-of-map}
 
 -- A map that was the default everywhere answers by the writes alone
 pub map_answer-after : {T : Type 0} (default error : T) (ws : List (Write T)) (blank written : CodePointMap T)

@@ -25,20 +25,20 @@ module _ {T : Type 0} (f : ℕ → T) (error : T) (t : Parts T) (a : AnswersMap 
 -- ---- a look-up or a walk over whatever cells hold the trie
 module _ {T : Type 0} (f : ℕ → T) (error : T) (t : Parts T) (of : AnswersMap f error t) where
   -- the answer in the code space is the map's value
-  pub answer_at : (u : ℕ) → u ≤ 0x10FFFF → answer t.header t.index t.values u ≡ Some (f u)
-  answer_at u l = grind (arith, nat_tests, of.look_up u)
+  pub answer-of-map : (u : ℕ) → u ≤ 0x10FFFF → answer t.header t.index t.values u ≡ Some (f u)
+  answer-of-map u l = grind (arith, nat_tests, of.look_up u)
 
   -- and there is none above it
-  pub no_answer_at : (u : ℕ) → 0x10FFFF < u → answer t.header t.index t.values u ≡ None
-  no_answer_at u l = grind (arith, nat_tests, of.look_up u)
+  pub no_answer-of-map : (u : ℕ) → 0x10FFFF < u → answer t.header t.index t.values u ≡ None
+  no_answer-of-map u l = grind (arith, nat_tests, of.look_up u)
 
   -- the longest run of the answers, which a walk gives, is the map's
   pub longest_of_map : (first last : ℕ) (v : T) → LongestRun (answer t.header t.index t.values) first last (Some v) → LongestRun f first last v
   longest_of_map first last v run = record {
     ordered = run.ordered;
     within = run.within;
-    equal = λ u l k. some_same (sym (answer_at u (omega (arith, k, run.within))) ∙ run.equal u l k);
-    ends = λ l e. run.ends l (answer_at (last + 1) (omega (arith, l)) ∙ ap Some e);
+    equal = λ u l k. some_same (sym (answer-of-map u (omega (arith, k, run.within))) ∙ run.equal u l k);
+    ends = λ l e. run.ends l (answer-of-map (last + 1) (omega (arith, l)) ∙ ap Some e);
   }
     where
       some_same : {a b : T} → Some a ≡ Some b → a ≡ b

@@ -13,8 +13,8 @@
 //! - `map_blocks`: the blocks of the map find their places
 //! - `filled_blocks`: blocks of 16 of one number that stand in a block of 64 of it
 //! - `lengths`: how long the blocks of the data are
-//! - `null_block`: the block of one number that a walk knows by its offset; `uses` wishes for a
-//!   frequent one
+//! - `null_block`: the block of one number that a walk knows by its offset; `used_numbers` wishes
+//!   for a frequent one
 //!
 //! Blocks find their places, and the index is made, in `icu_trie_compaction`.
 #![tactic(auto)]
@@ -28,7 +28,7 @@ mod lengths;
 mod map_blocks;
 mod null_block;
 mod number_trie;
-mod uses;
+mod used_numbers;
 pub mod writes;
 
 pub use build::build_from_writes;

@@ -8,7 +8,7 @@ ghost use Rattle.icu_trie_compaction.specs.declared.error.BuildError.TheVariants
 use crate::error::BuildError;
 use crate::filled_blocks::{filled_places, share_filled};
 use crate::lengths::{FAST_BLOCK, SMALL_BLOCK};
-use crate::uses::most_used;
+use crate::used_numbers::most_used;
 use std::alloc::{AllocError, Global};
 
 /// Where the null block starts, and the number that it holds.

@@ -1,5 +1,5 @@
 use Rattle.std.proofs.Common.{◌+◌, ◌<◌, ◌≤◌, length}
-use Rattle.icu_trie_builder.proofs.uses.add_offsets.Given as goal
+use Rattle.icu_trie_builder.proofs.used_numbers.add_offsets.Given as goal
 
 abbrev pub invariant-loop-offset : goal.invariant-loop-offset
 invariant-loop-offset l = record {
