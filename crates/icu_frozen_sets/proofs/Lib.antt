@@ -1,0 +1,5 @@
+pub mod BitLemmas
+pub mod BlockLemmas
+pub mod FillingLemmas
+pub mod FreezeLemmas
+pub mod SpanLemmas

@@ -1,0 +1,2 @@
+pub mod CodePointBits
+pub mod Inside

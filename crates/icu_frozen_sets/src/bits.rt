@@ -1,0 +1,135 @@
+//! A bit for each code point, in two stages, so that each look-up is two loads.
+ghost use Rattle.std.specs.Prelude.{◌≡◌, ℕ, ◌+◌, ◌/◌, ◌<◌, [], length, slice_index, IfOk, OnOk, IsTrue, if◌then◌else◌};
+ghost use Rattle.icu_frozen_sets.specs.CodePointBits.{has_bit};
+ghost use Rattle.icu_frozen_sets.specs.Inside.Filling.{AddsBlocks, AreTables, block_bit};
+
+use icu_zerovec::{CODE_POINT_LIMIT, MemoryError};
+use std::alloc::Global;
+use std::marker::Model;
+
+/// How many blocks of 256 code points there are.
+pub(crate) const BLOCKS: u32 = CODE_POINT_LIMIT / 256;
+
+/// The words of the block that holds nothing, and of the one that holds everything.
+const TWO_BLOCKS: [u64; 8] = [0, 0, 0, 0, u64::MAX, u64::MAX, u64::MAX, u64::MAX];
+
+/// The place of the block that holds nothing.
+const EMPTY_BLOCK: u16 = 0;
+
+/// The place of the block that holds everything.
+const FULL_BLOCK: u16 = 4;
+
+/// A bit for each code point, in blocks of 256. All blocks that hold nothing share their words, and
+/// all that hold everything; each other one has four words of its own.
+#[derive(Debug, Drop)]
+pub(crate) struct CodePointBits {
+    /// The place of each block's first word.
+    index: Vec<u16>,
+    /// The bits of 64 code points each, that of the first one lowest.
+    words: Vec<u64>,
+}
+
+impl Model for CodePointBits {
+    ghost use Rattle.icu_frozen_sets.specs.CodePointBits.{BitTables};
+
+    ghost Value = { BitTables };
+
+    ghost view = { λ b. record { index = b.index.items; words = b.words.items } };
+}
+
+/// The place of the block that holds everything, or, for `value` false, nothing.
+#[inline(always)]
+fn shared_place(value: bool) -> u16
+    ensures { result ≡ (if value then 4 else 0) }
+{
+    if value { FULL_BLOCK } else { EMPTY_BLOCK }
+}
+
+/// Whether each of the block's words is this one.
+fn is_all(block: &[u64; 4], word: u64) -> bool
+    ensures { IsTrue result → (k : ℕ) → k < 4 → slice_index block.now k ≡ word }
+{
+    block[0] == word && block[1] == word && block[2] == word && block[3] == word
+}
+
+impl CodePointBits {
+    /// No block yet.
+    ///
+    /// # Errors
+    /// `MemoryError` where memory was refused.
+    pub(crate) fn new(alloc: Global) -> Result<CodePointBits, MemoryError>
+        ensures tables { IfOk result (λ b. AreTables b) }
+        ensures none { IfOk result (λ b. b.index ≡ []) }
+    {
+        let index = Vec::with_capacity(alloc, BLOCKS as usize)?;
+        let words = Vec::from_slice(alloc, &TWO_BLOCKS)?;
+        Ok(CodePointBits { index, words })
+    }
+
+    /// The bit of the code point, whose block is there.
+    #[inline(always)]
+    pub(crate) fn contains32(&self, c: u32) -> bool
+        requires tables { AreTables self.now }
+        requires there { c / 256 < length self.now.index }
+        ensures { result ≡ has_bit self.now c }
+    {
+        let first = self.index[(c / 256) as usize];
+        let word = self.words[first as usize + (c / 64 % 4) as usize];
+        (word >> (c % 64)) & 1 == 1
+    }
+
+    /// Appends so many blocks that hold everything, or, for `value` false, nothing.
+    ///
+    /// # Errors
+    /// `MemoryError` where memory was refused.
+    pub(crate) fn push_run(&mut self, count: usize, value: bool) -> Result<(), MemoryError>
+        requires tables { AreTables self.old }
+        requires room { length self.old.index + count < 0x10000 }
+        ensures { OnOk result (AddsBlocks self.old self.new count (λ c. value)) }
+    {
+        self.index
+            .resize(self.index.len() + count, shared_place(value))?;
+        Ok(())
+    }
+
+    /// Appends a block with four words of its own.
+    fn push_own(&mut self, block: &[u64; 4]) -> Result<(), MemoryError>
+        requires tables { AreTables self.old }
+        requires room { length self.old.index < BLOCKS }
+        ensures { OnOk result (AddsBlocks self.old self.new 1 (block_bit block.now)) }
+    {
+        self.index.push(self.words.len() as u16)?;
+        self.words.extend_from_slice(block)?;
+        Ok(())
+    }
+
+    /// Appends a block of these words.
+    ///
+    /// # Errors
+    /// `MemoryError` where memory was refused.
+    pub(crate) fn push_block(&mut self, block: &[u64; 4]) -> Result<(), MemoryError>
+        requires tables { AreTables self.old }
+        requires room { length self.old.index < BLOCKS }
+        ensures { OnOk result (AddsBlocks self.old self.new 1 (block_bit block.now)) }
+    {
+        if is_all(block, 0) {
+            return self.push_run(1, false);
+        }
+        if is_all(block, u64::MAX) {
+            return self.push_run(1, true);
+        }
+        self.push_own(block)
+    }
+
+    /// A copy.
+    ///
+    /// # Errors
+    /// `MemoryError` where memory was refused.
+    pub(crate) fn try_clone(&self, alloc: Global) -> Result<CodePointBits, MemoryError>
+        ensures { IfOk result (λ b. b ≡ self.now) }
+    {
+        let index = Vec::from_slice(alloc, &self.index)?;
+        let words = Vec::from_slice(alloc, &self.words)?;
+        Ok(CodePointBits { index, words })
+    }
+}

@@ -1,0 +1,181 @@
+//! How bits are filled in, from the first code point on.
+ghost use Rattle.std.specs.Prelude.{◌≡◌, ℕ, ◌+◌, ◌*◌, ◌/◌, ◌%◌, ◌<◌, ◌≤◌, ◌||◌, false, length, slice_index, IfOk, IsTrue, OnOk};
+ghost use Rattle.icu_zerovec.specs.CodePoints.{code_point_limit};
+ghost use Rattle.icu_invlist.specs.InversionList.{between};
+ghost use Rattle.icu_frozen_sets.specs.CodePointBits.{has_bit};
+ghost use Rattle.icu_frozen_sets.specs.Inside.Filling.{AreTables, Fills, IsFilling, block_bit, filled};
+
+use crate::bits::CodePointBits;
+use icu_zerovec::MemoryError;
+use std::alloc::Global;
+
+/// Bits that are filled in from the first code point on, up to `reached`.
+#[derive(Debug, Drop)]
+pub(crate) struct Filling {
+    /// The blocks that are whole.
+    bits: CodePointBits,
+    /// The words of the block that is filled now. The bits from `reached` on are 0.
+    block: [u64; 4],
+    /// The first code point whose bit is not there yet.
+    reached: u32,
+}
+
+/// Sets the bits of the block from `from` to before `to`, which are of one word.
+#[inline(always)]
+fn set_bits(block: &mut [u64; 4], from: u32, to: u32)
+    requires some { from < to }
+    requires one_word { to ≤ (from / 64 + 1) * 64 }
+    ensures { (c : ℕ) → c / 256 ≡ from / 256
+        → block_bit block.new c ≡ (block_bit block.old c || between from to c) }
+{
+    let mask = (u64::MAX << (from % 64)) & (u64::MAX >> (63 - (to - 1) % 64));
+    block[(from / 64 % 4) as usize] |= mask;
+}
+
+/// How far a step from here may fill at most: ones to the end of the word, zeros to that of the
+/// block, whose bits are 0 already.
+#[inline(always)]
+fn end_of_step(from: u32, value: bool) -> u32
+    requires { from < code_point_limit }
+    ensures more { from < result }
+    ensures one_block { result ≤ (from / 256 + 1) * 256 }
+    ensures one_word { IsTrue value → result ≤ (from / 64 + 1) * 64 }
+{
+    if value {
+        (from / 64 + 1) * 64
+    } else {
+        (from / 256 + 1) * 256
+    }
+}
+
+impl Filling {
+    /// Nothing is filled in yet.
+    ///
+    /// # Errors
+    /// `MemoryError` where memory was refused.
+    pub(crate) fn new(alloc: Global) -> Result<Filling, MemoryError>
+        ensures filling { IfOk result (λ f. IsFilling f.bits f.block f.reached) }
+        ensures start { IfOk result (λ f. f.reached ≡ 0) }
+        ensures settled { IfOk result (λ f. length f.bits.index ≡ 0) }
+    {
+        Ok(Filling {
+            bits: CodePointBits::new(alloc)?,
+            block: [0; 4],
+            reached: 0,
+        })
+    }
+
+    /// Fills up to `next`: ones within a word, zeros within a block.
+    #[inline(always)]
+    fn fill_word(&mut self, next: u32, value: bool)
+        requires filling { IsFilling self.old.bits self.old.block self.old.reached }
+        requires settled { length self.old.bits.index ≡ self.old.reached / 256 }
+        requires some { self.old.reached < next }
+        requires one_block { next ≤ (self.old.reached / 256 + 1) * 256 }
+        requires one_word { IsTrue value → next ≤ (self.old.reached / 64 + 1) * 64 }
+        requires within { next ≤ code_point_limit }
+        ensures fills { Fills self.old.bits self.old.block self.old.reached
+            self.new.bits self.new.block next value }
+        ensures reached { self.new.reached ≡ next }
+        ensures blocks { length self.new.bits.index * 256 < next }
+    {
+        if value {
+            set_bits(&mut self.block, self.reached, next);
+        }
+        self.reached = next;
+    }
+
+    /// Appends the block that is filled now, where it is whole.
+    #[inline(always)]
+    fn settle(&mut self) -> Result<(), MemoryError>
+        requires filling { IsFilling self.old.bits self.old.block self.old.reached }
+        requires some { length self.old.bits.index * 256 < self.old.reached }
+        ensures filling { OnOk result (IsFilling self.new.bits self.new.block self.new.reached) }
+        ensures settled { OnOk result (length self.new.bits.index ≡ self.new.reached / 256) }
+        ensures reached { self.new.reached ≡ self.old.reached }
+        ensures same { OnOk result ((c : ℕ)
+            → filled self.new.bits self.new.block self.new.reached c
+            ≡ filled self.old.bits self.old.block self.old.reached c) }
+    {
+        if self.reached % 256 != 0 {
+            return Ok(());
+        }
+        self.bits.push_block(&self.block)?;
+        self.block = [0; 4];
+        Ok(())
+    }
+
+    /// Fills so many whole blocks.
+    fn fill_blocks(&mut self, count: u32, value: bool) -> Result<(), MemoryError>
+        requires filling { IsFilling self.old.bits self.old.block self.old.reached }
+        requires whole { length self.old.bits.index * 256 ≡ self.old.reached }
+        requires within { self.old.reached + 256 * count ≤ code_point_limit }
+        ensures fills { OnOk result (Fills self.old.bits self.old.block self.old.reached
+            self.new.bits self.new.block (self.old.reached + 256 * count) value) }
+        ensures reached { OnOk result (self.new.reached ≡ self.old.reached + 256 * count) }
+        ensures settled { OnOk result (length self.new.bits.index ≡ self.new.reached / 256) }
+    {
+        self.bits.push_run(count as usize, value)?;
+        self.reached += 256 * count;
+        Ok(())
+    }
+
+    /// Fills some code points more, and none from `end` on: whole blocks, or what is left of a word
+    /// or a block.
+    #[inline(always)]
+    fn fill_some(&mut self, end: u32, value: bool) -> Result<(), MemoryError>
+        requires filling { IsFilling self.old.bits self.old.block self.old.reached }
+        requires settled { length self.old.bits.index ≡ self.old.reached / 256 }
+        requires some { self.old.reached < end }
+        requires within { end ≤ code_point_limit }
+        ensures fills { OnOk result (Fills self.old.bits self.old.block self.old.reached
+            self.new.bits self.new.block self.new.reached value) }
+        ensures more { OnOk result (self.old.reached < self.new.reached) }
+        ensures to { OnOk result (self.new.reached ≤ end) }
+        ensures settled { OnOk result (length self.new.bits.index ≡ self.new.reached / 256) }
+    {
+        let from = self.reached;
+        if from % 256 == 0 && end - from >= 256 {
+            return self.fill_blocks((end - from) / 256, value);
+        }
+        let next = end.min(end_of_step(from, value));
+        self.fill_word(next, value);
+        self.settle()
+    }
+
+    /// Gives the code points up to `end`, which is not included, the bit `value`.
+    ///
+    /// # Errors
+    /// `MemoryError` where memory was refused. The filling is then of no more use.
+    #[inline(always)]
+    pub(crate) fn fill_to(&mut self, end: u32, value: bool) -> Result<(), MemoryError>
+        requires filling { IsFilling self.old.bits self.old.block self.old.reached }
+        requires settled { length self.old.bits.index ≡ self.old.reached / 256 }
+        requires order { self.old.reached ≤ end }
+        requires within { end ≤ code_point_limit }
+        ensures fills { OnOk result (Fills self.old.bits self.old.block self.old.reached
+            self.new.bits self.new.block end value) }
+        ensures reached { OnOk result (self.new.reached ≡ end) }
+        ensures settled { OnOk result (length self.new.bits.index ≡ end / 256) }
+    {
+        while self.reached < end {
+            self.fill_some(end, value)?;
+        }
+        Ok(())
+    }
+
+    /// The bits of all code points.
+    pub(crate) fn finish(self) -> CodePointBits
+        requires filling { IsFilling self.bits self.block self.reached }
+        requires reached { self.reached ≡ code_point_limit }
+        requires settled { length self.bits.index ≡ self.reached / 256 }
+        ensures { result ≡ self.bits }
+    {
+        let Filling {
+            bits,
+            block: _,
+            reached: _,
+        } = self;
+        bits
+    }
+}

@@ -1,0 +1,214 @@
+//! Frozen sets: for many look-ups, a bit for each code point.
+ghost use Rattle.std.specs.Prelude.{◌≡◌, ℕ, ◌+◌, ◌<◌, ◌≤◌, ◌↔◌, false, drop, length, IfOk, IsTrue, nat_eq};
+ghost use Rattle.std.specs.List.{take_while};
+ghost use Rattle.std.specs.Str.{IsCharBoundary, chars, encode_utf8_all};
+ghost use Rattle.std.specs.Cmp.{partial_equiv_from_equiv};
+ghost use Rattle.std.specs.Cmp.Lexicographic.{pointwise, nat_list_eq_equiv};
+ghost use mathlib.Core.Bool.{beq};
+ghost use mathlib.Core.List.{reverse};
+ghost use Rattle.icu_zerovec.specs.CodePoints.{code_point_limit};
+ghost use Rattle.icu_invlist.specs.InversionList.{IsValid, holds};
+ghost use Rattle.icu_frozen_sets.specs.Inside.Filling.{filled};
+
+use crate::bits::CodePointBits;
+use crate::filling::Filling;
+use icu_invlist::codepointinvlist::CodePointInversionList;
+use icu_zerovec::ule::AsULE;
+use icu_zerovec::{CODE_POINT_LIMIT, MemoryError};
+use std::alloc::Global;
+use std::marker::Model;
+
+/// A set of code points for many look-ups, each of which takes two loads and no search (ICU: a
+/// frozen UnicodeSet). It keeps the set beside a bit for each code point, in blocks of 256: 9 kB,
+/// and 32 bytes for each block that is neither empty nor full. A clause sees the list of the set's
+/// ends.
+///
+/// ```
+/// let letters = FrozenCodePointSet::freeze(alloc, &set)?;
+/// // letters.contains('a') is set.contains('a'), and so at every other code point
+/// ```
+#[derive(Debug, Drop)]
+pub struct FrozenCodePointSet {
+    set: CodePointInversionList<'static>,
+    bits: CodePointBits,
+}
+
+impl Model for FrozenCodePointSet {
+    ghost use Rattle.std.specs.Prelude.{List, ℕ};
+    ghost use Rattle.icu_frozen_sets.specs.Inside.Filling.{IsFrozen};
+
+    ghost Value = { List ℕ };
+
+    ghost view = { λ a. a.set };
+
+    ghost invariant = { λ a. IsFrozen a.set a.bits };
+}
+
+/// How a set is frozen.
+impl FrozenCodePointSet {
+    /// The set with a bit for each code point (ICU: `UnicodeSet::freeze`). The given set stays as
+    /// it is, and the frozen one has a copy of its ends.
+    ///
+    /// # Errors
+    /// `MemoryError` where memory was refused.
+    pub fn freeze(
+        alloc: Global,
+        set: &CodePointInversionList<'_>,
+    ) -> Result<FrozenCodePointSet, MemoryError>
+        ensures ok { IfOk result (λ s. s ≡ set.now) }
+    {
+        let mut filling = Filling::new(alloc)?;
+        for range in set.iter_ranges() {
+            filling.fill_to(*range.start(), false)?;
+            filling.fill_to(*range.end() + 1, true)?;
+        }
+        filling.fill_to(CODE_POINT_LIMIT, false)?;
+        Ok(FrozenCodePointSet {
+            set: set.try_clone(alloc)?,
+            bits: filling.finish(),
+        })
+    }
+
+    /// A copy, which takes no new look at the ranges.
+    ///
+    /// # Errors
+    /// `MemoryError` where memory was refused.
+    pub fn try_clone(&self, alloc: Global) -> Result<FrozenCodePointSet, MemoryError>
+        ensures ok { IfOk result (λ s. s ≡ self.now) }
+    {
+        Ok(FrozenCodePointSet {
+            set: self.set.try_clone(alloc)?,
+            bits: self.bits.try_clone(alloc)?,
+        })
+    }
+}
+
+/// What a frozen set holds.
+impl FrozenCodePointSet {
+    /// The set itself.
+    pub fn as_set(&self) -> &CodePointInversionList<'static>
+        ensures ends { result.now ≡ self.now }
+        ensures valid { IsValid self.now }
+    {
+        &self.set
+    }
+
+    /// Whether the set holds the code point. No number above 0x10FFFF is held.
+    #[inline(always)]
+    pub fn contains32(&self, c: u32) -> bool
+        ensures held { result ≡ holds self.now c }
+        ensures far { code_point_limit ≤ c → result ≡ false }
+    {
+        c < CODE_POINT_LIMIT && self.bits.contains32(c)
+    }
+
+    /// Whether the set holds the character.
+    #[inline(always)]
+    pub fn contains(&self, c: char) -> bool
+        ensures { result ≡ holds self.now c }
+    {
+        self.contains32(u32::from(c))
+    }
+}
+
+/// How far a text lies in a frozen set.
+impl FrozenCodePointSet {
+    /// The length of the longest front of the text whose bytes are ASCII and all held, or, for
+    /// `held` false, all not held. ASCII goes by its bytes, so that no character is made of them.
+    #[inline(always)]
+    fn span_ascii(&self, text: &str, held: bool) -> usize
+        ensures so_far { result
+            + length (encode_utf8_all
+            (take_while (λ c. beq (holds self.now c) held) (chars (drop result text.now))))
+            ≡ length (encode_utf8_all
+            (take_while (λ c. beq (holds self.now c) held) (chars text.now))) }
+        ensures boundary { IsCharBoundary text.now result }
+    {
+        let bytes = text.as_bytes();
+        let mut length = 0;
+        while length < bytes.len() {
+            let byte = bytes[length];
+            if byte >= 0x80 {
+                return length;
+            }
+            if self.contains32(u32::from(byte)) != held {
+                return length;
+            }
+            length += 1;
+        }
+        length
+    }
+
+    /// The same as `span`, character by character.
+    #[inline(always)]
+    fn span_characters(&self, text: &str, held: bool) -> usize
+        ensures place { result
+            ≡ length (encode_utf8_all
+            (take_while (λ c. beq (holds self.now c) held) (chars text.now))) }
+        ensures boundary { IsCharBoundary text.now result }
+    {
+        let mut length = 0;
+        for c in text.chars() {
+            if self.contains(c) != held {
+                return length;
+            }
+            length += c.len_utf8();
+        }
+        length
+    }
+
+    /// The length in bytes of the longest front of the text whose characters are all held, or, for
+    /// `held` false, all not held (ICU: `UnicodeSet::spanUTF8`). A character starts there, or the
+    /// text ends: so `&text[set.span(text, true)..]` is what follows.
+    pub fn span(&self, text: &str, held: bool) -> usize
+        ensures place { result
+            ≡ length (encode_utf8_all
+            (take_while (λ c. beq (holds self.now c) held) (chars text.now))) }
+        ensures boundary { IsCharBoundary text.now result }
+    {
+        let start = self.span_ascii(text, held);
+        start + self.span_characters(&text[start..], held)
+    }
+
+    /// The place of the byte from which on all characters of the text are held, or, for `held`
+    /// false, all not held: the start of its longest such tail (ICU: `UnicodeSet::spanBackUTF8`). A
+    /// character starts there, or the text ends: so `&text[..set.span_back(text, true)]` is what
+    /// stands before.
+    pub fn span_back(&self, text: &str, held: bool) -> usize
+        ensures place { result + length
+            (encode_utf8_all
+            (take_while (λ c. beq (holds self.now c) held) (reverse (chars text.now))))
+            ≡ length text.now }
+        ensures boundary { IsCharBoundary text.now result }
+    {
+        let mut start = text.len();
+        for c in text.chars().rev() {
+            c.shown();
+            if self.contains(c) != held {
+                return start;
+            }
+            start -= c.len_utf8();
+        }
+        start
+    }
+}
+
+/// Equal exactly where the sets are: what each keeps beside its set follows from it.
+impl PartialEq for FrozenCodePointSet {
+    ghost eq = { pointwise nat_eq };
+
+    ghost laws = { partial_equiv_from_equiv nat_list_eq_equiv };
+
+    fn eq(&self, other: &Self) -> bool
+        ensures value { result ≡ pointwise nat_eq self.now other.now }
+        ensures same { IsTrue result ↔ (self.now ≡ other.now) }
+        ensures members { IsTrue result
+            ↔ ((c : ℕ) → c < code_point_limit → holds self.now c ≡ holds other.now c) }
+    {
+        self.set == other.set
+    }
+}
+
+impl Eq for FrozenCodePointSet {
+    ghost laws = { nat_list_eq_equiv };
+}

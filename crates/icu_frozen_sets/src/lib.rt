@@ -1,0 +1,10 @@
+//! Frozen sets of code points: ICU's UnicodeSet once it is frozen.
+//!
+//! - `frozen`: [`FrozenCodePointSet`](frozen::FrozenCodePointSet), and what it can be asked
+//! - `filling`: how the bits of a set are filled in, range by range
+//! - `bits`: a bit for each code point, in two stages
+#![tactic(auto)]
+
+mod bits;
+mod filling;
+pub mod frozen;
