@@ -56,9 +56,9 @@
 #![tactic(auto)]
 
 pub mod char16trie;
+pub mod codepointinvlist;
 pub mod codepointtrie;
 
-pub use icu_invlist::codepointinvlist;
 pub use icu_text_sets::codepointinvliststringlist;
 pub use icu_trie::iterator_utils;
 pub use icu_zerovec as zerovec;
