@@ -2,6 +2,7 @@
 //! memory. An assertion stands only in a helper that takes what it compares by value, since each
 //! assertion is checked once for every value that is still to be dropped there.
 mod code_points;
+mod frozen;
 mod texts;
 
 use icu_invlist::codepointinvlist::{CodePointInversionList, SetError};

@@ -1,0 +1,151 @@
+//! Frozen sets: that they are made, and answer as the set does; want of memory.
+use super::*;
+use icu_frozen_sets::frozen::FrozenCodePointSet;
+use icu_zerovec::MemoryError;
+
+/// Sets whose borders lie at those of words and blocks, beside and between them; all code points
+/// and none.
+const SETS: [&[u32]; 8] = [
+    &[],
+    &[0, 0x11_0000],
+    &[0x41, 0x5B, 0x61, 0x7B],
+    &[0x3F, 0x40, 0x7F, 0x81, 0xC0, 0x100],
+    &[0x100, 0x200, 0x300, 0x340, 0x3C0, 0x400],
+    &[0xFF, 0x101, 0x1FF, 0x300, 0x7FF, 0x801],
+    &[0x4E00, 0xA000, 0xD7FF, 0xE001, 0xFFFF, 0x1_0001],
+    &[0x10_FEFF, 0x10_FF01, 0x10_FFFF, 0x11_0000],
+];
+
+/// How many numbers the two answer otherwise.
+fn differences(set: &CodePointInversionList<'_>, frozen: &FrozenCodePointSet) -> u32 {
+    let mut count = 0u32;
+    for c in 0..0x11_0100 {
+        if frozen.contains32(c) != set.contains32(c) {
+            count = count.saturating_add(1);
+        }
+    }
+    count
+}
+
+/// The set of these ends answers alike when it is frozen.
+fn answers_alike(alloc: Global, ends: &[u32]) -> Result<bool, Fail> {
+    let set = set_of(alloc, ends)?;
+    let frozen = FrozenCodePointSet::freeze(alloc, &set)?;
+    Ok(differences(&set, &frozen) == 0)
+}
+
+#[test]
+fn frozen_sets_answer_alike(rt: HostRuntime) -> Result<(), Fail> {
+    for ends in SETS {
+        let alike = answers_alike(rt.alloc(), ends)?;
+        expect(&rt, alike, "a number is answered otherwise");
+    }
+    Ok(())
+}
+
+/// The set of these ends, frozen. `None` where memory was refused.
+fn frozen_of(alloc: Global, ends: &[u32]) -> Option<FrozenCodePointSet> {
+    let set = set_of(alloc, ends).ok()?;
+    FrozenCodePointSet::freeze(alloc, &set).ok()
+}
+
+/// What the two calls for spans answer for a text, of what is held and of what is not.
+fn spans_of(frozen: &FrozenCodePointSet, text: &str) -> [usize; 4] {
+    [
+        frozen.span(text, true),
+        frozen.span(text, false),
+        frozen.span_back(text, true),
+        frozen.span_back(text, false),
+    ]
+}
+
+/// Texts, and how far they lie in the letters of ASCII and the block of Han: by the front and by
+/// the tail.
+#[test]
+fn spans_of_frozen_sets(rt: HostRuntime) -> Result<(), Fail> {
+    let rows: [(&str, [usize; 4]); 6] = [
+        ("", [0, 0, 0, 0]),
+        ("abcXYZ1", [6, 0, 7, 6]),
+        ("1abcXYZ", [0, 1, 1, 7]),
+        ("漢字", [6, 0, 0, 6]),
+        ("a漢é字", [4, 0, 6, 9]),
+        ("é𠀀 ", [0, 7, 7, 0]),
+    ];
+    let Some(frozen) = frozen_of(rt.alloc(), &[0x41, 0x5B, 0x61, 0x7B, 0x4E00, 0xA000]) else {
+        return Err("no memory".into());
+    };
+    for (text, want) in rows {
+        expect_same(&rt, spans_of(&frozen, text), want, text);
+    }
+    Ok(())
+}
+
+#[test]
+fn equal_frozen_sets(rt: HostRuntime) -> Result<(), Fail> {
+    let (Some(first), Some(second)) = (
+        frozen_of(rt.alloc(), SETS[2]),
+        frozen_of(rt.alloc(), SETS[3]),
+    ) else {
+        return Err("no memory".into());
+    };
+    let copy = first.try_clone(rt.alloc())?;
+    let found = [first == copy, first == second, first.contains('A')];
+    expect_same(&rt, found, [true, false, true], "the copy alone");
+    Ok(())
+}
+
+/// The call is over: the set answers as it has to, where it was frozen.
+fn expect_frozen(rt: &(impl Abort + Print), made: Result<FrozenCodePointSet, MemoryError>) {
+    tell(rt, made.is_err());
+    if let Ok(frozen) = made {
+        let found = [frozen.contains('A'), frozen.contains('1')];
+        expect_same(rt, found, [true, false], "letters");
+    }
+}
+
+/// The set that was lent is as it was.
+///
+/// Calls: `FrozenCodePointSet::freeze`.
+#[test]
+fn freeze_refused(rt: HostRuntime) {
+    let Ok(set) = set_of(rt.alloc(), SETS[2]) else {
+        return;
+    };
+    say(&rt, "call");
+    let made = FrozenCodePointSet::freeze(rt.alloc(), &set);
+    expect_frozen(&rt, made);
+    expect_listed(&rt, set, SETS[2]);
+}
+
+/// Calls: `FrozenCodePointSet::try_clone`.
+#[test]
+fn try_clone_of_frozen_refused(rt: HostRuntime) {
+    let Some(frozen) = frozen_of(rt.alloc(), SETS[2]) else {
+        return;
+    };
+    say(&rt, "call");
+    let made = frozen.try_clone(rt.alloc());
+    expect_frozen(&rt, made);
+    expect(&rt, frozen.contains('A'), "the set that was lent");
+}
+
+/// Calls: `FrozenCodePointSet::as_set`, `FrozenCodePointSet::contains`,
+/// `FrozenCodePointSet::contains32`, `FrozenCodePointSet::span`, `FrozenCodePointSet::span_back`.
+#[test]
+fn frozen_calls_quiet(rt: HostRuntime) {
+    let Some(frozen) = frozen_of(rt.alloc(), SETS[2]) else {
+        return;
+    };
+    say(&rt, "call");
+    let held = [
+        frozen.contains('A'),
+        frozen.contains32(0x41),
+        frozen == frozen,
+    ];
+    let spans = spans_of(&frozen, "ab1");
+    let size = frozen.as_set().size();
+    say(&rt, "done");
+    expect_same(&rt, held, [true, true, true], "held");
+    expect_same(&rt, spans, [2, 0, 3, 2], "spans");
+    expect_same(&rt, size, 52, "size");
+}
