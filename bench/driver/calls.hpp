@@ -71,6 +71,11 @@ BOTH(ours)
 BOTH(rust)
 #undef BOTH
 
+uint64_t ours_frozen_contains(const uint8_t *, size_t, const uint32_t *points, size_t, size_t turns);
+uint64_t ours_frozen_text(const uint8_t *, size_t, const uint8_t *text, size_t, size_t turns);
+uint64_t ours_span(const uint8_t *, size_t, const uint8_t *text, size_t, size_t turns);
+uint64_t ours_frozen_span(const uint8_t *, size_t, const uint8_t *text, size_t, size_t turns);
+uint64_t ours_freeze(const uint8_t *, size_t, size_t turns);
 size_t ours_c16_build(const uint16_t *keys, size_t, const uint32_t *ends, size_t,
                       const int32_t *values, size_t, uint16_t *units, size_t);
 }

@@ -78,9 +78,18 @@ static void contains() {
             const string name = s.name + "-" + kind.name;
             if (wanted("set_contains"))
                 row("set_contains", name, points.size(), ours, rust, [&] { return icu(s.set); });
+            const size_t turns = 32;
+            const Call frozen = [&] {
+                return ours_frozen_contains(PARTS(s.bytes), PARTS(points), turns);
+            };
+            const Call icu_frozen = [&] {
+                uint64_t sum = 0;
+                for (size_t i = 0; i < turns; i++) sum += icu(s.frozen);
+                return sum;
+            };
             if (wanted("frozen_contains"))
-                row("frozen_contains", name, points.size(), ours, nullptr,
-                    [&] { return icu(s.frozen); });
+                row("frozen_contains", name, double(turns) * points.size(), frozen, nullptr,
+                    icu_frozen);
         }
     }
 }
@@ -96,6 +105,57 @@ __attribute__((noinline)) static uint64_t add_held(const UnicodeSet &set, const 
         sum += set.contains(c);
     }
     return sum;
+}
+
+// The span of the characters of a text that are held.
+static void span(const Set &s, const Text &text) {
+    const uint8_t *all = reinterpret_cast<const uint8_t *>(text.bytes.data());
+    string held;
+    size_t characters = 0;
+    for (size_t i = 0, size = text.bytes.size(); i < size;) {
+        const size_t from = i;
+        UChar32 c;
+        U8_NEXT_UNSAFE(all, i, c);
+        if (!s.frozen.contains(c)) continue;
+        held += text.bytes.substr(from, i - from);
+        characters++;
+    }
+    if (characters < 1000) return;
+    const size_t turns = 16;
+    const uint8_t *bytes = reinterpret_cast<const uint8_t *>(held.data());
+    const size_t size = held.size();
+    auto icu = [&](const UnicodeSet &set) {
+        uint64_t sum = 0;
+        for (size_t i = 0; i < turns; i++)
+            sum += set.spanUTF8(held.data(), int32_t(size), USET_SPAN_SIMPLE);
+        return sum;
+    };
+    const string name = s.name + "-" + text.name;
+    const double each = double(characters) * turns;
+    if (wanted("set_span"))
+        row("set_span", name, each, [&] { return ours_span(PARTS(s.bytes), bytes, size, turns); },
+            nullptr, [&] { return icu(s.set); });
+    if (wanted("frozen_span"))
+        row("frozen_span", name, each,
+            [&] { return ours_frozen_span(PARTS(s.bytes), bytes, size, turns); }, nullptr,
+            [&] { return icu(s.frozen); });
+}
+
+static void freezing() {
+    for (const Set &s : all_sets()) {
+        const size_t turns = 20;
+        const Call icu = [&] {
+            uint64_t sum = 0;
+            for (size_t i = 0; i < turns; i++) {
+                UnicodeSet set = s.set;
+                set.freeze();
+                sum += set.contains(UChar32(0x4E00));
+            }
+            return sum;
+        };
+        row("freeze", s.name, turns, [&] { return ours_freeze(PARTS(s.bytes), turns); }, nullptr,
+            icu);
+    }
 }
 
 static void over_texts() {
@@ -119,8 +179,12 @@ static void over_texts() {
             const double each = double(text.characters) * turns;
             if (wanted("set_text"))
                 row("set_text", name, each, ours, rust, [&] { return icu(s.set); });
+            const Call frozen = [&] {
+                return ours_frozen_text(PARTS(s.bytes), bytes, size, turns);
+            };
             if (wanted("frozen_text"))
-                row("frozen_text", name, each, ours, nullptr, [&] { return icu(s.frozen); });
+                row("frozen_text", name, each, frozen, nullptr, [&] { return icu(s.frozen); });
+            span(s, text);
         }
     }
 }
@@ -163,7 +227,9 @@ static void positions() {
 
 void sets() {
     if (wanted("set_contains") || wanted("frozen_contains")) contains();
-    if (wanted("set_text") || wanted("frozen_text")) over_texts();
+    if (wanted("set_text") || wanted("frozen_text") || wanted("set_span") || wanted("frozen_span"))
+        over_texts();
+    if (wanted("freeze")) freezing();
     if (wanted("set_iter")) all_ranges();
     if (wanted("set_position")) positions();
 }

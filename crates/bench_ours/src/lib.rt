@@ -5,6 +5,7 @@
 #![tactic(auto)]
 
 pub mod builds;
+pub mod frozen;
 pub mod mixing;
 pub mod packed;
 pub mod ranges;

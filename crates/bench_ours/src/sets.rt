@@ -6,7 +6,7 @@ use icu_zerovec::ZeroVec;
 use std::alloc::Global;
 
 /// The set of these ends, which it borrows. `None` where they are no inversion list.
-fn set_of<'a>(alloc: Global, ends: &'a [u8]) -> Option<CodePointInversionList<'a>> {
+pub(crate) fn set_of<'a>(alloc: Global, ends: &'a [u8]) -> Option<CodePointInversionList<'a>> {
     let ends = ZeroVec::parse_bytes(ends).ok()?;
     CodePointInversionList::try_from_inversion_list(alloc, ends).ok()
 }
