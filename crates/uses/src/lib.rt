@@ -8,14 +8,14 @@
 //! - `categories`: an enum of the caller's own as the value of a trie
 //! - `built`: what is known of a built trie beside its answers
 //! - `strangers`: tries of parts of any origin
+//! - `errors`: what a function that answers one of the errors may call by `?`
 #![tactic(auto)]
 
 pub mod built;
 pub mod categories;
+pub mod errors;
 pub mod own_cells;
 pub mod sets;
 pub mod strangers;
 pub mod tables;
-#[cfg(test)]
-mod tests;
 pub mod words;

@@ -1,11 +1,14 @@
 //! Sets of code points.
-ghost use Rattle.std.specs.Prelude.{◌≡◌, ◌+◌, ◌<◌, ◌≤◌, ℕ, Bool, true, false, length, not, slice_get, IfErr, IfOk, IfSome};
-ghost use Rattle.std.specs.List.{All};
-ghost use Rattle.icu_collections.specs.CodePointInversionList.{Acts, AreApart, IsOfCodePoints, IsValid, between, code_point_limit, either, holds, in_ranges, one_of, ranges_of};
+ghost use Rattle.std.specs.Prelude.{◌≡◌, ◌+◌, ◌<◌, ◌≤◌, ◌++◌, ℕ, [], Bool, true, false, None, if◌then◌else◌, length, not, slice_get, IfErr, IfOk, IfSome, OnOk};
+ghost use Rattle.std.specs.Char.{encode_utf8};
+ghost use Rattle.std.specs.List.{All, filter};
+ghost use Rattle.std.specs.Str.{chars, encode_utf8_all};
+ghost use Rattle.std.specs.String.{string_bytes};
+ghost use Rattle.icu_collections.specs.CodePointInversionList.{Acts, AreApart, IsOfCodePoints, IsValid, between, both, code_point_limit, either, holds, in_ranges, members_below, one_of, ranges_of};
 ghost use Rattle.icu_collections.specs.SetJson.{ends_of};
 
 use icu_collections::codepointinvlist::{
-    CodePointInversionList, CodePointInversionListBuilder, SetJsonError,
+    CodePointInversionList, CodePointInversionListBuilder, FrozenCodePointSet, SetJsonError,
 };
 use icu_collections::zerovec::MemoryError;
 use std::alloc::Global;
@@ -45,10 +48,9 @@ pub fn stored(
     ensures same { IfOk result (λ s. s ≡ set.now) }
     ensures err { IfErr result (λ e. e ≡ SetJsonError.Memory) }
 {
-    let Ok(value) = set.to_json(alloc) else {
-        return Err(SetJsonError::Memory);
-    };
-    CodePointInversionList::from_json(alloc, &value)
+    let value = set.to_json(alloc)?;
+    let read = CodePointInversionList::from_json(alloc, &value)?;
+    Ok(read)
 }
 
 /// The letters `a` to `z`, and what else is held by exactly one of the two.
@@ -72,4 +74,115 @@ pub fn try_to_add(builder: &mut CodePointInversionListBuilder, c: u32) -> bool
     ensures added { result ≡ true → Acts either builder.old (between c (c + 1)) builder.new }
 {
     builder.add32(c).is_ok()
+}
+
+/// What follows the letters that a text begins with.
+pub fn behind_its_front<'a>(set: &CodePointInversionList<'_>, text: &'a str) -> &'a str {
+    &text[set.span(text, true)..]
+}
+
+/// What stands before the letters that a text ends with.
+pub fn before_its_tail<'a>(set: &CodePointInversionList<'_>, text: &'a str) -> &'a str {
+    &text[..set.span_back(text, true)]
+}
+
+/// The value of a code point in a table that has one for each member of a set, in their order.
+pub fn value_beside(set: &CodePointInversionList<'_>, values: &[u16], c: u32) -> Option<u16>
+    requires { length values.now ≡ members_below set.now code_point_limit }
+    ensures { result
+        ≡ (if holds set.now c then slice_get values.now (members_below set.now c) else None) }
+{
+    let place = set.position32(c)?;
+    Some(values[place])
+}
+
+/// What neither of two sets holds.
+pub fn neither(
+    alloc: Global,
+    first: &CodePointInversionList<'_>,
+    second: &CodePointInversionList<'_>,
+) -> Result<CodePointInversionList<'static>, MemoryError>
+    ensures { IfOk result (λ s. (c : ℕ) → c < code_point_limit
+        → holds s c ≡ not (either (holds first.now c) (holds second.now c))) }
+{
+    let mut builder = CodePointInversionListBuilder::new(alloc);
+    builder.add_set(first)?;
+    builder.add_set(second)?;
+    builder.complement()?;
+    let made = builder.build()?;
+    Ok(made)
+}
+
+/// What a set does not hold.
+pub fn outside(
+    alloc: Global,
+    set: &CodePointInversionList<'_>,
+) -> Result<CodePointInversionList<'static>, MemoryError>
+    ensures { IfOk result (λ s. (c : ℕ) → c < code_point_limit
+        → holds s c ≡ not (holds set.now c)) }
+{
+    let mut builder = CodePointInversionListBuilder::new(alloc);
+    builder.add_set(set)?;
+    builder.complement()?;
+    let made = builder.build()?;
+    Ok(made)
+}
+
+/// The same by De Morgan's law: what is outside of both.
+pub fn outside_both(
+    alloc: Global,
+    first: &CodePointInversionList<'_>,
+    second: &CodePointInversionList<'_>,
+) -> Result<CodePointInversionList<'static>, MemoryError>
+    ensures { IfOk result (λ s. (c : ℕ) → c < code_point_limit
+        → holds s c ≡ both (not (holds first.now c)) (not (holds second.now c))) }
+{
+    let one = outside(alloc, first)?;
+    let other = outside(alloc, second)?;
+    let mut builder = CodePointInversionListBuilder::new(alloc);
+    builder.add_set(&one)?;
+    builder.retain_set(&other)?;
+    let made = builder.build()?;
+    Ok(made)
+}
+
+/// Whether the two are one set, as they are.
+pub fn are_one_set(
+    alloc: Global,
+    first: &CodePointInversionList<'_>,
+    second: &CodePointInversionList<'_>,
+) -> Result<bool, MemoryError>
+    ensures { IfOk result (λ same. same ≡ true) }
+{
+    let left = neither(alloc, first, second)?;
+    let right = outside_both(alloc, first, second)?;
+    Ok(left == right)
+}
+
+/// Appends a character, if it is to be kept.
+fn push_if(kept: &mut String, c: char, is_kept: bool) -> Result<(), MemoryError>
+    ensures { OnOk result
+        (string_bytes kept.new
+        ≡ string_bytes kept.old ++ (if is_kept then encode_utf8 c else [])) }
+{
+    if is_kept {
+        kept.push(c)?;
+    }
+    Ok(())
+}
+
+/// The characters of a text that a frozen set holds, in their order.
+pub fn kept_characters(
+    alloc: Global,
+    set: &FrozenCodePointSet,
+    text: &str,
+) -> Result<String, MemoryError>
+    ensures { IfOk result (λ kept. string_bytes kept
+        ≡ encode_utf8_all (filter (holds set.now) (chars text.now))) }
+{
+    let mut kept = String::new(alloc);
+    for c in text.chars() {
+        push_if(&mut kept, c, set.contains(c))?;
+    }
+    Ok(kept)
 }

@@ -1,18 +1,20 @@
 //! Properties of characters in tries that are built, stored and read.
-ghost use Rattle.std.specs.Prelude.{◌≡◌, ◌<◌, ◌≤◌, ◌↔◌, ℕ, [], ◌∷◌, true, false, Some, Err, IfOk, IfSome, List, ◌++◌, map, ◌≢◌};
+ghost use Rattle.std.specs.Prelude.{◌≡◌, ◌+◌, ◌<◌, ◌≤◌, ◌==◌, ◌↔◌, ℕ, [], ◌∷◌, true, false, Some, Err, IfOk, IfSome, List, ◌++◌, map, slice_get, ◌≢◌};
 ghost use Rattle.std.specs.List.{count_by};
 ghost use Rattle.std.specs.Option.{option_map};
 ghost use Rattle.icu_collections.specs.CodePointInversionList.{holds};
-ghost use Rattle.icu_collections.specs.CodePointTrie.{AreMaximalRuns, answers, trie_value, value_run};
+ghost use Rattle.icu_collections.specs.CodePointTrie.{AreMappedRunsFrom, AreMaximalRuns, AreRunsOfValue, IsCoherentTrie, answers, same_packed, trie_value, value_run};
 ghost use Rattle.icu_collections.specs.CodePointTrieBuilder.{IsAfter, answer_after, is_accepted, value_after};
 
 use icu_collections::codepointinvlist::CodePointInversionList;
 use icu_collections::codepointtrie::{
-    BuildError, CodePointMapRange, CodePointTrie, CodePointTrieBuilder, TrieType, TrieValue, Write,
-    build_from_writes, json,
+    BuildError, CodePointMapRange, CodePointTrie, CodePointTrieBuilder, ConvertError, TrieType,
+    TrieValue, Typed, TypedCodePointTrie, Write, build_from_writes, json,
 };
 use icu_collections::zerovec::MemoryError;
+use icu_collections::zerovec::ule::AsULE;
 use std::alloc::Global;
+use std::ops::RangeInclusive;
 
 /// The value of `A` where `A` to `Z` have 1.
 pub fn value_of_a(alloc: Global) -> Result<u8, BuildError>
@@ -137,4 +139,73 @@ pub fn trusted_set(
     }
     let set = trie.get_set_for_value(alloc, value).ok()?;
     Some(set)
+}
+
+/// The ranges of the code points that have a value, and of those that don't, in turn.
+pub fn runs_of_having(
+    alloc: Global,
+    trie: &CodePointTrie<'_, u8>,
+    value: u8,
+) -> Result<Vec<CodePointMapRange<bool>>, MemoryError>
+    ensures { IsCoherentTrie ⟦<u8 as TrieValue>⟧.of_number trie.now → IfOk result
+        (λ v. AreMappedRunsFrom ⟦<bool as PartialEq>⟧.eq (λ x. x == value) (answers trie.now) 0
+        v.items) }
+{
+    let ranges = trie
+        .iter_ranges_mapped(
+            |x: u8|
+                ensures { result ≡ (x == value) }
+            { x == value },
+        )
+        .collect::<Vec<_>>(alloc)?;
+    Ok(ranges)
+}
+
+/// The ranges of the code points that have a value, by a table from a stranger: `None` where its
+/// ranges can't be trusted, and where memory was refused.
+pub fn trusted_ranges_of(
+    alloc: Global,
+    trie: &CodePointTrie<'_, u8>,
+    value: u8,
+) -> Option<Vec<RangeInclusive<u32>>>
+    ensures { IfSome result
+        (λ v. AreRunsOfValue ⟦<u8 as PartialEq>⟧.eq trie.now value v.items) }
+{
+    if !trie.is_coherent() {
+        return None;
+    }
+    trie.iter_ranges_for_value(value)
+        .collect::<Vec<_>>(alloc)
+        .ok()
+}
+
+/// A trie of numbers read as one of characters, over the same bytes: refused at the first cell that
+/// is no character.
+pub fn as_characters(trie: CodePointTrie<'_, u32>) -> Result<CodePointTrie<'_, char>, ConvertError>
+    ensures { IfOk result (λ t. (i : ℕ) → slice_get t.values i
+        ≡ same_packed ⟦<u32 as AsULE>⟧.pack ⟦<char as AsULE>⟧.unpack
+        (slice_get trie.entry.values i)) }
+{
+    trie.try_into_converted::<char>()
+}
+
+/// The value of a code point by a table, plus one, from a trie whose values are mapped once.
+pub fn next_value(alloc: Global, rows: &[Write<u8>], c: u32) -> Result<u16, BuildError>
+    ensures { IfOk result (λ v. v ≡ answer_after 0 9 rows.now c + 1) }
+{
+    let trie = build_from_writes(alloc, 0, 9, TrieType::Small, rows)?;
+    match trie.try_alloc_map_value(alloc, |v: u8| Ok::<u16, u8>(u16::from(v) + 1)) {
+        Ok(next) => Ok(next.get32(c)),
+        Err(_) => Err(BuildError::Memory),
+    }
+}
+
+/// The value of a character, by the trie of its type.
+pub fn value_by_type(trie: &CodePointTrie<'_, u8>, c: char) -> u8
+    ensures { Some result ≡ trie_value trie.now c }
+{
+    match trie.as_typed_ref() {
+        Typed::Fast(trie) => trie.get(c),
+        Typed::Small(trie) => trie.get(c),
+    }
 }

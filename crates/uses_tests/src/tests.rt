@@ -1,15 +1,17 @@
 //! The callers, run.
 
-use crate::categories::Category;
-use crate::{built, categories, own_cells, sets, strangers, tables, words};
 use icu_collections::char16trie::{Char16Trie, TrieResult};
-use icu_collections::codepointinvlist::{CodePointInversionList, CodePointInversionListBuilder};
+use icu_collections::codepointinvlist::{
+    CodePointInversionList, CodePointInversionListBuilder, FrozenCodePointSet,
+};
 use icu_collections::codepointtrie::{
     CodePointTrieBuilder, CodePointTrieHeader, TrieType, Write, build_from_writes,
 };
 use icu_collections::zerovec::{MemoryError, ZeroVec};
 use std::alloc::Global;
 use std::process::Abort;
+use uses::categories::Category;
+use uses::{built, categories, own_cells, sets, strangers, tables, words};
 
 /// What is said holds.
 fn expect(rt: &impl Abort, holds: bool, what: &str) {
@@ -102,6 +104,16 @@ fn tables_that_are_built(rt: HostRuntime) {
     expect(&rt, twice == Ok(301), "twice");
     let mut builder = CodePointTrieBuilder::new(alloc, 0u8, 9, TrieType::Fast);
     expect(&rt, tables::try_to_write(&mut builder, 0x41, 1), "written");
+}
+
+#[test]
+fn values_by_other_calls(rt: HostRuntime) {
+    let next = tables::next_value(rt.alloc(), &rows(), 0x41);
+    expect(&rt, next == Ok(2), "one more");
+    let Ok(trie) = build_from_writes(rt.alloc(), 0u8, 9, TrieType::Small, &rows()) else {
+        panic!(rt; "built");
+    };
+    expect(&rt, tables::value_by_type(&trie, 'a') == 2, "by its type");
 }
 
 #[test]
@@ -260,4 +272,72 @@ fn a_trie_of_bytes(rt: HostRuntime) {
     expect(&rt, trie.get32(0x41) == 7, "below");
     let refused = strangers::trie_of_bytes::<u8>(header, &[0; 127], &[7; 128]);
     expect(&rt, refused.is_none(), "half a unit");
+}
+
+#[test]
+fn texts_cut_by_a_set(rt: HostRuntime) {
+    let set = set_of(&rt, &[0x61, 0x7B, 0xE4, 0xE5]);
+    expect(&rt, sets::behind_its_front(&set, "äb 1") == " 1", "behind");
+    expect(&rt, sets::before_its_tail(&set, "1 äb") == "1 ", "before");
+}
+
+#[test]
+fn values_beside_a_set(rt: HostRuntime) {
+    let set = set_of(&rt, &[0x61, 0x63, 0x1F600, 0x1F601]);
+    let values = [10, 11, 12];
+    let found = sets::value_beside(&set, &values, 0x1F600);
+    expect(&rt, found == Some(12), "the third");
+    let none = sets::value_beside(&set, &values, 0x63);
+    expect(&rt, none.is_none(), "not held");
+}
+
+#[test]
+fn what_neither_set_holds(rt: HostRuntime) {
+    let first = set_of(&rt, &[0x61, 0x63]);
+    let second = set_of(&rt, &[0, 0x10]);
+    let same = sets::are_one_set(rt.alloc(), &first, &second);
+    expect(&rt, same == Ok(true), "one set");
+}
+
+#[test]
+fn runs_that_are_mapped(rt: HostRuntime) {
+    let Ok(trie) = build_from_writes(rt.alloc(), 0u8, 9, TrieType::Small, &rows()) else {
+        panic!(rt; "built");
+    };
+    let runs = match tables::runs_of_having(rt.alloc(), &trie, 2) {
+        Ok(runs) => runs.len(),
+        Err(_) => 0,
+    };
+    expect(&rt, runs == 5, "without 2, and with it");
+    let ranges = match tables::trusted_ranges_of(rt.alloc(), &trie, 2) {
+        Some(ranges) => ranges.len(),
+        None => 0,
+    };
+    expect(&rt, ranges == 2, "of 2");
+}
+
+#[test]
+fn numbers_as_characters(rt: HostRuntime) {
+    let rows = [Write::One(0x41, 0x61u32)];
+    let Ok(trie) = build_from_writes(rt.alloc(), 0x20, 0xFFFD, TrieType::Small, &rows) else {
+        panic!(rt; "built");
+    };
+    let lower = match tables::as_characters(trie) {
+        Ok(trie) => trie.get('A'),
+        Err(_) => ' ',
+    };
+    expect(&rt, lower == 'a', "a");
+}
+
+#[test]
+fn characters_that_are_kept(rt: HostRuntime) {
+    let set = set_of(&rt, &[0x61, 0x7B, 0xE4, 0xE5]);
+    let Ok(frozen) = FrozenCodePointSet::freeze(rt.alloc(), &set) else {
+        panic!(rt; "frozen");
+    };
+    let kept = match sets::kept_characters(rt.alloc(), &frozen, "Über 1 Bär") {
+        Ok(kept) => kept.as_str() == "berär",
+        Err(_) => false,
+    };
+    expect(&rt, kept, "small letters");
 }
