@@ -75,6 +75,23 @@ fn null_block_after_a_fast_block(rt: HostRuntime) {
     }
 }
 
+/// Where the null block is written anew behind the cells, it takes those of its number that they
+/// end with, fifteen here, and so one cell more: 128 fives, a block of 64 that begins with zeros, a
+/// block of 16 that ends with fifteen, one zero, and the last two values.
+#[test]
+fn null_block_over_the_last_cells(rt: HostRuntime) {
+    let writes = [
+        Write::Range(0x400..=0x40F, 0),
+        Write::Range(0x10000..=0x10FFFF, 0),
+        Write::One(0x10FFF0, 3),
+    ];
+    for trie_type in BOTH {
+        let trie = built(&rt, trie_type, (5, 9), &writes);
+        expect_null(&rt, &trie, 0);
+        expect_cells(&rt, &trie, usize::MAX, 211);
+    }
+}
+
 /// A hundred blocks of 16, each of which begins with the last eight numbers of the one before.
 fn overlapping_writes(alloc: Global) -> Result<Vec<Write<u16>>, AllocError> {
     let mut writes = Vec::new(alloc);
