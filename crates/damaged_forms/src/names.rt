@@ -51,6 +51,7 @@ pub fn by_table(error: TomlError) -> Outcome {
 pub fn by_table_parts(error: TrieFromTomlError) -> Outcome {
     match error {
         TrieFromTomlError::Trie(error) => by_parts(error),
+        TrieFromTomlError::Table(_) => Outcome::Wrong("the table was read"),
         TrieFromTomlError::Memory => Outcome::Wrong("memory was refused"),
     }
 }

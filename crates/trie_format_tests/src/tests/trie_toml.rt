@@ -206,6 +206,11 @@ fn texts_of_errors(rt: HostRuntime) -> Result<(), Fail> {
     expect_told(&rt, &TrieFromTomlError::Memory, "no memory")?;
     expect_told(
         &rt,
+        &TrieFromTomlError::Table(TomlError::Missing("index")),
+        "no value at the key `index`",
+    )?;
+    expect_told(
+        &rt,
         &TrieFromTomlError::Trie(CodePointTrieError::InvalidNullValue),
         "The null value is not a valid `T`",
     )
@@ -299,4 +304,23 @@ fn parts_quiet(rt: HostRuntime) {
     say(&rt, "done");
     expect_same(&rt, found, PARTS, "the parts");
     expect_same(&rt, fast.ok(), Some(TrieType::Fast), "the type");
+}
+
+/// The trie that a table has, by `?` alone.
+fn trie_of_table(
+    alloc: Global,
+    table: &Table,
+) -> Result<CodePointTrie<'static, u8>, TrieFromTomlError> {
+    let read = CodePointTrieToml::from_table(alloc, table)?;
+    let trie = CodePointTrie::try_from(&read)?;
+    Ok(trie)
+}
+
+#[test]
+fn a_refused_table_among_refused_tries(rt: HostRuntime) -> Result<(), Fail> {
+    let table = table_of(rt.alloc(), &["index = [65536]"]).ok_or("no table")?;
+    let fault = trie_of_table(rt.alloc(), &table).err();
+    let told = TrieFromTomlError::Table(TomlError::OutOfRange("index"));
+    expect_same(&rt, fault, Some(told), "told");
+    Ok(())
 }

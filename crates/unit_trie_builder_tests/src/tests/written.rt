@@ -14,6 +14,7 @@ fn texts_of_errors(rt: HostRuntime) -> Result<(), Fail> {
     }
     for (error, want) in [
         (BuildError::TooLarge, "too large"),
+        (BuildError::Entry(AddError::Duplicate), "duplicate key"),
         (BuildError::Memory, "no memory"),
     ] {
         expect_text(&rt, format!(in rt.alloc(); "{error}")?, want);
