@@ -18,7 +18,8 @@ static const char *const kernels[] = {"get_u8",          "get_u16",          "ge
                                       "set_text",        "set_iter",         "set_position",
                                       "set_add",         "set_remove",       "set_retain",
                                       "set_complement",  "set_contains_set", "set_ranges",
-                                      "frozen_contains", "frozen_text",      "frozen_contains_set",
+                                      "set_span",        "frozen_contains",  "frozen_text",
+                                      "frozen_span",     "freeze",           "frozen_contains_set",
                                       "c16_iter",        "c16_look",         "c16_build",
                                       "packed_read",     "packed_search"};
 

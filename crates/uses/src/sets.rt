@@ -1,5 +1,5 @@
 //! Sets of code points.
-ghost use Rattle.std.specs.Prelude.{◌≡◌, ◌+◌, ◌<◌, ◌≤◌, ◌++◌, ℕ, [], Bool, true, false, None, if◌then◌else◌, length, not, slice_get, IfErr, IfOk, IfSome, OnOk};
+ghost use Rattle.std.specs.Prelude.{◌≡◌, ◌≢◌, ◌+◌, ◌<◌, ◌≤◌, ◌++◌, ℕ, [], Bool, true, false, None, if◌then◌else◌, length, not, slice_get, IfErr, IfOk, IfSome, OnOk};
 ghost use Rattle.std.specs.Char.{encode_utf8};
 ghost use Rattle.std.specs.List.{All, filter};
 ghost use Rattle.std.specs.Str.{chars, encode_utf8_all};
@@ -86,12 +86,16 @@ pub fn before_its_tail<'a>(set: &CodePointInversionList<'_>, text: &'a str) -> &
     &text[..set.span_back(text, true)]
 }
 
-/// The value of a code point in a table that has one for each member of a set, in their order.
+/// The value of a code point in a table that has one for each member of a set, in their order. A
+/// table of another length has none.
 pub fn value_beside(set: &CodePointInversionList<'_>, values: &[u16], c: u32) -> Option<u16>
-    requires { length values.now ≡ members_below set.now code_point_limit }
-    ensures { result
+    ensures beside { length values.now ≡ members_below set.now code_point_limit → result
         ≡ (if holds set.now c then slice_get values.now (members_below set.now c) else None) }
+    ensures other { length values.now ≢ members_below set.now code_point_limit → result ≡ None }
 {
+    if values.len() != set.size() {
+        return None;
+    }
     let place = set.position32(c)?;
     Some(values[place])
 }
