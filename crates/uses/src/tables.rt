@@ -179,14 +179,13 @@ pub fn trusted_ranges_of(
         .ok()
 }
 
-/// A trie of numbers read as one of characters, over the same bytes: refused at the first cell that
-/// is no character.
-pub fn as_characters(trie: CodePointTrie<'_, u32>) -> Result<CodePointTrie<'_, char>, ConvertError>
+/// A trie of numbers read as one of differences, which have a sign, over the same bytes.
+pub fn as_differences(trie: CodePointTrie<'_, u16>) -> Result<CodePointTrie<'_, i16>, ConvertError>
     ensures { IfOk result (λ t. (i : ℕ) → slice_get t.values i
-        ≡ same_packed ⟦<u32 as AsULE>⟧.pack ⟦<char as AsULE>⟧.unpack
+        ≡ same_packed ⟦<u16 as AsULE>⟧.pack ⟦<i16 as AsULE>⟧.unpack
         (slice_get trie.entry.values i)) }
 {
-    trie.try_into_converted::<char>()
+    trie.try_into_converted::<i16>()
 }
 
 /// The value of a code point by a table, plus one, from a trie whose values are mapped once.

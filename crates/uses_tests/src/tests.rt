@@ -317,16 +317,16 @@ fn runs_that_are_mapped(rt: HostRuntime) {
 }
 
 #[test]
-fn numbers_as_characters(rt: HostRuntime) {
-    let rows = [Write::One(0x41, 0x61u32)];
-    let Ok(trie) = build_from_writes(rt.alloc(), 0x20, 0xFFFD, TrieType::Small, &rows) else {
+fn numbers_as_differences(rt: HostRuntime) {
+    let rows = [Write::One(0x41, 0xFFFFu16)];
+    let Ok(trie) = build_from_writes(rt.alloc(), 32, 0, TrieType::Small, &rows) else {
         panic!(rt; "built");
     };
-    let lower = match tables::as_characters(trie) {
-        Ok(trie) => trie.get('A'),
-        Err(_) => ' ',
+    let found = match tables::as_differences(trie) {
+        Ok(trie) => [trie.get('A'), trie.get('B')],
+        Err(_) => [0, 0],
     };
-    expect(&rt, lower == 'a', "a");
+    expect(&rt, found == [-1, 32], "one less, and 32 more");
 }
 
 #[test]
