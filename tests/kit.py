@@ -29,6 +29,12 @@ def load():
     return made
 
 
+def keeps():
+    """Whether the kit's `rt ci` keeps what it proved, and so has a word for a run from nothing."""
+    with open(rt_path()) as file:
+        return "--anew" in file.read()
+
+
 def crates(rt):
     """The repository's crates by their names, lowest first."""
     os.chdir(top())
@@ -52,6 +58,14 @@ def is_fresh(crate, program):
         return False
     made = os.stat(program).st_mtime_ns
     return all(os.stat(it).st_mtime_ns <= made for it in sources(crate))
+
+
+def proved(crate):
+    """Whether the library is there for the crates above it: as rt ci left it, or proved now."""
+    made = os.path.exists(crate.rlib) and os.stat(crate.rlib).st_mtime_ns
+    if made and all(os.stat(it).st_mtime_ns <= made for it in sources(crate)):
+        return True
+    return crate.build_rlib(["--jobs", "1"], anew=False) == 0
 
 
 def built(crate):
