@@ -94,6 +94,7 @@ int main(int count, char **arguments) {
     ranges();
     builds();
     sets();
+    frozen_sets();
     set_blends();
     unit_tries();
     packed();

@@ -36,6 +36,7 @@ void tries();
 void ranges();
 void builds();
 void sets();
+void frozen_sets();
 void set_blends();
 void unit_tries();
 void packed();

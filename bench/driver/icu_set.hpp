@@ -12,8 +12,20 @@ struct Set {
     icu::UnicodeSet set, frozen;
 };
 
+// The set of these code points, and the frozen one beside it. Its name tells how many ranges it has.
+Set set_of(const std::string &name, const std::vector<bool> &held);
+
 // Letters, marks, what is unassigned, and one block of Han.
 const std::vector<Set> &all_sets();
 
 // No code points.
 Set empty_set();
+
+// The sum with how many of the characters of a text are in the set. It stays a call, as the loops of
+// the other two libraries.
+uint64_t add_held(const icu::UnicodeSet &set, const std::string &text, uint64_t sum);
+
+// The characters of a text that a set holds.
+std::string held_text(const Set &s, const Text &text);
+
+size_t count_of_characters(const std::string &text);

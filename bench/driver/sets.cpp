@@ -1,4 +1,4 @@
-// What is asked of sets of code points. ICU's set is not frozen, but for the kernels frozen_*.
+// What is asked of sets of code points, which are not frozen.
 #include "icu_set.hpp"
 #include <algorithm>
 #include <unicode/utf8.h>
@@ -7,7 +7,7 @@ using icu::UnicodeSet;
 using std::string;
 using std::vector;
 
-static Set set_of(const string &name, const vector<bool> &held) {
+Set set_of(const string &name, const vector<bool> &held) {
     Set s;
     for (uint32_t c = 0; c < 0x110000; c++) {
         if (!held[c]) continue;
@@ -76,28 +76,15 @@ static void contains() {
             const Call ours = [&] { return ours_contains(PARTS(s.bytes), PARTS(points)); };
             const Call rust = [&] { return rust_contains(PARTS(s.bytes), PARTS(points)); };
             const string name = s.name + "-" + kind.name;
-            if (wanted("set_contains"))
-                row("set_contains", name, points.size(), ours, rust, [&] { return icu(s.set); });
-            const size_t turns = 32;
-            const Call frozen = [&] {
-                return ours_frozen_contains(PARTS(s.bytes), PARTS(points), turns);
-            };
-            const Call icu_frozen = [&] {
-                uint64_t sum = 0;
-                for (size_t i = 0; i < turns; i++) sum += icu(s.frozen);
-                return sum;
-            };
-            if (wanted("frozen_contains"))
-                row("frozen_contains", name, double(turns) * points.size(), frozen, nullptr,
-                    icu_frozen);
+            row("set_contains", name, points.size(), ours, rust, [&] { return icu(s.set); });
         }
     }
 }
 
 // The sum with how many of the characters of a text are in the set. It stays a call, as the loops
 // of the other two libraries.
-__attribute__((noinline)) static uint64_t add_held(const UnicodeSet &set, const string &text,
-                                                   uint64_t sum) {
+__attribute__((noinline)) uint64_t add_held(const UnicodeSet &set, const string &text,
+                                            uint64_t sum) {
     const uint8_t *bytes = reinterpret_cast<const uint8_t *>(text.data());
     for (size_t i = 0, size = text.size(); i < size;) {
         UChar32 c;
@@ -107,54 +94,39 @@ __attribute__((noinline)) static uint64_t add_held(const UnicodeSet &set, const 
     return sum;
 }
 
-// The span of the characters of a text that are held.
-static void span(const Set &s, const Text &text) {
+string held_text(const Set &s, const Text &text) {
     const uint8_t *all = reinterpret_cast<const uint8_t *>(text.bytes.data());
     string held;
-    size_t characters = 0;
     for (size_t i = 0, size = text.bytes.size(); i < size;) {
         const size_t from = i;
         UChar32 c;
         U8_NEXT_UNSAFE(all, i, c);
-        if (!s.frozen.contains(c)) continue;
-        held += text.bytes.substr(from, i - from);
-        characters++;
+        if (s.frozen.contains(c)) held += text.bytes.substr(from, i - from);
     }
-    if (characters < 1000) return;
-    const size_t turns = 16;
-    const uint8_t *bytes = reinterpret_cast<const uint8_t *>(held.data());
-    const size_t size = held.size();
-    auto icu = [&](const UnicodeSet &set) {
-        uint64_t sum = 0;
-        for (size_t i = 0; i < turns; i++)
-            sum += set.spanUTF8(held.data(), int32_t(size), USET_SPAN_SIMPLE);
-        return sum;
-    };
-    const string name = s.name + "-" + text.name;
-    const double each = double(characters) * turns;
-    if (wanted("set_span"))
-        row("set_span", name, each, [&] { return ours_span(PARTS(s.bytes), bytes, size, turns); },
-            nullptr, [&] { return icu(s.set); });
-    if (wanted("frozen_span"))
-        row("frozen_span", name, each,
-            [&] { return ours_frozen_span(PARTS(s.bytes), bytes, size, turns); }, nullptr,
-            [&] { return icu(s.frozen); });
+    return held;
 }
 
-static void freezing() {
+size_t count_of_characters(const string &text) {
+    return std::count_if(text.begin(), text.end(), [](char byte) { return (byte & 0xC0) != 0x80; });
+}
+
+static void spans() {
+    const size_t turns = 16;
     for (const Set &s : all_sets()) {
-        const size_t turns = 20;
-        const Call icu = [&] {
-            uint64_t sum = 0;
-            for (size_t i = 0; i < turns; i++) {
-                UnicodeSet set = s.set;
-                set.freeze();
-                sum += set.contains(UChar32(0x4E00));
-            }
-            return sum;
-        };
-        row("freeze", s.name, turns, [&] { return ours_freeze(PARTS(s.bytes), turns); }, nullptr,
-            icu);
+        for (const Text &text : texts(16384)) {
+            const string held = held_text(s, text);
+            const size_t characters = count_of_characters(held), size = held.size();
+            if (characters < 1000) continue;
+            const uint8_t *bytes = reinterpret_cast<const uint8_t *>(held.data());
+            const Call icu = [&] {
+                uint64_t sum = 0;
+                for (size_t i = 0; i < turns; i++)
+                    sum += s.set.spanUTF8(held.data(), int32_t(size), USET_SPAN_SIMPLE);
+                return sum;
+            };
+            row("set_span", s.name + "-" + text.name, double(characters) * turns,
+                [&] { return ours_span(PARTS(s.bytes), bytes, size, turns); }, nullptr, icu);
+        }
     }
 }
 
@@ -177,14 +149,7 @@ static void over_texts() {
             };
             const string name = s.name + "-" + text.name;
             const double each = double(text.characters) * turns;
-            if (wanted("set_text"))
-                row("set_text", name, each, ours, rust, [&] { return icu(s.set); });
-            const Call frozen = [&] {
-                return ours_frozen_text(PARTS(s.bytes), bytes, size, turns);
-            };
-            if (wanted("frozen_text"))
-                row("frozen_text", name, each, frozen, nullptr, [&] { return icu(s.frozen); });
-            span(s, text);
+            row("set_text", name, each, ours, rust, [&] { return icu(s.set); });
         }
     }
 }
@@ -226,10 +191,9 @@ static void positions() {
 }
 
 void sets() {
-    if (wanted("set_contains") || wanted("frozen_contains")) contains();
-    if (wanted("set_text") || wanted("frozen_text") || wanted("set_span") || wanted("frozen_span"))
-        over_texts();
-    if (wanted("freeze")) freezing();
+    if (wanted("set_contains")) contains();
+    if (wanted("set_text")) over_texts();
+    if (wanted("set_span")) spans();
     if (wanted("set_iter")) all_ranges();
     if (wanted("set_position")) positions();
 }
