@@ -1,5 +1,7 @@
 pub mod BitLemmas
 pub mod BlockLemmas
+pub mod CallerLemmas
 pub mod FillingLemmas
 pub mod FreezeLemmas
 pub mod SpanLemmas
+pub mod TextPieces

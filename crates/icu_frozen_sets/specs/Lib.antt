@@ -1,2 +1,3 @@
 pub mod CodePointBits
+pub mod Spans
 pub mod Inside

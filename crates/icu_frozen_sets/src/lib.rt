@@ -1,6 +1,7 @@
 //! Frozen sets of code points: ICU's UnicodeSet once it is frozen.
 //!
 //! - `frozen`: [`FrozenCodePointSet`](frozen::FrozenCodePointSet), and what it can be asked
+//! - `spans`: [`Spans`](spans::Spans), the pieces of a text that are held and that are not
 //! - `filling`: how the bits of a set are filled in, range by range
 //! - `bits`: a bit for each code point, in two stages
 #![tactic(auto)]
@@ -8,3 +9,4 @@
 mod bits;
 mod filling;
 pub mod frozen;
+pub mod spans;
