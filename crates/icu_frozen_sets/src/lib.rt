@@ -2,6 +2,7 @@
 //!
 //! - `frozen`: [`FrozenCodePointSet`](frozen::FrozenCodePointSet), and what it can be asked
 //! - `spans`: [`Spans`](spans::Spans), the pieces of a text that are held and that are not
+//! - `ranges`: whether it holds all of a range
 //! - `filling`: how the bits of a set are filled in, range by range
 //! - `bits`: a bit for each code point, in two stages
 #![tactic(auto)]
@@ -9,4 +10,5 @@
 mod bits;
 mod filling;
 pub mod frozen;
+mod ranges;
 pub mod spans;
