@@ -4,4 +4,5 @@ pub mod CallerLemmas
 pub mod FillingLemmas
 pub mod FreezeLemmas
 pub mod SpanLemmas
+pub mod TextFrontLemmas
 pub mod TextPieces

@@ -103,8 +103,8 @@ module _ (set text : List ℕ) (u : IsUtf8 text) (is_held : Bool) where
 
   pub take_front : take (length (front_of set is_held text)) text ≡ front_of set is_held text
   take_front =
-      ap (λ (bs : List ℕ). take (length (front_of set is_held text)) bs) text_parts
-      ∙ take-append_seam (front_of set is_held text) (encode_utf8_all behind)
+      let front = front_of set is_held text in
+      ap (λ (bs : List ℕ). take (length front) bs) text_parts ∙ take-append_seam front (encode_utf8_all behind)
 
   -- the characters of the front
   front_chars : chars (front_of set is_held text) ≡ take_while passes (chars text)

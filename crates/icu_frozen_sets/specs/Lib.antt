@@ -1,3 +1,4 @@
 pub mod CodePointBits
 pub mod Spans
+pub mod TextFronts
 pub mod Inside

@@ -3,11 +3,13 @@
 //! - `frozen`: [`FrozenCodePointSet`](frozen::FrozenCodePointSet), and what it can be asked
 //! - `spans`: [`Spans`](spans::Spans), the pieces of a text that are held and that are not
 //! - `ranges`: whether it holds all of a range
+//! - `bytes`: how far bytes lie in it that may be no text
 //! - `filling`: how the bits of a set are filled in, range by range
 //! - `bits`: a bit for each code point, in two stages
 #![tactic(auto)]
 
 mod bits;
+mod bytes;
 mod filling;
 pub mod frozen;
 mod ranges;
