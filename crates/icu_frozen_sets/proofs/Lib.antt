@@ -3,6 +3,7 @@ pub mod BlockLemmas
 pub mod CallerLemmas
 pub mod FillingLemmas
 pub mod FreezeLemmas
+pub mod OneCharacter
 pub mod SpanLemmas
 pub mod TextFrontLemmas
 pub mod TextPieces
