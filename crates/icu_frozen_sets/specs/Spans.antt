@@ -13,7 +13,8 @@ pub record TextToCut : Type 0 where
 
 -- the longest front of a text whose characters are all held, or all not held
 abbrev pub front_of : List ℕ → Bool → List ℕ → List ℕ
-front_of set is_held text = encode_utf8_all (take_while (λ c. beq (holds set c) is_held) (chars text))
+front_of set is_held text =
+    encode_utf8_all (take_while (λ c. beq (holds set c) is_held) (chars text))
 
 -- the span is the longest such front of the text and not empty, and the rest follows it
 pub record IsFirstSpan (set text : List ℕ) (span : Span) (rest : List ℕ) : Type 0 where

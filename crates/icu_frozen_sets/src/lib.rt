@@ -4,8 +4,8 @@
 //! - `spans`: [`Spans`](spans::Spans), the pieces of a text that are held and that are not
 //! - `ranges`: whether it holds all of a range
 //! - `bytes`: how far bytes lie in it that may be no text
-//! - `text_sets`: [`FrozenCodePointSetAndStrings`](text_sets::FrozenCodePointSetAndStrings), a frozen
-//!   set beside strings
+//! - `text_sets`: [`FrozenCodePointSetAndStrings`](text_sets::FrozenCodePointSetAndStrings), a
+//!   frozen set beside strings
 //! - `filling`: how the bits of a set are filled in, range by range
 //! - `bits`: a bit for each code point, in two stages
 #![tactic(auto)]

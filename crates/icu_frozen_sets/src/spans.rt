@@ -65,8 +65,8 @@ impl<'s, 't> Iterator for Spans<'s, 't> {
 /// How a text is cut by a frozen set.
 impl FrozenCodePointSet {
     /// The spans of a text, from its front on: its longest pieces whose characters are all held, or
-    /// all not held, in turn. Joined they are the text, none is empty, and each is a slice of it, so
-    /// no memory is taken.
+    /// all not held, in turn. Joined they are the text, none is empty, and each is a slice of it,
+    /// so no memory is taken.
     ///
     /// ```
     /// for span in letters.spans("ab, c") {
