@@ -5,6 +5,7 @@ pub use Rattle.icu_zerovec.proofs.CallerLemmas.{canonical_char, canonical_i16, c
 pub use Rattle.icu_invlist.proofs.CallerLemmas.{complement_valid, complement-holds, holds-nil, not_past_limit, ranges_apart, ranges_hold, ranges_within, said_alone}
 pub use Rattle.icu_invlist.proofs.CallerLemmas.{counts_of_complements, fewer_below, same_parts, same_sets, sizes_of_complements}
 pub use Rattle.icu_text_sets.proofs.CallerLemmas.{equal_sets_hold_alike, sets_decide}
+pub use Rattle.icu_frozen_sets.proofs.CallerLemmas.{spans_of_drained}
 pub use Rattle.icu_trie_core.proofs.CallerLemmas.{AreMaximalRuns-same, AreMaximalRuns-some, LongestRun-from_gives, runs-unique, value_runs-some}
 pub use Rattle.icu_trie.proofs.CallerLemmas.{All-given, All-selected, AreMappedRunsFrom-same, joined_ranges-are}
 -- A trie of a map: its writes, its answers, its ranges, and its null block

@@ -1,9 +1,13 @@
 //! Sets of code points as inversion lists, as ICU's UnicodeSet keeps them.
 //!
 //! [`CodePointInversionListBuilder`] makes a [`CodePointInversionList`];
-//! [`FrozenCodePointSet::freeze`] adds a bit for each code point, for many look-ups.
+//! [`FrozenCodePointSet::freeze`] adds a bit for each code point, for many look-ups, and
+//! [`FrozenCodePointSetAndStrings::freeze`] adds it to a set with strings.
+//! [`FrozenCodePointSet::spans`] cuts a text into what is held and what is not.
 
 pub use icu_frozen_sets::frozen::FrozenCodePointSet;
+pub use icu_frozen_sets::spans::{Span, Spans};
+pub use icu_frozen_sets::text_sets::FrozenCodePointSetAndStrings;
 pub use icu_invlist::codepointinvlist::{
     CodePointInversionList, CodePointInversionListBuilder, InvalidSetError, IterChars, IterRanges,
     IterRangesComplemented, RangeError, RangeOf, RangePoint, SetError, SetJsonError, TryRangeError,
