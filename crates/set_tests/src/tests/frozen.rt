@@ -1,6 +1,7 @@
 //! Frozen sets: that they are made, and answer as the set does; want of memory.
 use super::*;
 use icu_frozen_sets::frozen::FrozenCodePointSet;
+use icu_frozen_sets::spans::Spans;
 use icu_zerovec::MemoryError;
 
 /// Sets whose borders lie at those of words and blocks, beside and between them; all code points
@@ -80,6 +81,99 @@ fn spans_of_frozen_sets(rt: HostRuntime) -> Result<(), Fail> {
     Ok(())
 }
 
+/// The spans that are left are these, and no more.
+fn expect_spans(rt: &impl Abort, mut spans: Spans<'_, '_>, want: &[(&str, bool)], text: &str) {
+    for (piece, is_held) in want {
+        let Some(span) = spans.next() else {
+            rt.panic("a span is missing");
+        };
+        expect_same(rt, span.text, *piece, text);
+        expect_same(rt, span.is_held, *is_held, *piece);
+    }
+    expect(rt, spans.next().is_none(), "a span too many");
+}
+
+/// Texts, and their spans by the block of Han, by U+D7FF to U+E000, between which there are
+/// surrogates alone, and by U+FFFF and U+10000: characters of one to four bytes.
+#[test]
+fn texts_cut_into_spans(rt: HostRuntime) -> Result<(), Fail> {
+    let rows: [(&str, &[(&str, bool)]); 7] = [
+        ("", &[]),
+        ("漢字", &[("漢字", true)]),
+        ("a é", &[("a é", false)]),
+        (
+            "a漢é字",
+            &[("a", false), ("漢", true), ("é", false), ("字", true)],
+        ),
+        ("zé漢\u{10000}", &[("zé", false), ("漢\u{10000}", true)]),
+        (
+            "\u{D7FE}\u{D7FF}\u{E000}\u{E001}",
+            &[
+                ("\u{D7FE}", false),
+                ("\u{D7FF}\u{E000}", true),
+                ("\u{E001}", false),
+            ],
+        ),
+        (
+            "\u{FFFF}\u{10000}\u{10001}z",
+            &[("\u{FFFF}\u{10000}", true), ("\u{10001}z", false)],
+        ),
+    ];
+    let Some(frozen) = frozen_of(rt.alloc(), SETS[6]) else {
+        return Err("no memory".into());
+    };
+    for (text, want) in rows {
+        expect_spans(&rt, frozen.spans(text), want, text);
+    }
+    Ok(())
+}
+
+/// How far bytes lie in the letters of ASCII, and how far in what is no such letter: an ill-formed
+/// sequence ends both.
+#[test]
+fn spans_of_bytes(rt: HostRuntime) -> Result<(), Fail> {
+    let rows: [(&[u8], [usize; 2]); 10] = [
+        (b"", [0, 0]),
+        (b"ab1", [2, 0]),
+        (b"1ab", [0, 1]),
+        (b"abc", [3, 0]),
+        (b"ab\xFFc", [2, 0]),
+        (b"\xFFab", [0, 0]),
+        (b"12\xC3", [0, 2]),
+        (b"\xC3\xA9\xE6\xBC", [0, 2]),
+        (b"a\xED\xA0\x80", [1, 0]),
+        (b"\xC0\x80", [0, 0]),
+    ];
+    let Some(frozen) = frozen_of(rt.alloc(), SETS[2]) else {
+        return Err("no memory".into());
+    };
+    for (bytes, want) in rows {
+        let found = [
+            frozen.span_utf8(bytes, true),
+            frozen.span_utf8(bytes, false),
+        ];
+        expect_same(&rt, found, want, "held, and not held");
+    }
+    Ok(())
+}
+
+/// Ranges in the letters of ASCII, and one that names no character.
+#[test]
+fn ranges_in_frozen_sets(rt: HostRuntime) -> Result<(), Fail> {
+    let Some(frozen) = frozen_of(rt.alloc(), SETS[2]) else {
+        return Err("no memory".into());
+    };
+    let found = [
+        frozen.contains_range('A'..='Z'),
+        frozen.contains_range('A'..'['),
+        frozen.contains_range('A'..='['),
+        frozen.contains_range('B'..'B'),
+        frozen.contains_range(..),
+    ];
+    expect_same(&rt, found, [true, true, false, false, false], "ranges");
+    Ok(())
+}
+
 #[test]
 fn equal_frozen_sets(rt: HostRuntime) -> Result<(), Fail> {
     let (Some(first), Some(second)) = (
@@ -148,4 +242,29 @@ fn frozen_calls_quiet(rt: HostRuntime) {
     expect_same(&rt, held, [true, true, true], "held");
     expect_same(&rt, spans, [2, 0, 3, 2], "spans");
     expect_same(&rt, size, 52, "size");
+}
+
+/// Calls: `FrozenCodePointSet::spans`, `Spans::next`, `FrozenCodePointSet::span_utf8`,
+/// `FrozenCodePointSet::contains_range`.
+#[test]
+fn frozen_pieces_quiet(rt: HostRuntime) {
+    let Some(frozen) = frozen_of(rt.alloc(), SETS[2]) else {
+        return;
+    };
+    say(&rt, "call");
+    let mut spans = frozen.spans("ab1");
+    let pieces = [
+        spans.next().is_some(),
+        spans.next().is_some(),
+        spans.next().is_some(),
+    ];
+    let bytes = [
+        frozen.span_utf8(b"ab\xFF", true),
+        frozen.span_utf8(b"12", false),
+    ];
+    let holds_range = frozen.contains_range('A'..);
+    say(&rt, "done");
+    expect_same(&rt, pieces, [true, true, false], "two spans");
+    expect_same(&rt, bytes, [2, 2], "bytes");
+    expect(&rt, !holds_range, "all from A on");
 }

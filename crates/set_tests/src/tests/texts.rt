@@ -1,5 +1,6 @@
 //! What no clause says: texts, that calls succeed, want of memory. Wanted values are those of the
 //! Rust crate and of its documentation, or worked out by hand.
+mod frozen;
 mod json;
 mod memory;
 mod sets;
