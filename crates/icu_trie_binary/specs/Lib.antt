@@ -1,0 +1,2 @@
+pub mod BinaryHeader
+pub mod BinaryTrie

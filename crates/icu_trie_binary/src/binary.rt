@@ -1,0 +1,150 @@
+//! Tries from ICU's binary form, which `ucptrie_toBinary` writes: read where they are.
+ghost use Rattle.std.specs.Prelude.{◌≡◌, ℕ, ◌+◌, ◌*◌, ◌<◌, ◌≤◌, length, slice_get, option_map, IfOk, IfErr};
+ghost use Rattle.icu_zerovec.specs.Slice.{slice_values};
+ghost use Rattle.icu_trie_binary.specs.BinaryHeader.{data_size, stored_length};
+ghost use Rattle.icu_trie_binary.specs.BinaryTrie.{index_of, data_bytes, null_place, number_or_zero, trie_header, IsStored, IsWhyNotStored, IsAnyStored, IsWhyNoneStored};
+
+pub use crate::error::BinaryError;
+use crate::header::{BinaryHeader, HEADER_SIZE, ValueWidth, header_of, stored_header};
+use icu_trie::cptrie::CodePointTrie;
+use icu_trie::header::CodePointTrieHeader;
+use icu_trie::value::TrieValue;
+use icu_zerovec::ule::UleError;
+use icu_zerovec::{ZeroSlice, ZeroVec};
+
+/// The index, read in place.
+fn index_of<'a>(bytes: &'a [u8], header: &BinaryHeader) -> ZeroVec<'a, u16>
+    requires { stored_length header.now ≤ length bytes.now }
+    ensures { result ≡ index_of header.now bytes.now }
+{
+    let index = &bytes[HEADER_SIZE..HEADER_SIZE + 2 * header.index_length as usize];
+    match ZeroVec::parse_bytes(index) {
+        Ok(index) => index,
+        Err(_) => unreachable!(),
+    }
+}
+
+/// The bytes of the data.
+fn data_bytes<'a>(bytes: &'a [u8], header: &BinaryHeader) -> &'a [u8]
+    requires { stored_length header.now ≤ length bytes.now }
+    ensures bytes { result.now ≡ data_bytes header.now bytes.now }
+    ensures len { length result.now ≡ data_size header.now }
+{
+    let cells = &bytes[HEADER_SIZE..];
+    let data = &cells[2 * header.index_length as usize..];
+    &data[..header.value_width.bytes() * header.data_length as usize]
+}
+
+/// The number of the null value: that of the cell where its block begins, or of the high value
+/// where there is no such block.
+fn null_number<T: TrieValue>(header: &BinaryHeader, values: ZeroSlice<'_, T>) -> u32
+    ensures { result ≡ number_or_zero
+        (option_map T.number (slice_get (slice_values values.entry) (null_place header.now))) }
+{
+    let place = if header.data_null_offset < header.data_length {
+        header.data_null_offset
+    } else {
+        header.data_length.saturating_sub(2)
+    };
+    match values.get(place as usize) {
+        Some(value) => value.to_u32(),
+        None => 0,
+    }
+}
+
+/// The header of a trie of these values.
+fn trie_header<T: TrieValue>(header: &BinaryHeader, values: ZeroSlice<'_, T>) -> CodePointTrieHeader
+    ensures { result
+        ≡ trie_header T.unpack T.WIDTH T.number T.of_number header.now (slice_values values.entry) }
+{
+    let high_start = u32::from(header.shifted_high_start) * 0x200;
+    CodePointTrieHeader {
+        high_start,
+        shifted12_high_start: ((high_start + 0xfff) / 0x1000) as u16,
+        index3_null_offset: header.index3_null_offset,
+        data_null_offset: header.data_null_offset,
+        null_value: null_number(header, values),
+        trie_type: header.trie_type,
+    }
+}
+
+/// The trie that the bytes begin with, and how many of them it takes. It borrows its index and its
+/// data; what follows them is not read.
+///
+/// The form is that of `ucptrie_toBinary` on a machine that has the lowest byte first, for values
+/// of 8, 16 and 32 bits, of either type: `ucptrie_openFromBinary` with `UCPTRIE_TYPE_ANY` and the
+/// width of `T`. The bytes may stand at any address.
+///
+/// ```
+/// let (trie, len) = from_binary::<u8>(bytes)?;
+/// // trie.get32(0x41) is what ucptrie_get answers, and bytes[len..] is what follows the trie
+/// ```
+///
+/// # Errors
+/// The first cause in the order of [`BinaryError`]: `Short`, `Swapped`, `Signature`, `UnknownType`,
+/// `UnknownWidth`, `Reserved`, `OtherWidth` where a value of `T` takes another number of bytes,
+/// `CutOff`, `Cell`, and `Trie` where `CodePointTrie::try_new` refuses the parts.
+pub fn from_binary<'a, T: TrieValue>(
+    bytes: &'a [u8],
+) -> Result<(CodePointTrie<'a, T>, usize), BinaryError>
+    ensures ok { IfOk result
+        (λ r. IsStored T.unpack T.WIDTH T.number T.of_number bytes.now r.0 r.1) }
+    ensures len { IfOk result (λ r. r.1 ≤ length bytes.now) }
+    ensures err { IfErr result
+        (IsWhyNotStored T.unpack T.WIDTH T.number T.of_number bytes.now) }
+{
+    let (header, len) = stored_header(bytes, T::WIDTH)?;
+    let index = index_of(bytes, &header);
+    let data = match ZeroVec::<T>::parse_bytes(data_bytes(bytes, &header)) {
+        Ok(data) => data,
+        Err(UleError::Cell(i)) => return Err(BinaryError::Cell(i)),
+        Err(UleError::Length) => unreachable!(),
+    };
+    let trie = CodePointTrie::try_new(trie_header(&header, data.as_slice()), index, data)?;
+    Ok((trie, len))
+}
+
+/// A trie of the width that its binary form says, whose values are numbers without a sign.
+#[derive(Debug, Drop)]
+pub enum AnyWidthTrie<'a> {
+    /// Values of 8 bits (UCPTRIE_VALUE_BITS_8).
+    Bits8(CodePointTrie<'a, u8>),
+    /// Values of 16 bits.
+    Bits16(CodePointTrie<'a, u16>),
+    /// Values of 32 bits.
+    Bits32(CodePointTrie<'a, u32>),
+}
+
+/// The trie that the bytes begin with, of whichever width it is, and how many of them it takes: as
+/// [`from_binary`], which it calls with the width that the bytes say.
+///
+/// ```
+/// let (trie, len) = from_binary_any(bytes)?;
+/// if let AnyWidthTrie::Bits16(trie) = trie {
+///     // trie.get32(0x41) is a number of 16 bits
+/// }
+/// ```
+///
+/// # Errors
+/// Those of [`from_binary`], in the same order. `OtherWidth` and `Cell` never come, since each
+/// width has a type, of which any bytes are a value.
+pub fn from_binary_any(bytes: &[u8]) -> Result<(AnyWidthTrie<'_>, usize), BinaryError>
+    ensures ok { IfOk result (λ r. IsAnyStored bytes.now r.0 r.1) }
+    ensures len { IfOk result (λ r. r.1 ≤ length bytes.now) }
+    ensures err { IfErr result (IsWhyNoneStored bytes.now) }
+{
+    match header_of(bytes)?.value_width {
+        ValueWidth::Bits8 => {
+            let (trie, len) = from_binary(bytes)?;
+            Ok((AnyWidthTrie::Bits8(trie), len))
+        }
+        ValueWidth::Bits16 => {
+            let (trie, len) = from_binary(bytes)?;
+            Ok((AnyWidthTrie::Bits16(trie), len))
+        }
+        ValueWidth::Bits32 => {
+            let (trie, len) = from_binary(bytes)?;
+            Ok((AnyWidthTrie::Bits32(trie), len))
+        }
+    }
+}
