@@ -1,4 +1,5 @@
-//! Tests of tries in JSON and TOML and of the trie of the planes, by their public calls.
+//! Tests of tries in JSON, TOML and ICU's binary form and of the trie of the planes, by their public
+//! calls.
 #![tactic(auto)]
 
 #[cfg(test)]

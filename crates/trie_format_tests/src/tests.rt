@@ -1,4 +1,6 @@
 //! What no clause says: each code point's plane, texts, and refused memory.
+mod binary;
+mod binary_tables;
 mod json;
 mod planes;
 mod support;
