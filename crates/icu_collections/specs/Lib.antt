@@ -15,4 +15,7 @@ pub use Rattle.icu_trie_formats.specs.TrieOfParts
 pub use Rattle.icu_trie_formats.specs.TrieJson
 pub use Rattle.icu_trie_formats.specs.TrieToml
 pub use Rattle.icu_trie_formats.specs.Planes
+-- ICU's binary form of tries
+pub use Rattle.icu_trie_binary.specs.BinaryHeader
+pub use Rattle.icu_trie_binary.specs.BinaryTrie
 pub use Rattle.icu_char16trie.specs.Char16Json

@@ -1,7 +1,8 @@
 //! Maps from code points to values that are read in place (ICU's code point tries).
 //!
 //! [`CodePointTrieBuilder`] or [`build_from_writes`] makes a trie, [`CodePointTrie::get32`] asks
-//! it. A trie from a file is made of its parts by [`CodePointTrie::try_new`], which borrows them.
+//! it. A trie that ICU wrote is read where it is by [`binary::from_binary`]; one of another file is
+//! made of its parts by [`CodePointTrie::try_new`], which borrows them.
 
 pub use icu_trie::cells::{Cells, Steps};
 pub use icu_trie::coherent::is_coherent;
@@ -19,6 +20,7 @@ pub use icu_trie::typed::{
 };
 pub use icu_trie::value::{NotAValue, TrieValue};
 pub use icu_trie::walk::walk;
+pub use icu_trie_binary::binary;
 pub use icu_trie_builder::build_from_writes;
 pub use icu_trie_builder::builder::CodePointTrieBuilder;
 pub use icu_trie_builder::error::BuildError;
