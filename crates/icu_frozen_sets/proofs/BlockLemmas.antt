@@ -1,10 +1,13 @@
 -- Blocks are appended to the tables.
-use Rattle.std.proofs.Common.{◌≡◌, ◌∙◌, ℕ, ◌+◌, ◌-◌, ◌*◌, ◌/◌, ◌%◌, ◌^◌, ◌<◌, ◌≤◌, List, [], ◌∷◌, ◌++◌, length, get_or, refl, ap, sym, arith, zero, suc, zero-add, Bool, true, false, cond, inl, inr}
+use Rattle.std.proofs.Common.{◌≡◌, ◌∙◌, ℕ, ◌+◌, ◌-◌, ◌*◌, ◌/◌, ◌%◌, ◌^◌, ◌<◌, ◌≤◌, List, [], ◌∷◌, ◌++◌, length, get_or, set, refl, ap, sym, arith, zero, suc, zero-add, Bool, true, false, cond, inl, inr}
 use Rattle.std.specs.Int.{bit_at}
+use lib.Bits.{bit_and}
 use Rattle.std.specs.Prelude.{nat_eq}
-use Rattle.std.proofs.lemmas.Bool.{cases_lt}
-use Rattle.std.proofs.lemmas.List.{length-append, get_or_append_left, get_or-append-add, get_or_push}
+use Rattle.std.proofs.lemmas.Bool.{cases_eq, cases_lt}
+use Rattle.std.proofs.lemmas.Grind.{get_or-set_at}
+use Rattle.std.proofs.lemmas.List.{length-append, length-set, get_or_append_left, get_or_default, get_or-set_other, get_or-append-add, get_or_push}
 use Rattle.std.proofs.lemmas.Nat.Bits.{bit_at_ones, bit_at-zero}
+use Rattle.icu_frozen_sets.proofs.BitLemmas.{bit_tested}
 use Rattle.icu_frozen_sets.specs.CodePointBits.{BitTables, has_bit}
 use Rattle.icu_frozen_sets.specs.Inside.Filling.{AreTables, AddsBlocks, block_bit}
 
@@ -121,3 +124,31 @@ uniform_block t new block value a all = record {
   kept = a.kept;
   added = λ c l h. a.added c l h ∙ sym (bit_of_uniform value _ (c % 64) (all (c / 64 % 4) (omega arith)) (omega arith));
 }
+
+-- ---- the bits of ASCII, which are of the first two words of the first block
+module _ (t : BitTables) (a : AreTables t) (some : 0 < length t.index) (first : ℕ) (f : first ≡ get_or t.index 0 first) where
+  placed_first : first ≡ get_or t.index 0 0
+  placed_first = f ∙ get_or_default t.index 0 first 0 some
+
+  -- the bit k of the word, which is one of these two
+  pub ascii_bit : (word at part k : ℕ) → part < 2 → at ≡ first + part → word ≡ get_or t.words at word → k < 64 → nat_eq (bit_and (word / 2 ^ k) 1) 1 ≡ has_bit t (64 * part + k)
+  ascii_bit word at part k two q w h =
+      let c = 64 * part + k in
+      let p = a.placed 0 some in
+      let block : get_or t.index (c / 256) 0 ≡ first = ap (λ (b : ℕ). get_or t.index b 0) (omega arith) ∙ sym placed_first in
+      let place : at ≡ get_or t.index (c / 256) 0 + c / 64 % 4 = omega (arith, block, q) in
+      let same : word ≡ get_or t.words (get_or t.index (c / 256) 0 + c / 64 % 4) 0 =
+      w ∙ (get_or_default t.words at word 0 (omega (arith, p, placed_first, q)) ∙ ap (λ (n : ℕ). get_or t.words n 0) place) in
+      let bit : k ≡ c % 64 = omega arith in
+      bit_tested word k ∙ (ap (λ (n : ℕ). nat_eq (bit_at n k) 1) same ∙ ap (λ (j : ℕ). nat_eq (bit_at (get_or t.words (get_or t.index (c / 256) 0 + c / 64 % 4) 0) j) 1) bit)
+
+-- two entries are written
+pub ascii_more : (ascii : List Bool) (bit : ℕ → Bool) (k : ℕ) (low high : Bool) → length ascii ≡ 128 → k < 64 → low ≡ bit k → high ≡ bit (64 + k)
+    → ((c : ℕ) → c < 128 → c % 64 < k → get_or ascii c false ≡ bit c) → (c : ℕ) → c < 128 → c % 64 < k + 1 → get_or (set (set ascii k low) (64 + k) high) c false ≡ bit c
+ascii_more ascii bit k low high n h l e same c d m = elim (cases_eq c (64 + k)) [
+  | inl q ↦ get_or-set_at (set ascii k low) (64 + k) c high false q (omega (arith, length-set ascii k low, n)) ∙ (e ∙ ap bit (sym q))
+  | inr q ↦ get_or-set_other (set ascii k low) (64 + k) c high false q ∙ elim (cases_eq c k) [
+    | inl r ↦ get_or-set_at ascii k c low false r (omega (arith, n)) ∙ (l ∙ ap bit (sym r))
+    | inr r ↦ get_or-set_other ascii k c low false r ∙ same c d (omega arith)
+  ]
+]

@@ -1,11 +1,11 @@
 -- The ranges of a set are filled in, one after another.
-use Rattle.std.proofs.Common.{◌≡◌, ◌∙◌, ℕ, ◌+◌, ◌/◌, ◌<◌, ◌≤◌, List, [], ◌∷◌, length, refl, ap, sym, arith, suc, Bool, true, false, inl, inr}
+use Rattle.std.proofs.Common.{◌≡◌, ◌∙◌, ℕ, ◌+◌, ◌/◌, ◌<◌, ◌≤◌, List, [], ◌∷◌, length, get_or, refl, ap, sym, arith, suc, Bool, true, false, inl, inr}
 use Rattle.std.specs.Prelude.{nat_lt, nat_le, ◌&&◌, ◌||◌}
 use Rattle.std.specs.List.{All}
 use Rattle.std.specs.declared.ops.RangeInclusive.{RangeInclusive}
 use Rattle.std.proofs.lemmas.Bool.{cases_lt, lt-ltb, le-ltb, le-leb, lt-leb}
 use Rattle.icu_zerovec.specs.CodePoints.{code_point_limit}
-use Rattle.icu_invlist.specs.InversionList.{AreApart, IsOfCodePoints, IsValid, StartsBehind, between, holds, in_ranges, ranges_of}
+use Rattle.icu_invlist.specs.InversionList.{AreApart, IsOfCodePoints, IsValid, StartsBehind, between, holds, in_ranges}
 use Rattle.icu_frozen_sets.specs.CodePointBits.{BitTables, has_bit}
 use Rattle.icu_frozen_sets.specs.Inside.Filling.{Fills, IsFilling, IsFrozen, filled}
 use Rattle.icu_frozen_sets.proofs.BitLemmas.{or_false}
@@ -94,12 +94,18 @@ freezes_range ends left rest r step t block reached f t1 block1 start mid t2 blo
     let b2 : Fills t1 block1 r.start t2 block2 end true = rw (← e1, ← e2) b in
     rw e4 (freezes_more ends left rest r step t block reached f t1 block1 t2 block2 end e3 a2 b2 settled)
 
-pub frozen_all : (ends : List ℕ) (left : List (RangeInclusive ℕ)) (t : BitTables) (block : List ℕ) (reached : ℕ) (new : BitTables) (new_block : List ℕ) (end : ℕ) → IsValid ends → Freezes ends left t block reached → left ≡ []
-    → Fills t block reached new new_block end false → end ≡ code_point_limit → length new.index ≡ end / 256 → IsFrozen ends new
-frozen_all ends left t block reached new new_block end v f none a e settled = record {
-  valid = v;
-  tables = a.filling.tables;
-  blocks = omega arith;
-  bits = λ c h. sym (filled_table new new_block end c (omega arith) (omega arith))
-      ∙ (a.bits c ∙ (or_false (filled t block reached c) ∙ sym (f.held c ∙ (ap (λ (rs : List (RangeInclusive ℕ)). filled t block reached c || in_ranges rs c) none ∙ or_false (filled t block reached c)))));
-}
+module _ (ends : List ℕ) (left : List (RangeInclusive ℕ)) (t : BitTables) (block : List ℕ) (reached : ℕ) (new : BitTables) (new_block : List ℕ) (end : ℕ)
+    (f : Freezes ends left t block reached) (none : left ≡ []) (a : Fills t block reached new new_block end false) (e : end ≡ code_point_limit)
+    (settled : length new.index ≡ end / 256) where
+  all_bits : (c : ℕ) → c < code_point_limit → has_bit new c ≡ holds ends c
+  all_bits c h = sym (filled_table new new_block end c (omega arith) (omega arith))
+      ∙ (a.bits c ∙ (or_false (filled t block reached c) ∙ sym (f.held c ∙ (ap (λ (rs : List (RangeInclusive ℕ)). filled t block reached c || in_ranges rs c) none ∙ or_false (filled t block reached c)))))
+
+  pub frozen_all : IsValid ends → (ascii : List Bool) → ((c : ℕ) → c < 128 → get_or ascii c false ≡ has_bit new c) → IsFrozen ends ascii new
+  frozen_all v ascii same = record {
+    valid = v;
+    tables = a.filling.tables;
+    blocks = omega arith;
+    bits = all_bits;
+    first = λ c h. same c h ∙ all_bits c (omega arith);
+  }

@@ -1,6 +1,7 @@
 pub mod BitLemmas
 pub mod BlockLemmas
 pub mod CallerLemmas
+pub mod CharacterLemmas
 pub mod FillingLemmas
 pub mod FreezeLemmas
 pub mod OneCharacter

@@ -1,72 +1,81 @@
 -- The walk of a span over the characters of a text.
-use Rattle.std.proofs.Common.{◌≡◌, ◌∙◌, sym, ap, subst, refl, ℕ, ◌+◌, ◌<◌, slice_index, List, [], ◌∷◌, ◌++◌, append_assoc, length, take, drop, reverse, Bool, true, false, arith, encode_utf8}
+use Rattle.std.proofs.Common.{◌≡◌, ◌∙◌, sym, ap, refl, ℕ, ◌+◌, ◌<◌, ◌≤◌, slice_index, List, [], ◌∷◌, ◌++◌, append_assoc, length, take, drop, reverse, Bool, true, false, arith, encode_utf8}
 use Rattle.std.specs.List.{take_while}
 use Rattle.std.specs.Str.{IsCharBoundary, chars, encode_utf8_all, IsUtf8}
 use Rattle.std.proofs.lemmas.Bool.{cond-true, cond-false}
-use Rattle.std.proofs.lemmas.List.{drop_more, length-append, nil_from_length, append-nil, reverse-append}
+use Rattle.std.proofs.lemmas.List.{drop_more, length-append, length-drop, nil_from_length, append-nil, reverse-append}
 use Rattle.std.proofs.Math.Seq.{take-append_seam}
 use Rattle.std.proofs.lemmas.List.Sums.{take_while-cons}
 use Rattle.std.specs.Char.{IsScalar}
-use Rattle.std.proofs.lemmas.Str.{chars_past_char, IsUtf8-past_char, chars_from_encodes, IsUtf8-nil, IsUtf8-encode, IsUtf8-append, IsUtf8-take, IsCharBoundary-at_seam, IsCharBoundary-from_drop, chars-append, chars-nil, drop_past_char, encode_ascii, length-encode}
+use Rattle.std.proofs.lemmas.Str.{chars_past_char, IsUtf8-past_char, chars_from_encodes, IsUtf8-nil, IsUtf8-encode, IsUtf8-append, IsUtf8-take, IsUtf8-drop, IsCharBoundary-at_seam, IsCharBoundary-from_drop, chars-append, chars-nil, encode_ascii}
 
 -- how long the front is that passes
 abbrev pub front : (ℕ → Bool) → List ℕ → ℕ
 front p text = length (encode_utf8_all (take_while p (chars text)))
 
-pub record Spanned (p : ℕ → Bool) (text rest : List ℕ) (n : ℕ) : Type 0 where
-  pub utf8 : IsUtf8 rest
-  pub left : drop n text ≡ rest
-  pub all : n + length rest ≡ length text
-  pub so_far : n + front p rest ≡ front p text
+-- the characters from `start` to `end` all pass
+pub record Passed (p : ℕ → Bool) (text : List ℕ) (start end : ℕ) : Type 0 where
+  pub utf8 : IsUtf8 (drop end text)
+  pub order : start ≤ end
+  pub within : end ≤ length text
+  pub so_far : end + front p (drop end text) ≡ start + front p (drop start text)
 
-pub span_start : (p : ℕ → Bool) (text rest : List ℕ) → IsUtf8 text → rest ≡ text → Spanned p text rest 0
-span_start p text rest u e = rw e (record { utf8 = u; left = refl; all = omega arith; so_far = omega arith })
+pub passed_none : (p : ℕ → Bool) (text : List ℕ) (start : ℕ) → IsUtf8 text → IsCharBoundary text start → Passed p text start start
+passed_none p text start u b = record { utf8 = IsUtf8-drop text start u b; order = omega arith; within = b.0; so_far = refl }
 
-module _ (p : ℕ → Bool) (text rest more : List ℕ) (n c : ℕ) (s : Spanned p text rest n) (step : rest ≡ encode_utf8 c ++ more) where
-  characters : chars rest ≡ c ∷ chars more
-  characters = chars_past_char rest more c s.utf8 step
+module _ (p : ℕ → Bool) (text : List ℕ) (start end next c : ℕ) (s : Passed p text start end) (order : end < next) (within : next ≤ length text)
+    (step : drop end text ≡ encode_utf8 c ++ drop next text) where
+  characters : chars (drop end text) ≡ c ∷ chars (drop next text)
+  characters = chars_past_char (drop end text) (drop next text) c s.utf8 step
 
-  left_past : drop (n + length (encode_utf8 c)) text ≡ more
-  left_past = rw (length-encode c) (drop_past_char text more n c (s.left ∙ step))
+  size : end + length (encode_utf8 c) ≡ next
+  size = let g = ap (λ (bs : List ℕ). length bs) step ∙ length-append (encode_utf8 c) (drop next text) in omega (arith, g, length-drop end text, length-drop next text, s.within)
 
-  pub span_past : p c ≡ true → Spanned p text more (n + length (encode_utf8 c))
-  span_past y =
-      let e : take_while p (chars rest) ≡ c ∷ take_while p (chars more) = rw characters (take_while-cons p c (chars more) ∙ cond-true _ _ _ y) in
-      let f : front p rest ≡ length (encode_utf8 c) + front p more =
-      ap (λ (cs : List ℕ). length (encode_utf8_all cs)) e ∙ length-append (encode_utf8 c) (encode_utf8_all (take_while p (chars more))) in
-      let g : length rest ≡ length (encode_utf8 c) + length more = ap (λ (bs : List ℕ). length bs) step ∙ length-append (encode_utf8 c) more in
-      let a = s.all in let b = s.so_far in
-      record { utf8 = IsUtf8-past_char rest more c s.utf8 step; left = left_past; all = omega arith; so_far = omega arith }
+  pub passed_more : p c ≡ true → Passed p text start next
+  passed_more y =
+      let e : take_while p (chars (drop end text)) ≡ c ∷ take_while p (chars (drop next text)) = rw characters (take_while-cons p c (chars (drop next text)) ∙ cond-true _ _ _ y) in
+      let f : front p (drop end text) ≡ length (encode_utf8 c) + front p (drop next text) =
+      ap (λ (cs : List ℕ). length (encode_utf8_all cs)) e ∙ length-append (encode_utf8 c) (encode_utf8_all (take_while p (chars (drop next text)))) in
+      record {
+        utf8 = IsUtf8-past_char (drop end text) (drop next text) c s.utf8 step;
+        order = omega (arith, s.order);
+        within = within;
+        so_far = omega (arith, f, size, s.so_far);
+      }
 
-  pub span_room : n + length (encode_utf8 c) + length more ≡ length text
-  span_room = let g : length rest ≡ length (encode_utf8 c) + length more = ap (λ (bs : List ℕ). length bs) step ∙ length-append (encode_utf8 c) more in let a = s.all in omega arith
+  pub passed_stops : p c ≡ false → end ≡ start + front p (drop start text)
+  passed_stops y =
+      let e : take_while p (chars (drop end text)) ≡ [] = rw characters (take_while-cons p c (chars (drop next text)) ∙ cond-false _ _ _ y) in
+      let f : front p (drop end text) ≡ 0 = ap (λ (cs : List ℕ). length (encode_utf8_all cs)) e in omega (arith, f, s.so_far)
 
-  pub span_stops : p c ≡ false → n ≡ front p text
-  span_stops y =
-      let e : take_while p (chars rest) ≡ [] = rw characters (take_while-cons p c (chars more) ∙ cond-false _ _ _ y) in
-      let f : front p rest ≡ 0 = ap (λ (cs : List ℕ). length (encode_utf8_all cs)) e in let b = s.so_far in omega arith
-
-pub span_ends : (p : ℕ → Bool) (text rest : List ℕ) (n : ℕ) → Spanned p text rest n → length rest ≡ 0 → n ≡ front p text
-span_ends p text rest n s e =
-    let r : rest ≡ [] = nil_from_length rest e in
+pub passed_ends : (p : ℕ → Bool) (text : List ℕ) (start end : ℕ) → Passed p text start end → length text ≤ end → end ≡ start + front p (drop start text)
+passed_ends p text start end s e =
+    let r : drop end text ≡ [] = nil_from_length (drop end text) (omega (arith, length-drop end text)) in
     let k : [] ≡ chars [] = chars_from_encodes [] [] IsUtf8-nil refl in
-    let f : front p rest ≡ 0 = ap (front p) r ∙ ap (λ (cs : List ℕ). length (encode_utf8_all (take_while p cs))) (sym k) in
-    let b = s.so_far in omega arith
+    let f : front p (drop end text) ≡ 0 = ap (front p) r ∙ ap (λ (cs : List ℕ). length (encode_utf8_all (take_while p cs))) (sym k) in
+    omega (arith, f, s.so_far)
 
 -- a character starts where the walk stands, or the text ends
-pub span_boundary : (p : ℕ → Bool) (text rest : List ℕ) (n : ℕ) → Spanned p text rest n → IsCharBoundary text n
-span_boundary p text rest n s = IsCharBoundary-from_drop text n (let a = s.all in omega arith) (rw s.left s.utf8)
+pub passed_boundary : (p : ℕ → Bool) (text : List ℕ) (start end : ℕ) → Passed p text start end → IsCharBoundary text end
+passed_boundary p text start end s = IsCharBoundary-from_drop text end s.within s.utf8
+
+-- one walk after another
+pub passed_both : (p : ℕ → Bool) (text : List ℕ) (start mid end : ℕ) → IsUtf8 text → Passed p text start mid → mid ≤ end → IsCharBoundary text end
+    → end + front p (drop end text) ≡ mid + front p (drop mid text) → Passed p text start end
+passed_both p text start mid end u s order b e = record {
+  utf8 = IsUtf8-drop text end u b;
+  order = omega (arith, s.order);
+  within = b.0;
+  so_far = e ∙ s.so_far;
+}
 
 -- ---- by bytes
 -- a byte of ASCII is a character
 ascii_step : (text : List ℕ) (n : ℕ) → n < length text → slice_index text n < 128 → drop n text ≡ encode_utf8 (slice_index text n) ++ drop (n + 1) text
 ascii_step text n h a = drop_more text n 0 h ∙ ap (λ (bs : List ℕ). bs ++ drop (n + 1) text) (sym (encode_ascii (slice_index text n) a))
 
-pub span_past_ascii : (p : ℕ → Bool) (text : List ℕ) (n : ℕ) → Spanned p text (drop n text) n → n < length text → slice_index text n < 128 → p (slice_index text n) ≡ true → Spanned p text (drop (n + 1) text) (n + 1)
-span_past_ascii p text n s h a y =
-    let one : length (encode_utf8 (slice_index text n)) ≡ 1 = ap (λ (bs : List ℕ). length bs) (encode_ascii (slice_index text n) a) in
-    subst (λ (k : ℕ). Spanned p text (drop (n + 1) text) (n + k)) one
-    (span_past p text (drop n text) (drop (n + 1) text) n (slice_index text n) s (ascii_step text n h a) y)
+pub passed_ascii : (p : ℕ → Bool) (text : List ℕ) (start n : ℕ) → Passed p text start n → n < length text → slice_index text n < 128 → p (slice_index text n) ≡ true → Passed p text start (n + 1)
+passed_ascii p text start n s h a y = passed_more p text start n (n + 1) (slice_index text n) s (omega arith) (omega arith) (ascii_step text n h a) y
 
 -- ---- from the back
 -- how long the tail is that passes

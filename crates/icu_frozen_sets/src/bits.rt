@@ -1,5 +1,5 @@
 //! A bit for each code point, in two stages, so that each look-up is two loads.
-ghost use Rattle.std.specs.Prelude.{◌≡◌, ℕ, ◌+◌, ◌/◌, ◌<◌, [], length, slice_index, IfOk, OnOk, IsTrue, if◌then◌else◌};
+ghost use Rattle.std.specs.Prelude.{◌≡◌, ℕ, ◌+◌, ◌*◌, ◌/◌, ◌<◌, [], false, length, slice_index, slice_index_or, IfOk, OnOk, IsTrue, if◌then◌else◌};
 ghost use Rattle.icu_frozen_sets.specs.CodePointBits.{has_bit};
 ghost use Rattle.icu_frozen_sets.specs.Inside.Filling.{AddsBlocks, AreTables, block_bit};
 
@@ -12,6 +12,10 @@ pub(crate) const BLOCKS: u32 = CODE_POINT_LIMIT / 256;
 
 /// The words of the block that holds nothing, and of the one that holds everything.
 const TWO_BLOCKS: [u64; 8] = [0, 0, 0, 0, u64::MAX, u64::MAX, u64::MAX, u64::MAX];
+
+/// How many words there is room for at first. Doubled twice, that is enough for the blocks of their
+/// own that letters, marks and unassigned code points have.
+const FIRST_ROOM: usize = 144;
 
 /// The place of the block that holds nothing.
 const EMPTY_BLOCK: u16 = 0;
@@ -62,7 +66,8 @@ impl CodePointBits {
         ensures none { IfOk result (λ b. b.index ≡ []) }
     {
         let index = Vec::with_capacity(alloc, BLOCKS as usize)?;
-        let words = Vec::from_slice(alloc, &TWO_BLOCKS)?;
+        let mut words = Vec::with_capacity(alloc, FIRST_ROOM)?;
+        words.extend_from_slice(&TWO_BLOCKS)?;
         Ok(CodePointBits { index, words })
     }
 
@@ -73,9 +78,37 @@ impl CodePointBits {
         requires there { c / 256 < length self.now.index }
         ensures { result ≡ has_bit self.now c }
     {
-        let first = self.index[(c / 256) as usize];
-        let word = self.words[first as usize + (c / 64 % 4) as usize];
-        (word >> (c % 64)) & 1 == 1
+        self.contains_in(c / 64, c % 64)
+    }
+
+    /// The bit of the code point at `place` among the 64 of a word, which are those from
+    /// `64 * word` on: as its last trail byte and the bytes before it tell them.
+    #[inline(always)]
+    pub(crate) fn contains_in(&self, word: u32, place: u32) -> bool
+        requires tables { AreTables self.now }
+        requires there { word / 4 < length self.now.index }
+        requires within { place < 64 }
+        ensures { result ≡ has_bit self.now (64 * word + place) }
+    {
+        let first = self.index[(word / 4) as usize];
+        let bits = self.words[first as usize + (word % 4) as usize];
+        (bits >> place) & 1 == 1
+    }
+
+    /// The bits of ASCII, whose block is there.
+    pub(crate) fn ascii(&self) -> [bool; 128]
+        requires tables { AreTables self.now }
+        requires there { 0 < length self.now.index }
+        ensures { (c : ℕ) → c < 128 → slice_index_or result c false ≡ has_bit self.now c }
+    {
+        let first = self.index[0] as usize;
+        let (low, high) = (self.words[first], self.words[first + 1]);
+        let mut ascii = [false; 128];
+        for k in 0..64 {
+            ascii[k] = (low >> k) & 1 == 1;
+            ascii[64 + k] = (high >> k) & 1 == 1;
+        }
+        ascii
     }
 
     /// Appends so many blocks that hold everything, or, for `value` false, nothing.

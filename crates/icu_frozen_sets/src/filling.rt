@@ -48,6 +48,20 @@ fn end_of_step(from: u32, value: bool) -> u32
     }
 }
 
+/// Whether all from here up to `end` lies in one word (ones) or in one block (zeros), and something
+/// is left of it.
+#[inline(always)]
+fn is_part(from: u32, end: u32, value: bool) -> bool
+    ensures block { IsTrue result → end / 256 ≡ from / 256 }
+    ensures word { IsTrue result → IsTrue value → end / 64 ≡ from / 64 }
+{
+    if value {
+        end / 64 == from / 64
+    } else {
+        end / 256 == from / 256
+    }
+}
+
 impl Filling {
     /// Nothing is filled in yet.
     ///
@@ -77,7 +91,7 @@ impl Filling {
         ensures fills { Fills self.old.bits self.old.block self.old.reached
             self.new.bits self.new.block next value }
         ensures reached { self.new.reached ≡ next }
-        ensures blocks { length self.new.bits.index * 256 < next }
+        ensures blocks { length self.new.bits.index ≡ length self.old.bits.index }
     {
         if value {
             set_bits(&mut self.block, self.reached, next);
@@ -158,6 +172,10 @@ impl Filling {
         ensures reached { OnOk result (self.new.reached ≡ end) }
         ensures settled { OnOk result (length self.new.bits.index ≡ end / 256) }
     {
+        if self.reached < end && is_part(self.reached, end, value) {
+            self.fill_word(end, value);
+            return Ok(());
+        }
         while self.reached < end {
             self.fill_some(end, value)?;
         }

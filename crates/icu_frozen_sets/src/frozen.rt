@@ -1,13 +1,14 @@
 //! Frozen sets: for many look-ups, a bit for each code point.
 ghost use Rattle.std.specs.Prelude.{◌≡◌, ℕ, ◌+◌, ◌<◌, ◌≤◌, ◌↔◌, false, drop, length, IfOk, IsTrue, nat_eq};
 ghost use Rattle.std.specs.List.{take_while};
-ghost use Rattle.std.specs.Str.{IsCharBoundary, chars, encode_utf8_all};
+ghost use Rattle.std.specs.Str.{IsCharBoundary, IsUtf8, chars, encode_utf8_all};
 ghost use Rattle.std.specs.Cmp.{partial_equiv_from_equiv};
 ghost use Rattle.std.specs.Cmp.Lexicographic.{pointwise, nat_list_eq_equiv};
 ghost use mathlib.Core.Bool.{beq};
 ghost use mathlib.Core.List.{reverse};
 ghost use Rattle.icu_zerovec.specs.CodePoints.{code_point_limit};
 ghost use Rattle.icu_invlist.specs.InversionList.{IsValid, holds};
+ghost use Rattle.icu_frozen_sets.specs.Inside.Characters.{IsAsked};
 ghost use Rattle.icu_frozen_sets.specs.Inside.Filling.{filled};
 
 use crate::bits::CodePointBits;
@@ -20,8 +21,8 @@ use std::marker::Model;
 
 /// A set of code points for many look-ups, each of which takes two loads and no search (ICU: a
 /// frozen UnicodeSet). It keeps the set beside a bit for each code point, in blocks of 256: 9 kB,
-/// and 32 bytes for each block that is neither empty nor full. A clause sees the list of the set's
-/// ends.
+/// and 32 to 64 bytes for each block that is neither empty nor full, 1 kB at least. A clause sees
+/// the list of the set's ends.
 ///
 /// ```
 /// let letters = FrozenCodePointSet::freeze(alloc, &set)?;
@@ -30,6 +31,8 @@ use std::marker::Model;
 #[derive(Debug, Drop)]
 pub struct FrozenCodePointSet {
     set: CodePointInversionList<'static>,
+    /// Whether each byte of ASCII is held: what the bits say, in one load.
+    ascii: [bool; 128],
     bits: CodePointBits,
 }
 
@@ -41,7 +44,7 @@ impl Model for FrozenCodePointSet {
 
     ghost view = { λ a. a.set };
 
-    ghost invariant = { λ a. IsFrozen a.set a.bits };
+    ghost invariant = { λ a. IsFrozen a.set a.ascii a.bits };
 }
 
 /// How a set is frozen.
@@ -63,9 +66,11 @@ impl FrozenCodePointSet {
             filling.fill_to(*range.end() + 1, true)?;
         }
         filling.fill_to(CODE_POINT_LIMIT, false)?;
+        let bits = filling.finish();
         Ok(FrozenCodePointSet {
             set: set.try_clone(alloc)?,
-            bits: filling.finish(),
+            ascii: bits.ascii(),
+            bits,
         })
     }
 
@@ -78,6 +83,7 @@ impl FrozenCodePointSet {
     {
         Ok(FrozenCodePointSet {
             set: self.set.try_clone(alloc)?,
+            ascii: self.ascii,
             bits: self.bits.try_clone(alloc)?,
         })
     }
@@ -113,61 +119,83 @@ impl FrozenCodePointSet {
 
 /// How far a text lies in a frozen set.
 impl FrozenCodePointSet {
-    /// The length of the longest front of the text whose bytes are ASCII and all held, or, for
-    /// `held` false, all not held. ASCII goes by its bytes, so that no character is made of them.
+    /// Whether the character is held that begins at `start`, and where it ends. Its lead and trail
+    /// bytes are the place of its bit, so no `char` is made of them.
     #[inline(always)]
-    fn span_ascii(&self, text: &str, held: bool) -> usize
+    fn ask_character(&self, bytes: &[u8], start: usize) -> (bool, usize)
+        requires utf8 { IsUtf8 (drop start bytes.now) }
+        requires more { start < length bytes.now }
+        ensures { IsAsked self.now bytes.now start result.0 result.1 }
+    {
+        let lead = u32::from(bytes[start]);
+        if lead < 0x80 {
+            return (self.ascii[lead as usize], start + 1);
+        }
+        let second = u32::from(bytes[start + 1]) % 64;
+        if lead < 0xE0 {
+            return (self.bits.contains_in(lead % 32, second), start + 2);
+        }
+        let third = u32::from(bytes[start + 2]) % 64;
+        if lead < 0xF0 {
+            let word = lead % 16 * 64 + second;
+            return (self.bits.contains_in(word, third), start + 3);
+        }
+        let fourth = u32::from(bytes[start + 3]) % 64;
+        let word = lead % 8 * 4096 + second * 64 + third;
+        (self.bits.contains_in(word, fourth), start + 4)
+    }
+
+    /// Where the bytes of ASCII end that follow `start` and are all held, or, for `held` false, all
+    /// not held.
+    #[inline(always)]
+    fn past_ascii(&self, text: &str, start: usize, held: bool) -> usize
+        requires { IsCharBoundary text.now start }
         ensures so_far { result
             + length (encode_utf8_all
             (take_while (λ c. beq (holds self.now c) held) (chars (drop result text.now))))
-            ≡ length (encode_utf8_all
-            (take_while (λ c. beq (holds self.now c) held) (chars text.now))) }
+            ≡ start + length (encode_utf8_all
+            (take_while (λ c. beq (holds self.now c) held) (chars (drop start text.now)))) }
+        ensures order { start ≤ result }
         ensures boundary { IsCharBoundary text.now result }
     {
         let bytes = text.as_bytes();
-        let mut length = 0;
-        while length < bytes.len() {
-            let byte = bytes[length];
+        let mut end = start;
+        while end < bytes.len() {
+            let byte = bytes[end];
             if byte >= 0x80 {
-                return length;
+                return end;
             }
-            if self.contains32(u32::from(byte)) != held {
-                return length;
+            if self.ascii[byte as usize] != held {
+                return end;
             }
-            length += 1;
+            end += 1;
         }
-        length
-    }
-
-    /// The same as `span`, character by character.
-    #[inline(always)]
-    fn span_characters(&self, text: &str, held: bool) -> usize
-        ensures place { result
-            ≡ length (encode_utf8_all
-            (take_while (λ c. beq (holds self.now c) held) (chars text.now))) }
-        ensures boundary { IsCharBoundary text.now result }
-    {
-        let mut length = 0;
-        for c in text.chars() {
-            if self.contains(c) != held {
-                return length;
-            }
-            length += c.len_utf8();
-        }
-        length
+        end
     }
 
     /// The length in bytes of the longest front of the text whose characters are all held, or, for
     /// `held` false, all not held (ICU: `UnicodeSet::spanUTF8`). A character starts there, or the
     /// text ends: so `&text[set.span(text, true)..]` is what follows.
+    #[inline(never)]
     pub fn span(&self, text: &str, held: bool) -> usize
         ensures place { result
             ≡ length (encode_utf8_all
             (take_while (λ c. beq (holds self.now c) held) (chars text.now))) }
         ensures boundary { IsCharBoundary text.now result }
     {
-        let start = self.span_ascii(text, held);
-        start + self.span_characters(&text[start..], held)
+        let bytes = text.as_bytes();
+        let mut passed = 0;
+        loop {
+            let start = self.past_ascii(text, passed, held);
+            if start >= bytes.len() {
+                return start;
+            }
+            let (is_held, end) = self.ask_character(bytes, start);
+            if is_held != held {
+                return start;
+            }
+            passed = end;
+        }
     }
 
     /// The place of the byte from which on all characters of the text are held, or, for `held`

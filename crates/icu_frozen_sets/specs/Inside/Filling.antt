@@ -1,6 +1,6 @@
 -- Tables that are being filled, from the first code point on: whole blocks in the tables, and the
 -- words of the block that is filled now beside them.
-use Rattle.std.specs.Prelude.{ℕ, ◌+◌, ◌-◌, ◌*◌, ◌/◌, ◌%◌, ◌^◌, ◌<◌, ◌≤◌, ◌≡◌, List, length, slice_index, Bool, false, nat_lt, ◌==◌, ◌&&◌, ◌||◌, if◌then◌else◌}
+use Rattle.std.specs.Prelude.{ℕ, ◌+◌, ◌-◌, ◌*◌, ◌/◌, ◌%◌, ◌^◌, ◌<◌, ◌≤◌, ◌≡◌, List, length, slice_index, slice_index_or, Bool, false, nat_lt, ◌==◌, ◌&&◌, ◌||◌, if◌then◌else◌}
 use Rattle.std.specs.Int.{bit_at}
 use Rattle.icu_zerovec.specs.CodePoints.{code_point_limit}
 use Rattle.icu_invlist.specs.InversionList.{IsValid, between, holds}
@@ -48,9 +48,11 @@ pub record Fills (t : BitTables) (block : List ℕ) (reached : ℕ) (new_t : Bit
   pub bits : (c : ℕ) → filled new_t new_block end c
       ≡ (filled t block reached c || (value && between reached end c))
 
--- the tables have a bit for each code point, which says whether the set of these ends holds it
-pub record IsFrozen (ends : List ℕ) (t : BitTables) : Type 0 where
+-- the tables have a bit for each code point, which says whether the set of these ends holds it, and
+-- the bits of ASCII stand beside them
+pub record IsFrozen (ends : List ℕ) (ascii : List Bool) (t : BitTables) : Type 0 where
   pub valid : IsValid ends
   pub tables : AreTables t
   pub blocks : length t.index ≡ 4352
   pub bits : (c : ℕ) → c < code_point_limit → has_bit t c ≡ holds ends c
+  pub first : (c : ℕ) → c < 128 → slice_index_or ascii c false ≡ holds ends c

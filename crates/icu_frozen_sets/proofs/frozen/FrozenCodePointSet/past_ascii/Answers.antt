@@ -1,0 +1,22 @@
+use Rattle.std.proofs.Common.{◌≡◌, ◌∙◌, ℕ, ◌<◌, List, ap, sym, arith, slice_index, slice_index_or, Bool, false}
+use Rattle.std.proofs.lemmas.Bool.{not-false}
+use Rattle.std.proofs.lemmas.Bool.Decides.{nat_tests}
+use Rattle.icu_invlist.specs.InversionList.{holds}
+use Rattle.icu_frozen_sets.proofs.SpanLemmas.{passed_none, passed_ascii, passed_boundary}
+use Rattle.icu_frozen_sets.proofs.frozen.FrozenCodePointSet.past_ascii.Goals as goal
+use mathlib.Core.Bool.{beq}
+
+pub loop-end-init : goal.loop-end-init
+loop-end-init c = passed_none _ c.args.text.now c.args.start c.utf8.text c.requires
+
+pub returns-then-byte-ge128-clause-boundary : goal.returns-then-byte-ge128-clause-boundary
+returns-then-byte-ge128-clause-boundary c = passed_boundary _ c.args.text.now c.args.start c.loop-end.end c.loop-end.invariant
+
+pub loop-end-preserved : goal.loop-end-preserved
+loop-end-preserved c =
+    let byte = slice_index c.args.text.now c.loop-end.end in
+    let low : byte < 128 = grind (arith, nat_tests, c.if-byte-ge128.false) in
+    let read : byte ≡ slice_index c.as_bytes-bytes.result.now c.loop-end.end = ap (λ (bs : List ℕ). slice_index bs c.loop-end.end) (sym c.as_bytes-bytes.ensures.value) in
+    let told : holds c.args.self.now byte ≡ slice_index_or c.self.inside.ascii byte false = rw (← c.self.view_is) (sym (c.self.invariant.first byte low)) in
+    passed_ascii (λ k. beq (holds c.args.self.now k) c.args.held) c.args.text.now c.args.start c.loop-end.end c.loop-end.invariant (omega (arith, c.loop-end-test.true)) low
+    (ap (λ (b : Bool). beq b c.args.held) (told ∙ ap (λ (n : ℕ). slice_index_or c.self.inside.ascii n false) read) ∙ not-false _ c.if-self-byte.false)

@@ -1,7 +1,0 @@
-use mathlib.Core.Bool.{beq}
-use Rattle.icu_invlist.specs.InversionList.{holds}
-use Rattle.icu_frozen_sets.proofs.SpanLemmas.{Spanned}
-use Rattle.icu_frozen_sets.proofs.frozen.FrozenCodePointSet.span_characters.Given as goal
-
-abbrev pub invariant-loop-c : goal.invariant-loop-c
-invariant-loop-c l = Spanned (λ c. beq (holds l.self c) l.held) l.text l.c-iterator.rest.now l.length
