@@ -131,7 +131,8 @@ module _ (t : BitTables) (a : AreTables t) (some : 0 < length t.index) (first : 
   placed_first = f ∙ get_or_default t.index 0 first 0 some
 
   -- the bit k of the word, which is one of these two
-  pub ascii_bit : (word at part k : ℕ) → part < 2 → at ≡ first + part → word ≡ get_or t.words at word → k < 64 → nat_eq (bit_and (word / 2 ^ k) 1) 1 ≡ has_bit t (64 * part + k)
+  pub ascii_bit : (word at part k : ℕ) → part < 2 → at ≡ first + part → word ≡ get_or t.words at word → k < 64
+      → nat_eq (bit_and (word / 2 ^ k) 1) 1 ≡ has_bit t (64 * part + k)
   ascii_bit word at part k two q w h =
       let c = 64 * part + k in
       let p = a.placed 0 some in
@@ -140,11 +141,14 @@ module _ (t : BitTables) (a : AreTables t) (some : 0 < length t.index) (first : 
       let same : word ≡ get_or t.words (get_or t.index (c / 256) 0 + c / 64 % 4) 0 =
       w ∙ (get_or_default t.words at word 0 (omega (arith, p, placed_first, q)) ∙ ap (λ (n : ℕ). get_or t.words n 0) place) in
       let bit : k ≡ c % 64 = omega arith in
-      bit_tested word k ∙ (ap (λ (n : ℕ). nat_eq (bit_at n k) 1) same ∙ ap (λ (j : ℕ). nat_eq (bit_at (get_or t.words (get_or t.index (c / 256) 0 + c / 64 % 4) 0) j) 1) bit)
+      bit_tested word k ∙ (ap (λ (n : ℕ). nat_eq (bit_at n k) 1) same
+      ∙ ap (λ (j : ℕ). nat_eq (bit_at (get_or t.words (get_or t.index (c / 256) 0 + c / 64 % 4) 0) j) 1) bit)
 
 -- two entries are written
-pub ascii_more : (ascii : List Bool) (bit : ℕ → Bool) (k : ℕ) (low high : Bool) → length ascii ≡ 128 → k < 64 → low ≡ bit k → high ≡ bit (64 + k)
-    → ((c : ℕ) → c < 128 → c % 64 < k → get_or ascii c false ≡ bit c) → (c : ℕ) → c < 128 → c % 64 < k + 1 → get_or (set (set ascii k low) (64 + k) high) c false ≡ bit c
+pub ascii_more : (ascii : List Bool) (bit : ℕ → Bool) (k : ℕ) (low high : Bool) → length ascii ≡ 128 → k < 64 → low ≡ bit k
+    → high ≡ bit (64 + k)
+    → ((c : ℕ) → c < 128 → c % 64 < k → get_or ascii c false ≡ bit c) → (c : ℕ) → c < 128 → c % 64 < k + 1
+    → get_or (set (set ascii k low) (64 + k) high) c false ≡ bit c
 ascii_more ascii bit k low high n h l e same c d m = elim (cases_eq c (64 + k)) [
   | inl q ↦ get_or-set_at (set ascii k low) (64 + k) c high false q (omega (arith, length-set ascii k low, n)) ∙ (e ∙ ap bit (sym q))
   | inr q ↦ get_or-set_other (set ascii k low) (64 + k) c high false q ∙ elim (cases_eq c k) [

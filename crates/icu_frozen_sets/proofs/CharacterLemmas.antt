@@ -36,8 +36,10 @@ encode_four c l = rw (le-ltb c 128 (omega arith), le-ltb c 2048 (omega arith), l
 data Shape (c : ℕ) : Type 0 where
   of_one : c < 128 → encode_utf8 c ≡ c ∷ [] → Shape c
   of_two : (a b : ℕ) → 192 ≤ a → a < 224 → 128 ≤ b → b < 192 → c + 12416 ≡ a * 64 + b → encode_utf8 c ≡ a ∷ b ∷ [] → Shape c
-  of_three : (a b d : ℕ) → 224 ≤ a → a < 240 → 128 ≤ b → b < 192 → 128 ≤ d → d < 192 → c + 925824 ≡ a * 4096 + b * 64 + d → encode_utf8 c ≡ a ∷ b ∷ d ∷ [] → Shape c
-  of_four : (a b d e : ℕ) → 240 ≤ a → a < 248 → 128 ≤ b → b < 192 → 128 ≤ d → d < 192 → 128 ≤ e → e < 192 → c + 63447168 ≡ a * 262144 + b * 4096 + d * 64 + e
+  of_three : (a b d : ℕ) → 224 ≤ a → a < 240 → 128 ≤ b → b < 192 → 128 ≤ d → d < 192 → c + 925824 ≡ a * 4096 + b * 64 + d
+      → encode_utf8 c ≡ a ∷ b ∷ d ∷ [] → Shape c
+  of_four : (a b d e : ℕ) → 240 ≤ a → a < 248 → 128 ≤ b → b < 192 → 128 ≤ d → d < 192 → 128 ≤ e → e < 192
+      → c + 63447168 ≡ a * 262144 + b * 4096 + d * 64 + e
       → encode_utf8 c ≡ a ∷ b ∷ d ∷ e ∷ [] → Shape c
 
 shape : (c : ℕ) → c < code_point_limit → Shape c
@@ -46,9 +48,11 @@ shape c top = elim (cases_lt c 128) [
   | inr l ↦ elim (cases_lt c 2048) [
     | inl h ↦ of_two (192 + c / 64) (128 + c % 64) (omega arith) (omega arith) (omega arith) (omega arith) (omega arith) (encode_two c l h)
     | inr m ↦ elim (cases_lt c 65536) [
-      | inl h ↦ of_three (224 + c / 4096) (128 + c / 64 % 64) (128 + c % 64) (omega arith) (omega arith) (omega arith) (omega arith) (omega arith) (omega arith) (omega arith)
+      | inl h ↦ of_three (224 + c / 4096) (128 + c / 64 % 64) (128 + c % 64) (omega arith) (omega arith) (omega arith) (omega arith)
+          (omega arith) (omega arith) (omega arith)
           (encode_three c m h)
-      | inr k ↦ of_four (240 + c / 262144) (128 + c / 4096 % 64) (128 + c / 64 % 64) (128 + c % 64) (omega arith) (omega arith) (omega arith) (omega arith) (omega arith) (omega arith)
+      | inr k ↦ of_four (240 + c / 262144) (128 + c / 4096 % 64) (128 + c / 64 % 64) (128 + c % 64) (omega arith) (omega arith)
+          (omega arith) (omega arith) (omega arith) (omega arith)
           (omega arith) (omega arith) (omega arith) (encode_four c k)
     ]
   ]
@@ -69,7 +73,8 @@ first_of : (bs cs : List ℕ) → all_scalars cs ≡ true → encode_utf8_all cs
 first_of bs [] s e h = absurd (omega (arith, ap (λ (xs : List ℕ). length xs) e))
 first_of bs (c ∷ cs) s e h = record { c = c; rest = encode_utf8_all cs; scalar = both _ _ s; split = sym e }
 
-module _ (ends text : List ℕ) (ascii : List Bool) (t : BitTables) (f : IsFrozen ends ascii t) (start : ℕ) (u : IsUtf8 (drop start text)) (more : start < length text) where
+module _ (ends text : List ℕ) (ascii : List Bool) (t : BitTables) (f : IsFrozen ends ascii t) (start : ℕ) (u : IsUtf8
+    (drop start text)) (more : start < length text) where
   head : First (drop start text)
   head = first_of (drop start text) u.0 u.1.0 u.1.1 (omega (arith, length-drop start text))
 
@@ -77,7 +82,8 @@ module _ (ends text : List ℕ) (ascii : List Bool) (t : BitTables) (f : IsFroze
   formed = shape head.c (below_limit head.c head.scalar)
 
   seen : (k : ℕ) (bytes : List ℕ) → encode_utf8 head.c ≡ bytes → get_or text (start + k) 0 ≡ get_or (bytes ++ head.rest) k 0
-  seen k bytes e = sym (get_or-drop start text k 0) ∙ ap (λ (bs : List ℕ). get_or bs k 0) (head.split ∙ ap (λ (bs : List ℕ). bs ++ head.rest) e)
+  seen k bytes e = sym (get_or-drop start text k 0) ∙ ap (λ (bs : List ℕ). get_or bs k 0) (head.split
+      ∙ ap (λ (bs : List ℕ). bs ++ head.rest) e)
 
   lead : (bytes : List ℕ) → encode_utf8 head.c ≡ bytes → get_or text start 0 ≡ get_or (bytes ++ head.rest) 0 0
   lead bytes e = ap (λ (n : ℕ). get_or text n 0) (omega arith) ∙ seen 0 bytes e
@@ -87,7 +93,8 @@ module _ (ends text : List ℕ) (ascii : List Bool) (t : BitTables) (f : IsFroze
       let g = ap (λ (bs : List ℕ). length bs) head.split ∙ length-append (encode_utf8 head.c) head.rest in
       omega (arith, g, length-drop start text)
 
-  asked : (size : ℕ) (held : Bool) → length (encode_utf8 head.c) ≡ size → held ≡ holds ends head.c → IsAsked ends text start held (start + size)
+  asked : (size : ℕ) (held : Bool) → length (encode_utf8 head.c) ≡ size → held ≡ holds ends head.c
+      → IsAsked ends text start held (start + size)
   asked size held e told =
       let left : drop (start + size) text ≡ head.rest =
       ap (λ (n : ℕ). drop (start + n) text) (sym e ∙ length-encode head.c) ∙ drop_past_char text head.rest start head.c head.split in
@@ -145,11 +152,13 @@ module _ (ends text : List ℕ) (ascii : List Bool) (t : BitTables) (f : IsFroze
     two_bytes = by_two formed
 
   module _ (held : Bool) (l0 : 224 ≤ get_or text start 0) (h0 : get_or text start 0 < 240)
-      (told : held ≡ has_bit t (64 * (get_or text start 0 % 16 * 64 + get_or text (start + 1) 0 % 64) + get_or text (start + 2) 0 % 64)) where
+      (told : held ≡ has_bit t (64 * (get_or text start 0 % 16 * 64 + get_or text (start + 1) 0 % 64) + get_or text
+      (start + 2) 0 % 64)) where
     by_three : Shape head.c → IsAsked ends text start held (start + 3)
     by_three (of_one l e) = absurd (omega (arith, lead _ e))
     by_three (of_two a b l m f1 f2 s e) = absurd (omega (arith, lead _ e))
-    by_three (of_three a b d l m f1 f2 g1 g2 s e) = asked 3 held (long _ e) (told_by _ held told (omega (arith, lead _ e, seen 1 _ e, seen 2 _ e)))
+    by_three (of_three a b d l m f1 f2 g1 g2 s e) = asked 3 held (long _ e) (told_by _ held told (omega
+        (arith, lead _ e, seen 1 _ e, seen 2 _ e)))
     by_three (of_four a b d x l m f1 f2 g1 g2 k1 k2 s e) = absurd (omega (arith, lead _ e))
 
     pub three_bytes : IsAsked ends text start held (start + 3)
@@ -175,5 +184,6 @@ module _ (ends text : List ℕ) (ascii : List Bool) (t : BitTables) (f : IsFroze
     pub four_within : word / 4 < length t.index
     four_within = let p = place_of formed in let h = below_limit head.c head.scalar in let b = f.blocks in omega (arith, p, h, b)
 
-    pub four_bytes : (held : Bool) → held ≡ has_bit t (64 * word + get_or text (start + 3) 0 % 64) → IsAsked ends text start held (start + 4)
+    pub four_bytes : (held : Bool) → held ≡ has_bit t (64 * word + get_or text (start + 3) 0 % 64)
+        → IsAsked ends text start held (start + 4)
     four_bytes held told = asked 4 held (by_four formed) (told_by _ held told (place_of formed))

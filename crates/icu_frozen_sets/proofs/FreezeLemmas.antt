@@ -94,12 +94,16 @@ freezes_range ends left rest r step t block reached f t1 block1 start mid t2 blo
     let b2 : Fills t1 block1 r.start t2 block2 end true = rw (← e1, ← e2) b in
     rw e4 (freezes_more ends left rest r step t block reached f t1 block1 t2 block2 end e3 a2 b2 settled)
 
-module _ (ends : List ℕ) (left : List (RangeInclusive ℕ)) (t : BitTables) (block : List ℕ) (reached : ℕ) (new : BitTables) (new_block : List ℕ) (end : ℕ)
-    (f : Freezes ends left t block reached) (none : left ≡ []) (a : Fills t block reached new new_block end false) (e : end ≡ code_point_limit)
+module _ (ends : List ℕ) (left : List (RangeInclusive ℕ)) (t : BitTables) (block : List ℕ) (reached : ℕ) (new : BitTables)
+    (new_block : List ℕ) (end : ℕ)
+    (f : Freezes ends left t block reached) (none : left ≡ []) (a : Fills t block reached new new_block end false)
+    (e : end ≡ code_point_limit)
     (settled : length new.index ≡ end / 256) where
   all_bits : (c : ℕ) → c < code_point_limit → has_bit new c ≡ holds ends c
   all_bits c h = sym (filled_table new new_block end c (omega arith) (omega arith))
-      ∙ (a.bits c ∙ (or_false (filled t block reached c) ∙ sym (f.held c ∙ (ap (λ (rs : List (RangeInclusive ℕ)). filled t block reached c || in_ranges rs c) none ∙ or_false (filled t block reached c)))))
+      ∙ (a.bits c ∙ (or_false (filled t block reached c) ∙ sym (f.held c
+      ∙ (ap (λ (rs : List (RangeInclusive ℕ)). filled t block reached c || in_ranges rs c) none
+      ∙ or_false (filled t block reached c)))))
 
   pub frozen_all : IsValid ends → (ascii : List Bool) → ((c : ℕ) → c < 128 → get_or ascii c false ≡ has_bit new c) → IsFrozen ends ascii new
   frozen_all v ascii same = record {

@@ -23,19 +23,23 @@ pub record Passed (p : ℕ → Bool) (text : List ℕ) (start end : ℕ) : Type 
 pub passed_none : (p : ℕ → Bool) (text : List ℕ) (start : ℕ) → IsUtf8 text → IsCharBoundary text start → Passed p text start start
 passed_none p text start u b = record { utf8 = IsUtf8-drop text start u b; order = omega arith; within = b.0; so_far = refl }
 
-module _ (p : ℕ → Bool) (text : List ℕ) (start end next c : ℕ) (s : Passed p text start end) (order : end < next) (within : next ≤ length text)
+module _ (p : ℕ → Bool) (text : List ℕ) (start end next c : ℕ) (s : Passed p text start end) (order : end < next)
+    (within : next ≤ length text)
     (step : drop end text ≡ encode_utf8 c ++ drop next text) where
   characters : chars (drop end text) ≡ c ∷ chars (drop next text)
   characters = chars_past_char (drop end text) (drop next text) c s.utf8 step
 
   size : end + length (encode_utf8 c) ≡ next
-  size = let g = ap (λ (bs : List ℕ). length bs) step ∙ length-append (encode_utf8 c) (drop next text) in omega (arith, g, length-drop end text, length-drop next text, s.within)
+  size = let g = ap (λ (bs : List ℕ). length bs) step
+      ∙ length-append (encode_utf8 c) (drop next text) in omega (arith, g, length-drop end text, length-drop next text, s.within)
 
   pub passed_more : p c ≡ true → Passed p text start next
   passed_more y =
-      let e : take_while p (chars (drop end text)) ≡ c ∷ take_while p (chars (drop next text)) = rw characters (take_while-cons p c (chars (drop next text)) ∙ cond-true _ _ _ y) in
+      let e : take_while p (chars (drop end text)) ≡ c ∷ take_while p (chars (drop next text)) = rw characters (take_while-cons p c
+      (chars (drop next text)) ∙ cond-true _ _ _ y) in
       let f : front p (drop end text) ≡ length (encode_utf8 c) + front p (drop next text) =
-      ap (λ (cs : List ℕ). length (encode_utf8_all cs)) e ∙ length-append (encode_utf8 c) (encode_utf8_all (take_while p (chars (drop next text)))) in
+      ap (λ (cs : List ℕ). length (encode_utf8_all cs)) e
+      ∙ length-append (encode_utf8 c) (encode_utf8_all (take_while p (chars (drop next text)))) in
       record {
         utf8 = IsUtf8-past_char (drop end text) (drop next text) c s.utf8 step;
         order = omega (arith, s.order);
@@ -45,10 +49,12 @@ module _ (p : ℕ → Bool) (text : List ℕ) (start end next c : ℕ) (s : Pass
 
   pub passed_stops : p c ≡ false → end ≡ start + front p (drop start text)
   passed_stops y =
-      let e : take_while p (chars (drop end text)) ≡ [] = rw characters (take_while-cons p c (chars (drop next text)) ∙ cond-false _ _ _ y) in
+      let e : take_while p (chars (drop end text)) ≡ [] = rw characters (take_while-cons p c (chars (drop next text))
+      ∙ cond-false _ _ _ y) in
       let f : front p (drop end text) ≡ 0 = ap (λ (cs : List ℕ). length (encode_utf8_all cs)) e in omega (arith, f, s.so_far)
 
-pub passed_ends : (p : ℕ → Bool) (text : List ℕ) (start end : ℕ) → Passed p text start end → length text ≤ end → end ≡ start + front p (drop start text)
+pub passed_ends : (p : ℕ → Bool) (text : List ℕ) (start end : ℕ) → Passed p text start end → length text ≤ end
+    → end ≡ start + front p (drop start text)
 passed_ends p text start end s e =
     let r : drop end text ≡ [] = nil_from_length (drop end text) (omega (arith, length-drop end text)) in
     let k : [] ≡ chars [] = chars_from_encodes [] [] IsUtf8-nil refl in
@@ -60,7 +66,8 @@ pub passed_boundary : (p : ℕ → Bool) (text : List ℕ) (start end : ℕ) →
 passed_boundary p text start end s = IsCharBoundary-from_drop text end s.within s.utf8
 
 -- one walk after another
-pub passed_both : (p : ℕ → Bool) (text : List ℕ) (start mid end : ℕ) → IsUtf8 text → Passed p text start mid → mid ≤ end → IsCharBoundary text end
+pub passed_both : (p : ℕ → Bool) (text : List ℕ) (start mid end : ℕ) → IsUtf8 text → Passed p text start mid → mid ≤ end
+    → IsCharBoundary text end
     → end + front p (drop end text) ≡ mid + front p (drop mid text) → Passed p text start end
 passed_both p text start mid end u s order b e = record {
   utf8 = IsUtf8-drop text end u b;
@@ -74,8 +81,10 @@ passed_both p text start mid end u s order b e = record {
 ascii_step : (text : List ℕ) (n : ℕ) → n < length text → slice_index text n < 128 → drop n text ≡ encode_utf8 (slice_index text n) ++ drop (n + 1) text
 ascii_step text n h a = drop_more text n 0 h ∙ ap (λ (bs : List ℕ). bs ++ drop (n + 1) text) (sym (encode_ascii (slice_index text n) a))
 
-pub passed_ascii : (p : ℕ → Bool) (text : List ℕ) (start n : ℕ) → Passed p text start n → n < length text → slice_index text n < 128 → p (slice_index text n) ≡ true → Passed p text start (n + 1)
-passed_ascii p text start n s h a y = passed_more p text start n (n + 1) (slice_index text n) s (omega arith) (omega arith) (ascii_step text n h a) y
+pub passed_ascii : (p : ℕ → Bool) (text : List ℕ) (start n : ℕ) → Passed p text start n → n < length text → slice_index text n < 128
+    → p (slice_index text n) ≡ true → Passed p text start (n + 1)
+passed_ascii p text start n s h a y = passed_more p text start n (n + 1) (slice_index text n) s (omega arith) (omega arith)
+    (ascii_step text n h a) y
 
 -- ---- from the back
 -- how long the tail is that passes

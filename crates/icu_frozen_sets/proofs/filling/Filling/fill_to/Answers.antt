@@ -8,7 +8,8 @@ loop-self-preserved c =
     let l = c.loop-self.self in
     let n = c.fill_some.new.self in
     record {
-      fills = fills_more a.bits a.block a.reached l.bits l.block l.reached n.bits n.block n.reached c.args.value c.loop-self.invariant.order (omega (arith, c.in_ok-fill_some.ensures.more))
+      fills = fills_more a.bits a.block a.reached l.bits l.block l.reached n.bits n.block n.reached c.args.value
+          c.loop-self.invariant.order (omega (arith, c.in_ok-fill_some.ensures.more))
           c.loop-self.invariant.fills c.in_ok-fill_some.ensures.fills;
       order = omega (arith, c.loop-self.invariant.order, c.in_ok-fill_some.ensures.more);
       within = c.in_ok-fill_some.ensures.to;

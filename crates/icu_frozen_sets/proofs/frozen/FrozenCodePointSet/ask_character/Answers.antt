@@ -3,22 +3,45 @@ use Rattle.icu_frozen_sets.proofs.CharacterLemmas.{second_there, third_there, fo
 use Rattle.icu_frozen_sets.proofs.frozen.FrozenCodePointSet.ask_character.Goals as goal
 
 pub bounds-bytes-start-2 : goal.bounds-bytes-start-2
-bounds-bytes-start-2 c = second_there c.self.inside.set c.args.bytes.now c.self.inside.ascii c.self.inside.bits c.self.invariant c.args.start c.requires.utf8 c.requires.more (omega arith)
+bounds-bytes-start-2 c =
+    let s = c.self.inside in
+    second_there s.set c.args.bytes.now s.ascii s.bits c.self.invariant c.args.start c.requires.utf8 c.requires.more (omega arith)
 
 pub returns-then-lead-lt224 : goal.returns-then-lead-lt224
-returns-then-lead-lt224 c = rw (← c.self.view_is) (two_bytes c.self.inside.set c.args.bytes.now c.self.inside.ascii c.self.inside.bits c.self.invariant c.args.start c.requires.utf8 c.requires.more _ (omega arith) (omega arith) (rw (c.from-lead.ensures, c.from-second.ensures) at c.contains_in.ensures))
+returns-then-lead-lt224 c =
+    let s = c.self.inside in
+    rw (← c.self.view_is)
+    (two_bytes s.set c.args.bytes.now s.ascii s.bits c.self.invariant c.args.start c.requires.utf8 c.requires.more _ (omega arith)
+    (omega arith) (rw (c.from-lead.ensures, c.from-second.ensures) at c.contains_in.ensures))
 
 pub bounds-bytes-start-3 : goal.bounds-bytes-start-3
-bounds-bytes-start-3 c = third_there c.self.inside.set c.args.bytes.now c.self.inside.ascii c.self.inside.bits c.self.invariant c.args.start c.requires.utf8 c.requires.more (omega arith)
+bounds-bytes-start-3 c =
+    let s = c.self.inside in
+    third_there s.set c.args.bytes.now s.ascii s.bits c.self.invariant c.args.start c.requires.utf8 c.requires.more (omega arith)
 
 pub returns-then-lead-lt240 : goal.returns-then-lead-lt240
-returns-then-lead-lt240 c = rw (← c.self.view_is) (three_bytes c.self.inside.set c.args.bytes.now c.self.inside.ascii c.self.inside.bits c.self.invariant c.args.start c.requires.utf8 c.requires.more _ (omega arith) (omega arith) (rw (c.from-lead.ensures, c.from-second.ensures, c.from-third.ensures) at c.contains_in-then-lead-lt240.ensures))
+returns-then-lead-lt240 c =
+    let s = c.self.inside in
+    rw (← c.self.view_is)
+    (three_bytes s.set c.args.bytes.now s.ascii s.bits c.self.invariant c.args.start c.requires.utf8 c.requires.more _
+    (omega arith) (omega arith) (rw
+    (c.from-lead.ensures, c.from-second.ensures, c.from-third.ensures) at c.contains_in-then-lead-lt240.ensures))
 
 pub bounds-bytes-start-4 : goal.bounds-bytes-start-4
-bounds-bytes-start-4 c = fourth_there c.self.inside.set c.args.bytes.now c.self.inside.ascii c.self.inside.bits c.self.invariant c.args.start c.requires.utf8 c.requires.more (omega arith)
+bounds-bytes-start-4 c =
+    let s = c.self.inside in
+    fourth_there s.set c.args.bytes.now s.ascii s.bits c.self.invariant c.args.start c.requires.utf8 c.requires.more (omega arith)
 
 pub contains_in-requires-2-clause-there : goal.contains_in-requires-2-clause-there
-contains_in-requires-2-clause-there c = rw (c.from-lead.ensures, c.from-second.ensures, c.from-third.ensures) (four_within c.self.inside.set c.args.bytes.now c.self.inside.ascii c.self.inside.bits c.self.invariant c.args.start c.requires.utf8 c.requires.more (omega arith))
+contains_in-requires-2-clause-there c =
+    let s = c.self.inside in
+    rw (c.from-lead.ensures, c.from-second.ensures, c.from-third.ensures)
+    (four_within s.set c.args.bytes.now s.ascii s.bits c.self.invariant c.args.start c.requires.utf8 c.requires.more (omega arith))
 
 pub returns : goal.returns
-returns c = rw (← c.self.view_is) (four_bytes c.self.inside.set c.args.bytes.now c.self.inside.ascii c.self.inside.bits c.self.invariant c.args.start c.requires.utf8 c.requires.more (omega arith) _ (rw (c.from-lead.ensures, c.from-second.ensures, c.from-third.ensures, c.from-fourth.ensures) at c.contains_in-2.ensures))
+returns c =
+    let s = c.self.inside in
+    rw (← c.self.view_is)
+    (four_bytes s.set c.args.bytes.now s.ascii s.bits c.self.invariant c.args.start c.requires.utf8 c.requires.more
+    (omega arith) _ (rw
+    (c.from-lead.ensures, c.from-second.ensures, c.from-third.ensures, c.from-fourth.ensures) at c.contains_in-2.ensures))

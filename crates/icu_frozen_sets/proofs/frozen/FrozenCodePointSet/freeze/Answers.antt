@@ -23,6 +23,8 @@ pub invariant_of-result : goal.invariant_of-result
 invariant_of-result c =
     let f = c.loop-range.filling in
     let b = c.fill_to-2.new.self in
-    rw (c.in_ok-try_clone.ensures.ok) (frozen_all c.args.set.now (ranges_of c.loop-range.range-iterator) f.bits f.block f.reached c.finish-bits.result b.block 0x110000
-    c.loop-range.invariant c.in-None.ensures.steps.0 (rw c.finish-bits.ensures c.in_ok-fill_to-3.ensures.fills) refl (rw c.finish-bits.ensures c.in_ok-fill_to-3.ensures.settled)
+    rw (c.in_ok-try_clone.ensures.ok) (frozen_all c.args.set.now
+    (ranges_of c.loop-range.range-iterator) f.bits f.block f.reached c.finish-bits.result b.block 0x110000
+    c.loop-range.invariant c.in-None.ensures.steps.0 (rw c.finish-bits.ensures c.in_ok-fill_to-3.ensures.fills) refl
+    (rw c.finish-bits.ensures c.in_ok-fill_to-3.ensures.settled)
     c.iter_ranges-range-items.ensures.valid c.ascii.result c.ascii.ensures)

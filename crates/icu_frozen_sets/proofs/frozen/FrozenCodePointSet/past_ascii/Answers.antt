@@ -16,7 +16,11 @@ pub loop-end-preserved : goal.loop-end-preserved
 loop-end-preserved c =
     let byte = slice_index c.args.text.now c.loop-end.end in
     let low : byte < 128 = grind (arith, nat_tests, c.if-byte-ge128.false) in
-    let read : byte ≡ slice_index c.as_bytes-bytes.result.now c.loop-end.end = ap (λ (bs : List ℕ). slice_index bs c.loop-end.end) (sym c.as_bytes-bytes.ensures.value) in
-    let told : holds c.args.self.now byte ≡ slice_index_or c.self.inside.ascii byte false = rw (← c.self.view_is) (sym (c.self.invariant.first byte low)) in
-    passed_ascii (λ k. beq (holds c.args.self.now k) c.args.held) c.args.text.now c.args.start c.loop-end.end c.loop-end.invariant (omega (arith, c.loop-end-test.true)) low
-    (ap (λ (b : Bool). beq b c.args.held) (told ∙ ap (λ (n : ℕ). slice_index_or c.self.inside.ascii n false) read) ∙ not-false _ c.if-self-byte.false)
+    let read : byte ≡ slice_index c.as_bytes-bytes.result.now c.loop-end.end = ap (λ (bs : List ℕ). slice_index bs c.loop-end.end)
+    (sym c.as_bytes-bytes.ensures.value) in
+    let told : holds c.args.self.now byte ≡ slice_index_or c.self.inside.ascii byte false = rw (← c.self.view_is) (sym
+    (c.self.invariant.first byte low)) in
+    let p : ℕ → Bool = λ k. beq (holds c.args.self.now k) c.args.held in
+    passed_ascii p c.args.text.now c.args.start c.loop-end.end c.loop-end.invariant (omega (arith, c.loop-end-test.true)) low
+    (ap (λ (b : Bool). beq b c.args.held) (told ∙ ap (λ (n : ℕ). slice_index_or c.self.inside.ascii n false) read)
+    ∙ not-false _ c.if-self-byte.false)
