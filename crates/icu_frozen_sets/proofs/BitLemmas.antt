@@ -3,7 +3,7 @@ use Rattle.std.proofs.Common.{◌≡◌, ◌∙◌, ℕ, ◌+◌, ◌-◌, ◌*�
 use Rattle.std.specs.Int.{bit_at}
 use Rattle.std.specs.Int.RustNames.{bit_or}
 use lib.Bits.{bit_and}
-use Rattle.std.specs.Prelude.{nat_eq, nat_lt, nat_le, ◌&&◌, ◌||◌, ◌⊎◌}
+use Rattle.std.specs.Prelude.{nat_eq, ◌||◌}
 use Rattle.std.proofs.lemmas.Bool.{cases_eq, cases_lt, eq-eqb, lt-ltb, le-ltb, le-leb, lt-leb, and_from, and_left, and_right}
 use Rattle.std.proofs.lemmas.List.{get_or-set_same, get_or-set_other}
 use Rattle.std.proofs.lemmas.Nat.Bits.{shr_and_one, bit_at-lt, bit_at_and, bit_at_or, bit_at_ones, bit_at_ones_above, bit_at_mask_inside, bit_at_mask_below, ones_shl, ones_shr}
@@ -27,6 +27,19 @@ between_before start end c h = and_left _ _ (lt-leb start c h)
 
 pub between_after : (start end c : ℕ) → end ≤ c → between start end c ≡ false
 between_after start end c h = and_right _ _ (le-ltb c end h)
+
+pub between_low : (r m e c : ℕ) → c < m → m ≤ e → between r m c ≡ between r e c
+between_low r m e c l h = rw (lt-ltb c m l, lt-ltb c e (omega arith)) refl
+
+pub between_high : (r m e c : ℕ) → m ≤ c → r ≤ m → between m e c ≡ between r e c
+between_high r m e c l h = rw (le-leb m c l, le-leb r c (omega arith)) refl
+
+-- one range directly behind another
+pub or_joined : (b : Bool) (a m e c : ℕ) → a ≤ m → m ≤ e → ((b || between a m c) || between m e c) ≡ (b || between a e c)
+or_joined b a m e c l h = elim (cases_lt c m) [
+  | inl k ↦ rw (between_before m e c k) (or_false _ ∙ ap (λ (x : Bool). b || x) (between_low a m e c k h))
+  | inr k ↦ rw (between_after a m c k, or_false b) (ap (λ (x : Bool). b || x) (between_high a m e c k l))
+]
 
 -- ---- a word
 pub bit_tested : (word k : ℕ) → nat_eq (bit_and (word / 2 ^ k) 1) 1 ≡ nat_eq (bit_at word k) 1

@@ -1,14 +1,13 @@
 -- What is filled in, step by step.
-use Rattle.std.proofs.Common.{◌≡◌, ◌∙◌, ℕ, ◌+◌, ◌-◌, ◌*◌, ◌/◌, ◌%◌, ◌<◌, ◌≤◌, List, [], ◌∷◌, length, get_or, refl, ap, sym, arith, zero, suc, Bool, true, false, cond, inl, inr}
-use Rattle.std.specs.Int.{bit_at}
-use Rattle.std.specs.Prelude.{nat_eq, nat_lt, nat_le, ◌&&◌, ◌||◌}
-use Rattle.std.proofs.lemmas.Bool.{cases_lt, lt-ltb, le-ltb, le-leb}
+use Rattle.std.proofs.Common.{◌≡◌, ◌∙◌, ℕ, ◌+◌, ◌*◌, ◌/◌, ◌%◌, ◌<◌, ◌≤◌, List, [], ◌∷◌, length, get_or, refl, ap, sym, arith, zero, suc, Bool, true, false, inl, inr}
+use Rattle.std.specs.Prelude.{◌&&◌, ◌||◌}
+use Rattle.std.proofs.lemmas.Bool.{cases_lt, lt-ltb, le-ltb}
 use Rattle.std.proofs.lemmas.Nat.Bits.{bit_at-zero}
 use Rattle.icu_zerovec.specs.CodePoints.{code_point_limit}
 use Rattle.icu_invlist.specs.InversionList.{between}
 use Rattle.icu_frozen_sets.specs.CodePointBits.{BitTables, has_bit}
 use Rattle.icu_frozen_sets.specs.Inside.Filling.{AreTables, AddsBlocks, Fills, IsFilling, block_bit, filled}
-use Rattle.icu_frozen_sets.proofs.BitLemmas.{between_in, between_before, between_after, or_false, or_true}
+use Rattle.icu_frozen_sets.proofs.BitLemmas.{between_in, between_before, between_after, between_low, between_high, or_false}
 
 -- ---- tests
 and_no : (b v : Bool) → b ≡ false → (v && b) ≡ false
@@ -173,12 +172,6 @@ fills_none t block reached value f = record {
   filling = f;
   bits = λ c. sym (nothing_more t block reached value c);
 }
-
-between_low : (r m e c : ℕ) → c < m → m ≤ e → between r m c ≡ between r e c
-between_low r m e c l h = rw (lt-ltb c m l, lt-ltb c e (omega arith)) refl
-
-between_high : (r m e c : ℕ) → m ≤ c → r ≤ m → between m e c ≡ between r e c
-between_high r m e c l h = rw (le-leb m c l, le-leb r c (omega arith)) refl
 
 or_no : (b x : Bool) → x ≡ false → (b || x) ≡ b
 or_no true x e = refl

@@ -32,34 +32,21 @@ fn set_bits(block: &mut [u64; 4], from: u32, to: u32)
     block[(from / 64 % 4) as usize] |= mask;
 }
 
-/// How far a step from here may fill at most: ones to the end of the word, zeros to that of the
-/// block, whose bits are 0 already.
+/// Sets the bits of the block from `from` to before `to`.
 #[inline(always)]
-fn end_of_step(from: u32, value: bool) -> u32
-    requires { from < code_point_limit }
-    ensures more { from < result }
-    ensures one_block { result ≤ (from / 256 + 1) * 256 }
-    ensures one_word { IsTrue value → result ≤ (from / 64 + 1) * 64 }
+fn set_ones(block: &mut [u64; 4], from: u32, to: u32)
+    requires some { from < to }
+    requires one_block { to ≤ (from / 256 + 1) * 256 }
+    ensures { (c : ℕ) → c / 256 ≡ from / 256
+        → block_bit block.new c ≡ (block_bit block.old c || between from to c) }
 {
-    if value {
-        (from / 64 + 1) * 64
-    } else {
-        (from / 256 + 1) * 256
+    let mut begin = from;
+    while begin / 64 < (to - 1) / 64 {
+        let next = (begin / 64 + 1) * 64;
+        set_bits(block, begin, next);
+        begin = next;
     }
-}
-
-/// Whether all from here up to `end` lies in one word (ones) or in one block (zeros), and something
-/// is left of it.
-#[inline(always)]
-fn is_part(from: u32, end: u32, value: bool) -> bool
-    ensures block { IsTrue result → end / 256 ≡ from / 256 }
-    ensures word { IsTrue result → IsTrue value → end / 64 ≡ from / 64 }
-{
-    if value {
-        end / 64 == from / 64
-    } else {
-        end / 256 == from / 256
-    }
+    set_bits(block, begin, to);
 }
 
 impl Filling {
@@ -79,14 +66,13 @@ impl Filling {
         })
     }
 
-    /// Fills up to `next`: ones within a word, zeros within a block.
+    /// Fills up to `next`, within a block.
     #[inline(always)]
-    fn fill_word(&mut self, next: u32, value: bool)
+    fn fill_part(&mut self, next: u32, value: bool)
         requires filling { IsFilling self.old.bits self.old.block self.old.reached }
         requires settled { length self.old.bits.index ≡ self.old.reached / 256 }
         requires some { self.old.reached < next }
         requires one_block { next ≤ (self.old.reached / 256 + 1) * 256 }
-        requires one_word { IsTrue value → next ≤ (self.old.reached / 64 + 1) * 64 }
         requires within { next ≤ code_point_limit }
         ensures fills { Fills self.old.bits self.old.block self.old.reached
             self.new.bits self.new.block next value }
@@ -94,7 +80,7 @@ impl Filling {
         ensures blocks { length self.new.bits.index ≡ length self.old.bits.index }
     {
         if value {
-            set_bits(&mut self.block, self.reached, next);
+            set_ones(&mut self.block, self.reached, next);
         }
         self.reached = next;
     }
@@ -134,27 +120,40 @@ impl Filling {
         Ok(())
     }
 
-    /// Fills some code points more, and none from `end` on: whole blocks, or what is left of a word
-    /// or a block.
-    #[inline(always)]
-    fn fill_some(&mut self, end: u32, value: bool) -> Result<(), MemoryError>
+    /// Fills what is left of the block that is filled now, if any of it is there already.
+    fn fill_block(&mut self, value: bool) -> Result<(), MemoryError>
         requires filling { IsFilling self.old.bits self.old.block self.old.reached }
         requires settled { length self.old.bits.index ≡ self.old.reached / 256 }
-        requires some { self.old.reached < end }
-        requires within { end ≤ code_point_limit }
+        requires within { self.old.reached < code_point_limit }
         ensures fills { OnOk result (Fills self.old.bits self.old.block self.old.reached
             self.new.bits self.new.block self.new.reached value) }
-        ensures more { OnOk result (self.old.reached < self.new.reached) }
-        ensures to { OnOk result (self.new.reached ≤ end) }
+        ensures whole { OnOk result (self.new.reached ≡ (self.old.reached + 255) / 256 * 256) }
         ensures settled { OnOk result (length self.new.bits.index ≡ self.new.reached / 256) }
     {
-        let from = self.reached;
-        if from % 256 == 0 && end - from >= 256 {
-            return self.fill_blocks((end - from) / 256, value);
+        if self.reached % 256 == 0 {
+            return Ok(());
         }
-        let next = end.min(end_of_step(from, value));
-        self.fill_word(next, value);
+        self.fill_part((self.reached / 256 + 1) * 256, value);
         self.settle()
+    }
+
+    /// Fills up to `end`, which lies in a later block.
+    fn fill_far(&mut self, end: u32, value: bool) -> Result<(), MemoryError>
+        requires filling { IsFilling self.old.bits self.old.block self.old.reached }
+        requires settled { length self.old.bits.index ≡ self.old.reached / 256 }
+        requires later { self.old.reached / 256 < end / 256 }
+        requires within { end ≤ code_point_limit }
+        ensures fills { OnOk result (Fills self.old.bits self.old.block self.old.reached
+            self.new.bits self.new.block end value) }
+        ensures reached { OnOk result (self.new.reached ≡ end) }
+        ensures settled { OnOk result (length self.new.bits.index ≡ end / 256) }
+    {
+        self.fill_block(value)?;
+        self.fill_blocks((end - self.reached) / 256, value)?;
+        if self.reached < end {
+            self.fill_part(end, value);
+        }
+        Ok(())
     }
 
     /// Gives the code points up to `end`, which is not included, the bit `value`.
@@ -172,12 +171,11 @@ impl Filling {
         ensures reached { OnOk result (self.new.reached ≡ end) }
         ensures settled { OnOk result (length self.new.bits.index ≡ end / 256) }
     {
-        if self.reached < end && is_part(self.reached, end, value) {
-            self.fill_word(end, value);
-            return Ok(());
+        if self.reached / 256 < end / 256 {
+            return self.fill_far(end, value);
         }
-        while self.reached < end {
-            self.fill_some(end, value)?;
+        if self.reached < end {
+            self.fill_part(end, value);
         }
         Ok(())
     }
