@@ -50,17 +50,17 @@ fn set_ones(block: &mut [u64; 4], from: u32, to: u32)
 }
 
 impl Filling {
-    /// Nothing is filled in yet.
+    /// Nothing is filled in yet, of a set of so many ranges.
     ///
     /// # Errors
     /// `MemoryError` where memory was refused.
-    pub(crate) fn new(alloc: Global) -> Result<Filling, MemoryError>
+    pub(crate) fn new(alloc: Global, ranges: usize) -> Result<Filling, MemoryError>
         ensures filling { IfOk result (λ f. IsFilling f.bits f.block f.reached) }
         ensures start { IfOk result (λ f. f.reached ≡ 0) }
         ensures settled { IfOk result (λ f. length f.bits.index ≡ 0) }
     {
         Ok(Filling {
-            bits: CodePointBits::new(alloc)?,
+            bits: CodePointBits::new(alloc, ranges)?,
             block: [0; 4],
             reached: 0,
         })
@@ -115,6 +115,9 @@ impl Filling {
         ensures reached { OnOk result (self.new.reached ≡ self.old.reached + 256 * count) }
         ensures settled { OnOk result (length self.new.bits.index ≡ self.new.reached / 256) }
     {
+        if count == 0 {
+            return Ok(());
+        }
         self.bits.push_run(count as usize, value)?;
         self.reached += 256 * count;
         Ok(())

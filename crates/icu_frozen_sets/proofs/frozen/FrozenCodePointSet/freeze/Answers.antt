@@ -6,9 +6,9 @@ use Rattle.icu_frozen_sets.proofs.frozen.FrozenCodePointSet.freeze.Goals as goal
 pub loop-range-init : goal.loop-range-init
 loop-range-init c =
     let f = c.in_ok-filling.ensures in
-    let same : c.into_iter-range-iterator.result ≡ c.args.set.now = c.into_iter-range-iterator.ensures.into_iter_gives ∙ c.iter_ranges-range-items.ensures.gives in
+    let same : c.into_iter-range-iterator.result ≡ c.args.set.now = c.into_iter-range-iterator.ensures.into_iter_gives ∙ c.iter_ranges-ranges.ensures.gives in
     rw same (freezes_none c.args.set.now (ranges_of c.args.set.now) c.in_ok-filling.filling.bits c.in_ok-filling.filling.block c.in_ok-filling.filling.reached
-    f.filling f.start f.settled c.iter_ranges-range-items.ensures.apart c.iter_ranges-range-items.ensures.within c.iter_ranges-range-items.ensures.held)
+    f.filling f.start f.settled c.iter_ranges-ranges.ensures.apart c.iter_ranges-ranges.ensures.within c.iter_ranges-ranges.ensures.held)
 
 pub loop-range-preserved : goal.loop-range-preserved
 loop-range-preserved c =
@@ -27,4 +27,4 @@ invariant_of-result c =
     (ranges_of c.loop-range.range-iterator) f.bits f.block f.reached c.finish-bits.result b.block 0x110000
     c.loop-range.invariant c.in-None.ensures.steps.0 (rw c.finish-bits.ensures c.in_ok-fill_to-3.ensures.fills) refl
     (rw c.finish-bits.ensures c.in_ok-fill_to-3.ensures.settled)
-    c.iter_ranges-range-items.ensures.valid c.ascii.result c.ascii.ensures)
+    c.iter_ranges-ranges.ensures.valid c.ascii.result c.ascii.ensures)
