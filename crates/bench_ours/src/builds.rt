@@ -27,13 +27,20 @@ pub struct Sizes {
     pub null_value: u32,
 }
 
-/// The writes of these rows. `None` where memory was refused, or where a value is none of the type.
-fn writes_of<T: TrieValue>(alloc: Global, rows: &[Row]) -> Option<Vec<Write<T>>> {
-    let mut writes = Vec::with_capacity(alloc, rows.len()).ok()?;
+/// Adds the writes of these rows. `None` where memory was refused, or where a value is none of the
+/// type.
+fn add_writes<T: TrieValue>(writes: &mut Vec<Write<T>>, rows: &[Row]) -> Option<()> {
     for row in rows {
         let value = T::try_from_u32(row.value).ok()?;
         writes.push(Write::Range(row.start..=row.end, value)).ok()?;
     }
+    Some(())
+}
+
+/// The writes of these rows. `None` where memory was refused, or where a value is none of the type.
+fn writes_of<T: TrieValue>(alloc: Global, rows: &[Row]) -> Option<Vec<Write<T>>> {
+    let mut writes = Vec::with_capacity(alloc, rows.len()).ok()?;
+    add_writes(&mut writes, rows)?;
     Some(writes)
 }
 

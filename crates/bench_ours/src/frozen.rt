@@ -2,6 +2,7 @@
 
 use crate::sets::set_of;
 use icu_frozen_sets::frozen::FrozenCodePointSet;
+use icu_invlist::codepointinvlist::CodePointInversionList;
 use std::alloc::Global;
 
 /// How many of the code points are in the set. It stays a call, so that its loop can be found in
@@ -49,15 +50,30 @@ pub extern "C" fn ours_frozen_contains(
     sum
 }
 
+fn text_held_often(set: &FrozenCodePointSet, text: &str, turns: usize) -> u64 {
+    let mut sum = 0u64;
+    for _ in 0..turns {
+        sum = add_held_frozen(set, text, sum);
+    }
+    sum
+}
+
 /// The same of the characters of a text.
 #[unsafe(no_mangle)]
 pub extern "C" fn ours_frozen_text(alloc: Global, ends: &[u8], text: &[u8], turns: usize) -> u64 {
-    let (Some(set), Ok(text)) = (frozen_of(alloc, ends), std::str::from_utf8(text)) else {
+    let Ok(text) = std::str::from_utf8(text) else {
         return u64::MAX;
     };
+    match frozen_of(alloc, ends) {
+        Some(set) => text_held_often(&set, text, turns),
+        None => u64::MAX,
+    }
+}
+
+fn spans_added(set: &CodePointInversionList<'_>, text: &str, turns: usize) -> u64 {
     let mut sum = 0u64;
     for _ in 0..turns {
-        sum = add_held_frozen(&set, text, sum);
+        sum = sum.wrapping_add(set.span(text, sum < u64::MAX) as u64);
     }
     sum
 }
@@ -65,9 +81,16 @@ pub extern "C" fn ours_frozen_text(alloc: Global, ends: &[u8], text: &[u8], turn
 /// The span of a text in the set, so many times.
 #[unsafe(no_mangle)]
 pub extern "C" fn ours_span(alloc: Global, ends: &[u8], text: &[u8], turns: usize) -> u64 {
-    let (Some(set), Ok(text)) = (set_of(alloc, ends), std::str::from_utf8(text)) else {
+    let Ok(text) = std::str::from_utf8(text) else {
         return u64::MAX;
     };
+    match set_of(alloc, ends) {
+        Some(set) => spans_added(&set, text, turns),
+        None => u64::MAX,
+    }
+}
+
+fn frozen_spans_added(set: &FrozenCodePointSet, text: &str, turns: usize) -> u64 {
     let mut sum = 0u64;
     for _ in 0..turns {
         sum = sum.wrapping_add(set.span(text, sum < u64::MAX) as u64);
@@ -78,28 +101,36 @@ pub extern "C" fn ours_span(alloc: Global, ends: &[u8], text: &[u8], turns: usiz
 /// The same in the set that was frozen.
 #[unsafe(no_mangle)]
 pub extern "C" fn ours_frozen_span(alloc: Global, ends: &[u8], text: &[u8], turns: usize) -> u64 {
-    let (Some(set), Ok(text)) = (frozen_of(alloc, ends), std::str::from_utf8(text)) else {
+    let Ok(text) = std::str::from_utf8(text) else {
         return u64::MAX;
     };
+    match frozen_of(alloc, ends) {
+        Some(set) => frozen_spans_added(&set, text, turns),
+        None => u64::MAX,
+    }
+}
+
+/// Whether the set, frozen, holds U+4E00. `None` where memory was refused.
+fn holds_when_frozen(alloc: Global, set: &CodePointInversionList<'_>) -> Option<bool> {
+    match FrozenCodePointSet::freeze(alloc, set) {
+        Ok(frozen) => Some(frozen.contains32(0x4E00)),
+        Err(_) => None,
+    }
+}
+
+fn frozen_often(alloc: Global, set: &CodePointInversionList<'_>, turns: usize) -> Option<u64> {
     let mut sum = 0u64;
     for _ in 0..turns {
-        sum = sum.wrapping_add(set.span(text, sum < u64::MAX) as u64);
+        sum = sum.wrapping_add(holds_when_frozen(alloc, set)? as u64);
     }
-    sum
+    Some(sum)
 }
 
 /// The set frozen, so many times.
 #[unsafe(no_mangle)]
 pub extern "C" fn ours_freeze(alloc: Global, ends: &[u8], turns: usize) -> u64 {
-    let Some(set) = set_of(alloc, ends) else {
-        return u64::MAX;
-    };
-    let mut sum = 0u64;
-    for _ in 0..turns {
-        let Ok(frozen) = FrozenCodePointSet::freeze(alloc, &set) else {
-            return u64::MAX;
-        };
-        sum = sum.wrapping_add(frozen.contains32(0x4E00) as u64);
+    match set_of(alloc, ends) {
+        Some(set) => frozen_often(alloc, &set, turns).unwrap_or(u64::MAX),
+        None => u64::MAX,
     }
-    sum
 }

@@ -17,15 +17,19 @@ fn mixed_ranges<T: TrieValue>(trie: &CodePointTrie<'_, T>, sum: u64) -> u64 {
     sum
 }
 
-fn ranges_of<T: TrieValue>(parts: &Parts<'_>, turns: usize) -> u64 {
-    let Some(trie) = trie_of::<T>(parts) else {
-        return u64::MAX;
-    };
+fn ranges_mixed_often<T: TrieValue>(trie: &CodePointTrie<'_, T>, turns: usize) -> u64 {
     let mut sum = 0u64;
     for _ in 0..turns {
-        sum = mixed_ranges(&trie, sum);
+        sum = mixed_ranges(trie, sum);
     }
     sum
+}
+
+fn ranges_of<T: TrieValue>(parts: &Parts<'_>, turns: usize) -> u64 {
+    match trie_of::<T>(parts) {
+        Some(trie) => ranges_mixed_often(&trie, turns),
+        None => u64::MAX,
+    }
 }
 
 /// The ranges of a set, all of them, as one number.
@@ -55,18 +59,32 @@ pub extern "C" fn ours_ranges_32(parts: &Parts<'_>, turns: usize) -> u64 {
     ranges_of::<u32>(parts, turns)
 }
 
+/// The set of the code points that have the value in a trie, all its ranges as one number.
+fn mixed_set_for(alloc: Global, trie: &CodePointTrie<'_, u8>, value: u8) -> Option<u64> {
+    match trie.get_set_for_value(alloc, value) {
+        Ok(set) => Some(mixed_set(&set)),
+        Err(_) => None,
+    }
+}
+
+fn sets_made_often(
+    alloc: Global,
+    trie: &CodePointTrie<'_, u8>,
+    value: u8,
+    turns: usize,
+) -> Option<u64> {
+    let mut sum = 0u64;
+    for _ in 0..turns {
+        sum = sum.wrapping_add(mixed_set_for(alloc, trie, value)?);
+    }
+    Some(sum)
+}
+
 /// The set of the code points that have the value in a trie of 8 bits, made so many times.
 #[unsafe(no_mangle)]
 pub extern "C" fn ours_setfor_8(alloc: Global, parts: &Parts<'_>, value: u8, turns: usize) -> u64 {
-    let Some(trie) = trie_of::<u8>(parts) else {
-        return u64::MAX;
-    };
-    let mut sum = 0u64;
-    for _ in 0..turns {
-        let Ok(set) = trie.get_set_for_value(alloc, value) else {
-            return u64::MAX;
-        };
-        sum = sum.wrapping_add(mixed_set(&set));
+    match trie_of::<u8>(parts) {
+        Some(trie) => sets_made_often(alloc, &trie, value, turns).unwrap_or(u64::MAX),
+        None => u64::MAX,
     }
-    sum
 }

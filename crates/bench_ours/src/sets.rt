@@ -63,17 +63,24 @@ pub extern "C" fn ours_contains(alloc: Global, ends: &[u8], points: &[u32]) -> u
     }
 }
 
+fn text_held_often(set: &CodePointInversionList<'_>, text: &str, turns: usize) -> u64 {
+    let mut sum = 0u64;
+    for _ in 0..turns {
+        sum = add_held(set, text, sum);
+    }
+    sum
+}
+
 /// How many of the characters of a text are in the set, counted so many times.
 #[unsafe(no_mangle)]
 pub extern "C" fn ours_contains_text(alloc: Global, ends: &[u8], text: &[u8], turns: usize) -> u64 {
-    let (Some(set), Ok(text)) = (set_of(alloc, ends), std::str::from_utf8(text)) else {
+    let Ok(text) = std::str::from_utf8(text) else {
         return u64::MAX;
     };
-    let mut sum = 0u64;
-    for _ in 0..turns {
-        sum = add_held(&set, text, sum);
+    match set_of(alloc, ends) {
+        Some(set) => text_held_often(&set, text, turns),
+        None => u64::MAX,
     }
-    sum
 }
 
 /// The sum of the places of the code points in the set, 7 for one that it does not hold.
@@ -98,20 +105,44 @@ pub extern "C" fn ours_set_iter(alloc: Global, ends: &[u8], turns: usize) -> u64
     sum
 }
 
-/// Whether the first set holds all of the second, so many times. Which of two equal sets is asked
-/// hangs on the answers so far, so that no turn is left out.
+/// Whether the set, which is one of two equal sets, holds all of the other, so many times. Which of
+/// the two is asked hangs on the answers so far, so that no turn is left out.
+fn contained_often<'a, 'b>(
+    set: &'b CodePointInversionList<'a>,
+    twin: &'b CodePointInversionList<'a>,
+    other: &CodePointInversionList<'_>,
+    turns: usize,
+) -> u64 {
+    let mut sum = 0u64;
+    for _ in 0..turns {
+        let asked = if sum % 2 == 0 { set } else { twin };
+        sum = sum.wrapping_add(asked.contains_set(other) as u64);
+    }
+    sum
+}
+
+/// Whether the first set holds all of the second, so many times.
 #[unsafe(no_mangle)]
 pub extern "C" fn ours_contains_set(alloc: Global, a: &[u8], b: &[u8], turns: usize) -> u64 {
     let (Some(twin), Some(a), Some(b)) = (set_of(alloc, a), set_of(alloc, a), set_of(alloc, b))
     else {
         return u64::MAX;
     };
-    let mut sum = 0u64;
-    for _ in 0..turns {
-        let asked = if sum % 2 == 0 { &a } else { &twin };
-        sum = sum.wrapping_add(asked.contains_set(&b) as u64);
+    contained_often(&a, &twin, &b, turns)
+}
+
+/// Adds the set (0) to the builder's, removes it (1), keeps it (2) or complements it (3).
+fn blend(
+    builder: &mut CodePointInversionListBuilder,
+    set: &CodePointInversionList<'_>,
+    how: u32,
+) -> Option<()> {
+    match how {
+        0 => builder.add_set(set).ok(),
+        1 => builder.remove_set(set).ok(),
+        2 => builder.retain_set(set).ok(),
+        _ => builder.complement_set(set).ok(),
     }
-    sum
 }
 
 /// The first set with the second added (0), removed (1), kept (2) or complemented (3).
@@ -123,13 +154,31 @@ fn blended(
 ) -> Option<CodePointInversionList<'static>> {
     let mut builder = CodePointInversionListBuilder::new(alloc);
     builder.add_set(a).ok()?;
-    match how {
-        0 => builder.add_set(b).ok()?,
-        1 => builder.remove_set(b).ok()?,
-        2 => builder.retain_set(b).ok()?,
-        _ => builder.complement_set(b).ok()?,
-    }
+    blend(&mut builder, b, how)?;
     builder.build().ok()
+}
+
+/// The sum after a turn that made this set: how many ranges it has, and those of the first.
+fn counted(set: &CodePointInversionList<'_>, turn: usize, sum: u64) -> u64 {
+    let sum = if turn == 0 { mixed_set(set) } else { sum };
+    sum.wrapping_add(set.get_range_count() as u64)
+}
+
+fn blended_often(
+    alloc: Global,
+    a: &CodePointInversionList<'_>,
+    b: &CodePointInversionList<'_>,
+    how: u32,
+    turns: usize,
+) -> u64 {
+    let mut sum = 0u64;
+    for turn in 0..turns {
+        match blended(alloc, a, b, how) {
+            Some(set) => sum = counted(&set, turn, sum),
+            None => return u64::MAX,
+        }
+    }
+    sum
 }
 
 /// The blend of two sets, built so many times: how many ranges it has, and those of the first.
@@ -138,17 +187,18 @@ pub extern "C" fn ours_blend(alloc: Global, a: &[u8], b: &[u8], how: u32, turns:
     let (Some(a), Some(b)) = (set_of(alloc, a), set_of(alloc, b)) else {
         return u64::MAX;
     };
-    let mut sum = 0u64;
-    for turn in 0..turns {
-        let Some(set) = blended(alloc, &a, &b, how) else {
-            return u64::MAX;
-        };
-        if turn == 0 {
-            sum = mixed_set(&set);
-        }
-        sum = sum.wrapping_add(set.get_range_count() as u64);
+    blended_often(alloc, &a, &b, how, turns)
+}
+
+fn add_ranges(
+    builder: &mut CodePointInversionListBuilder,
+    starts: &[u32],
+    ends: &[u32],
+) -> Option<()> {
+    for (start, end) in starts.iter().zip(ends.iter()) {
+        builder.add_range32(*start..*end).ok()?;
     }
-    sum
+    Some(())
 }
 
 fn of_ranges(
@@ -157,9 +207,7 @@ fn of_ranges(
     ends: &[u32],
 ) -> Option<CodePointInversionList<'static>> {
     let mut builder = CodePointInversionListBuilder::new(alloc);
-    for (start, end) in starts.iter().zip(ends.iter()) {
-        builder.add_range32(*start..*end).ok()?;
-    }
+    add_ranges(&mut builder, starts, ends)?;
     builder.build().ok()
 }
 
@@ -173,13 +221,10 @@ pub extern "C" fn ours_set_ranges(
 ) -> u64 {
     let mut sum = 0u64;
     for turn in 0..turns {
-        let Some(set) = of_ranges(alloc, starts, ends) else {
-            return u64::MAX;
-        };
-        if turn == 0 {
-            sum = mixed_set(&set);
+        match of_ranges(alloc, starts, ends) {
+            Some(set) => sum = counted(&set, turn, sum),
+            None => return u64::MAX,
         }
-        sum = sum.wrapping_add(set.get_range_count() as u64);
     }
     sum
 }

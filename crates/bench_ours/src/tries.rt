@@ -20,24 +20,28 @@ pub struct Parts<'a> {
     pub is_fast: bool,
 }
 
-/// The trie of these parts, which borrows them. `None` where they are no trie.
-pub fn trie_of<'a, T: TrieValue>(parts: &Parts<'a>) -> Option<CodePointTrie<'a, T>> {
+/// The header of a trie of these parts.
+fn header_of(parts: &Parts<'_>) -> CodePointTrieHeader {
     let trie_type = if parts.is_fast {
         TrieType::Fast
     } else {
         TrieType::Small
     };
-    let header = CodePointTrieHeader {
+    CodePointTrieHeader {
         high_start: parts.high_start,
         shifted12_high_start: 0,
         index3_null_offset: parts.index3_null_offset,
         data_null_offset: parts.data_null_offset,
         null_value: parts.null_value,
         trie_type,
-    };
+    }
+}
+
+/// The trie of these parts, which borrows them. `None` where they are no trie.
+pub fn trie_of<'a, T: TrieValue>(parts: &Parts<'a>) -> Option<CodePointTrie<'a, T>> {
     let index = ZeroVec::parse_bytes(parts.index).ok()?;
     let data = ZeroVec::parse_bytes(parts.data).ok()?;
-    CodePointTrie::try_new(header, index, data).ok()
+    CodePointTrie::try_new(header_of(parts), index, data).ok()
 }
 
 /// What `sum` becomes when the values of these code points are added to it. It stays a call, so
@@ -76,46 +80,75 @@ fn add_text<T: TrieValue>(trie: &CodePointTrie<'_, T>, text: &str, sum: u64) -> 
     sum
 }
 
-fn sum_of<T: TrieValue>(parts: &Parts<'_>, points: &[u32], turns: usize) -> u64 {
-    let Some(trie) = trie_of::<T>(parts) else {
-        return u64::MAX;
-    };
+fn values_added_often<T: TrieValue>(
+    trie: &CodePointTrie<'_, T>,
+    points: &[u32],
+    turns: usize,
+) -> u64 {
     let mut sum = 0u64;
     for _ in 0..turns {
-        sum = add_values(&trie, points, sum);
+        sum = add_values(trie, points, sum);
     }
     sum
+}
+
+fn sum_of<T: TrieValue>(parts: &Parts<'_>, points: &[u32], turns: usize) -> u64 {
+    match trie_of::<T>(parts) {
+        Some(trie) => values_added_often(&trie, points, turns),
+        None => u64::MAX,
+    }
+}
+
+fn typed_added_often<'t, T: TrieValue, V: TypedCodePointTrie<'t, T>>(
+    trie: &V,
+    points: &[u32],
+    turns: usize,
+) -> u64 {
+    let mut sum = 0u64;
+    for _ in 0..turns {
+        sum = add_typed(trie, points, sum);
+    }
+    sum
+}
+
+fn typed_sum<T: TrieValue>(trie: &CodePointTrie<'_, T>, points: &[u32], turns: usize) -> u64 {
+    match trie.as_typed_ref() {
+        Typed::Fast(trie) => typed_added_often(&trie, points, turns),
+        Typed::Small(trie) => typed_added_often(&trie, points, turns),
+    }
 }
 
 fn typed_sum_of<T: TrieValue>(parts: &Parts<'_>, points: &[u32], turns: usize) -> u64 {
-    let Some(trie) = trie_of::<T>(parts) else {
-        return u64::MAX;
-    };
-    let mut sum = 0u64;
-    match trie.as_typed_ref() {
-        Typed::Fast(trie) => {
-            for _ in 0..turns {
-                sum = add_typed(&trie, points, sum);
-            }
-        }
-        Typed::Small(trie) => {
-            for _ in 0..turns {
-                sum = add_typed(&trie, points, sum);
-            }
-        }
+    match trie_of::<T>(parts) {
+        Some(trie) => typed_sum(&trie, points, turns),
+        None => u64::MAX,
     }
-    sum
 }
 
-/// Writes the value of each code point into `answers`. `false` where the parts are no trie.
-fn answers_of<T: TrieValue>(parts: &Parts<'_>, points: &[u32], answers: &mut [u32]) -> bool {
-    let Some(trie) = trie_of::<T>(parts) else {
-        return false;
-    };
+/// Writes the value of each code point into `answers`.
+fn write_answers<T: TrieValue>(trie: &CodePointTrie<'_, T>, points: &[u32], answers: &mut [u32]) {
     for (c, answer) in points.iter().zip(answers.iter_mut()) {
         *answer = trie.get32(*c).to_u32();
     }
-    true
+}
+
+/// The same of the trie of these parts. `false` where they are no trie.
+fn answers_of<T: TrieValue>(parts: &Parts<'_>, points: &[u32], answers: &mut [u32]) -> bool {
+    match trie_of::<T>(parts) {
+        Some(trie) => {
+            write_answers(&trie, points, answers);
+            true
+        }
+        None => false,
+    }
+}
+
+fn text_added_often(trie: &CodePointTrie<'_, u8>, text: &str, turns: usize) -> u64 {
+    let mut sum = 0u64;
+    for _ in 0..turns {
+        sum = add_text(trie, text, sum);
+    }
+    sum
 }
 
 /// The sum of the values of these code points in a trie of 8 bits, so many times.
@@ -157,14 +190,13 @@ pub extern "C" fn ours_typed_32(parts: &Parts<'_>, points: &[u32], turns: usize)
 /// The sum of the values of the characters of a text, so many times.
 #[unsafe(no_mangle)]
 pub extern "C" fn ours_text_8(parts: &Parts<'_>, text: &[u8], turns: usize) -> u64 {
-    let (Some(trie), Ok(text)) = (trie_of::<u8>(parts), std::str::from_utf8(text)) else {
+    let Ok(text) = std::str::from_utf8(text) else {
         return u64::MAX;
     };
-    let mut sum = 0u64;
-    for _ in 0..turns {
-        sum = add_text(&trie, text, sum);
+    match trie_of::<u8>(parts) {
+        Some(trie) => text_added_often(&trie, text, turns),
+        None => u64::MAX,
     }
-    sum
 }
 
 /// The value of each code point in a trie of 8 bits.

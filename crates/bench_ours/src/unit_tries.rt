@@ -7,9 +7,13 @@ use icu_char16trie_builder::builder::Char16TrieBuilder;
 use icu_zerovec::ZeroVec;
 use std::alloc::Global;
 
-/// Adds the keys with their values and builds the trie. `None` where a key or memory is refused.
-fn built(alloc: Global, keys: &[u16], ends: &[u32], values: &[i32]) -> Option<Char16Trie<'static>> {
-    let mut builder = Char16TrieBuilder::new(alloc);
+/// Adds the keys with their values. `None` where a key or memory is refused.
+fn add_entries(
+    builder: &mut Char16TrieBuilder,
+    keys: &[u16],
+    ends: &[u32],
+    values: &[i32],
+) -> Option<()> {
     let mut start = 0;
     for (end, value) in ends.iter().zip(values.iter()) {
         let end = *end as usize;
@@ -18,7 +22,22 @@ fn built(alloc: Global, keys: &[u16], ends: &[u32], values: &[i32]) -> Option<Ch
         }
         start = end;
     }
+    Some(())
+}
+
+/// The trie of these keys with their values. `None` where a key or memory is refused.
+fn built(alloc: Global, keys: &[u16], ends: &[u32], values: &[i32]) -> Option<Char16Trie<'static>> {
+    let mut builder = Char16TrieBuilder::new(alloc);
+    add_entries(&mut builder, keys, ends, values)?;
     builder.build().ok()
+}
+
+/// Writes the units of the trie, as far as there is room. How many there are.
+fn write_units(trie: &Char16Trie<'_>, units: &mut [u16]) -> usize {
+    for (place, unit) in units.iter_mut().zip(trie.data.iter()) {
+        *place = unit;
+    }
+    trie.data.len()
 }
 
 /// Writes the units of the trie of these entries, as far as there is room. How many there are, or 0
@@ -31,13 +50,10 @@ pub extern "C" fn ours_c16_build(
     values: &[i32],
     units: &mut [u16],
 ) -> usize {
-    let Some(trie) = built(alloc, keys, ends, values) else {
-        return 0;
-    };
-    for (place, unit) in units.iter_mut().zip(trie.data.iter()) {
-        *place = unit;
+    match built(alloc, keys, ends, values) {
+        Some(trie) => write_units(&trie, units),
+        None => 0,
     }
-    trie.data.len()
 }
 
 /// The value of a key, 7 where it has none.
@@ -62,13 +78,7 @@ fn values_along(trie: &Char16Trie<'_>, key: &[u16]) -> u32 {
     sum
 }
 
-/// The values of all keys, or with `along` of all their prefixes.
-#[unsafe(no_mangle)]
-pub extern "C" fn ours_c16_look(units: &[u8], keys: &[u16], ends: &[u32], along: bool) -> u64 {
-    let Ok(units) = ZeroVec::parse_bytes(units) else {
-        return u64::MAX;
-    };
-    let trie = Char16Trie::new(units);
+fn mixed_values(trie: &Char16Trie<'_>, keys: &[u16], ends: &[u32], along: bool) -> u64 {
     let mut sum = 0u64;
     let mut start = 0;
     for end in ends {
@@ -80,9 +90,9 @@ pub extern "C" fn ours_c16_look(units: &[u8], keys: &[u16], ends: &[u32], along:
         sum = mixed(
             sum,
             if along {
-                values_along(&trie, key)
+                values_along(trie, key)
             } else {
-                value_of(&trie, key)
+                value_of(trie, key)
             },
         );
         start = end;
@@ -90,13 +100,16 @@ pub extern "C" fn ours_c16_look(units: &[u8], keys: &[u16], ends: &[u32], along:
     sum
 }
 
-/// The values of all entries, in unit order, and the lengths of their keys in UTF-8.
+/// The values of all keys, or with `along` of all their prefixes.
 #[unsafe(no_mangle)]
-pub extern "C" fn ours_c16_iter(alloc: Global, units: &[u8]) -> u64 {
-    let Ok(units) = ZeroVec::parse_bytes(units) else {
-        return u64::MAX;
-    };
-    let trie = Char16Trie::new(units);
+pub extern "C" fn ours_c16_look(units: &[u8], keys: &[u16], ends: &[u32], along: bool) -> u64 {
+    match ZeroVec::parse_bytes(units) {
+        Ok(units) => mixed_values(&Char16Trie::new(units), keys, ends, along),
+        Err(_) => u64::MAX,
+    }
+}
+
+fn mixed_entries(alloc: Global, trie: &Char16Trie<'_>) -> u64 {
     let mut sum = 0u64;
     for entry in trie.iter2(alloc) {
         let Ok((_, value)) = entry else {
@@ -107,15 +120,41 @@ pub extern "C" fn ours_c16_iter(alloc: Global, units: &[u8]) -> u64 {
     sum
 }
 
+/// The values of all entries, in unit order, and the lengths of their keys in UTF-8.
+#[unsafe(no_mangle)]
+pub extern "C" fn ours_c16_iter(alloc: Global, units: &[u8]) -> u64 {
+    match ZeroVec::parse_bytes(units) {
+        Ok(units) => mixed_entries(alloc, &Char16Trie::new(units)),
+        Err(_) => u64::MAX,
+    }
+}
+
+fn add_line(all: &mut String, key: &str) -> Option<()> {
+    all.push_str(key).ok()?;
+    all.push('\n').ok()
+}
+
+fn add_lines(alloc: Global, trie: &Char16Trie<'_>, all: &mut String) -> Option<()> {
+    for entry in trie.iter2(alloc) {
+        let (key, _) = entry.ok()?;
+        add_line(all, &key)?;
+    }
+    Some(())
+}
+
 /// The keys of a trie in unit order, as one text.
 fn joined_keys(alloc: Global, trie: &Char16Trie<'_>) -> Option<String> {
     let mut all = String::new(alloc);
-    for entry in trie.iter2(alloc) {
-        let (key, _) = entry.ok()?;
-        all.push_str(&key).ok()?;
-        all.push('\n').ok()?;
-    }
+    add_lines(alloc, trie, &mut all)?;
     Some(all)
+}
+
+/// Writes the text, as far as there is room. How many bytes it has.
+fn write_text(text: &str, bytes: &mut [u8]) -> usize {
+    for (place, byte) in bytes.iter_mut().zip(text.as_bytes().iter()) {
+        *place = *byte;
+    }
+    text.len()
 }
 
 /// Writes the keys in unit order, each ended by a newline, as far as there is room. How many bytes
@@ -125,11 +164,8 @@ pub extern "C" fn ours_c16_keys(alloc: Global, units: &[u8], bytes: &mut [u8]) -
     let Ok(units) = ZeroVec::parse_bytes(units) else {
         return 0;
     };
-    let Some(all) = joined_keys(alloc, &Char16Trie::new(units)) else {
-        return 0;
-    };
-    for (place, byte) in bytes.iter_mut().zip(all.as_bytes().iter()) {
-        *place = *byte;
+    match joined_keys(alloc, &Char16Trie::new(units)) {
+        Some(all) => write_text(&all, bytes),
+        None => 0,
     }
-    all.len()
 }

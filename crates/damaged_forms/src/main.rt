@@ -20,28 +20,28 @@ use crate::stored::Stored;
 use anyhow::{Context, Result, bail};
 use icu_trie::cptrie::CodePointTrie;
 use rand_pcg::Pcg32;
-use std::env;
+use std::env::{Env, FillError};
 use std::process::ExitCode;
+use std::str;
 use std::time::CpuClock;
 
-/// The words after the program's name.
-fn words(rt: &HostRuntime) -> Result<Vec<String>> {
-    Ok(env::args(rt)?.skip(1).collect(rt.alloc())?)
+/// Word number `place` after the program's name, read into the bytes. `None` where there is none.
+fn word<'a>(rt: &HostRuntime, place: usize, bytes: &'a mut [u8]) -> Result<Option<&'a str>> {
+    match rt.arg(place, bytes) {
+        Ok(len) => {
+            let word = bytes.get(..len).context("a word is too long")?;
+            Ok(Some(str::from_utf8(word)?))
+        }
+        Err(FillError::NotPresent) => Ok(None),
+        Err(FillError::TooLong) => bail!("a word is too long"),
+    }
 }
 
 /// The number that the first word says.
-fn count_of(words: &[String]) -> Result<u32> {
-    let word = words.first().context("a count is missing")?;
-    let count = word.as_str().parse::<u32>();
-    count.ok().context("the count is no number")
-}
-
-/// The folder of the stored forms.
-fn folder_of(words: &[String]) -> &str {
-    match words.get(1) {
-        Some(folder) => folder.as_str(),
-        None => ".",
-    }
+fn count(rt: &HostRuntime) -> Result<u32> {
+    let mut bytes = [0; 64];
+    let word = word(rt, 1, &mut bytes)?.context("a count is missing")?;
+    word.parse::<u32>().ok().context("the count is no number")
 }
 
 /// Tries form number `number`, and says what is wrong with it where something is.
@@ -95,14 +95,16 @@ fn run_with_tries(
 
 /// Reads the stored forms, and tries them damaged.
 fn run(rt: &HostRuntime) -> Result<bool> {
-    let words = words(rt)?;
-    let texts = stored::texts(rt, folder_of(&words))?;
+    let count = count(rt)?;
+    let mut bytes = [0; 4096];
+    let folder = word(rt, 2, &mut bytes)?.unwrap_or(".");
+    let texts = stored::texts(rt, folder)?;
     let (Some(small), Some(fast)) = (texts.first(), texts.get(1)) else {
         bail!("a stored form is missing");
     };
     let small = tries::stored_trie(rt.alloc(), small.as_str()).context("no small trie")?;
     let fast = tries::stored_trie(rt.alloc(), fast.as_str()).context("no fast trie")?;
-    run_with_tries(rt, &texts, &small, &fast, count_of(&words)?)
+    run_with_tries(rt, &texts, &small, &fast, count)
 }
 
 fn main(rt: HostRuntime) -> ExitCode {
