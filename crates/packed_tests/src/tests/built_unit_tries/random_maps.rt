@@ -87,19 +87,25 @@ fn others_agree(
     Ok(true)
 }
 
-/// Whether each entry of the map is an entry of the trie, in the map's order, and no other one is,
-/// and each front of a short key has the same answer in both.
-fn lists(alloc: Global, trie: &Char16Trie<'_>, map: &Map) -> Result<bool, MemoryError> {
-    let mut items = trie.iter2(alloc);
-    for (key, value) in map {
-        let is_short = key.len() <= 8;
-        if !gives(alloc, trie, &mut items, key.as_slice(), *value)?
-            || is_short && !fronts_agree(trie, map, key.as_slice())
-        {
-            return Ok(false);
+/// Whether each front of each short key has the same answer in both.
+fn short_keys_agree(trie: &Char16Trie<'_>, map: &Map) -> bool {
+    let mut right = true;
+    for (key, _) in map {
+        if key.len() <= 8 {
+            right &= fronts_agree(trie, map, key.as_slice());
         }
     }
-    Ok(items.next().is_none())
+    right
+}
+
+/// Whether each entry of the map is an entry of the trie, in the map's order, and no other one is.
+fn lists(alloc: Global, trie: &Char16Trie<'_>, map: &Map) -> Result<bool, MemoryError> {
+    let mut items = trie.iter2(alloc);
+    let mut right = true;
+    for (key, value) in map {
+        right &= gives(alloc, trie, &mut items, key.as_slice(), *value)?;
+    }
+    Ok(right & items.next().is_none())
 }
 
 /// Whether the map of a seed is built as it has to be.
@@ -112,7 +118,8 @@ fn is_right(alloc: Global, seed: u64) -> Result<bool, Fail> {
     let right = add_random(alloc, &mut random, first, &mut builder, &mut map)?
         && add_random(alloc, &mut random, second, &mut builder, &mut map)?;
     let trie = builder.build()?;
-    Ok(right && lists(alloc, &trie, &map)? && others_agree(alloc, &mut random, &trie, &map)?)
+    let listed = lists(alloc, &trie, &map)? & short_keys_agree(&trie, &map);
+    Ok(right & listed & others_agree(alloc, &mut random, &trie, &map)?)
 }
 
 /// Each kind of keys alone and beside each other kind.

@@ -65,12 +65,12 @@ fn has_entries(
     entries: &[Entry],
 ) -> Result<bool, MemoryError> {
     let mut items = trie.iter2(alloc);
+    let mut right = true;
     for (key, value, text) in entries {
-        if value_of(trie, key) != Some(*value) || !is_next(&mut items, text, *value)? {
-            return Ok(false);
-        }
+        right &= value_of(trie, key) == Some(*value);
+        right &= is_next(&mut items, text, *value)?;
     }
-    Ok(items.next().is_none())
+    Ok(right & items.next().is_none())
 }
 
 /// What is said of these entries holds.
