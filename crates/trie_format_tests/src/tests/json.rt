@@ -41,72 +41,75 @@ fn fault_of(alloc: Global, parts: &[&str]) -> Result<Option<TrieJsonError>, Fail
     Ok(from_json::<u8>(alloc, &value).err())
 }
 
+static HEADER_FAULTS: [(&[&str], TrieJsonError); 8] = [
+    (&["[]"], TrieJsonError::Shape("")),
+    (&["{}"], TrieJsonError::Shape("header")),
+    (&[r#"{"header":[]}"#], TrieJsonError::Shape("header")),
+    (&[r#"{"header":{}}"#], TrieJsonError::Shape("high_start")),
+    (
+        &[r#"{"header":{"high_start":-1}}"#],
+        TrieJsonError::Number("high_start"),
+    ),
+    (
+        &[r#"{"header":{"high_start":0,"shifted12_high_start":65536}}"#],
+        TrieJsonError::Number("shifted12_high_start"),
+    ),
+    (&[HEADER, r#""Slow"}}"#], TrieJsonError::Shape("trie_type")),
+    (&[HEADER, "1}}"], TrieJsonError::Shape("trie_type")),
+];
+
 #[test]
 fn values_refused_by_their_header(rt: HostRuntime) -> Result<(), Fail> {
-    let rows: [(&[&str], TrieJsonError); 8] = [
-        (&["[]"], TrieJsonError::Shape("")),
-        (&["{}"], TrieJsonError::Shape("header")),
-        (&[r#"{"header":[]}"#], TrieJsonError::Shape("header")),
-        (&[r#"{"header":{}}"#], TrieJsonError::Shape("high_start")),
-        (
-            &[r#"{"header":{"high_start":-1}}"#],
-            TrieJsonError::Number("high_start"),
-        ),
-        (
-            &[r#"{"header":{"high_start":0,"shifted12_high_start":65536}}"#],
-            TrieJsonError::Number("shifted12_high_start"),
-        ),
-        (&[HEADER, r#""Slow"}}"#], TrieJsonError::Shape("trie_type")),
-        (&[HEADER, "1}}"], TrieJsonError::Shape("trie_type")),
-    ];
-    for (parts, fault) in rows {
-        expect_same(&rt, fault_of(rt.alloc(), parts)?, Some(fault), "the fault");
+    for (parts, fault) in HEADER_FAULTS.iter() {
+        expect_same(&rt, fault_of(rt.alloc(), parts)?, Some(*fault), "the fault");
     }
     Ok(())
 }
+
+static ARRAY_FAULTS: [(&[&str], TrieJsonError); 5] = [
+    (&[HEADER, r#""Small"}}"#], TrieJsonError::Shape("index")),
+    (
+        &[HEADER, r#""Small"},"index":[65536]}"#],
+        TrieJsonError::Number("index"),
+    ),
+    (
+        &[HEADER, r#""Small"},"#, INDEX, "}"],
+        TrieJsonError::Shape("data"),
+    ),
+    (
+        &[HEADER, r#""Small"},"#, INDEX, r#","data":[0,0.5]}"#],
+        TrieJsonError::Number("data"),
+    ),
+    (
+        &[HEADER, r#""Small"},"#, INDEX, r#","data":[0,0,0,300]}"#],
+        TrieJsonError::Value(3),
+    ),
+];
 
 #[test]
 fn values_refused_by_their_arrays(rt: HostRuntime) -> Result<(), Fail> {
-    let rows: [(&[&str], TrieJsonError); 5] = [
-        (&[HEADER, r#""Small"}}"#], TrieJsonError::Shape("index")),
-        (
-            &[HEADER, r#""Small"},"index":[65536]}"#],
-            TrieJsonError::Number("index"),
-        ),
-        (
-            &[HEADER, r#""Small"},"#, INDEX, "}"],
-            TrieJsonError::Shape("data"),
-        ),
-        (
-            &[HEADER, r#""Small"},"#, INDEX, r#","data":[0,0.5]}"#],
-            TrieJsonError::Number("data"),
-        ),
-        (
-            &[HEADER, r#""Small"},"#, INDEX, r#","data":[0,0,0,300]}"#],
-            TrieJsonError::Value(3),
-        ),
-    ];
-    for (parts, fault) in rows {
-        expect_same(&rt, fault_of(rt.alloc(), parts)?, Some(fault), "the fault");
+    for (parts, fault) in ARRAY_FAULTS.iter() {
+        expect_same(&rt, fault_of(rt.alloc(), parts)?, Some(*fault), "the fault");
     }
     Ok(())
 }
 
+static TRIE_FAULTS: [(&[&str], CodePointTrieError); 2] = [
+    (
+        &[HEADER, r#""Small"},"#, INDEX, r#","data":[]}"#],
+        CodePointTrieError::EmptyDataVector,
+    ),
+    (
+        &[HEADER, r#""Fast"},"#, INDEX, ",", DATA],
+        CodePointTrieError::IndexTooShortForFastAccess,
+    ),
+];
+
 #[test]
 fn parts_of_no_trie(rt: HostRuntime) -> Result<(), Fail> {
-    let rows: [(&[&str], CodePointTrieError); 2] = [
-        (
-            &[HEADER, r#""Small"},"#, INDEX, r#","data":[]}"#],
-            CodePointTrieError::EmptyDataVector,
-        ),
-        (
-            &[HEADER, r#""Fast"},"#, INDEX, ",", DATA],
-            CodePointTrieError::IndexTooShortForFastAccess,
-        ),
-    ];
-    for (parts, fault) in rows {
+    for (parts, fault) in TRIE_FAULTS.iter() {
         let found = fault_of(rt.alloc(), parts)?;
-        expect_same(&rt, found, Some(TrieJsonError::Trie(fault)), "the fault");
+        expect_same(&rt, found, Some(TrieJsonError::Trie(*fault)), "the fault");
     }
     Ok(())
 }
@@ -146,31 +149,31 @@ fn planes_there_and_back(rt: HostRuntime) -> Result<(), Fail> {
     Ok(())
 }
 
+static TEXTS: [(TrieJsonError, &str); 5] = [
+    (
+        TrieJsonError::Shape("index"),
+        "no value of the right kind at the key `index`",
+    ),
+    (
+        TrieJsonError::Number("data"),
+        "no whole number in its range at the key `data`",
+    ),
+    (
+        TrieJsonError::Value(3),
+        "cell 3 of the data is the number of no value",
+    ),
+    (
+        TrieJsonError::Trie(CodePointTrieError::InvalidNullValue),
+        "The null value is not a valid `T`",
+    ),
+    (TrieJsonError::Memory, "no memory"),
+];
+
 #[test]
-fn texts_of_errors(rt: HostRuntime) -> Result<(), Fail> {
-    let texts = [
-        (
-            TrieJsonError::Shape("index"),
-            "no value of the right kind at the key `index`",
-        ),
-        (
-            TrieJsonError::Number("data"),
-            "no whole number in its range at the key `data`",
-        ),
-        (
-            TrieJsonError::Value(3),
-            "cell 3 of the data is the number of no value",
-        ),
-        (
-            TrieJsonError::Trie(CodePointTrieError::InvalidNullValue),
-            "The null value is not a valid `T`",
-        ),
-        (TrieJsonError::Memory, "no memory"),
-    ];
-    for (error, want) in texts {
-        expect_told(&rt, &error, want)?;
+fn texts_of_errors(rt: HostRuntime) {
+    for (error, want) in TEXTS.iter() {
+        expect_told(&rt, error, want);
     }
-    Ok(())
 }
 
 /// The value has data, or the want of memory was told, which is said.

@@ -6,7 +6,6 @@ use icu_trie::ranges::CodePointMapRange;
 use icu_trie_formats::planes::get_planes_trie;
 use icu_zerovec::ZeroVec;
 use std::process::Abort;
-use std::test::Fail;
 
 #[test]
 fn each_code_point_has_its_plane(rt: HostRuntime) {
@@ -25,28 +24,37 @@ fn bytes_of_the_index(rt: HostRuntime) {
     expect_same(&rt, index.as_bytes().len(), 2336, "bytes");
 }
 
-/// The trie of the planes over the first cells of its index, so many.
+/// The trie of the planes over the first cells of its index, so many: `None` where there are not so
+/// many, or they are no vector.
 fn trie_of_front<'a>(
     planes: &'a CodePointTrie<'static, u8>,
     len: usize,
-) -> Result<Result<CodePointTrie<'a, u8>, CodePointTrieError>, Fail> {
+) -> Option<Result<CodePointTrie<'a, u8>, CodePointTrieError>> {
     let (header, index, values) = planes.parts();
-    let bytes = len.checked_mul(2).ok_or("no such front")?;
-    let front = index.as_bytes().get(..bytes).ok_or("no such front")?;
-    let index = ZeroVec::<u16>::parse_bytes(front)?;
-    Ok(CodePointTrie::try_new(header, index, values.as_zerovec()))
+    let front = index.as_bytes().get(..len.checked_mul(2)?)?;
+    match ZeroVec::<u16>::parse_bytes(front) {
+        Ok(index) => Some(CodePointTrie::try_new(header, index, values.as_zerovec())),
+        Err(_) => None,
+    }
+}
+
+/// Why a front of the index makes no trie: `None` where it makes one, or is none.
+fn fault_of_front(planes: &CodePointTrie<'static, u8>, len: usize) -> Option<CodePointTrieError> {
+    match trie_of_front(planes, len) {
+        Some(Err(fault)) => Some(fault),
+        _ => None,
+    }
 }
 
 /// The front has too few cells for the fast look-ups.
 #[test]
-fn short_fronts_of_the_index(rt: HostRuntime) -> Result<(), Fail> {
+fn short_fronts_of_the_index(rt: HostRuntime) {
     let planes = get_planes_trie();
     let want = Some(CodePointTrieError::IndexTooShortForFastAccess);
     for len in 0..64_usize {
-        let fault = trie_of_front(&planes, len)?.err();
+        let fault = fault_of_front(&planes, len);
         expect_same(&rt, (len, fault), (len, want), "the fault of a front");
     }
-    Ok(())
 }
 
 /// Each plane's first code point and its last one have its number, or no answer: what a look-up
@@ -83,26 +91,42 @@ fn expect_walked(rt: &impl Abort, trie: &CodePointTrie<'_, u8>, len: usize) {
     expect_same(rt, (len, is_whole), (len, true), "the last range");
 }
 
+/// The trie over a front of the index answers and is walked as it has to be.
+fn expect_front(rt: &impl Abort, planes: &CodePointTrie<'static, u8>, len: usize) {
+    let Some(Ok(trie)) = trie_of_front(planes, len) else {
+        rt.panic("no trie");
+    };
+    expect_planes(rt, &trie, len);
+    expect_walked(rt, &trie, len);
+}
+
 #[test]
-fn fronts_of_the_index(rt: HostRuntime) -> Result<(), Fail> {
+fn fronts_of_the_index(rt: HostRuntime) {
     let planes = get_planes_trie();
     for len in 64..1169_usize {
-        let trie = trie_of_front(&planes, len)??;
-        expect_planes(&rt, &trie, len);
-        expect_walked(&rt, &trie, len);
+        expect_front(&rt, &planes, len);
     }
-    Ok(())
 }
+
+/// Whether the trie over a front of the index is coherent.
+fn is_coherent_front(planes: &CodePointTrie<'static, u8>, len: usize) -> Option<bool> {
+    match trie_of_front(planes, len) {
+        Some(Ok(trie)) => Some(trie.is_coherent()),
+        _ => None,
+    }
+}
+
+/// Fronts of the index by their lengths, and whether the trie over each is coherent.
+static COHERENCE: [(usize, bool); 4] = [(64, false), (1000, false), (1167, false), (1168, true)];
 
 /// The trie of the planes is coherent, and isn't over a front of its index.
 #[test]
-fn coherence_of_fronts(rt: HostRuntime) -> Result<(), Fail> {
+fn coherence_of_fronts(rt: HostRuntime) {
     let planes = get_planes_trie();
-    for (len, want) in [(64, false), (1000, false), (1167, false), (1168, true)] {
-        let trie = trie_of_front(&planes, len)??;
-        expect_same(&rt, (len, trie.is_coherent()), (len, want), "coherence");
+    for (len, want) in COHERENCE.iter() {
+        let found = is_coherent_front(&planes, *len);
+        expect_same(&rt, (*len, found), (*len, Some(*want)), "coherence");
     }
-    Ok(())
 }
 
 /// Calls: `planes::get_planes_trie`.

@@ -105,43 +105,44 @@ fn fault_of(alloc: Global, parts: &[&str]) -> Result<Option<TomlError>, Fail> {
     Ok(CodePointTrieToml::from_table(alloc, &table).err())
 }
 
+static TABLE_FAULTS: [(&[&str], TomlError); 13] = [
+    (&[FIELDS, "type = 1\n"], TomlError::Missing("index")),
+    (
+        &["index = [65536]\ndata_8 = [256]"],
+        TomlError::OutOfRange("index"),
+    ),
+    (&["index = 7"], TomlError::OutOfRange("index")),
+    (&["index = [-1]"], TomlError::OutOfRange("index")),
+    (&["index = \"x\""], TomlError::OutOfRange("index")),
+    (&[INDEX, "data_8 = [256]"], TomlError::OutOfRange("data_8")),
+    (
+        &[INDEX, "highStart = -1"],
+        TomlError::OutOfRange("highStart"),
+    ),
+    (
+        &[INDEX, "highStart = 4294967296"],
+        TomlError::OutOfRange("highStart"),
+    ),
+    (
+        &[INDEX, "data_8 = [255, 256]"],
+        TomlError::OutOfRange("data_8"),
+    ),
+    (
+        &[INDEX, "data_32 = [4294967296]"],
+        TomlError::OutOfRange("data_32"),
+    ),
+    (&[INDEX], TomlError::Missing("highStart")),
+    (&[INDEX, FIELDS], TomlError::Missing("type")),
+    (
+        &[INDEX, FIELDS, "type = 256"],
+        TomlError::OutOfRange("type"),
+    ),
+];
+
 #[test]
 fn tables_with_a_first_fault(rt: HostRuntime) -> Result<(), Fail> {
-    let rows: [(&[&str], TomlError); 13] = [
-        (&[FIELDS, "type = 1\n"], TomlError::Missing("index")),
-        (
-            &["index = [65536]\ndata_8 = [256]"],
-            TomlError::OutOfRange("index"),
-        ),
-        (&["index = 7"], TomlError::OutOfRange("index")),
-        (&["index = [-1]"], TomlError::OutOfRange("index")),
-        (&["index = \"x\""], TomlError::OutOfRange("index")),
-        (&[INDEX, "data_8 = [256]"], TomlError::OutOfRange("data_8")),
-        (
-            &[INDEX, "highStart = -1"],
-            TomlError::OutOfRange("highStart"),
-        ),
-        (
-            &[INDEX, "highStart = 4294967296"],
-            TomlError::OutOfRange("highStart"),
-        ),
-        (
-            &[INDEX, "data_8 = [255, 256]"],
-            TomlError::OutOfRange("data_8"),
-        ),
-        (
-            &[INDEX, "data_32 = [4294967296]"],
-            TomlError::OutOfRange("data_32"),
-        ),
-        (&[INDEX], TomlError::Missing("highStart")),
-        (&[INDEX, FIELDS], TomlError::Missing("type")),
-        (
-            &[INDEX, FIELDS, "type = 256"],
-            TomlError::OutOfRange("type"),
-        ),
-    ];
-    for (parts, fault) in rows {
-        expect_same(&rt, fault_of(rt.alloc(), parts)?, Some(fault), "the fault");
+    for (parts, fault) in TABLE_FAULTS.iter() {
+        expect_same(&rt, fault_of(rt.alloc(), parts)?, Some(*fault), "the fault");
     }
     Ok(())
 }
@@ -152,68 +153,74 @@ fn trie_fault_of(alloc: Global, parts: &[&str]) -> Result<Option<TrieFromTomlErr
     Ok(CodePointTrie::<u8>::try_from(&read).err())
 }
 
+static TRIE_FAULTS: [(&[&str], CodePointTrieError); 4] = [
+    (
+        &[INDEX, FIELDS, "type = 2\n"],
+        CodePointTrieError::FromDeserialized {
+            reason: "Cannot parse value for trie_type",
+        },
+    ),
+    (
+        &[INDEX, FIELDS, "type = 1\n"],
+        CodePointTrieError::FromDeserialized {
+            reason: "Did not find data array for CodePointTrie in TOML",
+        },
+    ),
+    (
+        &[INDEX, FIELDS, "type = 1\ndata_16 = [300]\n"],
+        CodePointTrieError::FromDeserialized {
+            reason: "Could not parse data array to typed array",
+        },
+    ),
+    (
+        &["index = []\n", FIELDS, "type = 1\ndata_16 = [5]\n"],
+        CodePointTrieError::IndexTooShortForFastAccess,
+    ),
+];
+
 #[test]
 fn tables_of_no_trie(rt: HostRuntime) -> Result<(), Fail> {
-    let rows: [(&[&str], CodePointTrieError); 4] = [
-        (
-            &[INDEX, FIELDS, "type = 2\n"],
-            CodePointTrieError::FromDeserialized {
-                reason: "Cannot parse value for trie_type",
-            },
-        ),
-        (
-            &[INDEX, FIELDS, "type = 1\n"],
-            CodePointTrieError::FromDeserialized {
-                reason: "Did not find data array for CodePointTrie in TOML",
-            },
-        ),
-        (
-            &[INDEX, FIELDS, "type = 1\ndata_16 = [300]\n"],
-            CodePointTrieError::FromDeserialized {
-                reason: "Could not parse data array to typed array",
-            },
-        ),
-        (
-            &["index = []\n", FIELDS, "type = 1\ndata_16 = [5]\n"],
-            CodePointTrieError::IndexTooShortForFastAccess,
-        ),
-    ];
-    for (parts, fault) in rows {
+    for (parts, fault) in TRIE_FAULTS.iter() {
         let found = trie_fault_of(rt.alloc(), parts)?;
         expect_same(
             &rt,
             found,
-            Some(TrieFromTomlError::Trie(fault)),
+            Some(TrieFromTomlError::Trie(*fault)),
             "the fault",
         );
     }
     Ok(())
 }
 
-#[test]
-fn texts_of_errors(rt: HostRuntime) -> Result<(), Fail> {
-    expect_told(
-        &rt,
-        &TomlError::Missing("index"),
-        "no value at the key `index`",
-    )?;
-    expect_told(
-        &rt,
-        &TomlError::OutOfRange("type"),
+static TABLE_TEXTS: [(TomlError, &str); 3] = [
+    (TomlError::Missing("index"), "no value at the key `index`"),
+    (
+        TomlError::OutOfRange("type"),
         "the value at the key `type` is of another kind or out of its range",
-    )?;
-    expect_told(&rt, &TomlError::Memory, "no memory")?;
-    expect_told(&rt, &TrieFromTomlError::Memory, "no memory")?;
-    expect_told(
-        &rt,
-        &TrieFromTomlError::Table(TomlError::Missing("index")),
+    ),
+    (TomlError::Memory, "no memory"),
+];
+
+static TRIE_TEXTS: [(TrieFromTomlError, &str); 3] = [
+    (TrieFromTomlError::Memory, "no memory"),
+    (
+        TrieFromTomlError::Table(TomlError::Missing("index")),
         "no value at the key `index`",
-    )?;
-    expect_told(
-        &rt,
-        &TrieFromTomlError::Trie(CodePointTrieError::InvalidNullValue),
+    ),
+    (
+        TrieFromTomlError::Trie(CodePointTrieError::InvalidNullValue),
         "The null value is not a valid `T`",
-    )
+    ),
+];
+
+#[test]
+fn texts_of_errors(rt: HostRuntime) {
+    for (error, want) in TABLE_TEXTS.iter() {
+        expect_told(&rt, error, want);
+    }
+    for (error, want) in TRIE_TEXTS.iter() {
+        expect_told(&rt, error, want);
+    }
 }
 
 /// The table was read, or the want of memory was told, which is said.

@@ -1,0 +1,104 @@
+//! Calls whose requests for memory are refused in turn. The script `tests/refused_memory` runs each
+//! test whose name ends in `_refused` with its first, second, .. request refused, until a run
+//! refuses nothing: a refusal between the lines `call` and `done` has to be answered by the line
+//! `refused`. In a test whose name ends in `_quiet` nothing is asked for between the two.
+use super::support::value_of;
+use crate::tests::support::{expect, expect_same, say};
+use icu_char16trie::char16trie::Char16Trie;
+use icu_char16trie_builder::builder::Char16TrieBuilder;
+use icu_char16trie_builder::error::{AddError, BuildError};
+use std::alloc::Global;
+use std::process::Abort;
+
+/// How many entries are added: so many that the map of the entries grows in each of its ways.
+const MANY: u16 = 90;
+
+/// Adds keys of one and two units up to the first that is refused, at most `count` of them: how
+/// many were added, and the refusal.
+fn add_keys(builder: &mut Char16TrieBuilder, count: u16) -> (u16, Result<(), AddError>) {
+    for k in 0..count {
+        let unit = k % 40;
+        let added = if k == unit {
+            builder.add(&[unit], i32::from(k))
+        } else {
+            builder.add(&[unit, k], i32::from(k))
+        };
+        if added.is_err() {
+            return (k, added);
+        }
+    }
+    (count, Ok(()))
+}
+
+/// A builder to which so many keys were added, and no more were tried.
+fn with_keys(alloc: Global, count: u16) -> Option<Char16TrieBuilder> {
+    let mut builder = Char16TrieBuilder::new(alloc);
+    let (_, added) = add_keys(&mut builder, count);
+    added.ok()?;
+    Some(builder)
+}
+
+/// Both builders build the same trie, if they find memory.
+fn expect_same_built(rt: &impl Abort, found: Char16TrieBuilder, want: Char16TrieBuilder) {
+    if let (Ok(found), Ok(want)) = (found.build(), want.build()) {
+        expect(rt, found == want, "the entries before the refused one");
+    }
+}
+
+/// Memory was refused for the key that is refused.
+fn expect_memory(rt: &(impl Abort + Print), refusal: Result<(), AddError>) {
+    if let Err(error) = refusal {
+        expect_same(rt, error, AddError::Memory, "the error");
+        say(rt, "refused");
+    }
+}
+
+/// A refused key leaves the entries as they were: those of a builder to which the keys before it
+/// were added.
+///
+/// Calls: `Char16TrieBuilder::add`.
+#[test]
+fn add_refused(rt: HostRuntime) {
+    let mut builder = Char16TrieBuilder::new(rt.alloc());
+    say(&rt, "call");
+    let (count, refusal) = add_keys(&mut builder, MANY);
+    say(&rt, "done");
+    expect_memory(&rt, refusal);
+    if let Some(want) = with_keys(rt.alloc(), count) {
+        expect_same_built(&rt, builder, want);
+    }
+}
+
+/// The trie has the last key's value, or memory was refused.
+fn expect_built(rt: &(impl Abort + Print), built: Result<Char16Trie<'_>, BuildError>) {
+    match built {
+        Ok(trie) => expect_same(rt, value_of(&trie, &[9, 89]), Some(89), "the last value"),
+        Err(error) => {
+            expect_same(rt, error, BuildError::Memory, "the error");
+            say(rt, "refused");
+        }
+    }
+}
+
+/// Calls: `Char16TrieBuilder::build`.
+#[test]
+fn build_refused(rt: HostRuntime) {
+    let Some(builder) = with_keys(rt.alloc(), MANY) else {
+        return;
+    };
+    say(&rt, "call");
+    let built = builder.build();
+    say(&rt, "done");
+    expect_built(&rt, built);
+}
+
+/// A new builder takes no memory.
+///
+/// Calls: `Char16TrieBuilder::new`.
+#[test]
+fn new_quiet(rt: HostRuntime) {
+    say(&rt, "call");
+    let builder = Char16TrieBuilder::new(rt.alloc());
+    say(&rt, "done");
+    let _ = builder;
+}

@@ -1,0 +1,25 @@
+//! Printed texts of errors.
+use crate::tests::support::expect_text;
+use icu_char16trie_builder::error::{AddError, BuildError};
+
+static ADD_ERRORS: [(AddError, &str); 3] = [
+    (AddError::KeyTooLong, "key too long"),
+    (AddError::Duplicate, "duplicate key"),
+    (AddError::Memory, "no memory"),
+];
+
+static BUILD_ERRORS: [(BuildError, &str); 3] = [
+    (BuildError::TooLarge, "too large"),
+    (BuildError::Entry(AddError::Duplicate), "duplicate key"),
+    (BuildError::Memory, "no memory"),
+];
+
+#[test]
+fn texts_of_errors(rt: HostRuntime) {
+    for (error, want) in ADD_ERRORS.iter() {
+        expect_text(&rt, format!(in rt.alloc(); "{error}"), want);
+    }
+    for (error, want) in BUILD_ERRORS.iter() {
+        expect_text(&rt, format!(in rt.alloc(); "{error}"), want);
+    }
+}

@@ -1,0 +1,50 @@
+//! What all tests compare with, and print.
+use icu_zerovec::MemoryError;
+use std::fmt::Debug;
+use std::hash::{DefaultHasher, Hash, Hasher};
+use std::process::Abort;
+
+/// What is said holds.
+pub fn expect(rt: &impl Abort, holds: bool, what: &'static str) {
+    if !holds {
+        rt.panic(what);
+    }
+}
+
+/// What was found is what is wanted.
+pub fn expect_same<T: Copy + Debug + PartialEq>(rt: &impl Abort, found: T, want: T, what: &str) {
+    assert_eq!(rt; found, want, "{what}");
+}
+
+/// The bytes are these.
+pub fn expect_bytes(rt: &impl Abort, found: &[u8], want: &[u8]) {
+    expect_same(rt, found, want, "the bytes");
+}
+
+/// The text is the other one, where there was memory for it.
+pub fn expect_text<E>(rt: &impl Abort, text: Result<String, E>, want: &str) {
+    match text {
+        Ok(text) => expect_same(rt, text.as_str(), want, "the text"),
+        Err(_) => rt.panic("no text"),
+    }
+}
+
+/// Prints the line.
+pub fn say(rt: &(impl Abort + Print), line: &str) {
+    if rt.println(line).is_err() {
+        rt.panic("nothing can be printed");
+    }
+}
+
+/// Says that memory was refused.
+pub fn say_refused(rt: &(impl Abort + Print), error: MemoryError) {
+    expect_same(rt, error, MemoryError, "the error");
+    say(rt, "refused");
+}
+
+/// The hash of a value by the standard hasher.
+pub fn hash_of<T: Hash>(x: &T) -> u64 {
+    let mut state = DefaultHasher::new();
+    x.hash(&mut state);
+    state.finish()
+}

@@ -1,0 +1,8 @@
+//! Unit tries. The units and what they say are those of the format's description.
+
+mod cursors;
+mod json;
+mod refused_memory;
+mod support;
+mod worked_tries;
+mod written;

@@ -1,0 +1,44 @@
+//! Printed texts of vectors and of errors.
+use crate::tests::support::{expect_same, expect_text};
+use icu_zerovec::ule::UleError;
+use icu_zerovec::{MemoryError, ZeroVec};
+use std::fmt::{Debug, Display};
+use std::process::Abort;
+
+/// A value is shown so, as for one who looks for a fault.
+fn expect_shown<T: Debug>(rt: &(impl Abort + AllocGlobal), shown: &T, want: &str) {
+    expect_text(rt, format!(in rt.alloc(); "{shown:?}"), want);
+}
+
+/// An error is told so.
+fn expect_told<T: Display>(rt: &(impl Abort + AllocGlobal), told: &T, want: &str) {
+    expect_text(rt, told.to_string(rt.alloc()), want);
+}
+
+/// A vector of two numbers, its view, and what is left of its values after the first are shown so.
+fn expect_list_shown(rt: &(impl Abort + AllocGlobal), vector: &ZeroVec<'_, u16>) {
+    expect_shown(rt, vector, "[4660, 255]");
+    expect_shown(rt, &vector.as_slice(), "[4660, 255]");
+    let mut rest = vector.iter();
+    expect_same(rt, rest.next(), Some(0x1234), "the first value");
+    expect_shown(rt, &rest, "[255]");
+}
+
+#[test]
+fn shown_as_lists(rt: HostRuntime) {
+    match ZeroVec::<u16>::parse_bytes(&[0x34, 0x12, 255, 0]) {
+        Ok(vector) => expect_list_shown(&rt, &vector),
+        Err(_) => rt.panic("no vector"),
+    }
+}
+
+#[test]
+fn errors_as_text(rt: HostRuntime) {
+    expect_told(&rt, &MemoryError, "no memory");
+    expect_told(&rt, &UleError::Cell(3), "cell 3 is no value");
+    expect_told(
+        &rt,
+        &UleError::Length,
+        "the number of bytes is no multiple of the width of a value",
+    );
+}
