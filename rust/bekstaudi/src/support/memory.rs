@@ -19,6 +19,14 @@ impl core::error::Error for AllocError {}
 #[derive(Debug)]
 pub struct AllocFailed<T>(pub T);
 
+impl<T> core::fmt::Display for AllocFailed<T> {
+    fn fmt(&self, f: &mut core::fmt::Formatter<'_>) -> core::fmt::Result {
+        AllocError.fmt(f)
+    }
+}
+
+impl<T: core::fmt::Debug> core::error::Error for AllocFailed<T> {}
+
 impl<T> From<AllocFailed<T>> for AllocError {
     fn from(_failed: AllocFailed<T>) -> AllocError {
         AllocError
