@@ -16,11 +16,12 @@ TOKEN = re.compile(
     re.S,
 )
 KEYWORDS = set(
-    "as break const continue crate dyn else enum extern fn for if impl in let loop match mod move mut"
-    " pub ref return self Self static struct super trait type unsafe use where while true false".split()
+    "as break const continue crate dyn else enum extern fn for if impl in let loop match mod move"
+    " mut pub ref return self Self static struct super trait type unsafe use where while true false".split()
 )
+BEFORE_NAMES = KEYWORDS - set("break continue crate loop self Self super true false".split())
 ATTRIBUTES = set("derive error from inline cold test cfg tactic".split())
-MACROS = set("unreachable vec prove assert assert_eq assert_ne panic format write writeln println matches".split())
+MACROS = set("assert assert_eq format matches panic println unreachable vec write writeln".split())
 PROOF = re.compile(r'--[^\n]*|"[^"\n]*"|[{}]')
 CLAUSE = re.compile(r"(?:requires|ensures)(?:\s+[a-z_]\w*)?\s*(?={)")
 GHOST_USE = re.compile(r"ghost\s+use\b[^;{]*(?:\{[^{}]*\})?\s*;")
@@ -163,7 +164,7 @@ class Eraser:
         seen_to = "".join(it[1] for it in before[-4:]).endswith(("pub(crate)", "pub(super)"))
         if name and (last_kind in ("number", "literal") or last == ")" and not seen_to):
             self.refuse("a word behind what ends an expression")
-        if name and last_kind == "word" and last not in KEYWORDS - {"loop", "crate", "self", "Self"}:
+        if name and last_kind == "word" and last not in BEFORE_NAMES:
             self.refuse("two names side by side")
         if name and last == "[" and [it[1] for it in before[-3:-1]][-1:] in (["#"], ["!"]):
             if text not in ATTRIBUTES:

@@ -10,6 +10,7 @@
 //! let set: CodePointInversionList = ['b', 'a', 'c'].into_iter().collect();
 //! assert_eq!(set.get_inversion_list_vec(), [0x61, 0x64]);
 //! assert_eq!(set, CodePointInversionList::try_from('a'..='c')?);
+//! assert_eq!(set, ('a'..='c').try_into()?);
 //! assert!(set.contains32(0x62) && !set.contains('d'));
 //! let frozen = FrozenCodePointSet::freeze(&set);
 //! assert_eq!(frozen.spans("abxc").count(), 3);
@@ -29,7 +30,9 @@ use crate::codepointinvliststringlist::CodePointInversionListAndStringList;
 use crate::icu_zerovec::CODE_POINT_LIMIT;
 use crate::plain::{plain, plain_calls, plain_clone};
 use alloc::vec::Vec;
-use core::ops::{Bound, RangeInclusive};
+use core::ops::{
+    Bound, Range, RangeFrom, RangeFull, RangeInclusive, RangeTo, RangeToInclusive,
+};
 
 plain_clone! {
     impl<'data> Clone for CodePointInversionList<'data>;
@@ -124,6 +127,24 @@ impl FromIterator<char> for CodePointInversionList<'_> {
         }
         builder.build()
     }
+}
+
+macro_rules! from_ranges {
+    ($($range:ty)*) => {
+        $(
+            impl TryFrom<$range> for CodePointInversionList<'_> {
+                type Error = TryRangeError;
+
+                fn try_from(range: $range) -> Result<Self, TryRangeError> {
+                    CodePointInversionList::try_from(range)
+                }
+            }
+        )*
+    };
+}
+
+from_ranges! {
+    Range<char> RangeFrom<char> RangeFull RangeInclusive<char> RangeTo<char> RangeToInclusive<char>
 }
 
 impl FrozenCodePointSet {

@@ -65,7 +65,7 @@ impl<'data> Char16Trie<'data> {
     ///
     /// ```text
     /// // of the map of "a" to 1 and "ab" to 2
-    /// for entry in trie.iter2() {
+    /// for entry in trie.try_iter2() {
     ///     let (text, value) = entry?; // "a" and 1, then "ab" and 2
     /// }
     /// ```

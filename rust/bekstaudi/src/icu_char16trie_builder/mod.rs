@@ -6,7 +6,7 @@
 //! builder.add(&[0x61, 0x62], 2)?;
 //! builder.add(&[0x61], 1)?;
 //! let trie = builder.try_build()?;
-//! // trie.iter2() gives ("a", 1) and ("ab", 2)
+//! // trie.try_iter2() gives ("a", 1) and ("ab", 2)
 //! ```
 //!
 //! - `builder`: [`Char16TrieBuilder`](builder::Char16TrieBuilder), the entries and their trie
