@@ -174,8 +174,8 @@ class Eraser:
             if after in ("[", "(", "{") and last not in MACROS:
                 self.refuse("a macro that isn't known")
         if kind == "word" and last == "fn":
-            modifiers = "".join(it[1] for it in before[-2:-1])
-            self.function = (text, modifiers == "pub" or self.owner.startswith("trait "))
+            modifiers = [it[1] for it in before[:-1] if it[1] not in ("const", "unsafe")]
+            self.function = (text, modifiers[-1:] == ["pub"] or self.owner.startswith("trait "))
 
 
 def owner_of(head):
