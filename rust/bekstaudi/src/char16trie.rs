@@ -1,0 +1,47 @@
+//! Maps from keys of 16-bit units to numbers that are read in place (ICU's unit tries).
+//!
+//! [`Char16TrieBuilder`] makes a trie, [`Char16Trie::cursor`] and [`Char16Trie::iter`] look up in
+//! it unit by unit, and [`Char16Trie::iter2`] lists its entries.
+//!
+//! ```
+//! use bekstaudi::char16trie::Char16TrieBuilder;
+//! use std::fmt::Write;
+//!
+//! let mut builder = Char16TrieBuilder::new();
+//! builder.add(&"hello".encode_utf16().collect::<Vec<_>>(), 7)?;
+//! let trie = builder.try_build()?;
+//! let mut cursor = trie.cursor();
+//! write!(cursor, "hello")?;
+//! assert_eq!(cursor.value(), Some(7));
+//! # Ok::<(), Box<dyn std::error::Error>>(())
+//! ```
+
+pub use crate::icu_char16trie::char16trie::{
+    Char16Trie, Char16TrieCursor, Char16TrieIterator, Iter2, TrieResult,
+};
+pub use crate::icu_char16trie_builder::builder::Char16TrieBuilder;
+pub use crate::icu_char16trie_builder::error::{AddError, BuildError};
+
+use crate::plain::{plain, plain_clone};
+use alloc::string::String;
+
+plain_clone! {
+    impl<'data> Clone for Char16Trie<'data>;
+}
+
+impl Char16Trie<'_> {
+    /// The entries in unit order, each with its key decoded lossily. [`try_iter2`](Self::try_iter2)
+    /// answers want of memory.
+    ///
+    /// # Panics
+    /// The iterator panics where memory was refused.
+    pub fn iter2(&self) -> impl Iterator<Item = (String, i32)> + '_ {
+        self.try_iter2().map(plain)
+    }
+}
+
+impl Default for Char16TrieBuilder {
+    fn default() -> Self {
+        Char16TrieBuilder::new()
+    }
+}

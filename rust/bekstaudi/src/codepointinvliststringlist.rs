@@ -1,0 +1,27 @@
+//! Sets of code points and of longer texts.
+//!
+//! ```
+//! use bekstaudi::codepointinvliststringlist::CodePointInversionListAndStringList;
+//!
+//! let set: CodePointInversionListAndStringList = ["a", "abc", "xyz"].into_iter().collect();
+//! assert!(set.contains('a') && set.contains_str("xyz") && !set.contains_str("b"));
+//! assert_eq!(set.size(), 3);
+//! ```
+
+pub use crate::icu_text_sets::codepointinvliststringlist::{
+    CodePointInversionListAndStringList, InvalidStringList,
+};
+
+use crate::plain::{plain, plain_clone};
+
+plain_clone! {
+    impl<'data> Clone for CodePointInversionListAndStringList<'data>;
+}
+
+/// # Panics
+/// Where memory was refused; [`CodePointInversionListAndStringList::try_from_iter`] answers it.
+impl<'text> FromIterator<&'text str> for CodePointInversionListAndStringList<'_> {
+    fn from_iter<I: IntoIterator<Item = &'text str>>(texts: I) -> Self {
+        plain(CodePointInversionListAndStringList::try_from_iter(texts.into_iter()))
+    }
+}

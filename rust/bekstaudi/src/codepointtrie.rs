@@ -1,0 +1,92 @@
+//! Maps from code points to values that are read in place (ICU's code point tries).
+//!
+//! [`CodePointTrieBuilder`] makes a trie, [`CodePointTrie::get32`] asks it. A trie that ICU wrote is
+//! read where it is by [`binary::from_binary`]; one of another file is made of its parts by
+//! [`CodePointTrie::try_new`], which borrows them.
+//!
+//! ```
+//! use bekstaudi::codepointtrie::{CodePointTrieBuilder, TrieType};
+//!
+//! let mut builder = CodePointTrieBuilder::new('-', '!', TrieType::Small);
+//! builder.set_range_value(0x30..=0x39, '0');
+//! let trie = builder.build();
+//! let ranges: Vec<_> = trie.iter_ranges().map(|it| (it.range, it.value)).collect();
+//! assert_eq!(ranges[1], (0x30..=0x39, '0'));
+//! assert_eq!(trie.get('7'), '0');
+//! assert_eq!(trie.get32(0x110000), '!');
+//! ```
+
+pub use crate::icu_trie::cptrie::CodePointTrie;
+pub use crate::icu_trie::error::{CodePointTrieError, ConvertError, PartsError};
+pub use crate::icu_trie::header::{CodePointTrieHeader, TrieType};
+pub use crate::icu_trie::impl_const;
+pub use crate::icu_trie::map_value::MapError;
+pub use crate::icu_trie::mapped_ranges::IterRangesMapped;
+pub use crate::icu_trie::ranges::{CodePointMapRange, CodePointMapRangeIterator};
+pub use crate::icu_trie::ranges_of_value::IterRangesForValue;
+pub use crate::icu_trie::typed::{
+    FastCodePointTrie, SmallCodePointTrie, Typed, TypedCodePointTrie, TypedCodePointTrieError,
+};
+pub use crate::icu_trie::value::{NotAValue, TrieValue};
+pub use crate::icu_trie_binary::binary;
+pub use crate::icu_trie_builder::builder::CodePointTrieBuilder;
+pub use crate::icu_trie_builder::error::BuildError;
+pub use crate::icu_trie_builder::try_build_from_writes;
+pub use crate::icu_trie_builder::writes::{ApplyRefused, Write};
+
+use crate::codepointinvlist::CodePointInversionList;
+use crate::plain::{plain, plain_clone};
+use core::ops::RangeInclusive;
+
+plain_clone! {
+    impl<'trie, T: TrieValue> Clone for CodePointTrie<'trie, T>;
+}
+
+impl<T: TrieValue> CodePointTrie<'_, T> {
+    /// [`try_get_set_for_value`](Self::try_get_set_for_value), plainly.
+    ///
+    /// # Panics
+    /// Where memory was refused.
+    pub fn get_set_for_value(&self, value: T) -> CodePointInversionList<'static> {
+        plain(self.try_get_set_for_value(value))
+    }
+}
+
+impl<T: TrieValue> CodePointTrieBuilder<T> {
+    /// [`try_set_value`](Self::try_set_value), plainly.
+    ///
+    /// # Panics
+    /// Where memory was refused.
+    pub fn set_value(&mut self, c: u32, value: T) {
+        plain(self.try_set_value(c, value));
+    }
+
+    /// [`try_set_range_value`](Self::try_set_range_value), plainly.
+    ///
+    /// # Panics
+    /// Where memory was refused.
+    pub fn set_range_value(&mut self, range: RangeInclusive<u32>, value: T) {
+        plain(self.try_set_range_value(range, value));
+    }
+
+    /// [`try_build`](Self::try_build), plainly.
+    ///
+    /// # Panics
+    /// Where memory was refused, or the map has too many different blocks.
+    pub fn build(self) -> CodePointTrie<'static, T> {
+        plain(self.try_build())
+    }
+}
+
+/// The trie of a list of writes, of which the last one that covers a code point counts.
+///
+/// # Panics
+/// Where memory was refused, or the map has too many different blocks.
+pub fn build_from_writes<T: TrieValue>(
+    default: T,
+    error: T,
+    trie_type: TrieType,
+    writes: &[Write<T>],
+) -> CodePointTrie<'static, T> {
+    plain(try_build_from_writes(default, error, trie_type, writes))
+}

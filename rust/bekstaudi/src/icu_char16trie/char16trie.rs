@@ -1,0 +1,6 @@
+//! Maps from lists of 16-bit units to numbers, under the Rust crate's names.
+
+pub use crate::icu_char16trie::cursor::Char16TrieCursor;
+pub use crate::icu_char16trie::entries::Iter2;
+pub use crate::icu_char16trie::iterator::{Char16TrieIterator, TrieResult};
+pub use crate::icu_char16trie::trie::Char16Trie;

@@ -1,0 +1,70 @@
+//! A cursor over the units of a trie.
+
+#[allow(unused_imports)]
+use crate::support::prelude::*;
+use crate::icu_char16trie::place::Place;
+use crate::icu_char16trie::step::{is_empty_at, step, value_at};
+use crate::icu_zerovec::ZeroSlice;
+
+/// A cursor into the units of a trie, for look-up unit by unit.
+///
+/// A clause sees the units and the place where the cursor stands, and says what it has passed:
+/// after the units `w` from the root of the map `m` its value is that of the key `w`, and it is
+/// empty where no key goes on beyond `w`. On all units its steps are those of the format, where a
+/// unit that is needed and is not there is no match.
+#[derive(Clone, Debug)]
+pub struct Char16TrieCursor<'a> {
+    units: ZeroSlice<'a, u16>,
+    place: Place,
+}
+
+impl<'a> Char16TrieCursor<'a> {
+    /// A cursor at the root of the trie with these units.
+    #[inline]
+    pub fn new(trie: ZeroSlice<'a, u16>) -> Self {
+        Char16TrieCursor {
+            units: trie,
+            place: Place::Node(0),
+        }
+    }
+
+    /// One more unit. After no match nothing changes.
+    #[inline(always)]
+    pub fn step16(&mut self, unit: u16) {
+        self.place = step(self.units, self.place, unit);
+    }
+
+    /// The units of one more code point up to 0x10FFFF: one below 0x10000, surrogates among them,
+    /// and otherwise two. A number above 0x10FFFF matches nothing.
+    pub fn step32(&mut self, c: u32) {
+        if let Ok(unit) = u16::try_from(c) {
+            self.step16(unit);
+        } else if c <= 0x10_FFFF {
+            let supplementary = c - 0x1_0000;
+            self.step16((0xD800 + supplementary / 0x400) as u16);
+            self.step16((0xDC00 + supplementary % 0x400) as u16);
+        } else {
+            self.place = Place::Nowhere;
+        }
+    }
+
+    /// The units of one more character: one, or two for a character from U+10000 on.
+    #[inline]
+    pub fn step(&mut self, c: char) {
+        self.step32(c as u32);
+    }
+
+    /// The value of the units so far, if they are a key. 0 where the units of the value are cut
+    /// off.
+    #[inline]
+    pub fn value(&self) -> Option<i32> {
+        value_at(self.units, self.place)
+    }
+
+    /// Whether no key goes on beyond the units so far: after no match, at a final value, and at a
+    /// node whose lead unit is not there.
+    #[inline]
+    pub fn is_empty(&self) -> bool {
+        is_empty_at(self.units, self.place)
+    }
+}

@@ -1,0 +1,108 @@
+//! A step of a cursor, and what stands where it is.
+
+use crate::icu_char16trie::branch::child_in_part;
+use crate::icu_char16trie::encoded::{node_end, node_number, short_number, unit_at};
+use crate::icu_char16trie::place::Place;
+use crate::icu_zerovec::ZeroSlice;
+
+/// The place after the first unit of a run of `left + 1` units.
+#[inline(always)]
+fn step_in_run(units: ZeroSlice<'_, u16>, place: usize, left: u8, unit: u16) -> Place {
+    let Some(next) = unit_at(units, place) else {
+        return Place::Nowhere;
+    };
+    if next != unit {
+        return Place::Nowhere;
+    }
+    match left.checked_sub(1) {
+        Some(left) => Place::Run(place + 1, left),
+        None => Place::Node(place + 1),
+    }
+}
+
+/// The place after a unit at a branch of so many entries.
+#[inline(always)]
+fn step_in_branch(units: ZeroSlice<'_, u16>, place: usize, length: usize, unit: u16) -> Place {
+    match child_in_part(units, place, length, unit) {
+        Some(child) => Place::Node(child),
+        None => Place::Nowhere,
+    }
+}
+
+/// The place after a unit at a match node, by its low six bits; `place` is after its lead and its
+/// value.
+#[inline(always)]
+fn step_in_match(units: ZeroSlice<'_, u16>, place: usize, low: u16, unit: u16) -> Place {
+    if low >= 0x30 {
+        return step_in_run(units, place, (low - 0x30) as u8, unit);
+    }
+    if low > 0 {
+        return step_in_branch(units, place, usize::from(low) + 1, unit);
+    }
+    match unit_at(units, place) {
+        Some(length) => step_in_branch(units, place + 1, usize::from(length) + 1, unit),
+        None => Place::Nowhere,
+    }
+}
+
+/// The place after a unit at a node.
+#[inline(always)]
+fn step_in_node(units: ZeroSlice<'_, u16>, place: usize, unit: u16) -> Place {
+    let Some(lead) = unit_at(units, place) else {
+        return Place::Nowhere;
+    };
+    if lead >= 0x8000 {
+        return Place::Nowhere;
+    }
+    if lead < 0x40 {
+        return step_in_match(units, place + 1, lead, unit);
+    }
+    step_in_match(units, node_end(place + 1, lead), lead % 64, unit)
+}
+
+/// The place after one more unit.
+#[inline(always)]
+pub(crate) fn step(units: ZeroSlice<'_, u16>, place: Place, unit: u16) -> Place {
+    match place {
+        Place::Nowhere => Place::Nowhere,
+        Place::Node(node) => step_in_node(units, node, unit),
+        Place::Run(next, left) => step_in_run(units, next, left, unit),
+    }
+}
+
+/// The value that stands at a lead unit before `place`, 0 if it is cut off.
+#[inline(always)]
+pub(crate) fn value_by(units: ZeroSlice<'_, u16>, place: usize, lead: u16) -> Option<i32> {
+    if lead < 0x40 {
+        None
+    } else if lead < 0x8000 {
+        Some(node_number(units, place, lead).unwrap_or(0).cast_signed())
+    } else {
+        Some(
+            short_number(units, place, lead - 0x8000)
+                .unwrap_or(0)
+                .cast_signed(),
+        )
+    }
+}
+
+/// The value at a place.
+#[inline(always)]
+pub(crate) fn value_at(units: ZeroSlice<'_, u16>, place: Place) -> Option<i32> {
+    match place {
+        Place::Node(node) => {
+            let lead = unit_at(units, node)?;
+            value_by(units, node + 1, lead)
+        }
+        Place::Nowhere | Place::Run(_, _) => None,
+    }
+}
+
+/// Whether nothing can match from a place on.
+pub(crate) fn is_empty_at(units: ZeroSlice<'_, u16>, place: Place) -> bool {
+    match place {
+        Place::Nowhere => true,
+        Place::Node(node) => unit_at(units, node).is_none_or(|lead| lead >= 0x8000),
+        Place::Run(_, _) => false,
+    }
+}

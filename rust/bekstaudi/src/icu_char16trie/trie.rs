@@ -1,0 +1,97 @@
+//! The trie over a packed vector of units.
+
+#[allow(unused_imports)]
+use crate::support::prelude::*;
+use crate::icu_char16trie::cursor::Char16TrieCursor;
+use crate::icu_char16trie::entries::Iter2;
+use crate::icu_char16trie::iterator::Char16TrieIterator;
+use crate::icu_zerovec::{MemoryError, ZeroVec};
+
+/// A map from lists of 16-bit units, mostly texts in UTF-16, to numbers of 32 bits with sign, in
+/// the format of ICU's `UCharsTrie`. A clause sees the list of its units.
+///
+/// ```ignore
+/// let trie = Char16Trie::new(ZeroVec::alloc_from_slice(&[0x31, 0x61, 0x62, 0x8003])?);
+/// // the map of "ab" to 3
+/// let mut cursor = trie.cursor();
+/// cursor.step('a'); // cursor.value() is None
+/// cursor.step('b'); // cursor.value() is Some(3)
+/// ```
+///
+/// Two tries are equal exactly if their units are, whichever of them borrows.
+#[derive(Debug)]
+pub struct Char16Trie<'data> {
+    /// The units.
+    pub data: ZeroVec<'data, u16>,
+}
+
+impl<'data> Char16Trie<'data> {
+    /// The trie of these units. They are not tested: look-ups answer on all units.
+    #[inline]
+    pub fn new(data: ZeroVec<'data, u16>) -> Self {
+        Char16Trie { data }
+    }
+
+    /// A cursor at the root, for look-up unit by unit.
+    ///
+    /// ```text
+    /// // of the map of "ab" to 3
+    /// let mut cursor = trie.cursor();
+    /// cursor.step('a'); // cursor.value() is None
+    /// cursor.step('b'); // cursor.value() is Some(3)
+    /// ```
+    #[inline]
+    pub fn cursor(&self) -> Char16TrieCursor<'_> {
+        Char16TrieCursor::new(self.data.as_slice())
+    }
+
+    /// An iterator at the root: a cursor that tells at each step what it found.
+    ///
+    /// ```text
+    /// // of the map of "ab" to 3
+    /// let mut iterator = trie.iter();
+    /// // iterator.next('a') is TrieResult::NoValue, and then iterator.next('b') is TrieResult::FinalValue(3)
+    /// ```
+    #[inline]
+    pub fn iter(&self) -> Char16TrieIterator<'_> {
+        Char16TrieIterator::new(self.data.as_slice())
+    }
+
+    /// The entries, in unit order: each key as text, with its value. It takes no memory before its
+    /// first item.
+    ///
+    /// It is not named `iter`, since in the Rust crate that call gives what looks up and does not
+    /// list.
+    ///
+    /// ```text
+    /// // of the map of "a" to 1 and "ab" to 2
+    /// for entry in trie.try_iter2() {
+    ///     let (text, value) = entry?; // "a" and 1, then "ab" and 2
+    /// }
+    /// ```
+    #[inline]
+    pub fn try_iter2(&self) -> Iter2<'_>
+
+        // Until the want of memory, if there is one, the items are the entries; only then are they
+        // cut short.
+    {
+        Iter2::new(self.data.as_slice())
+    }
+
+    /// An equal trie that owns its units.
+    ///
+    /// # Errors
+    /// `MemoryError` where memory was refused.
+    pub fn try_clone(&self) -> Result<Char16Trie<'static>, MemoryError> {
+        Ok(Char16Trie::new(self.data.try_clone()?))
+    }
+}
+
+impl<'data> PartialEq for Char16Trie<'data> {
+    fn eq(&self, other: &Self) -> bool {
+        self.data == other.data
+    }
+}
+
+impl<'data> Eq for Char16Trie<'data> {
+}

@@ -1,0 +1,142 @@
+//! Entries are added, and become a trie.
+
+#[allow(unused_imports)]
+use crate::support::prelude::*;
+use crate::icu_char16trie_builder::entry::Entry;
+use crate::icu_char16trie_builder::error::{AddError, BuildError};
+use crate::icu_char16trie_builder::units::units_of;
+use crate::icu_char16trie::char16trie::Char16Trie;
+use crate::icu_zerovec::ZeroVec;
+use crate::support::{AllocError};
+use crate::support::BTreeMap;
+
+/// The most units that a key may have.
+const LONGEST_KEY: usize = 65_535;
+
+/// The most units that a trie may need: a jump over so many has its number.
+const MOST_UNITS: u64 = 0x7FFF_FFFF;
+
+/// Entries, each a key of 16-bit units with a value, on their way into a trie (ICU's
+/// `UCharsTrieBuilder`).
+///
+/// A clause sees the map of the entries, in unit order.
+///
+/// ```ignore
+/// let mut builder = Char16TrieBuilder::new();
+/// builder.add(&[0x61, 0x62], 2)?;
+/// builder.add(&[0x61], 1)?;
+/// builder.add(&[0x61], 3); // Err(AddError::Duplicate)
+/// let trie = builder.try_build()?; // the trie of "a" to 1 and "ab" to 2
+/// ```
+#[derive(Debug)]
+pub struct Char16TrieBuilder {
+    entries: BTreeMap<Vec<u16>, i32>,
+}
+
+/// Whether a map has a key.
+fn has_key(entries: &BTreeMap<Vec<u16>, i32>, key: &[u16]) -> bool {
+    entries.contains_key(key)
+}
+
+/// Adds an entry to a map. A refused one leaves it as it was.
+fn insert(
+    entries: &mut BTreeMap<Vec<u16>, i32>,
+    key: &[u16],
+    value: i32,
+) -> Result<(), AllocError> {
+    let key = Vec::from_slice(key)?;
+    entries.try_insert(key, value)?;
+    Ok(())
+}
+
+/// The entries of a map, in their order.
+fn entries_of<'a>(
+    entries: &'a BTreeMap<Vec<u16>, i32>,
+) -> Result<Vec<Entry<'a>>, AllocError> {
+    let mut list = Vec::new();
+    for (key, value) in entries {
+        list.try_push(Entry {
+            key: key.as_slice(),
+            value: *value,
+        })?;
+    }
+    Ok(list)
+}
+
+/// How many units the key of the first entry has.
+fn first_len(entries: &[Entry<'_>]) -> usize {
+    entries[0].key.len()
+}
+
+/// Whether no trie of the entries can need too many units.
+fn fits(entries: &[Entry<'_>]) -> bool {
+    let mut total: u64 = 0;
+    for i in 0..entries.len() {
+        let len = first_len(entries.split_at(i).1) as u64;
+        if len > MOST_UNITS {
+            return false;
+        }
+        total += 2 * len + 16;
+        if total > MOST_UNITS {
+            return false;
+        }
+    }
+    true
+}
+
+/// The units of a trie of the entries: none, if there are none.
+fn trie_units(entries: &[Entry<'_>]) -> Result<Vec<u16>, AllocError> {
+    if entries.is_empty() {
+        return Ok(Vec::new());
+    }
+    units_of(entries)
+}
+
+impl Char16TrieBuilder {
+    /// No entries. It takes no memory; that is left to the calls that do.
+    pub fn new() -> Self {
+        Char16TrieBuilder {
+            entries: BTreeMap::new(),
+        }
+    }
+
+    /// Adds an entry, in any order of keys. A key may be empty, and may be the front of another
+    /// one.
+    ///
+    /// # Errors
+    /// `KeyTooLong` exactly where the key has more than 65,535 units, else `Duplicate` exactly
+    /// where there is an entry with this key, and `Memory` where memory was refused. The entries
+    /// are then as before.
+    pub fn add(&mut self, key: &[u16], value: i32) -> Result<(), AddError>
+
+        // Of the errors the first one that holds is answered.
+    {
+        if key.len() > LONGEST_KEY {
+            return Err(AddError::KeyTooLong);
+        }
+        if has_key(&self.entries, key) {
+            return Err(AddError::Duplicate);
+        }
+        match insert(&mut self.entries, key, value) {
+            Ok(()) => Ok(()),
+            Err(_) => Err(AddError::Memory),
+        }
+    }
+
+    /// The trie of the entries: the empty list of units, if there are none. With U units in the
+    /// keys of E entries it has at most 2 U + 16 E units. Equal nodes that are jumped to are
+    /// written once.
+    ///
+    /// # Errors
+    /// `TooLarge` exactly where 2 U + 16 E is more than `0x7FFF_FFFF` and no memory was refused
+    /// before that was found, and `Memory` where memory was refused. The entries are dropped.
+    pub fn try_build(self) -> Result<Char16Trie<'static>, BuildError> {
+        let entries = entries_of(&self.entries)?;
+        if !fits(entries.as_slice()) {
+            return Err(BuildError::TooLarge);
+        }
+        let units = trie_units(entries.as_slice())?;
+        let trie = Char16Trie::new(ZeroVec::alloc_from_slice(units.as_slice())?);
+        Ok(trie)
+    }
+}

@@ -1,0 +1,85 @@
+//! Why an entry was refused, or a trie could not be built.
+
+use crate::icu_zerovec::MemoryError;
+use crate::support::{AllocError, AllocFailed};
+
+/// Why an entry was refused. The entries are then as before.
+#[derive(Clone, Copy, Debug, PartialEq, Eq)]
+pub enum AddError {
+    /// The key has more than 65,535 units.
+    KeyTooLong,
+    /// There is an entry with this key.
+    Duplicate,
+    /// Memory was refused.
+    Memory,
+}
+
+impl From<MemoryError> for AddError {
+    fn from(_error: MemoryError) -> AddError {
+        AddError::Memory
+    }
+}
+
+/// Why a trie could not be built.
+#[derive(Clone, Copy, Debug, PartialEq, Eq)]
+pub enum BuildError {
+    /// The entries may take more than `0x7FFF_FFFF` units.
+    TooLarge,
+    /// An entry was refused. No build gives this: it stands here for `?`, in a function that adds
+    /// entries and builds.
+    Entry(AddError),
+    /// Memory was refused.
+    Memory,
+}
+
+impl From<AllocError> for BuildError {
+    fn from(_error: AllocError) -> BuildError {
+        BuildError::Memory
+    }
+}
+
+impl<T> From<AllocFailed<T>> for BuildError {
+    fn from(_error: AllocFailed<T>) -> BuildError {
+        BuildError::Memory
+    }
+}
+
+impl From<MemoryError> for BuildError {
+    fn from(_error: MemoryError) -> BuildError {
+        BuildError::Memory
+    }
+}
+
+/// For `?` after an entry was added. Want of memory stays what it is.
+impl From<AddError> for BuildError {
+    fn from(error: AddError) -> BuildError {
+        match error {
+            AddError::Memory => BuildError::Memory,
+            AddError::KeyTooLong | AddError::Duplicate => BuildError::Entry(error),
+        }
+    }
+}
+
+impl core::fmt::Display for AddError {
+    fn fmt(&self, f: &mut core::fmt::Formatter<'_>) -> core::fmt::Result {
+        match self {
+            AddError::KeyTooLong => write!(f, "key too long"),
+            AddError::Duplicate => write!(f, "duplicate key"),
+            AddError::Memory => write!(f, "no memory"),
+        }
+    }
+}
+
+impl core::error::Error for AddError {}
+
+impl core::fmt::Display for BuildError {
+    fn fmt(&self, f: &mut core::fmt::Formatter<'_>) -> core::fmt::Result {
+        match self {
+            BuildError::TooLarge => write!(f, "too large"),
+            BuildError::Entry(_0) => write!(f, "{_0}"),
+            BuildError::Memory => write!(f, "no memory"),
+        }
+    }
+}
+
+impl core::error::Error for BuildError {}

@@ -1,0 +1,107 @@
+//! One level of a trie, written in front of what it leads to. A place is counted from the end of
+//! the units, so that it stays the same while more are written.
+
+#[allow(unused_imports)]
+use crate::support::prelude::*;
+use crate::icu_char16trie_builder::write::{put_all, put_delta, put_final, put_one, put_short, put_value};
+use crate::support::AllocError;
+
+/// The most units of a linear match.
+pub(crate) const LONGEST_RUN: usize = 16;
+
+/// The most entries of a branch whose number stands in its lead.
+const LONGEST_SHORT_BRANCH: usize = 0x30;
+
+/// Writes a node that has a value only.
+fn write_final(out: &mut Vec<u16>, value: i32) -> Result<(), AllocError> {
+    put_final(out, value.cast_unsigned())?;
+    Ok(())
+}
+
+/// Writes the unit of the last entry of a row, in front of its node.
+pub(crate) fn write_last(out: &mut Vec<u16>, unit: u16) -> Result<(), AllocError> {
+    put_one(out, unit)?;
+    Ok(())
+}
+
+/// Writes an entry of a row in front of the others: its unit, and a jump to its node, which stands
+/// `from_end` units before the end.
+pub(crate) fn write_jump(out: &mut Vec<u16>, unit: u16, from_end: usize) -> Result<(), AllocError> {
+    let jump = out.len().saturating_sub(from_end);
+    put_short(out, jump as u32)?;
+    put_one(out, unit)?;
+    Ok(())
+}
+
+/// Writes an entry of a row in front of the others: its unit, and the value of the key that ends
+/// there.
+pub(crate) fn write_value(out: &mut Vec<u16>, unit: u16, value: i32) -> Result<(), AllocError> {
+    put_final(out, value.cast_unsigned())?;
+    put_one(out, unit)?;
+    Ok(())
+}
+
+/// Writes a split unit in front of the part of the upper entries, with a delta to that of the lower
+/// ones, which stands `from_end` units before the end.
+pub(crate) fn write_split(out: &mut Vec<u16>, unit: u16, from_end: usize) -> Result<(), AllocError> {
+    let delta = out.len().saturating_sub(from_end);
+    put_delta(out, delta as u32)?;
+    put_one(out, unit)?;
+    Ok(())
+}
+
+/// Writes the lead of a match node with these low six bits, and the value of the empty key, if
+/// there is one.
+fn write_lead(out: &mut Vec<u16>, low: u16, value: Option<i32>) -> Result<(), AllocError> {
+    match value {
+        Some(value) => put_value(out, value.cast_unsigned(), low)?,
+        None => put_one(out, low)?,
+    }
+    Ok(())
+}
+
+/// Writes the length of a branch in front of its part, if it needs a unit, and answers the low six
+/// bits of its lead.
+fn write_length(out: &mut Vec<u16>, count: usize) -> Result<u16, AllocError> {
+    if count <= LONGEST_SHORT_BRANCH {
+        return Ok((count - 1) as u16);
+    }
+    put_one(out, (count - 1) as u16)?;
+    Ok(0)
+}
+
+/// Writes what stands in front of the part of a branch of so many entries: its lead, the value of
+/// the empty key, if there is one, and its length.
+pub(crate) fn write_branch(
+    out: &mut Vec<u16>,
+    count: usize,
+    value: Option<i32>,
+) -> Result<(), AllocError> {
+    let low = write_length(out, count)?;
+    write_lead(out, low, value)?;
+    Ok(())
+}
+
+/// Writes a linear match in front of its node, and the value of the empty key, if there is one.
+pub(crate) fn write_run(
+    out: &mut Vec<u16>,
+    units: &[u16],
+    value: Option<i32>,
+) -> Result<(), AllocError> {
+    put_all(out, units)?;
+    write_lead(out, 0x2f + units.len() as u16, value)?;
+    Ok(())
+}
+
+/// Writes the node of a single entry whose key has these units: linear matches, and the value after
+/// them.
+pub(crate) fn write_tail(out: &mut Vec<u16>, units: &[u16], value: i32) -> Result<(), AllocError> {
+    write_final(out, value)?;
+    let mut left = units.len();
+    while left > 0 {
+        let start = left.saturating_sub(LONGEST_RUN);
+        write_run(out, &units[start..left], None)?;
+        left = start;
+    }
+    Ok(())
+}

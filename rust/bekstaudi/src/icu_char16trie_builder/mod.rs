@@ -1,0 +1,35 @@
+//! Unit tries are built: entries are added, and become a trie in one list of units (ICU's
+//! `UCharsTrieBuilder`).
+//!
+//! ```ignore
+//! let mut builder = Char16TrieBuilder::new();
+//! builder.add(&[0x61, 0x62], 2)?;
+//! builder.add(&[0x61], 1)?;
+//! let trie = builder.try_build()?;
+//! // trie.try_iter2() gives ("a", 1) and ("ab", 2)
+//! ```
+//!
+//! - `builder`: [`Char16TrieBuilder`](builder::Char16TrieBuilder), the entries and their trie
+//! - `error`: why an entry was refused, or a trie could not be built
+//!
+//! A trie is written from its last unit to its first, so that what was written last stands in
+//! front, and a jump is the difference of two lengths:
+//!
+//! - `units`: the units of a trie, step by step
+//! - `step`: the steps, and what each of them writes; `open` makes the steps of a node from its
+//! entries
+//! - `entry`, `arms`: entries on their way down, and those of a branch by the unit that they go on
+//! with
+//! - `known`: nodes that were written, so that an equal one is jumped to and not written again
+//! - `level`: one level of a trie; `write`: its numbers
+
+mod arms;
+pub mod builder;
+mod entry;
+pub mod error;
+mod known;
+mod level;
+mod open;
+mod step;
+mod units;
+mod write;

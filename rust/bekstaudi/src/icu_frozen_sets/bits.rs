@@ -1,0 +1,123 @@
+//! A bit for each code point, in two stages, so that each look-up is two loads.
+
+#[allow(unused_imports)]
+use crate::support::prelude::*;
+use crate::icu_zerovec::{CODE_POINT_LIMIT, MemoryError};
+
+/// How many blocks of 256 code points there are.
+pub(crate) const BLOCKS: u32 = CODE_POINT_LIMIT / 256;
+
+/// The words of the block that holds nothing, and of the one that holds everything.
+const TWO_BLOCKS: [u64; 8] = [0, 0, 0, 0, u64::MAX, u64::MAX, u64::MAX, u64::MAX];
+
+/// How many words there is room for at first. Doubled twice, that is enough for the blocks of their
+/// own that letters, marks and unassigned code points have.
+const FIRST_ROOM: usize = 144;
+
+/// The place of the block that holds nothing.
+const EMPTY_BLOCK: u16 = 0;
+
+/// The place of the block that holds everything.
+const FULL_BLOCK: u16 = 4;
+
+/// A bit for each code point, in blocks of 256. All blocks that hold nothing share their words, and
+/// all that hold everything; each other one has four words of its own.
+#[derive(Debug)]
+pub(crate) struct CodePointBits {
+    /// The place of each block's first word.
+    index: Vec<u16>,
+    /// The bits of 64 code points each, that of the first one lowest.
+    words: Vec<u64>,
+}
+
+/// The place of the block that holds everything, or, for `value` false, nothing.
+#[inline(always)]
+fn shared_place(value: bool) -> u16 {
+    if value { FULL_BLOCK } else { EMPTY_BLOCK }
+}
+
+/// Whether each of the block's words is this one.
+fn is_all(block: &[u64; 4], word: u64) -> bool {
+    block[0] == word && block[1] == word && block[2] == word && block[3] == word
+}
+
+impl CodePointBits {
+    /// No block yet.
+    ///
+    /// # Errors
+    /// `MemoryError` where memory was refused.
+    pub(crate) fn new() -> Result<CodePointBits, MemoryError> {
+        let index = Vec::with_room(BLOCKS as usize)?;
+        let mut words = Vec::with_room(FIRST_ROOM)?;
+        words.try_extend_from_slice(&TWO_BLOCKS)?;
+        Ok(CodePointBits { index, words })
+    }
+
+    /// The bit of the code point, whose block is there.
+    #[inline(always)]
+    pub(crate) fn contains32(&self, c: u32) -> bool {
+        self.contains_in(c / 64, c % 64)
+    }
+
+    /// The bit of the code point at `place` among the 64 of a word, which are those from
+    /// `64 * word` on: as its last trail byte and the bytes before it tell them.
+    #[inline(always)]
+    pub(crate) fn contains_in(&self, word: u32, place: u32) -> bool {
+        let first = self.index[(word / 4) as usize];
+        let bits = self.words[first as usize + (word % 4) as usize];
+        (bits >> place) & 1 == 1
+    }
+
+    /// The bits of ASCII, whose block is there.
+    pub(crate) fn ascii(&self) -> [bool; 128] {
+        let first = self.index[0] as usize;
+        let (low, high) = (self.words[first], self.words[first + 1]);
+        let mut ascii = [false; 128];
+        for k in 0..64 {
+            ascii[k] = (low >> k) & 1 == 1;
+            ascii[64 + k] = (high >> k) & 1 == 1;
+        }
+        ascii
+    }
+
+    /// Appends so many blocks that hold everything, or, for `value` false, nothing.
+    ///
+    /// # Errors
+    /// `MemoryError` where memory was refused.
+    pub(crate) fn push_run(&mut self, count: usize, value: bool) -> Result<(), MemoryError> {
+        self.index
+            .try_resize(self.index.len() + count, shared_place(value))?;
+        Ok(())
+    }
+
+    /// Appends a block with four words of its own.
+    fn push_own(&mut self, block: &[u64; 4]) -> Result<(), MemoryError> {
+        self.index.try_push(self.words.len() as u16)?;
+        self.words.try_extend_from_slice(block)?;
+        Ok(())
+    }
+
+    /// Appends a block of these words.
+    ///
+    /// # Errors
+    /// `MemoryError` where memory was refused.
+    pub(crate) fn push_block(&mut self, block: &[u64; 4]) -> Result<(), MemoryError> {
+        if is_all(block, 0) {
+            return self.push_run(1, false);
+        }
+        if is_all(block, u64::MAX) {
+            return self.push_run(1, true);
+        }
+        self.push_own(block)
+    }
+
+    /// A copy.
+    ///
+    /// # Errors
+    /// `MemoryError` where memory was refused.
+    pub(crate) fn try_clone(&self) -> Result<CodePointBits, MemoryError> {
+        let index = Vec::from_slice(&self.index)?;
+        let words = Vec::from_slice(&self.words)?;
+        Ok(CodePointBits { index, words })
+    }
+}

@@ -1,0 +1,18 @@
+//! Sets of code points as inversion lists, as ICU's UnicodeSet keeps them.
+//!
+//! An inversion list is the ascending list of a set's ends: `[0x41, 0x5B]` is the set of the
+//! letters A to Z, which begins at 0x41 and stops before 0x5B. Each set has one such list.
+
+mod builder;
+mod conversions;
+mod cpinvlist;
+mod equality;
+mod error;
+mod iter;
+pub mod utils;
+
+pub use builder::CodePointInversionListBuilder;
+pub use cpinvlist::CodePointInversionList;
+pub use error::{InvalidSetError, RangeError, SetError, SetJsonError, TryRangeError};
+pub use iter::{IterChars, IterRanges, IterRangesComplemented};
+pub use utils::{RangeOf, RangePoint, deconstruct_range, is_valid_zv};

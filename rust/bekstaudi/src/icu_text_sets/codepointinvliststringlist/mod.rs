@@ -1,0 +1,10 @@
+//! Sets that hold code points, and strings of more or fewer than one code point, the empty one
+//! among them.
+
+mod equality;
+mod error;
+mod make;
+mod set;
+
+pub use error::{InvalidStringList, StringListJsonError};
+pub use set::CodePointInversionListAndStringList;

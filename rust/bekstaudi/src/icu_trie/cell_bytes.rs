@@ -1,0 +1,63 @@
+//! The packed bytes of a code point's cell.
+
+use crate::icu_trie::cptrie::CodePointTrie;
+use crate::icu_trie::packed_cells::PackedCells;
+use crate::icu_trie_core::cells::Steps;
+use crate::icu_trie_core::header::CodePointTrieHeader;
+use crate::icu_trie_core::lookup::cell_of;
+use crate::icu_trie_core::value::TrieValue;
+use crate::icu_zerovec::{ZeroSlice, ZeroVec};
+use crate::support::Brand;
+use crate::support::{Blank, Ledger};
+
+/// `cell_of` over packed vectors, with a count in the ledger of `blank`.
+#[inline]
+fn cell_counted<T: TrieValue, L: Ledger>(
+    header: &CodePointTrieHeader,
+    index: ZeroSlice<'_, u16>,
+    values: ZeroSlice<'_, T>,
+    c: u32,
+    blank: Blank,
+) -> Option<usize> {
+    let mut cells = PackedCells {
+        index,
+        values,
+        reads: Steps::<L>::new(blank),
+    };
+    cell_of(header, &mut cells, c)
+}
+
+/// `cell_of` over packed vectors. Counts in a ledger of its own, which is then dropped.
+#[inline]
+fn cell_in<T: TrieValue>(
+    header: &CodePointTrieHeader,
+    index: ZeroSlice<'_, u16>,
+    values: ZeroSlice<'_, T>,
+    c: u32,
+) -> Option<usize> {
+    cell_counted::<T, Brand>(header, index, values, c, Blank::new(1))
+}
+
+/// The packed bytes of the value at place `i`. `None` at or past the end.
+#[inline]
+fn bytes_at<'a, T: TrieValue>(values: &'a ZeroVec<'_, T>, i: usize) -> Option<&'a [u8]> {
+    if i >= values.len() {
+        return None;
+    }
+    let start = i * T::WIDTH;
+    Some(&values.as_bytes()[start..start + T::WIDTH])
+}
+
+impl<'trie, T: TrieValue> CodePointTrie<'trie, T> {
+    /// The packed bytes of the cell of the code point `c`, `T::WIDTH` of them, lent: for values
+    /// that are read in place. Above 0x10FFFF, and where a cell of the index is missing, those of
+    /// the last cell, which is the error value. `None` exactly where the index leads outside the
+    /// data.
+    ///
+    /// Where each value of the type has one encoding, as in all types of this crate, they are the
+    /// bytes that the value packs to.
+    pub fn get32_ule(&self, c: u32) -> Option<&[u8]> {
+        let place = cell_in(&self.header, self.index.as_slice(), self.data.as_slice(), c);
+        bytes_at(&self.data, place.unwrap_or(self.data.len() - 1))
+    }
+}

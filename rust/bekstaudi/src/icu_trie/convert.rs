@@ -1,0 +1,76 @@
+//! The data of a trie, read as values of another type.
+
+#[allow(unused_imports)]
+use crate::support::prelude::*;
+use crate::icu_trie::cptrie::CodePointTrie;
+use crate::icu_trie::error::ConvertError;
+use crate::icu_trie_core::header::CodePointTrieHeader;
+use crate::icu_trie_core::value::TrieValue;
+use crate::icu_zerovec::ZeroVec;
+use crate::icu_zerovec::ule::{AsULE, UleError};
+
+/// The value of the other type that has the same packed bytes. `None` where there is none.
+fn same_packed<T: AsULE, P: AsULE>(value: T) -> Option<P> {
+    value.shown();
+    P::from_unaligned(&value.to_unaligned()[..P::WIDTH])
+}
+
+impl<'trie, T: TrieValue> CodePointTrie<'trie, T> {
+    /// The same trie over values of another type of the same width: its index and the bytes of its
+    /// data are kept, borrowed or owned as they were, none of them copied. The header's null value
+    /// becomes the other type's number for the same packed bytes.
+    ///
+    /// The clauses speak of some bytes that give the values, which are known exactly where each
+    /// value has one encoding.
+    ///
+    /// # Errors
+    /// In this order: `Width` where values of the two types take different numbers of bytes; `Cell`
+    /// with the first cell of the data that is no value of the other type, the error value among
+    /// them; `ErrorOrNull` where the null value's packed bytes are no value of the other type. The
+    /// trie is then dropped.
+    pub fn try_into_converted<P: TrieValue>(self) -> Result<CodePointTrie<'trie, P>, ConvertError> {
+        if T::WIDTH != P::WIDTH {
+            return Err(ConvertError::Width);
+        }
+        let null = self.null_value();
+        let CodePointTrie {
+            header,
+            index,
+            data,
+            error_value: _,
+        } = self;
+        let data = match data.try_into_converted::<P>() {
+            Ok(data) => data,
+            Err(UleError::Cell(i)) => return Err(ConvertError::Cell(i)),
+            Err(UleError::Length) => unreachable!(),
+        };
+        match same_packed::<T, P>(null) {
+            Some(null) => {
+                null.shown();
+                Ok(CodePointTrie::with_data(header, index, data, null))
+            }
+            None => Err(ConvertError::ErrorOrNull),
+        }
+    }
+
+    /// The trie of parts that were tested, with this null value.
+    pub(crate) fn with_data(
+        header: CodePointTrieHeader,
+        index: ZeroVec<'trie, u16>,
+        data: ZeroVec<'trie, T>,
+        null: T,
+    ) -> Self {
+        let Some(error_value) = data.last() else {
+            unreachable!()
+        };
+        CodePointTrie {
+            header: CodePointTrieHeader {
+                null_value: null.to_u32(),
+                ..header
+            },
+            index,
+            data,
+            error_value,
+        }
+    }
+}

@@ -1,0 +1,14 @@
+//! Tries are equal by their header, their index and their data, whichever of them borrows.
+
+use crate::icu_trie::cptrie::CodePointTrie;
+use crate::icu_trie_core::header::CodePointTrieHeader;
+use crate::icu_trie_core::value::TrieValue;
+
+impl<'trie, T: TrieValue> PartialEq for CodePointTrie<'trie, T> {
+    fn eq(&self, other: &Self) -> bool {
+        self.header == other.header && self.index == other.index && self.data == other.data
+    }
+}
+
+impl<'trie, T: TrieValue> Eq for CodePointTrie<'trie, T> {
+}

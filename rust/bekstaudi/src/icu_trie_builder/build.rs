@@ -1,0 +1,101 @@
+//! A map becomes a trie: its values as numbers, the trie of the numbers, and the values of its
+//! cells.
+
+#[allow(unused_imports)]
+use crate::support::prelude::*;
+use crate::icu_trie_builder::builder::CodePointTrieBuilder;
+use crate::icu_trie_builder::error::BuildError;
+use crate::icu_trie_builder::number_trie::{NumberTrie, build_numbers};
+use crate::icu_trie_builder::writes::Write;
+use crate::icu_trie::cptrie::CodePointTrie;
+use crate::icu_trie::error::PartsError;
+use crate::icu_trie::header::TrieType;
+use crate::icu_trie::value::TrieValue;
+use crate::icu_trie_map::number_map::NumberMap;
+use crate::support::{AllocError};
+
+/// The value of each number, where each is a value's.
+fn values_of<T: TrieValue>(numbers: &[u32]) -> Result<Vec<T>, AllocError> {
+    let mut values = Vec::with_room(numbers.len())?;
+    for number in numbers {
+        match T::try_from_u32(*number) {
+            Ok(value) => values.try_push(value)?,
+            Err(_) => unreachable!(),
+        }
+    }
+    Ok(values)
+}
+
+/// The trie of these values, from that of their numbers.
+fn trie_of<T: TrieValue>(
+    trie: NumberTrie,
+) -> Result<CodePointTrie<'static, T>, BuildError> {
+    let values = values_of::<T>(&trie.values)?;
+    match CodePointTrie::alloc_from_slices(trie.header, &trie.index, &values) {
+        Ok(trie) => Ok(trie),
+        Err(PartsError::Memory) => Err(BuildError::Memory),
+        Err(PartsError::Trie(_)) => unreachable!(),
+    }
+}
+
+/// The trie of a map that is given by the number of each code point's value.
+fn build_map<T: TrieValue>(
+    numbers: &NumberMap,
+    default: T,
+    error: T,
+    trie_type: TrieType,
+) -> Result<CodePointTrie<'static, T>, BuildError> {
+    let trie = build_numbers(numbers, error.to_u32(), default.to_u32(), trie_type)?;
+    trie_of(trie)
+}
+
+impl<T: TrieValue> CodePointTrieBuilder<T> {
+    /// The trie of the map, of the builder's type, which owns its index and its data.
+    ///
+    /// ```ignore
+    /// let mut builder = CodePointTrieBuilder::new(0u16, 9, TrieType::Small);
+    /// builder.try_set_value(0x20000, 10)?;
+    /// let trie = builder.try_build()?;
+    /// // trie.get32(0x20000) is 10, and trie.get32(0x1FFFF) is 0
+    /// ```
+    ///
+    /// # Errors
+    /// `BuildError::TooLarge` where a data block's offset would need more than 18 bits or an
+    /// index-3 block's offset would reach 0x7fff, which takes more than 800 different aligned
+    /// blocks of 512 values, or more than 12,000 of 16. `BuildError::Memory` where memory was
+    /// refused. The builder is consumed in both cases.
+    pub fn try_build(self) -> Result<CodePointTrie<'static, T>, BuildError> {
+        build_map(
+            &self.numbers,
+            self.default,
+            self.error,
+            self.trie_type,
+        )
+    }
+}
+
+/// The trie that these writes, the first one first, make of a map of the default: each code point
+/// has the value of the last accepted write that covers it.
+///
+/// ```ignore
+/// let writes = [Write::Range(0x41..=0x5A, 1u8), Write::One(0x41, 0)];
+/// let trie = build_from_writes(0, 9, TrieType::Fast, &writes)?;
+/// // trie.get32(0x41) is 0, trie.get32(0x5A) is 1, and trie.get32(0x110000) is 9
+/// ```
+///
+/// # Errors
+/// `BuildError::TooLarge` and `BuildError::Memory` as for [`CodePointTrieBuilder::build`]; `Memory`
+/// too where a write was refused, and `TooLarge` only where none was, and never after at most 256
+/// accepted writes.
+pub fn try_build_from_writes<T: TrieValue>(
+    default: T,
+    error: T,
+    trie_type: TrieType,
+    writes: &[Write<T>],
+) -> Result<CodePointTrie<'static, T>, BuildError> {
+    let mut builder = CodePointTrieBuilder::new(default, error, trie_type);
+    if builder.apply(writes).is_err() {
+        return Err(BuildError::Memory);
+    }
+    builder.try_build()
+}

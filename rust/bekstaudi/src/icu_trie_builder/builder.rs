@@ -1,0 +1,116 @@
+//! A map of the code points that is written to, and then built into a trie.
+
+#[allow(unused_imports)]
+use crate::support::prelude::*;
+use crate::icu_trie_builder::writes::{ApplyRefused, Write};
+use crate::icu_trie::header::TrieType;
+use crate::icu_trie::value::TrieValue;
+use crate::icu_trie_map::number_map::NumberMap;
+use crate::icu_zerovec::{CODE_POINT_LIMIT, MemoryError};
+use core::ops::RangeInclusive;
+
+/// A map from code points to values that can be written to, and then built into a trie
+/// (UMutableCPTrie).
+///
+/// A clause sees the value of each code point, the default, the error value and the type of the
+/// trie to build.
+///
+/// ```ignore
+/// let mut builder = CodePointTrieBuilder::new(0u8, 9, TrieType::Fast);
+/// builder.try_set_range_value(0x41..=0x5A, 1)?;
+/// builder.try_set_value(0x41, 0)?;
+/// let trie = builder.try_build()?;
+/// // trie.get32(0x41) is 0, trie.get32(0x42) is 1, and trie.get32(0x110000) the error value, 9
+/// ```
+#[derive(Debug)]
+pub struct CodePointTrieBuilder<T: TrieValue> {
+    // The number of each code point's value.
+    pub(crate) numbers: NumberMap,
+    pub(crate) default: T,
+    pub(crate) error: T,
+    pub(crate) trie_type: TrieType,
+    }
+
+impl<T: TrieValue> CodePointTrieBuilder<T> {
+    /// The map that has the default at every code point. It takes no memory; that is left to
+    /// the calls that do.
+    pub fn new(default: T, error: T, trie_type: TrieType) -> Self {
+        default.shown();
+        error.shown();
+        CodePointTrieBuilder {
+            numbers: NumberMap::new(default.to_u32()),
+            default,
+            error,
+            trie_type,
+            }
+    }
+
+    /// Gives the code point `c` this value. A number above 0x10FFFF writes nothing.
+    ///
+    /// ```ignore
+    /// builder.try_set_value(0x1234, 7)?;
+    /// builder.try_set_value(0x110000, 8)?; // Ok, and nothing is written
+    /// ```
+    ///
+    /// # Errors
+    /// `MemoryError` where memory for the cells was refused, which only a write can meet that is
+    /// accepted. The map stays as it was.
+    pub fn try_set_value(&mut self, c: u32, value: T) -> Result<(), MemoryError> {
+        self.try_set_range_value(c..=c, value)
+    }
+
+    /// Gives each code point of the range this value. A reversed range writes nothing, nor does one
+    /// that starts above 0x10FFFF; a range that passes 0x10FFFF is cut there.
+    ///
+    /// ```ignore
+    /// builder.try_set_range_value(0x1000..=0x1FFF, 8)?;
+    /// builder.try_set_range_value(3..=2, 9)?; // Ok, and nothing is written
+    /// builder.try_set_range_value(0x10FFFF..=0x110005, 1)?; // writes at 0x10FFFF
+    /// ```
+    ///
+    /// # Errors
+    /// `MemoryError` where memory for the cells was refused, which only a write can meet that is
+    /// accepted. The map stays as it was.
+    pub fn try_set_range_value(
+        &mut self,
+        range: RangeInclusive<u32>,
+        value: T,
+    ) -> Result<(), MemoryError> {
+        let start = *range.start() as usize;
+        let end = (*range.end() as usize).min(CODE_POINT_LIMIT as usize - 1);
+        if start > end {
+            return Ok(());
+        }
+        value.shown();
+        self.numbers.set_range(start, end + 1, value.to_u32())?;
+        Ok(())
+    }
+
+    /// Makes these writes, from the first on.
+    ///
+    /// ```ignore
+    /// builder.apply(&[Write::One(0x20000, 10), Write::Range(0x1FFF..=0x2000, 11)])?;
+    /// ```
+    ///
+    /// # Errors
+    /// `ApplyRefused` with the place of the first write that memory was refused for. The writes
+    /// before it are made then, and no other.
+    pub fn apply(&mut self, writes: &[Write<T>]) -> Result<(), ApplyRefused> {
+        for (i, write) in writes.iter().enumerate() {
+            if self.write(write).is_err() {
+                return Err(ApplyRefused(i));
+            }
+        }
+        Ok(())
+    }
+
+    /// Makes one write.
+    fn write(&mut self, write: &Write<T>) -> Result<(), MemoryError> {
+        match write {
+            Write::One(c, value) => self.try_set_value(*c, *value),
+            Write::Range(range, value) => {
+                self.try_set_range_value(*range.start()..=*range.end(), *value)
+            }
+        }
+    }
+}

@@ -1,0 +1,56 @@
+//! Blocks of 16 that hold one number are given the place of a block of 64 that holds it: so the
+//! offsets of neighbouring blocks are more often equal below and above the fast limit, and index-3
+//! blocks of them are found in the fast index.
+
+#[allow(unused_imports)]
+use crate::support::prelude::*;
+use crate::icu_trie_builder::lengths::{FAST_BLOCK, SMALL_BLOCK};
+use crate::icu_trie_builder::null_block::is_filled;
+use crate::support::{AllocError};
+
+/// An offset that no block has.
+const NO_OFFSET: u32 = u32::MAX;
+
+/// The offsets of blocks of 64 that hold one number.
+pub(crate) fn filled_places(
+    cells: &[u32],
+    fast: &[u32],
+) -> Result<Vec<u32>, AllocError> {
+    let mut places = Vec::new();
+    let mut last = NO_OFFSET;
+    for offset in fast {
+        if *offset != last && is_filled(cells, *offset as usize, FAST_BLOCK) {
+            places.try_push(*offset)?;
+        }
+        last = *offset;
+    }
+    Ok(places)
+}
+
+/// The first of these places whose cell is that at `at`, where 16 cells from there on are equal,
+/// else `at`.
+fn shared_place(cells: &[u32], places: &[u32], at: u32) -> u32 {
+    if !is_filled(cells, at as usize, SMALL_BLOCK) {
+        return at;
+    }
+    for place in places {
+        if cells[*place as usize] == cells[at as usize] {
+            return *place;
+        }
+    }
+    at
+}
+
+/// Gives each block of 16 that holds one number the first of these places that has it, if there is
+/// one.
+pub(crate) fn share_filled(cells: &[u32], places: &[u32], small: &mut [u32]) {
+    let mut from = NO_OFFSET;
+    let mut to = NO_OFFSET;
+    for offset in small.iter_mut() {
+        if *offset != from {
+            from = *offset;
+            to = shared_place(cells, places, from);
+        }
+        *offset = to;
+    }
+}

@@ -1,0 +1,104 @@
+//! Which number fills the most blocks: a wish, which no contract states.
+
+#[allow(unused_imports)]
+use crate::support::prelude::*;
+use crate::icu_trie_builder::lengths::{FAST_BLOCK, SMALL_BLOCK};
+use crate::icu_trie_builder::null_block::is_filled;
+use crate::support::{AllocError};
+
+/// How many numbers are counted at a time. Where there are more, a new one takes the place of the
+/// least used.
+const MOST_USES: usize = 32;
+
+/// How many blocks of 16 a number fills.
+#[derive(Clone, Copy)]
+struct Use {
+    value: u32,
+    blocks: usize,
+}
+
+/// The place of a number that is used least.
+fn least_used(uses: &[Use]) -> usize {
+    let mut least = 0;
+    for i in 0..uses.len() {
+        if uses[i].blocks < uses[least].blocks {
+            least = i;
+        }
+    }
+    least
+}
+
+/// Counts `blocks` blocks more for a number.
+fn add_use(uses: &mut Vec<Use>, value: u32, blocks: usize) -> Result<(), AllocError> {
+    for i in 0..uses.len() {
+        if uses[i].value == value {
+            uses[i].blocks = uses[i].blocks.saturating_add(blocks);
+            return Ok(());
+        }
+    }
+    if uses.len() < MOST_USES {
+        uses.try_push(Use { value, blocks })?;
+    } else {
+        let least = least_used(uses);
+        uses[least] = Use { value, blocks };
+    }
+    Ok(())
+}
+
+/// Counts the `count` blocks of `size` cells at one offset, where they hold one number.
+fn add_blocks(
+    uses: &mut Vec<Use>,
+    cells: &[u32],
+    at: usize,
+    size: usize,
+    count: usize,
+) -> Result<(), AllocError> {
+    if count > 0 && is_filled(cells, at, size) {
+        add_use(uses, cells[at], count.saturating_mul(size / SMALL_BLOCK))?;
+    }
+    Ok(())
+}
+
+/// Counts the blocks of `size` cells at these offsets.
+fn add_offsets(
+    uses: &mut Vec<Use>,
+    cells: &[u32],
+    offsets: &[u32],
+    size: usize,
+) -> Result<(), AllocError> {
+    let mut last = 0;
+    let mut count = 0;
+    for offset in offsets {
+        if *offset != last {
+            add_blocks(uses, cells, last as usize, size, count)?;
+            count = 0;
+        }
+        last = *offset;
+        count += 1;
+    }
+    add_blocks(uses, cells, last as usize, size, count)
+}
+
+/// A number that fills more of these blocks than others, weighted by their length.
+pub(crate) fn most_used(
+    cells: &[u32],
+    fast: &[u32],
+    small: &[u32],
+) -> Result<Option<u32>, AllocError> {
+    let mut uses = Vec::new();
+    add_offsets(&mut uses, cells, fast, FAST_BLOCK)?;
+    add_offsets(&mut uses, cells, small, SMALL_BLOCK)?;
+    let mut most = Use {
+        value: 0,
+        blocks: 0,
+    };
+    for used in &uses {
+        if used.blocks > most.blocks {
+            most = *used;
+        }
+    }
+    if most.blocks == 0 {
+        return Ok(None);
+    }
+    Ok(Some(most.value))
+}

@@ -1,0 +1,49 @@
+//! Why a trie could not be built.
+
+use crate::icu_zerovec::MemoryError;
+use crate::icu_zerovec::memory::ApplyRefused;
+use crate::support::{AllocError, AllocFailed};
+
+/// Why a trie could not be built.
+#[derive(Clone, Copy, Debug, PartialEq, Eq)]
+pub enum BuildError {
+    /// The map has so many different blocks that an offset does not fit its cell.
+    TooLarge,
+    /// Memory was refused.
+    Memory,
+}
+
+impl From<AllocError> for BuildError {
+    fn from(_error: AllocError) -> BuildError {
+        BuildError::Memory
+    }
+}
+
+impl<T> From<AllocFailed<T>> for BuildError {
+    fn from(_error: AllocFailed<T>) -> BuildError {
+        BuildError::Memory
+    }
+}
+
+impl From<MemoryError> for BuildError {
+    fn from(_error: MemoryError) -> BuildError {
+        BuildError::Memory
+    }
+}
+
+impl From<ApplyRefused> for BuildError {
+    fn from(_error: ApplyRefused) -> BuildError {
+        BuildError::Memory
+    }
+}
+
+impl core::fmt::Display for BuildError {
+    fn fmt(&self, f: &mut core::fmt::Formatter<'_>) -> core::fmt::Result {
+        match self {
+            BuildError::TooLarge => write!(f, "too large"),
+            BuildError::Memory => write!(f, "no memory"),
+        }
+    }
+}
+
+impl core::error::Error for BuildError {}

@@ -1,0 +1,142 @@
+//! The index: the offsets of the blocks of 64 below the fast limit, then index-1, the index-3
+//! blocks and index-2 for the code points from it on.
+
+#[allow(unused_imports)]
+use crate::support::prelude::*;
+use crate::icu_trie_compaction::error::BuildError;
+use crate::icu_trie_compaction::index2::{place_index2, with_unread};
+pub use crate::icu_trie_compaction::index3::NO_INDEX3_NULL_OFFSET;
+use crate::icu_trie_compaction::index3::place_index3;
+use crate::icu_trie_compaction::lengths::INDEX_3_BLOCK;
+use crate::icu_trie_core::header::TrieType;
+use crate::icu_trie_core::impl_const::{CP_PER_INDEX_2_ENTRY, FAST_TYPE_DATA_BLOCK_LENGTH, SHIFT_1};
+use crate::support::{AllocError};
+
+/// How many code points an index-1 cell stands for.
+const CP_PER_INDEX_1_ENTRY: usize = 1 << SHIFT_1;
+
+/// The index of a trie, and how a walk knows the blocks of 512 that are null throughout.
+pub struct BuiltIndex {
+    /// The fast index, and after it the cells for the code points from the fast limit on.
+    pub cells: Vec<u16>,
+    /// The index-2 cell, bit 15 included, of the blocks of 512 all of whose data offsets are the
+    /// null block's; 0x7fff where there is none.
+    pub null_offset: u16,
+}
+
+/// Appends the fast index, the offsets of the blocks of 64, to `index`.
+fn push_fast(index: &mut Vec<u16>, fast: &[u32]) -> Result<(), AllocError> {
+    for offset in fast {
+        index.try_push(*offset as u16)?;
+    }
+    Ok(())
+}
+
+/// Appends the index-1 cells to `index`, for index-2 blocks at these places from `start` on.
+fn push_index1(index: &mut Vec<u16>, start: usize, places: &[usize]) -> Result<(), AllocError> {
+    for place in places {
+        index.try_push((start + *place) as u16)?;
+    }
+    Ok(())
+}
+
+/// Appends the cells of the index-3 and index-2 blocks to `index`.
+fn push_stored(index: &mut Vec<u16>, cells: &[u32]) -> Result<(), AllocError> {
+    for cell in cells {
+        index.try_push(*cell as u16)?;
+    }
+    Ok(())
+}
+
+/// The cells, with 32 bits each.
+fn widened(cells: &[u16]) -> Result<Vec<u32>, AllocError> {
+    let mut wide = Vec::with_room(cells.len())?;
+    for cell in cells {
+        wide.try_push(u32::from(*cell))?;
+    }
+    Ok(wide)
+}
+
+/// Whether all offsets of block number `number` of 32 are `null`.
+fn is_null(offsets: &[u32], null: usize, number: usize) -> bool {
+    for i in 0..INDEX_3_BLOCK {
+        if offsets[INDEX_3_BLOCK * number + i] as usize != null {
+            return false;
+        }
+    }
+    true
+}
+
+/// The first block of 32 offsets all of which are `null`.
+fn null_block(offsets: &[u32], null: usize) -> Option<usize> {
+    for number in 0..offsets.len() / INDEX_3_BLOCK {
+        if is_null(offsets, null, number) {
+            return Some(number);
+        }
+    }
+    None
+}
+
+/// The index-2 cell, of these, of the first block of 32 offsets all of which are `null`, 0x7fff
+/// where there is none.
+fn null_cell(small: &[u32], null: usize, cells: &[u32]) -> u16 {
+    match null_block(small, null) {
+        Some(number) => cells[number] as u16,
+        None => NO_INDEX3_NULL_OFFSET,
+    }
+}
+
+/// Appends index-1, the index-3 blocks and index-2 to the fast index, and gives the index-2 cell of
+/// the blocks of 512 all of whose offsets are `null`, 0x7fff where there is none. `small` has the
+/// offsets of the blocks of 16 from the fast limit on to before `high_start`.
+fn push_upper(
+    index: &mut Vec<u16>,
+    trie_type: TrieType,
+    high_start: usize,
+    small: &[u32],
+    null: usize,
+) -> Result<u16, BuildError> {
+    let limit = trie_type.fast_limit() as usize;
+    let start = limit / FAST_TYPE_DATA_BLOCK_LENGTH as usize
+        + (high_start.div_ceil(CP_PER_INDEX_1_ENTRY) - limit / CP_PER_INDEX_1_ENTRY);
+    let fast = widened(index)?;
+    let mut stored = Vec::new();
+    let numbers = place_index3(&mut stored, &fast, small, start)?;
+    let unread = limit % CP_PER_INDEX_1_ENTRY / CP_PER_INDEX_2_ENTRY as usize;
+    let cells = with_unread(&numbers, unread)?;
+    let places = place_index2(&mut stored, &cells)?;
+    push_index1(index, start, &places)?;
+    push_stored(index, &stored)?;
+    Ok(null_cell(small, null, &numbers))
+}
+
+/// The index, where `fast` has the offsets of the blocks of 64 below the fast limit, and `small`
+/// those of the blocks of 16 from it on to before `high_start`. `null` is the offset of the null
+/// block of the data, 0xfffff where there is none.
+///
+/// # Errors
+///
+/// `TooLarge` at the first index-3 block that would stand at 0x7fff or above it.
+pub(crate) fn build_index(
+    trie_type: TrieType,
+    high_start: usize,
+    fast: &[u32],
+    small: &[u32],
+    null: usize,
+) -> Result<BuiltIndex, BuildError>
+
+    // Where all offsets have 16 bits, no block needs the 18-bit form.
+
+    // After all others, a different index-3 block would stand at 0x7fff or above it.
+{
+    let mut cells = Vec::new();
+    push_fast(&mut cells, fast)?;
+    if high_start <= trie_type.fast_limit() as usize {
+        return Ok(BuiltIndex {
+            cells,
+            null_offset: NO_INDEX3_NULL_OFFSET,
+        });
+    }
+    let null_offset = push_upper(&mut cells, trie_type, high_start, small, null)?;
+    Ok(BuiltIndex { cells, null_offset })
+}

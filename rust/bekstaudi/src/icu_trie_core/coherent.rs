@@ -1,0 +1,223 @@
+//! Whether a trie is coherent.
+//!
+//! The trie is tested block by block, as the format cuts the code space, and no code point is
+//! looked up. That a data block lies in the data is told by its offset; cells are read where the
+//! header names a block as null, and where the fast index goes on above the high start.
+
+#[allow(unused_imports)]
+use crate::support::prelude::*;
+use crate::icu_trie_core::cells::Cells;
+use crate::icu_trie_core::header::CodePointTrieHeader;
+use crate::icu_trie_core::impl_const::{
+    CP_PER_INDEX_2_ENTRY, FAST_TYPE_DATA_BLOCK_LENGTH, INDEX_3_BLOCK_LENGTH,
+    SMALL_DATA_BLOCK_LENGTH,
+};
+use crate::icu_trie_core::lookup::{high_cell_of, index2_cell_of, offset_of};
+use crate::icu_trie_core::value::TrieValue;
+use crate::icu_trie_core::walk::is_same;
+use crate::icu_zerovec::CODE_POINT_LIMIT;
+
+/// Whether the cells of data from an offset on, `len` of them, are this value.
+fn are_all<T: TrieValue, C: Cells<T>>(cells: &mut C, offset: u32, len: u32, value: T) -> bool {
+    for place in 0..len {
+        let Some(cell) = cells.data_cell(offset as usize + place as usize) else {
+            return false;
+        };
+        if !is_same(cell, value) {
+            return false;
+        }
+    }
+    true
+}
+
+/// Whether there is a null value, and the cells of data from an offset on, `len` of them, are it.
+fn is_null_block<T: TrieValue, C: Cells<T>>(
+    header: &CodePointTrieHeader,
+    cells: &mut C,
+    offset: u32,
+    len: u32,
+) -> bool {
+    let Some(null) = T::try_from_u32(header.null_value).ok() else {
+        return false;
+    };
+    are_all(cells, offset, len, null)
+}
+
+/// Whether the cells of data from an offset on, `len` of them, are there, and the null value where
+/// the header names the block as null. `null_block` tells whether the block at the null offset is
+/// so.
+fn is_block<T: TrieValue, C: Cells<T>>(
+    header: &CodePointTrieHeader,
+    cells: &C,
+    offset: u32,
+    len: u32,
+    null_block: bool,
+) -> bool {
+    if offset == header.data_null_offset {
+        return null_block;
+    }
+    offset as usize + len as usize <= cells.data_len()
+}
+
+/// Whether the blocks of 64 below the fast limit and the high start are so.
+fn has_fast_blocks<T: TrieValue, C: Cells<T>>(header: &CodePointTrieHeader, cells: &mut C) -> bool {
+    let null_block = is_null_block(
+        header,
+        cells,
+        header.data_null_offset,
+        FAST_TYPE_DATA_BLOCK_LENGTH,
+    );
+    let limit = header.high_start.min(header.trie_type.fast_limit());
+    for block in 0..limit.div_ceil(FAST_TYPE_DATA_BLOCK_LENGTH) {
+        let Some(offset) = cells.index_cell(block as usize) else {
+            return false;
+        };
+        if !is_block(
+            header,
+            cells,
+            u32::from(offset),
+            FAST_TYPE_DATA_BLOCK_LENGTH,
+            null_block,
+        ) {
+            return false;
+        }
+    }
+    true
+}
+
+/// Whether the blocks of 16 that an index-2 cell names are so. `null_block` tells it of the one at
+/// the null offset.
+fn names_blocks<T: TrieValue, C: Cells<T>>(
+    header: &CodePointTrieHeader,
+    cells: &mut C,
+    cell: u16,
+    null_block: bool,
+) -> bool {
+    for place in 0..INDEX_3_BLOCK_LENGTH {
+        let Some(offset) = offset_of(cells, cell, place) else {
+            return false;
+        };
+        if !is_block(header, cells, offset, SMALL_DATA_BLOCK_LENGTH, null_block) {
+            return false;
+        }
+    }
+    true
+}
+
+/// Whether the blocks of 16 that the null index-2 cell names are null.
+fn is_null_cell<T: TrieValue, C: Cells<T>>(header: &CodePointTrieHeader, cells: &mut C) -> bool {
+    for place in 0..INDEX_3_BLOCK_LENGTH {
+        let Some(offset) = offset_of(cells, header.index3_null_offset, place) else {
+            return false;
+        };
+        if !is_null_block(header, cells, offset, SMALL_DATA_BLOCK_LENGTH) {
+            return false;
+        }
+    }
+    true
+}
+
+/// Whether the blocks that an index-2 cell names are so, and null where it is the null one.
+/// `null_block` and `null_cell` tell whether the block at the null offset, and those of the null
+/// cell, are null.
+fn is_cell<T: TrieValue, C: Cells<T>>(
+    header: &CodePointTrieHeader,
+    cells: &mut C,
+    cell: u16,
+    null_block: bool,
+    null_cell: bool,
+) -> bool {
+    let named_null = cell == header.index3_null_offset;
+    if named_null {
+        return null_cell;
+    }
+    names_blocks(header, cells, cell, null_block)
+}
+
+/// Whether the blocks of 512 from the fast limit on and below the high start are so.
+fn has_small_blocks<T: TrieValue, C: Cells<T>>(header: &CodePointTrieHeader, cells: &mut C) -> bool {
+    let null_block = is_null_block(
+        header,
+        cells,
+        header.data_null_offset,
+        SMALL_DATA_BLOCK_LENGTH,
+    );
+    let null_cell = is_null_cell(header, cells);
+    let mut known = None;
+    for block in header.trie_type.fast_limit() / CP_PER_INDEX_2_ENTRY..header
+        .high_start
+        .div_ceil(CP_PER_INDEX_2_ENTRY) {
+        let Some(cell) = index2_cell_of(header.trie_type, cells, block * CP_PER_INDEX_2_ENTRY)
+        else {
+            return false;
+        };
+        if known != Some(cell) && !is_cell(header, cells, cell, null_block, null_cell) {
+            return false;
+        }
+        known = Some(cell);
+    }
+    true
+}
+
+/// Whether the blocks of 64 below the fast limit from the high start on have the high value
+/// throughout.
+fn has_high_blocks<T: TrieValue, C: Cells<T>>(
+    header: &CodePointTrieHeader,
+    cells: &mut C,
+    high: T,
+) -> bool {
+    let mut known = None;
+    for block in header.high_start.div_ceil(FAST_TYPE_DATA_BLOCK_LENGTH)
+        ..header.trie_type.fast_limit() / FAST_TYPE_DATA_BLOCK_LENGTH {
+        let Some(offset) = cells.index_cell(block as usize) else {
+            return false;
+        };
+        if known != Some(offset)
+            && !are_all(cells, u32::from(offset), FAST_TYPE_DATA_BLOCK_LENGTH, high) {
+            return false;
+        }
+        known = Some(offset);
+    }
+    true
+}
+
+/// Whether there is a high value where one is needed, and the fast index agrees with it.
+fn has_high_value<T: TrieValue, C: Cells<T>>(header: &CodePointTrieHeader, cells: &mut C) -> bool {
+    if header.high_start == CODE_POINT_LIMIT {
+        return true;
+    }
+    let Some(place) = high_cell_of(cells.data_len()) else {
+        return false;
+    };
+    let Some(high) = cells.data_cell(place) else {
+        return false;
+    };
+    has_high_blocks(header, cells, high)
+}
+
+/// Whether the blocks of a trie are as coherence says.
+fn has_coherent_blocks<T: TrieValue, C: Cells<T>>(
+    header: &CodePointTrieHeader,
+    cells: &mut C,
+) -> bool {
+    if !has_high_value(header, cells) {
+        return false;
+    }
+    if !has_fast_blocks(header, cells) {
+        return false;
+    }
+    has_small_blocks(header, cells)
+}
+
+/// Whether a trie is coherent (UCPTrie): whether what its header says of the high value and of null
+/// blocks is so, and no read for a code point below the high start falls outside index or data.
+///
+/// A walk over a coherent trie gives the longest runs of what look-ups answer. No code point is
+/// looked up: each aligned block takes a few reads, and one that is named as the block before it
+/// none.
+pub fn is_coherent<T: TrieValue, C: Cells<T>>(header: &CodePointTrieHeader, cells: &mut C) -> bool {
+    if header.high_start % CP_PER_INDEX_2_ENTRY != 0 || header.high_start > CODE_POINT_LIMIT {
+        return false;
+    }
+    has_coherent_blocks(header, cells)
+}

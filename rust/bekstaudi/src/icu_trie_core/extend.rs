@@ -1,0 +1,279 @@
+//! How far one value goes, by blocks: what a walk does past the cell that its look-up found.
+//!
+//! Each block is read once. One that is named as null, and one whose cells have just been seen, is
+//! gone over without a read.
+
+#[allow(unused_imports)]
+use crate::support::prelude::*;
+use crate::icu_trie_core::cells::Cells;
+use crate::icu_trie_core::header::CodePointTrieHeader;
+use crate::icu_trie_core::impl_const::{
+    CP_PER_INDEX_2_ENTRY, FAST_TYPE_DATA_BLOCK_LENGTH, SMALL_DATA_BLOCK_LENGTH,
+};
+use crate::icu_trie_core::lookup::{high_cell_of, index2_cell_of, offset_of};
+use crate::icu_trie_core::value::TrieValue;
+use crate::icu_trie_core::walk::is_same;
+use crate::icu_zerovec::CODE_POINT_LIMIT;
+
+/// Reads the cells of a data block from place `from` on, and answers the first place with another
+/// value, or `len`. `None` where a cell is missing before that.
+///
+/// One test tells how many of the cells are there.
+#[inline(always)]
+fn extend_by_cells<T: TrieValue, C: Cells<T>>(
+    cells: &mut C,
+    offset: u32,
+    len: u32,
+    from: u32,
+    value: T,
+) -> Option<u32> {
+    let there = cells
+        .data_len()
+        .saturating_sub(offset as usize)
+        .min(len as usize) as u32;
+    for place in from..there {
+        if !is_same(cells.data_at((offset + place) as usize), value) {
+            return Some(place);
+        }
+    }
+    if there < len { None } else { Some(len) }
+}
+
+/// The first place of a data block, `from` or a later one, with another value, or `len`. A block
+/// that is remembered to hold the value, and one that is named as null, is not read.
+#[inline(always)]
+fn extend_in_block<T: TrieValue, C: Cells<T>>(
+    header: &CodePointTrieHeader,
+    cells: &mut C,
+    offset: u32,
+    len: u32,
+    from: u32,
+    value: T,
+    remembered: Option<u32>,
+) -> Option<u32> {
+    if remembered == Some(offset) {
+        return Some(len);
+    }
+    if offset == header.data_null_offset {
+        let null = T::try_from_u32(header.null_value).ok()?;
+        return Some(if is_same(null, value) { len } else { from });
+    }
+    extend_by_cells(cells, offset, len, from, value)
+}
+
+/// Goes through the blocks of 64 below the limit. Answers the first code point from `start` on with
+/// another value, or the limit.
+///
+/// It stays a call, as `extend_index3` does, so that its loop has all that it needs in registers.
+#[inline(never)]
+fn extend_fast<T: TrieValue, C: Cells<T>>(
+    header: &CodePointTrieHeader,
+    cells: &mut C,
+    limit: u32,
+    start: u32,
+    value: T,
+) -> Option<u32> {
+    let mut remembered = None;
+    for block in start / FAST_TYPE_DATA_BLOCK_LENGTH..limit.div_ceil(FAST_TYPE_DATA_BLOCK_LENGTH) {
+        let base = block * FAST_TYPE_DATA_BLOCK_LENGTH;
+        let len = (limit - base).min(FAST_TYPE_DATA_BLOCK_LENGTH);
+        let offset = u32::from(cells.index_cell(block as usize)?);
+        let reach = extend_in_block(header, cells, offset, len, 0, value, remembered)?;
+        if reach < len {
+            return Some(base + reach);
+        }
+        remembered = Some(offset);
+    }
+    Some(limit)
+}
+
+/// Goes through the blocks of 16 of an index-3 block. Answers the first place from `from` on with
+/// another value, or `len`.
+#[inline(never)]
+fn extend_index3<T: TrieValue, C: Cells<T>>(
+    header: &CodePointTrieHeader,
+    cells: &mut C,
+    cell: u16,
+    len: u32,
+    from: u32,
+    value: T,
+) -> Option<u32> {
+    let mut remembered = None;
+    for place in from / SMALL_DATA_BLOCK_LENGTH..len.div_ceil(SMALL_DATA_BLOCK_LENGTH) {
+        let base = place * SMALL_DATA_BLOCK_LENGTH;
+        let block_len = (len - base).min(SMALL_DATA_BLOCK_LENGTH);
+        let offset = offset_of(cells, cell, place)?;
+        let reach = extend_in_block(header, cells, offset, block_len, 0, value, remembered)?;
+        if reach < block_len {
+            return Some(base + reach);
+        }
+        remembered = Some(offset);
+    }
+    Some(len)
+}
+
+/// The first place of a block of 512 with another value, or `len`. A block that is remembered to
+/// hold the value, and one that is named as null, is not read.
+fn extend_in_cell<T: TrieValue, C: Cells<T>>(
+    header: &CodePointTrieHeader,
+    cells: &mut C,
+    cell: u16,
+    len: u32,
+    value: T,
+    remembered: Option<u16>,
+) -> Option<u32> {
+    if remembered == Some(cell) {
+        return Some(len);
+    }
+    if cell == header.index3_null_offset {
+        let null = T::try_from_u32(header.null_value).ok()?;
+        return Some(if is_same(null, value) { len } else { 0 });
+    }
+    extend_index3(header, cells, cell, len, 0, value)
+}
+
+/// Goes through the blocks of 512 from the fast limit on, up to the limit. Answers the first code
+/// point from `start` on with another value, or the limit.
+fn extend_small<T: TrieValue, C: Cells<T>>(
+    header: &CodePointTrieHeader,
+    cells: &mut C,
+    limit: u32,
+    start: u32,
+    value: T,
+) -> Option<u32> {
+    let mut remembered = None;
+    for block in start / CP_PER_INDEX_2_ENTRY..limit.div_ceil(CP_PER_INDEX_2_ENTRY) {
+        let base = block * CP_PER_INDEX_2_ENTRY;
+        let len = (limit - base).min(CP_PER_INDEX_2_ENTRY);
+        let cell = index2_cell_of(header.trie_type, cells, base)?;
+        let reach = extend_in_cell(header, cells, cell, len, value, remembered)?;
+        if reach < len {
+            return Some(base + reach);
+        }
+        remembered = Some(cell);
+    }
+    Some(limit)
+}
+
+/// The first code point from `start` on with another value, or the limit. `start` is the limit, or
+/// a block begins there.
+fn extend<T: TrieValue, C: Cells<T>>(
+    header: &CodePointTrieHeader,
+    cells: &mut C,
+    limit: u32,
+    start: u32,
+    value: T,
+) -> Option<u32> {
+    if start == limit {
+        return Some(limit);
+    }
+    let fast_limit = header.trie_type.fast_limit();
+    if start >= fast_limit {
+        return extend_small(header, cells, limit, start, value);
+    }
+    let fast_end = limit.min(fast_limit);
+    let end = extend_fast(header, cells, fast_end, start, value)?;
+    if end < fast_end || limit <= fast_limit {
+        return Some(end);
+    }
+    extend_small(header, cells, limit, fast_limit, value)
+}
+
+/// Whether the high value is this one. `None` where the data have no high value.
+fn high_is<T: TrieValue, C: Cells<T>>(cells: &mut C, value: T) -> Option<bool> {
+    let place = high_cell_of(cells.data_len())?;
+    let high = cells.data_cell(place)?;
+    Some(is_same(high, value))
+}
+
+/// The first code point from `start` on with another value, or the end of the code points, where
+/// `limit` is the high start or the end of the code points. `start` is the limit, or a block begins
+/// there.
+///
+/// It stays a call: most ranges end in the block where they begin.
+#[inline(never)]
+fn extend_to_end<T: TrieValue, C: Cells<T>>(
+    header: &CodePointTrieHeader,
+    cells: &mut C,
+    limit: u32,
+    start: u32,
+    value: T,
+) -> Option<u32> {
+    let end = extend(header, cells, limit, start, value)?;
+    if end < limit || limit == CODE_POINT_LIMIT {
+        return Some(end);
+    }
+    Some(if high_is(cells, value)? {
+        CODE_POINT_LIMIT
+    } else {
+        limit
+    })
+}
+
+/// The first code point from `c` on with another value, or the end of the code points, where the
+/// block of 64 that holds `c` stands in the data from `offset` on.
+#[inline(always)]
+pub(crate) fn extend_from_fast<T: TrieValue, C: Cells<T>>(
+    header: &CodePointTrieHeader,
+    cells: &mut C,
+    limit: u32,
+    c: u32,
+    offset: u32,
+    value: T,
+) -> Option<u32> {
+    let base = c / FAST_TYPE_DATA_BLOCK_LENGTH * FAST_TYPE_DATA_BLOCK_LENGTH;
+    let len = (limit - base).min(FAST_TYPE_DATA_BLOCK_LENGTH);
+    let reach = extend_in_block(header, cells, offset, len, c - base, value, None)?;
+    if reach < len {
+        return Some(base + reach);
+    }
+    extend_to_end(header, cells, limit, base + len, value)
+}
+
+/// The first place of a block of 512, `from` or a later one, with another value, or `len`, where
+/// the block of 16 that holds place `from` stands in the data from `offset` on.
+#[inline(always)]
+fn extend_from_block<T: TrieValue, C: Cells<T>>(
+    header: &CodePointTrieHeader,
+    cells: &mut C,
+    cell: u16,
+    offset: u32,
+    len: u32,
+    from: u32,
+    value: T,
+) -> Option<u32> {
+    if cell != header.index3_null_offset {
+        let base = from / SMALL_DATA_BLOCK_LENGTH * SMALL_DATA_BLOCK_LENGTH;
+        let block_len = SMALL_DATA_BLOCK_LENGTH.min(len - base);
+        let reach = extend_in_block(header, cells, offset, block_len, from - base, value, None)?;
+        if reach < SMALL_DATA_BLOCK_LENGTH {
+            return Some(base + reach);
+        }
+        let next = base + SMALL_DATA_BLOCK_LENGTH;
+        return extend_index3(header, cells, cell, len, next, value);
+    }
+    let null = T::try_from_u32(header.null_value).ok()?;
+    Some(if is_same(null, value) { len } else { from })
+}
+
+/// The first code point from `c` on with another value, or the end of the code points, where the
+/// block of 512 that holds `c` has the index-2 cell, and its block of 16 stands in the data from
+/// `offset` on.
+#[inline(always)]
+pub(crate) fn extend_from_small<T: TrieValue, C: Cells<T>>(
+    header: &CodePointTrieHeader,
+    cells: &mut C,
+    limit: u32,
+    c: u32,
+    cell: u16,
+    offset: u32,
+    value: T,
+) -> Option<u32> {
+    let base = c / CP_PER_INDEX_2_ENTRY * CP_PER_INDEX_2_ENTRY;
+    let len = (limit - base).min(CP_PER_INDEX_2_ENTRY);
+    let reach = extend_from_block(header, cells, cell, offset, len, c - base, value)?;
+    if reach < len {
+        return Some(base + reach);
+    }
+    extend_to_end(header, cells, limit, base + len, value)
+}

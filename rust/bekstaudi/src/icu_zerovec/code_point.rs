@@ -1,0 +1,80 @@
+//! Code points as packed values of three bytes, the lowest byte first.
+
+#[allow(unused_imports)]
+use crate::support::prelude::*;
+use crate::icu_zerovec::ule::AsULE;
+
+/// One more than the last code point: the exclusive end of the code space, 0 to 0x10FFFF.
+pub const CODE_POINT_LIMIT: u32 = 0x11_0000;
+
+/// A number of 24 bits, which may be a code point: what a file claims to be one, kept in three
+/// bytes. It is compared and hashed by its number, and a clause sees the number.
+///
+/// ```ignore
+/// let last = PotentialCodePoint::from_u24(0x10ffff);
+/// // PotentialCodePoint::try_from(0x1000000) is Err(0x1000000)
+/// ```
+#[derive(Clone, Copy, Debug, PartialEq, Eq, PartialOrd, Ord, Hash)]
+pub struct PotentialCodePoint {
+    number: u32,
+}
+
+impl PotentialCodePoint {
+    /// This number, which the caller keeps within 24 bits. Where it may have more, take `try_from`.
+    pub(crate) fn from_u24(number: u32) -> Self {
+        PotentialCodePoint { number }
+    }
+}
+
+/// Refuses a number of more than 24 bits, which is then the error.
+impl TryFrom<u32> for PotentialCodePoint {
+    type Error = u32;
+
+    fn try_from(number: u32) -> Result<PotentialCodePoint, u32> {
+        if number < 0x100_0000 {
+            Ok(PotentialCodePoint { number })
+        } else {
+            Err(number)
+        }
+    }
+}
+
+/// The number, whether or not it is a code point.
+impl From<PotentialCodePoint> for u32 {
+    fn from(point: PotentialCodePoint) -> u32 {
+        point.number
+    }
+}
+
+/// Any three bytes are a number of 24 bits.
+impl AsULE for PotentialCodePoint {
+    const WIDTH: usize = 3;
+
+    fn to_unaligned(self) -> [u8; 4] {
+        self.number.to_le_bytes()
+    }
+
+    fn from_unaligned(bytes: &[u8]) -> Option<PotentialCodePoint> {
+        Some(PotentialCodePoint {
+            number: u32::from_le_bytes([bytes[0], bytes[1], bytes[2], 0]),
+        })
+    }
+
+    fn shown(self) {}
+}
+
+/// Three bytes give a `char` where their number is a Unicode scalar value: 0 to 0xD7FF or 0xE000 to
+/// 0x10FFFF. A surrogate is none.
+impl AsULE for char {
+    const WIDTH: usize = 3;
+
+    fn to_unaligned(self) -> [u8; 4] {
+        (self as u32).to_le_bytes()
+    }
+
+    fn from_unaligned(bytes: &[u8]) -> Option<char> {
+        char::from_u32(u32::from_le_bytes([bytes[0], bytes[1], bytes[2], 0]))
+    }
+
+    fn shown(self) {}
+}

@@ -1,0 +1,58 @@
+//! The values of a packed vector, one after another.
+
+use crate::icu_zerovec::cells;
+use crate::icu_zerovec::ule::AsULE;
+use core::fmt;
+use core::marker::PhantomData;
+
+/// The values of a packed vector from the first that was not given yet to the last, as
+/// `ZeroVec::iter` and `ZeroSlice::iter` give them. It knows how many are left, and a clause sees
+/// their list.
+pub struct Iter<'a, T: AsULE> {
+    bytes: &'a [u8],
+    of: PhantomData<T>,
+}
+
+impl<'a, T: AsULE> Iter<'a, T> {
+    /// The values of bytes that were tested.
+    #[inline]
+    pub(crate) fn from_packed(bytes: &'a [u8]) -> Self {
+        Iter {
+            bytes,
+            of: PhantomData,
+        }
+    }
+}
+
+impl<'a, T: AsULE> Iterator for Iter<'a, T> {
+    type Item = T;
+
+    #[inline]
+    fn next(&mut self) -> Option<T> {
+        let (value, others) = cells::split_first(self.bytes)?;
+        self.bytes = others;
+        Some(value)
+    }
+
+    #[inline]
+    fn size_hint(&self) -> (usize, Option<usize>) {
+        let len = cells::len::<T>(self.bytes);
+        (len, Some(len))
+    }
+}
+
+impl<'a, T: AsULE> ExactSizeIterator for Iter<'a, T> {
+    #[inline]
+    fn len(&self) -> usize {
+        cells::len::<T>(self.bytes)
+    }
+}
+
+/// The list of the values that are left, as a slice of them is shown: `[1, 2]`.
+impl<'a, T: AsULE + fmt::Debug> fmt::Debug for Iter<'a, T> {
+    fn fmt(&self, f: &mut fmt::Formatter<'_>) -> fmt::Result {
+        f.debug_list()
+            .entries(Iter::<T>::from_packed(self.bytes))
+            .finish()
+    }
+}

@@ -1,0 +1,87 @@
+//! Collections for Unicode data, generated from proved sources: the names and calls of the crate
+//! `icu_collections`.
+//!
+//! | What you have | What keeps it |
+//! |---|---|
+//! | a value for each code point, as a property of characters | [`codepointtrie`] |
+//! | a set of code points | [`codepointinvlist`] |
+//! | a set of code points and of longer texts | [`codepointinvliststringlist`] |
+//! | a number for each word of a list | [`char16trie`] |
+//! | a list of numbers or characters, packed and read in place | [`zerovec`] |
+//!
+//! Calls that may want memory come in two forms. `add_char` answers plainly and panics where memory
+//! is refused; `try_add_char` is the proved call below it, which answers a `Result` and leaves what
+//! it was about to change as it was.
+//!
+//! # Values
+//!
+//! ```
+//! use bekstaudi::codepointtrie::{CodePointTrieBuilder, TrieType};
+//!
+//! let mut builder = CodePointTrieBuilder::new(0u8, 255, TrieType::Fast);
+//! builder.set_range_value(0x41..=0x5A, 1);
+//! builder.set_value(0x1F600, 2);
+//! let trie = builder.build();
+//! assert_eq!(trie.get('A'), 1);
+//! assert_eq!(trie.get32(0x1F600), 2);
+//! assert_eq!(trie.get('a'), 0);
+//! assert_eq!(trie.get_set_for_value(1).iter_chars().count(), 26);
+//! ```
+//!
+//! # Sets
+//!
+//! ```
+//! use bekstaudi::codepointinvlist::CodePointInversionListBuilder;
+//!
+//! let mut builder = CodePointInversionListBuilder::new();
+//! builder.add_range('A'..='Z');
+//! builder.complement_range('M'..='m');
+//! let set = builder.build();
+//! assert!(set.contains('A') && set.contains('m') && !set.contains('M'));
+//! assert_eq!(set.iter_ranges().next(), Some(0x41..=0x4C));
+//! ```
+//!
+//! # Words
+//!
+//! ```
+//! use bekstaudi::char16trie::{Char16TrieBuilder, TrieResult};
+//!
+//! let mut builder = Char16TrieBuilder::new();
+//! builder.add(&[0x61, 0x62], 2)?;
+//! builder.add(&[0x61], 1)?;
+//! let trie = builder.try_build()?;
+//! let mut words = trie.iter();
+//! assert_eq!(words.next('a'), TrieResult::Intermediate(1));
+//! assert_eq!(words.next('b'), TrieResult::FinalValue(2));
+//! assert_eq!(trie.iter2().collect::<Vec<_>>(), [("a".into(), 1), ("ab".into(), 2)]);
+//! # Ok::<(), Box<dyn std::error::Error>>(())
+//! ```
+#![no_std]
+#![forbid(unsafe_code)]
+
+extern crate alloc;
+
+mod plain;
+mod support;
+
+pub mod char16trie;
+pub mod codepointinvlist;
+pub mod codepointinvliststringlist;
+pub mod codepointtrie;
+pub mod zerovec;
+
+pub use plain::iterator_utils;
+
+// Written by rust/make. Clauses name what code does not, and what only other crates call is public
+// in its own: so names may be unused here.
+macro_rules! generated {
+    ($($name:ident)*) => {
+        $(#[allow(dead_code, unused_imports, unused_variables)]
+        mod $name;)*
+    };
+}
+
+generated! {
+    icu_zerovec icu_invlist icu_text_sets icu_frozen_sets icu_char16trie icu_char16trie_builder
+    icu_trie_core icu_trie icu_trie_binary icu_trie_map icu_trie_compaction icu_trie_builder
+}

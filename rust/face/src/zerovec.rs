@@ -1,0 +1,47 @@
+//! Vectors of small values that are kept as bytes and read in place.
+//!
+//! ```
+//! use bekstaudi::zerovec::ZeroVec;
+//!
+//! let numbers = ZeroVec::<u16>::parse_bytes(&[0x34, 0x12, 0xff, 0])?;
+//! assert_eq!(numbers.get(0), Some(0x1234));
+//! assert_eq!(numbers, [0x1234_u16, 255].into_iter().collect());
+//! # Ok::<(), bekstaudi::zerovec::ule::UleError>(())
+//! ```
+
+pub use crate::icu_zerovec::code_point::{CODE_POINT_LIMIT, PotentialCodePoint};
+pub use crate::icu_zerovec::memory::{ApplyRefused, MemoryError};
+pub use crate::icu_zerovec::slice::ZeroSlice;
+pub use crate::icu_zerovec::vec::ZeroVec;
+pub use crate::icu_zerovec::{iter, ule};
+
+use crate::plain::{plain, plain_clone};
+use ule::AsULE;
+
+plain_clone! {
+    impl<'a, T: AsULE> Clone for ZeroVec<'a, T>;
+}
+
+impl<T: AsULE> ZeroVec<'_, T> {
+    /// [`try_into_owned`](Self::try_into_owned), plainly.
+    ///
+    /// # Panics
+    /// Where memory was refused.
+    pub fn into_owned(self) -> ZeroVec<'static, T> {
+        plain(self.try_into_owned())
+    }
+}
+
+impl<T: AsULE> Default for ZeroVec<'_, T> {
+    fn default() -> Self {
+        ZeroVec::from_packed(&[])
+    }
+}
+
+/// # Panics
+/// Where memory was refused; [`ZeroVec::alloc_from_iter`] answers it.
+impl<T: AsULE> FromIterator<T> for ZeroVec<'_, T> {
+    fn from_iter<I: IntoIterator<Item = T>>(values: I) -> Self {
+        plain(ZeroVec::alloc_from_iter(values.into_iter()))
+    }
+}

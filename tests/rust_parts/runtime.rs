@@ -1,0 +1,83 @@
+//! What tests of Rattle see of their runtime, for the crates of tests that run as this crate's own.
+
+pub(crate) use crate::support::AllocError;
+use alloc::string::String;
+use core::fmt;
+pub(crate) use std::hash::DefaultHasher;
+
+/// Why a test failed before it could compare.
+pub(crate) type Fail = std::boxed::Box<dyn std::error::Error>;
+
+/// The runtime of a test.
+pub(crate) struct HostRuntime;
+
+/// Who may end the test.
+pub(crate) trait Abort {
+    fn panic(&self, what: &str) -> ! {
+        panic!("{what}")
+    }
+}
+
+impl Abort for HostRuntime {}
+
+/// Who may print.
+pub(crate) trait Print {
+    fn println(&self, line: &str) -> Result<(), fmt::Error> {
+        std::println!("{line}");
+        Ok(())
+    }
+}
+
+impl Print for HostRuntime {}
+
+/// A value as a text, where there is memory for it.
+pub(crate) trait TryToString {
+    fn try_to_string(&self) -> Result<String, AllocError>;
+}
+
+impl<T: fmt::Display> TryToString for T {
+    fn try_to_string(&self) -> Result<String, AllocError> {
+        Ok(std::format!("{self}"))
+    }
+}
+
+/// Texts grow by `write!` too.
+pub(crate) trait Text {
+    fn write_fmt(&mut self, arguments: fmt::Arguments<'_>) -> Result<(), AllocError>;
+    fn try_push_str(&mut self, text: &str) -> Result<(), AllocError>;
+}
+
+impl Text for String {
+    fn write_fmt(&mut self, arguments: fmt::Arguments<'_>) -> Result<(), AllocError> {
+        fmt::Write::write_fmt(self, arguments).map_err(|_| AllocError)
+    }
+
+    fn try_push_str(&mut self, text: &str) -> Result<(), AllocError> {
+        self.push_str(text);
+        Ok(())
+    }
+}
+
+/// A text that is made of parts, where there is memory for it.
+macro_rules! try_format {
+    ($($part:tt)*) => { Ok::<alloc::string::String, crate::support::AllocError>(std::format!($($part)*)) };
+}
+pub(crate) use try_format;
+
+/// Prints a line, where that is possible.
+macro_rules! printed {
+    ($($part:tt)*) => {{
+        std::println!($($part)*);
+        Ok::<(), core::fmt::Error>(())
+    }};
+}
+pub(crate) use printed;
+
+/// What an iterator gives, as a vector.
+pub(crate) trait Listed: Iterator + Sized {
+    fn listed(self) -> Result<alloc::vec::Vec<Self::Item>, AllocError> {
+        Ok(self.collect())
+    }
+}
+
+impl<I: Iterator> Listed for I {}
