@@ -10,9 +10,9 @@ pub(crate) const BLOCKS: u32 = CODE_POINT_LIMIT / 256;
 /// The words of the block that holds nothing, and of the one that holds everything.
 const TWO_BLOCKS: [u64; 8] = [0, 0, 0, 0, u64::MAX, u64::MAX, u64::MAX, u64::MAX];
 
-/// How many words there is room for at first. Doubled twice, that is enough for the blocks of their
-/// own that letters, marks and unassigned code points have.
-const FIRST_ROOM: usize = 144;
+/// How many blocks of their own there is room for at first, at most: letters, marks and unassigned
+/// code points have fewer, and a set has seldom more than ranges.
+const ROOM: usize = 142;
 
 /// The place of the block that holds nothing.
 const EMPTY_BLOCK: u16 = 0;
@@ -42,13 +42,14 @@ fn is_all(block: &[u64; 4], word: u64) -> bool {
 }
 
 impl CodePointBits {
-    /// No block yet.
+    /// No block yet, of a set of so many ranges.
     ///
     /// # Errors
     /// `MemoryError` where memory was refused.
-    pub(crate) fn new() -> Result<CodePointBits, MemoryError> {
+    pub(crate) fn new(ranges: usize) -> Result<CodePointBits, MemoryError> {
         let index = Vec::with_room(BLOCKS as usize)?;
-        let mut words = Vec::with_room(FIRST_ROOM)?;
+        let room = TWO_BLOCKS.len() + 4 * ranges.min(ROOM);
+        let mut words = Vec::with_room(room)?;
         words.try_extend_from_slice(&TWO_BLOCKS)?;
         Ok(CodePointBits { index, words })
     }

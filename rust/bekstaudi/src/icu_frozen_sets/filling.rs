@@ -21,46 +21,36 @@ fn set_bits(block: &mut [u64; 4], from: u32, to: u32) {
     block[(from / 64 % 4) as usize] |= mask;
 }
 
-/// How far a step from here may fill at most: ones to the end of the word, zeros to that of the
-/// block, whose bits are 0 already.
+/// Sets the bits of the block from `from` to before `to`.
 #[inline(always)]
-fn end_of_step(from: u32, value: bool) -> u32 {
-    if value {
-        (from / 64 + 1) * 64
-    } else {
-        (from / 256 + 1) * 256
+fn set_ones(block: &mut [u64; 4], from: u32, to: u32) {
+    let mut begin = from;
+    while begin / 64 < (to - 1) / 64 {
+        let next = (begin / 64 + 1) * 64;
+        set_bits(block, begin, next);
+        begin = next;
     }
-}
-
-/// Whether all from here up to `end` lies in one word (ones) or in one block (zeros), and something
-/// is left of it.
-#[inline(always)]
-fn is_part(from: u32, end: u32, value: bool) -> bool {
-    if value {
-        end / 64 == from / 64
-    } else {
-        end / 256 == from / 256
-    }
+    set_bits(block, begin, to);
 }
 
 impl Filling {
-    /// Nothing is filled in yet.
+    /// Nothing is filled in yet, of a set of so many ranges.
     ///
     /// # Errors
     /// `MemoryError` where memory was refused.
-    pub(crate) fn new() -> Result<Filling, MemoryError> {
+    pub(crate) fn new(ranges: usize) -> Result<Filling, MemoryError> {
         Ok(Filling {
-            bits: CodePointBits::new()?,
+            bits: CodePointBits::new(ranges)?,
             block: [0; 4],
             reached: 0,
         })
     }
 
-    /// Fills up to `next`: ones within a word, zeros within a block.
+    /// Fills up to `next`, within a block.
     #[inline(always)]
-    fn fill_word(&mut self, next: u32, value: bool) {
+    fn fill_part(&mut self, next: u32, value: bool) {
         if value {
-            set_bits(&mut self.block, self.reached, next);
+            set_ones(&mut self.block, self.reached, next);
         }
         self.reached = next;
     }
@@ -78,22 +68,31 @@ impl Filling {
 
     /// Fills so many whole blocks.
     fn fill_blocks(&mut self, count: u32, value: bool) -> Result<(), MemoryError> {
+        if count == 0 {
+            return Ok(());
+        }
         self.bits.push_run(count as usize, value)?;
         self.reached += 256 * count;
         Ok(())
     }
 
-    /// Fills some code points more, and none from `end` on: whole blocks, or what is left of a word
-    /// or a block.
-    #[inline(always)]
-    fn fill_some(&mut self, end: u32, value: bool) -> Result<(), MemoryError> {
-        let from = self.reached;
-        if from % 256 == 0 && end - from >= 256 {
-            return self.fill_blocks((end - from) / 256, value);
+    /// Fills what is left of the block that is filled now, if any of it is there already.
+    fn fill_block(&mut self, value: bool) -> Result<(), MemoryError> {
+        if self.reached % 256 == 0 {
+            return Ok(());
         }
-        let next = end.min(end_of_step(from, value));
-        self.fill_word(next, value);
+        self.fill_part((self.reached / 256 + 1) * 256, value);
         self.settle()
+    }
+
+    /// Fills up to `end`, which lies in a later block.
+    fn fill_far(&mut self, end: u32, value: bool) -> Result<(), MemoryError> {
+        self.fill_block(value)?;
+        self.fill_blocks((end - self.reached) / 256, value)?;
+        if self.reached < end {
+            self.fill_part(end, value);
+        }
+        Ok(())
     }
 
     /// Gives the code points up to `end`, which is not included, the bit `value`.
@@ -102,12 +101,11 @@ impl Filling {
     /// `MemoryError` where memory was refused. The filling is then of no more use.
     #[inline(always)]
     pub(crate) fn fill_to(&mut self, end: u32, value: bool) -> Result<(), MemoryError> {
-        if self.reached < end && is_part(self.reached, end, value) {
-            self.fill_word(end, value);
-            return Ok(());
+        if self.reached / 256 < end / 256 {
+            return self.fill_far(end, value);
         }
-        while self.reached < end {
-            self.fill_some(end, value)?;
+        if self.reached < end {
+            self.fill_part(end, value);
         }
         Ok(())
     }

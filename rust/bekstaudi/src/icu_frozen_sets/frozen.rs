@@ -10,7 +10,8 @@ use crate::icu_zerovec::{CODE_POINT_LIMIT, MemoryError};
 
 /// A set of code points for many look-ups, each of which takes two loads and no search (ICU: a
 /// frozen UnicodeSet). It keeps the set beside a bit for each code point, in blocks of 256: 9 kB,
-/// and 32 to 64 bytes for each block that is neither empty nor full, 1 kB at least. A clause sees
+/// and 32 bytes for each range, of 142 of them at most; more only where more blocks than that are
+/// neither empty nor full, and then 64 bytes for each of these at most. A clause sees
 /// the list of the set's ends.
 ///
 /// ```ignore
@@ -35,8 +36,9 @@ impl FrozenCodePointSet {
     pub fn try_freeze(
         set: &CodePointInversionList<'_>,
     ) -> Result<FrozenCodePointSet, MemoryError> {
-        let mut filling = Filling::new()?;
-        for range in set.iter_ranges() {
+        let ranges = set.iter_ranges();
+        let mut filling = Filling::new(ranges.len())?;
+        for range in ranges {
             filling.fill_to(*range.start(), false)?;
             filling.fill_to(*range.end() + 1, true)?;
         }
