@@ -7,6 +7,7 @@ ghost use Rattle.std.specs.Str.{IsCharBoundary, chars, encode_utf8_all};
 ghost use mathlib.Core.Bool.{beq};
 ghost use mathlib.Core.List.{reverse};
 ghost use Rattle.icu_zerovec.specs.CodePoints.{code_point_limit};
+ghost use Rattle.icu_zerovec.specs.Slice.{slice_values};
 ghost use Rattle.icu_invlist.specs.InversionList.{AreApart, IsOfCodePoints, IsValid, holds, in_ranges, HoldsAll, IsSubset, ranges_of, members_below, characters, complement_of};
 ghost use Rattle.icu_invlist.specs.Refusals.{IsRefusedList, IsRefusedSlice};
 
@@ -18,7 +19,7 @@ use crate::codepointinvlist::error::{InvalidSetError, SetError};
 use crate::codepointinvlist::iter::{IterChars, IterRanges, IterRangesComplemented, start_of_gap};
 use crate::codepointinvlist::utils::{RangeOf, is_valid_slice, is_valid_zv};
 use icu_zerovec::ule::AsULE;
-use icu_zerovec::{CODE_POINT_LIMIT, MemoryError, PotentialCodePoint, ZeroVec};
+use icu_zerovec::{CODE_POINT_LIMIT, MemoryError, PotentialCodePoint, ZeroSlice, ZeroVec};
 use packing::{cut_to_points, pack, unpacked};
 use std::alloc::Global;
 use std::marker::Model;
@@ -177,6 +178,22 @@ impl<'data> CodePointInversionList<'data> {
         ensures valid { IsValid self.now }
     {
         &self.ends
+    }
+
+    /// The ends, lent as they are kept, packed in three bytes each. What
+    /// [`try_from_inversion_list`](Self::try_from_inversion_list) takes, it lends again: that one
+    /// gives an equal set of these ends. It takes no memory.
+    ///
+    /// ```
+    /// let ends = letters.as_inversion_list();
+    /// let same = CodePointInversionList::try_from_inversion_list(alloc, ends.as_zerovec())?;
+    /// // same == letters, and ends.as_bytes() is what a file keeps of it
+    /// ```
+    pub fn as_inversion_list(&self) -> ZeroSlice<'_, PotentialCodePoint>
+        ensures ends { slice_values result ≡ self.now }
+        ensures valid { IsValid self.now }
+    {
+        self.ends.as_slice()
     }
 
     /// The ends, copied.

@@ -167,6 +167,22 @@ fn lists_and_ranges_quiet(rt: HostRuntime) -> Result<(), Fail> {
     Ok(())
 }
 
+/// A set of the ends that a set lends is equal to it.
+///
+/// Calls: `CodePointInversionList::as_inversion_list`,
+/// `CodePointInversionList::try_from_inversion_list`.
+#[test]
+fn lent_ends_quiet(rt: HostRuntime) {
+    let bmp = CodePointInversionList::bmp();
+    say(&rt, "call");
+    let ends = bmp.as_inversion_list();
+    let same = CodePointInversionList::try_from_inversion_list(rt.alloc(), ends.as_zerovec());
+    let is_same = same.is_ok_and(|set| set == bmp);
+    say(&rt, "done");
+    expect_same(&rt, ends.as_bytes(), &[0, 0, 0, 0, 0, 1], "packed ends");
+    expect(&rt, is_same, "an equal set");
+}
+
 /// Calls: `RangePoint::number`, `RangePoint::is_used_up`.
 #[test]
 fn points_quiet(rt: HostRuntime) {
