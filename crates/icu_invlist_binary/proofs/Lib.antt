@@ -1,0 +1,4 @@
+mod UnitLemmas
+mod ReadBack
+mod LentLemmas
+mod ReadFaults

@@ -1,0 +1,2 @@
+-- Words for the contracts of private functions. No public contract needs them.
+pub mod LentEnds

@@ -1,0 +1,2 @@
+pub mod SerializedSet
+pub mod Inside
