@@ -15,6 +15,8 @@ pub use Rattle.icu_trie_formats.specs.TrieOfParts
 pub use Rattle.icu_trie_formats.specs.TrieJson
 pub use Rattle.icu_trie_formats.specs.TrieToml
 pub use Rattle.icu_trie_formats.specs.Planes
+-- ICU's serialized form of sets
+pub use Rattle.icu_invlist_binary.specs.SerializedSet
 -- ICU's binary form of tries
 pub use Rattle.icu_trie_binary.specs.BinaryHeader
 pub use Rattle.icu_trie_binary.specs.BinaryTrie
