@@ -2,3 +2,4 @@ mod UnitLemmas
 mod ReadBack
 mod LentLemmas
 mod ReadFaults
+mod PutLemmas

@@ -1,5 +1,5 @@
 -- The units of ends, one end after another.
-use Rattle.std.proofs.Common.{◌≡◌, ◌∙◌, ℕ, ◌+◌, ◌*◌, ◌/◌, ◌%◌, ◌<◌, ◌≤◌, List, [], ◌∷◌, ◌++◌, length, drop, slice_get, Some, refl, ap, sym, arith, zero, suc, append_assoc, length-append}
+use Rattle.std.proofs.Common.{◌≡◌, ◌∙◌, ℕ, ◌+◌, ◌*◌, ◌/◌, ◌%◌, ◌<◌, ◌≤◌, List, [], ◌∷◌, ◌++◌, length, drop, slice_get, Some, refl, ap, arith, zero, suc, length-append}
 use Rattle.std.proofs.lemmas.Bool.{lt-ltb, le-ltb, cond-true, cond-false}
 use Rattle.std.proofs.lemmas.List.{drop_all}
 use Rattle.icu_zerovec.specs.CodePoints.{code_point_limit}
@@ -20,16 +20,6 @@ drop_place : (xs : List ℕ) (i x : ℕ) → slice_get xs i ≡ Some x → drop 
 drop_place [] i x e = cc
 drop_place (y ∷ ys) zero x e = let k : y ≡ x = cc in rw k refl
 drop_place (y ∷ ys) (suc i) x e = let k : suc i + 1 ≡ suc (i + 1) = omega arith in rw k (drop_place ys i x e)
-
--- an end more
-pub written_more : (xs front whole more : List ℕ) (i x : ℕ) → slice_get xs i ≡ Some x → units_of_end x ≡ more → front ++ units_of_ends (drop i xs) ≡ whole
-    → (front ++ more) ++ units_of_ends (drop (i + 1) xs) ≡ whole
-written_more xs front whole more i x e u w =
-    append_assoc front more (units_of_ends (drop (i + 1) xs))
-    ∙ (ap (λ (ys : List ℕ). front ++ (ys ++ units_of_ends (drop (i + 1) xs))) (sym u) ∙ (ap (λ (ys : List ℕ). front ++ units_of_ends ys) (sym (drop_place xs i x e)) ∙ w))
-
-pub pushed_two : (front middle whole : List ℕ) (a b : ℕ) → middle ≡ front ++ a ∷ [] → whole ≡ middle ++ b ∷ [] → whole ≡ front ++ a ∷ b ∷ []
-pushed_two front middle whole a b p q = q ∙ (ap (λ (ys : List ℕ). ys ++ b ∷ []) p ∙ append_assoc front (a ∷ []) (b ∷ []))
 
 -- how many units are left
 pub left_more : (xs more : List ℕ) (i x : ℕ) → slice_get xs i ≡ Some x → units_of_end x ≡ more → length (units_of_ends (drop i xs)) ≡ length more + length (units_of_ends (drop (i + 1) xs))

@@ -1,2 +1,3 @@
 -- Words for the contracts of private functions. No public contract needs them.
 pub mod LentEnds
+pub mod Target

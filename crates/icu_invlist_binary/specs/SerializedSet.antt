@@ -1,12 +1,14 @@
 -- ICU's serialized form of a set of code points, in units of 16 bits: what uset_serialize of uset.h
 -- writes, and what uset_getSerializedSet reads.
-use Rattle.std.specs.Prelude.{◌≡◌, ◌≤◌, ℕ, ◌+◌, ◌-◌, ◌*◌, ◌/◌, ◌%◌, nat_le, nat_lt, ◌||◌, Bool, List, [], ◌∷◌, ◌++◌, length, take, drop, slice_index, Result, Ok, Err, if◌then◌else◌}
+use Rattle.std.specs.Prelude.{◌≡◌, ◌≤◌, ◌<◌, ℕ, ◌+◌, ◌-◌, ◌*◌, ◌/◌, ◌%◌, nat_le, nat_lt, ◌||◌, Bool, List, [], ◌∷◌, ◌++◌, length, take, drop, slice_index, Result, Ok, Err, if◌then◌else◌}
 use Rattle.std.specs.List.{filter, flat_map}
 use Rattle.icu_zerovec.specs.CodePoints.{code_point_limit}
 use Rattle.icu_zerovec.specs.FirstFault.{and_then}
 use Rattle.icu_invlist.specs.InversionList.{IsValid, is_odd}
 use Rattle.icu_invlist_binary.specs.declared.error.SerializeError.{SerializeError}
 use Rattle.icu_invlist_binary.specs.declared.error.SerializeError.TheVariants as write_errors
+use Rattle.icu_invlist_binary.specs.declared.error.WriteError.{WriteError}
+use Rattle.icu_invlist_binary.specs.declared.error.WriteError.TheVariants as slice_errors
 use Rattle.icu_invlist_binary.specs.declared.error.SerializedSetError.{SerializedSetError}
 use Rattle.icu_invlist_binary.specs.declared.error.SerializedSetError.TheVariants.{Short, Count, Invalid, Memory}
 
@@ -45,6 +47,11 @@ HasForm ends = length (units_of_ends ends) ≤ 0x7FFF
 abbrev pub IsWhyNotWritten : List ℕ → SerializeError → Type 0
 IsWhyNotWritten ends write_errors.TooLong = ¬ (HasForm ends)
 IsWhyNotWritten ends write_errors.Memory = HasForm ends
+
+-- nor is it written into a slice of fewer units than it takes
+abbrev pub IsWhyNotPut : List ℕ → ℕ → WriteError → Type 0
+IsWhyNotPut ends room slice_errors.TooLong = ¬ (HasForm ends)
+IsWhyNotPut ends room slice_errors.Short = HasForm ends × (room < length (units_of ends))
 
 -- ---- what is read
 -- bit 15 of the first unit: there are ends of two units

@@ -26,6 +26,17 @@ impl From<AllocError> for SerializeError {
     }
 }
 
+/// Why no set was written into a slice. Where there are both causes, the first is told.
+#[derive(Clone, Copy, Debug, PartialEq, Eq, Error)]
+pub enum WriteError {
+    /// The ends take more than 0x7FFF units (U_INDEX_OUTOFBOUNDS_ERROR).
+    #[error("the set has too many ends")]
+    TooLong,
+    /// The slice has fewer units than the set takes (U_BUFFER_OVERFLOW_ERROR).
+    #[error("the slice is too short")]
+    Short,
+}
+
 /// Why no set was read of its units. Where there are several causes, the first of these is told.
 #[derive(Clone, Copy, Debug, PartialEq, Eq, Error)]
 pub enum SerializedSetError {

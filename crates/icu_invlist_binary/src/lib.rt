@@ -9,3 +9,4 @@
 mod error;
 mod lent_ends;
 pub mod serialized;
+mod target;

@@ -6,13 +6,14 @@
 //! the first unit is set, the second one says how many ends are below 0x10000, and the others are
 //! two units each, the upper 16 bits first. The set of `a` to `z` and of U+1F600 to U+10FFFF is
 //! `[0x8004, 2, 0x61, 0x7B, 1, 0xF600]`.
-ghost use Rattle.std.specs.Prelude.{◌≡◌, ◌+◌, ◌≤◌, ◌++◌, length, vec_len, IfOk, IfErr};
-ghost use Rattle.std.specs.Vec.{vec_capacity};
+ghost use Rattle.std.specs.Prelude.{◌≡◌, ◌+◌, ◌≤◌, ◌++◌, length, drop, IfOk, IfErr, OnErr, MatchOption};
 ghost use Rattle.icu_zerovec.specs.Slice.{slice_values};
-ghost use Rattle.icu_invlist_binary.specs.SerializedSet.{HasForm, IsSerialized, IsWhyNotRead, IsWhyNotWritten, count_of_singles, units_of, units_of_ends};
+ghost use Rattle.icu_invlist_binary.specs.SerializedSet.{HasForm, IsSerialized, IsWhyNotPut, IsWhyNotRead, IsWhyNotWritten, count_of_singles, head_units, units_of, units_of_ends};
+ghost use Rattle.icu_invlist_binary.specs.Inside.Target.{IsPut};
 
-pub use crate::error::{SerializeError, SerializedSetError};
+pub use crate::error::{SerializeError, SerializedSetError, WriteError};
 use crate::lent_ends::{lent_ends, serialized_length};
+use crate::target::{put_ends, put_unit};
 use icu_invlist::codepointinvlist::CodePointInversionList;
 use icu_zerovec::{CODE_POINT_LIMIT, PotentialCodePoint, ZeroSlice};
 use std::alloc::Global;
@@ -46,24 +47,66 @@ fn counts_of(ends: ZeroSlice<'_, PotentialCodePoint>) -> Counts
     Counts { units, singles }
 }
 
-/// Appends the units of the ends, for which there is room.
-fn push_ends(units: &mut Vec<u16>, ends: ZeroSlice<'_, PotentialCodePoint>)
-    requires { vec_len units.old + length (units_of_ends (slice_values ends))
-        ≤ vec_capacity units.old }
-    ensures { units.new.items ≡ units.old.items ++ units_of_ends (slice_values ends.entry) }
-{
-    for i in 0..ends.len() {
-        let end = u32::from(ends.at(i));
-        if end < 0x1_0000 {
-            units.push_reserved(end as u16);
-        } else if end < CODE_POINT_LIMIT {
-            units.push_reserved((end / 0x1_0000) as u16);
-            units.push_reserved((end % 0x1_0000) as u16);
+impl Counts {
+    /// How many units the set takes.
+    fn len(&self) -> usize
+        requires { self.now.units ≤ 0x7FFF }
+        ensures { result ≡ length (head_units self.now.units self.now.singles) + self.now.units }
+    {
+        if self.singles < self.units {
+            self.units + 2
+        } else {
+            self.units + 1
         }
     }
 }
 
+/// Puts what stands before the units of the ends to the front, and answers the place behind it.
+fn put_head(target: &mut [u16], counts: Counts) -> usize
+    requires units { counts.units ≤ 0x7FFF }
+    requires room { length (head_units counts.units counts.singles) ≤ length target.old }
+    ensures place { result ≡ length (head_units counts.units counts.singles) }
+    ensures put { IsPut target.old 0 (head_units counts.units counts.singles) target.new }
+{
+    if counts.singles < counts.units {
+        let second = put_unit(target, 0, 0x8000 + counts.units as u16);
+        put_unit(target, second, counts.singles as u16)
+    } else {
+        put_unit(target, 0, counts.units as u16)
+    }
+}
+
+/// Puts the set with these ends to the front.
+fn put_set(target: &mut [u16], counts: Counts, ends: ZeroSlice<'_, PotentialCodePoint>)
+    requires units { counts.units ≡ length (units_of_ends (slice_values ends)) }
+    requires singles { counts.singles ≡ count_of_singles (slice_values ends) }
+    requires form { HasForm (slice_values ends) }
+    requires room { length (units_of (slice_values ends)) ≤ length target.old }
+    ensures { IsPut target.old 0 (units_of (slice_values ends.entry)) target.new }
+{
+    let at = put_head(target, counts);
+    put_ends(target, at, ends);
+}
+
+/// How many units the set takes in ICU's serialized form, which is what `uset_serialize` answers.
+/// `None` exactly where the ends take more than 0x7FFF units, so that there is no form.
+pub fn serialized_len(set: &CodePointInversionList<'_>) -> Option<usize>
+    ensures { MatchOption result (¬ (HasForm set.now))
+        (λ n. HasForm set.now × (n ≡ length (units_of set.now))) }
+{
+    let counts = counts_of(set.as_inversion_list());
+    if counts.units > MOST_UNITS {
+        return None;
+    }
+    Some(counts.len())
+}
+
 /// The set in ICU's serialized form: what `uset_serialize` writes.
+///
+/// ```
+/// let units = to_serialized(alloc, &set)?;
+/// // of `a` to `z` and U+1F600 to U+10FFFF: [0x8004, 2, 0x61, 0x7B, 1, 0xF600]
+/// ```
 ///
 /// # Errors
 /// `SerializeError::TooLong` exactly where the ends take more than 0x7FFF units;
@@ -81,15 +124,44 @@ pub fn to_serialized(
     if counts.units > MOST_UNITS {
         return Err(SerializeError::TooLong);
     }
-    let mut units = Vec::with_capacity(alloc, counts.units + 2)?;
-    if counts.singles < counts.units {
-        units.push_reserved(0x8000 + counts.units as u16);
-        units.push_reserved(counts.singles as u16);
-    } else {
-        units.push_reserved(counts.units as u16);
-    }
-    push_ends(&mut units, ends);
+    let mut units = vec![in alloc; 0; counts.len()]?;
+    put_set(&mut units, counts, ends);
     Ok(units)
+}
+
+/// Writes the set in ICU's serialized form to the front of a slice, and answers how many units it
+/// takes, as `uset_serialize` does. The units behind these are unchanged. It takes no memory.
+///
+/// ```
+/// let mut units = [0; 8];
+/// let len = write_serialized(&set, &mut units)?;
+/// // of `a` to `z`: len is 3, and units[..3] is [2, 0x61, 0x7B]
+/// ```
+///
+/// # Errors
+/// Nothing is written then. `WriteError::TooLong` exactly where the ends take more than 0x7FFF
+/// units, and otherwise `WriteError::Short` exactly where the slice has fewer units than
+/// [`serialized_len`] says.
+pub fn write_serialized(
+    set: &CodePointInversionList<'_>,
+    target: &mut [u16],
+) -> Result<usize, WriteError>
+    ensures ok { IfOk result (λ n. HasForm set.now × (n ≡ length (units_of set.now))
+        × (target.new ≡ units_of set.now ++ drop n target.old)) }
+    ensures err { IfErr result (IsWhyNotPut set.now (length target.old)) }
+    ensures unchanged { OnErr result (target.new ≡ target.old) }
+{
+    let ends = set.as_inversion_list();
+    let counts = counts_of(ends);
+    if counts.units > MOST_UNITS {
+        return Err(WriteError::TooLong);
+    }
+    let len = counts.len();
+    if target.len() < len {
+        return Err(WriteError::Short);
+    }
+    put_set(target, counts, ends);
+    Ok(len)
 }
 
 /// The set that the units begin with, and how many of them it takes: what `uset_getSerializedSet`
