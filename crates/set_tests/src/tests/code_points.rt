@@ -7,6 +7,7 @@ mod iterators;
 mod json;
 mod memory;
 mod queries;
+mod serialized;
 mod sets;
 
 use icu_invlist::codepointinvlist::CodePointInversionList;
