@@ -8,7 +8,7 @@ use Rattle.std.proofs.lemmas.Grind.{get_or-set_at}
 use Rattle.std.proofs.lemmas.List.{length-append, length-set, get_or_append_left, get_or_default, get_or-set_other, get_or-append-add, get_or_push}
 use Rattle.std.proofs.lemmas.Nat.Bits.{bit_at_ones, bit_at-zero}
 use Rattle.icu_frozen_sets.proofs.BitLemmas.{bit_tested}
-use Rattle.icu_frozen_sets.specs.CodePointBits.{BitTables, has_bit}
+use Rattle.icu_frozen_sets.specs.CodePointBits.{BitTables, has_bit, word_with}
 use Rattle.icu_frozen_sets.specs.Inside.Filling.{AreTables, AddsBlocks, block_bit}
 
 -- ---- the tables of no block
@@ -155,4 +155,21 @@ ascii_more ascii bit k low high n h l e same c d m = elim (cases_eq c (64 + k)) 
     | inl r ↦ get_or-set_at ascii k c low false r (omega (arith, n)) ∙ (l ∙ ap bit (sym r))
     | inr r ↦ get_or-set_other ascii k c low false r ∙ same c d (omega arith)
   ]
+]
+
+-- ---- the words of the first code points
+-- one word more is copied
+pub words_more : (t : BitTables) (words : List ℕ) (k first word : ℕ) → AreTables t → length words ≡ 32 → k < 32 → 8 ≤ length t.index
+    → first ≡ get_or t.index (k / 4) first → word ≡ get_or t.words (first + k % 4) word
+    → ((c : ℕ) → c / 64 < k → get_or words (c / 64) 0 ≡ word_with t c)
+    → (c : ℕ) → c / 64 < k + 1 → get_or (set words k word) (c / 64) 0 ≡ word_with t c
+words_more t words k first word a n h l f w same c m = elim (cases_eq (c / 64) k) [
+  | inl q ↦
+      let p = a.placed (k / 4) (omega arith) in
+      let place : first ≡ get_or t.index (k / 4) 0 = f ∙ get_or_default t.index (k / 4) first 0 (omega arith) in
+      let block : get_or t.index (k / 4) 0 ≡ get_or t.index (c / 256) 0 = ap (λ (b : ℕ). get_or t.index b 0) (omega arith) in
+      let at : first + k % 4 ≡ get_or t.index (c / 256) 0 + c / 64 % 4 = omega (arith, place, block, q) in
+      get_or-set_at words k (c / 64) word 0 q (omega (arith, n))
+      ∙ (w ∙ (get_or_default t.words (first + k % 4) word 0 (omega (arith, p, place)) ∙ ap (λ (j : ℕ). get_or t.words j 0) at))
+  | inr q ↦ get_or-set_other words k (c / 64) word 0 q ∙ same c (omega arith)
 ]

@@ -73,8 +73,8 @@ first_of : (bs cs : List ℕ) → all_scalars cs ≡ true → encode_utf8_all cs
 first_of bs [] s e h = absurd (omega (arith, ap (λ (xs : List ℕ). length xs) e))
 first_of bs (c ∷ cs) s e h = record { c = c; rest = encode_utf8_all cs; scalar = both _ _ s; split = sym e }
 
-module _ (ends text : List ℕ) (ascii : List Bool) (t : BitTables) (f : IsFrozen ends ascii t) (start : ℕ) (u : IsUtf8
-    (drop start text)) (more : start < length text) where
+module _ (ends text : List ℕ) (ascii : List Bool) (two : List ℕ) (t : BitTables) (f : IsFrozen ends ascii two t) (start : ℕ)
+    (u : IsUtf8 (drop start text)) (more : start < length text) where
   head : First (drop start text)
   head = first_of (drop start text) u.0 u.1.0 u.1.1 (omega (arith, length-drop start text))
 
@@ -141,10 +141,10 @@ module _ (ends text : List ℕ) (ascii : List Bool) (t : BitTables) (f : IsFroze
   fourth_there h = fourth_of formed h
 
   module _ (held : Bool) (l0 : 128 ≤ get_or text start 0) (h0 : get_or text start 0 < 224)
-      (told : held ≡ has_bit t (64 * (get_or text start 0 % 32) + get_or text (start + 1) 0 % 64)) where
+      (told : held ≡ holds ends (64 * (get_or text start 0 % 32) + get_or text (start + 1) 0 % 64)) where
     by_two : Shape head.c → IsAsked ends text start held (start + 2)
     by_two (of_one l e) = absurd (omega (arith, lead _ e))
-    by_two (of_two a b l m f1 f2 s e) = asked 2 held (long _ e) (told_by _ held told (omega (arith, lead _ e, seen 1 _ e)))
+    by_two (of_two a b l m f1 f2 s e) = asked 2 held (long _ e) (told ∙ ap (λ (n : ℕ). holds ends n) (omega (arith, lead _ e, seen 1 _ e)))
     by_two (of_three a b d l m f1 f2 g1 g2 s e) = absurd (omega (arith, lead _ e))
     by_two (of_four a b d x l m f1 f2 g1 g2 k1 k2 s e) = absurd (omega (arith, lead _ e))
 

@@ -7,7 +7,7 @@ use Rattle.std.proofs.lemmas.Bool.{cases_lt, lt-ltb, le-ltb, le-leb, lt-leb}
 use Rattle.icu_zerovec.specs.CodePoints.{code_point_limit}
 use Rattle.icu_invlist.specs.InversionList.{AreApart, IsOfCodePoints, IsValid, StartsBehind, between, holds, in_ranges}
 use Rattle.icu_frozen_sets.specs.CodePointBits.{BitTables, has_bit}
-use Rattle.icu_frozen_sets.specs.Inside.Filling.{Fills, IsFilling, IsFrozen, filled}
+use Rattle.icu_frozen_sets.specs.Inside.Filling.{Fills, IsFilling, IsFrozen, bit_among, filled}
 use Rattle.icu_frozen_sets.proofs.BitLemmas.{or_false}
 use Rattle.icu_frozen_sets.proofs.FillingLemmas.{filled_past, filled_table}
 
@@ -105,11 +105,13 @@ module _ (ends : List ℕ) (left : List (RangeInclusive ℕ)) (t : BitTables) (b
       ∙ (ap (λ (rs : List (RangeInclusive ℕ)). filled t block reached c || in_ranges rs c) none
       ∙ or_false (filled t block reached c)))))
 
-  pub frozen_all : IsValid ends → (ascii : List Bool) → ((c : ℕ) → c < 128 → get_or ascii c false ≡ has_bit new c) → IsFrozen ends ascii new
-  frozen_all v ascii same = record {
+  pub frozen_all : IsValid ends → (ascii : List Bool) → ((c : ℕ) → c < 128 → get_or ascii c false ≡ has_bit new c)
+      → (two_bytes : List ℕ) → ((c : ℕ) → c < 2048 → bit_among two_bytes c ≡ has_bit new c) → IsFrozen ends ascii two_bytes new
+  frozen_all v ascii same two_bytes alike = record {
     valid = v;
     tables = a.filling.tables;
     blocks = omega arith;
     bits = all_bits;
     first = λ c h. same c h ∙ all_bits c (omega arith);
+    short = λ c h. alike c h ∙ all_bits c (omega arith);
   }

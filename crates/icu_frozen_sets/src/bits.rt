@@ -1,7 +1,7 @@
 //! A bit for each code point, in two stages, so that each look-up is two loads.
-ghost use Rattle.std.specs.Prelude.{◌≡◌, ℕ, ◌+◌, ◌*◌, ◌/◌, ◌<◌, [], false, length, slice_index, slice_index_or, IfOk, OnOk, IsTrue, if◌then◌else◌};
+ghost use Rattle.std.specs.Prelude.{◌≡◌, ℕ, ◌+◌, ◌*◌, ◌/◌, ◌<◌, ◌≤◌, [], false, length, slice_index, slice_index_or, IfOk, OnOk, IsTrue, if◌then◌else◌};
 ghost use Rattle.icu_frozen_sets.specs.CodePointBits.{has_bit};
-ghost use Rattle.icu_frozen_sets.specs.Inside.Filling.{AddsBlocks, AreTables, block_bit};
+ghost use Rattle.icu_frozen_sets.specs.Inside.Filling.{AddsBlocks, AreTables, bit_among, block_bit};
 
 use icu_zerovec::{CODE_POINT_LIMIT, MemoryError};
 use std::alloc::Global;
@@ -110,6 +110,20 @@ impl CodePointBits {
             ascii[64 + k] = (high >> k) & 1 == 1;
         }
         ascii
+    }
+
+    /// The bits of the first 2,048 code points, whose blocks are there, 64 a word.
+    pub(crate) fn first_words(&self) -> [u64; 32]
+        requires tables { AreTables self.now }
+        requires there { 8 ≤ length self.now.index }
+        ensures { (c : ℕ) → c < 2048 → bit_among result c ≡ has_bit self.now c }
+    {
+        let mut words = [0; 32];
+        for k in 0..32 {
+            let first = self.index[k / 4] as usize;
+            words[k] = self.words[first + k % 4];
+        }
+        words
     }
 
     /// Appends so many blocks that hold everything, or, for `value` false, nothing.

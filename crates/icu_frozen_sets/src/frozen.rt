@@ -1,5 +1,5 @@
 //! Frozen sets: for many look-ups, a bit for each code point.
-ghost use Rattle.std.specs.Prelude.{◌≡◌, ℕ, ◌+◌, ◌<◌, ◌≤◌, ◌↔◌, false, drop, length, IfOk, IsTrue, nat_eq};
+ghost use Rattle.std.specs.Prelude.{◌≡◌, ℕ, ◌+◌, ◌*◌, ◌<◌, ◌≤◌, ◌↔◌, false, drop, length, IfOk, IsTrue, nat_eq};
 ghost use Rattle.std.specs.List.{take_while};
 ghost use Rattle.std.specs.Str.{IsCharBoundary, IsUtf8, chars, encode_utf8_all};
 ghost use Rattle.std.specs.Cmp.{partial_equiv_from_equiv};
@@ -34,6 +34,8 @@ pub struct FrozenCodePointSet {
     set: CodePointInversionList<'static>,
     /// Whether each byte of ASCII is held: what the bits say, in one load.
     ascii: [bool; 128],
+    /// The bits of what is below 0x800, and so of at most two bytes: a word for each lead byte.
+    two_bytes: [u64; 32],
     bits: CodePointBits,
 }
 
@@ -45,7 +47,7 @@ impl Model for FrozenCodePointSet {
 
     ghost view = { λ a. a.set };
 
-    ghost invariant = { λ a. IsFrozen a.set a.ascii a.bits };
+    ghost invariant = { λ a. IsFrozen a.set a.ascii a.two_bytes a.bits };
 }
 
 /// How a set is frozen.
@@ -72,6 +74,7 @@ impl FrozenCodePointSet {
         Ok(FrozenCodePointSet {
             set: set.try_clone(alloc)?,
             ascii: bits.ascii(),
+            two_bytes: bits.first_words(),
             bits,
         })
     }
@@ -86,6 +89,7 @@ impl FrozenCodePointSet {
         Ok(FrozenCodePointSet {
             set: self.set.try_clone(alloc)?,
             ascii: self.ascii,
+            two_bytes: self.two_bytes,
             bits: self.bits.try_clone(alloc)?,
         })
     }
@@ -121,6 +125,18 @@ impl FrozenCodePointSet {
 
 /// How far a text lies in a frozen set.
 impl FrozenCodePointSet {
+    /// Whether the character is held that has two bytes, or one: `word` is told by its lead byte,
+    /// and `place` by its trail byte.
+    #[inline(always)]
+    fn contains_short(&self, word: u32, place: u32) -> bool
+        requires short { word < 32 }
+        requires within { place < 64 }
+        ensures { result ≡ holds self.now (64 * word + place) }
+    {
+        let bits = self.two_bytes[word as usize];
+        (bits >> place) & 1 == 1
+    }
+
     /// Whether the character is held that begins at `start`, and where it ends. Its lead and trail
     /// bytes are the place of its bit, so no `char` is made of them.
     #[inline(always)]
@@ -135,7 +151,7 @@ impl FrozenCodePointSet {
         }
         let second = u32::from(bytes[start + 1]) % 64;
         if lead < 0xE0 {
-            return (self.bits.contains_in(lead % 32, second), start + 2);
+            return (self.contains_short(lead % 32, second), start + 2);
         }
         let third = u32::from(bytes[start + 2]) % 64;
         if lead < 0xF0 {

@@ -10,6 +10,10 @@ use Rattle.icu_frozen_sets.specs.CodePointBits.{BitTables, has_bit}
 abbrev pub block_bit : List ℕ → ℕ → Bool
 block_bit block c = bit_at (slice_index block (c / 64 % 4)) (c % 64) == 1
 
+-- whether the bit of c is 1 in words that begin with that of 0
+abbrev pub bit_among : List ℕ → ℕ → Bool
+bit_among words c = bit_at (slice_index words (c / 64)) (c % 64) == 1
+
 -- the index has places of four words each, among which are those of the block that holds nothing
 -- and of the one that holds everything; and the places are small
 pub record AreTables (t : BitTables) : Type 0 where
@@ -49,10 +53,12 @@ pub record Fills (t : BitTables) (block : List ℕ) (reached : ℕ) (new_t : Bit
       ≡ (filled t block reached c || (value && between reached end c))
 
 -- the tables have a bit for each code point, which says whether the set of these ends holds it, and
--- the bits of ASCII stand beside them
-pub record IsFrozen (ends : List ℕ) (ascii : List Bool) (t : BitTables) : Type 0 where
+-- the bits of ASCII stand beside them, and those of the characters of two bytes
+pub record IsFrozen (ends : List ℕ) (ascii : List Bool) (two_bytes : List ℕ) (t : BitTables)
+    : Type 0 where
   pub valid : IsValid ends
   pub tables : AreTables t
   pub blocks : length t.index ≡ 4352
   pub bits : (c : ℕ) → c < code_point_limit → has_bit t c ≡ holds ends c
   pub first : (c : ℕ) → c < 128 → slice_index_or ascii c false ≡ holds ends c
+  pub short : (c : ℕ) → c < 2048 → bit_among two_bytes c ≡ holds ends c

@@ -81,6 +81,30 @@ fn spans_of_frozen_sets(rt: HostRuntime) -> Result<(), Fail> {
     Ok(())
 }
 
+/// Texts, and how far they lie in a set of code points on both sides of where a character takes a
+/// byte more, and of where its lead byte is another one: by the front and by the tail.
+#[test]
+fn spans_where_bytes_change(rt: HostRuntime) -> Result<(), Fail> {
+    const ENDS: [u32; 8] = [0x7F, 0x81, 0xBF, 0xC1, 0x7BF, 0x7C1, 0x7FF, 0x801];
+    const ROWS: [(&str, [usize; 4]); 8] = [
+        ("~\u{7F}\u{80}", [0, 1, 1, 4]),
+        ("\u{7F}\u{80}\u{81}", [3, 0, 5, 3]),
+        ("\u{BE}\u{BF}\u{C0}", [0, 2, 2, 6]),
+        ("\u{BF}\u{C0}\u{C1}", [4, 0, 6, 4]),
+        ("\u{7BE}\u{7BF}\u{7C0}", [0, 2, 2, 6]),
+        ("\u{7BF}\u{7C0}\u{7C1}", [4, 0, 6, 4]),
+        ("\u{7FE}\u{7FF}\u{800}", [0, 2, 2, 7]),
+        ("\u{7FF}\u{800}\u{801}", [5, 0, 8, 5]),
+    ];
+    let Some(frozen) = frozen_of(rt.alloc(), &ENDS) else {
+        return Err("no memory".into());
+    };
+    for (text, want) in ROWS {
+        expect_same(&rt, spans_of(&frozen, text), want, text);
+    }
+    Ok(())
+}
+
 /// The spans that are left are these, and no more.
 fn expect_spans(rt: &impl Abort, mut spans: Spans<'_, '_>, want: &[(&str, bool)], text: &str) {
     for (piece, is_held) in want {

@@ -27,4 +27,5 @@ invariant_of-result c =
     (ranges_of c.loop-range.range-iterator) f.bits f.block f.reached c.finish-bits.result b.block 0x110000
     c.loop-range.invariant c.in-None.ensures.steps.0 (rw c.finish-bits.ensures c.in_ok-fill_to-3.ensures.fills) refl
     (rw c.finish-bits.ensures c.in_ok-fill_to-3.ensures.settled)
-    c.iter_ranges-ranges.ensures.valid c.ascii.result c.ascii.ensures)
+    c.iter_ranges-ranges.ensures.valid c.ascii.result c.ascii.ensures
+    c.first_words.result c.first_words.ensures)
