@@ -1,7 +1,7 @@
 //! A bit for each code point, in two stages, so that each look-up is two loads.
-ghost use Rattle.std.specs.Prelude.{◌≡◌, ℕ, ◌+◌, ◌*◌, ◌/◌, ◌<◌, ◌≤◌, [], false, length, slice_index, slice_index_or, IfOk, OnOk, IsTrue, if◌then◌else◌};
+ghost use Rattle.std.specs.Prelude.{◌≡◌, ℕ, ◌+◌, ◌*◌, ◌/◌, ◌<◌, ◌≤◌, ◌↔◌, [], Bool, false, length, slice_index, slice_index_or, IfOk, OnOk, IsTrue, if◌then◌else◌};
 ghost use Rattle.icu_frozen_sets.specs.CodePointBits.{has_bit};
-ghost use Rattle.icu_frozen_sets.specs.Inside.Filling.{AddsBlocks, AreTables, bit_among, block_bit};
+ghost use Rattle.icu_frozen_sets.specs.Inside.Filling.{AddsBlocks, AreTables, IsUniform, bit_among, block_bit};
 
 use icu_zerovec::{CODE_POINT_LIMIT, MemoryError};
 use std::alloc::Global;
@@ -51,7 +51,7 @@ fn shared_place(value: bool) -> u16
 
 /// Whether each of the block's words is this one.
 fn is_all(block: &[u64; 4], word: u64) -> bool
-    ensures { IsTrue result → (k : ℕ) → k < 4 → slice_index block.now k ≡ word }
+    ensures { IsTrue result ↔ ((k : ℕ) → k < 4 → slice_index block.now k ≡ word) }
 {
     block[0] == word && block[1] == word && block[2] == word && block[3] == word
 }
@@ -133,7 +133,8 @@ impl CodePointBits {
     pub(crate) fn push_run(&mut self, count: usize, value: bool) -> Result<(), MemoryError>
         requires tables { AreTables self.old }
         requires room { length self.old.index + count < 0x10000 }
-        ensures { OnOk result (AddsBlocks self.old self.new count (λ c. value)) }
+        ensures adds { OnOk result (AddsBlocks self.old self.new count (λ c. value)) }
+        ensures shared { OnOk result (self.new.words ≡ self.old.words) }
     {
         self.index
             .resize(self.index.len() + count, shared_place(value))?;
@@ -151,14 +152,16 @@ impl CodePointBits {
         Ok(())
     }
 
-    /// Appends a block of these words.
+    /// Appends a block of these words. One that holds nothing or everything takes no words.
     ///
     /// # Errors
     /// `MemoryError` where memory was refused.
     pub(crate) fn push_block(&mut self, block: &[u64; 4]) -> Result<(), MemoryError>
         requires tables { AreTables self.old }
         requires room { length self.old.index < BLOCKS }
-        ensures { OnOk result (AddsBlocks self.old self.new 1 (block_bit block.now)) }
+        ensures adds { OnOk result (AddsBlocks self.old self.new 1 (block_bit block.now)) }
+        ensures shared { OnOk result ((value : Bool) → IsUniform block.now value
+            → self.new.words ≡ self.old.words) }
     {
         if is_all(block, 0) {
             return self.push_run(1, false);

@@ -14,6 +14,11 @@ block_bit block c = bit_at (slice_index block (c / 64 % 4)) (c % 64) == 1
 abbrev pub bit_among : List ℕ → ℕ → Bool
 bit_among words c = bit_at (slice_index words (c / 64)) (c % 64) == 1
 
+-- the block holds everything, or, for `value` false, nothing
+abbrev pub IsUniform : List ℕ → Bool → Type 0
+IsUniform block value =
+    (k : ℕ) → k < 4 → slice_index block k ≡ (if value then 2 ^ 64 - 1 else 0)
+
 -- the index has places of four words each, among which are those of the block that holds nothing
 -- and of the one that holds everything; and the places are small
 pub record AreTables (t : BitTables) : Type 0 where

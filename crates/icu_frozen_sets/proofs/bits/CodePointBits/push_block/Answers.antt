@@ -1,10 +1,26 @@
-use Rattle.std.proofs.Common.{true, false, refl}
+use Rattle.std.proofs.Common.{◌≡◌, ◌-◌, ◌^◌, ◌<◌, ℕ, List, Bool, true, false, refl, slice_index}
 use Rattle.std.proofs.lemmas.Result.{on_ok_weaker}
+use Rattle.icu_frozen_sets.specs.Inside.Filling.{AddsBlocks, IsUniform, block_bit}
 use Rattle.icu_frozen_sets.proofs.BlockLemmas.{uniform_block}
 use Rattle.icu_frozen_sets.proofs.bits.CodePointBits.push_block.Goals as goal
 
-pub returns-then-is_all : goal.returns-then-is_all
-returns-then-is_all c = on_ok_weaker _ (λ a. uniform_block c.args.self.now c.push_run.new.self c.args.block.now false a (c.if-is_all.ensures refl)) c.push_run.ensures
+pub returns-then-is_all-clause-adds : goal.returns-then-is_all-clause-adds
+returns-then-is_all-clause-adds c = on_ok_weaker _ (λ a. uniform_block c.args.self.now c.push_run.new.self c.args.block.now false a (c.if-is_all.ensures.0 refl)) c.push_run.ensures.adds
 
-pub returns-then-is_all-2 : goal.returns-then-is_all-2
-returns-then-is_all-2 c = on_ok_weaker _ (λ a. uniform_block c.args.self.now c.push_run-then-is_all-2.new.self c.args.block.now true a (c.if-is_all-2.ensures refl)) c.push_run-then-is_all-2.ensures
+pub returns-then-is_all-2-clause-adds : goal.returns-then-is_all-2-clause-adds
+returns-then-is_all-2-clause-adds c = on_ok_weaker _ (λ a. uniform_block c.args.self.now c.push_run-then-is_all-2.new.self c.args.block.now true a (c.if-is_all-2.ensures.0 refl)) c.push_run-then-is_all-2.ensures.adds
+
+-- a block that is neither empty nor full is not uniform
+mixed : (block : List ℕ) (value none all : Bool) → none ≡ false → all ≡ false
+    → (((k : ℕ) → k < 4 → slice_index block k ≡ 0) → none ≡ true)
+    → (((k : ℕ) → k < 4 → slice_index block k ≡ 2 ^ 64 - 1) → all ≡ true) → IsUniform block value → ⊥
+mixed block true none all n a f g u = let e = g u in cc
+mixed block false none all n a f g u = let e = f u in cc
+
+pub returns-clause-shared : goal.returns-clause-shared
+returns-clause-shared c =
+    let P : Type 0 = AddsBlocks c.args.self.now c.push_own.new.self 1 (block_bit c.args.block.now) in
+    let Q : Type 0 = (value : Bool) → IsUniform c.args.block.now value → c.push_own.new.self.words ≡ c.args.self.now.words in
+    let never : P → Q = λ a value u. absurd (mixed c.args.block.now value c.is_all.result c.is_all-2.result
+        c.if-is_all.false c.if-is_all-2.false c.is_all.ensures.1 c.is_all-2.ensures.1 u) in
+    on_ok_weaker _ never c.push_own.ensures

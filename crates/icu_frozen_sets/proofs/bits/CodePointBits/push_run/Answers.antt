@@ -3,8 +3,8 @@ use Rattle.std.specs.Vec.{vec_len}
 use Rattle.icu_frozen_sets.proofs.BlockLemmas.{run_more}
 use Rattle.icu_frozen_sets.proofs.bits.CodePointBits.push_run.Goals as goal
 
-pub returns : goal.returns
-returns c =
+pub returns-clause-adds : goal.returns-clause-adds
+returns-clause-adds c =
     let len = c.len.ensures in
     let n : vec_len c.resize.new.self ≡ c.len.result + c.args.count = c.in_ok-resize.ensures.len in
     rw (← c.self.view_is) (run_more (record { index = c.self.inside.index.items; words = c.self.inside.words.items }) c.resize.new.self.items c.args.count c.args.value
