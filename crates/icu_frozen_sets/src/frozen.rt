@@ -1,5 +1,5 @@
 //! Frozen sets: for many look-ups, a bit for each code point.
-ghost use Rattle.std.specs.Prelude.{◌≡◌, ℕ, ◌+◌, ◌*◌, ◌<◌, ◌≤◌, ◌↔◌, false, drop, length, IfOk, IsTrue, nat_eq};
+ghost use Rattle.std.specs.Prelude.{◌≡◌, ℕ, ◌+◌, ◌*◌, ◌<◌, ◌≤◌, ◌↔◌, false, drop, length, slice_index, IfOk, IsTrue, nat_eq};
 ghost use Rattle.std.specs.List.{take_while};
 ghost use Rattle.std.specs.Str.{IsCharBoundary, IsUtf8, chars, encode_utf8_all};
 ghost use Rattle.std.specs.Cmp.{partial_equiv_from_equiv};
@@ -174,6 +174,8 @@ impl FrozenCodePointSet {
             ≡ start + length (encode_utf8_all
             (take_while (λ c. beq (holds self.now c) held) (chars (drop start text.now)))) }
         ensures order { start ≤ result }
+        ensures stops { result < length text.now → slice_index text.now result < 128
+            → beq (holds self.now (slice_index text.now result)) held ≡ false }
         ensures boundary { IsCharBoundary text.now result }
     {
         let bytes = text.as_bytes();

@@ -1,5 +1,5 @@
 use Rattle.std.proofs.Common.{◌≡◌, ◌∙◌, ℕ, ◌<◌, List, ap, sym, arith, slice_index, slice_index_or, Bool, false}
-use Rattle.std.proofs.lemmas.Bool.{not-false}
+use Rattle.std.proofs.lemmas.Bool.{not-false, not-true}
 use Rattle.std.proofs.lemmas.Bool.Decides.{nat_tests}
 use Rattle.icu_invlist.specs.InversionList.{holds}
 use Rattle.icu_frozen_sets.proofs.SpanLemmas.{passed_none, passed_ascii, passed_boundary}
@@ -24,3 +24,13 @@ loop-end-preserved c =
     passed_ascii p c.args.text.now c.args.start c.loop-end.end c.loop-end.invariant (omega (arith, c.loop-end-test.true)) low
     (ap (λ (b : Bool). beq b c.args.held) (told ∙ ap (λ (n : ℕ). slice_index_or c.self.inside.ascii n false) read)
     ∙ not-false _ c.if-self-byte.false)
+
+pub returns-then-self-byte-clause-stops : goal.returns-then-self-byte-clause-stops
+returns-then-self-byte-clause-stops c = λ more low.
+    let byte = slice_index c.args.text.now c.loop-end.end in
+    let read : byte ≡ slice_index c.as_bytes-bytes.result.now c.loop-end.end = ap (λ (bs : List ℕ). slice_index bs c.loop-end.end)
+    (sym c.as_bytes-bytes.ensures.value) in
+    let told : holds c.args.self.now byte ≡ slice_index_or c.self.inside.ascii byte false = rw (← c.self.view_is) (sym
+    (c.self.invariant.first byte low)) in
+    ap (λ (b : Bool). beq b c.args.held) (told ∙ ap (λ (n : ℕ). slice_index_or c.self.inside.ascii n false) read)
+    ∙ not-true _ c.if-self-byte.true
