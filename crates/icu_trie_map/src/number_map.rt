@@ -10,7 +10,7 @@ use std::alloc::{AllocError, Global};
 use std::marker::Model;
 
 /// How many blocks of 16 code points there are.
-const BLOCK_COUNT: usize = CODE_POINT_LIMIT as usize / 16;
+pub(crate) const BLOCK_COUNT: usize = CODE_POINT_LIMIT as usize / 16;
 
 /// Blocks below this one are made mixed four at a time.
 const FIRST_SINGLE: usize = 0x1000;
@@ -79,7 +79,7 @@ fn make_blocks(blocks: &mut Blocks, alloc: Global, rest: u32) -> Result<(), Allo
 }
 
 /// Whether there are blocks.
-fn are_there(blocks: &Blocks) -> bool
+pub(crate) fn are_there(blocks: &Blocks) -> bool
     requires { IsBlocks blocks.now }
     ensures there { IsTrue result → length blocks.now.mixed.items ≡ block_count }
     ensures none { IsFalse result → length blocks.now.mixed.items ≡ 0 }
@@ -88,7 +88,7 @@ fn are_there(blocks: &Blocks) -> bool
 }
 
 /// Whether block number `number` is mixed.
-fn has_cells(blocks: &Blocks, number: usize) -> bool
+pub(crate) fn has_cells(blocks: &Blocks, number: usize) -> bool
     requires { number < length blocks.now.mixed.items }
     ensures { result ≡ is_mixed blocks.now number }
 {
@@ -96,7 +96,7 @@ fn has_cells(blocks: &Blocks, number: usize) -> bool
 }
 
 /// The number of block number `number`, or the place of its cells.
-fn number_of(blocks: &Blocks, number: usize) -> u32
+pub(crate) fn number_of(blocks: &Blocks, number: usize) -> u32
     requires sound { IsBlocks blocks.now }
     requires there { number < length blocks.now.mixed.items }
     ensures { result ≡ slice_index blocks.now.numbers.items number }
@@ -281,7 +281,7 @@ fn write_range(
 }
 
 /// The number of the code point `c`.
-fn number_of_code_point(blocks: &Blocks, rest: u32, c: usize) -> u32
+pub(crate) fn number_of_code_point(blocks: &Blocks, rest: u32, c: usize) -> u32
     requires sound { IsBlocks blocks.now }
     requires within { c < code_point_limit }
     ensures { result ≡ number_at blocks.now rest c }
@@ -296,7 +296,7 @@ fn number_of_code_point(blocks: &Blocks, rest: u32, c: usize) -> u32
 }
 
 /// The cell number `i` of block number `block`, which is mixed.
-fn cell_of(blocks: &Blocks, block: usize, i: usize) -> u32
+pub(crate) fn cell_of(blocks: &Blocks, block: usize, i: usize) -> u32
     requires sound { IsBlocks blocks.now }
     requires mixed { is_mixed blocks.now block ≡ true }
     requires there { block < length blocks.now.mixed.items }
