@@ -13,3 +13,4 @@ mod TypedLemmas
 mod ValuesOfNumbers
 mod BuilderLemmas
 mod RangesOfMap
+mod AmendLemmas
