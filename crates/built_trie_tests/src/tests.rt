@@ -1,6 +1,7 @@
 //! What no clause says of built tries: examples whose answers come from outside, printed texts,
 //! sizes, each public call on its happy path, and refused memory.
 
+mod amended_maps;
 mod built_tries;
 mod compaction;
 mod getters;

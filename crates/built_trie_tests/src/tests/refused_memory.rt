@@ -3,7 +3,7 @@
 //! refuses nothing: a refusal between the lines `call` and `done` has to be answered by the line
 //! `refused`. In a test whose name ends in `_quiet` nothing is asked for between the two.
 
-use crate::tests::support::{expect, expect_numbers, expect_ranges};
+use crate::tests::support::{expect, expect_numbers, expect_ranges, is_range};
 use icu_collections::codepointinvlist::CodePointInversionList;
 use icu_collections::codepointtrie::{
     ApplyRefused, BuildError, CodePointTrie, CodePointTrieBuilder, TrieType, Write,
@@ -352,4 +352,41 @@ fn lent_parts_quiet(rt: HostRuntime) {
     let same = lent.is_ok_and(|lent| lent == trie);
     say(&rt, "done");
     expect(&rt, same, "lent");
+}
+
+/// A map that is made of a trie asks for the memory of its blocks and cells. Refused, the trie is
+/// as it was.
+///
+/// Calls: `CodePointTrieBuilder::from_trie`.
+#[test]
+fn from_trie_refused(rt: HostRuntime) {
+    let Some(trie) = trie_of_one(rt.alloc()) else {
+        return;
+    };
+    say(&rt, "call");
+    let answer = CodePointTrieBuilder::from_trie(rt.alloc(), &trie);
+    say(&rt, "done");
+    match answer {
+        Ok(builder) => expect(&rt, builder.get(0x41) == 1, "the map"),
+        Err(MemoryError) => say(&rt, "refused"),
+    }
+    expect_one(&rt, &trie);
+}
+
+/// A map is read without memory.
+///
+/// Calls: `CodePointTrieBuilder::get`, `CodePointTrieBuilder::get_range`.
+#[test]
+fn read_map_quiet(rt: HostRuntime) {
+    let Some(builder) = written(rt.alloc()) else {
+        return;
+    };
+    say(&rt, "call");
+    let values = (builder.get(0x41), builder.get(0x42), builder.get(0x110000));
+    let range = builder.get_range(0x42);
+    let none = builder.get_range(0x110000);
+    say(&rt, "done");
+    expect(&rt, values == (1, 0, 9), "the values");
+    let same = range.is_some_and(|range| is_range(&range, (0x42, 0xFFFF, 0)));
+    expect(&rt, same && none.is_none(), "the ranges");
 }

@@ -1,0 +1,148 @@
+//! Maps that are read back, and maps that are made of a trie, written to and built again.
+
+use crate::tests::support::{BOTH, expect, expect_number, expect_ranges, over_the_fast_limit};
+use icu_collections::codepointtrie::{
+    CodePointTrie, CodePointTrieBuilder, CodePointTrieHeader, PartsError, TrieType,
+};
+use icu_collections::zerovec::MemoryError;
+use std::alloc::Global;
+use std::process::Abort;
+
+/// A map of 5 with 8 and 11 in ranges that touch, 7 over the fast limit, and 10 at one code point.
+fn written(alloc: Global) -> Result<CodePointTrieBuilder<u16>, MemoryError> {
+    let mut builder = CodePointTrieBuilder::new(alloc, 5u16, 6, TrieType::Small);
+    builder.set_range_value(0x1000..=0x1FFF, 8)?;
+    builder.set_range_value(0x1FFF..=0x2000, 11)?;
+    builder.set_range_value(0xFFC8..=0x1000F, 7)?;
+    builder.set_value(0x20000, 10)?;
+    Ok(builder)
+}
+
+/// The end and the value of the range from a code point on.
+fn end_and_value(builder: &CodePointTrieBuilder<u16>, start: u32) -> Option<(u32, u16)> {
+    let range = builder.get_range(start)?;
+    Some((*range.range.end(), range.value))
+}
+
+/// Code points, and where the range from there on ends and which value it has.
+const RANGES: [(u32, Option<(u32, u16)>); 14] = [
+    (0, Some((0xFFF, 5))),
+    (0xFFF, Some((0xFFF, 5))),
+    (0x1000, Some((0x1FFE, 8))),
+    (0x1234, Some((0x1FFE, 8))),
+    (0x1FFF, Some((0x2000, 11))),
+    (0x2001, Some((0xFFC7, 5))),
+    (0xFFD0, Some((0x1000F, 7))),
+    (0x10000, Some((0x1000F, 7))),
+    (0x10010, Some((0x1FFFF, 5))),
+    (0x20000, Some((0x20000, 10))),
+    (0x20001, Some((0x10FFFF, 5))),
+    (0x10FFFF, Some((0x10FFFF, 5))),
+    (0x110000, None),
+    (0xFFFFFFFF, None),
+];
+
+/// The ranges of a map that was written to.
+fn expect_written_ranges(rt: &impl Abort, builder: &CodePointTrieBuilder<u16>) {
+    for (start, wanted) in RANGES {
+        let same = end_and_value(builder, start) == wanted;
+        assert!(rt; same, "the range from {start:x}");
+    }
+}
+
+/// The map answers these numbers.
+fn expect_answers(rt: &impl Abort, builder: &CodePointTrieBuilder<u16>, expected: &[(u32, u32)]) {
+    for (c, number) in expected {
+        expect_number(rt, *c, u32::from(builder.get(*c)), *number);
+    }
+}
+
+/// Values and ranges at the borders of what was written, and above the code space.
+#[test]
+fn a_map_is_read(rt: HostRuntime) {
+    match written(rt.alloc()) {
+        Ok(builder) => {
+            expect_written_ranges(&rt, &builder);
+            let expected = [
+                (0xFFF, 5),
+                (0x1000, 8),
+                (0x1FFE, 8),
+                (0x2000, 11),
+                (0x2001, 5),
+                (0xFFFF, 7),
+                (0x10000, 7),
+                (0x20000, 10),
+                (0x10FFFF, 5),
+                (0x110000, 6),
+                (0xFFFFFFFF, 6),
+            ];
+            expect_answers(&rt, &builder, &expected);
+        }
+        Err(MemoryError) => expect(&rt, false, "not written"),
+    }
+}
+
+/// The trie with 3 in a range that it had nothing in, and 0 in a part of another.
+fn amended(alloc: Global, trie: &CodePointTrie<'_, u8>) -> Option<CodePointTrie<'static, u8>> {
+    let mut builder = CodePointTrieBuilder::from_trie(alloc, trie).ok()?;
+    builder.set_range_value(0x41..=0x5A, 3).ok()?;
+    builder.set_range_value(0xFFFF..=0x10001, 0).ok()?;
+    builder.build().ok()
+}
+
+/// A trie that was built is amended: what was not written to stays.
+#[test]
+fn a_built_trie_is_amended(rt: HostRuntime) {
+    let ranges = [
+        (0, 0x40, 0),
+        (0x41, 0x5A, 3),
+        (0x5B, 0xFFBF, 0),
+        (0xFFC0, 0xFFCF, 1),
+        (0xFFD0, 0xFFFE, 2),
+        (0xFFFF, 0x10001, 0),
+        (0x10002, 0x1000F, 1),
+        (0x10010, 0x10FFFF, 0),
+    ];
+    for trie_type in BOTH {
+        match amended(rt.alloc(), &over_the_fast_limit(&rt, trie_type)) {
+            Some(trie) => expect_ranges(&rt, &trie, &ranges),
+            None => expect(&rt, false, "not amended"),
+        }
+    }
+}
+
+/// A trie of 7 below 0x1000 and 8 from 0x2000 on, whose header names the blocks of 7 as blocks of 4
+/// and which has no cells between: the format answers nothing there.
+fn misnamed(alloc: Global) -> Result<CodePointTrie<'static, u8>, PartsError> {
+    let header = CodePointTrieHeader {
+        high_start: 0x2000,
+        shifted12_high_start: 2,
+        index3_null_offset: 0x7fff,
+        data_null_offset: 0,
+        null_value: 4,
+        trie_type: TrieType::Small,
+    };
+    let mut values = [7u8; 66];
+    values[64] = 8;
+    values[65] = 9;
+    CodePointTrie::alloc_from_slices(alloc, header, &[0; 64], &values)
+}
+
+/// A trie that is not coherent becomes the map of its look-ups, which is then built anew.
+fn built_again(alloc: Global) -> Option<CodePointTrie<'static, u8>> {
+    let trie = misnamed(alloc).ok()?;
+    let builder = CodePointTrieBuilder::from_trie(alloc, &trie).ok()?;
+    builder.build().ok()
+}
+
+#[test]
+fn a_trie_with_a_lying_header_is_taken_by_its_look_ups(rt: HostRuntime) {
+    match built_again(rt.alloc()) {
+        Some(trie) => {
+            let ranges = [(0, 0xFFF, 7), (0x1000, 0x1FFF, 9), (0x2000, 0x10FFFF, 8)];
+            expect_ranges(&rt, &trie, &ranges);
+            expect(&rt, trie.error_value() == 9, "error value");
+        }
+        None => expect(&rt, false, "not built"),
+    }
+}
