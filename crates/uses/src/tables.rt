@@ -1,7 +1,8 @@
 //! Properties of characters in tries that are built, stored and read.
-ghost use Rattle.std.specs.Prelude.{◌≡◌, ◌+◌, ◌<◌, ◌≤◌, ◌==◌, ◌↔◌, ℕ, [], ◌∷◌, true, false, Some, Err, IfOk, IfSome, List, ◌++◌, map, slice_get, ◌≢◌};
+ghost use Rattle.std.specs.Prelude.{◌≡◌, ◌+◌, ◌<◌, ◌≤◌, ◌==◌, ◌↔◌, ℕ, [], ◌∷◌, true, false, Some, Err, IfOk, IfSome, List, ◌++◌, map, slice_get, ◌≢◌, ◌⊎◌};
 ghost use Rattle.std.specs.List.{count_by};
 ghost use Rattle.std.specs.Option.{option_map};
+ghost use Rattle.std.specs.Range.{range_inclusive_start, range_inclusive_end};
 ghost use Rattle.icu_collections.specs.CodePointInversionList.{holds};
 ghost use Rattle.icu_collections.specs.CodePointTrie.{AreMappedRunsFrom, AreMaximalRuns, AreRunsOfValue, IsCoherentTrie, answers, same_packed, trie_value, value_run};
 ghost use Rattle.icu_collections.specs.CodePointTrieBuilder.{IsAfter, answer_after, is_accepted, value_after};
@@ -69,6 +70,25 @@ pub fn amended_value(
     builder.apply(second)?;
     let trie = builder.build()?;
     Ok(trie.get32(c))
+}
+
+/// A table with another value in one range: all other numbers answer as before, whatever the
+/// table's header says.
+pub fn with_range_changed(
+    alloc: Global,
+    table: &CodePointTrie<'_, u8>,
+    range: RangeInclusive<u32>,
+    value: u8,
+) -> Result<CodePointTrie<'static, u8>, BuildError>
+    ensures inside { IfOk result (λ t. (u : ℕ) → u ≤ 0x10FFFF → range_inclusive_start range ≤ u
+        → u ≤ range_inclusive_end range → trie_value t u ≡ Some value) }
+    ensures outside { IfOk result (λ t. (u : ℕ)
+        → (u < range_inclusive_start range) ⊎ ((range_inclusive_end range < u) ⊎ (0x10FFFF < u))
+        → trie_value t u ≡ trie_value table.now u) }
+{
+    let mut builder = CodePointTrieBuilder::from_trie(alloc, table)?;
+    builder.set_range_value(range, value)?;
+    builder.build()
 }
 
 /// Writes a value, and says whether memory was found for it. Where it was not, the map is as it

@@ -5,7 +5,7 @@ use icu_collections::codepointinvlist::{
     CodePointInversionList, CodePointInversionListBuilder, FrozenCodePointSet,
 };
 use icu_collections::codepointtrie::{
-    CodePointTrieBuilder, CodePointTrieHeader, TrieType, Write, build_from_writes,
+    CodePointTrie, CodePointTrieBuilder, CodePointTrieHeader, TrieType, Write, build_from_writes,
 };
 use icu_collections::zerovec::{MemoryError, ZeroVec};
 use std::alloc::Global;
@@ -104,6 +104,31 @@ fn tables_that_are_built(rt: HostRuntime) {
     expect(&rt, twice == Ok(301), "twice");
     let mut builder = CodePointTrieBuilder::new(alloc, 0u8, 9, TrieType::Fast);
     expect(&rt, tables::try_to_write(&mut builder, 0x41, 1), "written");
+}
+
+/// The table of the rows with 7 at two of its code points.
+fn expect_changed(rt: &impl Abort, changed: &CodePointTrie<'_, u8>) {
+    for (c, wanted) in [
+        (0x41, 1),
+        (0x42, 7),
+        (0x43, 7),
+        (0x44, 1),
+        (0x5A, 2),
+        (0x11_0000, 9),
+    ] {
+        expect(rt, changed.get32(c) == wanted, "in the changed table");
+    }
+}
+
+#[test]
+fn a_table_that_is_changed(rt: HostRuntime) {
+    let Ok(trie) = build_from_writes(rt.alloc(), 0u8, 9, TrieType::Small, &rows()) else {
+        panic!(rt; "built");
+    };
+    match tables::with_range_changed(rt.alloc(), &trie, 0x42..=0x43, 7) {
+        Ok(changed) => expect_changed(&rt, &changed),
+        Err(_) => expect(&rt, false, "changed"),
+    }
 }
 
 #[test]
