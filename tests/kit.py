@@ -21,11 +21,12 @@ def rt_path():
 
 
 def load():
-    """rt's own module."""
+    """rt's own module. It runs rattle by the script that RATTLE_BY names, if there is one."""
     loader = importlib.machinery.SourceFileLoader("rt", rt_path())
     made = importlib.util.module_from_spec(importlib.util.spec_from_loader("rt", loader))
     loader.exec_module(made)
     made.rtlib.Crate = made.Crate
+    made.rtlib.RATTLE = os.environ.get("RATTLE_BY", made.rtlib.RATTLE)
     return made
 
 

@@ -1,0 +1,91 @@
+"""What edits of a crate change, and what a check of it tells of them, for tests/wrong_bodies."""
+import os
+import re
+
+# A statement that is open: where it stands, and its name.
+OPEN = re.compile(
+    r"(?:note: )?(\S+?):(\d+):\d+: (?:it is not proved that .*?|.*? is not proved.*?)\(`([^`]+)`\)"
+)
+# An answer in a proof file that no longer proves its statement.
+ANSWER = re.compile(r"(?:note: )?(?:\./)?(proofs/\S+?):(\d+):\d+: error: `([^`]+)`")
+# What names something that is gone, or an answer to what nothing asks for.
+NAMES = re.compile(
+    r"has no field|is not in scope|has no `|was not admitted|`Goals` has no|names? no "
+)
+# What only says that a loop has no proof yet.
+LOOP = re.compile(r"^(?:invariant|decreases)-|expected (?:a measure|an invariant)")
+
+
+def reasons(said):
+    """The statements that a check's output tells to be false or open, each with the file and the
+    line where that is said, and its other errors."""
+    said = re.sub(r"\n(?=\s*(?:has no field|is not in scope|record `))", " ", said)
+    statements, other = {}, []
+    for line in said.split("\n"):
+        found = OPEN.match(line) or not NAMES.search(line) and ANSWER.match(line)
+        if found and not LOOP.search(found[3]):
+            statements[found[1], int(found[2]), found[3]] = None
+        elif re.match(r"(?:note: )?\S+:\d+:\d+: error", line):
+            other.append(line)
+    return list(statements), other
+
+
+def last_function(path, text):
+    """The last function that a text of a file names, by its type, or its module, and its name."""
+    name = re.findall(r"\bfn (\w+)", text)[-1:]
+    item = re.findall(r"^(?:impl.*|\})", text, re.M)[-1:]
+    owner = re.match(r"impl(?:<.*?>)? (?:(\w+)(?:<.*>)? for )?&?(\w+)", item[0] if item else "")
+    owned = owner[2] + (owner[1] or "") if owner else os.path.basename(path)[: -len(".rt")]
+    return "::".join([owned, *name])
+
+
+def function_at(crate, texts, path, line):
+    """The function of which something is said at this line of a file of the crate, in which these
+    texts stand in place of the crate's own."""
+    if path.startswith("proofs/"):
+        return "::".join(path.split("/")[-3:-1])
+    text = texts.get(path) or open(f"{crate.folder}/{path}", encoding="utf-8").read()
+    # What is said at an item is said at its attributes.
+    before = re.match(rf"(?:.*\n){{{line - 1}}}(?:\s*(?:#|//).*\n)*.*", text)
+    return last_function(path, before[0])
+
+
+def is_in_body(text):
+    """Whether a text of a file ends inside the body of the last function that it names."""
+    lines = re.split(r"^(?=.*\bfn )", text, flags=re.M)[-1].split("\n")
+    end = lines[0][: len(lines[0]) - len(lines[0].lstrip())] + "}"
+    opens = [re.fullmatch(r"\s*(?:.*\bfn .*|\).*)?\{", it) for it in lines[:-1]]
+    begins = next((at for at, it in enumerate(opens) if it), len(lines))
+    return begins < len(lines) and end not in lines[begins:-1]
+
+
+def changed(crate, edit):
+    """The functions that an edit changes, and whether it changes their bodies alone."""
+    path, found, bodies = "", {}, True
+    for line in open(edit, encoding="utf-8"):
+        kind, _, text = line.rstrip("\n").partition(": ")
+        if kind == "file":
+            path = text.strip()
+            whole = open(f"{crate.folder}/{path}", encoding="utf-8").read()
+        elif kind == "old":
+            before = whole[: whole.index(text) + len(text)]
+            found[last_function(path, before)] = None
+            bodies = bodies and is_in_body(before) and not re.search(r"\bfn ", text)
+    return list(found), bodies
+
+
+def together(rt, crate, edits):
+    """The edits in lists, of which each can be tried in one check: they change bodies alone, and
+    those of different functions."""
+    lists, lone = [], []
+    for edit in edits:
+        functions, bodies = changed(crate, edit)
+        for taken, some in lists if bodies else []:
+            text = "".join(open(it, encoding="utf-8").read() for it in [*some, edit])
+            if not taken & set(functions) and rt.edited(text, crate.folder)[0]:
+                taken.update(functions)
+                some.append(edit)
+                break
+        else:
+            (lists if bodies else lone).append((set(functions), [edit]))
+    return [some for _, some in [*lists, *lone]]
