@@ -26,35 +26,37 @@ fn changed_by(
     Ok(builder)
 }
 
+/// Sets, what changes them by which other sets, and what they are then.
+const CHANGED: [(&[u32], Operation, &[u32], &[u32]); 4] = [
+    (
+        &[0xA, 0x14, 0x28, 0x32],
+        Operation::Union,
+        &[0x5, 0xA, 0x16, 0x21, 0x2C, 0x33],
+        &[0x5, 0x14, 0x16, 0x21, 0x28, 0x33],
+    ),
+    (
+        &[0xA, 0x14, 0x28, 0x32, 0x46, 0x50],
+        Operation::Difference,
+        &[0xA, 0x14, 0x2D, 0x4B],
+        &[0x28, 0x2D, 0x4B, 0x50],
+    ),
+    (
+        &[0xA, 0x14, 0x28, 0x32, 0x46, 0x50],
+        Operation::Intersection,
+        &[0xE, 0x14, 0x19, 0x37, 0x4D, 0x51],
+        &[0xE, 0x14, 0x28, 0x32, 0x4D, 0x50],
+    ),
+    (
+        &[0xA, 0x14],
+        Operation::SymmetricDifference,
+        &[0x10, 0x20],
+        &[0xA, 0x10, 0x14, 0x20],
+    ),
+];
+
 #[test]
 fn sets_changed_by_sets(rt: HostRuntime) -> Result<(), Fail> {
-    let rows: [(&[u32], Operation, &[u32], &[u32]); 4] = [
-        (
-            &[0xA, 0x14, 0x28, 0x32],
-            Operation::Union,
-            &[0x5, 0xA, 0x16, 0x21, 0x2C, 0x33],
-            &[0x5, 0x14, 0x16, 0x21, 0x28, 0x33],
-        ),
-        (
-            &[0xA, 0x14, 0x28, 0x32, 0x46, 0x50],
-            Operation::Difference,
-            &[0xA, 0x14, 0x2D, 0x4B],
-            &[0x28, 0x2D, 0x4B, 0x50],
-        ),
-        (
-            &[0xA, 0x14, 0x28, 0x32, 0x46, 0x50],
-            Operation::Intersection,
-            &[0xE, 0x14, 0x19, 0x37, 0x4D, 0x51],
-            &[0xE, 0x14, 0x28, 0x32, 0x4D, 0x50],
-        ),
-        (
-            &[0xA, 0x14],
-            Operation::SymmetricDifference,
-            &[0x10, 0x20],
-            &[0xA, 0x10, 0x14, 0x20],
-        ),
-    ];
-    for (own, operation, other, want) in rows {
+    for (own, operation, other, want) in CHANGED {
         let builder = changed_by(rt.alloc(), own, operation, other)?;
         expect_so_far(&rt, &builder, want)?;
     }
@@ -79,42 +81,54 @@ fn expect_changes(
 /// calls.
 #[test]
 fn far_additions(rt: HostRuntime) -> Result<(), Fail> {
-    let far = Change::Add(Addition::Numbers(0, u32::MAX));
-    let all = Change::Add(Addition::All);
-    let same = [0x41, 0x5B];
     expect_changes(
         &rt,
-        &same,
+        &[0x41, 0x5B],
         &[
-            (Change::Add(Addition::Number(0x11_0000)), &same),
-            (Change::Add(Addition::Numbers(0x50, 0x11_0000)), &same),
-            (far, &same),
-            (all, &[0, 0x11_0000]),
+            (Change::Add(Addition::Number(0x11_0000)), &[0x41, 0x5B]),
+            (
+                Change::Add(Addition::Numbers(0x50, 0x11_0000)),
+                &[0x41, 0x5B],
+            ),
+            (Change::Add(Addition::Numbers(0, u32::MAX)), &[0x41, 0x5B]),
+            (Change::Add(Addition::All), &[0, 0x11_0000]),
         ],
     )?;
-    expect_changes(&rt, &[], &[(far, &[]), (all, &[0, 0x11_0000])])
+    expect_changes(
+        &rt,
+        &[],
+        &[
+            (Change::Add(Addition::Numbers(0, u32::MAX)), &[]),
+            (Change::Add(Addition::All), &[0, 0x11_0000]),
+        ],
+    )
 }
 
 /// Changes at no number, and past the end of the code space.
 #[test]
 fn empty_and_far_changes(rt: HostRuntime) -> Result<(), Fail> {
-    for first in [[0xA, 0x14], [0x41, 0x5B]] {
-        expect_changes(
-            &rt,
-            &first,
-            &[
-                (Change::Turn(Turn::NumbersBelow(5, 5)), &first),
-                (Change::Turn(Turn::Number(0x11_0000)), &first),
-                (Change::Remove(Removal::Number(u32::MAX)), &first),
-            ],
-        )?;
-    }
-    Ok(())
+    expect_changes(
+        &rt,
+        &[0xA, 0x14],
+        &[
+            (Change::Turn(Turn::NumbersBelow(5, 5)), &[0xA, 0x14]),
+            (Change::Turn(Turn::Number(0x11_0000)), &[0xA, 0x14]),
+            (Change::Remove(Removal::Number(u32::MAX)), &[0xA, 0x14]),
+        ],
+    )?;
+    expect_changes(
+        &rt,
+        &[0x41, 0x5B],
+        &[
+            (Change::Turn(Turn::NumbersBelow(5, 5)), &[0x41, 0x5B]),
+            (Change::Turn(Turn::Number(0x11_0000)), &[0x41, 0x5B]),
+            (Change::Remove(Removal::Number(u32::MAX)), &[0x41, 0x5B]),
+        ],
+    )
 }
 
 #[test]
 fn far_removals(rt: HostRuntime) -> Result<(), Fail> {
-    let all = Change::Remove(Removal::Numbers(0, u32::MAX));
     expect_changes(
         &rt,
         &[0x41, 0x5B],
@@ -123,19 +137,22 @@ fn far_removals(rt: HostRuntime) -> Result<(), Fail> {
                 Change::Remove(Removal::Numbers(0x50, u32::MAX)),
                 &[0x41, 0x50],
             ),
-            (all, &[]),
+            (Change::Remove(Removal::Numbers(0, u32::MAX)), &[]),
             (
                 Change::Turn(Turn::Numbers(0x10_FFFE, u32::MAX)),
                 &[0x10_FFFE, 0x11_0000],
             ),
         ],
     )?;
-    expect_changes(&rt, &[0x41, 0x5B], &[(all, &[])])
+    expect_changes(
+        &rt,
+        &[0x41, 0x5B],
+        &[(Change::Remove(Removal::Numbers(0, u32::MAX)), &[])],
+    )
 }
 
 #[test]
 fn kept_numbers(rt: HostRuntime) -> Result<(), Fail> {
-    let greatest = Change::Keep(Keeping::Number(u32::MAX));
     expect_changes(
         &rt,
         &[0x41, 0x5B],
@@ -145,25 +162,32 @@ fn kept_numbers(rt: HostRuntime) -> Result<(), Fail> {
                 &[0x50, 0x5B],
             ),
             (Change::Keep(Keeping::Number(0x51)), &[0x51, 0x52]),
-            (greatest, &[]),
+            (Change::Keep(Keeping::Number(u32::MAX)), &[]),
         ],
     )?;
-    expect_changes(&rt, &[0x41, 0x5B], &[(greatest, &[])])
+    expect_changes(
+        &rt,
+        &[0x41, 0x5B],
+        &[(Change::Keep(Keeping::Number(u32::MAX)), &[])],
+    )
 }
 
 #[test]
 fn kept_ranges(rt: HostRuntime) -> Result<(), Fail> {
-    let reversed = Change::Keep(Keeping::NumbersBelow(9, 3));
     expect_changes(
         &rt,
         &[0x41, 0x5A],
         &[
             (Change::Keep(Keeping::CharsBelow('C', 'F')), &[0x43, 0x46]),
             (Change::Keep(Keeping::Char('D')), &[0x44, 0x45]),
-            (reversed, &[]),
+            (Change::Keep(Keeping::NumbersBelow(9, 3)), &[]),
         ],
     )?;
-    expect_changes(&rt, &[0x41, 0x46], &[(reversed, &[])])
+    expect_changes(
+        &rt,
+        &[0x41, 0x46],
+        &[(Change::Keep(Keeping::NumbersBelow(9, 3)), &[])],
+    )
 }
 
 #[test]
