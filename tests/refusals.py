@@ -42,7 +42,7 @@ def last_function(path, text):
 def function_at(crate, texts, path, line):
     """The function of which something is said at this line of a file of the crate, in which these
     texts stand in place of the crate's own."""
-    if path.startswith("proofs/"):
+    if not path.startswith("src/"):
         return "::".join(path.split("/")[-3:-1])
     text = texts.get(path) or open(f"{crate.folder}/{path}", encoding="utf-8").read()
     # What is said at an item is said at its attributes.

@@ -58,6 +58,13 @@ fn retained_quiet(rt: HostRuntime) {
     );
 }
 
+/// What a set of nothing changes nothing by.
+const CHANGING_NOTHING: [Operation; 3] = [
+    Operation::Union,
+    Operation::Difference,
+    Operation::SymmetricDifference,
+];
+
 /// Sets of nothing, which change nothing.
 ///
 /// Calls: `CodePointInversionListBuilder::add_set`, `CodePointInversionListBuilder::remove_set`,
@@ -70,12 +77,13 @@ fn sets_of_nothing_quiet(rt: HostRuntime) {
     let Ok(mut builder) = full_builder_of(rt.alloc(), &LETTERS) else {
         return;
     };
+    let mut answered = true;
     say(&rt, "call");
-    let added = builder.add_set(&nothing).is_ok();
-    let removed = builder.remove_set(&nothing).is_ok();
-    let turned = builder.complement_set(&nothing).is_ok();
+    for operation in CHANGING_NOTHING {
+        answered = operation.apply(&mut builder, &nothing).is_ok() && answered;
+    }
     say(&rt, "done");
-    expect(&rt, added && removed && turned, "not refused");
+    expect(&rt, answered, "not refused");
     expect_left(&rt, builder, &LETTERS);
 }
 
