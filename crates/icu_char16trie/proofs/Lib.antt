@@ -1,4 +1,5 @@
 pub mod MapLemmas
+pub mod CallerLemmas
 pub mod NodeLemmas
 pub mod PartLemmas
 pub mod PlaceLemmas
@@ -11,6 +12,8 @@ pub mod NextLemmas
 pub mod OneMap
 pub mod Runs
 pub mod PassedLemmas
+pub mod FrontLemmas
+pub mod CharFronts
 pub mod JsonLemmas
 pub mod Examples
 pub mod LongForms

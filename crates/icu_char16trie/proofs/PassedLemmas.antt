@@ -8,7 +8,7 @@ use Rattle.icu_char16trie.specs.Passed.{Passes}
 use Rattle.icu_char16trie.specs.declared.place.Place.{Place}
 use Rattle.icu_char16trie.proofs.StepLemmas.{steps_one}
 
-along_then : (units : List ℕ) (from mid to : Place) (v w : List ℕ) → StepsAlong units from v mid → StepsAlong units mid w to → StepsAlong units from (v ++ w) to
+pub along_then : (units : List ℕ) (from mid to : Place) (v w : List ℕ) → StepsAlong units from v mid → StepsAlong units mid w to → StepsAlong units from (v ++ w) to
 along_then units from mid to [] w h k = subst (λ z. StepsAlong units z w to) h k
 along_then units from mid to (u ∷ v) w h k = (h.0, h.1, along_then units h.0 mid to v w h.2 k)
 

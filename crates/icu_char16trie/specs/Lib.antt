@@ -4,6 +4,7 @@ pub mod UnitMap
 pub mod UnitPlaces
 pub mod Steps
 pub mod Passed
+pub mod Matches
 pub mod LossyText
 pub mod Pending
 pub mod Entries

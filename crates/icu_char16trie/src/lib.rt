@@ -17,6 +17,7 @@
 //!   `write`: of a text that is written to it
 //! - `iterator`: [`Char16TrieIterator`](char16trie::Char16TrieIterator), the same with a result for
 //!   each step
+//! - `dictionary`: the keys that begin a text
 //! - `entries`: [`Iter2`](char16trie::Iter2), the entries in unit order; `pending`: what they have
 //!   still to go through; `spelling`: the key as text while it grows
 //! - `json`: a trie from and to JSON
@@ -27,6 +28,7 @@
 mod branch;
 pub mod char16trie;
 mod cursor;
+mod dictionary;
 mod encoded;
 mod entries;
 mod iterator;

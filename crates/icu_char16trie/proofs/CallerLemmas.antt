@@ -1,0 +1,65 @@
+-- What a caller's proof cites of the maps in `specs/UnitMap.antt` and of the matches in `specs/Matches.antt`.
+use Rattle.std.proofs.Common.{◌≡◌, ℕ, ℤ, ◌<◌, zero, suc, false, List, [], ◌∷◌, ◌++◌, Option, Some, None, length, refl, sym, ap, subst, ◌∙◌, arith, ◌⊎◌, inl, inr}
+use Rattle.icu_char16trie.specs.UnitMap.{UnitMap, after, after_all, goes_on, key_goes_on, value_of}
+use Rattle.icu_char16trie.specs.Matches.{HasFrontValue, IsLongestMatch, LongestWithin}
+use Rattle.icu_char16trie.proofs.MapLemmas.{value_after, value_after_all, goes_on_after_all}
+
+nothing_after : (u : ℕ) (m : UnitMap) → goes_on m [] ≡ false → after u m ≡ []
+unfolding after goes_on key_goes_on
+nothing_after u [] h = refl
+nothing_after u (([], v) ∷ m) h = nothing_after u m h
+nothing_after u ((x ∷ key, v) ∷ m) h = cc
+
+after_all_append : (w v : List ℕ) (m : UnitMap) → after_all (w ++ v) m ≡ after_all v (after_all w m)
+unfolding after_all
+after_all_append [] v m = refl
+after_all_append (x ∷ w) v m = after_all_append w v (after x m)
+
+value_beyond : (m : UnitMap) (w v : List ℕ) → value_of m (w ++ v) ≡ value_of (after_all w m) v
+value_beyond m w v =
+    value_after_all (w ++ v) m ∙ ap (λ z. value_of z []) (after_all_append w v m) ∙ sym (value_after_all v (after_all w m))
+
+none_some : (v : ℤ) → ◌≡◌ {A = Option ℤ} None (Some v) → ⊥
+none_some v e = cc
+
+-- where no key goes on beyond some units, no longer key has a value
+pub none_beyond : (m : UnitMap) (w : List ℕ) (u : ℕ) (more : List ℕ) → goes_on m w ≡ false → value_of m (w ++ (u ∷ more)) ≡ None
+unfolding value_of
+none_beyond m w u more h =
+    value_beyond m w (u ∷ more) ∙ value_after u more (after_all w m)
+    ∙ ap (λ z. value_of z more) (nothing_after u (after_all w m) (sym (goes_on_after_all w m) ∙ h))
+
+-- ---- the longest match is one
+
+above_or_same : (j k : ℕ) → (j < k) ⊎ (k < j) ⊎ (j ≡ k)
+above_or_same zero zero = inr (inr refl)
+above_or_same zero (suc k) = inl (omega arith)
+above_or_same (suc j) zero = inr (inl (omega arith))
+above_or_same (suc j) (suc k) = step (above_or_same j k)
+  where
+    step : (j < k) ⊎ (k < j) ⊎ (j ≡ k) → (suc j < suc k) ⊎ (suc k < suc j) ⊎ (suc j ≡ suc k)
+    step (inl h) = inl (omega (arith, h))
+    step (inr (inl h)) = inr (inl (omega (arith, h)))
+    step (inr (inr h)) = inr (inr (ap suc h))
+
+found_same : (i j : ℕ) (v w : ℤ) → i ≡ j → ◌≡◌ {A = Option ℤ} (Some v) (Some w) → ◌≡◌ {A = Option (ℕ × ℤ)} (Some (i, v)) (Some (j, w))
+found_same i j v w e f = cc
+
+-- where each front has at most one value, there is one longest front with a value
+pub LongestWithin-one : (P : ℕ → Option ℤ → Type 0) (most : ℕ) (a b : Option (ℕ × ℤ)) → ((k : ℕ) (v w : Option ℤ) → P k v → P k w → v ≡ w)
+    → LongestWithin P most a → LongestWithin P most b → a ≡ b
+LongestWithin-one P most None None one h k = refl
+LongestWithin-one P most None (Some b) one h k = absurd (none_some b.1 (one b.0 None (Some b.1) (h b.0 k.0) k.1))
+LongestWithin-one P most (Some a) None one h k = absurd (none_some a.1 (one a.0 None (Some a.1) (k a.0 h.0) h.1))
+LongestWithin-one P most (Some a) (Some b) one h k = by (above_or_same a.0 b.0)
+  where
+    by : (a.0 < b.0) ⊎ (b.0 < a.0) ⊎ (a.0 ≡ b.0) → Some a ≡ Some b
+    by (inl less) = absurd (none_some b.1 (one b.0 None (Some b.1) (h.2 b.0 less k.0) k.1))
+    by (inr (inl more)) = absurd (none_some a.1 (one a.0 None (Some a.1) (k.2 a.0 more h.0) h.1))
+    by (inr (inr same)) =
+        let value : Some a.1 ≡ Some b.1 = one b.0 (Some a.1) (Some b.1) (subst (λ z. P z (Some a.1)) same h.1) k.1 in
+        found_same a.0 b.0 a.1 b.1 same value
+
+-- two longest matches in a map are the same
+pub IsLongestMatch-one : (m : UnitMap) (text : List ℕ) (a b : Option (ℕ × ℤ)) → IsLongestMatch m text a → IsLongestMatch m text b → a ≡ b
+IsLongestMatch-one m text a b h k = LongestWithin-one (HasFrontValue m text) (length text) a b (λ j v w e f. sym e ∙ f) h k

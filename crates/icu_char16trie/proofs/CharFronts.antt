@@ -1,0 +1,116 @@
+-- The first characters of a text, their units and their bytes.
+use Rattle.std.proofs.Common.{◌≡◌, ℕ, ℤ, ◌+◌, ◌<◌, ◌≤◌, Bool, true, false, cond, nat_lt, ◌&&◌, ◌-◌, ◌/◌, ◌%◌, zero, suc, List, [], ◌∷◌, ◌++◌, Option, Some, None, length, take, drop, get_or, sym, ap, refl, ◌∙◌, arith, append_assoc, append-nil, length-append}
+use Rattle.std.proofs.Math.Utf8.{scalar, scalars, encode, encodes}
+use Rattle.std.proofs.lemmas.Str.{encodes-append, encodes-chars, scalars-chars, IsCharBoundary-from_take}
+use Rattle.std.proofs.Math.Seq.{take-append_seam, take-suc}
+use Rattle.std.proofs.lemmas.Grind.{flat_map-append}
+use Rattle.std.proofs.lemmas.List.{take-append-drop}
+use Rattle.std.specs.Prelude.{IfSome, encode_utf8_all}
+use Rattle.std.specs.Char.{encode_utf8}
+use Rattle.std.specs.Char.Escape.{encode_utf16}
+use Rattle.std.specs.List.{flat_map}
+use Rattle.std.specs.Str.{chars, IsCharBoundary, IsUtf8}
+use Rattle.icu_char16trie.specs.UnitMap.{UnitMap, goes_on, value_of}
+use Rattle.icu_char16trie.specs.UnitPlaces.{is_empty_at}
+use Rattle.icu_char16trie.specs.Steps.{StepsAlong}
+use Rattle.icu_char16trie.specs.Matches.{HasCharsStepped, HasCharsValue, LongestWithin, front_units, in_bytes}
+use Rattle.icu_char16trie.specs.Inside.Fronts.{longer}
+use Rattle.icu_char16trie.specs.declared.place.Place.{Place}
+use Rattle.icu_char16trie.specs.declared.place.Place.TheVariants.{Node}
+use Rattle.icu_char16trie.proofs.CallerLemmas.{none_beyond}
+use Rattle.icu_char16trie.proofs.FrontLemmas.{front_more, none_along}
+
+units_append : (xs ys : List ℕ) → flat_map encode_utf16 (xs ++ ys) ≡ flat_map encode_utf16 xs ++ flat_map encode_utf16 ys
+units_append xs ys = flat_map-append encode_utf16 xs ys
+
+-- characters that were yielded, and one more, are the first of all
+pub front_next : (cs ys : List ℕ) (c : ℕ) → ys ≡ take (length ys) cs → length ys < length cs → c ≡ get_or cs (length ys) c
+    → ys ++ c ∷ [] ≡ take (length ys + 1) cs
+front_next cs ys c so_far within is =
+    let next : suc (length ys) ≡ length ys + 1 = omega arith in
+    ap (λ (z : List ℕ). z ++ c ∷ []) so_far ∙ ap (λ (z : ℕ). take (length ys) cs ++ z ∷ []) is
+    ∙ sym (take-suc cs (length ys) c within) ∙ ap (λ (k : ℕ). take k cs) next
+
+-- the units of one character more
+pub units_next : (cs : List ℕ) (c : ℕ) → flat_map encode_utf16 (cs ++ c ∷ []) ≡ flat_map encode_utf16 cs ++ encode_utf16 c
+units_next cs c = units_append cs (c ∷ []) ∙ ap (λ z. flat_map encode_utf16 cs ++ z) (append-nil (encode_utf16 c))
+
+-- a character has a unit
+some_unit : (c : ℕ) → (u : ℕ) × (more : List ℕ) × (encode_utf16 c ≡ u ∷ more)
+some_unit c = by (nat_lt c 0x1_0000)
+  where
+    by : (b : Bool) → (u : ℕ) × (more : List ℕ)
+        × (cond b (c ∷ []) ((0xD800 + (c - 0x1_0000) / 0x400) ∷ (0xDC00 + (c - 0x1_0000) % 0x400) ∷ []) ≡ u ∷ more)
+    by true = (c, [], refl)
+    by false = (0xD800 + (c - 0x1_0000) / 0x400, (0xDC00 + (c - 0x1_0000) % 0x400) ∷ [], refl)
+
+-- the units of more characters begin with those of fewer
+units_more : (cs : List ℕ) (i k : ℕ) → i < k → k ≤ length cs
+    → (u : ℕ) × (more : List ℕ) × (front_units cs k ≡ front_units cs i ++ u ∷ more)
+units_more cs i k below within =
+    let t = front_more cs i k below within in
+    let one = some_unit t.0 in (
+      one.0,
+      one.1 ++ flat_map encode_utf16 t.1,
+      ap (flat_map encode_utf16) t.2 ∙ units_append (take i cs) (t.0 ∷ t.1)
+          ∙ ap (λ z. front_units cs i ++ (z ++ flat_map encode_utf16 t.1)) one.2,
+    )
+
+-- where no key goes on beyond some characters, no more characters have a value
+pub no_more_chars : (m : UnitMap) (cs : List ℕ) (i k : ℕ) → goes_on m (front_units cs i) ≡ false → i < k → k ≤ length cs
+    → HasCharsValue m cs k None
+no_more_chars m cs i k ends below within =
+    let more = units_more cs i k below within in
+    ap (value_of m) more.2 ∙ none_beyond m (front_units cs i) more.0 more.1 ends
+
+pub no_more_steps : (units cs : List ℕ) (place : Place) (i k : ℕ) → StepsAlong units (Node 0) (front_units cs i) place
+    → is_empty_at units place ≡ true → i < k → k ≤ length cs → HasCharsStepped units cs k None
+no_more_steps units cs place i k steps ends below within =
+    let more = units_more cs i k below within in
+    rw more.2 (none_along units (front_units cs i) place more.0 more.1 steps ends)
+
+-- ---- bytes
+
+-- the bytes of the first characters, and of the others
+whole_text : (text : List ℕ) (k : ℕ) → IsUtf8 text → encodes (take k (chars text)) ++ encodes (drop k (chars text)) ≡ text
+whole_text text k u =
+    sym (encodes-append (take k (chars text)) (drop k (chars text))) ∙ ap encodes (take-append-drop k (chars text)) ∙ encodes-chars text u
+
+pub bytes_within : (text : List ℕ) (k : ℕ) → IsUtf8 text → length (encode_utf8_all (take k (chars text))) ≤ length text
+bytes_within text k u =
+    omega (arith, ap length (whole_text text k u), length-append (encodes (take k (chars text))) (encodes (drop k (chars text))))
+
+scalars_take : (cs : List ℕ) (k : ℕ) → scalars cs ≡ true → scalars (take k cs) ≡ true
+scalars_take [] zero h = refl
+scalars_take [] (suc k) h = refl
+scalars_take (c ∷ cs) zero h = refl
+scalars_take (c ∷ cs) (suc k) h = by (scalar c) h (scalars_take cs k)
+  where
+    by : (b : Bool) → (b && scalars cs) ≡ true → (scalars cs ≡ true → scalars (take k cs) ≡ true) → (b && scalars (take k cs)) ≡ true
+    by true h rest = rest h
+    by false h rest = h
+
+-- a text may be cut after some first characters
+pub cut_after : (text : List ℕ) (k : ℕ) → IsUtf8 text → IsCharBoundary text (length (encode_utf8_all (take k (chars text))))
+cut_after text k u =
+    let bytes : List ℕ = encodes (take k (chars text)) in
+    let front : bytes ≡ take (length bytes) text =
+    sym (take-append_seam bytes (encodes (drop k (chars text)))) ∙ ap (λ (z : List ℕ). take (length bytes) z) (whole_text text k u) in
+    IsCharBoundary-from_take text _ u (bytes_within text k u) (take k (chars text), (scalars_take (chars text) k (scalars-chars text u), front))
+
+-- the bytes of one character more
+pub bytes_next : (cs : List ℕ) (c : ℕ) → length (encode_utf8_all (cs ++ c ∷ [])) ≡ length (encode_utf8_all cs) + length (encode_utf8 c)
+bytes_next cs c =
+    ap length (encodes-append cs (c ∷ [])) ∙ length-append (encodes cs) (encodes (c ∷ []))
+    ∙ ap (λ (z : List ℕ). length (encodes cs) + length z) (append-nil (encode c))
+
+-- what is found in bytes, once one character more is looked up
+pub longer_bytes : (cs : List ℕ) (k n : ℕ) (v : Option ℤ) (found : Option (ℕ × ℤ)) → n ≡ length (encode_utf8_all (take k cs))
+    → longer n v (in_bytes cs found) ≡ in_bytes cs (longer k v found)
+longer_bytes cs k n None found e = refl
+longer_bytes cs k n (Some v) found e = ap (λ z. Some (z, v)) e
+
+-- a match in bytes ends where the text may be cut
+pub ends_at_boundary : (text : List ℕ) (found : Option (ℕ × ℤ)) → IsUtf8 text → IfSome (in_bytes (chars text) found) (λ f. IsCharBoundary text f.0)
+ends_at_boundary text None u = tt
+ends_at_boundary text (Some found) u = cut_after text found.0 u
