@@ -12,7 +12,7 @@ use Rattle.icu_char16trie.specs.Entries.{AreEntries, AreCutShort}
 use Rattle.icu_char16trie_builder.specs.Entries.{with_entry, most_units}
 use Rattle.icu_char16trie_builder.proofs.EntryLemmas.{IsCompared, compared, same_key_eq, same_key_self, ascends_with}
 -- Keys that go on beyond some units
-pub use Rattle.icu_char16trie_builder.proofs.LongerKeys.{goes_on-with_entry, none_beyond}
+pub use Rattle.icu_char16trie_builder.proofs.LongerKeys.{goes_on-with_entry}
 
 -- ---- the entries with one more
 

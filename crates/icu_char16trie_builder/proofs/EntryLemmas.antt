@@ -214,3 +214,9 @@ more_than b n most h f =
   where
     both : (b : Bool) → IsTrue b → b ≡ false → ⊥
     both b t f = cc
+
+-- ---- how many entries there are
+
+pub length-entry_map : (es : List (Vec ℕ Global × ℤ)) → length (entry_map es) ≡ length es
+length-entry_map [] = refl
+length-entry_map (e ∷ es) = ap suc (length-entry_map es)

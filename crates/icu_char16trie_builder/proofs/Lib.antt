@@ -8,4 +8,5 @@ pub mod OpenLemmas
 pub mod KnownLemmas
 pub mod EntryLemmas
 mod LongerKeys
+pub mod TextLemmas
 pub mod CallerLemmas

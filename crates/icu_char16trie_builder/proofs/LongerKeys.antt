@@ -1,4 +1,4 @@
--- Whether a key goes on beyond some units, of entries with one more, and what is so where none does.
+-- Whether a key goes on beyond some units, of entries with one more.
 use Rattle.std.proofs.Common.{◌≡◌, ℕ, ℤ, ◌&&◌, ◌||◌, Bool, true, false, cond, nat_eq, List, [], ◌∷◌, ◌++◌, Option, Some, None, refl, ap, ◌∙◌}
 use Rattle.std.specs.Cmp.Lexicographic.{slice_cmp}
 use Rattle.std.specs.declared.cmp.Ordering.{Ordering}
@@ -34,31 +34,3 @@ unfolding with_entry goes_on
 goes_on-with_entry key v [] w = refl
 goes_on-with_entry key v (e ∷ m) w =
     goes_on_by key v e m (with_entry key v m) w (slice_cmp nat_cmp key e.0) (compared key e.0) (goes_on-with_entry key v m w)
-
-neither : (p q : Bool) → (p || q) ≡ false → (p ≡ false) × (q ≡ false)
-neither false q h = (refl, h)
-neither true q h = cc
-
--- a key that doesn't go on beyond some units is none that does
-other_key : (key w : List ℕ) (u : ℕ) (more : List ℕ) → key_goes_on key w ≡ false → same_key key (w ++ (u ∷ more)) ≡ false
-unfolding same_key key_goes_on
-other_key [] [] u more h = refl
-other_key [] (y ∷ w) u more h = refl
-other_key (x ∷ key) [] u more h = cc
-other_key (x ∷ key) (y ∷ w) u more h = by (nat_eq x y) h (λ k. other_key key w u more k)
-  where
-    by : (b : Bool) → (b && key_goes_on key w) ≡ false → (key_goes_on key w ≡ false → same_key key (w ++ (u ∷ more)) ≡ false) → (b && same_key key (w ++ (u ∷ more))) ≡ false
-    by true h rest = rest h
-    by false h rest = refl
-
--- where no key goes on beyond some units, no longer key has a value
-pub none_beyond : (m : UnitMap) (w : List ℕ) (u : ℕ) (more : List ℕ) → goes_on m w ≡ false → value_of m (w ++ (u ∷ more)) ≡ None
-unfolding goes_on value_of
-none_beyond [] w u more h = refl
-none_beyond (e ∷ m) w u more h =
-    let both = neither (key_goes_on e.0 w) (goes_on m w) h in
-    by (same_key e.0 (w ++ (u ∷ more))) (other_key e.0 w u more both.0) (none_beyond m w u more both.1)
-  where
-    by : (b : Bool) → b ≡ false → value_of m (w ++ (u ∷ more)) ≡ None → cond b (Some e.1) (value_of m (w ++ (u ∷ more))) ≡ None
-    by true f n = cc
-    by false f n = n

@@ -1,6 +1,7 @@
 //! Entries are added, and become a trie.
 ghost use Rattle.std.specs.Prelude.{◌≡◌, ◌↔◌, ℕ, ℤ, ◌+◌, ◌*◌, ◌<◌, ◌≤◌, ◌⊎◌, List, [], ◌∷◌, length, take, IsTrue, IsSome, IsNone, IfOk, IfErr, OnOk, OnErr, Err, Option, MatchOption, is_some};
 ghost use Rattle.icu_char16trie.specs.Grammar.{IsTrieOf};
+ghost use Rattle.icu_char16trie.specs.Matches.{text_units};
 ghost use Rattle.icu_char16trie.specs.UnitMap.{UnitMap, value_of, IsAscendingKeys};
 ghost use Rattle.icu_char16trie_builder.specs.Entries.{with_entry, entry_map, most_units};
 ghost use Rattle.icu_char16trie_builder.specs.Inside.Cuts.{cut, room};
@@ -9,6 +10,7 @@ ghost use Rattle.icu_char16trie_builder.specs.declared.error.BuildError.TheVaria
 
 use crate::entry::Entry;
 use crate::error::{AddError, BuildError};
+use crate::text::{is_too_long, units_of_text};
 use crate::units::units_of;
 use icu_char16trie::char16trie::Char16Trie;
 use icu_zerovec::ZeroVec;
@@ -17,7 +19,7 @@ use std::collections::BTreeMap;
 use std::marker::Model;
 
 /// The most units that a key may have.
-const LONGEST_KEY: usize = 65_535;
+pub(crate) const LONGEST_KEY: usize = 65_535;
 
 /// The most units that a trie may need: a jump over so many has its number.
 const MOST_UNITS: u64 = 0x7FFF_FFFF;
@@ -58,6 +60,20 @@ fn has_key(entries: &BTreeMap<Vec<u16>, i32>, key: &[u16]) -> bool
     entries.contains_key(key)
 }
 
+/// Adds an entry, whose key is given away, to a map. A refused one leaves it as it was.
+fn insert_key(
+    entries: &mut BTreeMap<Vec<u16>, i32>,
+    key: Vec<u16>,
+    value: i32,
+) -> Result<(), AllocError>
+    ensures added { OnOk result
+        (entry_map entries.new.entries ≡ with_entry key.items value (entry_map entries.old.entries)) }
+    ensures same { OnErr result (entry_map entries.new.entries ≡ entry_map entries.old.entries) }
+{
+    entries.insert(key, value)?;
+    Ok(())
+}
+
 /// Adds an entry to a map. A refused one leaves it as it was.
 fn insert(
     alloc: Global,
@@ -70,8 +86,7 @@ fn insert(
     ensures same { OnErr result (entry_map entries.new.entries ≡ entry_map entries.old.entries) }
 {
     let key = Vec::from_slice(alloc, key)?;
-    entries.insert(key, value)?;
-    Ok(())
+    insert_key(entries, key, value)
 }
 
 /// The entries of a map, in their order.
@@ -169,6 +184,55 @@ impl Char16TrieBuilder {
             Ok(()) => Ok(()),
             Err(_) => Err(AddError::Memory),
         }
+    }
+
+    /// Adds an entry whose key is the units of a text in UTF-16, as [`add`](Self::add).
+    ///
+    /// ```
+    /// builder.add_str("ab", 2)?; // as builder.add(&[0x61, 0x62], 2)?
+    /// builder.add_str("\u{1f600}", 3)?; // as builder.add(&[0xD83D, 0xDE00], 3)?
+    /// ```
+    ///
+    /// # Errors
+    /// `KeyTooLong` exactly where the text has more than 65,535 units. Else, where there is an
+    /// entry with this key, `Duplicate`, and `Memory` where memory was refused, also for the units
+    /// of a key that is there. The entries are then as before.
+    pub fn add_str(&mut self, key: &str, value: i32) -> Result<(), AddError>
+        ensures added { OnOk result (self.new ≡ with_entry (text_units key.now) value self.old) }
+        ensures short { OnOk result (length (text_units key.now) ≤ 65535) }
+        ensures fresh { OnOk result (IsNone (value_of self.old (text_units key.now))) }
+        ensures long { 65535 < length (text_units key.now) ↔ (result ≡ Err KeyTooLong) }
+        ensures duplicate { result ≡ Err Duplicate
+            → IsSome (value_of self.old (text_units key.now)) }
+        ensures same { OnErr result (self.new ≡ self.old) }
+    {
+        if is_too_long(key) {
+            return Err(AddError::KeyTooLong);
+        }
+        let Ok(units) = units_of_text(self.alloc, key) else {
+            return Err(AddError::Memory);
+        };
+        if has_key(&self.entries, units.as_slice()) {
+            return Err(AddError::Duplicate);
+        }
+        match insert_key(&mut self.entries, units, value) {
+            Ok(()) => Ok(()),
+            Err(_) => Err(AddError::Memory),
+        }
+    }
+
+    /// How many entries there are.
+    pub fn len(&self) -> usize
+        ensures { result ≡ length self.now }
+    {
+        self.entries.len()
+    }
+
+    /// Whether there is no entry.
+    pub fn is_empty(&self) -> bool
+        ensures { IsTrue result ↔ (self.now ≡ []) }
+    {
+        self.entries.is_empty()
     }
 
     /// The trie of the entries: the empty list of units, if there are none. With U units in the
