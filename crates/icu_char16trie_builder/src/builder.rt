@@ -67,7 +67,8 @@ fn insert_key(
     value: i32,
 ) -> Result<(), AllocError>
     ensures added { OnOk result
-        (entry_map entries.new.entries ≡ with_entry key.items value (entry_map entries.old.entries)) }
+        (entry_map entries.new.entries
+        ≡ with_entry key.items value (entry_map entries.old.entries)) }
     ensures same { OnErr result (entry_map entries.new.entries ≡ entry_map entries.old.entries) }
 {
     entries.insert(key, value)?;
