@@ -13,4 +13,6 @@ pub use Rattle.icu_trie_builder.proofs.CallerLemmas.{IsAfter-append, error-of-ma
 pub use Rattle.icu_trie_builder.proofs.CallerLemmas.{NamesNull-some, answer-of-map, longest_of_map, no_answer-of-map}
 -- Entries of unit tries: those with one more, and those of a run of `iter2`
 pub use Rattle.icu_char16trie_builder.proofs.CallerLemmas.{AreEntries-of_run, IsAscendingKeys-with_entry, most_units-with_entry, shown, text_of, texts_of_entries, value_of-with_entry}
-pub use Rattle.icu_char16trie_builder.proofs.CallerLemmas.{goes_on-with_entry, none_beyond, value_of-added, value_of-others}
+pub use Rattle.icu_char16trie_builder.proofs.CallerLemmas.{goes_on-with_entry, value_of-added, value_of-others}
+-- Keys that go on beyond some units, and that there is one longest match
+pub use Rattle.icu_char16trie.proofs.CallerLemmas.{IsLongestMatch-one, LongestWithin-one, none_beyond}
