@@ -20,7 +20,8 @@ static const char *const kernels[] = {"get_u8",          "get_u16",          "ge
                                       "set_complement",  "set_contains_set", "set_ranges",
                                       "set_span",        "frozen_contains",  "frozen_text",
                                       "frozen_span",     "freeze",           "frozen_contains_set",
-                                      "c16_iter",        "c16_look",         "c16_build",
+                                      "c16_iter",        "c16_look",         "c16_longest",
+                                      "c16_build",
                                       "packed_read",     "packed_search"};
 
 enum { LEAST_ROUNDS = 5, MOST_ROUNDS = 400 };

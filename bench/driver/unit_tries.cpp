@@ -143,6 +143,35 @@ static uint64_t icu_look(const UnicodeString &units, const List &list, bool alon
     return sum;
 }
 
+// The longest key that begins at each place of a text: its length and its value, 0 and 7 where no key
+// does.
+static uint64_t icu_longest(const UnicodeString &units, const vector<uint16_t> &text) {
+    UCharsTrie trie(units.getBuffer());
+    uint64_t sum = 0;
+    for (size_t start = 0; start < text.size(); start++) {
+        uint32_t length = 0;
+        int32_t value = 7;
+        UStringTrieResult result = trie.first(text[start]);
+        for (size_t i = start + 1;; i++) {
+            if (USTRINGTRIE_HAS_VALUE(result)) length = i - start, value = trie.getValue();
+            if (!USTRINGTRIE_HAS_NEXT(result) || i == text.size()) break;
+            result = trie.next(text[i]);
+        }
+        sum = mixed(mixed(sum, length), value);
+    }
+    return sum;
+}
+
+// The keys of a list, joined by spaces.
+static vector<uint16_t> text_of(const List &list) {
+    vector<uint16_t> text;
+    for (const UnicodeString &each : list.keys) {
+        for (int32_t i = 0; i < each.length(); i++) text.push_back(each[i]);
+        text.push_back(' ');
+    }
+    return text;
+}
+
 static vector<uint8_t> bytes_of(const UnicodeString &units) {
     const uint8_t *bytes = reinterpret_cast<const uint8_t *>(units.getBuffer());
     return vector<uint8_t>(bytes, bytes + 2 * units.length());
@@ -170,6 +199,13 @@ static void read(const List &list) {
         row(
             "c16_iter", list.name, list.keys.size(), [&] { return ours_c16_iter(PARTS(bytes)); },
             [&] { return rust_c16_iter(PARTS(bytes)); }, [&] { return icu_iter(units); });
+    }
+    if (wanted("c16_longest")) {
+        const vector<uint16_t> text = text_of(list);
+        row(
+            "c16_longest", list.name, text.size(),
+            [&] { return ours_c16_longest(PARTS(bytes), PARTS(text)); }, nullptr,
+            [&] { return icu_longest(units, text); });
     }
     if (!wanted("c16_look")) return;
     for (bool along : {false, true})
@@ -206,7 +242,7 @@ static void build(const List &list) {
 }
 
 void unit_tries() {
-    if (wanted("c16_iter") || wanted("c16_look"))
+    if (wanted("c16_iter") || wanted("c16_look") || wanted("c16_longest"))
         for (const List &list : {list_of("words", 10000, name), list_of("locales", 4000, locale),
                                  list_of("emoji", 3000, emoji), list_of("han", 20000, han)})
             read(list);

@@ -109,6 +109,27 @@ pub extern "C" fn ours_c16_look(units: &[u8], keys: &[u16], ends: &[u32], along:
     }
 }
 
+/// The lengths and the values of the longest keys that begin at each place of a text, 0 and 7 where
+/// no key does.
+fn mixed_matches(trie: &Char16Trie<'_>, text: &[u16]) -> u64 {
+    let mut sum = 0u64;
+    for start in 0..text.len() {
+        let (length, value) = trie.longest_match(&text[start..]).unwrap_or((0, 7));
+        let length = u32::try_from(length).unwrap_or(u32::MAX);
+        sum = mixed(mixed(sum, length), value.cast_unsigned());
+    }
+    sum
+}
+
+/// The longest keys that begin at each place of a text.
+#[unsafe(no_mangle)]
+pub extern "C" fn ours_c16_longest(units: &[u8], text: &[u16]) -> u64 {
+    match ZeroVec::parse_bytes(units) {
+        Ok(units) => mixed_matches(&Char16Trie::new(units), text),
+        Err(_) => u64::MAX,
+    }
+}
+
 fn mixed_entries(alloc: Global, trie: &Char16Trie<'_>) -> u64 {
     let mut sum = 0u64;
     for entry in trie.iter2(alloc) {
