@@ -14,6 +14,7 @@ pub mod Runs
 pub mod PassedLemmas
 pub mod FrontLemmas
 pub mod CharFronts
+pub mod MatchLemmas
 pub mod JsonLemmas
 pub mod Examples
 pub mod LongForms

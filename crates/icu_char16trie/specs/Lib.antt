@@ -5,6 +5,7 @@ pub mod UnitPlaces
 pub mod Steps
 pub mod Passed
 pub mod Matches
+pub mod MatchesLeft
 pub mod LossyText
 pub mod Pending
 pub mod Entries

@@ -1,7 +1,7 @@
 -- Which keys begin a text: what a dictionary answers that is asked for its words there.
-use Rattle.std.specs.Prelude.{◌≡◌, ℕ, ℤ, ◌<◌, ◌≤◌, List, Option, Some, None, encode_utf8_all, length, take}
+use Rattle.std.specs.Prelude.{◌≡◌, ℕ, ℤ, ◌+◌, ◌<◌, ◌≤◌, List, [], ◌∷◌, Option, Some, None, encode_utf8_all, length, take}
 use Rattle.std.specs.Char.Escape.{encode_utf16}
-use Rattle.std.specs.List.{flat_map}
+use Rattle.std.specs.List.{flat_map, range_with_len}
 use Rattle.std.specs.Str.{chars}
 use Rattle.icu_char16trie.specs.UnitMap.{UnitMap, value_of}
 use Rattle.icu_char16trie.specs.UnitPlaces.{value_at}
@@ -73,3 +73,16 @@ IsLongestSteppedInText units text result =
     (found : Option (ℕ × ℤ))
     × LongestWithin (HasCharsStepped units (chars text)) (length (chars text)) found
     × (result ≡ in_bytes (chars text) found)
+
+-- a front as a match, if it has a value: its length and its value
+abbrev pub match_at : ℕ → Option ℤ → List (ℕ × ℤ)
+match_at k None = []
+match_at k (Some v) = (k, v) ∷ []
+
+-- the matches among n fronts of a text, the first one of k units
+abbrev pub matches_from : UnitMap → List ℕ → ℕ → ℕ → List (ℕ × ℤ)
+matches_from m text k n = flat_map (λ j. match_at j (value_of m (take j text))) (range_with_len k n)
+
+-- all keys that begin a text, each once, the shortest one first: its length and its value
+abbrev pub matches_of : UnitMap → List ℕ → List (ℕ × ℤ)
+matches_of m text = matches_from m text 0 (length text + 1)

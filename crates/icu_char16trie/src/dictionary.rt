@@ -1,11 +1,14 @@
 //! The keys that begin a text, as a dictionary is asked for its words.
-ghost use Rattle.std.specs.Prelude.{◌≡◌, IfSome};
+ghost use Rattle.std.specs.Prelude.{◌≡◌, ℕ, ℤ, List, IfSome};
+ghost use Rattle.std.specs.Iterator.{Drains};
 ghost use Rattle.std.specs.Str.{IsCharBoundary};
 ghost use Rattle.icu_char16trie.specs.Grammar.{IsTrieOf};
 ghost use Rattle.icu_char16trie.specs.UnitMap.{UnitMap};
-ghost use Rattle.icu_char16trie.specs.Matches.{IsLongestInText, IsLongestMatch, IsLongestStepped, IsLongestSteppedInText};
+ghost use Rattle.icu_char16trie.specs.Matches.{IsLongestInText, IsLongestMatch, IsLongestStepped, IsLongestSteppedInText, matches_of};
+ghost use Rattle.icu_char16trie.specs.MatchesLeft.{AreLeft, GivesMatch};
 ghost use Rattle.icu_char16trie.specs.Inside.Fronts.{longer};
 
+use crate::matches::Matches;
 use crate::trie::Char16Trie;
 
 /// The match of the first `n` units, if they have a value, or else what was found before them.
@@ -83,5 +86,26 @@ impl<'data> Char16Trie<'data> {
             found = longer_match(end, value, found);
         }
         found
+    }
+
+    /// All keys that begin a text, the shortest one first: how many units each has, and its value.
+    /// It takes no memory, and no more units are read than some key goes on with.
+    ///
+    /// ```
+    /// // of the map of "a" to 1 and "ab" to 2
+    /// for (length, value) in trie.matches(&[0x61, 0x62, 0x63]) {
+    ///     // 1 and 1, then 2 and 2
+    /// }
+    /// ```
+    #[inline]
+    pub fn matches<'a>(&'a self, text: &'a [u16]) -> Matches<'a>
+        ensures left { (m : UnitMap) → IsTrieOf self.now m
+            → AreLeft result m (matches_of m text.now) }
+
+        // A whole run gives exactly the fronts of the text that have a value.
+        ensures drained { (m : UnitMap) (xs : List (ℕ × ℤ)) → IsTrieOf self.now m
+            → Drains GivesMatch result xs → xs ≡ matches_of m text.now }
+    {
+        Matches::new(self.cursor(), text)
     }
 }

@@ -17,7 +17,8 @@
 //!   `write`: of a text that is written to it
 //! - `iterator`: [`Char16TrieIterator`](char16trie::Char16TrieIterator), the same with a result for
 //!   each step
-//! - `dictionary`: the keys that begin a text
+//! - `dictionary`: the longest key that begins a text; `matches`: [`Matches`](char16trie::Matches),
+//!   all of them
 //! - `entries`: [`Iter2`](char16trie::Iter2), the entries in unit order; `pending`: what they have
 //!   still to go through; `spelling`: the key as text while it grows
 //! - `json`: a trie from and to JSON
@@ -33,6 +34,7 @@ mod encoded;
 mod entries;
 mod iterator;
 mod json;
+mod matches;
 mod pending;
 mod place;
 mod spelling;

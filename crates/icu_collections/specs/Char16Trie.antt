@@ -9,6 +9,8 @@ pub use Rattle.icu_char16trie.specs.Steps.{StepsAlong, StepsTo}
 pub use Rattle.icu_char16trie.specs.Passed.{Passes, answer_at, result_of}
 pub use Rattle.icu_char16trie.specs.Matches.{HasFrontStepped, HasFrontValue, HasValueAlong, IsLongestMatch, IsLongestStepped, LongestWithin}
 pub use Rattle.icu_char16trie.specs.Matches.{HasCharsStepped, HasCharsValue, IsLongestInText, IsLongestSteppedInText, front_units, in_bytes, text_units}
+pub use Rattle.icu_char16trie.specs.Matches.{match_at, matches_from, matches_of}
+pub use Rattle.icu_char16trie.specs.MatchesLeft.{AreLeft, AreLeftAt, GivesMatch, fronts_by, fronts_left}
 pub use Rattle.icu_char16trie.specs.Entries.{AreCutShort, AreEntries, GivesNext, IsDone, IsLeft}
 pub use Rattle.icu_char16trie.specs.LossyText.{key_text}
 unfoldable pub use Rattle.icu_char16trie_builder.specs.Entries.{most_units, with_entry}

@@ -1,11 +1,11 @@
 //! Maps from keys of 16-bit units to numbers that are read in place (ICU's unit tries).
 //!
 //! [`Char16TrieBuilder`] makes a trie, [`Char16Trie::cursor`] and [`Char16Trie::iter`] look up in
-//! it unit by unit, [`Char16Trie::longest_match`] finds the longest key that begins a text, and
-//! [`Char16Trie::iter2`] lists its entries.
+//! it unit by unit, [`Char16Trie::longest_match`] and [`Char16Trie::matches`] find the keys that
+//! begin a text, and [`Char16Trie::iter2`] lists its entries.
 
 pub use icu_char16trie::char16trie::{
-    Char16JsonError, Char16Trie, Char16TrieCursor, Char16TrieIterator, Iter2, TrieResult,
+    Char16JsonError, Char16Trie, Char16TrieCursor, Char16TrieIterator, Iter2, Matches, TrieResult,
 };
 pub use icu_char16trie_builder::builder::Char16TrieBuilder;
 pub use icu_char16trie_builder::error::{AddError, BuildError};
