@@ -2,6 +2,7 @@ pub mod Numbers
 pub mod Grammar
 pub mod UnitMap
 pub mod UnitPlaces
+pub mod CursorPlaces
 pub mod Steps
 pub mod Passed
 pub mod Matches

@@ -5,4 +5,5 @@ pub use crate::entries::Iter2;
 pub use crate::iterator::{Char16TrieIterator, TrieResult};
 pub use crate::json::Char16JsonError;
 pub use crate::matches::Matches;
+pub use crate::place::CursorPlace;
 pub use crate::trie::Char16Trie;

@@ -3,6 +3,7 @@ ghost use Rattle.std.specs.Prelude.{◌≡◌, ℕ, ℤ, List, [], ◌∷◌, �
 ghost use Rattle.icu_zerovec.specs.Slice.{slice_values};
 ghost use Rattle.icu_char16trie.specs.Grammar.{IsTrieOf};
 ghost use Rattle.icu_char16trie.specs.UnitMap.{UnitMap, value_of, goes_on};
+ghost use Rattle.icu_char16trie.specs.CursorPlaces.{place_of};
 ghost use Rattle.icu_char16trie.specs.UnitPlaces.{IsAfter, value_at, is_empty_at};
 ghost use Rattle.icu_char16trie.specs.Steps.{StepsTo, StepsAlong};
 ghost use Rattle.icu_char16trie.specs.Passed.{Passes};
@@ -10,7 +11,7 @@ ghost use Rattle.std.specs.Char.Escape.{encode_utf16};
 ghost use Rattle.icu_char16trie.specs.declared.place.Place.{Place};
 ghost use Rattle.icu_char16trie.specs.declared.place.Place.TheVariants.{Nowhere, Node};
 
-use crate::place::Place;
+use crate::place::{CursorPlace, Place, numbers_of, place_of};
 use crate::step::{is_empty_at, step, value_at};
 use icu_zerovec::ZeroSlice;
 use std::marker::Model;
@@ -50,6 +51,33 @@ impl<'a> Char16TrieCursor<'a> {
             units: trie,
             place: Place::Node(0),
         }
+    }
+
+    /// The cursor at a place of the trie with these units (ICU: `resetToState`). The place may be
+    /// of another trie, or from a stranger.
+    ///
+    /// ```
+    /// let place = cursor.place();
+    /// let same = Char16TrieCursor::resume(trie.data.as_slice(), place); // stands where cursor stood
+    /// ```
+    #[inline]
+    pub fn resume(trie: ZeroSlice<'a, u16>, place: CursorPlace) -> Self
+        ensures units { result.units ≡ slice_values trie.entry }
+        ensures place { result.place ≡ place_of place }
+    {
+        Char16TrieCursor {
+            units: trie,
+            place: place_of(place),
+        }
+    }
+
+    /// Where the cursor stands, to go on from there by [`resume`](Self::resume) (ICU:
+    /// `saveState`).
+    #[inline]
+    pub fn place(&self) -> CursorPlace
+        ensures { place_of result ≡ self.now.place }
+    {
+        numbers_of(self.place)
     }
 
     /// One more unit. After no match nothing changes.

@@ -5,6 +5,7 @@ unfoldable pub use Rattle.icu_char16trie.specs.UnitMap.{after, after_all, same_k
 unfoldable pub use Rattle.icu_char16trie.specs.UnitMap.{goes_on, key_goes_on}
 pub use Rattle.icu_char16trie.specs.Grammar.{IsTrieOf}
 pub use Rattle.icu_char16trie.specs.UnitPlaces.{At, InRun, IsAfter, Stands, ends_by, is_empty_at, value_at, value_by}
+pub use Rattle.icu_char16trie.specs.CursorPlaces.{place_of}
 pub use Rattle.icu_char16trie.specs.Steps.{StepsAlong, StepsTo}
 pub use Rattle.icu_char16trie.specs.Passed.{Passes, answer_at, result_of}
 pub use Rattle.icu_char16trie.specs.Matches.{HasFrontStepped, HasFrontValue, HasValueAlong, IsLongestMatch, IsLongestStepped, LongestWithin}

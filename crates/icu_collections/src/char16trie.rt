@@ -5,7 +5,8 @@
 //! begin a text, and [`Char16Trie::iter2`] lists its entries.
 
 pub use icu_char16trie::char16trie::{
-    Char16JsonError, Char16Trie, Char16TrieCursor, Char16TrieIterator, Iter2, Matches, TrieResult,
+    Char16JsonError, Char16Trie, Char16TrieCursor, Char16TrieIterator, CursorPlace, Iter2, Matches,
+    TrieResult,
 };
 pub use icu_char16trie_builder::builder::Char16TrieBuilder;
 pub use icu_char16trie_builder::error::{AddError, BuildError};
