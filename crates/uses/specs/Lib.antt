@@ -1,3 +1,2 @@
 pub mod Categories
 pub mod Listing
-pub mod Matches

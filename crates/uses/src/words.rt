@@ -3,9 +3,8 @@ ghost use Rattle.std.specs.Prelude.{◌≡◌, List, [], ◌∷◌, IfSome, Ok, 
 ghost use Rattle.std.specs.Char.Escape.{encode_utf16};
 ghost use Rattle.std.specs.List.{flat_map};
 ghost use Rattle.std.specs.Str.{chars};
-ghost use Rattle.icu_collections.specs.Char16Trie.{AreEntries, IsTrieOf, UnitMap, goes_on, result_of, value_of};
+ghost use Rattle.icu_collections.specs.Char16Trie.{AreEntries, IsLongestMatch, IsTrieOf, UnitMap, goes_on, result_of, value_of};
 ghost use Rattle.uses.specs.Listing.{bytes_and_number};
-ghost use Rattle.uses.specs.Matches.{IsLongestMatch, longer};
 
 use icu_collections::char16trie::{Char16Trie, Char16TrieBuilder, TrieResult};
 use std::alloc::Global;
@@ -57,31 +56,9 @@ pub fn two_words(alloc: Global) -> Option<Vec<(String, i32)>>
     list_of(alloc, &trie)
 }
 
-/// The match of the first `n` units, if they have a value, or else what was found before them.
-fn longer_match(n: usize, value: Option<i32>, found: Option<(usize, i32)>) -> Option<(usize, i32)>
-    ensures { result ≡ longer n value found }
-{
-    match value {
-        Some(v) => Some((n, v)),
-        None => found,
-    }
-}
-
-/// The longest word of a trie that begins a text: how many units it has, and its number. No more
-/// units are read than some word goes on with.
-pub fn longest_match(trie: &Char16Trie<'_>, text: &[u16]) -> Option<(usize, i32)>
+/// The longest word of a trie that begins a text: how many units it has, and its number.
+pub fn longest_word(trie: &Char16Trie<'_>, text: &[u16]) -> Option<(usize, i32)>
     ensures { (m : UnitMap) → IsTrieOf trie.now m → IsLongestMatch m text.now result }
 {
-    let mut cursor = trie.cursor();
-    let empty = cursor.value();
-    let mut found = longer_match(0, empty, None);
-    for i in 0..text.len() {
-        if cursor.is_empty() {
-            return found;
-        }
-        cursor.step16(text[i]);
-        let value = cursor.value();
-        found = longer_match(i + 1, value, found);
-    }
-    found
+    trie.longest_match(text)
 }

@@ -234,12 +234,12 @@ fn the_longest_word_of_a_text(rt: HostRuntime) {
         panic!(rt; "trie");
     };
     let text = [0x61, 0x62, 0x63];
-    let whole = words::longest_match(&trie, &text);
+    let whole = words::longest_word(&trie, &text);
     expect(&rt, whole == Some((2, 2)), "ab of abc");
-    let short = words::longest_match(&trie, &[0x61, 0x63]);
+    let short = words::longest_word(&trie, &[0x61, 0x63]);
     expect(&rt, short == Some((1, 1)), "a of ac");
-    expect(&rt, words::longest_match(&trie, &[0x62]).is_none(), "b");
-    expect(&rt, words::longest_match(&trie, &[]).is_none(), "empty");
+    expect(&rt, words::longest_word(&trie, &[0x62]).is_none(), "b");
+    expect(&rt, words::longest_word(&trie, &[]).is_none(), "empty");
 }
 
 #[test]

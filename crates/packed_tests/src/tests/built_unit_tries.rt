@@ -8,6 +8,7 @@ mod refused_memory;
 mod shared;
 mod sizes;
 mod support;
+mod texts;
 mod values;
 mod worked_tries;
 mod written;

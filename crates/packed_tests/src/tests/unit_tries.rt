@@ -1,6 +1,7 @@
 //! Unit tries. The units and what they say are those of the format's description.
 
 mod cursors;
+mod dictionaries;
 mod json;
 mod refused_memory;
 mod support;

@@ -69,6 +69,50 @@ fn add_refused(rt: HostRuntime) {
     }
 }
 
+/// Texts that differ, one of them with a character of two units.
+static TEXTS: [&str; 12] = [
+    "a",
+    "ab",
+    "\u{1f600}",
+    "b",
+    "c",
+    "d",
+    "e",
+    "f",
+    "g",
+    "h",
+    "i",
+    "j",
+];
+
+/// Adds the texts as keys up to the first that is refused: how many were added, and the refusal.
+fn add_texts(builder: &mut Char16TrieBuilder) -> (u16, Result<(), AddError>) {
+    for k in 0..12u16 {
+        let added = builder.add_str(TEXTS[usize::from(k)], i32::from(k));
+        if added.is_err() {
+            return (k, added);
+        }
+    }
+    (12, Ok(()))
+}
+
+/// A refused text leaves as many entries as there were.
+///
+/// Calls: `Char16TrieBuilder::add_str`.
+#[test]
+fn add_str_refused(rt: HostRuntime) {
+    let mut builder = Char16TrieBuilder::new(rt.alloc());
+    say(&rt, "call");
+    let (count, refusal) = add_texts(&mut builder);
+    say(&rt, "done");
+    expect_memory(&rt, refusal);
+    expect(
+        &rt,
+        builder.len() == usize::from(count),
+        "the entries before the refused one",
+    );
+}
+
 /// The trie has the last key's value, or memory was refused.
 fn expect_built(rt: &(impl Abort + Print), built: Result<Char16Trie<'_>, BuildError>) {
     match built {
@@ -92,13 +136,14 @@ fn build_refused(rt: HostRuntime) {
     expect_built(&rt, built);
 }
 
-/// A new builder takes no memory.
+/// A new builder takes no memory, and none is taken to count its entries.
 ///
-/// Calls: `Char16TrieBuilder::new`.
+/// Calls: `Char16TrieBuilder::new`, `Char16TrieBuilder::len`, `Char16TrieBuilder::is_empty`.
 #[test]
 fn new_quiet(rt: HostRuntime) {
     say(&rt, "call");
     let builder = Char16TrieBuilder::new(rt.alloc());
+    let counted = (builder.len(), builder.is_empty());
     say(&rt, "done");
-    let _ = builder;
+    expect_same(&rt, counted, (0, true), "no entries");
 }

@@ -1,7 +1,9 @@
 //! Steps of cursors and of iterators.
 use super::support::trie_of;
 use crate::tests::support::expect_same;
-use icu_char16trie::char16trie::{Char16Trie, Char16TrieCursor, Char16TrieIterator, TrieResult};
+use icu_char16trie::char16trie::{
+    Char16Trie, Char16TrieCursor, Char16TrieIterator, CursorPlace, TrieResult,
+};
 use icu_zerovec::ZeroSlice;
 use std::alloc::AllocError;
 use std::fmt::Write;
@@ -116,5 +118,45 @@ fn units_of_a_character(rt: HostRuntime) -> Result<(), Fail> {
         TrieResult::FinalValue(1),
     );
     expect_same(&rt, found, Some(want), "the units of a character");
+    Ok(())
+}
+
+/// The values after `b` by a cursor that is resumed where one stands after `a`, and after `a` again.
+fn resumed(trie: &Char16Trie<'_>) -> (Option<i32>, Option<i32>) {
+    let units = trie.data.as_slice();
+    let mut first = trie.cursor();
+    first.step('a');
+    let mut second = Char16TrieCursor::resume(units, first.place());
+    second.step('b');
+    let mut third = Char16TrieCursor::resume(units, second.place());
+    third.step('a');
+    (second.value(), third.value())
+}
+
+/// The value at a place, and whether no key goes on there.
+fn at_place(units: ZeroSlice<'_, u16>, position: usize, left: u16) -> (Option<i32>, bool) {
+    let cursor = Char16TrieCursor::resume(units, CursorPlace { position, left });
+    (cursor.value(), cursor.is_empty())
+}
+
+/// Places, the first in a linear match, and those of strangers: what stands there is told, or no
+/// match.
+static PLACES: [(usize, u16, (Option<i32>, bool)); 6] = [
+    (0, 0, (None, false)),
+    (1, 2, (None, false)),
+    (3, 0, (Some(3), true)),
+    (4, 0, (None, true)),
+    (0, 257, (None, true)),
+    (usize::MAX, 0, (None, true)),
+];
+
+#[test]
+fn places_of_a_cursor(rt: HostRuntime) -> Result<(), Fail> {
+    let trie = trie_of(rt.alloc(), &[0x31, 0x61, 0x62, 0x8003])?;
+    expect_same(&rt, resumed(&trie), (Some(3), None), "a, b, a");
+    for (position, left, want) in PLACES.iter() {
+        let found = at_place(trie.data.as_slice(), *position, *left);
+        expect_same(&rt, found, *want, "a place");
+    }
     Ok(())
 }

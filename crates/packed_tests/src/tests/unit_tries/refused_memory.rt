@@ -213,3 +213,23 @@ fn steps_quiet(rt: HostRuntime) {
     expect_same(&rt, results, want, "d and e");
     expect_same(&rt, root, None, "the root");
 }
+
+/// Calls: `Char16Trie::longest_match`, `Char16Trie::longest_match_str`, `Char16Trie::matches`,
+/// `Matches::next`, `Char16TrieCursor::place`, `Char16TrieCursor::resume`.
+#[test]
+fn matches_quiet(rt: HostRuntime) {
+    let Ok(trie) = trie_of(rt.alloc(), &SIX) else {
+        return;
+    };
+    say(&rt, "call");
+    let of_units = trie.longest_match(&[0x61, 0x62]);
+    let of_text = trie.longest_match_str("bc");
+    let first = trie.matches(&[0x63, 0x62]).next();
+    let place = trie.cursor().place();
+    let root = Char16TrieCursor::resume(trie.data.as_slice(), place).value();
+    say(&rt, "done");
+    expect_same(&rt, of_units, Some((1, 1)), "a of ab");
+    expect_same(&rt, of_text, Some((1, 2)), "b of bc");
+    expect_same(&rt, first, Some((1, 3)), "c of cb");
+    expect_same(&rt, root, None, "the root");
+}

@@ -1,0 +1,165 @@
+//! The keys that begin a text: the longest one, and all of them.
+use super::support::{SIX, trie_of};
+use icu_char16trie::char16trie::Char16Trie;
+use icu_zerovec::MemoryError;
+use std::process::Abort;
+use std::test::Fail;
+
+/// The units of "a" to 1 and "ab" to 2.
+const A_AB: [u16; 5] = [0x30, 0x61, 0xB0, 0x62, 0x8002];
+
+/// The units of the empty key to 7 and "a" to 1.
+const EMPTY_A: [u16; 3] = [0x230, 0x61, 0x8001];
+
+/// The units of a lead surrogate to 1 and the character that it begins to 2.
+const LEAD_PAIR: [u16; 5] = [0x30, 0xD83D, 0xB0, 0xDE00, 0x8002];
+
+/// Units of a trie, a text, and the longest key that begins it.
+type Row = (&'static [u16], &'static [u16], Option<(usize, i32)>);
+
+static LONGEST: [Row; 24] = [
+    (&A_AB, &[0x61, 0x62, 0x63], Some((2, 2))),
+    (&A_AB, &[0x61, 0x62], Some((2, 2))),
+    (&A_AB, &[0x61, 0x63], Some((1, 1))),
+    (&A_AB, &[0x61], Some((1, 1))),
+    (&A_AB, &[0x62], None),
+    (&A_AB, &[], None),
+    // A key in a text, but not at its begin.
+    (&A_AB, &[0x63, 0x61], None),
+    // The empty key begins each text.
+    (&[0x8007], &[], Some((0, 7))),
+    (&[0x8007], &[0x61], Some((0, 7))),
+    (&EMPTY_A, &[], Some((0, 7))),
+    (&EMPTY_A, &[0x62], Some((0, 7))),
+    (&EMPTY_A, &[0x61, 0x61], Some((1, 1))),
+    // A text that ends within a linear match.
+    (&[0x31, 0x61, 0x62, 0x8003], &[0x61], None),
+    (&[0x31, 0x61, 0x62, 0x8003], &[0x61, 0x62], Some((2, 3))),
+    (&[0x31, 0x61, 0x62, 0x8003], &[0x61, 0x61, 0x62], None),
+    (&SIX, &[0x63, 0x63], Some((1, 3))),
+    (&SIX, &[0x67], None),
+    // Units, and not characters, are matched.
+    (&LEAD_PAIR, &[0xD83D, 0xDE01], Some((1, 1))),
+    (&LEAD_PAIR, &[0xD83D, 0xDE00], Some((2, 2))),
+    // Units that are no trie: what is needed and not there is no match, and a value that is cut off
+    // is 0.
+    (&[], &[0x61], None),
+    (&[0xFFFF], &[0x61], Some((0, 0))),
+    (&[0x30], &[0x61], None),
+    (&[1, 0x61, 0x3FFF, 0x62, 0x8002], &[0x61, 0x62], None),
+    (&[1, 0x61, 0x3FFF, 0x62, 0x8002], &[0x62], Some((1, 2))),
+];
+
+/// Units of a trie, a text, and the longest key that begins it, by its length in bytes.
+type TextRow = (&'static [u16], &'static str, Option<(usize, i32)>);
+
+static LONGEST_IN_TEXTS: [TextRow; 11] = [
+    (&A_AB, "abc", Some((2, 2))),
+    (&A_AB, "ac", Some((1, 1))),
+    (&A_AB, "", None),
+    (&A_AB, "\u{e9}", None),
+    (&EMPTY_A, "\u{e9}", Some((0, 7))),
+    (&[0x30, 0xE9, 0x8001], "\u{e9}s", Some((2, 1))),
+    (&[0x31, 0x4E2D, 0x61, 0x8005], "\u{4e2d}ab", Some((4, 5))),
+    (&LEAD_PAIR, "\u{1f600}a", Some((4, 2))),
+    // A key that ends between the two units of a character.
+    (&LEAD_PAIR, "\u{1f601}", None),
+    (&[0x30, 0xD83D, 0x8001], "\u{1f600}", None),
+    (&[], "a", None),
+];
+
+/// Units of a trie, a text, and all keys that begin it, of which there are at most two.
+type AllRow = (&'static [u16], &'static [u16], [Option<(usize, i32)>; 3]);
+
+static ALL: [AllRow; 7] = [
+    (
+        &A_AB,
+        &[0x61, 0x62, 0x63],
+        [Some((1, 1)), Some((2, 2)), None],
+    ),
+    (&A_AB, &[0x61], [Some((1, 1)), None, None]),
+    (&A_AB, &[0x62, 0x61], [None; 3]),
+    (&EMPTY_A, &[0x61], [Some((0, 7)), Some((1, 1)), None]),
+    (&EMPTY_A, &[], [Some((0, 7)), None, None]),
+    (
+        &LEAD_PAIR,
+        &[0xD83D, 0xDE00],
+        [Some((1, 1)), Some((2, 2)), None],
+    ),
+    (&[], &[0x61], [None; 3]),
+];
+
+/// The first three items: all matches of a text, where it has at most two.
+fn three_matches(trie: &Char16Trie<'_>, text: &[u16]) -> [Option<(usize, i32)>; 3] {
+    let mut matches = trie.matches(text);
+    [matches.next(), matches.next(), matches.next()]
+}
+
+/// What was found is what is wanted.
+fn expect_all(
+    rt: &impl Abort,
+    found: [Option<(usize, i32)>; 3],
+    want: [Option<(usize, i32)>; 3],
+    units: &[u16],
+) {
+    assert_eq!(rt; found, want, "of {units:?}");
+}
+
+#[test]
+fn all_matches(rt: HostRuntime) -> Result<(), Fail> {
+    for (units, text, want) in ALL.iter() {
+        let found = three_matches(&trie_of(rt.alloc(), units)?, text);
+        expect_all(&rt, found, *want, units);
+    }
+    Ok(())
+}
+
+/// What was found is what is wanted.
+fn expect_found(
+    rt: &impl Abort,
+    found: Option<(usize, i32)>,
+    want: Option<(usize, i32)>,
+    units: &[u16],
+) {
+    assert_eq!(rt; found, want, "of {units:?}");
+}
+
+/// The longest key that begins each text.
+fn expect_longest(rt: &(impl Abort + AllocGlobal), rows: &[Row]) -> Result<(), MemoryError> {
+    for (units, text, want) in rows.iter() {
+        let found = trie_of(rt.alloc(), units)?.longest_match(text);
+        expect_found(rt, found, *want, units);
+    }
+    Ok(())
+}
+
+/// The longest key that begins each text of characters.
+fn expect_longest_in_texts(
+    rt: &(impl Abort + AllocGlobal),
+    rows: &[TextRow],
+) -> Result<(), MemoryError> {
+    for (units, text, want) in rows.iter() {
+        let found = trie_of(rt.alloc(), units)?.longest_match_str(text);
+        expect_found(rt, found, *want, units);
+    }
+    Ok(())
+}
+
+#[test]
+fn longest_matches(rt: HostRuntime) -> Result<(), Fail> {
+    expect_longest(&rt, &LONGEST)?;
+    expect_longest_in_texts(&rt, &LONGEST_IN_TEXTS)?;
+    Ok(())
+}
+
+/// The longest key that begins a long text of one unit.
+fn longest_of_many(trie: &Char16Trie<'_>) -> Option<(usize, i32)> {
+    trie.longest_match(&[0x61; 10_000])
+}
+
+#[test]
+fn the_longest_match_of_a_long_text(rt: HostRuntime) -> Result<(), Fail> {
+    let trie = trie_of(rt.alloc(), &A_AB)?;
+    expect_found(&rt, longest_of_many(&trie), Some((1, 1)), &A_AB);
+    Ok(())
+}
