@@ -1,6 +1,6 @@
 //! Numbers in the units of a trie.
 ghost use Rattle.icu_zerovec.specs.Slice.{slice_values};
-ghost use Rattle.std.specs.Prelude.{◌≡◌, ℕ, ◌+◌, ◌*◌, ◌^◌, ◌<◌, ◌≤◌, slice_get, length, bit_and, Some, None, IfSome, MatchOption};
+ghost use Rattle.std.specs.Prelude.{◌≡◌, ℕ, ◌+◌, ◌*◌, ◌^◌, ◌<◌, ◌≤◌, nat_lt, if◌then◌else◌, slice_get, length, bit_and, Some, None, IfSome, MatchOption};
 ghost use Rattle.icu_char16trie.specs.Numbers.{number_by, end_by, short_number, short_end, node_number, node_end, delta_number, delta_end, low_half, both_halves, entry_child, lower_part};
 
 use icu_zerovec::ZeroSlice;
@@ -78,6 +78,17 @@ fn number_by(
     }
 }
 
+/// The place after a number of more than its lead. It stands apart, so that a search that passes many
+/// numbers, of which nearly all are their leads, reads on before it has seen them.
+#[cold]
+#[inline(never)]
+fn far_end(place: usize, lead: u16, three: u16) -> usize
+    requires { place < 2 ^ 63 }
+    ensures { result ≡ (if nat_lt lead three then place + 1 else place + 2) }
+{
+    if lead < three { place + 1 } else { place + 2 }
+}
+
 /// The place after it.
 #[inline(always)]
 #[tactic(auto, unfolding(crate::specs::Numbers::end_by))]
@@ -89,10 +100,8 @@ fn end_by(place: usize, lead: u16, two: u16, three: u16) -> usize
 {
     if lead < two {
         place
-    } else if lead < three {
-        place + 1
     } else {
-        place + 2
+        far_end(place, lead, three)
     }
 }
 
