@@ -1,2 +1,4 @@
 pub mod BinaryHeader
 pub mod BinaryTrie
+pub mod WrittenTrie
+pub mod Inside

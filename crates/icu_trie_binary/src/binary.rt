@@ -1,11 +1,13 @@
-//! Tries from ICU's binary form, which `ucptrie_toBinary` writes: read where they are.
-ghost use Rattle.std.specs.Prelude.{◌≡◌, ℕ, ◌+◌, ◌*◌, ◌<◌, ◌≤◌, length, slice_get, option_map, IfOk, IfErr};
+//! Tries from ICU's binary form, which `ucptrie_toBinary` writes: read where they are; and tries to
+//! it.
+ghost use Rattle.std.specs.Prelude.{◌≡◌, ℕ, ◌+◌, ◌*◌, ◌<◌, ◌≤◌, length, slice_get, option_map, is_none, false, IfOk, IfErr};
 ghost use Rattle.icu_zerovec.specs.Slice.{slice_values};
 ghost use Rattle.icu_trie_binary.specs.BinaryHeader.{data_size, stored_length};
 ghost use Rattle.icu_trie_binary.specs.BinaryTrie.{index_of, data_bytes, null_place, number_or_zero, trie_header, IsStored, IsWhyNotStored, IsAnyStored, IsWhyNoneStored};
 
-pub use crate::error::BinaryError;
+pub use crate::error::{BinaryError, WriteError};
 use crate::header::{BinaryHeader, HEADER_SIZE, ValueWidth, header_of, stored_header};
+pub use crate::write::{binary_len, to_binary, write_binary};
 use icu_trie::cptrie::CodePointTrie;
 use icu_trie::header::CodePointTrieHeader;
 use icu_trie::value::TrieValue;
@@ -37,9 +39,11 @@ fn data_bytes<'a>(bytes: &'a [u8], header: &BinaryHeader) -> &'a [u8]
 
 /// The number of the null value: that of the cell where its block begins, or of the high value
 /// where there is no such block.
-fn null_number<T: TrieValue>(header: &BinaryHeader, values: ZeroSlice<'_, T>) -> u32
-    ensures { result ≡ number_or_zero
+pub(crate) fn null_number<T: TrieValue>(header: &BinaryHeader, values: ZeroSlice<'_, T>) -> u32
+    ensures number { result ≡ number_or_zero
         (option_map T.number (slice_get (slice_values values.entry) (null_place header.now))) }
+    ensures value { header.now.data_length ≡ length (slice_values values.entry)
+        → 0 < header.now.data_length → is_none (T.of_number result) ≡ false }
 {
     let place = if header.data_null_offset < header.data_length {
         header.data_null_offset
@@ -47,7 +51,10 @@ fn null_number<T: TrieValue>(header: &BinaryHeader, values: ZeroSlice<'_, T>) ->
         header.data_length.saturating_sub(2)
     };
     match values.get(place as usize) {
-        Some(value) => value.to_u32(),
+        Some(value) => {
+            value.shown();
+            value.to_u32()
+        }
         None => 0,
     }
 }

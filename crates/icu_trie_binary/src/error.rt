@@ -1,5 +1,9 @@
-//! Why bytes are no trie in the binary form.
+//! Why bytes are no trie in the binary form, and why a trie is not written in it.
+ghost use Rattle.std.specs.Prelude.{◌≡◌};
+
 use icu_trie::error::CodePointTrieError;
+use icu_zerovec::MemoryError;
+use std::alloc::AllocError;
 use thiserror::Error;
 
 /// Why bytes are refused. Where there are several causes, the first of these is told.
@@ -39,12 +43,60 @@ pub enum BinaryError {
 }
 
 impl From<CodePointTrieError> for BinaryError {
-    ghost use Rattle.std.specs.Prelude.{◌≡◌};
     ghost use Rattle.icu_trie_binary.specs.declared.error.BinaryError.TheVariants.{Trie};
 
     ghost from_gives = { λ x e. e ≡ Trie x };
 
     fn from(error: CodePointTrieError) -> BinaryError {
         BinaryError::Trie(error)
+    }
+}
+
+/// Why a trie is not written. Where there are several causes, the first of these is told.
+#[derive(Clone, Copy, Debug, PartialEq, Eq, Error)]
+pub enum WriteError {
+    /// A value takes another number of bytes than 1, 2 or 4.
+    #[error("the form has no values of this width")]
+    UnknownWidth,
+    /// The index that is written has more than 65,535 cells.
+    #[error("the index is too long")]
+    LongIndex,
+    /// The data have 1,048,576 cells or more.
+    #[error("the data are too long")]
+    LongData,
+    /// The offset of the data null block is 1,048,576 or above.
+    #[error("the offset of the data null block is too large")]
+    NullOffset,
+    /// The high start is no multiple of 0x200, or is 0x2000000 or above.
+    #[error("the form has no such high start")]
+    HighStart,
+    /// The null value is not that of the cell at the offset of the data null block.
+    #[error("the null value is not that of the data null block")]
+    NullValue,
+    /// The slice has fewer bytes than the trie takes.
+    #[error("the trie takes more bytes")]
+    Short,
+    /// Memory was refused.
+    #[error("no memory")]
+    Memory,
+}
+
+impl From<MemoryError> for WriteError {
+    ghost use Rattle.icu_trie_binary.specs.declared.error.WriteError.TheVariants.{Memory};
+
+    ghost from_gives = { λ _ e. e ≡ Memory };
+
+    fn from(_error: MemoryError) -> WriteError {
+        WriteError::Memory
+    }
+}
+
+impl From<AllocError> for WriteError {
+    ghost use Rattle.icu_trie_binary.specs.declared.error.WriteError.TheVariants.{Memory};
+
+    ghost from_gives = { λ _ e. e ≡ Memory };
+
+    fn from(_error: AllocError) -> WriteError {
+        WriteError::Memory
     }
 }

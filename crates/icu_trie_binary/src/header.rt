@@ -9,7 +9,7 @@ use icu_trie::header::TrieType;
 pub(crate) const HEADER_SIZE: usize = 16;
 
 /// `Tri3` (UCPTRIE_SIG).
-const SIGNATURE: u32 = 0x5472_6933;
+pub(crate) const SIGNATURE: u32 = 0x5472_6933;
 
 /// What the signature is read as where its bytes have the other order.
 const SWAPPED_SIGNATURE: u32 = 0x3369_7254;
@@ -141,7 +141,7 @@ pub(crate) fn header_of(bytes: &[u8]) -> Result<BinaryHeader, BinaryError>
 }
 
 /// How many bytes header, index and data take.
-fn stored_length(header: &BinaryHeader) -> usize
+pub(crate) fn stored_length(header: &BinaryHeader) -> usize
     ensures { result ≡ stored_length header.now }
 {
     let index = 2 * header.index_length as usize;

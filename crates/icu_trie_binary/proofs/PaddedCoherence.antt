@@ -1,0 +1,87 @@
+-- Cells behind an index keep a trie coherent, where the null value stays.
+use Rattle.std.proofs.Common.{◌≡◌, ℕ, ◌+◌, ◌*◌, ◌/◌, ◌<◌, ◌≤◌, List, ◌++◌, length, slice_get, Option, Some, None, refl, arith, sym, ◌∙◌, ap}
+use Rattle.std.specs.Prelude.{true, false, nat_lt, IsSome}
+use Rattle.std.specs.Option.{option_and_then}
+use Rattle.std.proofs.lemmas.Grind.{common_steps}
+use Rattle.icu_trie_core.specs.declared.header.CodePointTrieHeader.{CodePointTrieHeader}
+use Rattle.icu_trie_core.specs.Format.{answer, place, fast_limit, fast_offset, small_offset, index2_cell}
+use Rattle.icu_trie_core.specs.Coherence.{IsCoherent, AnswersNull}
+use Rattle.icu_trie_binary.proofs.PaddedAnswers.{Keeps, keeps_cell, keeps_small, keeps_index2, keeps_answer}
+
+some_of : {A : Type 0} (o : Option A) → IsSome o → (x : A) × (o ≡ Some x)
+some_of None h = cc
+some_of (Some x) h = (x, refl)
+
+is_some-kept : {A : Type 0} (o p : Option A) → Keeps o p → IsSome o → IsSome p
+is_some-kept o p k s = let x = some_of o s in rw (k x.0 x.1) refl
+
+-- what is kept of what there is, is what was there
+back : {A : Type 0} (o p : Option A) (x : A) → Keeps o p → IsSome o → p ≡ Some x → o ≡ Some x
+back o p x k s e = let y = some_of o s in y.1 ∙ (sym (k y.0 y.1) ∙ e)
+
+same_kept : {A : Type 0} (o p q : Option A) → Keeps o p → IsSome q → o ≡ q → p ≡ q
+same_kept o p q k s e = let x = some_of q s in k x.0 (e ∙ x.1) ∙ sym x.1
+
+-- where there is an end there is a middle
+some_before : {A B : Type 0} (f : A → Option B) (o : Option A) → IsSome (option_and_then f o) → IsSome o
+some_before f None s = s
+some_before f (Some x) s = refl
+
+module _ {T : Type 0} (of_number : ℕ → Option T) (h g : CodePointTrieHeader) (index behind : List ℕ) (values : List T)
+    (same_type : g.trie_type ≡ h.trie_type) (same_start : g.high_start ≡ h.high_start)
+    (same_data : g.data_null_offset ≡ h.data_null_offset) (same_index3 : g.index3_null_offset ≡ h.index3_null_offset)
+    (same_null : g.null_value ≡ h.null_value) (valued : IsSome (of_number h.null_value)) (good : IsCoherent of_number h index values) where
+  kept : (u : ℕ) → Keeps (answer h index values u) (answer g (index ++ behind) values u)
+  kept u = keeps_answer index behind h g values u same_type same_start
+
+  -- below the high start the cells of the index are there
+  some_fast : (u : ℕ) → u < fast_limit h.trie_type → u < h.high_start → IsSome (fast_offset index u)
+  unfolding answer
+  some_fast u l s =
+      let low : nat_lt 0x10FFFF u ≡ false = let w = good.within in grind (arith, common_steps) in
+      let fast : nat_lt u (fast_limit h.trie_type) ≡ true = grind (arith, common_steps) in
+      let there : IsSome (place h index (length values) u) = some_before (slice_get values) _ (good.inside u s) in
+      some_before _ (fast_offset index u) (rw (low, fast) at there)
+
+  some_small : (u : ℕ) → fast_limit h.trie_type ≤ u → u < h.high_start → IsSome (small_offset h.trie_type index u)
+  unfolding answer
+  some_small u l s =
+      let low : nat_lt 0x10FFFF u ≡ false = let w = good.within in grind (arith, common_steps) in
+      let far : nat_lt u (fast_limit h.trie_type) ≡ false = grind (arith, common_steps) in
+      let below : nat_lt u h.high_start ≡ true = grind (arith, common_steps) in
+      let there : IsSome (place h index (length values) u) = some_before (slice_get values) _ (good.inside u s) in
+      some_before _ (small_offset h.trie_type index u) (rw (low, far, below) at there)
+
+  some_index2 : (u : ℕ) → fast_limit h.trie_type ≤ u → u < h.high_start → IsSome (index2_cell h.trie_type index u)
+  unfolding small_offset
+  some_index2 u l s = some_before _ (index2_cell h.trie_type index u) (some_small u l s)
+
+  null_kept : (k b : ℕ) → AnswersNull of_number h index values k b → AnswersNull of_number g (index ++ behind) values k b
+  null_kept k b n i l = same_kept _ _ _ (kept (b * k + i)) (rw same_null valued) (n i l ∙ ap of_number (sym same_null))
+
+  pub coherent-padded : IsCoherent of_number g (index ++ behind) values
+  coherent-padded = record {
+    aligned = rw same_start good.aligned;
+    within = rw same_start good.within;
+    high = λ c from below.
+        let both = good.high c (rw same_start at from) below in
+        (same_kept _ _ _ (kept c) both.1 both.0, both.1);
+    inside = λ c below. is_some-kept _ _ (kept c) (good.inside c (rw same_start at below));
+    null_64 = λ b fast below named.
+        let f : b * 64 < fast_limit h.trie_type = rw same_type at fast in
+        let l : b * 64 < h.high_start = rw same_start at below in
+        null_kept 64 b (good.null_64 b f l
+        (back _ _ _ (keeps_cell index behind (b * 64 / 64)) (some_fast (b * 64) f l) (named ∙ ap Some same_data)));
+    null_16 = λ b far below named.
+        let f : fast_limit h.trie_type ≤ b * 16 = rw same_type at far in
+        let l : b * 16 < h.high_start = rw same_start at below in
+        null_kept 16 b (good.null_16 b f l
+        (back _ _ _ (keeps_small index behind h.trie_type (b * 16)) (some_small (b * 16) f l)
+        ((rw same_type at named) ∙ ap Some same_data)));
+    null_512 = λ b far below named.
+        let f : fast_limit h.trie_type ≤ b * 512 = rw same_type at far in
+        let l : b * 512 < h.high_start = rw same_start at below in
+        null_kept 512 b (good.null_512 b f l
+        (back _ _ _ (keeps_index2 index behind h.trie_type (b * 512)) (some_index2 (b * 512) f l)
+        ((rw same_type at named) ∙ ap Some same_index3)));
+  }

@@ -1,0 +1,46 @@
+-- A trie and the form that it is read in again: the answers, coherence, and when both are one.
+use Rattle.std.proofs.Common.{◌≡◌, ℕ, ◌+◌, ◌/◌, ◌<◌, List, [], ◌++◌, length, Option, Some, None, refl, sym, ◌∙◌, ap}
+use Rattle.std.specs.Prelude.{IsSome, is_none, false}
+use Rattle.std.proofs.lemmas.List.{append-nil}
+use Rattle.icu_trie.specs.Parts.{Parts, fault}
+use Rattle.icu_trie.specs.Ranges.{answers, IsCoherentTrie}
+use Rattle.icu_trie_binary.specs.WrittenTrie.{padding, null_number, stored_form, why_not_written}
+use Rattle.icu_trie_binary.proofs.PaddedAnswers.{keeps_answer}
+use Rattle.icu_trie_binary.proofs.PaddedCoherence.{coherent-padded}
+use Rattle.icu_trie_binary.proofs.WrittenLemmas.{first_faults, null_fits}
+
+some_from_none : {A : Type 0} (o : Option A) → is_none o ≡ false → IsSome o
+some_from_none None h = cc
+some_from_none (Some x) h = refl
+
+module _ {T : Type 0} (width : ℕ) (number : T → ℕ) (t : Parts T) where
+  -- what the trie answers, its stored form answers
+  pub answers-stored : (c : ℕ) (x : T) → answers t c ≡ Some x → answers (stored_form width number t) c ≡ Some x
+  answers-stored c x e = keeps_answer t.index (padding width (length t.index)) t.header (stored_form width number t).header t.values c refl refl x e
+
+  -- where the header names a block of the data, the stored form of a coherent trie is coherent
+  pub coherent-stored : (of_number : ℕ → Option T) → why_not_written width number t ≡ None → t.header.data_null_offset < length t.values
+      → fault of_number t.header t.index t.values ≡ None → IsCoherentTrie of_number t → IsCoherentTrie of_number (stored_form width number t)
+  coherent-stored of_number room named whole good =
+      coherent-padded of_number t.header (stored_form width number t).header t.index (padding width (length t.index)) t.values refl refl refl refl
+      (sym (null_fits width number t room named)) (some_from_none _ (first_faults _ _ _ _ whole).1) good
+
+  -- it is the trie itself where nothing is put behind the index, and the header says what the form says
+  pub stored_form-same : padding width (length t.index) ≡ [] → t.header.shifted12_high_start ≡ (t.header.high_start + 0xfff) / 0x1000
+      → t.header.null_value ≡ null_number width number t → stored_form width number t ≡ t
+  stored_form-same none shifted null = made _ _ _ (sym shifted) (sym null) (ap (λ p. t.index ++ p) none ∙ append-nil t.index)
+    where
+      made : (s n : ℕ) (index : List ℕ) → s ≡ t.header.shifted12_high_start → n ≡ t.header.null_value → index ≡ t.index
+          → let one : Parts T = record {
+            header = record {
+              high_start = t.header.high_start;
+              shifted12_high_start = s;
+              index3_null_offset = t.header.index3_null_offset;
+              data_null_offset = t.header.data_null_offset;
+              null_value = n;
+              trie_type = t.header.trie_type;
+            };
+            index = index;
+            values = t.values;
+          } in one ≡ t
+      made s n index a b c = rw (a, b, c) refl

@@ -1,0 +1,124 @@
+-- What is written of a trie in ICU's binary form (`ucptrie_toBinary`): the bytes, the trie that
+-- they read as, and why the form has no room for a trie.
+use Rattle.std.specs.Prelude.{ℕ, ◌+◌, ◌*◌, ◌/◌, ◌%◌, nat_lt, nat_eq, not, ◌&&◌, ◌||◌, List, [], ◌∷◌, ◌++◌, length, slice_get, Option, Some, None, option_map, if◌then◌else◌}
+use Rattle.std.specs.List.{flat_map}
+use Rattle.icu_zerovec.specs.PackedBytes.{low_bytes}
+use Rattle.icu_trie_core.specs.declared.header.TrieType.{TrieType}
+use Rattle.icu_trie_core.specs.declared.header.TrieType.TheVariants.{Fast, Small}
+use Rattle.icu_trie.specs.Parts.{Parts}
+use Rattle.icu_trie_binary.specs.BinaryHeader.{width_bytes}
+use Rattle.icu_trie_binary.specs.BinaryTrie.{null_place, number_or_zero}
+use Rattle.icu_trie_binary.specs.declared.header.BinaryHeader.{BinaryHeader}
+use Rattle.icu_trie_binary.specs.declared.header.ValueWidth.{ValueWidth}
+use Rattle.icu_trie_binary.specs.declared.header.ValueWidth.TheVariants.{Bits16, Bits32, Bits8}
+use Rattle.icu_trie_binary.specs.declared.error.WriteError.{WriteError}
+use Rattle.icu_trie_binary.specs.declared.error.WriteError.TheVariants.{UnknownWidth, LongIndex, LongData, NullOffset, HighStart, NullValue}
+
+-- ---- the header
+-- the code of a type in the options (UCPTrieType)
+abbrev pub type_code : TrieType → ℕ
+type_code Fast = 0
+type_code Small = 1
+
+-- the code of a value width (UCPTrieValueWidth)
+abbrev pub width_code : ValueWidth → ℕ
+width_code Bits16 = 0
+width_code Bits32 = 1
+width_code Bits8 = 2
+
+-- the width of values of 1, 2 or 4 bytes. The form has no other: `Bits8` stands for these, and its
+-- values don't take as many bytes
+abbrev pub width_for : ℕ → ValueWidth
+width_for width =
+    if nat_eq width 2 then Bits16 else (if nat_eq width 4 then Bits32 else Bits8)
+
+-- the options: bits 15 to 12 are bits 19 to 16 of the data length, bits 11 to 8 those of the offset
+-- of the data null block, bits 7 and 6 the type, bits 5 to 3 are 0, bits 2 to 0 the value width
+abbrev pub options_for : BinaryHeader → ℕ
+options_for h =
+    h.data_length / 0x10000 * 0x1000 + h.data_null_offset / 0x10000 * 0x100
+    + type_code h.trie_type * 0x40 + width_code h.value_width
+
+-- the 16 bytes of a header: the signature `Tri3` (UCPTRIE_SIG), and six numbers of 16 bits, each
+-- with its lowest byte first
+unfoldable pub header_bytes : BinaryHeader → List ℕ
+header_bytes h =
+    low_bytes 4 0x54726933 ++ (low_bytes 2 (options_for h) ++ (low_bytes 2 h.index_length
+    ++ (low_bytes 2 (h.data_length % 0x10000) ++ (low_bytes 2 h.index3_null_offset
+    ++ (low_bytes 2 (h.data_null_offset % 0x10000) ++ low_bytes 2 h.shifted_high_start)))))
+
+-- ---- the index
+-- The cell that ICU's builder puts behind an index of an odd length where values of 32 bits follow
+-- it, so that these stand at a multiple of four bytes. No look-up of a coherent trie reads it.
+abbrev pub padding : ℕ → ℕ → List ℕ
+padding width cells = if nat_eq width 4 && nat_eq (cells % 2) 1 then 0xffee ∷ [] else []
+
+-- the index as it is written, before values of so many bytes
+abbrev pub stored_index : ℕ → List ℕ → List ℕ
+stored_index width index = index ++ padding width (length index)
+
+-- ---- the trie. Its values take `width` bytes each, and `number` gives the number of a value
+module _ {T : Type 0} (width : ℕ) (number : T → ℕ) where
+  -- the header that is written
+  abbrev pub header_for : Parts T → BinaryHeader
+  header_for t = record {
+    trie_type = t.header.trie_type;
+    value_width = width_for width;
+    index_length = length (stored_index width t.index);
+    data_length = length t.values;
+    index3_null_offset = t.header.index3_null_offset;
+    data_null_offset = t.header.data_null_offset;
+    shifted_high_start = t.header.high_start / 0x200;
+  }
+
+  -- the number that the form has for the null value: that of the cell at the offset of the data
+  -- null block, and that of the high value where the offset lies outside the data
+  abbrev pub null_number : Parts T → ℕ
+  null_number t =
+      number_or_zero (option_map number (slice_get t.values (null_place (header_for t))))
+
+  -- the trie as the form has it. It differs from the trie in what no look-up reads: the cell behind
+  -- an index of an odd length, the null value where the header names no block of the data, and
+  -- `shifted12_high_start`, which is that of the high start
+  abbrev pub stored_form : Parts T → Parts T
+  stored_form t = record {
+    header = record {
+      high_start = t.header.high_start;
+      shifted12_high_start = (t.header.high_start + 0xfff) / 0x1000;
+      index3_null_offset = t.header.index3_null_offset;
+      data_null_offset = t.header.data_null_offset;
+      null_value = null_number t;
+      trie_type = t.header.trie_type;
+    };
+    index = stored_index width t.index;
+    values = t.values;
+  }
+
+  -- how many bytes are written
+  abbrev pub written_length : Parts T → ℕ
+  written_length t = 16 + 2 * length (stored_index width t.index) + width * length t.values
+
+  -- why the form has no room for a trie, the first cause of these: values of another number of
+  -- bytes; an index or data that are too long, or the offset of the data null block too large, for
+  -- the 16 and 20 bits that the form has for them; a high start that is no multiple of 0x200, or
+  -- that has more than 25 bits; and a null value that is not that of the block which the header
+  -- names
+  abbrev pub why_not_written : Parts T → Option WriteError
+  why_not_written t =
+      if not (nat_eq (width_bytes (width_for width)) width) then Some UnknownWidth
+      else (if nat_lt 0xFFFF (length (stored_index width t.index)) then Some LongIndex
+      else (if nat_lt 0xFFFFF (length t.values) then Some LongData
+      else (if nat_lt 0xFFFFF t.header.data_null_offset then Some NullOffset
+      else (if not (nat_eq (t.header.high_start % 0x200) 0) || nat_lt 0x1FFFFFF t.header.high_start
+      then Some HighStart
+      else (if nat_lt t.header.data_null_offset (length t.values)
+      && not (nat_eq t.header.null_value (null_number t)) then Some NullValue else None)))))
+
+  -- header and index as they are written
+  abbrev pub front_bytes : Parts T → List ℕ
+  front_bytes t =
+      header_bytes (header_for t) ++ flat_map (low_bytes 2) (stored_index width t.index)
+
+  -- the bytes of a trie, where each value has one encoding
+  abbrev pub binary_of : (T → List ℕ) → Parts T → List ℕ
+  binary_of pack t = front_bytes t ++ flat_map pack t.values
