@@ -20,4 +20,5 @@ pub use Rattle.icu_invlist_binary.specs.SerializedSet
 -- ICU's binary form of tries
 pub use Rattle.icu_trie_binary.specs.BinaryHeader
 pub use Rattle.icu_trie_binary.specs.BinaryTrie
+pub use Rattle.icu_trie_binary.specs.WrittenTrie
 pub use Rattle.icu_char16trie.specs.Char16Json

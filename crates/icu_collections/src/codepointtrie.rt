@@ -1,8 +1,9 @@
 //! Maps from code points to values that are read in place (ICU's code point tries).
 //!
 //! [`CodePointTrieBuilder`] or [`build_from_writes`] makes a trie, [`CodePointTrie::get32`] asks
-//! it. A trie that ICU wrote is read where it is by [`binary::from_binary`]; one of another file is
-//! made of its parts by [`CodePointTrie::try_new`], which borrows them.
+//! it. A trie that ICU wrote is read where it is by [`binary::from_binary`], and one is written for
+//! ICU by [`binary::to_binary`]; one of another file is made of its parts by
+//! [`CodePointTrie::try_new`], which borrows them.
 
 pub use icu_trie::cells::{Cells, Steps};
 pub use icu_trie::coherent::is_coherent;
