@@ -1,6 +1,7 @@
 /* Writes a table of rows HEX..HEX;N or HEX;N from standard input as a trie in TOML, in the form of
    ICU's icuexportdata: ICU4C builds the trie, and its arrays and header are printed as they stand.
-   Usage: export fast|small 8|16|32 <TABLE */
+   With a FILE it compares that trie with the one which ICU4C opens from the file's binary form.
+   Usage: export fast|small 8|16|32 [FILE] <TABLE */
 #include <stdbool.h>
 #include <stdio.h>
 #include <stdlib.h>
@@ -35,13 +36,32 @@ static unsigned cell(const UCPTrie *trie, int bits, int i) {
     return bits == 8 ? trie->data.ptr8[i] : bits == 16 ? trie->data.ptr16[i] : trie->data.ptr32[i];
 }
 
+// The file has a trie in ICU's binary form and nothing else, it answers as this one does, and where
+// its values are as wide it has the bytes that ICU writes.
+static void compare(const UCPTrie *trie, const char *path) {
+    static uint32_t bytes[1 << 18], own[1 << 18];
+    FILE *file = fopen(path, "rb");
+    int32_t length = file ? (int32_t)fread(bytes, 1, sizeof bytes, file) : 0, taken = 0;
+    UErrorCode error = U_ZERO_ERROR;
+    const UCPTrie *read = ucptrie_openFromBinary(UCPTRIE_TYPE_ANY, UCPTRIE_VALUE_BITS_ANY, bytes,
+                                                 length, &taken, &error);
+    if (U_FAILURE(error)) fail(u_errorName(error));
+    if (taken != length) fail("the trie takes another number of bytes");
+    for (UChar32 c = 0; c <= 0x110000; c++)
+        if (ucptrie_get(read, c) != ucptrie_get(trie, c)) fail("another answer");
+    if (ucptrie_getValueWidth(read) != ucptrie_getValueWidth(trie)) return;
+    if (ucptrie_toBinary(trie, own, sizeof own, &error) != length || memcmp(bytes, own, length))
+        fail("other bytes than ICU's");
+}
+
 int main(int count, char **words) {
-    if (count != 3) fail("usage: export fast|small 8|16|32");
+    if (count < 3 || count > 4) fail("usage: export fast|small 8|16|32 [FILE]");
     int bits = atoi(words[2]);
     UCPTrieValueWidth width = bits == 8    ? UCPTRIE_VALUE_BITS_8
                               : bits == 16 ? UCPTRIE_VALUE_BITS_16
                                            : UCPTRIE_VALUE_BITS_32;
     UCPTrie *trie = build(!strcmp(words[1], "fast"), width);
+    if (count == 4) return compare(trie, words[3]), 0;
     printf("[[enum_property]]\nlong_name = \"Table\"\nshort_name = \"table\"\n\n"
            "[enum_property.code_point_trie]\nindex = [\n");
     for (int i = 0; i < trie->indexLength; i++) printf("%u%s", trie->index[i], after(i));

@@ -3,8 +3,10 @@
 # another program found: tests/data/east_asian_width.toml with the ranges that the same file has,
 # and, where gcc and ICU 72 or newer (libicu-dev) are at hand, the tries that ICU4C builds and
 # exports here from each NAME.txt with a NAME.runs.txt beside it, of tests/data and of the folder
-# that the variable TABLES names, if it is set. Its last line is 'all exported tries as expected',
-# with status 0, or says what failed, with status 1.
+# that the variable TABLES names, if it is set. These are written in ICU's binary form too: ICU4C
+# opens it, its answers are those of the trie that was exported, and where values have 32 bits its
+# bytes are those that ICU4C writes. The last line is 'all exported tries as expected', with status
+# 0, or says what failed, with status 1.
 set -eu
 here=$(dirname -- "$(readlink -f -- "$0")")
 root=$here/../..
@@ -57,6 +59,9 @@ if gcc -O2 -o "$work/export" "$here/export.c" -licuuc 2>/dev/null; then
                 # shellcheck disable=SC2086
                 "$work/export" $kind <"$folder/$name.txt" >trie.toml
                 compare "$name, $kind bits" "$runs"
+                # shellcheck disable=SC2086
+                "$work/export" $kind trie.bin <"$folder/$name.txt" ||
+                    failed="$failed '$name, $kind bits, in the binary form'"
             done
         done
     done

@@ -1,9 +1,11 @@
 //! Prints the ranges of the first trie of the file `trie.toml` where it runs, as ICU's
-//! icuexportdata writes it, for `tests/exported/run.sh`. Where there is no such trie, as in the
-//! gate, it prints nothing, and the status is 1.
+//! icuexportdata writes it, and writes the trie in ICU's binary form into `trie.bin` beside it,
+//! with values of 32 bits, for `tests/exported/run.sh`. Where there is no such trie, as in the
+//! gate, it prints and writes nothing, and the status is 1.
 #![tactic(auto)]
 
 use icu_trie::cptrie::CodePointTrie;
+use icu_trie_binary::binary::to_binary;
 use icu_trie_formats::trie_toml::CodePointTrieToml;
 use std::fs;
 use std::process::ExitCode;
@@ -23,6 +25,12 @@ fn trie_of(rt: &HostRuntime) -> Option<CodePointTrie<'static, u32>> {
     CodePointTrie::try_from(&trie).ok()
 }
 
+/// Writes the trie in ICU's binary form into `trie.bin`. `None` where that fails.
+fn write_form(rt: &HostRuntime, trie: &CodePointTrie<'static, u32>) -> Option<()> {
+    let bytes = to_binary(rt.alloc(), trie).ok()?;
+    fs::write(rt, "trie.bin", bytes).ok()
+}
+
 fn main(rt: HostRuntime) -> ExitCode {
     let Some(trie) = trie_of(&rt) else {
         return ExitCode::from(1);
@@ -37,6 +45,9 @@ fn main(rt: HostRuntime) -> ExitCode {
         if printed.is_err() {
             return ExitCode::from(2);
         }
+    }
+    if write_form(&rt, &trie).is_none() {
+        return ExitCode::from(3);
     }
     ExitCode::from(0)
 }
