@@ -21,4 +21,5 @@ pub use Rattle.icu_invlist_binary.specs.SerializedSet
 pub use Rattle.icu_trie_binary.specs.BinaryHeader
 pub use Rattle.icu_trie_binary.specs.BinaryTrie
 pub use Rattle.icu_trie_binary.specs.WrittenTrie
+pub use Rattle.icu_trie_binary.specs.SwappedTrie
 pub use Rattle.icu_char16trie.specs.Char16Json

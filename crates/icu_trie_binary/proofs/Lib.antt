@@ -7,5 +7,6 @@ mod PaddedCoherence
 mod PartsLemmas
 mod StoredForm
 mod StoredIndex
+mod SwappedUnits
 mod WrittenHeader
 mod WrittenLemmas

@@ -1,4 +1,5 @@
 pub mod BinaryHeader
 pub mod BinaryTrie
 pub mod WrittenTrie
+pub mod SwappedTrie
 pub mod Inside

@@ -5,8 +5,9 @@ ghost use Rattle.icu_zerovec.specs.Slice.{slice_values};
 ghost use Rattle.icu_trie_binary.specs.BinaryHeader.{data_size, stored_length};
 ghost use Rattle.icu_trie_binary.specs.BinaryTrie.{index_of, data_bytes, null_place, number_or_zero, trie_header, IsStored, IsWhyNotStored, IsAnyStored, IsWhyNoneStored};
 
-pub use crate::error::{BinaryError, WriteError};
+pub use crate::error::{BinaryError, SwappedError, WriteError};
 use crate::header::{BinaryHeader, HEADER_SIZE, ValueWidth, header_of, stored_header};
+pub use crate::swapped::from_binary_swapped;
 pub use crate::write::{binary_len, to_binary, write_binary};
 use icu_trie::cptrie::CodePointTrie;
 use icu_trie::header::CodePointTrieHeader;

@@ -100,3 +100,44 @@ impl From<AllocError> for WriteError {
         WriteError::Memory
     }
 }
+
+/// Why bytes of a machine with the other byte order are refused.
+#[derive(Clone, Copy, Debug, PartialEq, Error)]
+pub enum SwappedError {
+    /// In this machine's order they are no trie.
+    #[error("{0}")]
+    Binary(BinaryError),
+    /// Memory was refused.
+    #[error("no memory")]
+    Memory,
+}
+
+impl From<BinaryError> for SwappedError {
+    ghost use Rattle.icu_trie_binary.specs.declared.error.SwappedError.TheVariants.{Binary};
+
+    ghost from_gives = { λ x e. e ≡ Binary x };
+
+    fn from(error: BinaryError) -> SwappedError {
+        SwappedError::Binary(error)
+    }
+}
+
+impl From<MemoryError> for SwappedError {
+    ghost use Rattle.icu_trie_binary.specs.declared.error.SwappedError.TheVariants.{Memory};
+
+    ghost from_gives = { λ _ e. e ≡ Memory };
+
+    fn from(_error: MemoryError) -> SwappedError {
+        SwappedError::Memory
+    }
+}
+
+impl From<AllocError> for SwappedError {
+    ghost use Rattle.icu_trie_binary.specs.declared.error.SwappedError.TheVariants.{Memory};
+
+    ghost from_gives = { λ _ e. e ≡ Memory };
+
+    fn from(_error: AllocError) -> SwappedError {
+        SwappedError::Memory
+    }
+}

@@ -52,7 +52,7 @@ pub(crate) struct BinaryHeader {
 }
 
 /// The number of 16 bits whose lower byte is byte `i`.
-fn u16_at(bytes: &[u8], i: usize) -> u16
+pub(crate) fn u16_at(bytes: &[u8], i: usize) -> u16
     requires { i + 2 ≤ length bytes.now }
     ensures { result ≡ u16_at bytes.now i }
 {
