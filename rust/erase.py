@@ -21,14 +21,18 @@ KEYWORDS = set(
 )
 BEFORE_NAMES = KEYWORDS - set("break continue crate loop self Self super true false".split())
 ATTRIBUTES = set("derive error from inline cold test cfg tactic".split())
-MACROS = set("assert assert_eq format matches panic println unreachable vec write writeln".split())
-PROOF = re.compile(r'--[^\n]*|"[^"\n]*"|[{}]')
-CLAUSE = re.compile(r"(?:requires|ensures)(?:\s+[a-z_]\w*)?\s*(?={)")
-GHOST_USE = re.compile(r"ghost\s+use\b[^;{]*(?:\{[^{}]*\})?\s*;")
-GHOST = re.compile(r"ghost\s+\w+\s*[:=]\s*(?={)")
+MACROS = set("assert assert_eq format json matches panic println unreachable vec write writeln".split())
+# What is proof, by the word that it begins with: whether its docs go too, and its form. Braces of
+# the proof language follow where the form asks for one by `(?={)`.
+PROOFS = [
+    (r"requires|ensures", False, r"(?:requires|ensures)(?:\s+[a-z_]\w*)?\s*(?={)"),
+    (r"ghost(?=\s+use\b)", False, r"ghost\s+use\b[^;{]*(?:\{[^{}]*\})?\s*;"),
+    (r"ghost", True, r"ghost\s+\w+\s*[:=]\s*(?={)"),
+    (r"prove!", False, r"prove!\([^{]*?\);(?=\n)"),
+    (r"impl(?=(?:<[^{};]*>)?\s+Model\b)", True, r"impl(?:<[^{};]*>)?\s+Model\s+for\b[^{};]*(?={)"),
+    (r"#!?\[tactic\b", False, r"#!?\[tactic\((?:[^()]|\((?:[^()]|\([^()]*\))*\))*\)\]"),
+]
 BY = re.compile(r"\s*(?:by|=)\s*(?={)")
-MODEL = re.compile(r"impl(?:<[^{};]*>)?\s+Model\s+for\b[^{};]*(?={)")
-TACTIC = re.compile(r"#!?\[tactic\((?:[^()]|\((?:[^()]|\([^()]*\))*\))*\)\]")
 # What keeps the place of a comment or of a literal while rules go over the code.
 HELD = re.compile("[\x01\x02](\\d+)\x03")
 
@@ -54,86 +58,43 @@ class Eraser:
         line = self.text.count("\n", 0, self.place) + 1
         raise Refused(f"{line}: {why}: {self.text[self.place:][:50]!r}")
 
-    def braces(self, start):
-        """The place behind the braces of the proof language that begin at `start`."""
+    def past_braces(self, start):
+        """The place behind the braces of the proof language that begin at `start`, if any do."""
         depth = 0
-        for found in PROOF.finditer(self.text, start):
+        for found in re.compile(r'--[^\n]*|"[^"\n]*"|[{}]').finditer(self.text, start):
+            if depth == 0 and self.text[start] != "{":
+                return start
             depth += {"{": 1, "}": -1}.get(found[0], 0)
             if depth == 0:
                 return found.end()
         return self.refuse("braces that don't end")
 
-    def drop_space(self):
-        while self.kept and self.kept[-1][0] == "space":
+    def drop(self, docs):
+        """Takes out the space before a proof, and what is said of it."""
+        while self.kept and (self.kept[-1][0] == "space" or docs and self.kept[-1][1].startswith("///")):
             self.kept.pop()
-
-    def drop_docs(self):
-        """Takes out what is said of a ghost item."""
-        self.drop_space()
-        while self.kept and self.kept[-1][1].startswith("///"):
-            self.kept.pop()
-            self.drop_space()
-
-    def clause(self):
-        found = CLAUSE.match(self.text, self.place)
-        if not found:
-            self.refuse("a clause of no known form")
-        if self.text.startswith("requires", self.place):
-            name, open_to_all = self.function
-            if open_to_all:
-                self.asked.add(f"{self.owner}::{name}".lstrip(":"))
-        self.drop_space()
-        self.place = self.braces(found.end())
-
-    def ghost(self):
-        used = GHOST_USE.match(self.text, self.place)
-        if used:
-            self.drop_space()
-            self.place = used.end()
-            return
-        found = GHOST.match(self.text, self.place)
-        if not found:
-            self.refuse("a ghost item of no known form")
-        end = self.braces(found.end())
-        by = BY.match(self.text, end)
-        if by:
-            end = self.braces(by.end())
-        if self.text[end] not in ",;":
-            self.refuse("a ghost item that goes on")
-        self.drop_docs()
-        self.place = end + 1
-
-    def prove(self):
-        end = self.text.find(");\n", self.place)
-        if end < 0 or "{" in self.text[self.place : end]:
-            self.refuse("a proof step of no known form")
-        self.drop_space()
-        self.place = end + 2
 
     def proof(self):
         """Goes over a proof, if one stands here."""
-        word = re.compile(r"[a-z]+\b!?|").match(self.text, self.place)[0]
-        if word in ("requires", "ensures"):
-            self.clause()
-        elif word == "ghost":
-            self.ghost()
-        elif word == "prove!":
-            self.prove()
-        elif word == "impl" and (found := MODEL.match(self.text, self.place)):
-            self.drop_docs()
-            self.place = self.braces(found.end())
-        elif found := TACTIC.match(self.text, self.place):
-            self.drop_space()
-            self.place = found.end()
-        else:
-            return False
-        return True
-
-    def note(self, text):
-        """Keeps in mind in which item we are."""
-        if text == "{" and self.depth == 0:
-            self.owner = owner_of("".join(it[1] for it in self.kept[self.item :]))
-        self.depth += {"{": 1, "}": -1}.get(text, 0)
+        for word, docs, form in PROOFS:
+            if not re.compile(rf"(?:{word})(?!\w)").match(self.text, self.place):
+                continue
+            found = re.compile(form).match(self.text, self.place)
+            if not found:
+                self.refuse("a proof of no known form")
+            end = found.end() if found[0].endswith((";", "]")) else self.past_braces(found.end())
+            if word == "ghost":
+                by = BY.match(self.text, end)
+                end = (self.past_braces(by.end()) if by else end) + 1
+                if self.text[end - 1] not in ",;":
+                    self.refuse("a ghost item that goes on")
+            name, open_to_all = self.function
+            if found[0].startswith("requires") and open_to_all:
+                self.asked.add(f"{self.owner}::{name}".lstrip(":"))
+            self.drop(docs)
+            self.place = end
+            return True
+        return False
 
     def erased(self):
         """The tokens that are left."""
@@ -143,15 +104,17 @@ class Eraser:
             found = TOKEN.match(self.text, self.place)
             if not found:
                 self.refuse("a character of no known form")
-            self.seen(found.lastgroup, found[0])
+            self.take(found.lastgroup, found[0])
             self.place = found.end()
         return self.kept
 
-    def seen(self, kind, text):
-        """Takes a token of Rust, if it may stand behind those before it."""
+    def take(self, kind, text):
+        """Takes a token of Rust, if it may stand behind those before it, and notes in which item."""
         if kind not in ("space", "comment"):
             self.admit(kind, text)
-            self.note(text)
+            if text == "{" and self.depth == 0:
+                self.owner = owner_of("".join(it[1] for it in self.kept[self.item :]))
+            self.depth += {"{": 1, "}": -1}.get(text, 0)
         self.kept.append((kind, text))
         if self.depth == 0 and text in ("}", ";"):
             self.item = len(self.kept)
@@ -166,13 +129,12 @@ class Eraser:
             self.refuse("a word behind what ends an expression")
         if name and last_kind == "word" and last not in BEFORE_NAMES:
             self.refuse("two names side by side")
-        if name and last == "[" and [it[1] for it in before[-3:-1]][-1:] in (["#"], ["!"]):
-            if text not in ATTRIBUTES:
-                self.refuse("an attribute that isn't known")
-        if text == "!" and last_kind == "word" and last not in KEYWORDS:
-            after = self.text[self.place + 1 : self.place + 2]
-            if after in ("[", "(", "{") and last not in MACROS:
-                self.refuse("a macro that isn't known")
+        attribute = last == "[" and [it[1] for it in before[-3:-1]][-1:] in (["#"], ["!"])
+        if name and attribute and text not in ATTRIBUTES:
+            self.refuse("an attribute that isn't known")
+        after = self.text[self.place + 1 : self.place + 2]
+        if text == "!" and last_kind == "word" and last not in KEYWORDS | MACROS and after in "[({":
+            self.refuse("a macro that isn't known")
         if kind == "word" and last == "fn":
             modifiers = [it[1] for it in before[:-1] if it[1] not in ("const", "unsafe")]
             self.function = (text, modifiers[-1:] == ["pub"] or self.owner.startswith("trait "))
@@ -181,8 +143,7 @@ class Eraser:
 def owner_of(head):
     """The type of an `impl`, or `trait` and its name: what the functions of an item belong to."""
     head = re.sub(r"(//|#)[^\n]*\n", "", head)
-    trait = re.search(r"\bpub trait (\w+)", head)
-    if trait:
+    if trait := re.search(r"\bpub trait (\w+)", head):
         return f"trait {trait[1]}"
     found = re.search(r"\bimpl(?:<.*?>)?\s+(?:.*\bfor\s+)?&?(\w+)", head, re.S)
     return found[1] if found else ""
@@ -190,11 +151,11 @@ def owner_of(head):
 
 def masked(tokens):
     """The code as one text, and the comments and literals of which it holds the places."""
-    held, code = [], []
+    held, code = [], ""
     for kind, text in tokens:
         if kind in ("comment", "literal"):
-            code.append(f"{chr(1 if kind == 'comment' else 2)}{len(held)}\x03")
+            code += f"{chr(1 if kind == 'comment' else 2)}{len(held)}\x03"
             held.append(text)
         else:
-            code.append(text)
-    return "".join(code), held
+            code += text
+    return code, held

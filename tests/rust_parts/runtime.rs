@@ -81,3 +81,42 @@ pub(crate) trait Listed: Iterator + Sized {
 }
 
 impl<I: Iterator> Listed for I {}
+
+/// What may be read, and why it may not be.
+pub(crate) use std::{fs, io};
+
+impl From<AllocError> for io::Error {
+    fn from(_error: AllocError) -> io::Error {
+        io::ErrorKind::OutOfMemory.into()
+    }
+}
+
+impl<T> From<crate::support::AllocFailed<T>> for io::Error {
+    fn from(_error: crate::support::AllocFailed<T>) -> io::Error {
+        io::ErrorKind::OutOfMemory.into()
+    }
+}
+
+/// The random numbers of PCG XSH RR 64/32.
+pub(crate) struct Pcg32(u64, u64);
+
+impl Pcg32 {
+    pub(crate) fn new(state: u64, stream: u64) -> Pcg32 {
+        let mut made = Pcg32(state, stream << 1 | 1);
+        made.0 = made.0.wrapping_add(made.1);
+        made.next_u32();
+        made
+    }
+
+    pub(crate) fn next_u32(&mut self) -> u32 {
+        let state = self.0;
+        self.0 = state.wrapping_mul(6_364_136_223_846_793_005).wrapping_add(self.1);
+        ((((state >> 18) ^ state) >> 27) as u32).rotate_right((state >> 59) as u32)
+    }
+}
+
+/// The table of a text.
+#[cfg(feature = "toml")]
+pub(crate) fn table_from_str(text: &str) -> Result<toml::value::Table, toml::de::Error> {
+    toml::from_str(text)
+}

@@ -33,6 +33,11 @@ pub use crate::icu_trie_builder::builder::CodePointTrieBuilder;
 pub use crate::icu_trie_builder::error::BuildError;
 pub use crate::icu_trie_builder::try_build_from_writes;
 pub use crate::icu_trie_builder::writes::{ApplyRefused, Write};
+#[cfg(feature = "json")]
+pub use crate::icu_trie_formats::json;
+pub use crate::icu_trie_formats::planes;
+#[cfg(feature = "toml")]
+pub use crate::icu_trie_formats::trie_toml;
 
 use crate::codepointinvlist::CodePointInversionList;
 use crate::plain::{plain, plain_clone};

@@ -56,10 +56,21 @@
 //! assert_eq!(trie.iter2().collect::<Vec<_>>(), [("a".into(), 1), ("ab".into(), 2)]);
 //! # Ok::<(), Box<dyn std::error::Error>>(())
 //! ```
+//!
+//! # Features
+//!
+//! None is on by default.
+//!
+//! - `json`: sets, tries and unit tries to and from the values of `serde_json`
+//! - `toml`: tries from the tables of `toml`; it needs `std`
+//! - `proved-reads`: reads at places that are proved to be there test no place
 #![no_std]
-#![forbid(unsafe_code)]
+#![cfg_attr(not(feature = "proved-reads"), forbid(unsafe_code))]
 
 extern crate alloc;
+
+#[cfg(all(feature = "proved-reads", not(target_pointer_width = "64")))]
+compile_error!("places are proved to be numbers of 64 bits, so `proved-reads` is for these alone");
 
 mod plain;
 mod support;
@@ -83,5 +94,5 @@ macro_rules! generated {
 
 generated! {
     icu_zerovec icu_invlist icu_text_sets icu_frozen_sets icu_char16trie icu_char16trie_builder
-    icu_trie_core icu_trie icu_trie_binary icu_trie_map icu_trie_compaction icu_trie_builder
+    icu_trie_core icu_trie icu_trie_binary icu_trie_map icu_trie_compaction icu_trie_builder icu_trie_formats
 }

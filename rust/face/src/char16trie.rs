@@ -19,6 +19,8 @@
 pub use crate::icu_char16trie::char16trie::{
     Char16Trie, Char16TrieCursor, Char16TrieIterator, Iter2, TrieResult,
 };
+#[cfg(feature = "json")]
+pub use crate::icu_char16trie::char16trie::Char16JsonError;
 pub use crate::icu_char16trie_builder::builder::Char16TrieBuilder;
 pub use crate::icu_char16trie_builder::error::{AddError, BuildError};
 

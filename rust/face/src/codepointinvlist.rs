@@ -14,7 +14,7 @@
 //! assert!(set.contains32(0x62) && !set.contains('d'));
 //! let frozen = FrozenCodePointSet::freeze(&set);
 //! assert_eq!(frozen.spans("abxc").count(), 3);
-//! # Ok::<(), bekstaudi::codepointinvlist::TryRangeError>(())
+//! # Ok::<(), bekstaudi::codepointinvlist::RangeError>(())
 //! ```
 
 pub use crate::icu_frozen_sets::frozen::FrozenCodePointSet;
@@ -25,13 +25,15 @@ pub use crate::icu_invlist::codepointinvlist::{
     IterRangesComplemented, RangeError, RangeOf, RangePoint, SetError, TryRangeError,
     deconstruct_range, is_valid_zv, utils,
 };
+#[cfg(feature = "json")]
+pub use crate::icu_invlist::codepointinvlist::SetJsonError;
 
 use crate::codepointinvliststringlist::CodePointInversionListAndStringList;
 use crate::icu_zerovec::CODE_POINT_LIMIT;
 use crate::plain::{plain, plain_calls, plain_clone};
 use alloc::vec::Vec;
 use core::ops::{
-    Bound, Range, RangeFrom, RangeFull, RangeInclusive, RangeTo, RangeToInclusive,
+    Bound, Range, RangeBounds, RangeFrom, RangeFull, RangeInclusive, RangeTo, RangeToInclusive,
 };
 
 plain_clone! {
@@ -45,19 +47,19 @@ impl CodePointInversionListBuilder {
     plain_calls! {
         add_char = try_add_char(c: char);
         add32 = try_add32(c: u32);
-        add_range = try_add_range(range: impl RangeOf<char>);
-        add_range32 = try_add_range32(range: impl RangeOf<u32>);
+        add_range = try_add_range(range: impl RangeBounds<char>);
+        add_range32 = try_add_range32(range: impl RangeBounds<u32>);
         add_set = try_add_set(set: &CodePointInversionList<'_>);
         remove_char = try_remove_char(c: char);
         remove32 = try_remove32(c: u32);
-        remove_range = try_remove_range(range: impl RangeOf<char>);
-        remove_range32 = try_remove_range32(range: impl RangeOf<u32>);
+        remove_range = try_remove_range(range: impl RangeBounds<char>);
+        remove_range32 = try_remove_range32(range: impl RangeBounds<u32>);
         remove_set = try_remove_set(set: &CodePointInversionList<'_>);
         retain_set = try_retain_set(set: &CodePointInversionList<'_>);
         complement_char = try_complement_char(c: char);
         complement32 = try_complement32(c: u32);
-        complement_range = try_complement_range(range: impl RangeOf<char>);
-        complement_range32 = try_complement_range32(range: impl RangeOf<u32>);
+        complement_range = try_complement_range(range: impl RangeBounds<char>);
+        complement_range32 = try_complement_range32(range: impl RangeBounds<u32>);
         complement_set = try_complement_set(set: &CodePointInversionList<'_>);
     }
 
@@ -132,11 +134,16 @@ impl FromIterator<char> for CodePointInversionList<'_> {
 macro_rules! from_ranges {
     ($($range:ty)*) => {
         $(
+            /// # Panics
+            /// Where memory was refused; [`CodePointInversionList::try_from_range`] answers it.
             impl TryFrom<$range> for CodePointInversionList<'_> {
-                type Error = TryRangeError;
+                type Error = RangeError;
 
-                fn try_from(range: $range) -> Result<Self, TryRangeError> {
-                    CodePointInversionList::try_from(range)
+                fn try_from(range: $range) -> Result<Self, RangeError> {
+                    match CodePointInversionList::try_from_range(range) {
+                        Err(TryRangeError::Invalid(error)) => Err(error),
+                        answer => Ok(plain(answer)),
+                    }
                 }
             }
         )*
@@ -167,25 +174,20 @@ impl FrozenCodePointSetAndStrings {
     }
 }
 
-/// A range whose ends are told one by one, as any `RangeBounds` can be: see [`bounds`].
-impl<X: RangePoint> RangeOf<X> for (Bound<X>, Bound<X>) {
+/// All that is a range for Rust names numbers, as its ends say: an included end `u32::MAX`, after
+/// which there is no number, is the end itself.
+impl<X: RangePoint, R: RangeBounds<X>> RangeOf<X> for R {
     fn deconstruct(self) -> (u32, u32) {
-        let start = match self.0 {
+        let start = match self.start_bound() {
             Bound::Included(start) => start.number(),
             Bound::Excluded(before) => before.number().saturating_add(1),
             Bound::Unbounded => 0,
         };
-        let end = match self.1 {
+        let end = match self.end_bound() {
             Bound::Included(last) => last.number().saturating_add(1),
             Bound::Excluded(end) => end.number(),
             Bound::Unbounded => CODE_POINT_LIMIT,
         };
         (start, end)
     }
-}
-
-/// The ends of any range, for calls that take a [`RangeOf`]:
-/// `builder.add_range(bounds(&range))`.
-pub fn bounds<X: Copy>(range: &impl core::ops::RangeBounds<X>) -> (Bound<X>, Bound<X>) {
-    (range.start_bound().cloned(), range.end_bound().cloned())
 }

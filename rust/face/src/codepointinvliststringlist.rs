@@ -11,6 +11,8 @@
 pub use crate::icu_text_sets::codepointinvliststringlist::{
     CodePointInversionListAndStringList, InvalidStringList,
 };
+#[cfg(feature = "json")]
+pub use crate::icu_text_sets::codepointinvliststringlist::StringListJsonError;
 
 use crate::plain::{plain, plain_clone};
 

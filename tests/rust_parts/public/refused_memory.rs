@@ -107,7 +107,7 @@ fn sets() {
     }
     assert!(refused_in_turn(|| set.try_get_inversion_list_vec().ok()) > 0);
     assert!(refused_in_turn(|| FrozenCodePointSet::try_freeze(&set).ok()) > 0);
-    assert!(refused_in_turn(|| CodePointInversionList::try_from('a'..'z').ok()) > 0);
+    assert!(refused_in_turn(|| CodePointInversionList::try_from_range('a'..'z').ok()) > 0);
 }
 
 /// A change that is refused leaves the builder's set as it was.

@@ -3,4 +3,6 @@
 pub use crate::icu_char16trie::cursor::Char16TrieCursor;
 pub use crate::icu_char16trie::entries::Iter2;
 pub use crate::icu_char16trie::iterator::{Char16TrieIterator, TrieResult};
+#[cfg(feature = "json")]
+pub use crate::icu_char16trie::json::Char16JsonError;
 pub use crate::icu_char16trie::trie::Char16Trie;

@@ -8,10 +8,8 @@ use crate::icu_zerovec::ZeroSlice;
 
 /// A cursor into the units of a trie, for look-up unit by unit.
 ///
-/// A clause sees the units and the place where the cursor stands, and says what it has passed:
-/// after the units `w` from the root of the map `m` its value is that of the key `w`, and it is
-/// empty where no key goes on beyond `w`. On all units its steps are those of the format, where a
-/// unit that is needed and is not there is no match.
+/// On all units its steps are those of the format, where a unit that is needed and is not there is
+/// no match.
 #[derive(Clone, Debug)]
 pub struct Char16TrieCursor<'a> {
     units: ZeroSlice<'a, u16>,
@@ -36,6 +34,7 @@ impl<'a> Char16TrieCursor<'a> {
 
     /// The units of one more code point up to 0x10FFFF: one below 0x10000, surrogates among them,
     /// and otherwise two. A number above 0x10FFFF matches nothing.
+    #[inline]
     pub fn step32(&mut self, c: u32) {
         if let Ok(unit) = u16::try_from(c) {
             self.step16(unit);

@@ -19,17 +19,20 @@ pub(crate) fn two_at(units: ZeroSlice<'_, u16>, place: usize) -> Option<(u16, u1
 }
 
 /// A number in two halves.
+#[inline]
 pub(crate) fn from_halves(high: u16, low: u16) -> u32 {
     (u32::from(high) << 16) | u32::from(low)
 }
 
 /// A number whose low half stands at a place.
+#[inline]
 fn low_half(units: ZeroSlice<'_, u16>, place: usize, high: u16) -> Option<u32> {
     let low = unit_at(units, place)?;
     Some(from_halves(high, low))
 }
 
 /// A number in two units.
+#[inline]
 fn both_halves(units: ZeroSlice<'_, u16>, place: usize) -> Option<u32> {
     let high = unit_at(units, place)?;
     low_half(units, place + 1, high)
@@ -67,36 +70,43 @@ fn end_by(place: usize, lead: u16, two: u16, three: u16) -> usize {
 }
 
 /// The number of a final value or a jump, by the low 15 bits of the unit before `place`.
+#[inline]
 pub(crate) fn short_number(units: ZeroSlice<'_, u16>, place: usize, low_bits: u16) -> Option<u32> {
     number_by(units, place, low_bits, 0x4000, 0x7fff)
 }
 
 /// The place after it.
+#[inline]
 pub(crate) fn short_end(place: usize, low_bits: u16) -> usize {
     end_by(place, low_bits, 0x4000, 0x7fff)
 }
 
 /// The number of an intermediate value, by the lead unit before `place`.
+#[inline]
 pub(crate) fn node_number(units: ZeroSlice<'_, u16>, place: usize, lead: u16) -> Option<u32> {
     number_by(units, place, (lead >> 6) - 1, 0x100, 0x1fe)
 }
 
 /// The place after it, and `place` itself where the lead unit has no value.
+#[inline]
 pub(crate) fn node_end(place: usize, lead: u16) -> usize {
     end_by(place, (lead >> 6).saturating_sub(1), 0x100, 0x1fe)
 }
 
 /// The delta of a split, by the unit before `place`.
+#[inline]
 pub(crate) fn delta_number(units: ZeroSlice<'_, u16>, place: usize, delta: u16) -> Option<u32> {
     number_by(units, place, delta, 0xfc00, 0xffff)
 }
 
 /// The place after it.
+#[inline]
 pub(crate) fn delta_end(place: usize, delta: u16) -> usize {
     end_by(place, delta, 0xfc00, 0xffff)
 }
 
 /// Where the node of an entry stands, whose value unit stands before `place`.
+#[inline]
 pub(crate) fn entry_child(units: ZeroSlice<'_, u16>, place: usize, value: u16) -> Option<usize> {
     if value < 0x8000 {
         let jump = short_number(units, place, value)?;
@@ -107,6 +117,7 @@ pub(crate) fn entry_child(units: ZeroSlice<'_, u16>, place: usize, value: u16) -
 }
 
 /// Where the part of the lower entries of a branch stands, by the unit of the delta before `place`.
+#[inline]
 pub(crate) fn lower_part(units: ZeroSlice<'_, u16>, place: usize, delta: u16) -> Option<usize> {
     let number = delta_number(units, place, delta)?;
     Some(delta_end(place, delta) + number as usize)

@@ -17,6 +17,7 @@ pub struct Iter2<'a> {
 
 impl<'a> Iter2<'a> {
     /// The entries of the trie with these units.
+    #[inline]
     pub(crate) fn new(units: ZeroSlice<'a, u16>) -> Self {
         Iter2 {
             pending: Pending::new(units),
@@ -27,6 +28,7 @@ impl<'a> Iter2<'a> {
 impl<'a> Iterator for Iter2<'a> {
     type Item = Result<(String, i32), MemoryError>;
 
+    #[inline]
     fn next(&mut self) -> Option<Result<(String, i32), MemoryError>> {
         self.pending.next_item()
     }

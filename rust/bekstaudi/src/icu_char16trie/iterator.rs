@@ -17,8 +17,7 @@ pub enum TrieResult {
     Intermediate(i32),
 }
 
-/// A cursor that tells at each step what it found. A clause sees the units and the place, as of
-/// [`Char16TrieCursor`].
+/// A cursor that tells at each step what it found.
 #[derive(Clone, Debug)]
 pub struct Char16TrieIterator<'a> {
     cursor: Char16TrieCursor<'a>,
@@ -48,6 +47,7 @@ impl<'a> Char16TrieIterator<'a> {
 
     /// One more code point up to 0x10FFFF, as [`Char16TrieCursor::step32`]. A number above 0x10FFFF
     /// matches nothing.
+    #[inline]
     pub fn next32(&mut self, c: u32) -> TrieResult {
         self.cursor.step32(c);
         self.result()
@@ -61,6 +61,7 @@ impl<'a> Char16TrieIterator<'a> {
     }
 
     /// What is told of the units so far.
+    #[inline]
     fn result(&self) -> TrieResult {
         match (self.cursor.value(), self.cursor.is_empty()) {
             (Some(value), true) => TrieResult::FinalValue(value),

@@ -29,6 +29,8 @@ mod cursor;
 mod encoded;
 mod entries;
 mod iterator;
+#[cfg(feature = "json")]
+mod json;
 mod pending;
 mod place;
 mod spelling;

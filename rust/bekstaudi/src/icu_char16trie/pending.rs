@@ -33,6 +33,7 @@ pub(crate) struct Pending<'a> {
 
 impl<'a> Pending<'a> {
     /// All entries of these units.
+    #[inline]
     pub(crate) fn new(units: ZeroSlice<'a, u16>) -> Self {
         Pending {
             units,
@@ -154,6 +155,7 @@ impl<'a> Pending<'a> {
     }
 
     /// Goes to the next node, if there is one.
+    #[inline]
     fn go_to_node(&mut self) -> Result<bool, AllocError> {
         while self.node.is_none() {
             let Some(part) = self.parts.pop() else {
@@ -166,6 +168,7 @@ impl<'a> Pending<'a> {
     }
 
     /// The next item.
+    #[inline]
     fn find_item(&mut self, ) -> Result<Option<(String, i32)>, AllocError> {
         while self.go_to_node()? {
             if let Some(item) = self.open_node()? {
@@ -176,6 +179,7 @@ impl<'a> Pending<'a> {
     }
 
     /// The next item, or want of memory, after which nothing is left.
+    #[inline]
     pub(crate) fn next_item(&mut self, ) -> Option<Result<(String, i32), MemoryError>> {
         let units = self.units;
         let Ok(found) = self.find_item() else {

@@ -54,6 +54,7 @@ fn pair_char(lead: LeadSurrogate, unit: u16) -> Option<char> {
 
 impl Spelling {
     /// The spelling of the empty key.
+    #[inline]
     pub(crate) fn new() -> Self {
         Spelling {
             text: String::new(),
@@ -97,6 +98,7 @@ impl Spelling {
     }
 
     /// So many units more.
+    #[inline]
     pub(crate) fn push_run(
         &mut self,
         units: ZeroSlice<'_, u16>,
@@ -112,6 +114,7 @@ impl Spelling {
     }
 
     /// Where the spelling is now.
+    #[inline]
     pub(crate) fn mark(&self) -> Mark {
         Mark {
             len: self.text.len(),
@@ -120,12 +123,14 @@ impl Spelling {
     }
 
     /// The spelling is what it was at the mark.
+    #[inline]
     pub(crate) fn cut_to(&mut self, mark: Mark) {
         self.text.truncate(mark.len);
         self.held = mark.held;
     }
 
     /// The text of the key: a unit that is held is a lone surrogate.
+    #[inline]
     pub(crate) fn key_text(&self) -> Result<String, AllocError> {
         let mut text = String::from_str(&self.text)?;
         let Some(_lead) = self.held else {

@@ -99,6 +99,7 @@ pub(crate) fn value_at(units: ZeroSlice<'_, u16>, place: Place) -> Option<i32> {
 }
 
 /// Whether nothing can match from a place on.
+#[inline]
 pub(crate) fn is_empty_at(units: ZeroSlice<'_, u16>, place: Place) -> bool {
     match place {
         Place::Nowhere => true,

@@ -8,7 +8,7 @@ use crate::icu_char16trie::iterator::Char16TrieIterator;
 use crate::icu_zerovec::{MemoryError, ZeroVec};
 
 /// A map from lists of 16-bit units, mostly texts in UTF-16, to numbers of 32 bits with sign, in
-/// the format of ICU's `UCharsTrie`. A clause sees the list of its units.
+/// the format of ICU's `UCharsTrie`.
 ///
 /// ```ignore
 /// let trie = Char16Trie::new(ZeroVec::alloc_from_slice(&[0x31, 0x61, 0x62, 0x8003])?);
@@ -82,12 +82,14 @@ impl<'data> Char16Trie<'data> {
     ///
     /// # Errors
     /// `MemoryError` where memory was refused.
+    #[inline]
     pub fn try_clone(&self) -> Result<Char16Trie<'static>, MemoryError> {
         Ok(Char16Trie::new(self.data.try_clone()?))
     }
 }
 
 impl<'data> PartialEq for Char16Trie<'data> {
+    #[inline]
     fn eq(&self, other: &Self) -> bool {
         self.data == other.data
     }

@@ -7,6 +7,7 @@ use crate::icu_char16trie_builder::entry::{Arm, Entry};
 use crate::support::{AllocError};
 
 /// How many units two lists begin with together.
+#[inline]
 fn common_len(a: &[u16], b: &[u16]) -> usize {
     let end = a.len().min(b.len());
     for i in 0..end {
@@ -18,6 +19,7 @@ fn common_len(a: &[u16], b: &[u16]) -> usize {
 }
 
 /// How many units the key of the first entry shares from `depth` on with a list.
+#[inline]
 fn shared_by_first(units: &[u16], entries: &[Entry<'_>], depth: usize) -> usize {
     if let Some(entry) = entries.first() {
         if entry.key.len() < depth {
@@ -29,6 +31,7 @@ fn shared_by_first(units: &[u16], entries: &[Entry<'_>], depth: usize) -> usize 
 }
 
 /// How many units, at most `most`, all keys share from `depth` on with a list.
+#[inline]
 pub(crate) fn shared_len(units: &[u16], entries: &[Entry<'_>], depth: usize, most: usize) -> usize {
     let mut shared = units.len().min(most);
     for i in 0..entries.len() {
@@ -38,12 +41,14 @@ pub(crate) fn shared_len(units: &[u16], entries: &[Entry<'_>], depth: usize, mos
 }
 
 /// The unit at `depth` of the key of the first entry.
+#[inline]
 fn first_unit(entries: &[Entry<'_>], depth: usize) -> Option<u16> {
     let first = entries.first()?;
     first.key.get(depth).copied()
 }
 
 /// How many of the first entries have this unit at `depth`.
+#[inline]
 fn group_len(entries: &[Entry<'_>], depth: usize, unit: u16) -> usize {
     for i in 0..entries.len() {
         if first_unit(entries.split_at(i).1, depth) != Some(unit) {

@@ -19,7 +19,6 @@ const MOST_UNITS: u64 = 0x7FFF_FFFF;
 /// Entries, each a key of 16-bit units with a value, on their way into a trie (ICU's
 /// `UCharsTrieBuilder`).
 ///
-/// A clause sees the map of the entries, in unit order.
 ///
 /// ```ignore
 /// let mut builder = Char16TrieBuilder::new();
@@ -34,11 +33,13 @@ pub struct Char16TrieBuilder {
 }
 
 /// Whether a map has a key.
+#[inline]
 fn has_key(entries: &BTreeMap<Vec<u16>, i32>, key: &[u16]) -> bool {
     entries.contains_key(key)
 }
 
 /// Adds an entry to a map. A refused one leaves it as it was.
+#[inline]
 fn insert(
     entries: &mut BTreeMap<Vec<u16>, i32>,
     key: &[u16],
@@ -50,6 +51,7 @@ fn insert(
 }
 
 /// The entries of a map, in their order.
+#[inline]
 fn entries_of<'a>(
     entries: &'a BTreeMap<Vec<u16>, i32>,
 ) -> Result<Vec<Entry<'a>>, AllocError> {
@@ -64,6 +66,7 @@ fn entries_of<'a>(
 }
 
 /// How many units the key of the first entry has.
+#[inline]
 fn first_len(entries: &[Entry<'_>]) -> usize {
     entries[0].key.len()
 }
@@ -85,6 +88,7 @@ fn fits(entries: &[Entry<'_>]) -> bool {
 }
 
 /// The units of a trie of the entries: none, if there are none.
+#[inline]
 fn trie_units(entries: &[Entry<'_>]) -> Result<Vec<u16>, AllocError> {
     if entries.is_empty() {
         return Ok(Vec::new());
@@ -94,6 +98,7 @@ fn trie_units(entries: &[Entry<'_>]) -> Result<Vec<u16>, AllocError> {
 
 impl Char16TrieBuilder {
     /// No entries. It takes no memory; that is left to the calls that do.
+    #[inline]
     pub fn new() -> Self {
         Char16TrieBuilder {
             entries: BTreeMap::new(),
@@ -130,6 +135,7 @@ impl Char16TrieBuilder {
     /// # Errors
     /// `TooLarge` exactly where 2 U + 16 E is more than `0x7FFF_FFFF` and no memory was refused
     /// before that was found, and `Memory` where memory was refused. The entries are dropped.
+    #[inline]
     pub fn try_build(self) -> Result<Char16Trie<'static>, BuildError> {
         let entries = entries_of(&self.entries)?;
         if !fits(entries.as_slice()) {

@@ -15,6 +15,7 @@ pub enum AddError {
 }
 
 impl From<MemoryError> for AddError {
+    #[inline]
     fn from(_error: MemoryError) -> AddError {
         AddError::Memory
     }
@@ -33,18 +34,21 @@ pub enum BuildError {
 }
 
 impl From<AllocError> for BuildError {
+    #[inline]
     fn from(_error: AllocError) -> BuildError {
         BuildError::Memory
     }
 }
 
 impl<T> From<AllocFailed<T>> for BuildError {
+    #[inline]
     fn from(_error: AllocFailed<T>) -> BuildError {
         BuildError::Memory
     }
 }
 
 impl From<MemoryError> for BuildError {
+    #[inline]
     fn from(_error: MemoryError) -> BuildError {
         BuildError::Memory
     }
@@ -52,6 +56,7 @@ impl From<MemoryError> for BuildError {
 
 /// For `?` after an entry was added. Want of memory stays what it is.
 impl From<AddError> for BuildError {
+    #[inline]
     fn from(error: AddError) -> BuildError {
         match error {
             AddError::Memory => BuildError::Memory,
@@ -61,6 +66,7 @@ impl From<AddError> for BuildError {
 }
 
 impl core::fmt::Display for AddError {
+    #[inline]
     fn fmt(&self, f: &mut core::fmt::Formatter<'_>) -> core::fmt::Result {
         match self {
             AddError::KeyTooLong => write!(f, "key too long"),
@@ -73,6 +79,7 @@ impl core::fmt::Display for AddError {
 impl core::error::Error for AddError {}
 
 impl core::fmt::Display for BuildError {
+    #[inline]
     fn fmt(&self, f: &mut core::fmt::Formatter<'_>) -> core::fmt::Result {
         match self {
             BuildError::TooLarge => write!(f, "too large"),

@@ -19,7 +19,7 @@ pub(crate) struct KnownNode<'a> {
     pub(crate) place: usize,
 }
 
-/// Nodes that were written. A clause sees the list of them.
+/// Nodes that were written.
 pub(crate) struct Known<'a> {
     nodes: Vec<KnownNode<'a>>,
     // The last node of each hash. Any number would do: the entries are compared.
@@ -27,11 +27,13 @@ pub(crate) struct Known<'a> {
 }
 
 /// One number more in a hash.
+#[inline]
 fn mixed(hash: u64, number: u64) -> u64 {
     (hash.rotate_left(5) ^ number).wrapping_mul(0x517C_C1B7_2722_0A95)
 }
 
 /// The units of a key, in a hash.
+#[inline]
 fn with_key(hash: u64, units: &[u16]) -> u64 {
     let mut hash = mixed(hash, units.len() as u64);
     for unit in units.split_at(units.len().min(HASHED)).0 {
@@ -41,6 +43,7 @@ fn with_key(hash: u64, units: &[u16]) -> u64 {
 }
 
 /// The hash of a node: equal ones have the same.
+#[inline]
 fn hash_of(entries: &[Entry<'_>], depth: usize) -> u64 {
     let mut hash = entries.len() as u64;
     for entry in entries.split_at(entries.len().min(HASHED)).0 {
@@ -51,6 +54,7 @@ fn hash_of(entries: &[Entry<'_>], depth: usize) -> u64 {
 }
 
 /// Whether two lists of entries begin alike, each without the units that its keys have passed.
+#[inline]
 fn begin_alike(a: &[Entry<'_>], a_depth: usize, b: &[Entry<'_>], b_depth: usize) -> bool {
     if let (Some((x, _)), Some((y, _))) = (a.split_first(), b.split_first()) {
         return x.value == y.value && units_from(x.key, a_depth) == units_from(y.key, b_depth);
@@ -59,6 +63,7 @@ fn begin_alike(a: &[Entry<'_>], a_depth: usize, b: &[Entry<'_>], b_depth: usize)
 }
 
 /// Whether two lists of entries are the same map, each without the units that its keys have passed.
+#[inline]
 fn are_alike(a: &[Entry<'_>], a_depth: usize, b: &[Entry<'_>], b_depth: usize) -> bool {
     if a.len() != b.len() {
         return false;
@@ -73,6 +78,7 @@ fn are_alike(a: &[Entry<'_>], a_depth: usize, b: &[Entry<'_>], b_depth: usize) -
 
 impl<'a> Known<'a> {
     /// No nodes. It takes no memory.
+    #[inline]
     pub(crate) fn new() -> Self {
         Known {
             nodes: Vec::new(),
@@ -81,6 +87,7 @@ impl<'a> Known<'a> {
     }
 
     /// The place of a node of these entries, if one is found.
+    #[inline]
     pub(crate) fn find(&self, entries: &[Entry<'_>], depth: usize) -> Option<usize> {
         let i = *self.last.get(&hash_of(entries, depth))?;
         let known = self.nodes.get(i)?;

@@ -13,12 +13,14 @@ pub(crate) const LONGEST_RUN: usize = 16;
 const LONGEST_SHORT_BRANCH: usize = 0x30;
 
 /// Writes a node that has a value only.
+#[inline]
 fn write_final(out: &mut Vec<u16>, value: i32) -> Result<(), AllocError> {
     put_final(out, value.cast_unsigned())?;
     Ok(())
 }
 
 /// Writes the unit of the last entry of a row, in front of its node.
+#[inline]
 pub(crate) fn write_last(out: &mut Vec<u16>, unit: u16) -> Result<(), AllocError> {
     put_one(out, unit)?;
     Ok(())
@@ -26,6 +28,7 @@ pub(crate) fn write_last(out: &mut Vec<u16>, unit: u16) -> Result<(), AllocError
 
 /// Writes an entry of a row in front of the others: its unit, and a jump to its node, which stands
 /// `from_end` units before the end.
+#[inline]
 pub(crate) fn write_jump(out: &mut Vec<u16>, unit: u16, from_end: usize) -> Result<(), AllocError> {
     let jump = out.len().saturating_sub(from_end);
     put_short(out, jump as u32)?;
@@ -35,6 +38,7 @@ pub(crate) fn write_jump(out: &mut Vec<u16>, unit: u16, from_end: usize) -> Resu
 
 /// Writes an entry of a row in front of the others: its unit, and the value of the key that ends
 /// there.
+#[inline]
 pub(crate) fn write_value(out: &mut Vec<u16>, unit: u16, value: i32) -> Result<(), AllocError> {
     put_final(out, value.cast_unsigned())?;
     put_one(out, unit)?;
@@ -43,6 +47,7 @@ pub(crate) fn write_value(out: &mut Vec<u16>, unit: u16, value: i32) -> Result<(
 
 /// Writes a split unit in front of the part of the upper entries, with a delta to that of the lower
 /// ones, which stands `from_end` units before the end.
+#[inline]
 pub(crate) fn write_split(out: &mut Vec<u16>, unit: u16, from_end: usize) -> Result<(), AllocError> {
     let delta = out.len().saturating_sub(from_end);
     put_delta(out, delta as u32)?;
@@ -52,6 +57,7 @@ pub(crate) fn write_split(out: &mut Vec<u16>, unit: u16, from_end: usize) -> Res
 
 /// Writes the lead of a match node with these low six bits, and the value of the empty key, if
 /// there is one.
+#[inline]
 fn write_lead(out: &mut Vec<u16>, low: u16, value: Option<i32>) -> Result<(), AllocError> {
     match value {
         Some(value) => put_value(out, value.cast_unsigned(), low)?,
@@ -62,6 +68,7 @@ fn write_lead(out: &mut Vec<u16>, low: u16, value: Option<i32>) -> Result<(), Al
 
 /// Writes the length of a branch in front of its part, if it needs a unit, and answers the low six
 /// bits of its lead.
+#[inline]
 fn write_length(out: &mut Vec<u16>, count: usize) -> Result<u16, AllocError> {
     if count <= LONGEST_SHORT_BRANCH {
         return Ok((count - 1) as u16);
@@ -72,6 +79,7 @@ fn write_length(out: &mut Vec<u16>, count: usize) -> Result<u16, AllocError> {
 
 /// Writes what stands in front of the part of a branch of so many entries: its lead, the value of
 /// the empty key, if there is one, and its length.
+#[inline]
 pub(crate) fn write_branch(
     out: &mut Vec<u16>,
     count: usize,
@@ -83,6 +91,7 @@ pub(crate) fn write_branch(
 }
 
 /// Writes a linear match in front of its node, and the value of the empty key, if there is one.
+#[inline]
 pub(crate) fn write_run(
     out: &mut Vec<u16>,
     units: &[u16],
@@ -95,6 +104,7 @@ pub(crate) fn write_run(
 
 /// Writes the node of a single entry whose key has these units: linear matches, and the value after
 /// them.
+#[inline]
 pub(crate) fn write_tail(out: &mut Vec<u16>, units: &[u16], value: i32) -> Result<(), AllocError> {
     write_final(out, value)?;
     let mut left = units.len();

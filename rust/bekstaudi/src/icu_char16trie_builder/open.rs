@@ -12,6 +12,7 @@ use crate::support::{AllocError};
 const LONGEST_ROW: usize = 5;
 
 /// The value of an arm whose only key ends at `depth`.
+#[inline]
 fn final_value(arm: Arm<'_>, depth: usize) -> Option<i32> {
     if let Some((only, rest)) = arm.entries.split_first() {
         if rest.is_empty() && only.key.len() <= depth {
@@ -22,6 +23,7 @@ fn final_value(arm: Arm<'_>, depth: usize) -> Option<i32> {
 }
 
 /// The units of a key from `depth` on.
+#[inline]
 pub(crate) fn units_from(key: &[u16], depth: usize) -> &[u16] {
     if key.len() < depth {
         return key.split_at(key.len()).1;
@@ -30,6 +32,7 @@ pub(crate) fn units_from(key: &[u16], depth: usize) -> &[u16] {
 }
 
 /// The first of some arms.
+#[inline]
 fn first_arm<'a>(arms: &[Arm<'a>]) -> Arm<'a> {
     arms[0]
 }
@@ -71,6 +74,7 @@ fn push_part<'a>(
 
 /// Adds the steps of a linear match: of the unit that all keys go on with at `depth`, and up to
 /// fifteen more that they share.
+#[inline]
 fn push_run<'a>(
     steps: &mut Vec<Step<'a>>,
     first: &Entry<'a>,
@@ -104,6 +108,7 @@ fn push_match<'a>(
 }
 
 /// Adds the steps of the match node of entries whose keys go on beyond `depth`.
+#[inline]
 fn push_entries<'a>(
     steps: &mut Vec<Step<'a>>,
     entries: &'a [Entry<'a>],

@@ -9,6 +9,7 @@ use crate::support::{AllocError};
 
 /// The units of a trie of some entries, whose keys ascend: at most two for each unit of a key, and
 /// sixteen for each entry.
+#[inline]
 pub(crate) fn units_of(entries: &[Entry<'_>]) -> Result<Vec<u16>, AllocError> {
     let mut out = Vec::new();
     let mut places = Vec::new();

@@ -6,6 +6,7 @@ use crate::support::prelude::*;
 use crate::support::AllocError;
 
 /// Writes one unit in front of the others.
+#[inline]
 pub(crate) fn put_one(out: &mut Vec<u16>, first: u16) -> Result<(), AllocError> {
     out.try_push(first)?;
     Ok(())
@@ -13,6 +14,7 @@ pub(crate) fn put_one(out: &mut Vec<u16>, first: u16) -> Result<(), AllocError> 
 
 /// Writes the units that follow a number's lead, and gives the lead: the number itself below `two`,
 /// from there to below `three` the high half and `two` more, and else `three`.
+#[inline]
 fn put_tail(out: &mut Vec<u16>, number: u32, two: u16, three: u16) -> Result<u16, AllocError> {
     if number < u32::from(two) {
         return Ok(number as u16);
@@ -27,12 +29,14 @@ fn put_tail(out: &mut Vec<u16>, number: u32, two: u16, three: u16) -> Result<u16
 }
 
 /// Writes the jump of an entry: one unit below 0x4000, two below 0x3FFF_0000, and else three.
+#[inline]
 pub(crate) fn put_short(out: &mut Vec<u16>, number: u32) -> Result<(), AllocError> {
     let lead = put_tail(out, number, 0x4000, 0x7fff)?;
     put_one(out, lead)
 }
 
 /// Writes a final value: one unit below 0x4000, two below 0x3FFF_0000, and else three.
+#[inline]
 pub(crate) fn put_final(out: &mut Vec<u16>, number: u32) -> Result<(), AllocError> {
     let lead = put_tail(out, number, 0x4000, 0x7fff)?;
     put_one(out, 0x8000 + lead)
@@ -40,18 +44,21 @@ pub(crate) fn put_final(out: &mut Vec<u16>, number: u32) -> Result<(), AllocErro
 
 /// Writes the lead of a match node with these low six bits and a value: one unit below 0x100, two
 /// below 0xFE_0000, and else three.
+#[inline]
 pub(crate) fn put_value(out: &mut Vec<u16>, number: u32, low: u16) -> Result<(), AllocError> {
     let lead = put_tail(out, number, 0x100, 0x1fe)?;
     put_one(out, (lead + 1) * 64 + low)
 }
 
 /// Writes the delta of a split: one unit below 0xFC00, two below 0x03FF_0000, and else three.
+#[inline]
 pub(crate) fn put_delta(out: &mut Vec<u16>, number: u32) -> Result<(), AllocError> {
     let lead = put_tail(out, number, 0xfc00, 0xffff)?;
     put_one(out, lead)
 }
 
 /// Writes units in front of the others.
+#[inline]
 pub(crate) fn put_all(out: &mut Vec<u16>, units: &[u16]) -> Result<(), AllocError> {
     let mut left = units.len();
     while left > 0 {

@@ -37,6 +37,7 @@ fn shared_place(value: bool) -> u16 {
 }
 
 /// Whether each of the block's words is this one.
+#[inline]
 fn is_all(block: &[u64; 4], word: u64) -> bool {
     block[0] == word && block[1] == word && block[2] == word && block[3] == word
 }
@@ -46,6 +47,7 @@ impl CodePointBits {
     ///
     /// # Errors
     /// `MemoryError` where memory was refused.
+    #[inline]
     pub(crate) fn new(ranges: usize) -> Result<CodePointBits, MemoryError> {
         let index = Vec::with_room(BLOCKS as usize)?;
         let room = TWO_BLOCKS.len() + 4 * ranges.min(ROOM);
@@ -70,6 +72,7 @@ impl CodePointBits {
     }
 
     /// The bits of ASCII, whose block is there.
+    #[inline]
     pub(crate) fn ascii(&self) -> [bool; 128] {
         let first = self.index[0] as usize;
         let (low, high) = (self.words[first], self.words[first + 1]);
@@ -85,6 +88,7 @@ impl CodePointBits {
     ///
     /// # Errors
     /// `MemoryError` where memory was refused.
+    #[inline]
     pub(crate) fn push_run(&mut self, count: usize, value: bool) -> Result<(), MemoryError> {
         self.index
             .try_resize(self.index.len() + count, shared_place(value))?;
@@ -92,6 +96,7 @@ impl CodePointBits {
     }
 
     /// Appends a block with four words of its own.
+    #[inline]
     fn push_own(&mut self, block: &[u64; 4]) -> Result<(), MemoryError> {
         self.index.try_push(self.words.len() as u16)?;
         self.words.try_extend_from_slice(block)?;
@@ -102,6 +107,7 @@ impl CodePointBits {
     ///
     /// # Errors
     /// `MemoryError` where memory was refused.
+    #[inline]
     pub(crate) fn push_block(&mut self, block: &[u64; 4]) -> Result<(), MemoryError> {
         if is_all(block, 0) {
             return self.push_run(1, false);
@@ -116,6 +122,7 @@ impl CodePointBits {
     ///
     /// # Errors
     /// `MemoryError` where memory was refused.
+    #[inline]
     pub(crate) fn try_clone(&self) -> Result<CodePointBits, MemoryError> {
         let index = Vec::from_slice(&self.index)?;
         let words = Vec::from_slice(&self.words)?;

@@ -4,6 +4,7 @@ use crate::icu_frozen_sets::frozen::FrozenCodePointSet;
 
 /// The longest text that the bytes begin with: all of them, or those before the first ill-formed
 /// sequence.
+#[inline]
 fn front_text(bytes: &[u8]) -> &str {
     let error = match str::from_utf8(bytes) {
         Ok(text) => return text,
@@ -27,6 +28,7 @@ impl FrozenCodePointSet {
     /// ```text
     /// // letters.span_utf8(b"ab\xFFc", true) is 2, and letters.span_utf8(b"\xFFab", false) is 0
     /// ```
+    #[inline]
     pub fn span_utf8(&self, bytes: &[u8], held: bool) -> usize {
         self.span(front_text(bytes), held)
     }

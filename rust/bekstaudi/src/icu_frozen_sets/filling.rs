@@ -38,6 +38,7 @@ impl Filling {
     ///
     /// # Errors
     /// `MemoryError` where memory was refused.
+    #[inline]
     pub(crate) fn new(ranges: usize) -> Result<Filling, MemoryError> {
         Ok(Filling {
             bits: CodePointBits::new(ranges)?,
@@ -67,6 +68,7 @@ impl Filling {
     }
 
     /// Fills so many whole blocks.
+    #[inline]
     fn fill_blocks(&mut self, count: u32, value: bool) -> Result<(), MemoryError> {
         if count == 0 {
             return Ok(());
@@ -77,6 +79,7 @@ impl Filling {
     }
 
     /// Fills what is left of the block that is filled now, if any of it is there already.
+    #[inline]
     fn fill_block(&mut self, value: bool) -> Result<(), MemoryError> {
         if self.reached % 256 == 0 {
             return Ok(());
@@ -86,6 +89,7 @@ impl Filling {
     }
 
     /// Fills up to `end`, which lies in a later block.
+    #[inline]
     fn fill_far(&mut self, end: u32, value: bool) -> Result<(), MemoryError> {
         self.fill_block(value)?;
         self.fill_blocks((end - self.reached) / 256, value)?;
@@ -111,6 +115,7 @@ impl Filling {
     }
 
     /// The bits of all code points.
+    #[inline]
     pub(crate) fn finish(self) -> CodePointBits {
         let Filling {
             bits,

@@ -11,8 +11,7 @@ use crate::icu_zerovec::{CODE_POINT_LIMIT, MemoryError};
 /// A set of code points for many look-ups, each of which takes two loads and no search (ICU: a
 /// frozen UnicodeSet). It keeps the set beside a bit for each code point, in blocks of 256: 9 kB,
 /// and 32 bytes for each range, of 142 of them at most; more only where more blocks than that are
-/// neither empty nor full, and then 64 bytes for each of these at most. A clause sees
-/// the list of the set's ends.
+/// neither empty nor full, and then 64 bytes for each of these at most.
 ///
 /// ```ignore
 /// let letters = FrozenCodePointSet::try_freeze(&set)?;
@@ -55,6 +54,7 @@ impl FrozenCodePointSet {
     ///
     /// # Errors
     /// `MemoryError` where memory was refused.
+    #[inline]
     pub fn try_clone(&self) -> Result<FrozenCodePointSet, MemoryError> {
         Ok(FrozenCodePointSet {
             set: self.set.try_clone()?,
@@ -67,6 +67,7 @@ impl FrozenCodePointSet {
 /// What a frozen set holds.
 impl FrozenCodePointSet {
     /// The set itself.
+    #[inline]
     pub fn as_set(&self) -> &CodePointInversionList<'static> {
         &self.set
     }
@@ -151,6 +152,7 @@ impl FrozenCodePointSet {
     /// false, all not held: the start of its longest such tail (ICU: `UnicodeSet::spanBackUTF8`). A
     /// character starts there, or the text ends: so `&text[..set.span_back(text, true)]` is what
     /// stands before.
+    #[inline]
     pub fn span_back(&self, text: &str, held: bool) -> usize {
         let mut start = text.len();
         for c in text.chars().rev() {
@@ -166,6 +168,7 @@ impl FrozenCodePointSet {
 
 /// Equal exactly where the sets are: what each keeps beside its set follows from it.
 impl PartialEq for FrozenCodePointSet {
+    #[inline]
     fn eq(&self, other: &Self) -> bool {
         self.set == other.set
     }

@@ -7,7 +7,8 @@ use crate::icu_invlist::codepointinvlist::RangeOf;
 impl FrozenCodePointSet {
     /// Whether the range names a code point, and the set holds all that it names. The surrogates
     /// between two characters are named too. The set's ends are asked, by a search.
-    pub fn contains_range<R: RangeOf<char>>(&self, range: R) -> bool {
+    #[inline]
+    pub fn contains_range<R: core::ops::RangeBounds<char>>(&self, range: R) -> bool {
         self.as_set().contains_range(range)
     }
 }

@@ -12,8 +12,7 @@ pub struct Span<'t> {
 }
 
 /// The spans of a text, from its front on, as
-/// [`spans`](crate::icu_frozen_sets::frozen::FrozenCodePointSet::spans) gives them. A clause sees the text that is
-/// left, and the ends of the set.
+/// [`spans`](crate::icu_frozen_sets::frozen::FrozenCodePointSet::spans) gives them.
 #[derive(Debug)]
 pub struct Spans<'s, 't> {
     set: &'s FrozenCodePointSet,
@@ -21,6 +20,7 @@ pub struct Spans<'s, 't> {
 }
 
 /// The first span of a text, with what follows it. `None` exactly where the text is empty.
+#[inline]
 fn first_span<'t>(set: &FrozenCodePointSet, text: &'t str) -> Option<(Span<'t>, &'t str)> {
     let first = text.chars().next()?;
     let is_held = set.contains(first);
@@ -35,6 +35,7 @@ fn first_span<'t>(set: &FrozenCodePointSet, text: &'t str) -> Option<(Span<'t>, 
 impl<'s, 't> Iterator for Spans<'s, 't> {
     type Item = Span<'t>;
 
+    #[inline]
     fn next(&mut self) -> Option<Span<'t>> {
         let (span, rest) = first_span(self.set, self.rest)?;
         self.rest = rest;
@@ -53,6 +54,7 @@ impl FrozenCodePointSet {
     ///     // "ab" is held, ", " is not, "c" is
     /// }
     /// ```
+    #[inline]
     pub fn spans<'s, 't>(&'s self, text: &'t str) -> Spans<'s, 't> {
         Spans {
             set: self,

@@ -7,7 +7,7 @@ use crate::icu_text_sets::codepointinvliststringlist::CodePointInversionListAndS
 use crate::icu_zerovec::MemoryError;
 
 /// A set of code points and strings for many look-ups (ICU: a frozen UnicodeSet with strings): the
-/// set beside its code points, frozen. A clause sees the set's ends and strings.
+/// set beside its code points, frozen.
 ///
 /// ```ignore
 /// let words = FrozenCodePointSetAndStrings::try_freeze(&set)?;
@@ -26,6 +26,7 @@ impl FrozenCodePointSetAndStrings {
     ///
     /// # Errors
     /// `MemoryError` where memory was refused.
+    #[inline]
     pub fn try_freeze(
         set: &CodePointInversionListAndStringList<'_>,
     ) -> Result<FrozenCodePointSetAndStrings, MemoryError> {
@@ -40,6 +41,7 @@ impl FrozenCodePointSetAndStrings {
     ///
     /// # Errors
     /// `MemoryError` where memory was refused.
+    #[inline]
     pub fn try_clone(&self) -> Result<FrozenCodePointSetAndStrings, MemoryError> {
         let code_points = self.code_points.try_clone()?;
         Ok(FrozenCodePointSetAndStrings {
@@ -52,12 +54,14 @@ impl FrozenCodePointSetAndStrings {
 /// What a frozen set holds.
 impl FrozenCodePointSetAndStrings {
     /// The set itself.
+    #[inline]
     pub fn as_set(&self) -> &CodePointInversionListAndStringList<'static> {
         &self.set
     }
 
     /// Whether the set holds the text: one of exactly one character if that is among the code
     /// points, any other one if it is among the strings. A character takes no search.
+    #[inline]
     pub fn contains_str(&self, text: &str) -> bool {
         let mut chars = text.chars();
         match (chars.next(), chars.next()) {
@@ -81,6 +85,7 @@ impl FrozenCodePointSetAndStrings {
 
 /// Equal exactly where the sets are: what each keeps beside its set follows from it.
 impl PartialEq for FrozenCodePointSetAndStrings {
+    #[inline]
     fn eq(&self, other: &Self) -> bool {
         self.set == other.set
     }

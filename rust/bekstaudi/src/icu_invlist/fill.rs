@@ -39,6 +39,7 @@ fn narrowed(ends: &[u32], c: u32) -> (usize, usize) {
 
 /// How many ends stand below `c`. Past the last end, where ranges in order are added, nothing is
 /// searched.
+#[inline]
 fn count_below(ends: &[u32], c: u32) -> usize {
     let count = ends.len();
     if count > 0 && ends[count - 1] < c {
@@ -53,6 +54,7 @@ fn count_below(ends: &[u32], c: u32) -> usize {
 }
 
 /// The same, where at least `from` ends stand below `c`, and mostly no more.
+#[inline]
 fn count_below_from(ends: &[u32], from: usize, c: u32) -> usize {
     if from < ends.len() && c <= ends[from] {
         return from;
@@ -84,6 +86,7 @@ fn overwrite(
 }
 
 /// Puts two ends in at `place`. The ends from there on move once.
+#[inline]
 fn insert_two(ends: &mut Vec<u32>, place: usize, start: u32, end: u32) -> Result<(), MemoryError> {
     let count = ends.len();
     ends.try_extend_from_slice(&[start, end])?;
@@ -97,6 +100,7 @@ fn insert_two(ends: &mut Vec<u32>, place: usize, start: u32, end: u32) -> Result
 
 /// Gives all code points from `start` to before `end` the answer `value`. The list grows only where
 /// the range lies between two neighbouring ends and both borders are put in.
+#[inline]
 fn fill(ends: &mut Vec<u32>, start: u32, end: u32, value: bool) -> Result<(), MemoryError> {
     let lower = count_below(ends, start);
     let upper = count_below_from(ends, lower, end + 1);
@@ -112,6 +116,7 @@ fn fill(ends: &mut Vec<u32>, start: u32, end: u32, value: bool) -> Result<(), Me
 
 /// Takes out all code points from `start` to before `end`, of which one is an end of the code
 /// space, so that the list does not grow.
+#[inline]
 fn clear_side(ends: &mut Vec<u32>, start: u32, end: u32) {
     let lower = count_below(ends, start);
     let upper = count_below_from(ends, lower, end + 1);
@@ -127,6 +132,7 @@ fn clear_side(ends: &mut Vec<u32>, start: u32, end: u32) {
 }
 
 /// Keeps the code points from `start` to before `end` alone. It takes no memory.
+#[inline]
 pub(crate) fn retain(ends: &mut Vec<u32>, start: u32, end: u32) {
     let last = end.min(CODE_POINT_LIMIT);
     if start >= last {
@@ -142,6 +148,7 @@ pub(crate) fn retain(ends: &mut Vec<u32>, start: u32, end: u32) {
 }
 
 /// Adds the code points from `start` to before `end`.
+#[inline]
 pub(crate) fn add(ends: &mut Vec<u32>, start: u32, end: u32) -> Result<(), MemoryError> {
     let last = end.min(CODE_POINT_LIMIT);
     if start < last {
@@ -152,6 +159,7 @@ pub(crate) fn add(ends: &mut Vec<u32>, start: u32, end: u32) -> Result<(), Memor
 }
 
 /// Removes the code points from `start` to before `end`.
+#[inline]
 pub(crate) fn remove(ends: &mut Vec<u32>, start: u32, end: u32) -> Result<(), MemoryError> {
     let last = end.min(CODE_POINT_LIMIT);
     if start < last {
@@ -162,11 +170,13 @@ pub(crate) fn remove(ends: &mut Vec<u32>, start: u32, end: u32) -> Result<(), Me
 }
 
 /// Whether `x` is no end.
+#[inline]
 fn is_new(ends: &[u32], x: u32) -> bool {
     ends.binary_search(&x).is_err()
 }
 
 /// Puts `x` in if it is no end, for which there has to be room, and takes it out if it is one.
+#[inline]
 fn toggle(ends: &mut Vec<u32>, x: u32) {
     match ends.binary_search(&x) {
         Ok(place) => {
@@ -179,6 +189,7 @@ fn toggle(ends: &mut Vec<u32>, x: u32) {
 }
 
 /// Makes room for two ends more, where they are wanted.
+#[inline]
 fn reserve_two(ends: &mut Vec<u32>, wanted: bool) -> Result<(), MemoryError> {
     if wanted {
         ends.try_room(2)?;
@@ -188,6 +199,7 @@ fn reserve_two(ends: &mut Vec<u32>, wanted: bool) -> Result<(), MemoryError> {
 
 /// Flips the code points from `start` to before `end`. The list grows only where neither is an end:
 /// else the one that is an end is taken out first.
+#[inline]
 fn toggle_both(ends: &mut Vec<u32>, start: u32, end: u32) -> Result<(), MemoryError> {
     let new_start = is_new(ends, start);
     let new_end = is_new(ends, end);
@@ -204,6 +216,7 @@ fn toggle_both(ends: &mut Vec<u32>, start: u32, end: u32) -> Result<(), MemoryEr
 
 /// Flips the code points from `start` to before `end`: those that were in the set are not in it,
 /// and the others are.
+#[inline]
 pub(crate) fn flip(ends: &mut Vec<u32>, start: u32, end: u32) -> Result<(), MemoryError> {
     let last = end.min(CODE_POINT_LIMIT);
     if last <= start {

@@ -25,10 +25,12 @@ pub(crate) trait SetOperation {
 pub(crate) struct Union;
 
 impl SetOperation for Union {
+    #[inline]
     fn of(first: bool, second: bool) -> bool {
         first || second
     }
 
+    #[inline]
     fn of_range(ends: &mut Vec<u32>, start: u32, end: u32) -> Result<(), MemoryError> {
         fill::add(ends, start, end)
     }
@@ -38,10 +40,12 @@ impl SetOperation for Union {
 pub(crate) struct Difference;
 
 impl SetOperation for Difference {
+    #[inline]
     fn of(first: bool, second: bool) -> bool {
         first && !second
     }
 
+    #[inline]
     fn of_range(ends: &mut Vec<u32>, start: u32, end: u32) -> Result<(), MemoryError> {
         fill::remove(ends, start, end)
     }
@@ -51,10 +55,12 @@ impl SetOperation for Difference {
 pub(crate) struct Intersection;
 
 impl SetOperation for Intersection {
+    #[inline]
     fn of(first: bool, second: bool) -> bool {
         first && second
     }
 
+    #[inline]
     fn of_range(ends: &mut Vec<u32>, start: u32, end: u32) -> Result<(), MemoryError> {
         fill::retain(ends, start, end);
         Ok(())
@@ -65,10 +71,12 @@ impl SetOperation for Intersection {
 pub(crate) struct SymmetricDifference;
 
 impl SetOperation for SymmetricDifference {
+    #[inline]
     fn of(first: bool, second: bool) -> bool {
         first != second
     }
 
+    #[inline]
     fn of_range(ends: &mut Vec<u32>, start: u32, end: u32) -> Result<(), MemoryError> {
         fill::flip(ends, start, end)
     }
@@ -205,11 +213,13 @@ fn walk_both<O: SetOperation>(
 
 /// Where the rest of a list of this length starts: at the place, if the rest is wanted, and else
 /// there is none.
+#[inline]
 fn rest_from(wanted: bool, place: usize, len: usize) -> usize {
     if wanted { place } else { len }
 }
 
 /// The ends of the set that the operation gives of two sets, in room that is asked for once.
+#[inline]
 fn merge<O: SetOperation>(
     a: &[u32],
     b: &CodePointInversionList<'_>,
@@ -225,6 +235,7 @@ fn merge<O: SetOperation>(
 }
 
 /// Whether all ends of the list stand below those of the set: also where one of them has none.
+#[inline]
 fn stand_before(ends: &[u32], set: &CodePointInversionList<'_>) -> bool {
     let count = ends.len();
     let others = set.count();
@@ -235,6 +246,7 @@ fn stand_before(ends: &[u32], set: &CodePointInversionList<'_>) -> bool {
 }
 
 /// The same with the list and the set exchanged.
+#[inline]
 fn stand_past(ends: &[u32], set: &CodePointInversionList<'_>) -> bool {
     let count = ends.len();
     let others = set.count();
@@ -245,6 +257,7 @@ fn stand_past(ends: &[u32], set: &CodePointInversionList<'_>) -> bool {
 }
 
 /// What the operation leaves of a set that has no code point in common with the other one.
+#[inline]
 fn leave<O: SetOperation>(ends: &mut Vec<u32>) {
     if !O::of(true, false) {
         ends.clear();

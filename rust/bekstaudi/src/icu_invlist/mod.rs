@@ -22,3 +22,5 @@
 pub mod codepointinvlist;
 mod fill;
 mod merge;
+#[cfg(feature = "json")]
+mod spelling;

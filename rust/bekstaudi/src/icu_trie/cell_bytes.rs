@@ -56,6 +56,7 @@ impl<'trie, T: TrieValue> CodePointTrie<'trie, T> {
     ///
     /// Where each value of the type has one encoding, as in all types of this crate, they are the
     /// bytes that the value packs to.
+    #[inline]
     pub fn get32_ule(&self, c: u32) -> Option<&[u8]> {
         let place = cell_in(&self.header, self.index.as_slice(), self.data.as_slice(), c);
         bytes_at(&self.data, place.unwrap_or(self.data.len() - 1))

@@ -11,6 +11,7 @@ use crate::support::Brand;
 use crate::support::{Blank, Ledger};
 
 /// `is_coherent` over packed vectors, with a count in the ledger of `blank`.
+#[inline]
 fn is_coherent_counted<T: TrieValue, L: Ledger>(
     header: &CodePointTrieHeader,
     index: ZeroSlice<'_, u16>,
@@ -26,6 +27,7 @@ fn is_coherent_counted<T: TrieValue, L: Ledger>(
 }
 
 /// `is_coherent` over packed vectors. Counts in a ledger of its own, which is then dropped.
+#[inline]
 fn is_coherent_in<T: TrieValue>(
     header: &CodePointTrieHeader,
     index: ZeroSlice<'_, u16>,
@@ -61,6 +63,7 @@ impl<'trie, T: TrieValue> CodePointTrie<'trie, T> {
     /// throughout.
     ///
     /// It takes no memory, and reads a few cells for each aligned block, on whatever trie.
+    #[inline]
     pub fn is_coherent(&self) -> bool {
         is_coherent_in(&self.header, self.index.as_slice(), self.data.as_slice())
     }

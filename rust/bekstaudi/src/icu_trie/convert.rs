@@ -10,6 +10,7 @@ use crate::icu_zerovec::ZeroVec;
 use crate::icu_zerovec::ule::{AsULE, UleError};
 
 /// The value of the other type that has the same packed bytes. `None` where there is none.
+#[inline]
 fn same_packed<T: AsULE, P: AsULE>(value: T) -> Option<P> {
     value.shown();
     P::from_unaligned(&value.to_unaligned()[..P::WIDTH])
@@ -20,8 +21,6 @@ impl<'trie, T: TrieValue> CodePointTrie<'trie, T> {
     /// data are kept, borrowed or owned as they were, none of them copied. The header's null value
     /// becomes the other type's number for the same packed bytes.
     ///
-    /// The clauses speak of some bytes that give the values, which are known exactly where each
-    /// value has one encoding.
     ///
     /// # Errors
     /// In this order: `Width` where values of the two types take different numbers of bytes; `Cell`

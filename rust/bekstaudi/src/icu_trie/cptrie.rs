@@ -11,6 +11,7 @@ use crate::icu_trie_core::value::TrieValue;
 use crate::icu_zerovec::{MemoryError, ZeroSlice, ZeroVec};
 
 /// Whether a block of 64 that the fast index names ends outside data of this length.
+#[inline]
 fn fast_block_passes(trie_type: TrieType, index: ZeroSlice<'_, u16>, len: usize) -> bool {
     for i in 0..trie_type.fast_index_len() {
         if let Some(offset) = index.get(i) {
@@ -23,6 +24,7 @@ fn fast_block_passes(trie_type: TrieType, index: ZeroSlice<'_, u16>, len: usize)
 }
 
 /// Whether a number is the number of a value.
+#[inline]
 fn is_number_of_value<T: TrieValue>(number: u32) -> bool {
     T::try_from_u32(number).is_ok()
 }
@@ -30,9 +32,8 @@ fn is_number_of_value<T: TrieValue>(number: u32) -> bool {
 /// A map from all code points to values, kept in two packed vectors by the format of ICU's code
 /// point tries (UCPTrie).
 ///
-/// A clause sees its header, its index and its data. What a trie was tested for when it was made
-/// holds of it from then on, so every look-up is total: a trie from a stranger's file may answer
-/// nonsense, but it answers.
+/// What a trie was tested for when it was made holds of it from then on, so every look-up is total:
+/// a trie from a stranger's file may answer nonsense, but it answers.
 ///
 /// ```ignore
 /// let letters = build_from_writes(0u8, 9, TrieType::Small, &[Write::Range(0x41..=0x5A, 1)])?;
@@ -92,6 +93,7 @@ impl<'trie, T: TrieValue> CodePointTrie<'trie, T> {
     ///
     /// # Errors
     /// `Memory` where memory was refused; `Trie` with the error that `try_new` has for these parts.
+    #[inline]
     pub fn alloc_from_slices(
         header: CodePointTrieHeader,
         index: &[u16],
@@ -214,6 +216,7 @@ impl<'trie, T: TrieValue> CodePointTrie<'trie, T> {
 
     /// The header, and index and data lent: what the trie was made of by `try_new`, which takes
     /// them again.
+    #[inline]
     pub fn parts(&self) -> (CodePointTrieHeader, ZeroSlice<'_, u16>, ZeroSlice<'_, T>) {
         (self.header, self.index.as_slice(), self.data.as_slice())
     }
@@ -222,6 +225,7 @@ impl<'trie, T: TrieValue> CodePointTrie<'trie, T> {
     ///
     /// # Errors
     /// `MemoryError` where memory was refused.
+    #[inline]
     pub fn try_clone(&self) -> Result<CodePointTrie<'static, T>, MemoryError> {
         Ok(CodePointTrie {
             header: self.header,
@@ -239,6 +243,7 @@ impl<'trie, T: TrieValue> CodePointTrie<'trie, T> {
 
     /// The value whose number the header keeps as the null value. Which one that is in a built trie
     /// is left open.
+    #[inline]
     pub fn null_value(&self) -> T {
         match T::try_from_u32(self.header.null_value) {
             Ok(value) => value,

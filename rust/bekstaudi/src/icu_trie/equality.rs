@@ -5,6 +5,7 @@ use crate::icu_trie_core::header::CodePointTrieHeader;
 use crate::icu_trie_core::value::TrieValue;
 
 impl<'trie, T: TrieValue> PartialEq for CodePointTrie<'trie, T> {
+    #[inline]
     fn eq(&self, other: &Self) -> bool {
         self.header == other.header && self.index == other.index && self.data == other.data
     }

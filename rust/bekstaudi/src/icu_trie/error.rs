@@ -13,12 +13,14 @@ pub enum PartsError {
 }
 
 impl From<CodePointTrieError> for PartsError {
+    #[inline]
     fn from(error: CodePointTrieError) -> PartsError {
         PartsError::Trie(error)
     }
 }
 
 impl From<MemoryError> for PartsError {
+    #[inline]
     fn from(_error: MemoryError) -> PartsError {
         PartsError::Memory
     }
@@ -37,6 +39,7 @@ pub enum ConvertError {
 }
 
 impl core::fmt::Display for PartsError {
+    #[inline]
     fn fmt(&self, f: &mut core::fmt::Formatter<'_>) -> core::fmt::Result {
         match self {
             PartsError::Trie(_0) => write!(f, "{_0}"),
@@ -48,6 +51,7 @@ impl core::fmt::Display for PartsError {
 impl core::error::Error for PartsError {}
 
 impl core::fmt::Display for ConvertError {
+    #[inline]
     fn fmt(&self, f: &mut core::fmt::Formatter<'_>) -> core::fmt::Result {
         match self {
             ConvertError::Width => write!(f, "the values of the two types have different widths"),

@@ -20,6 +20,7 @@ pub struct RangeListIteratorCoalescer<I, U> {
 impl<I: Iterator<Item = CodePointMapRange<U>>, U: Eq> RangeListIteratorCoalescer<I, U> {
     /// The joined ranges of what `iter` gives. Once `iter` has answered `None` it is not asked
     /// again.
+    #[inline]
     pub fn new(iter: I) -> Self {
         Self {
             iter: iter.fuse(),
@@ -29,6 +30,7 @@ impl<I: Iterator<Item = CodePointMapRange<U>>, U: Eq> RangeListIteratorCoalescer
 }
 
 /// Whether `next` starts right after `range` and has an equal value.
+#[inline]
 fn is_continued<U: Eq>(range: &CodePointMapRange<U>, next: &CodePointMapRange<U>) -> bool {
     let last = *range.range.end();
     last < u32::MAX && *next.range.start() == last + 1 && next.value == range.value

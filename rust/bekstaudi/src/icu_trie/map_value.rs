@@ -21,6 +21,7 @@ pub enum MapError<E> {
 
 /// The closure's error as that is shown, or `no memory`.
 impl<E: fmt::Display> fmt::Display for MapError<E> {
+    #[inline]
     fn fmt(&self, f: &mut fmt::Formatter<'_>) -> fmt::Result {
         match self {
             MapError::Closure(error) => error.fmt(f),
@@ -32,24 +33,28 @@ impl<E: fmt::Display> fmt::Display for MapError<E> {
 impl<E: fmt::Debug + fmt::Display> Error for MapError<E> {}
 
 impl<E> From<AllocError> for MapError<E> {
+    #[inline]
     fn from(_error: AllocError) -> MapError<E> {
         MapError::Memory
     }
 }
 
 impl<T, E> From<AllocFailed<T>> for MapError<E> {
+    #[inline]
     fn from(_error: AllocFailed<T>) -> MapError<E> {
         MapError::Memory
     }
 }
 
 impl<E> From<MemoryError> for MapError<E> {
+    #[inline]
     fn from(_error: MemoryError) -> MapError<E> {
         MapError::Memory
     }
 }
 
 /// The answers of a closure at these values in turn. After the first refusal it is not called.
+#[inline]
 fn map_cells<T: AsULE, P, E, F: FnMut(T) -> Result<P, E>>(
     values: ZeroSlice<'_, T>,
     mut f: F,
@@ -99,6 +104,7 @@ impl<'trie, T: TrieValue> CodePointTrie<'trie, T> {
         };
         let values = map_cells(self.data.as_slice(), f)?;
         let data = ZeroVec::alloc_from_slice(&values)?;
+        assert_eq!(data.len(), self.data.len());
         let index = self.index.try_clone()?;
         null.shown();
         Ok(CodePointTrie::with_data(self.header, index, data, null))

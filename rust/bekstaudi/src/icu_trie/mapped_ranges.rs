@@ -18,6 +18,7 @@ impl<'trie, T: TrieValue> CodePointTrie<'trie, T> {
     ///     // the code points that have the value 0, and those that don't, in turn
     /// }
     /// ```
+    #[inline]
     pub fn iter_ranges_mapped<U: Eq, F: Fn(T) -> U>(
         &self,
         map: F,
@@ -42,6 +43,7 @@ pub struct MappedRanges<'a, T: TrieValue, F> {
 impl<'a, T: TrieValue, U, F: Fn(T) -> U> Iterator for MappedRanges<'a, T, F> {
     type Item = CodePointMapRange<U>;
 
+    #[inline]
     fn next(&mut self) -> Option<CodePointMapRange<U>> {
         let range = self.ranges.next()?;
         Some(CodePointMapRange {
@@ -61,6 +63,7 @@ pub struct IterRangesMapped<'a, T: TrieValue, U, F> {
 impl<'a, T: TrieValue, U: Eq, F: Fn(T) -> U> Iterator for IterRangesMapped<'a, T, U, F> {
     type Item = CodePointMapRange<U>;
 
+    #[inline]
     fn next(&mut self) -> Option<CodePointMapRange<U>> {
         self.ranges.next()
     }

@@ -29,6 +29,7 @@ impl<'trie, T: TrieValue> CodePointTrie<'trie, T> {
     ///     // 0..=0x40 with 0, then 0x41..=0x5A with 1, then 0x5B..=0x10FFFF with 0
     /// }
     /// ```
+    #[inline]
     pub fn iter_ranges(&self) -> CodePointMapRangeIterator<'_, T> {
         CodePointMapRangeIterator {
             trie: self,
@@ -66,6 +67,7 @@ impl<'trie, T: TrieValue> CodePointTrie<'trie, T> {
     /// let letters = trie.try_get_set_for_value(1)?;
     /// // letters.contains32(0x5A) is true, and letters.contains32(0x5B) is false
     /// ```
+    #[inline]
     pub fn try_get_set_for_value(
         &self,
         value: T,

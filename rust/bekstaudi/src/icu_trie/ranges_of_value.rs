@@ -10,6 +10,7 @@ impl<'trie, T: TrieValue> CodePointTrie<'trie, T> {
     ///
     /// Over a coherent trie, as every built one is, these are the maximal runs of the value. Where
     /// no code point has it there is none.
+    #[inline]
     pub fn iter_ranges_for_value(&self, value: T) -> IterRangesForValue<'_, T> {
         IterRangesForValue {
             ranges: self.iter_ranges(),
@@ -28,6 +29,7 @@ pub struct IterRangesForValue<'a, T: TrieValue> {
 impl<'a, T: TrieValue> Iterator for IterRangesForValue<'a, T> {
     type Item = RangeInclusive<u32>;
 
+    #[inline]
     fn next(&mut self) -> Option<RangeInclusive<u32>> {
         while let Some(range) = self.ranges.next() {
             if range.value == self.value {

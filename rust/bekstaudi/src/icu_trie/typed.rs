@@ -25,8 +25,7 @@ use crate::icu_trie_core::value::TrieValue;
 /// }
 /// ```
 ///
-/// A type of your own is lawful where the type of its trie is the constant: contracts name it
-/// `trie_type`, since they can't name a constant of a type that borrows.
+/// A type of your own is lawful where the type of its trie is the constant.
 pub trait TypedCodePointTrie<'trie, T: TrieValue> {
     /// The type of the trie.
     const TRIE_TYPE: TrieType;
@@ -79,8 +78,6 @@ fn fast_value_of<T: TrieValue>(
 }
 
 /// A trie of the type `Fast`: all of the basic multilingual plane is looked up in two reads.
-///
-/// A clause sees it as its trie.
 #[derive(Debug)]
 pub struct FastCodePointTrie<'trie, T: TrieValue> {
     inner: CodePointTrie<'trie, T>,
@@ -125,8 +122,6 @@ impl<'trie, T: TrieValue> TypedCodePointTrie<'trie, T> for FastCodePointTrie<'tr
 }
 
 /// A trie of the type `Small`: code points below 0x1000 are looked up in two reads.
-///
-/// A clause sees it as its trie.
 #[derive(Debug)]
 pub struct SmallCodePointTrie<'trie, T: TrieValue> {
     inner: CodePointTrie<'trie, T>,
@@ -185,6 +180,7 @@ pub struct TypedCodePointTrieError;
 
 impl<'trie, T: TrieValue> CodePointTrie<'trie, T> {
     /// The trie, as one whose type is known.
+    #[inline]
     pub fn to_typed(self) -> Typed<FastCodePointTrie<'trie, T>, SmallCodePointTrie<'trie, T>> {
         match self.header.trie_type {
             TrieType::Fast => Typed::Fast(FastCodePointTrie { inner: self }),
@@ -193,11 +189,13 @@ impl<'trie, T: TrieValue> CodePointTrie<'trie, T> {
     }
 
     /// The trie, as one whose type is known, which borrows its index and its data from this one.
+    #[inline]
     pub fn as_typed_ref(&self) -> Typed<FastCodePointTrie<'_, T>, SmallCodePointTrie<'_, T>> {
         self.lent().to_typed()
     }
 
     /// An equal trie that borrows its index and its data from this one.
+    #[inline]
     pub(crate) fn lent(&self) -> CodePointTrie<'_, T> {
         CodePointTrie {
             header: self.header,
@@ -212,6 +210,7 @@ impl<'trie, T: TrieValue> CodePointTrie<'trie, T> {
 impl<'trie, T: TrieValue> TryFrom<CodePointTrie<'trie, T>> for FastCodePointTrie<'trie, T> {
     type Error = TypedCodePointTrieError;
 
+    #[inline]
     fn try_from(trie: CodePointTrie<'trie, T>) -> Result<Self, TypedCodePointTrieError> {
         match trie.to_typed() {
             Typed::Fast(trie) => Ok(trie),
@@ -224,6 +223,7 @@ impl<'trie, T: TrieValue> TryFrom<CodePointTrie<'trie, T>> for FastCodePointTrie
 impl<'a, 'trie, T: TrieValue> TryFrom<&'a CodePointTrie<'trie, T>> for FastCodePointTrie<'a, T> {
     type Error = TypedCodePointTrieError;
 
+    #[inline]
     fn try_from(trie: &'a CodePointTrie<'trie, T>) -> Result<Self, TypedCodePointTrieError> {
         match trie.as_typed_ref() {
             Typed::Fast(trie) => Ok(trie),
@@ -236,6 +236,7 @@ impl<'a, 'trie, T: TrieValue> TryFrom<&'a CodePointTrie<'trie, T>> for FastCodeP
 impl<'trie, T: TrieValue> TryFrom<CodePointTrie<'trie, T>> for SmallCodePointTrie<'trie, T> {
     type Error = TypedCodePointTrieError;
 
+    #[inline]
     fn try_from(trie: CodePointTrie<'trie, T>) -> Result<Self, TypedCodePointTrieError> {
         match trie.to_typed() {
             Typed::Fast(_) => Err(TypedCodePointTrieError),
@@ -248,6 +249,7 @@ impl<'trie, T: TrieValue> TryFrom<CodePointTrie<'trie, T>> for SmallCodePointTri
 impl<'a, 'trie, T: TrieValue> TryFrom<&'a CodePointTrie<'trie, T>> for SmallCodePointTrie<'a, T> {
     type Error = TypedCodePointTrieError;
 
+    #[inline]
     fn try_from(trie: &'a CodePointTrie<'trie, T>) -> Result<Self, TypedCodePointTrieError> {
         match trie.as_typed_ref() {
             Typed::Fast(_) => Err(TypedCodePointTrieError),
@@ -257,6 +259,7 @@ impl<'a, 'trie, T: TrieValue> TryFrom<&'a CodePointTrie<'trie, T>> for SmallCode
 }
 
 impl core::fmt::Display for TypedCodePointTrieError {
+    #[inline]
     fn fmt(&self, f: &mut core::fmt::Formatter<'_>) -> core::fmt::Result {
         match self {
             TypedCodePointTrieError => write!(f, "the trie is of the other type"),

@@ -11,6 +11,7 @@ use crate::icu_zerovec::ule::UleError;
 use crate::icu_zerovec::{ZeroSlice, ZeroVec};
 
 /// The index, read in place.
+#[inline]
 fn index_of<'a>(bytes: &'a [u8], header: &BinaryHeader) -> ZeroVec<'a, u16> {
     let index = &bytes[HEADER_SIZE..HEADER_SIZE + 2 * header.index_length as usize];
     match ZeroVec::parse_bytes(index) {
@@ -20,6 +21,7 @@ fn index_of<'a>(bytes: &'a [u8], header: &BinaryHeader) -> ZeroVec<'a, u16> {
 }
 
 /// The bytes of the data.
+#[inline]
 fn data_bytes<'a>(bytes: &'a [u8], header: &BinaryHeader) -> &'a [u8] {
     let cells = &bytes[HEADER_SIZE..];
     let data = &cells[2 * header.index_length as usize..];
@@ -28,6 +30,7 @@ fn data_bytes<'a>(bytes: &'a [u8], header: &BinaryHeader) -> &'a [u8] {
 
 /// The number of the null value: that of the cell where its block begins, or of the high value
 /// where there is no such block.
+#[inline]
 fn null_number<T: TrieValue>(header: &BinaryHeader, values: ZeroSlice<'_, T>) -> u32 {
     let place = if header.data_null_offset < header.data_length {
         header.data_null_offset
@@ -41,6 +44,7 @@ fn null_number<T: TrieValue>(header: &BinaryHeader, values: ZeroSlice<'_, T>) ->
 }
 
 /// The header of a trie of these values.
+#[inline]
 fn trie_header<T: TrieValue>(header: &BinaryHeader, values: ZeroSlice<'_, T>) -> CodePointTrieHeader {
     let high_start = u32::from(header.shifted_high_start) * 0x200;
     CodePointTrieHeader {
@@ -69,6 +73,7 @@ fn trie_header<T: TrieValue>(header: &BinaryHeader, values: ZeroSlice<'_, T>) ->
 /// The first cause in the order of [`BinaryError`]: `Short`, `Swapped`, `Signature`, `UnknownType`,
 /// `UnknownWidth`, `Reserved`, `OtherWidth` where a value of `T` takes another number of bytes,
 /// `CutOff`, `Cell`, and `Trie` where `CodePointTrie::try_new` refuses the parts.
+#[inline]
 pub fn from_binary<'a, T: TrieValue>(
     bytes: &'a [u8],
 ) -> Result<(CodePointTrie<'a, T>, usize), BinaryError> {

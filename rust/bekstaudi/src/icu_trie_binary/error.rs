@@ -28,6 +28,7 @@ pub enum BinaryError {
 }
 
 impl From<CodePointTrieError> for BinaryError {
+    #[inline]
     fn from(error: CodePointTrieError) -> BinaryError {
         BinaryError::Trie(error)
     }

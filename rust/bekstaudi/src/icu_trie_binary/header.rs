@@ -22,6 +22,7 @@ pub(crate) enum ValueWidth {
 
 impl ValueWidth {
     /// How many bytes a value takes: 2, 4 or 1.
+    #[inline]
     pub(crate) fn bytes(self) -> usize {
         match self {
             ValueWidth::Bits16 => 2,
@@ -47,16 +48,19 @@ pub(crate) struct BinaryHeader {
 }
 
 /// The number of 16 bits whose lower byte is byte `i`.
+#[inline]
 fn u16_at(bytes: &[u8], i: usize) -> u16 {
     u16::from_le_bytes([bytes[i], bytes[i + 1]])
 }
 
 /// The signature, whether or not it is that of a trie.
+#[inline]
 fn signature_of(bytes: &[u8]) -> u32 {
     u32::from(u16_at(bytes, 0)) + u32::from(u16_at(bytes, 2)) * 0x1_0000
 }
 
 /// There are a header's bytes, with the signature of a trie.
+#[inline]
 fn signed(bytes: &[u8]) -> Result<(), BinaryError> {
     if bytes.len() < HEADER_SIZE {
         return Err(BinaryError::Short);
@@ -69,6 +73,7 @@ fn signed(bytes: &[u8]) -> Result<(), BinaryError> {
 }
 
 /// The type that the options say.
+#[inline]
 fn type_of(options: u16) -> Option<TrieType> {
     match options / 0x40 % 4 {
         0 => Some(TrieType::Fast),
@@ -78,6 +83,7 @@ fn type_of(options: u16) -> Option<TrieType> {
 }
 
 /// The width that the options say.
+#[inline]
 fn width_of(options: u16) -> Option<ValueWidth> {
     match options % 8 {
         0 => Some(ValueWidth::Bits16),
@@ -88,6 +94,7 @@ fn width_of(options: u16) -> Option<ValueWidth> {
 }
 
 /// The header of this type and width, with the numbers that the bytes have.
+#[inline]
 fn fields_of(bytes: &[u8], trie_type: TrieType, value_width: ValueWidth) -> BinaryHeader {
     let options = u32::from(u16_at(bytes, 4));
     BinaryHeader {
@@ -118,6 +125,7 @@ pub(crate) fn header_of(bytes: &[u8]) -> Result<BinaryHeader, BinaryError> {
 }
 
 /// How many bytes header, index and data take.
+#[inline]
 fn stored_length(header: &BinaryHeader) -> usize {
     let index = 2 * header.index_length as usize;
     let data = header.value_width.bytes() * header.data_length as usize;

@@ -15,6 +15,7 @@ use crate::icu_trie_map::number_map::NumberMap;
 use crate::support::{AllocError};
 
 /// The value of each number, where each is a value's.
+#[inline]
 fn values_of<T: TrieValue>(numbers: &[u32]) -> Result<Vec<T>, AllocError> {
     let mut values = Vec::with_room(numbers.len())?;
     for number in numbers {
@@ -27,6 +28,7 @@ fn values_of<T: TrieValue>(numbers: &[u32]) -> Result<Vec<T>, AllocError> {
 }
 
 /// The trie of these values, from that of their numbers.
+#[inline]
 fn trie_of<T: TrieValue>(
     trie: NumberTrie,
 ) -> Result<CodePointTrie<'static, T>, BuildError> {
@@ -39,6 +41,7 @@ fn trie_of<T: TrieValue>(
 }
 
 /// The trie of a map that is given by the number of each code point's value.
+#[inline]
 fn build_map<T: TrieValue>(
     numbers: &NumberMap,
     default: T,
@@ -64,6 +67,7 @@ impl<T: TrieValue> CodePointTrieBuilder<T> {
     /// index-3 block's offset would reach 0x7fff, which takes more than 800 different aligned
     /// blocks of 512 values, or more than 12,000 of 16. `BuildError::Memory` where memory was
     /// refused. The builder is consumed in both cases.
+    #[inline]
     pub fn try_build(self) -> Result<CodePointTrie<'static, T>, BuildError> {
         build_map(
             &self.numbers,
@@ -87,6 +91,7 @@ impl<T: TrieValue> CodePointTrieBuilder<T> {
 /// `BuildError::TooLarge` and `BuildError::Memory` as for [`CodePointTrieBuilder::build`]; `Memory`
 /// too where a write was refused, and `TooLarge` only where none was, and never after at most 256
 /// accepted writes.
+#[inline]
 pub fn try_build_from_writes<T: TrieValue>(
     default: T,
     error: T,

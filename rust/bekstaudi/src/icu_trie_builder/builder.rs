@@ -12,8 +12,6 @@ use core::ops::RangeInclusive;
 /// A map from code points to values that can be written to, and then built into a trie
 /// (UMutableCPTrie).
 ///
-/// A clause sees the value of each code point, the default, the error value and the type of the
-/// trie to build.
 ///
 /// ```ignore
 /// let mut builder = CodePointTrieBuilder::new(0u8, 9, TrieType::Fast);
@@ -29,11 +27,12 @@ pub struct CodePointTrieBuilder<T: TrieValue> {
     pub(crate) default: T,
     pub(crate) error: T,
     pub(crate) trie_type: TrieType,
-    }
+}
 
 impl<T: TrieValue> CodePointTrieBuilder<T> {
     /// The map that has the default at every code point. It takes no memory; that is left to
     /// the calls that do.
+    #[inline]
     pub fn new(default: T, error: T, trie_type: TrieType) -> Self {
         default.shown();
         error.shown();
@@ -42,7 +41,7 @@ impl<T: TrieValue> CodePointTrieBuilder<T> {
             default,
             error,
             trie_type,
-            }
+        }
     }
 
     /// Gives the code point `c` this value. A number above 0x10FFFF writes nothing.
@@ -55,6 +54,7 @@ impl<T: TrieValue> CodePointTrieBuilder<T> {
     /// # Errors
     /// `MemoryError` where memory for the cells was refused, which only a write can meet that is
     /// accepted. The map stays as it was.
+    #[inline]
     pub fn try_set_value(&mut self, c: u32, value: T) -> Result<(), MemoryError> {
         self.try_set_range_value(c..=c, value)
     }
@@ -95,6 +95,7 @@ impl<T: TrieValue> CodePointTrieBuilder<T> {
     /// # Errors
     /// `ApplyRefused` with the place of the first write that memory was refused for. The writes
     /// before it are made then, and no other.
+    #[inline]
     pub fn apply(&mut self, writes: &[Write<T>]) -> Result<(), ApplyRefused> {
         for (i, write) in writes.iter().enumerate() {
             if self.write(write).is_err() {
@@ -105,6 +106,7 @@ impl<T: TrieValue> CodePointTrieBuilder<T> {
     }
 
     /// Makes one write.
+    #[inline]
     fn write(&mut self, write: &Write<T>) -> Result<(), MemoryError> {
         match write {
             Write::One(c, value) => self.try_set_value(*c, *value),

@@ -30,6 +30,7 @@ pub(crate) struct PlacedData {
 }
 
 /// The offsets of all blocks of 64, where `rest` has those of the third and the following.
+#[inline]
 fn with_first_offsets(rest: &[u32]) -> Result<Vec<u32>, AllocError> {
     let mut fast = Vec::with_room(rest.len() + 2)?;
     fast.try_push(0)?;
@@ -39,6 +40,7 @@ fn with_first_offsets(rest: &[u32]) -> Result<Vec<u32>, AllocError> {
 }
 
 /// Appends the high value to the data, where it is not their last cell already.
+#[inline]
 fn push_high(values: &mut Vec<u32>, high: u32) -> Result<(), AllocError> {
     if values[values.len() - 1] == high {
         return Ok(());
@@ -48,6 +50,7 @@ fn push_high(values: &mut Vec<u32>, high: u32) -> Result<(), AllocError> {
 }
 
 /// Appends the high value and the error value to the data, where they do not end so already.
+#[inline]
 fn push_end(values: &mut Vec<u32>, high: u32, error: u32) -> Result<(), AllocError> {
     let len = values.len();
     if values[len - 2] == high && values[len - 1] == error {
@@ -59,6 +62,7 @@ fn push_end(values: &mut Vec<u32>, high: u32, error: u32) -> Result<(), AllocErr
 }
 
 /// The null block, and an offset that no block has where there is none.
+#[inline]
 fn null_or(null: Option<NullBlock>, default: u32) -> NullBlock {
     match null {
         Some(null) => null,

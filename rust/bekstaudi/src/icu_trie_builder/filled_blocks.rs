@@ -29,6 +29,7 @@ pub(crate) fn filled_places(
 
 /// The first of these places whose cell is that at `at`, where 16 cells from there on are equal,
 /// else `at`.
+#[inline]
 fn shared_place(cells: &[u32], places: &[u32], at: u32) -> u32 {
     if !is_filled(cells, at as usize, SMALL_BLOCK) {
         return at;
@@ -43,6 +44,7 @@ fn shared_place(cells: &[u32], places: &[u32], at: u32) -> u32 {
 
 /// Gives each block of 16 that holds one number the first of these places that has it, if there is
 /// one.
+#[inline]
 pub(crate) fn share_filled(cells: &[u32], places: &[u32], small: &mut [u32]) {
     let mut from = NO_OFFSET;
     let mut to = NO_OFFSET;

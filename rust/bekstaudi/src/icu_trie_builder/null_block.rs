@@ -28,6 +28,7 @@ pub(crate) enum FilledBlock {
 }
 
 /// Whether the `size` cells from place `at` on are this number.
+#[inline]
 fn is_filled_with(cells: &[u32], at: usize, size: usize, value: u32) -> bool {
     for i in 0..size {
         if cells[at + i] != value {
@@ -38,11 +39,13 @@ fn is_filled_with(cells: &[u32], at: usize, size: usize, value: u32) -> bool {
 }
 
 /// Whether the `size` cells from place `at` on are equal.
+#[inline]
 pub(crate) fn is_filled(cells: &[u32], at: usize, size: usize) -> bool {
     is_filled_with(cells, at, size, cells[at])
 }
 
 /// Whether this number is wanted, which any is where none is named.
+#[inline]
 fn is_wanted(wanted: Option<u32>, value: u32) -> bool {
     match wanted {
         None => true,
@@ -52,6 +55,7 @@ fn is_wanted(wanted: Option<u32>, value: u32) -> bool {
 
 /// The first of the blocks of `size` cells at these offsets that holds one number, and the wanted
 /// one, if one is named.
+#[inline]
 fn find_filled(cells: &[u32], offsets: &[u32], size: usize, wanted: Option<u32>) -> Option<usize> {
     for (number, at) in offsets.iter().enumerate() {
         let at = *at as usize;
@@ -81,6 +85,7 @@ fn find_either(
 
 /// A block that holds one number, where there is one: one that is used much, and of 64 if one of
 /// these holds that number.
+#[inline]
 fn choose(
     cells: &[u32],
     fast: &[u32],
@@ -94,6 +99,7 @@ fn choose(
 }
 
 /// Whether `at` is one of the offsets.
+#[inline]
 fn is_taken(taken: &[u32], at: usize) -> bool {
     for offset in taken {
         if *offset as usize == at {
@@ -104,6 +110,7 @@ fn is_taken(taken: &[u32], at: usize) -> bool {
 }
 
 /// A place from `from` on at which 16 cells are this number, and which is none of `taken`.
+#[inline]
 fn find_apart(cells: &[u32], value: u32, from: usize, taken: &[u32]) -> Option<usize> {
     for at in from..cells.len().saturating_sub(SMALL_BLOCK - 1) {
         if is_filled_with(cells, at, SMALL_BLOCK, value) && !is_taken(taken, at) {
@@ -114,6 +121,7 @@ fn find_apart(cells: &[u32], value: u32, from: usize, taken: &[u32]) -> Option<u
 }
 
 /// How many cells at the end are this number, 15 at most.
+#[inline]
 fn filled_tail(cells: &[u32], value: u32) -> usize {
     let most = cells.len().min(SMALL_BLOCK - 1);
     let mut count = 0;
@@ -145,6 +153,7 @@ fn settle(
 }
 
 /// Writes `to` in the place of each `from`.
+#[inline]
 fn rename(offsets: &mut [u32], from: u32, to: u32) {
     for offset in offsets.iter_mut() {
         if *offset == from {
@@ -155,6 +164,7 @@ fn rename(offsets: &mut [u32], from: u32, to: u32) {
 
 /// The null block at block number `number` of 64, which holds one number. The blocks of 16 that
 /// hold it get its offset too.
+#[inline]
 fn null_of_fast(cells: &[u32], fast: &[u32], small: &mut [u32], number: usize) -> NullBlock {
     let offset = fast[number];
     let value = cells[offset as usize];

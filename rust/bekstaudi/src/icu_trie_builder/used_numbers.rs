@@ -18,6 +18,7 @@ struct Use {
 }
 
 /// The place of a number that is used least.
+#[inline]
 fn least_used(uses: &[Use]) -> usize {
     let mut least = 0;
     for i in 0..uses.len() {
@@ -46,6 +47,7 @@ fn add_use(uses: &mut Vec<Use>, value: u32, blocks: usize) -> Result<(), AllocEr
 }
 
 /// Counts the `count` blocks of `size` cells at one offset, where they hold one number.
+#[inline]
 fn add_blocks(
     uses: &mut Vec<Use>,
     cells: &[u32],

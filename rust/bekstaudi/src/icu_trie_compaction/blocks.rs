@@ -7,12 +7,14 @@ use crate::icu_trie_compaction::hashing::hash_of;
 use crate::icu_trie_compaction::window_table::WindowTable;
 
 /// Block number `number` of `size` cells.
+#[inline]
 pub(crate) fn block_at(cells: &[u32], size: usize, number: usize) -> &[u32] {
     &cells[size * number..size * number + size]
 }
 
 /// The length of the longest tail of `stored`, shorter than `wanted`, that equals the front of
 /// `wanted`.
+#[inline]
 fn overlap(stored: &[u32], wanted: &[u32]) -> usize {
     let mut common = (wanted.len() - 1).min(stored.len());
     while common > 0 {

@@ -14,30 +14,35 @@ pub enum BuildError {
 }
 
 impl From<AllocError> for BuildError {
+    #[inline]
     fn from(_error: AllocError) -> BuildError {
         BuildError::Memory
     }
 }
 
 impl<T> From<AllocFailed<T>> for BuildError {
+    #[inline]
     fn from(_error: AllocFailed<T>) -> BuildError {
         BuildError::Memory
     }
 }
 
 impl From<MemoryError> for BuildError {
+    #[inline]
     fn from(_error: MemoryError) -> BuildError {
         BuildError::Memory
     }
 }
 
 impl From<ApplyRefused> for BuildError {
+    #[inline]
     fn from(_error: ApplyRefused) -> BuildError {
         BuildError::Memory
     }
 }
 
 impl core::fmt::Display for BuildError {
+    #[inline]
     fn fmt(&self, f: &mut core::fmt::Formatter<'_>) -> core::fmt::Result {
         match self {
             BuildError::TooLarge => write!(f, "too large"),

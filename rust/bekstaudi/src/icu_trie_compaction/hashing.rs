@@ -5,6 +5,7 @@
 const FACTOR: u32 = 0x9e37_79b1;
 
 /// The hash of some cells.
+#[inline]
 pub(crate) fn hash_of(cells: &[u32]) -> u32 {
     let mut hash = 0u32;
     for cell in cells {
@@ -14,6 +15,7 @@ pub(crate) fn hash_of(cells: &[u32]) -> u32 {
 }
 
 /// What a cell that leaves a window of `size` cells is multiplied by.
+#[inline]
 pub(crate) fn leaving_factor_of(size: usize) -> u32 {
     let mut factor = u32::MAX;
     for _ in 0..size {
@@ -23,6 +25,7 @@ pub(crate) fn leaving_factor_of(size: usize) -> u32 {
 }
 
 /// The hash of the window after the one at `at`, where there is one, from that one's hash.
+#[inline]
 pub(crate) fn hash_after(cells: &[u32], at: usize, size: usize, leaving: u32, hash: u32) -> u32 {
     if at + size >= cells.len() {
         return hash;

@@ -25,6 +25,7 @@ pub struct BuiltIndex {
 }
 
 /// Appends the fast index, the offsets of the blocks of 64, to `index`.
+#[inline]
 fn push_fast(index: &mut Vec<u16>, fast: &[u32]) -> Result<(), AllocError> {
     for offset in fast {
         index.try_push(*offset as u16)?;
@@ -33,6 +34,7 @@ fn push_fast(index: &mut Vec<u16>, fast: &[u32]) -> Result<(), AllocError> {
 }
 
 /// Appends the index-1 cells to `index`, for index-2 blocks at these places from `start` on.
+#[inline]
 fn push_index1(index: &mut Vec<u16>, start: usize, places: &[usize]) -> Result<(), AllocError> {
     for place in places {
         index.try_push((start + *place) as u16)?;
@@ -41,6 +43,7 @@ fn push_index1(index: &mut Vec<u16>, start: usize, places: &[usize]) -> Result<(
 }
 
 /// Appends the cells of the index-3 and index-2 blocks to `index`.
+#[inline]
 fn push_stored(index: &mut Vec<u16>, cells: &[u32]) -> Result<(), AllocError> {
     for cell in cells {
         index.try_push(*cell as u16)?;
@@ -49,6 +52,7 @@ fn push_stored(index: &mut Vec<u16>, cells: &[u32]) -> Result<(), AllocError> {
 }
 
 /// The cells, with 32 bits each.
+#[inline]
 fn widened(cells: &[u16]) -> Result<Vec<u32>, AllocError> {
     let mut wide = Vec::with_room(cells.len())?;
     for cell in cells {
@@ -58,6 +62,7 @@ fn widened(cells: &[u16]) -> Result<Vec<u32>, AllocError> {
 }
 
 /// Whether all offsets of block number `number` of 32 are `null`.
+#[inline]
 fn is_null(offsets: &[u32], null: usize, number: usize) -> bool {
     for i in 0..INDEX_3_BLOCK {
         if offsets[INDEX_3_BLOCK * number + i] as usize != null {
@@ -68,6 +73,7 @@ fn is_null(offsets: &[u32], null: usize, number: usize) -> bool {
 }
 
 /// The first block of 32 offsets all of which are `null`.
+#[inline]
 fn null_block(offsets: &[u32], null: usize) -> Option<usize> {
     for number in 0..offsets.len() / INDEX_3_BLOCK {
         if is_null(offsets, null, number) {
@@ -79,6 +85,7 @@ fn null_block(offsets: &[u32], null: usize) -> Option<usize> {
 
 /// The index-2 cell, of these, of the first block of 32 offsets all of which are `null`, 0x7fff
 /// where there is none.
+#[inline]
 fn null_cell(small: &[u32], null: usize, cells: &[u32]) -> u16 {
     match null_block(small, null) {
         Some(number) => cells[number] as u16,

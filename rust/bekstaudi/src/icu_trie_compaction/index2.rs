@@ -15,6 +15,7 @@ const MOST_CELLS: usize = 0x10000;
 
 /// The index-2 cells with `count` before them that no look-up reads: cells like the first one, so
 /// that they share most places.
+#[inline]
 pub(crate) fn with_unread(
     cells: &[u32],
     count: usize,

@@ -28,6 +28,7 @@ pub(crate) struct Tables {
 
 impl Tables {
     /// The tables of the windows of this fast index, and of no other cell.
+    #[inline]
     fn new(fast: &[u32]) -> Result<Tables, AllocError> {
         let mut in_fast = WindowTable::for_cells(INDEX_3_BLOCK, fast.len())?;
         in_fast.enter_all(fast)?;
@@ -40,6 +41,7 @@ impl Tables {
 }
 
 /// Whether all offsets have 16 bits.
+#[inline]
 fn fit_16_bits(offsets: &[u32]) -> bool {
     for offset in offsets {
         if *offset >= 0x10000 {

@@ -5,11 +5,13 @@ use crate::support::prelude::*;
 use crate::support::{AllocError};
 
 /// The two high bits of an offset.
+#[inline]
 fn upper_bits(offsets: &[u32], i: usize) -> u32 {
     offsets[i] / 0x10000
 }
 
 /// The cell with the high bits of the eight offsets from `at` on, the first one's at its top.
+#[inline]
 fn high_cell(offsets: &[u32], at: usize) -> u32 {
     let front = upper_bits(offsets, at) * 0x4000
         + upper_bits(offsets, at + 1) * 0x1000
@@ -23,6 +25,7 @@ fn high_cell(offsets: &[u32], at: usize) -> u32 {
 }
 
 /// Appends the nine cells of the eight offsets from `8 * group` on to `packed`.
+#[inline]
 fn push_group(packed: &mut Vec<u32>, offsets: &[u32], group: usize) -> Result<(), AllocError> {
     packed.try_push(high_cell(offsets, 8 * group))?;
     for q in 0..8 {
@@ -32,6 +35,7 @@ fn push_group(packed: &mut Vec<u32>, offsets: &[u32], group: usize) -> Result<()
 }
 
 /// The offsets in the 18-bit form.
+#[inline]
 pub(crate) fn pack(offsets: &[u32]) -> Result<Vec<u32>, AllocError> {
     let mut packed = Vec::with_room(offsets.len() / 8 * 9)?;
     for group in 0..offsets.len() / 8 {

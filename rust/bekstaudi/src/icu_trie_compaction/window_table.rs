@@ -30,17 +30,20 @@ pub struct WindowTable {
 
 impl WindowTable {
     /// The table of no window, for windows of `size` cells.
+    #[inline]
     pub(crate) fn new(size: usize) -> Result<WindowTable, AllocError> {
         WindowTable::with_buckets(size, FIRST_BUCKETS)
     }
 
     /// The table of no window, with room for the windows of `cells` cells.
+    #[inline]
     pub(crate) fn for_cells(size: usize, cells: usize) -> Result<WindowTable, AllocError> {
         let buckets = cells.max(FIRST_BUCKETS).min(MOST_BUCKETS);
         WindowTable::with_buckets(size, buckets)
     }
 
     /// The table of no window, with `buckets` buckets.
+    #[inline]
     fn with_buckets(size: usize, buckets: usize) -> Result<WindowTable, AllocError> {
         Ok(WindowTable {
             size,
@@ -53,16 +56,19 @@ impl WindowTable {
     }
 
     /// How many cells a window has.
+    #[inline]
     pub fn size(&self) -> usize {
         self.size
     }
 
     /// The bucket of windows with this hash.
+    #[inline]
     fn bucket_of(&self, hash: u32) -> usize {
         (u64::from(hash) * self.heads.len() as u64 / 0x1_0000_0000) as usize
     }
 
     /// The first place where `wanted`, whose hash this is, stands in `cells`.
+    #[inline]
     pub(crate) fn find(&self, cells: &[u32], wanted: &[u32], hash: u32) -> Option<usize> {
         let mut at = self.heads[self.bucket_of(hash)] as usize;
         while at > 0 {
@@ -108,6 +114,7 @@ impl WindowTable {
     }
 
     /// Empties a full table and gives it more buckets.
+    #[inline]
     pub(crate) fn grow(&mut self, ) -> Result<(), AllocError> {
         let buckets = self.heads.len();
         if self.starts.len() > buckets && buckets < MOST_BUCKETS {
@@ -118,16 +125,19 @@ impl WindowTable {
 }
 
 /// Makes this the head of a bucket.
+#[inline]
 fn set_head(heads: &mut Vec<u32>, bucket: usize, head: u32) {
     heads[bucket] = head;
 }
 
 /// A list of `count` zeros.
+#[inline]
 fn zeros(count: usize) -> Result<Vec<u32>, AllocError> {
     try_vec![0; count]
 }
 
 /// How many windows of `size` cells `len` cells have.
+#[inline]
 fn window_count(len: usize, size: usize) -> usize {
     if len < size {
         return 0;

@@ -26,6 +26,7 @@ pub trait Cells<T> {
     ///
     /// # Panics
     /// Where there is no such cell.
+    #[inline]
     fn index_at(&mut self, i: usize) -> u16 {
         match self.index_cell(i) {
             Some(cell) => cell,
@@ -37,6 +38,7 @@ pub trait Cells<T> {
     ///
     /// # Panics
     /// Where there is no such cell.
+    #[inline]
     fn data_at(&mut self, i: usize) -> T {
         match self.data_cell(i) {
             Some(cell) => cell,
@@ -46,7 +48,7 @@ pub trait Cells<T> {
 }
 
 /// How many steps were taken: a counter that takes no bytes, and that only [`tick`](Steps::tick)
-/// changes. A clause sees the number.
+/// changes.
 pub struct Steps<L: Ledger> {
     book: Book<L>,
     share: Share<L>,

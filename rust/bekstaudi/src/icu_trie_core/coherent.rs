@@ -18,6 +18,7 @@ use crate::icu_trie_core::walk::is_same;
 use crate::icu_zerovec::CODE_POINT_LIMIT;
 
 /// Whether the cells of data from an offset on, `len` of them, are this value.
+#[inline]
 fn are_all<T: TrieValue, C: Cells<T>>(cells: &mut C, offset: u32, len: u32, value: T) -> bool {
     for place in 0..len {
         let Some(cell) = cells.data_cell(offset as usize + place as usize) else {
@@ -31,6 +32,7 @@ fn are_all<T: TrieValue, C: Cells<T>>(cells: &mut C, offset: u32, len: u32, valu
 }
 
 /// Whether there is a null value, and the cells of data from an offset on, `len` of them, are it.
+#[inline]
 fn is_null_block<T: TrieValue, C: Cells<T>>(
     header: &CodePointTrieHeader,
     cells: &mut C,
@@ -46,6 +48,7 @@ fn is_null_block<T: TrieValue, C: Cells<T>>(
 /// Whether the cells of data from an offset on, `len` of them, are there, and the null value where
 /// the header names the block as null. `null_block` tells whether the block at the null offset is
 /// so.
+#[inline]
 fn is_block<T: TrieValue, C: Cells<T>>(
     header: &CodePointTrieHeader,
     cells: &C,
@@ -105,6 +108,7 @@ fn names_blocks<T: TrieValue, C: Cells<T>>(
 }
 
 /// Whether the blocks of 16 that the null index-2 cell names are null.
+#[inline]
 fn is_null_cell<T: TrieValue, C: Cells<T>>(header: &CodePointTrieHeader, cells: &mut C) -> bool {
     for place in 0..INDEX_3_BLOCK_LENGTH {
         let Some(offset) = offset_of(cells, header.index3_null_offset, place) else {
@@ -120,6 +124,7 @@ fn is_null_cell<T: TrieValue, C: Cells<T>>(header: &CodePointTrieHeader, cells: 
 /// Whether the blocks that an index-2 cell names are so, and null where it is the null one.
 /// `null_block` and `null_cell` tell whether the block at the null offset, and those of the null
 /// cell, are null.
+#[inline]
 fn is_cell<T: TrieValue, C: Cells<T>>(
     header: &CodePointTrieHeader,
     cells: &mut C,
@@ -182,6 +187,7 @@ fn has_high_blocks<T: TrieValue, C: Cells<T>>(
 }
 
 /// Whether there is a high value where one is needed, and the fast index agrees with it.
+#[inline]
 fn has_high_value<T: TrieValue, C: Cells<T>>(header: &CodePointTrieHeader, cells: &mut C) -> bool {
     if header.high_start == CODE_POINT_LIMIT {
         return true;
@@ -196,6 +202,7 @@ fn has_high_value<T: TrieValue, C: Cells<T>>(header: &CodePointTrieHeader, cells
 }
 
 /// Whether the blocks of a trie are as coherence says.
+#[inline]
 fn has_coherent_blocks<T: TrieValue, C: Cells<T>>(
     header: &CodePointTrieHeader,
     cells: &mut C,
@@ -215,6 +222,7 @@ fn has_coherent_blocks<T: TrieValue, C: Cells<T>>(
 /// A walk over a coherent trie gives the longest runs of what look-ups answer. No code point is
 /// looked up: each aligned block takes a few reads, and one that is named as the block before it
 /// none.
+#[inline]
 pub fn is_coherent<T: TrieValue, C: Cells<T>>(header: &CodePointTrieHeader, cells: &mut C) -> bool {
     if header.high_start % CP_PER_INDEX_2_ENTRY != 0 || header.high_start > CODE_POINT_LIMIT {
         return false;

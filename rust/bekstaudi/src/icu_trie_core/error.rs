@@ -19,6 +19,7 @@ pub enum CodePointTrieError {
 }
 
 impl core::fmt::Display for CodePointTrieError {
+    #[inline]
     fn fmt(&self, f: &mut core::fmt::Formatter<'_>) -> core::fmt::Result {
         match self {
             CodePointTrieError::FromDeserialized { reason, .. } => write!(f, "Could not construct CodePointTrie from deserialized values: {reason}"),

@@ -180,6 +180,7 @@ fn extend<T: TrieValue, C: Cells<T>>(
 }
 
 /// Whether the high value is this one. `None` where the data have no high value.
+#[inline]
 fn high_is<T: TrieValue, C: Cells<T>>(cells: &mut C, value: T) -> Option<bool> {
     let place = high_cell_of(cells.data_len())?;
     let high = cells.data_cell(place)?;

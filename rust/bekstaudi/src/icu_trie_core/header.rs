@@ -42,6 +42,7 @@ impl TrieType {
 impl TryFrom<u8> for TrieType {
     type Error = CodePointTrieError;
 
+    #[inline]
     fn try_from(number: u8) -> Result<TrieType, CodePointTrieError> {
         match number {
             0 => Ok(TrieType::Fast),

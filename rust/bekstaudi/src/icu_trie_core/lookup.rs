@@ -10,6 +10,7 @@ use crate::icu_trie_core::impl_const::{
 use crate::icu_zerovec::CODE_POINT_LIMIT;
 
 /// The index-2 cell of a code point, in two reads.
+#[inline]
 pub(crate) fn index2_cell_of<T, C: Cells<T>>(
     trie_type: TrieType,
     cells: &mut C,
@@ -25,12 +26,14 @@ pub(crate) fn index2_cell_of<T, C: Cells<T>>(
 
 /// An offset of 18 bits, from the cell that has the two high bits of eight offsets and from its own
 /// cell.
+#[inline]
 fn long_offset_of(high: u16, low: u16, place: u32) -> u32 {
     (((high as u32) << (2 + 2 * place)) & 0x30000) | low as u32
 }
 
 /// One of the 32 data offsets of the index-3 block that an index-2 cell names, in two reads at
 /// most.
+#[inline]
 pub(crate) fn offset_of<T, C: Cells<T>>(cells: &mut C, index2_cell: u16, place: u32) -> Option<u32> {
     if index2_cell & 0x8000 == 0 {
         let offset = cells.index_cell(index2_cell as usize + place as usize)?;

@@ -26,10 +26,12 @@ pub struct NotAValue;
 impl TrieValue for u8 {
     type TryFromU32Error = NotAValue;
 
+    #[inline]
     fn to_u32(self) -> u32 {
         u32::from(self)
     }
 
+    #[inline]
     fn try_from_u32(i: u32) -> Result<Self, NotAValue> {
         u8::try_from(i).map_err(|_| NotAValue)
     }
@@ -38,10 +40,12 @@ impl TrieValue for u8 {
 impl TrieValue for u16 {
     type TryFromU32Error = NotAValue;
 
+    #[inline]
     fn to_u32(self) -> u32 {
         u32::from(self)
     }
 
+    #[inline]
     fn try_from_u32(i: u32) -> Result<Self, NotAValue> {
         u16::try_from(i).map_err(|_| NotAValue)
     }
@@ -50,10 +54,12 @@ impl TrieValue for u16 {
 impl TrieValue for u32 {
     type TryFromU32Error = NotAValue;
 
+    #[inline]
     fn to_u32(self) -> u32 {
         self
     }
 
+    #[inline]
     fn try_from_u32(i: u32) -> Result<Self, NotAValue> {
         Ok(i)
     }
@@ -62,10 +68,12 @@ impl TrieValue for u32 {
 impl TrieValue for i8 {
     type TryFromU32Error = NotAValue;
 
+    #[inline]
     fn to_u32(self) -> u32 {
         i32::from(self).cast_unsigned()
     }
 
+    #[inline]
     fn try_from_u32(i: u32) -> Result<Self, NotAValue> {
         i8::try_from(i.cast_signed()).map_err(|_| NotAValue)
     }
@@ -74,10 +82,12 @@ impl TrieValue for i8 {
 impl TrieValue for i16 {
     type TryFromU32Error = NotAValue;
 
+    #[inline]
     fn to_u32(self) -> u32 {
         i32::from(self).cast_unsigned()
     }
 
+    #[inline]
     fn try_from_u32(i: u32) -> Result<Self, NotAValue> {
         i16::try_from(i.cast_signed()).map_err(|_| NotAValue)
     }
@@ -86,10 +96,12 @@ impl TrieValue for i16 {
 impl TrieValue for i32 {
     type TryFromU32Error = NotAValue;
 
+    #[inline]
     fn to_u32(self) -> u32 {
         self.cast_unsigned()
     }
 
+    #[inline]
     fn try_from_u32(i: u32) -> Result<Self, NotAValue> {
         Ok(i.cast_signed())
     }
@@ -98,16 +110,19 @@ impl TrieValue for i32 {
 impl TrieValue for char {
     type TryFromU32Error = NotAValue;
 
+    #[inline]
     fn to_u32(self) -> u32 {
         u32::from(self)
     }
 
+    #[inline]
     fn try_from_u32(i: u32) -> Result<Self, NotAValue> {
         char::from_u32(i).ok_or(NotAValue)
     }
 }
 
 impl core::fmt::Display for NotAValue {
+    #[inline]
     fn fmt(&self, f: &mut core::fmt::Formatter<'_>) -> core::fmt::Result {
         match self {
             NotAValue => write!(f, "the number is no value of the type"),

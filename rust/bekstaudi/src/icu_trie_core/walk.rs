@@ -16,6 +16,7 @@ use crate::icu_trie_core::value::TrieValue;
 use crate::icu_zerovec::CODE_POINT_LIMIT;
 
 /// Whether two values are one. Public for the crates above.
+#[inline]
 pub fn is_same<T: TrieValue>(x: T, y: T) -> bool {
     x.shown();
     y.shown();

@@ -22,8 +22,7 @@ pub(crate) struct Blocks {
     pub(crate) cells: Vec<u32>,
 }
 
-/// A map from the code points to numbers of 32 bits. A clause sees the list of them, one for each
-/// code point.
+/// A map from the code points to numbers of 32 bits.
 ///
 /// It keeps blocks of 16 code points: a block of one number keeps that number alone, a mixed block
 /// has cells.
@@ -32,9 +31,10 @@ pub struct NumberMap {
     pub(crate) blocks: Blocks,
     // The number of each code point while there are no blocks.
     pub(crate) rest: u32,
-    }
+}
 
 /// A list of `count` copies of a value.
+#[inline]
 fn copies<T: Copy>(count: usize, value: T) -> Result<Vec<T>, AllocError> {
     let mut made = Vec::with_room(count)?;
     made.try_resize(count, value)?;
@@ -42,6 +42,7 @@ fn copies<T: Copy>(count: usize, value: T) -> Result<Vec<T>, AllocError> {
 }
 
 /// Makes the blocks, where there are none yet.
+#[inline]
 fn make_blocks(blocks: &mut Blocks, rest: u32) -> Result<(), AllocError> {
     if !are_there(blocks) {
         let mixed = copies(BLOCK_COUNT, false)?;
@@ -53,21 +54,25 @@ fn make_blocks(blocks: &mut Blocks, rest: u32) -> Result<(), AllocError> {
 }
 
 /// Whether there are blocks.
+#[inline]
 fn are_there(blocks: &Blocks) -> bool {
     blocks.mixed.len() > 0
 }
 
 /// Whether block number `number` is mixed.
+#[inline]
 fn has_cells(blocks: &Blocks, number: usize) -> bool {
     blocks.mixed[number]
 }
 
 /// The number of block number `number`, or the place of its cells.
+#[inline]
 fn number_of(blocks: &Blocks, number: usize) -> u32 {
     blocks.numbers[number]
 }
 
 /// Appends 16 cells with this number to the cells.
+#[inline]
 fn push_block(cells: &mut Vec<u32>, number: u32) -> Result<(), AllocError> {
     // By quarters, since the cells of most maps fill few doublings.
     if cells.capacity() - cells.len() < 16 {
@@ -77,6 +82,7 @@ fn push_block(cells: &mut Vec<u32>, number: u32) -> Result<(), AllocError> {
 }
 
 /// Gives block number `number` cells, where it has none.
+#[inline]
 fn mix(blocks: &mut Blocks, number: usize) -> Result<(), AllocError> {
     if has_cells(blocks, number) {
         return Ok(());
@@ -93,6 +99,7 @@ fn mix(blocks: &mut Blocks, number: usize) -> Result<(), AllocError> {
 
 /// Gives block number `number` cells, where it has none, and below 0x10000 the other blocks of its
 /// aligned 64 code points too, so that they stand side by side.
+#[inline]
 fn mix_around(blocks: &mut Blocks, number: usize) -> Result<(), AllocError> {
     if number >= FIRST_SINGLE {
         return mix(blocks, number);
@@ -106,6 +113,7 @@ fn mix_around(blocks: &mut Blocks, number: usize) -> Result<(), AllocError> {
 }
 
 /// Writes the number from place `start` on to before `end`.
+#[inline]
 fn fill_range(cells: &mut Vec<u32>, start: usize, end: usize, number: u32) {
     for i in start..end {
         cells[i] = number;
@@ -114,6 +122,7 @@ fn fill_range(cells: &mut Vec<u32>, start: usize, end: usize, number: u32) {
 
 /// Writes a number to the code points of block number `block` from its place `from` on to before
 /// `to`.
+#[inline]
 fn write_block(blocks: &mut Blocks, block: usize, from: usize, to: usize, number: u32) {
     if has_cells(blocks, block) {
         let place = number_of(blocks, block) as usize;
@@ -124,6 +133,7 @@ fn write_block(blocks: &mut Blocks, block: usize, from: usize, to: usize, number
 }
 
 /// Gives the first and the last block of a range cells, where it covers a part of them.
+#[inline]
 fn mix_ends(blocks: &mut Blocks, start: usize, end: usize) -> Result<(), AllocError> {
     if start % 16 != 0 {
         mix_around(blocks, start / 16)?;
@@ -135,6 +145,7 @@ fn mix_ends(blocks: &mut Blocks, start: usize, end: usize) -> Result<(), AllocEr
 }
 
 /// Writes a number to the code points from `start` on to before `end`, block by block.
+#[inline]
 fn write_blocks(blocks: &mut Blocks, start: usize, end: usize, number: u32) {
     for block in start / 16..end.div_ceil(16) {
         let from = start.saturating_sub(16 * block);
@@ -162,6 +173,7 @@ fn write_range(
 }
 
 /// The number of the code point `c`.
+#[inline]
 fn number_of_code_point(blocks: &Blocks, rest: u32, c: usize) -> u32 {
     if !are_there(blocks) {
         return rest;
@@ -173,12 +185,14 @@ fn number_of_code_point(blocks: &Blocks, rest: u32, c: usize) -> u32 {
 }
 
 /// The cell number `i` of block number `block`, which is mixed.
+#[inline]
 fn cell_of(blocks: &Blocks, block: usize, i: usize) -> u32 {
     let place = number_of(blocks, block) as usize;
     blocks.cells[place + i]
 }
 
 /// Whether block number `block` holds this number alone.
+#[inline]
 fn is_filled(blocks: &Blocks, block: usize, number: u32) -> bool {
     if !has_cells(blocks, block) {
         return number_of(blocks, block) == number;
@@ -192,6 +206,7 @@ fn is_filled(blocks: &Blocks, block: usize, number: u32) -> bool {
 }
 
 /// How many blocks there are up to the last that does not hold this number alone.
+#[inline]
 fn used_blocks(blocks: &Blocks, number: u32) -> usize {
     let mut count = blocks.mixed.len();
     while count > 0 {
@@ -204,6 +219,7 @@ fn used_blocks(blocks: &Blocks, number: u32) -> usize {
 }
 
 /// Whether `count` blocks from block number `first` on are seen at once to hold one number.
+#[inline]
 fn hold_one(blocks: &Blocks, first: usize, count: usize) -> bool {
     for block in first..first + count {
         if has_cells(blocks, block) || number_of(blocks, block) != number_of(blocks, first) {
@@ -214,6 +230,7 @@ fn hold_one(blocks: &Blocks, first: usize, count: usize) -> bool {
 }
 
 /// Appends the 16 cells from a place on to those in `room`.
+#[inline]
 fn push_cells(cells: &[u32], place: usize, room: &mut Vec<u32>) -> Result<(), AllocError> {
     room.try_extend_from_slice(&cells[place..place + 16])?;
     Ok(())
@@ -242,6 +259,7 @@ fn push_numbers(
 impl NumberMap {
     /// The map that has this number at every code point. It takes no memory; that is left to
     /// the writes.
+    #[inline]
     pub fn new(number: u32) -> NumberMap {
         let blocks = Blocks {
             mixed: Vec::new(),
@@ -251,23 +269,26 @@ impl NumberMap {
         NumberMap {
             blocks,
             rest: number,
-            }
+        }
     }
 
     /// Gives each code point from `start` on to before `end` this number.
     ///
     /// # Errors
     /// `AllocError` where memory was refused. The map stays as it was.
+    #[inline]
     pub(crate) fn set_range(&mut self, start: usize, end: usize, number: u32) -> Result<(), AllocError> {
         write_range(&mut self.blocks, self.rest, start, end, number)
     }
 
     /// The number of the last code point.
+    #[inline]
     pub fn last(&self) -> u32 {
         number_of_code_point(&self.blocks, self.rest, CODE_POINT_LIMIT as usize - 1)
     }
 
     /// The least multiple of 512 from which on all code points have the last code point's number.
+    #[inline]
     pub fn high_start(&self) -> usize {
         let used = used_blocks(&self.blocks, self.last());
         used.div_ceil(32) * 512
@@ -276,6 +297,7 @@ impl NumberMap {
     /// Whether the aligned block number `number` of `size` code points is seen at once to be equal
     /// to the one before it: the blocks of 16 of both hold one number. Equal blocks that are mixed
     /// are not seen.
+    #[inline]
     pub(crate) fn repeats(&self, size: usize, number: usize) -> bool {
         if !are_there(&self.blocks) {
             return true;
@@ -286,6 +308,7 @@ impl NumberMap {
 
     /// Puts the numbers of the aligned block number `number` of `size` code points into `room`, in
     /// place of what it held.
+    #[inline]
     pub(crate) fn copy_block(
         &self,
         size: usize,

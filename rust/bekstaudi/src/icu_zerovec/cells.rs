@@ -2,6 +2,7 @@
 
 #[allow(unused_imports)]
 use crate::support::prelude::*;
+use crate::support::cells::{cell, proved_cell};
 use crate::icu_zerovec::ule::{AsULE, UleError};
 use crate::support::{AllocError};
 use core::cmp::Ordering;
@@ -22,8 +23,7 @@ pub(crate) fn len<T: AsULE>(bytes: &[u8]) -> usize {
 /// The value that the cell at place `i` gives, if it gives one.
 #[inline(always)]
 pub(crate) fn read<T: AsULE>(bytes: &[u8], i: usize) -> Option<T> {
-    let start = i * T::WIDTH;
-    T::from_unaligned(&bytes[start..start + T::WIDTH])
+    T::from_unaligned(cell(bytes, T::WIDTH, i)?)
 }
 
 /// The value at place `i` of packed bytes, `None` at or past the end.
@@ -37,6 +37,7 @@ pub(crate) fn get<T: AsULE>(bytes: &[u8], i: usize) -> Option<T> {
 }
 
 /// Refuses bytes that are not packed: by their number, then by the first cell that is no value.
+#[inline]
 pub(crate) fn test<T: AsULE>(bytes: &[u8]) -> Result<(), UleError> {
     if bytes.len() % T::WIDTH != 0 {
         return Err(UleError::Length);
@@ -51,6 +52,7 @@ pub(crate) fn test<T: AsULE>(bytes: &[u8]) -> Result<(), UleError> {
 
 /// The packed bytes of the values that an iterator gives. Memory is asked for once where it knows
 /// how many there are.
+#[inline]
 pub(crate) fn pack<T: AsULE, I: Iterator<Item = T>>(
     values: I,
 ) -> Result<Vec<u8>, AllocError> {
@@ -70,7 +72,7 @@ pub(crate) fn split_first<T: AsULE>(bytes: &[u8]) -> Option<(T, &[u8])> {
     if bytes.is_empty() {
         return None;
     }
-    let (first, others) = bytes.split_at(T::WIDTH);
+    let (first, others) = bytes.split_at_checked(T::WIDTH)?;
     let value = T::from_unaligned(first)?;
     Some((value, others))
 }
@@ -78,7 +80,7 @@ pub(crate) fn split_first<T: AsULE>(bytes: &[u8]) -> Option<(T, &[u8])> {
 /// A value of packed bytes that is there. Its place is proved, and no code tests it.
 #[inline(always)]
 pub(crate) fn at<T: AsULE>(bytes: &[u8], i: usize) -> T {
-    match read(bytes, i) {
+    match T::from_unaligned(proved_cell(bytes, T::WIDTH, i)) {
         Some(value) => value,
         None => unreachable!(),
     }
@@ -132,6 +134,7 @@ pub(crate) fn binary_search<T: AsULE + Ord>(bytes: &[u8], x: &T) -> Result<usize
 }
 
 /// Whether two values are the same, by their bytes.
+#[inline]
 fn alike<T: AsULE>(x: T, y: T) -> bool {
     x.shown();
     y.shown();
@@ -140,12 +143,14 @@ fn alike<T: AsULE>(x: T, y: T) -> bool {
 
 /// How many bytes to compare next. A block is compared as memory, which is fast, and only one that
 /// differs is gone through value by value.
+#[inline]
 fn block(left: usize) -> usize {
     if left < 1024 { left } else { 1024 }
 }
 
 /// How many of the first bytes are the same, in whole blocks: all of them, where the bytes are the
 /// same.
+#[inline]
 fn same_blocks(a: &[u8], b: &[u8]) -> usize {
     let mut at = 0;
     while at < a.len() {
@@ -160,6 +165,7 @@ fn same_blocks(a: &[u8], b: &[u8]) -> usize {
 
 /// Whether two lists of values are the same. Bytes are compared, and values only from the first
 /// block of bytes that differ.
+#[inline]
 pub(crate) fn same<T: AsULE>(a: &[u8], b: &[u8]) -> bool {
     let len = len::<T>(a);
     if len != self::len::<T>(b) {
@@ -174,6 +180,7 @@ pub(crate) fn same<T: AsULE>(a: &[u8], b: &[u8]) -> bool {
 }
 
 /// Writes the bytes of a value.
+#[inline]
 fn feed_one<T: AsULE, H: Hasher>(value: T, state: &mut H) {
     value.shown();
     let cell = value.to_unaligned();
@@ -181,6 +188,7 @@ fn feed_one<T: AsULE, H: Hasher>(value: T, state: &mut H) {
 }
 
 /// Writes how many values there are, and the bytes of each.
+#[inline]
 pub(crate) fn feed<T: AsULE, H: Hasher>(bytes: &[u8], state: &mut H) {
     let len = len::<T>(bytes);
     state.write_usize(len);

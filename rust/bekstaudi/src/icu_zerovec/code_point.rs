@@ -8,7 +8,7 @@ use crate::icu_zerovec::ule::AsULE;
 pub const CODE_POINT_LIMIT: u32 = 0x11_0000;
 
 /// A number of 24 bits, which may be a code point: what a file claims to be one, kept in three
-/// bytes. It is compared and hashed by its number, and a clause sees the number.
+/// bytes. It is compared and hashed by its number.
 ///
 /// ```ignore
 /// let last = PotentialCodePoint::from_u24(0x10ffff);
@@ -21,6 +21,7 @@ pub struct PotentialCodePoint {
 
 impl PotentialCodePoint {
     /// This number, which the caller keeps within 24 bits. Where it may have more, take `try_from`.
+    #[inline]
     pub(crate) fn from_u24(number: u32) -> Self {
         PotentialCodePoint { number }
     }
@@ -30,6 +31,7 @@ impl PotentialCodePoint {
 impl TryFrom<u32> for PotentialCodePoint {
     type Error = u32;
 
+    #[inline]
     fn try_from(number: u32) -> Result<PotentialCodePoint, u32> {
         if number < 0x100_0000 {
             Ok(PotentialCodePoint { number })
@@ -41,6 +43,7 @@ impl TryFrom<u32> for PotentialCodePoint {
 
 /// The number, whether or not it is a code point.
 impl From<PotentialCodePoint> for u32 {
+    #[inline]
     fn from(point: PotentialCodePoint) -> u32 {
         point.number
     }
@@ -50,10 +53,12 @@ impl From<PotentialCodePoint> for u32 {
 impl AsULE for PotentialCodePoint {
     const WIDTH: usize = 3;
 
+    #[inline]
     fn to_unaligned(self) -> [u8; 4] {
         self.number.to_le_bytes()
     }
 
+    #[inline]
     fn from_unaligned(bytes: &[u8]) -> Option<PotentialCodePoint> {
         Some(PotentialCodePoint {
             number: u32::from_le_bytes([bytes[0], bytes[1], bytes[2], 0]),
@@ -68,10 +73,12 @@ impl AsULE for PotentialCodePoint {
 impl AsULE for char {
     const WIDTH: usize = 3;
 
+    #[inline]
     fn to_unaligned(self) -> [u8; 4] {
         (self as u32).to_le_bytes()
     }
 
+    #[inline]
     fn from_unaligned(bytes: &[u8]) -> Option<char> {
         char::from_u32(u32::from_le_bytes([bytes[0], bytes[1], bytes[2], 0]))
     }

@@ -6,6 +6,7 @@ use crate::icu_zerovec::vec::ZeroVec;
 use core::hash::{Hash, Hasher};
 
 impl<'a, T: AsULE> PartialEq for ZeroVec<'a, T> {
+    #[inline]
     fn eq(&self, other: &Self) -> bool {
         cells::same::<T>(self.bytes(), other.bytes())
     }
@@ -15,6 +16,7 @@ impl<'a, T: AsULE> Eq for ZeroVec<'a, T> {
 }
 
 impl<'a, T: AsULE> Hash for ZeroVec<'a, T> {
+    #[inline]
     fn hash<H: Hasher>(&self, state: &mut H) {
         cells::feed::<T, H>(self.bytes(), state);
     }

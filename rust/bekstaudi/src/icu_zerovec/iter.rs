@@ -6,11 +6,10 @@ use core::fmt;
 use core::marker::PhantomData;
 
 /// The values of a packed vector from the first that was not given yet to the last, as
-/// `ZeroVec::iter` and `ZeroSlice::iter` give them. It knows how many are left, and a clause sees
-/// their list.
+/// `ZeroVec::iter` and `ZeroSlice::iter` give them. It knows how many are left.
 pub struct Iter<'a, T: AsULE> {
     bytes: &'a [u8],
-    of: PhantomData<T>,
+    of: PhantomData<fn(T) -> T>,
 }
 
 impl<'a, T: AsULE> Iter<'a, T> {
@@ -50,6 +49,7 @@ impl<'a, T: AsULE> ExactSizeIterator for Iter<'a, T> {
 
 /// The list of the values that are left, as a slice of them is shown: `[1, 2]`.
 impl<'a, T: AsULE + fmt::Debug> fmt::Debug for Iter<'a, T> {
+    #[inline]
     fn fmt(&self, f: &mut fmt::Formatter<'_>) -> fmt::Result {
         f.debug_list()
             .entries(Iter::<T>::from_packed(self.bytes))

@@ -9,6 +9,7 @@ pub struct MemoryError;
 
 /// For `?` after a call that allocates.
 impl From<AllocError> for MemoryError {
+    #[inline]
     fn from(_error: AllocError) -> MemoryError {
         MemoryError
     }
@@ -17,6 +18,7 @@ impl From<AllocError> for MemoryError {
 /// For `?` after a call that gives back the value for which there was no room, as `Vec::push`. The
 /// value is dropped.
 impl<T> From<AllocFailed<T>> for MemoryError {
+    #[inline]
     fn from(_failed: AllocFailed<T>) -> MemoryError {
         MemoryError
     }
@@ -32,12 +34,14 @@ pub struct ApplyRefused(pub usize);
 
 /// For `?` after a list of writes, where the place is of no use.
 impl From<ApplyRefused> for MemoryError {
+    #[inline]
     fn from(_refused: ApplyRefused) -> MemoryError {
         MemoryError
     }
 }
 
 impl core::fmt::Display for MemoryError {
+    #[inline]
     fn fmt(&self, f: &mut core::fmt::Formatter<'_>) -> core::fmt::Result {
         match self {
             MemoryError => write!(f, "no memory"),
@@ -48,6 +52,7 @@ impl core::fmt::Display for MemoryError {
 impl core::error::Error for MemoryError {}
 
 impl core::fmt::Display for ApplyRefused {
+    #[inline]
     fn fmt(&self, f: &mut core::fmt::Formatter<'_>) -> core::fmt::Result {
         match self {
             ApplyRefused(_0) => write!(f, "no memory for write {_0}"),

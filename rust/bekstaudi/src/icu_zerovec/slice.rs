@@ -9,8 +9,7 @@ use core::fmt;
 use core::hash::{Hash, Hasher};
 use core::marker::PhantomData;
 
-/// A view of a packed vector, `Copy` as a `&[T]` is, with the reads of [`ZeroVec`]. A clause sees
-/// the list of its values as `slice_values`.
+/// A view of a packed vector, `Copy` as a `&[T]` is, with the reads of [`ZeroVec`].
 ///
 /// ```ignore
 /// let numbers = ZeroVec::<u16>::parse_bytes(&[1, 0, 2, 0])?;
@@ -21,10 +20,11 @@ use core::marker::PhantomData;
 /// Two views are equal, and hash alike, exactly if their lists are equal.
 pub struct ZeroSlice<'a, T: AsULE> {
     bytes: &'a [u8],
-    of: PhantomData<T>,
+    of: PhantomData<fn(T) -> T>,
 }
 
 impl<'a, T: AsULE> Clone for ZeroSlice<'a, T> {
+    #[inline]
     fn clone(&self) -> ZeroSlice<'a, T> {
         *self
     }
@@ -91,6 +91,7 @@ impl<'a, T: AsULE> ZeroSlice<'a, T> {
     /// # Errors
     /// The place at which `x` could be inserted so that the values still ascend, where none is
     /// equal to it.
+    #[inline]
     pub fn binary_search(&self, x: &T) -> Result<usize, usize>
     where
         T: Ord,
@@ -112,6 +113,7 @@ impl<'a, T: AsULE> ZeroSlice<'a, T> {
 }
 
 impl<'a, T: AsULE> PartialEq for ZeroSlice<'a, T> {
+    #[inline]
     fn eq(&self, other: &Self) -> bool {
         cells::same::<T>(self.bytes, other.bytes)
     }
@@ -121,6 +123,7 @@ impl<'a, T: AsULE> Eq for ZeroSlice<'a, T> {
 }
 
 impl<'a, T: AsULE> Hash for ZeroSlice<'a, T> {
+    #[inline]
     fn hash<H: Hasher>(&self, state: &mut H) {
         cells::feed::<T, H>(self.bytes, state);
     }
@@ -128,6 +131,7 @@ impl<'a, T: AsULE> Hash for ZeroSlice<'a, T> {
 
 /// The list of the values, as a slice of them is shown: `[1, 2]`.
 impl<'a, T: AsULE + fmt::Debug> fmt::Debug for ZeroSlice<'a, T> {
+    #[inline]
     fn fmt(&self, f: &mut fmt::Formatter<'_>) -> fmt::Result {
         f.debug_list().entries(self.iter()).finish()
     }

@@ -33,6 +33,7 @@ pub enum UleError {
 }
 
 impl core::fmt::Display for UleError {
+    #[inline]
     fn fmt(&self, f: &mut core::fmt::Formatter<'_>) -> core::fmt::Result {
         match self {
             UleError::Length => write!(f, "the number of bytes is no multiple of the width of a value"),

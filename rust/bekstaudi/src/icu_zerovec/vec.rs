@@ -28,8 +28,7 @@ impl<'a> Store<'a> {
     }
 }
 
-/// A vector of values that are kept as bytes, which it borrows or owns. A clause sees the list of
-/// the values.
+/// A vector of values that are kept as bytes, which it borrows or owns.
 ///
 /// ```ignore
 /// let points = ZeroVec::<char>::parse_bytes(&[0x41, 0, 0, 0, 0xf6, 1])?;
@@ -41,7 +40,7 @@ impl<'a> Store<'a> {
 /// borrows.
 pub struct ZeroVec<'a, T: AsULE> {
     store: Store<'a>,
-    of: PhantomData<T>,
+    of: PhantomData<fn(T) -> T>,
 }
 
 /// How a vector is made.
@@ -52,6 +51,7 @@ impl<'a, T: AsULE> ZeroVec<'a, T> {
     /// # Errors
     /// `UleError::Length` where their number is no multiple of the width of a value, and otherwise
     /// `UleError::Cell` with the first cell that is no value.
+    #[inline]
     pub fn parse_bytes(bytes: &'a [u8]) -> Result<Self, UleError> {
         cells::test::<T>(bytes)?;
         Ok(ZeroVec::from_packed(bytes))
@@ -61,6 +61,7 @@ impl<'a, T: AsULE> ZeroVec<'a, T> {
     ///
     /// # Errors
     /// Those of [`parse_bytes`](Self::parse_bytes). The bytes are then dropped.
+    #[inline]
     pub fn parse_owned(bytes: Vec<u8>) -> Result<Self, UleError> {
         cells::test::<T>(bytes.as_slice())?;
         Ok(ZeroVec {
@@ -87,6 +88,7 @@ impl<'a, T: AsULE> ZeroVec<'a, T> {
     ///
     /// # Errors
     /// `MemoryError` where memory was refused.
+    #[inline]
     pub fn alloc_from_slice(values: &[T]) -> Result<Self, MemoryError> {
         let vector = ZeroVec::alloc_from_iter(values.iter().copied())?;
         Ok(vector)
@@ -103,6 +105,7 @@ impl<'a, T: AsULE> ZeroVec<'a, T> {
     ///
     /// # Errors
     /// `MemoryError` where memory was refused. The iterator is then dropped where it stands.
+    #[inline]
     pub fn alloc_from_iter<I: Iterator<Item = T>>(
         values: I,
     ) -> Result<Self, MemoryError> {
@@ -117,6 +120,7 @@ impl<'a, T: AsULE> ZeroVec<'a, T> {
     ///
     /// # Errors
     /// `MemoryError` where memory was refused.
+    #[inline]
     pub fn try_clone(&self) -> Result<ZeroVec<'static, T>, MemoryError> {
         Ok(ZeroVec {
             store: Store::Owned(Vec::from_slice(self.bytes())?),
@@ -130,6 +134,7 @@ impl<'a, T: AsULE> ZeroVec<'a, T> {
     /// # Errors
     /// `MemoryError` where memory was refused. The vector is then dropped, and bytes that it
     /// borrowed are unchanged.
+    #[inline]
     pub fn try_into_owned(self) -> Result<ZeroVec<'static, T>, MemoryError> {
         let ZeroVec { store, of: _ } = self;
         let bytes = match store {
@@ -199,6 +204,7 @@ impl<'a, T: AsULE> ZeroVec<'a, T> {
     /// # Errors
     /// The place at which `x` could be inserted so that the values still ascend, where none is
     /// equal to it.
+    #[inline]
     pub fn binary_search(&self, x: &T) -> Result<usize, usize>
     where
         T: Ord,
@@ -229,13 +235,12 @@ impl<'a, T: AsULE> ZeroVec<'a, T> {
     /// none of them copied.
     ///
     /// Each vector of `char` is one of `PotentialCodePoint`, and the other way round the cells
-    /// decide. The clauses speak of some bytes that give the values, which are known exactly where
-    /// each value has one encoding. That they are the vector's own, and stay where they are, is in
-    /// no clause.
+    /// decide.
     ///
     /// # Errors
     /// `UleError::Cell` with the first cell that is no value of the other type. The vector is then
     /// dropped.
+    #[inline]
     pub(crate) fn try_into_converted<P: AsULE>(self) -> Result<ZeroVec<'a, P>, UleError> {
         let ZeroVec { store, of: _ } = self;
         cells::test::<P>(store.bytes())?;
@@ -248,6 +253,7 @@ impl<'a, T: AsULE> ZeroVec<'a, T> {
 
 /// The list of the values, as a slice of them is shown: `[1, 2]`.
 impl<'a, T: AsULE + fmt::Debug> fmt::Debug for ZeroVec<'a, T> {
+    #[inline]
     fn fmt(&self, f: &mut fmt::Formatter<'_>) -> fmt::Result {
         f.debug_list().entries(self.iter()).finish()
     }

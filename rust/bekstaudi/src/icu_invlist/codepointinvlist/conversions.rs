@@ -16,7 +16,8 @@ impl<'data> CodePointInversionList<'data> {
     /// `TryRangeError::Invalid` exactly where the range is empty or reversed, with its start and
     /// its exclusive end: `'B'..'A'` gives `RangeError(0x42, 0x41)`. `TryRangeError::Memory` where
     /// memory was refused.
-    pub fn try_from<R: RangeOf<char>>(
+    #[inline]
+    pub fn try_from_range<R: core::ops::RangeBounds<char>>(
         range: R,
     ) -> Result<CodePointInversionList<'static>, TryRangeError> {
         let (start, end) = range.deconstruct();
@@ -32,6 +33,7 @@ impl<'data> CodePointInversionList<'data> {
     ///
     /// # Errors
     /// `MemoryError` where memory was refused. The iterator is then dropped where it stands.
+    #[inline]
     pub fn try_from_iter<I: Iterator<Item = RangeInclusive<u32>>>(
         iter: I,
     ) -> Result<CodePointInversionList<'static>, MemoryError> {

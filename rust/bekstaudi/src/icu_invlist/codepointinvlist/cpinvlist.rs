@@ -14,8 +14,7 @@ use crate::icu_zerovec::{CODE_POINT_LIMIT, MemoryError, PotentialCodePoint, Zero
 use packing::{cut_to_points, pack, unpacked};
 use core::ops::RangeInclusive;
 
-/// A set of code points, surrogates among them. It lends or owns its ends, and a clause sees their
-/// list.
+/// A set of code points, surrogates among them. It lends or owns its ends.
 ///
 /// ```ignore
 /// let letters = CodePointInversionList::try_from_u32_inversion_list_slice(&[0x41, 0x5B, 0x61, 0x7B])?;
@@ -33,6 +32,7 @@ impl<'data> CodePointInversionList<'data> {
     /// # Errors
     /// `SetError::Invalid` exactly where it is no inversion list, with the list. `SetError::Memory`
     /// where the copy for that error was refused; a valid list takes no memory.
+    #[inline]
     pub fn try_from_inversion_list(
         ends: ZeroVec<'data, PotentialCodePoint>,
     ) -> Result<Self, SetError> {
@@ -48,6 +48,7 @@ impl<'data> CodePointInversionList<'data> {
     /// `SetError::Invalid` exactly where they are no inversion list, with the numbers as code
     /// points: one above 0xFFFFFF is shown as that one. `SetError::Memory` where memory was
     /// refused.
+    #[inline]
     pub fn try_from_u32_inversion_list_slice(ends: &[u32]) -> Result<Self, SetError> {
         if !is_valid_slice(ends) {
             return Err(SetError::Invalid(InvalidSetError(cut_to_points(ends)?)));
@@ -62,9 +63,11 @@ impl<'data> CodePointInversionList<'data> {
     ///
     /// # Errors
     /// `MemoryError` where memory was refused.
+    #[inline]
     pub(crate) fn from_valid_slice(
         ends: &[u32],
     ) -> Result<CodePointInversionList<'static>, MemoryError> {
+        assert_eq!(ends.len() % 2, 0);
         let bytes = pack(ends)?;
         match ZeroVec::parse_owned(bytes) {
             Ok(ends) => Ok(CodePointInversionList { ends }),
@@ -73,6 +76,7 @@ impl<'data> CodePointInversionList<'data> {
     }
 
     /// All code points, 0 to 0x10FFFF, surrogates too. It takes no memory.
+    #[inline]
     pub fn all() -> CodePointInversionList<'static> {
         match ZeroVec::parse_bytes(&[0, 0, 0, 0, 0, 0x11]) {
             Ok(ends) => CodePointInversionList { ends },
@@ -82,6 +86,7 @@ impl<'data> CodePointInversionList<'data> {
 
     /// The code points of the basic multilingual plane, 0 to 0xFFFF, surrogates too. It takes no
     /// memory.
+    #[inline]
     pub fn bmp() -> CodePointInversionList<'static> {
         match ZeroVec::parse_bytes(&[0, 0, 0, 0, 0, 0x1]) {
             Ok(ends) => CodePointInversionList { ends },
@@ -94,6 +99,7 @@ impl<'data> CodePointInversionList<'data> {
     /// # Errors
     /// `MemoryError` where memory was refused. The set is then dropped, and ends that it borrowed
     /// are unchanged.
+    #[inline]
     pub fn try_into_owned(self) -> Result<CodePointInversionList<'static>, MemoryError> {
         let CodePointInversionList { ends } = self;
         Ok(CodePointInversionList {
@@ -105,6 +111,7 @@ impl<'data> CodePointInversionList<'data> {
     ///
     /// # Errors
     /// `MemoryError` where memory was refused.
+    #[inline]
     pub fn try_clone(&self) -> Result<CodePointInversionList<'static>, MemoryError> {
         Ok(CodePointInversionList {
             ends: self.ends.try_clone()?,
@@ -115,16 +122,19 @@ impl<'data> CodePointInversionList<'data> {
 /// What a set holds.
 impl<'data> CodePointInversionList<'data> {
     /// How many ends there are.
+    #[inline]
     pub(crate) fn count(&self) -> usize {
         self.ends.len()
     }
 
     /// The end at place `i`, counted from 0.
+    #[inline]
     pub(crate) fn end_at(&self, i: usize) -> u32 {
         u32::from(self.ends.as_slice().at(i))
     }
 
     /// The ends, packed.
+    #[inline]
     pub(crate) fn packed(&self) -> &ZeroVec<'data, PotentialCodePoint> {
         &self.ends
     }
@@ -133,6 +143,7 @@ impl<'data> CodePointInversionList<'data> {
     ///
     /// # Errors
     /// `MemoryError` where memory was refused.
+    #[inline]
     pub fn try_get_inversion_list_vec(&self) -> Result<Vec<u32>, MemoryError> {
         let mut ends = Vec::with_room(self.count())?;
         self.push_ends(&mut ends, 0)?;
@@ -140,6 +151,7 @@ impl<'data> CodePointInversionList<'data> {
     }
 
     /// Appends the ends from place `from` on.
+    #[inline]
     pub(crate) fn push_ends(&self, ends: &mut Vec<u32>, from: usize) -> Result<(), MemoryError> {
         let packed = self.ends.as_slice();
         let count = packed.len();
@@ -151,18 +163,21 @@ impl<'data> CodePointInversionList<'data> {
     }
 
     /// Whether the set holds the code point. No number above 0x10FFFF is held.
+    #[inline]
     pub fn contains32(&self, c: u32) -> bool {
         self.place_of(c) % 2 == 1
     }
 
     /// Whether the set holds the character.
+    #[inline]
     pub fn contains(&self, c: char) -> bool {
         self.contains32(u32::from(c))
     }
 
     /// Whether the range names a code point, and the set holds all that it names. The surrogates
     /// between two characters are named too.
-    pub fn contains_range<R: RangeOf<char>>(&self, range: R) -> bool {
+    #[inline]
+    pub fn contains_range<R: core::ops::RangeBounds<char>>(&self, range: R) -> bool {
         let (start, end) = range.deconstruct();
         let end = end.min(CODE_POINT_LIMIT);
         start < end && self.reaches(self.place_of(start), end)
@@ -188,12 +203,14 @@ impl<'data> CodePointInversionList<'data> {
 
     /// How many smaller code points the set holds, if it holds the character: less than
     /// [`size`](Self::size).
+    #[inline]
     pub fn position(&self, c: char) -> Option<usize> {
         self.position32(u32::from(c))
     }
 
     /// How many smaller code points the set holds, if it holds this one: less than
     /// [`size`](Self::size). No number above 0x10FFFF has a place.
+    #[inline]
     pub fn position32(&self, c: u32) -> Option<usize> {
         let place = self.place_of(c);
         if place % 2 == 0 {
@@ -209,6 +226,7 @@ impl<'data> CodePointInversionList<'data> {
     }
 
     /// How many code points the set holds, surrogates among them.
+    #[inline]
     pub fn size(&self) -> usize {
         let count = self.count();
         let mut size = 0;
@@ -221,6 +239,7 @@ impl<'data> CodePointInversionList<'data> {
     }
 
     /// Whether the set holds no code point.
+    #[inline]
     pub fn is_empty(&self) -> bool {
         self.ends.is_empty()
     }
@@ -229,12 +248,14 @@ impl<'data> CodePointInversionList<'data> {
 /// The ranges and the characters of a set.
 impl<'data> CodePointInversionList<'data> {
     /// How many ranges the set has.
+    #[inline]
     pub fn get_range_count(&self) -> usize {
         self.ends.len() / 2
     }
 
     /// The range at place `index`, counted from 0, with its last code point included. `None` at or
     /// past the count.
+    #[inline]
     pub fn get_nth_range(&self, index: usize) -> Option<RangeInclusive<u32>> {
         if index >= self.count() / 2 {
             return None;
@@ -244,12 +265,14 @@ impl<'data> CodePointInversionList<'data> {
 
     /// The ranges that the set holds, ascending: of `[0x41, 0x44, 0x61, 0x62]` 0x41..=0x43 and
     /// 0x61..=0x61.
+    #[inline]
     pub fn iter_ranges(&self) -> IterRanges<'_> {
         IterRanges::from_ends(self.ends.iter())
     }
 
     /// The ranges of code points that the set does not hold, ascending: of the empty set
     /// 0..=0x10FFFF.
+    #[inline]
     pub fn iter_ranges_complemented(&self) -> IterRangesComplemented<'_> {
         let mut ends = self.ends.iter();
         if self.contains32(0) {
@@ -261,6 +284,7 @@ impl<'data> CodePointInversionList<'data> {
     }
 
     /// The characters that the set holds, ascending. Its surrogates are left out.
+    #[inline]
     pub fn iter_chars(&self) -> IterChars<'_> {
         IterChars::from_ends(self.ends.iter())
     }
@@ -271,6 +295,7 @@ impl<'data> CodePointInversionList<'data> {
     /// The length in bytes of the longest front of the text whose characters are all held, or, for
     /// `held` false, all not held. A character starts there, or the text ends: so
     /// `&text[set.span(text, true)..]` is what follows.
+    #[inline]
     pub fn span(&self, text: &str, held: bool) -> usize {
         let mut length = 0;
         for c in text.chars() {
@@ -285,6 +310,7 @@ impl<'data> CodePointInversionList<'data> {
     /// The place of the byte from which on all characters of the text are held, or, for `held`
     /// false, all not held: the start of its longest such tail. A character starts there, or the
     /// text ends: so `&text[..set.span_back(text, true)]` is what stands before.
+    #[inline]
     pub fn span_back(&self, text: &str, held: bool) -> usize {
         let mut start = text.len();
         for c in text.chars().rev() {

@@ -5,6 +5,7 @@ use core::hash::{Hash, Hasher};
 
 /// Whichever of them borrows. A set has one inversion list, so its packed ends decide.
 impl<'data> PartialEq for CodePointInversionList<'data> {
+    #[inline]
     fn eq(&self, other: &Self) -> bool {
         self.packed().as_bytes() == other.packed().as_bytes()
     }
@@ -14,6 +15,7 @@ impl<'data> Eq for CodePointInversionList<'data> {
 }
 
 impl<'data> Hash for CodePointInversionList<'data> {
+    #[inline]
     fn hash<H: Hasher>(&self, state: &mut H) {
         self.packed().hash(state);
     }

@@ -19,6 +19,7 @@ pub enum SetError {
 }
 
 impl From<MemoryError> for SetError {
+    #[inline]
     fn from(_error: MemoryError) -> SetError {
         SetError::Memory
     }
@@ -39,6 +40,7 @@ pub enum TryRangeError {
 }
 
 impl From<MemoryError> for TryRangeError {
+    #[inline]
     fn from(_error: MemoryError) -> TryRangeError {
         TryRangeError::Memory
     }
@@ -60,12 +62,14 @@ pub enum SetJsonError {
 }
 
 impl From<MemoryError> for SetJsonError {
+    #[inline]
     fn from(_error: MemoryError) -> SetJsonError {
         SetJsonError::Memory
     }
 }
 
 impl core::fmt::Display for InvalidSetError {
+    #[inline]
     fn fmt(&self, f: &mut core::fmt::Formatter<'_>) -> core::fmt::Result {
         match self {
             InvalidSetError(_0) => write!(f, "Invalid set"),
@@ -76,6 +80,7 @@ impl core::fmt::Display for InvalidSetError {
 impl core::error::Error for InvalidSetError {}
 
 impl core::fmt::Display for SetError {
+    #[inline]
     fn fmt(&self, f: &mut core::fmt::Formatter<'_>) -> core::fmt::Result {
         match self {
             SetError::Invalid(_0) => core::fmt::Display::fmt(_0, f),
@@ -87,12 +92,14 @@ impl core::fmt::Display for SetError {
 impl core::error::Error for SetError {}
 
 impl From<InvalidSetError> for SetError {
+    #[inline]
     fn from(error: InvalidSetError) -> SetError {
         SetError::Invalid(error)
     }
 }
 
 impl core::fmt::Display for RangeError {
+    #[inline]
     fn fmt(&self, f: &mut core::fmt::Formatter<'_>) -> core::fmt::Result {
         match self {
             RangeError(_0, _1) => write!(f, "Invalid range: {_0}..{_1}"),
@@ -103,6 +110,7 @@ impl core::fmt::Display for RangeError {
 impl core::error::Error for RangeError {}
 
 impl core::fmt::Display for TryRangeError {
+    #[inline]
     fn fmt(&self, f: &mut core::fmt::Formatter<'_>) -> core::fmt::Result {
         match self {
             TryRangeError::Invalid(_0) => core::fmt::Display::fmt(_0, f),
@@ -114,12 +122,14 @@ impl core::fmt::Display for TryRangeError {
 impl core::error::Error for TryRangeError {}
 
 impl From<RangeError> for TryRangeError {
+    #[inline]
     fn from(error: RangeError) -> TryRangeError {
         TryRangeError::Invalid(error)
     }
 }
 
 impl core::fmt::Display for SetJsonError {
+    #[inline]
     fn fmt(&self, f: &mut core::fmt::Formatter<'_>) -> core::fmt::Result {
         match self {
             SetJsonError::NotAnArray => write!(f, "no array"),

@@ -5,8 +5,8 @@ use crate::icu_zerovec::{CODE_POINT_LIMIT, PotentialCodePoint};
 use core::ops::RangeInclusive;
 
 /// The ranges of a set, ascending, as
-/// [`iter_ranges`](crate::icu_invlist::codepointinvlist::CodePointInversionList::iter_ranges) gives them. It
-/// knows how many are left, and a clause sees the ends of those.
+/// [`iter_ranges`](crate::icu_invlist::codepointinvlist::CodePointInversionList::iter_ranges) gives
+/// them. It knows how many are left.
 #[derive(Debug)]
 pub struct IterRanges<'a> {
     ends: Iter<'a, PotentialCodePoint>,
@@ -14,6 +14,7 @@ pub struct IterRanges<'a> {
 
 impl<'a> IterRanges<'a> {
     /// The ranges of these ends.
+    #[inline]
     pub(crate) fn from_ends(ends: Iter<'a, PotentialCodePoint>) -> Self {
         IterRanges { ends }
     }
@@ -22,12 +23,14 @@ impl<'a> IterRanges<'a> {
 impl<'a> Iterator for IterRanges<'a> {
     type Item = RangeInclusive<u32>;
 
+    #[inline]
     fn next(&mut self) -> Option<RangeInclusive<u32>> {
         let start = self.ends.next()?;
         let end = self.ends.next()?;
         Some(RangeInclusive::new(u32::from(start), u32::from(end) - 1))
     }
 
+    #[inline]
     fn size_hint(&self) -> (usize, Option<usize>) {
         let len = self.ends.len() / 2;
         (len, Some(len))
@@ -35,6 +38,7 @@ impl<'a> Iterator for IterRanges<'a> {
 }
 
 impl<'a> ExactSizeIterator for IterRanges<'a> {
+    #[inline]
     fn len(&self) -> usize {
         self.ends.len() / 2
     }
@@ -42,7 +46,7 @@ impl<'a> ExactSizeIterator for IterRanges<'a> {
 
 /// The ranges that a set does not hold, ascending, as
 /// [`iter_ranges_complemented`](crate::icu_invlist::codepointinvlist::CodePointInversionList::iter_ranges_complemented)
-/// gives them. A clause sees the ends of those that are left.
+/// gives them.
 #[derive(Debug)]
 pub struct IterRangesComplemented<'a> {
     start: Option<u32>,
@@ -50,6 +54,7 @@ pub struct IterRangesComplemented<'a> {
 }
 
 /// Where the next gap starts, if the set's range has this end.
+#[inline]
 pub(crate) fn start_of_gap(end: Option<PotentialCodePoint>) -> Option<u32> {
     let end = u32::from(end?);
     if end < CODE_POINT_LIMIT {
@@ -61,6 +66,7 @@ pub(crate) fn start_of_gap(end: Option<PotentialCodePoint>) -> Option<u32> {
 
 impl<'a> IterRangesComplemented<'a> {
     /// The gaps from this start on, past which the set has these ends.
+    #[inline]
     pub(crate) fn from_gap(start: Option<u32>, ends: Iter<'a, PotentialCodePoint>) -> Self {
         IterRangesComplemented { start, ends }
     }
@@ -69,6 +75,7 @@ impl<'a> IterRangesComplemented<'a> {
 impl<'a> Iterator for IterRangesComplemented<'a> {
     type Item = RangeInclusive<u32>;
 
+    #[inline]
     fn next(&mut self) -> Option<RangeInclusive<u32>> {
         let start = self.start?;
         match self.ends.next() {
@@ -85,8 +92,8 @@ impl<'a> Iterator for IterRangesComplemented<'a> {
 }
 
 /// The characters of a set, ascending, as
-/// [`iter_chars`](crate::icu_invlist::codepointinvlist::CodePointInversionList::iter_chars) gives them. A clause
-/// sees those that are left.
+/// [`iter_chars`](crate::icu_invlist::codepointinvlist::CodePointInversionList::iter_chars) gives
+/// them.
 #[derive(Debug)]
 pub struct IterChars<'a> {
     next: u32,
@@ -96,6 +103,7 @@ pub struct IterChars<'a> {
 
 impl<'a> IterChars<'a> {
     /// The characters of the ranges of these ends.
+    #[inline]
     pub(crate) fn from_ends(ends: Iter<'a, PotentialCodePoint>) -> Self {
         IterChars {
             next: 0,
@@ -107,6 +115,7 @@ impl<'a> IterChars<'a> {
 
 /// Goes over the next character from `next` to before `end`, and answers it. Surrogates on the way
 /// are left out.
+#[inline]
 fn take_char(next: &mut u32, end: u32) -> Option<char> {
     while *next < end {
         let c = char::from_u32(*next);
@@ -121,6 +130,7 @@ fn take_char(next: &mut u32, end: u32) -> Option<char> {
 impl<'a> Iterator for IterChars<'a> {
     type Item = char;
 
+    #[inline]
     fn next(&mut self) -> Option<char> {
         loop {
             let found = take_char(&mut self.next, self.end);

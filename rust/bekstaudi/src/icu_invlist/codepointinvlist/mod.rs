@@ -9,6 +9,8 @@ mod cpinvlist;
 mod equality;
 mod error;
 mod iter;
+#[cfg(feature = "json")]
+mod json;
 pub mod utils;
 
 pub use builder::CodePointInversionListBuilder;

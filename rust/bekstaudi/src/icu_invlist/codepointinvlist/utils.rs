@@ -13,20 +13,24 @@ pub trait RangePoint: Copy {
 }
 
 impl RangePoint for char {
+    #[inline]
     fn number(self) -> u32 {
         u32::from(self)
     }
 
+    #[inline]
     fn is_used_up(range: &RangeInclusive<char>) -> bool {
         *range.start() <= *range.end() && range.is_empty()
     }
 }
 
 impl RangePoint for u32 {
+    #[inline]
     fn number(self) -> u32 {
         self
     }
 
+    #[inline]
     fn is_used_up(range: &RangeInclusive<u32>) -> bool {
         *range.start() <= *range.end() && range.is_empty()
     }
@@ -43,50 +47,9 @@ pub trait RangeOf<X: RangePoint> {
 /// The inclusive start and the exclusive end of a range. A missing start is 0, and a missing end
 /// 0x110000. An included end `u32::MAX`, after which there is no number, is the end itself:
 /// `0..=u32::MAX` gives `(0, u32::MAX)`.
-pub fn deconstruct_range<X: RangePoint, R: RangeOf<X>>(range: R) -> (u32, u32) {
+#[inline]
+pub fn deconstruct_range<X: RangePoint, R: core::ops::RangeBounds<X>>(range: R) -> (u32, u32) {
     range.deconstruct()
-}
-
-impl<X: RangePoint> RangeOf<X> for Range<X> {
-    fn deconstruct(self) -> (u32, u32) {
-        (self.start.number(), self.end.number())
-    }
-}
-
-impl<X: RangePoint> RangeOf<X> for RangeInclusive<X> {
-    fn deconstruct(self) -> (u32, u32) {
-        let start = (*self.start()).number();
-        let end = (*self.end()).number();
-        if X::is_used_up(&self) {
-            (start, end)
-        } else {
-            (start, end.saturating_add(1))
-        }
-    }
-}
-
-impl<X: RangePoint> RangeOf<X> for RangeFrom<X> {
-    fn deconstruct(self) -> (u32, u32) {
-        (self.start.number(), CODE_POINT_LIMIT)
-    }
-}
-
-impl<X: RangePoint> RangeOf<X> for RangeTo<X> {
-    fn deconstruct(self) -> (u32, u32) {
-        (0, self.end.number())
-    }
-}
-
-impl<X: RangePoint> RangeOf<X> for RangeToInclusive<X> {
-    fn deconstruct(self) -> (u32, u32) {
-        (0, self.end.number().saturating_add(1))
-    }
-}
-
-impl<X: RangePoint> RangeOf<X> for RangeFull {
-    fn deconstruct(self) -> (u32, u32) {
-        (0, CODE_POINT_LIMIT)
-    }
 }
 
 /// Whether the ends are an inversion list: of even number, ascending without a repetition, and none
@@ -107,6 +70,7 @@ pub fn is_valid_zv(ends: &ZeroVec<'_, PotentialCodePoint>) -> bool {
 }
 
 /// Whether the ends are an inversion list, before they are packed.
+#[inline]
 pub(crate) fn is_valid_slice(ends: &[u32]) -> bool {
     if ends.len() % 2 != 0 {
         return false;

@@ -34,6 +34,7 @@ pub enum StringListJsonError {
 
 /// For `?` after a set of code points was read. Want of memory stays what it is.
 impl From<SetJsonError> for StringListJsonError {
+    #[inline]
     fn from(error: SetJsonError) -> StringListJsonError {
         match error {
             SetJsonError::Memory => StringListJsonError::Memory,
@@ -43,12 +44,14 @@ impl From<SetJsonError> for StringListJsonError {
 }
 
 impl From<MemoryError> for StringListJsonError {
+    #[inline]
     fn from(_error: MemoryError) -> StringListJsonError {
         StringListJsonError::Memory
     }
 }
 
 impl core::fmt::Display for InvalidStringList {
+    #[inline]
     fn fmt(&self, f: &mut core::fmt::Formatter<'_>) -> core::fmt::Result {
         match self {
             InvalidStringList::InvalidStringLength(_0) => write!(f, "Invalid string length for string: {_0}"),
@@ -61,6 +64,7 @@ impl core::fmt::Display for InvalidStringList {
 impl core::error::Error for InvalidStringList {}
 
 impl core::fmt::Display for StringListJsonError {
+    #[inline]
     fn fmt(&self, f: &mut core::fmt::Formatter<'_>) -> core::fmt::Result {
         match self {
             StringListJsonError::Shape(_0) => write!(f, "no object with arrays `cp_inv_list` and `str_list`, at the key `{_0}`"),
@@ -75,6 +79,7 @@ impl core::fmt::Display for StringListJsonError {
 impl core::error::Error for StringListJsonError {}
 
 impl From<InvalidStringList> for StringListJsonError {
+    #[inline]
     fn from(error: InvalidStringList) -> StringListJsonError {
         StringListJsonError::Strings(error)
     }

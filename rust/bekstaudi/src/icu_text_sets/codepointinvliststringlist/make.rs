@@ -17,6 +17,7 @@ enum Fault {
 }
 
 /// What is wrong with a string before the next one, if there is one.
+#[inline]
 fn fault_before(text: &String, next: Option<&String>) -> Option<Fault> {
     if only_char(text.as_str()).is_some() {
         return Some(Fault::OneCodePoint);
@@ -29,6 +30,7 @@ fn fault_before(text: &String, next: Option<&String>) -> Option<Fault> {
 }
 
 /// The first fault on a walk from the front, with the place of its string.
+#[inline]
 fn first_fault(strings: &[String]) -> Option<(usize, Fault)> {
     for (i, text) in strings.iter().enumerate() {
         if let Some(fault) = fault_before(text, strings.get(i + 1)) {
@@ -39,6 +41,7 @@ fn first_fault(strings: &[String]) -> Option<(usize, Fault)> {
 }
 
 /// The error that has the strings at fault, which are taken out of the list.
+#[inline]
 fn refused(mut strings: Vec<String>, place: usize, fault: Fault) -> InvalidStringList {
     match fault {
         Fault::OneCodePoint => InvalidStringList::InvalidStringLength(strings.swap_remove(place)),
@@ -51,6 +54,7 @@ fn refused(mut strings: Vec<String>, place: usize, fault: Fault) -> InvalidStrin
 }
 
 /// Appends a text to strings.
+#[inline]
 fn push_text(strings: &mut Vec<String>, text: &str) -> Result<(), MemoryError> {
     let string = String::from_str(text)?;
     strings.try_push(string)?;
@@ -58,6 +62,7 @@ fn push_text(strings: &mut Vec<String>, text: &str) -> Result<(), MemoryError> {
 }
 
 /// Brings strings into the order of a set: ascending by their bytes, each once.
+#[inline]
 fn sort_strings(strings: &mut Vec<String>) {
     strings.sort_unstable();
     strings.dedup();
@@ -73,6 +78,7 @@ impl<'data> CodePointInversionListAndStringList<'data> {
     /// - `InvalidStringLength` where the string is exactly one code point,
     /// - `StringListNotUnique` where the next string is equal,
     /// - `StringListNotSorted` where the next string has the smaller bytes, with both.
+    #[inline]
     pub fn try_from(
         cp_inv_list: CodePointInversionList<'data>,
         str_list: Vec<String>,

@@ -3,6 +3,8 @@
 
 mod equality;
 mod error;
+#[cfg(feature = "json")]
+mod json;
 mod make;
 mod set;
 

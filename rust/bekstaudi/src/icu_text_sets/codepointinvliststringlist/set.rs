@@ -9,7 +9,6 @@ use crate::icu_zerovec::MemoryError;
 /// string is any text but one of exactly one code point, also the empty text.
 ///
 /// It lends or owns its code points, and owns its strings, which ascend by their bytes, each once.
-/// A clause sees the ends of the code points' ranges, and the bytes of the strings.
 ///
 /// ```ignore
 /// let set = CodePointInversionListAndStringList::try_from_iter(["a", "abc", "xyz", "abc"].into_iter())?;
@@ -37,6 +36,7 @@ pub(super) fn find(strings: &[String], text: &str) -> Result<usize, usize> {
 }
 
 /// Copies strings.
+#[inline]
 fn copied(strings: &[String]) -> Result<Vec<String>, MemoryError> {
     let mut copies = Vec::with_room(strings.len())?;
     for string in strings {
@@ -51,9 +51,10 @@ impl<'data> CodePointInversionListAndStringList<'data> {
     ///
     /// # Errors
     /// `MemoryError` where memory was refused.
+    #[inline]
     pub fn try_clone(
         &self,
-        ) -> Result<CodePointInversionListAndStringList<'static>, MemoryError> {
+    ) -> Result<CodePointInversionListAndStringList<'static>, MemoryError> {
         Ok(CodePointInversionListAndStringList {
             cp_inv_list: self.cp_inv_list.try_clone()?,
             str_list: copied(&self.str_list)?,
@@ -64,17 +65,20 @@ impl<'data> CodePointInversionListAndStringList<'data> {
 /// What a set holds. None of these calls takes memory.
 impl<'data> CodePointInversionListAndStringList<'data> {
     /// How many members the set has: its code points, surrogates among them, and its strings.
+    #[inline]
     pub fn size(&self) -> usize {
         self.cp_inv_list.size() + self.str_list.len()
     }
 
     /// Whether the set has a string: a text of more than one code point, or the empty text.
+    #[inline]
     pub fn has_strings(&self) -> bool {
         !self.str_list.is_empty()
     }
 
     /// Whether the set holds the text: one of exactly one character if that is among the code
     /// points, any other one if it is among the strings.
+    #[inline]
     pub fn contains_str(&self, text: &str) -> bool {
         match only_char(text) {
             Some(c) => self.cp_inv_list.contains(c),
@@ -84,6 +88,7 @@ impl<'data> CodePointInversionListAndStringList<'data> {
 
     /// Whether the set holds the text of these bytes, as [`contains_str`](Self::contains_str) has
     /// it. Bytes that are no UTF-8 are no text, and not held.
+    #[inline]
     pub fn contains_utf8(&self, bytes: &[u8]) -> bool {
         match str::from_utf8(bytes) {
             Ok(text) => self.contains_str(text),
@@ -92,21 +97,25 @@ impl<'data> CodePointInversionListAndStringList<'data> {
     }
 
     /// Whether the set holds the code point. No number above 0x10FFFF is held.
+    #[inline]
     pub fn contains32(&self, cp: u32) -> bool {
         self.cp_inv_list.contains32(cp)
     }
 
     /// Whether the set holds the character.
+    #[inline]
     pub fn contains(&self, ch: char) -> bool {
         self.cp_inv_list.contains(ch)
     }
 
     /// The code points of the set.
+    #[inline]
     pub fn code_points(&self) -> &CodePointInversionList<'data> {
         &self.cp_inv_list
     }
 
     /// The strings of the set, ascending by their bytes.
+    #[inline]
     pub fn strings(&self) -> &[String] {
         self.str_list.as_slice()
     }

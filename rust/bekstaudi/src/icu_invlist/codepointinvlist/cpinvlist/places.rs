@@ -59,6 +59,7 @@ impl<'data> CodePointInversionList<'data> {
 
     /// How many ends are not above `c`, which are at least `from`. The steps double until one
     /// passes `c`, and what it spans is searched.
+    #[inline]
     fn place_past(&self, from: usize, c: u32) -> usize {
         let count = self.count();
         let mut low = from;

@@ -1,0 +1,109 @@
+//! A trie from and to JSON: an object whose key `data` has the units as an array of numbers.
+
+#[allow(unused_imports)]
+use crate::support::prelude::*;
+use crate::icu_char16trie::trie::Char16Trie;
+use crate::icu_zerovec::{MemoryError, ZeroSlice, ZeroVec};
+use serde_json::{Value, json};
+
+/// Why a JSON value is no trie.
+#[derive(Clone, Copy, Debug, PartialEq, Eq)]
+pub enum Char16JsonError {
+    /// It is no object, it has neither or both of the keys `data` and `trie_data`, or no array
+    /// stands there.
+    Shape,
+    /// This item of the array, counted from 0, is the first that is no whole number up to 65535.
+    Number(usize),
+    /// Memory was refused.
+    Memory,
+}
+
+impl From<MemoryError> for Char16JsonError {
+    #[inline]
+    fn from(_error: MemoryError) -> Char16JsonError {
+        Char16JsonError::Memory
+    }
+}
+
+/// The unit that an item is.
+#[inline]
+fn unit_of(item: &Value) -> Option<u16> {
+    u16::try_from(item.as_u64()?).ok()
+}
+
+/// The units that the items are, in their order.
+fn units_of_items(items: &[Value]) -> Result<Vec<u16>, Char16JsonError> {
+    let Ok(mut units) = Vec::with_room(items.len()) else {
+        return Err(Char16JsonError::Memory);
+    };
+    for (i, item) in items.iter().enumerate() {
+        let Some(unit) = unit_of(item) else {
+            return Err(Char16JsonError::Number(i));
+        };
+        let Ok(()) = units.try_push(unit) else {
+            return Err(Char16JsonError::Memory);
+        };
+    }
+    Ok(units)
+}
+
+/// The units as the object of a trie.
+#[inline]
+fn object_of(units: ZeroSlice<'_, u16>) -> Result<Value, MemoryError> {
+    let mut items = Vec::with_room(units.len())?;
+    for unit in units.iter() {
+        items.try_push(Value::from(unit))?;
+    }
+    Ok(crate::support::try_json!({ "data": Value::Array(items) })?)
+}
+
+impl<'data> Char16Trie<'data> {
+    /// The trie that a JSON value says: an object whose key `data`, or `trie_data` in its place, is
+    /// an array of whole numbers up to 65535. Other keys are ignored, and the units are not tested.
+    ///
+    /// ```ignore
+    /// let trie = Char16Trie::from_json(&Value::from_str(r#"{"data":[49,97,98,32771]}"#)?)?;
+    /// // the map of "ab" to 3
+    /// ```
+    ///
+    /// # Errors
+    /// In this order: `Shape` where it is no object, has neither or both of the keys, or where no
+    /// array stands there; `Number` with the first item that is no whole number up to 65535.
+    /// `Memory` where memory was refused.
+    #[inline]
+    pub fn from_json(value: &Value) -> Result<Char16Trie<'static>, Char16JsonError> {
+        let items = match (value.get("data"), value.get("trie_data")) {
+            (Some(items), None) | (None, Some(items)) => items,
+            (None, None) | (Some(_), Some(_)) => return Err(Char16JsonError::Shape),
+        };
+        let Some(items) = items.as_array() else {
+            return Err(Char16JsonError::Shape);
+        };
+        let units = units_of_items(items)?;
+        Ok(Char16Trie::new(ZeroVec::alloc_from_slice(&units)?))
+    }
+
+    /// The trie as a JSON value: an object whose one key `data` has the units as an array of
+    /// numbers.
+    ///
+    /// # Errors
+    /// `MemoryError` where memory was refused.
+    #[inline]
+    pub fn to_json(&self) -> Result<Value, MemoryError> {
+        let value = object_of(self.data.as_slice())?;
+        Ok(value)
+    }
+}
+
+impl core::fmt::Display for Char16JsonError {
+    #[inline]
+    fn fmt(&self, f: &mut core::fmt::Formatter<'_>) -> core::fmt::Result {
+        match self {
+            Char16JsonError::Shape => write!(f, "no object with one array `data` or `trie_data`"),
+            Char16JsonError::Number(_0) => write!(f, "item {_0} is no whole number up to 65535"),
+            Char16JsonError::Memory => write!(f, "no memory"),
+        }
+    }
+}
+
+impl core::error::Error for Char16JsonError {}

@@ -1,0 +1,353 @@
+//! A trie from TOML, as ICU4C exports it: a table with the header, the index, and the data in one
+//! of three widths.
+
+#[allow(unused_imports)]
+use crate::support::prelude::*;
+use crate::icu_trie::cptrie::CodePointTrie;
+use crate::icu_trie::error::{CodePointTrieError, PartsError};
+use crate::icu_trie::header::{CodePointTrieHeader, TrieType};
+use crate::icu_trie::value::TrieValue;
+use crate::icu_zerovec::MemoryError;
+use crate::support::{AllocError};
+use toml::value::{Table, Value};
+
+/// Why a table is refused.
+#[derive(Clone, Copy, Debug, PartialEq, Eq)]
+pub enum TomlError {
+    /// Nothing stands at this key, which is needed.
+    Missing(&'static str),
+    /// The value at this key, or an item of the array there, is of another kind or out of its
+    /// range.
+    OutOfRange(&'static str),
+    /// Memory was refused.
+    Memory,
+}
+
+impl From<MemoryError> for TomlError {
+    #[inline]
+    fn from(_error: MemoryError) -> TomlError {
+        TomlError::Memory
+    }
+}
+
+/// Why what a table holds is no trie.
+#[derive(Clone, Copy, Debug, PartialEq)]
+pub enum TrieFromTomlError {
+    /// The parts make no trie.
+    Trie(CodePointTrieError),
+    /// The table itself was refused. No conversion gives this: it stands here for `?`, in a
+    /// function that reads a table and makes a trie of it.
+    Table(TomlError),
+    /// Memory was refused.
+    Memory,
+}
+
+impl From<CodePointTrieError> for TrieFromTomlError {
+    #[inline]
+    fn from(error: CodePointTrieError) -> TrieFromTomlError {
+        TrieFromTomlError::Trie(error)
+    }
+}
+
+impl From<MemoryError> for TrieFromTomlError {
+    #[inline]
+    fn from(_error: MemoryError) -> TrieFromTomlError {
+        TrieFromTomlError::Memory
+    }
+}
+
+/// For `?` after a table was read. Want of memory stays what it is.
+impl From<TomlError> for TrieFromTomlError {
+    #[inline]
+    fn from(error: TomlError) -> TrieFromTomlError {
+        match error {
+            TomlError::Memory => TrieFromTomlError::Memory,
+            TomlError::Missing(_) | TomlError::OutOfRange(_) => TrieFromTomlError::Table(error),
+        }
+    }
+}
+
+/// The data of a trie in a table, in the width in which they stand there.
+#[derive(Clone, Copy, Debug)]
+pub enum CodePointDataSlice<'a> {
+    /// Cells of 8 bits.
+    U8(&'a [u8]),
+    /// Cells of 16 bits.
+    U16(&'a [u16]),
+    /// Cells of 32 bits.
+    U32(&'a [u32]),
+}
+
+/// The numbers that a table has beside its arrays.
+#[derive(Clone, Copy, Debug)]
+struct TomlFields {
+    high_start: u32,
+    shifted12_high_start: u16,
+    trie_type: u8,
+    value_width: u8,
+    index3_null_offset: u16,
+    data_null_offset: u32,
+    null_value: u32,
+}
+
+/// What a table holds of a trie, as ICU4C exports it.
+#[derive(Debug)]
+pub struct CodePointTrieToml {
+    index: Vec<u16>,
+    data_8: Option<Vec<u8>>,
+    data_16: Option<Vec<u16>>,
+    data_32: Option<Vec<u32>>,
+    fields: TomlFields,
+}
+
+/// The number that a value is, where it is a whole number that has a value of this type.
+#[inline]
+fn number_of<N: TrieValue>(value: &Value) -> Option<N> {
+    let number = u32::try_from(value.as_integer()?).ok()?;
+    N::try_from_u32(number).ok()
+}
+
+/// The value at a key.
+#[inline]
+fn value_at<'a>(table: &'a Table, key: &str) -> Option<&'a Value> {
+    table.get(key)
+}
+
+/// The number at a needed key.
+#[inline]
+fn number_at<N: TrieValue>(table: &Table, key: &'static str) -> Result<N, TomlError> {
+    let Some(value) = value_at(table, key) else {
+        return Err(TomlError::Missing(key));
+    };
+    let Some(number) = number_of(value) else {
+        return Err(TomlError::OutOfRange(key));
+    };
+    Ok(number)
+}
+
+/// The items of an array.
+#[inline]
+fn items_of(value: &Value) -> Option<&[Value]> {
+    match value.as_array() {
+        Some(items) => Some(items.as_slice()),
+        None => None,
+    }
+}
+
+/// The numbers that the items of an array are, in their order.
+fn numbers_of_items<N: TrieValue>(
+    items: &[Value],
+    key: &'static str,
+) -> Result<Vec<N>, TomlError> {
+    let Ok(mut numbers) = Vec::with_room(items.len()) else {
+        return Err(TomlError::Memory);
+    };
+    for item in items {
+        let Some(number) = number_of(item) else {
+            return Err(TomlError::OutOfRange(key));
+        };
+        let Ok(()) = numbers.try_push(number) else {
+            return Err(TomlError::Memory);
+        };
+    }
+    Ok(numbers)
+}
+
+/// The numbers of the array at a key, where one stands there.
+#[inline]
+fn optional_numbers_at<N: TrieValue>(
+    table: &Table,
+    key: &'static str,
+) -> Result<Option<Vec<N>>, TomlError> {
+    let Some(value) = value_at(table, key) else {
+        return Ok(None);
+    };
+    let Some(items) = items_of(value) else {
+        return Err(TomlError::OutOfRange(key));
+    };
+    let numbers = numbers_of_items(items, key)?;
+    Ok(Some(numbers))
+}
+
+/// The numbers of the array at a needed key.
+#[inline]
+fn numbers_at<N: TrieValue>(
+    table: &Table,
+    key: &'static str,
+) -> Result<Vec<N>, TomlError> {
+    let Some(numbers) = optional_numbers_at(table, key)? else {
+        return Err(TomlError::Missing(key));
+    };
+    Ok(numbers)
+}
+
+/// The numbers that a table has beside its arrays.
+#[inline]
+fn fields_of(table: &Table) -> Result<TomlFields, TomlError> {
+    Ok(TomlFields {
+        high_start: number_at(table, "highStart")?,
+        shifted12_high_start: number_at(table, "shifted12HighStart")?,
+        trie_type: number_at(table, "type")?,
+        value_width: number_at(table, "valueWidth")?,
+        index3_null_offset: number_at(table, "index3NullOffset")?,
+        data_null_offset: number_at(table, "dataNullOffset")?,
+        null_value: number_at(table, "nullValue")?,
+    })
+}
+
+/// The values whose numbers the cells are.
+fn values_of<N: TrieValue, T: TrieValue>(
+    cells: &[N],
+) -> Result<Vec<T>, TrieFromTomlError> {
+    let Ok(mut values) = Vec::with_room(cells.len()) else {
+        return Err(TrieFromTomlError::Memory);
+    };
+    for cell in cells {
+        let Ok(value) = T::try_from_u32(cell.to_u32()) else {
+            return Err(TrieFromTomlError::Trie(CodePointTrieError::FromDeserialized {
+                reason: "Could not parse data array to typed array",
+            }));
+        };
+        let Ok(()) = values.try_push(value) else {
+            return Err(TrieFromTomlError::Memory);
+        };
+    }
+    Ok(values)
+}
+
+impl CodePointTrieToml {
+    /// What a table holds of a trie. Its keys are `index`, an array of numbers of 16 bits; the
+    /// data, an array at one of the keys `data_8`, `data_16` and `data_32`, of numbers of so many
+    /// bits; and the numbers `highStart` (32 bits), `shifted12HighStart` (16), `type` (8),
+    /// `valueWidth` (8, kept and not used), `index3NullOffset` (16), `dataNullOffset` (32) and
+    /// `nullValue` (32). Other keys are ignored.
+    ///
+    /// ```ignore
+    /// let read = CodePointTrieToml::from_table(&toml::table_from_str(text)?)?;
+    /// let trie = CodePointTrie::<u8>::try_from(&read)?;
+    /// ```
+    ///
+    /// # Errors
+    /// The first fault in the order of the keys above: `Missing` where a key is not there, which
+    /// may be so of the three of the data alone; `OutOfRange` where the value is of another kind,
+    /// or a number out of its range. `Memory` where memory was refused.
+    #[inline]
+    pub fn from_table(table: &Table) -> Result<CodePointTrieToml, TomlError> {
+        Ok(CodePointTrieToml {
+            index: numbers_at(table, "index")?,
+            data_8: optional_numbers_at(table, "data_8")?,
+            data_16: optional_numbers_at(table, "data_16")?,
+            data_32: optional_numbers_at(table, "data_32")?,
+            fields: fields_of(table)?,
+        })
+    }
+
+    /// The cells of the index.
+    #[inline]
+    pub fn index_slice(&self) -> &[u16] {
+        self.index.as_slice()
+    }
+
+    /// The cells of the data: the first array of `data_8`, `data_16` and `data_32` that the table
+    /// had.
+    ///
+    /// # Errors
+    /// `FromDeserialized` where the table had none of them.
+    #[inline]
+    pub fn data_slice(&self) -> Result<CodePointDataSlice<'_>, CodePointTrieError> {
+        if let Some(cells) = &self.data_8 {
+            Ok(CodePointDataSlice::U8(cells.as_slice()))
+        } else if let Some(cells) = &self.data_16 {
+            Ok(CodePointDataSlice::U16(cells.as_slice()))
+        } else if let Some(cells) = &self.data_32 {
+            Ok(CodePointDataSlice::U32(cells.as_slice()))
+        } else {
+            Err(CodePointTrieError::FromDeserialized {
+                reason: "Did not find data array for CodePointTrie in TOML",
+            })
+        }
+    }
+}
+
+/// The header that the table had. `FromDeserialized` where its type is the number of none.
+impl TryFrom<&CodePointTrieToml> for CodePointTrieHeader {
+    type Error = CodePointTrieError;
+
+    #[inline]
+    fn try_from(toml: &CodePointTrieToml) -> Result<CodePointTrieHeader, CodePointTrieError> {
+        let fields = &toml.fields;
+        Ok(CodePointTrieHeader {
+            high_start: fields.high_start,
+            shifted12_high_start: fields.shifted12_high_start,
+            index3_null_offset: fields.index3_null_offset,
+            data_null_offset: fields.data_null_offset,
+            null_value: fields.null_value,
+            trie_type: TrieType::try_from(fields.trie_type)?,
+        })
+    }
+}
+
+/// The values of the data of a table.
+#[inline]
+fn typed_data<T: TrieValue>(toml: &CodePointTrieToml) -> Result<Vec<T>, TrieFromTomlError> {
+    match toml.data_slice()? {
+        CodePointDataSlice::U8(cells) => values_of(cells),
+        CodePointDataSlice::U16(cells) => values_of(cells),
+        CodePointDataSlice::U32(cells) => values_of(cells),
+    }
+}
+
+/// The trie of these parts, which owns its cells.
+#[inline]
+fn trie_with<T: TrieValue>(
+    header: CodePointTrieHeader,
+    index: &[u16],
+    values: &[T],
+) -> Result<CodePointTrie<'static, T>, TrieFromTomlError> {
+    match CodePointTrie::alloc_from_slices(header, index, values) {
+        Ok(trie) => Ok(trie),
+        Err(PartsError::Trie(error)) => Err(TrieFromTomlError::Trie(error)),
+        Err(PartsError::Memory) => Err(TrieFromTomlError::Memory),
+    }
+}
+
+/// The trie that the table had, which owns its cells. `Trie` where it is none, by the first fault:
+/// its type is the number of none, it had no data, a cell of the data is the number of no value
+/// (`FromDeserialized`), and then the faults of `CodePointTrie::try_new`. `Memory` where no memory
+/// was found.
+impl<T: TrieValue> TryFrom<&CodePointTrieToml> for CodePointTrie<'static, T> {
+    type Error = TrieFromTomlError;
+
+    #[inline]
+    fn try_from(toml: &CodePointTrieToml) -> Result<CodePointTrie<'static, T>, TrieFromTomlError> {
+        let header = CodePointTrieHeader::try_from(toml)?;
+        let values = typed_data(toml)?;
+        trie_with(header, toml.index_slice(), &values)
+    }
+}
+
+impl core::fmt::Display for TomlError {
+    #[inline]
+    fn fmt(&self, f: &mut core::fmt::Formatter<'_>) -> core::fmt::Result {
+        match self {
+            TomlError::Missing(_0) => write!(f, "no value at the key `{_0}`"),
+            TomlError::OutOfRange(_0) => write!(f, "the value at the key `{_0}` is of another kind or out of its range"),
+            TomlError::Memory => write!(f, "no memory"),
+        }
+    }
+}
+
+impl core::error::Error for TomlError {}
+
+impl core::fmt::Display for TrieFromTomlError {
+    #[inline]
+    fn fmt(&self, f: &mut core::fmt::Formatter<'_>) -> core::fmt::Result {
+        match self {
+            TrieFromTomlError::Trie(_0) => write!(f, "{_0}"),
+            TrieFromTomlError::Table(_0) => write!(f, "{_0}"),
+            TrieFromTomlError::Memory => write!(f, "no memory"),
+        }
+    }
+}
+
+impl core::error::Error for TrieFromTomlError {}
