@@ -4,41 +4,44 @@
 # it.
 # Usage: bench/run.sh [KERNEL..]       a kernel's name or the front of it; none: all
 # TABLES=FOLDER adds the tables NAME.txt of a folder to those of tests/data. CODE=FOLDER keeps the
-# machine code there.
+# machine code there. OURS=LIBRARY measures what rust.sh has made of the edition in Rust.
 set -eu
 here=$(dirname -- "$(readlink -f -- "$0")")
 root=$here/..
 
 stop() { echo "bench: $1" >&2; exit 70; }
-command -v rt >/dev/null || stop "no rt: put the kit's folder bin on PATH"
 command -v rustc >/dev/null || stop "no rustc"
 command -v g++ >/dev/null || stop "no g++"
 command -v python3 >/dev/null || stop "no python3"
 echo '#include <unicode/ucptrie.h>' | g++ -x c++ -E - >/dev/null 2>&1 ||
     stop "no ICU: install libicu-dev"
-kit=$(dirname -- "$(dirname -- "$(readlink -f -- "$(command -v rt)")")")
 
 work=$(mktemp -d)
 trap 'rm -rf "$work"' EXIT
 trap 'exit 130' INT TERM
 
 # What the driver calls of this repository is the crate bench_ours, a static library.
-echo "bench: proves and builds; from a clean clone this takes some minutes" >&2
-if ! (cd "$root/crates/bench_ours" && rt lib) >"$work/log" 2>&1; then
-    tail -n 20 "$work/log" >&2
-    stop "rt lib failed"
+if [ -n "${OURS:-}" ]; then
+    ours=$OURS rust= libc=
+else
+    command -v rt >/dev/null || stop "no rt: put the kit's folder bin on PATH"
+    libc=$(dirname -- "$(dirname -- "$(readlink -f -- "$(command -v rt)")")")/c/liblibc_c.a
+    echo "bench: proves and builds; from a clean clone this takes some minutes" >&2
+    if ! (cd "$root/crates/bench_ours" && rt lib) >"$work/log" 2>&1; then
+        tail -n 20 "$work/log" >&2
+        stop "rt lib failed"
+    fi
+    ours=$root/crates/bench_ours/out/libbench_ours.a rust=$work/libpeer.a
+    rustc --edition 2024 -O -C target-cpu=x86-64-v2 -C panic=abort --crate-type staticlib \
+        -o "$rust" "$here/peer/lib.rs"
 fi
-ours=$root/crates/bench_ours/out/libbench_ours.a
-rust=$work/libpeer.a
-rustc --edition 2024 -O -C target-cpu=x86-64-v2 -C panic=abort --crate-type staticlib -o "$rust" \
-    "$here/peer/lib.rs"
 for file in "$here"/driver/*.cpp; do
     g++ -std=c++17 -O3 -march=x86-64-v2 -c -o "$work/$(basename "$file" .cpp).o" "$file"
 done
 if [ -n "${CODE:-}" ]; then
     mkdir -p "$CODE"
     objdump -dC --no-show-raw-insn "$ours" >"$CODE/ours.s"
-    objdump -dC --no-show-raw-insn "$rust" >"$CODE/rust.s"
+    [ -z "$rust" ] || objdump -dC --no-show-raw-insn "$rust" >"$CODE/rust.s"
     objdump -dC --no-show-raw-insn "$work"/*.o >"$CODE/icu.s"
 fi
 
@@ -51,7 +54,7 @@ done
 for shift in 0 16 32 48; do
     printf '.section .note.GNU-stack,"",@progbits\n.text\n.p2align 6\n.fill %d\n' "$shift" |
         gcc -x assembler -c -o "$work/shift" -
-    g++ -o "$work/bench" "$work/shift" "$work"/*.o "$ours" "$rust" "$kit/c/liblibc_c.a" -licuuc
+    g++ -o "$work/bench" "$work/shift" "$work"/*.o "$ours" $rust $libc -licuuc
     echo "bench: measures, our code $shift bytes past a multiple of 64" >&2
     "$work/bench" "$@" >"$work/measured.$shift"
 done

@@ -1,0 +1,87 @@
+"""Writes the edition in Rust and what the driver calls of it, and builds both: edition.py FOLDER
+
+FOLDER then has `safe.a` and `proved-reads.a`: the loops of bench_ours, erased, over the public names
+of rust/bekstaudi without and with that feature, each with the peer beside them.
+"""
+import importlib.machinery
+import importlib.util
+import os
+import re
+import shutil
+import subprocess
+import sys
+
+sys.dont_write_bytecode = True
+TOP = os.path.dirname(os.path.dirname(os.path.realpath(__file__)))
+sys.path.insert(0, f"{TOP}/rust")
+# The names of the crates, by the modules that show them.
+SHOWN = {
+    "icu_zerovec": "zerovec",
+    "icu_invlist::codepointinvlist": "codepointinvlist",
+    "icu_frozen_sets::frozen": "codepointinvlist",
+    "icu_trie::(?:cptrie|header|typed|value)": "codepointtrie",
+    "icu_trie_builder(?:::writes)?": "codepointtrie",
+    "icu_char16trie::char16trie": "char16trie",
+    "icu_char16trie_builder::builder": "char16trie",
+}
+RULES = [(rf"(?<=use ){path}(?=::)", f"bekstaudi::{name}") for path, name in SHOWN.items()] + [
+    (r"\bstd::str::from_utf8", "core::str::from_utf8"),
+    (r"\ball\.push_str\(key\)\.ok\(\)\?;", "all.push_str(key);"),
+]
+CALL = re.compile(r'(pub extern "C" fn \w+)\(([^)]*)\)( -> \w+ \{\n)')
+SLICE = re.compile(r"(\w+): &(mut )?\[(\w+)\]")
+FLAGS = "--edition 2024 -O -C target-cpu=x86-64-v2 -C panic=abort --cap-lints allow".split()
+
+
+def called_from_c(found):
+    """A call of which each slice is a pointer and a length."""
+    head, arguments, tail = found.groups()
+    for name, mutable, of in SLICE.findall(arguments):
+        kind = "_mut" if mutable else ""
+        tail += f"    let {name} = unsafe {{ core::slice::from_raw_parts{kind}({name}, {name}_len) }};\n"
+    pointer = lambda it: f"{it[1]}: *{it[2] or 'const '}{it[3]}, {it[1]}_len: usize"
+    return f"{head}({SLICE.sub(pointer, arguments)}){tail}"
+
+
+def maker():
+    """rust/make as a module."""
+    loader = importlib.machinery.SourceFileLoader("make", f"{TOP}/rust/make")
+    made = importlib.util.module_from_spec(importlib.util.spec_from_loader("make", loader))
+    loader.exec_module(made)
+    return made
+
+
+def write(path, text):
+    with open(path, "w", encoding="utf-8") as file:
+        file.write(text)
+
+
+def rustc(*words):
+    subprocess.run(["rustc", *FLAGS, *words], check=True)
+
+
+def main(folder):
+    made, calls = maker(), f"{folder}/calls"
+    made.erase.ATTRIBUTES.add("repr")
+    made.edition(f"{folder}/edition")
+    shutil.copytree(f"{TOP}/rust/support", f"{calls}/src/support")
+    made.make(calls, ["bench_ours"], RULES)
+    for name in os.listdir(f"{calls}/src/bench_ours"):
+        path = f"{calls}/src/bench_ours/{name}"
+        with open(path, encoding="utf-8") as file:
+            text = CALL.sub(called_from_c, file.read())
+        write(path, text)
+    write(f"{calls}/src/lib.rs", "extern crate alloc;\nextern crate peer;\nmod bench_ours;\nmod support;\n")
+    rustc("--crate-type=rlib", "--crate-name=peer", "-o", f"{folder}/libpeer.rlib", f"{TOP}/bench/peer/lib.rs")
+    for name, words in {"safe": [], "proved-reads": ["--cfg", 'feature="proved-reads"']}.items():
+        lib = f"{folder}/{name}.rlib"
+        os.makedirs(f"{folder}/{name}")
+        lib = f"{folder}/{name}/libbekstaudi.rlib"
+        rustc("--crate-type=rlib", "--crate-name=bekstaudi", *words, "-o", lib, f"{folder}/edition/src/lib.rs")
+        rustc(
+            "--crate-type=staticlib", "--extern", f"bekstaudi={lib}", "--extern", f"peer={folder}/libpeer.rlib",
+            "-o", f"{folder}/{name}.a", f"{calls}/src/lib.rs",
+        )
+
+
+main(sys.argv[1])

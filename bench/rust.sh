@@ -1,0 +1,16 @@
+#!/bin/sh
+# Measures the edition in Rust beside plain Rust and ICU as run.sh does: as it is, and with its
+# feature proved-reads. It prints both summaries; the word `rows` before KERNEL.. asks for all rows.
+# Usage: bench/rust.sh [rows] [KERNEL..]
+set -eu
+here=$(dirname -- "$(readlink -f -- "$0")")
+work=$(mktemp -d)
+trap 'rm -rf "$work"' EXIT
+trap 'exit 130' INT TERM
+from='/^### Summary/'
+[ "${1:-}" != rows ] || { from=1; shift; }
+python3 "$here/edition.py" "$work"
+for edition in safe proved-reads; do
+    echo "## $edition"
+    OURS=$work/$edition.a "$here/run.sh" "$@" | sed -n "$from,\$p"
+done
