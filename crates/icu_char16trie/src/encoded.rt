@@ -78,8 +78,8 @@ fn number_by(
     }
 }
 
-/// The place after a number of more than its lead. It stands apart, so that a search that passes many
-/// numbers, of which nearly all are their leads, reads on before it has seen them.
+/// The place after a number of more than its lead. It stands apart, so that a search that passes
+/// many numbers, of which nearly all are their leads, reads on before it has seen them.
 #[cold]
 #[inline(never)]
 fn far_end(place: usize, lead: u16, three: u16) -> usize

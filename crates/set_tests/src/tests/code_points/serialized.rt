@@ -125,31 +125,31 @@ fn refused_units(rt: HostRuntime) {
     }
 }
 
-/// The set of every second code point, whose ranges are this many.
-fn every_second(alloc: Global, ranges: u32) -> Result<CodePointInversionList<'static>, Fail> {
+/// The set of every second code point below `limit`, which is even: its ends are all numbers below.
+fn every_second(alloc: Global, limit: u32) -> Result<CodePointInversionList<'static>, Fail> {
     let mut ends = Vec::new(alloc);
-    for end in 0..2 * ranges {
+    for end in 0..limit {
         ends.push(end)?;
     }
     Ok(set_of(alloc, &ends)?)
 }
 
-/// The number of units of the set of every second code point.
-fn length_of(alloc: Global, ranges: u32) -> Result<Option<usize>, Fail> {
-    Ok(serialized_len(&every_second(alloc, ranges)?))
+/// The number of units of that set.
+fn length_of(alloc: Global, limit: u32) -> Result<Option<usize>, Fail> {
+    Ok(serialized_len(&every_second(alloc, limit)?))
 }
 
 /// 0x7FFE units of ends, and two more than that.
 #[test]
 fn longest_in_units(rt: HostRuntime) -> Result<(), Fail> {
     let found = [
-        length_of(rt.alloc(), 0x3FFF)?,
-        length_of(rt.alloc(), 0x4000)?,
+        length_of(rt.alloc(), 0x7FFE)?,
+        length_of(rt.alloc(), 0x8000)?,
     ];
     expect_same(&rt, found, [Some(0x7FFF), None], "units");
-    let refused = to_serialized(rt.alloc(), &every_second(rt.alloc(), 0x4000)?).err();
+    let refused = to_serialized(rt.alloc(), &every_second(rt.alloc(), 0x8000)?).err();
     expect_same(&rt, refused, Some(SerializeError::TooLong), "too long");
-    let written = write_serialized(&every_second(rt.alloc(), 0x4000)?, &mut []);
+    let written = write_serialized(&every_second(rt.alloc(), 0x8000)?, &mut []);
     expect_same(&rt, written, Err(WriteError::TooLong), "too long");
     Ok(())
 }

@@ -22,5 +22,5 @@ returns-clause-shared c =
     let P : Type 0 = AddsBlocks c.args.self.now c.push_own.new.self 1 (block_bit c.args.block.now) in
     let Q : Type 0 = (value : Bool) → IsUniform c.args.block.now value → c.push_own.new.self.words ≡ c.args.self.now.words in
     let never : P → Q = λ a value u. absurd (mixed c.args.block.now value c.is_all.result c.is_all-2.result
-        c.if-is_all.false c.if-is_all-2.false c.is_all.ensures.1 c.is_all-2.ensures.1 u) in
+    c.if-is_all.false c.if-is_all-2.false c.is_all.ensures.1 c.is_all-2.ensures.1 u) in
     on_ok_weaker _ never c.push_own.ensures
