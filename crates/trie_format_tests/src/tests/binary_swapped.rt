@@ -1,0 +1,110 @@
+//! Tries in ICU's binary form with the highest byte of each number first.
+use super::binary_tables::{SMALL_8, SMALL_32};
+use super::support::{expect_same, expect_told, say};
+use icu_trie_binary::binary::{BinaryError, SwappedError, from_binary_swapped, to_binary};
+use std::alloc::Global;
+use std::process::Abort;
+use std::test::Fail;
+
+/// The header of `SMALL_8` and the first two cells of its index with the highest byte first. The
+/// other cells are all zero, and its values take one byte each: so the rest is the same in both
+/// orders.
+const FRONT_8: [u8; 20] = [
+    0x54, 0x72, 0x69, 0x33, 0x0f, 0x42, 0, 64, 0, 132, 0x7f, 0xff, 0xff, 0xff, 0, 8, 0, 0, 0, 64,
+];
+
+/// `SMALL_8` with the highest byte first, and three bytes behind it.
+fn swapped_8(alloc: Global) -> Option<Vec<u8>> {
+    let mut bytes = Vec::from_slice(alloc, &FRONT_8).ok()?;
+    bytes.extend_from_slice(&SMALL_8[20..]).ok()?;
+    bytes.extend_from_slice(&[1, 2, 3]).ok()?;
+    Some(bytes)
+}
+
+/// Appends groups of so many bytes, each from its last byte to its first.
+fn append_reversed(bytes: &mut Vec<u8>, groups: &[u8], width: usize) -> Result<(), Fail> {
+    if width > 0 {
+        for group in groups.chunks(width) {
+            for byte in group.iter().rev() {
+                bytes.push(*byte)?;
+            }
+        }
+    }
+    Ok(())
+}
+
+/// Its index has 186 cells.
+#[test]
+fn trie_of_32_bits(rt: HostRuntime) -> Result<(), Fail> {
+    let mut bytes = Vec::new(rt.alloc());
+    append_reversed(&mut bytes, &SMALL_32[..4], 4)?;
+    append_reversed(&mut bytes, &SMALL_32[4..16 + 2 * 186], 2)?;
+    append_reversed(&mut bytes, &SMALL_32[16 + 2 * 186..], 4)?;
+    let (trie, len) = from_binary_swapped::<u32>(rt.alloc(), bytes.as_slice())?;
+    expect_same(&rt, len, 972, "bytes of the trie");
+    let written = to_binary(rt.alloc(), &trie)?;
+    expect_same(
+        &rt,
+        written.as_slice(),
+        SMALL_32.as_slice(),
+        "as ICU wrote it",
+    );
+    Ok(())
+}
+
+/// How many bytes the trie of 8 bits takes, or why there is none.
+fn length_of(alloc: Global, bytes: &[u8]) -> Result<usize, SwappedError> {
+    let (_, len) = from_binary_swapped::<u8>(alloc, bytes)?;
+    Ok(len)
+}
+
+#[test]
+fn bytes_of_no_such_trie(rt: HostRuntime) {
+    let found = length_of(rt.alloc(), &SMALL_8);
+    let swapped = SwappedError::Binary(BinaryError::Swapped);
+    expect_same(&rt, found, Err(swapped), "this machine's order");
+    let found = length_of(rt.alloc(), &FRONT_8[..15]);
+    let short = SwappedError::Binary(BinaryError::Short);
+    expect_same(&rt, found, Err(short), "no header");
+    let found = length_of(rt.alloc(), &FRONT_8);
+    let cut_off = SwappedError::Binary(BinaryError::CutOff);
+    expect_same(&rt, found, Err(cut_off), "a header alone");
+}
+
+static TEXTS: [(SwappedError, &str); 2] = [
+    (
+        SwappedError::Binary(BinaryError::Signature),
+        "there is no signature of a trie",
+    ),
+    (SwappedError::Memory, "no memory"),
+];
+
+#[test]
+fn texts_of_errors(rt: HostRuntime) {
+    for (error, text) in TEXTS.iter() {
+        expect_told(&rt, error, text);
+    }
+}
+
+/// The trie takes 276 bytes, or the want of memory was told, which is said.
+fn expect_length(rt: &(impl Abort + Print), len: Result<usize, SwappedError>) {
+    match len {
+        Ok(len) => expect_same(rt, len, 276, "bytes of the trie"),
+        Err(error) => {
+            expect_same(rt, error, SwappedError::Memory, "the fault");
+            say(rt, "refused");
+        }
+    }
+}
+
+/// Calls: `binary::from_binary_swapped`.
+#[test]
+fn from_binary_swapped_refused(rt: HostRuntime) {
+    let Some(bytes) = swapped_8(rt.alloc()) else {
+        return;
+    };
+    say(&rt, "call");
+    let len = length_of(rt.alloc(), bytes.as_slice());
+    say(&rt, "done");
+    expect_length(&rt, len);
+}
