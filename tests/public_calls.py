@@ -8,6 +8,7 @@ import re
 SHOWN, ENGINE = "icu_collections", "ucptab_table"
 # What answers a want of memory, beside each enum with a variant `Memory`.
 ANSWERS = {"MemoryError", "AllocError", "ApplyRefused"}
+ENUM = re.compile(r"^pub enum (\w+)[^{]*\{(.*?)^\}", re.M | re.S)
 # Traits whose methods are called by an operator or by a format, and those whose methods are the
 # caller's own.
 UNNAMED = set(
@@ -111,12 +112,12 @@ def public_calls():
     names, modules = shown()
     crates = sorted({os.path.basename(it) for it in glob.glob("crates/icu_*")} - {SHOWN}) + [ENGINE]
     text = {path: plain(open(path).read()) for crate in crates for path in sources(crate)}
-    answers = ANSWERS | {
-        name
-        for it in text.values()
-        for name, body in re.findall(r"^pub enum (\w+)[^{]*\{(.*?)^\}", it, re.M | re.S)
-        if re.search(r"\bMemory\b", body)
+    enums = {
+        (path.split("/")[1], name): bool(re.search(r"\bMemory\b", body))
+        for path, it in text.items()
+        for name, body in ENUM.findall(it)
     }
+    answers = ANSWERS | {name for (_, name), answers in enums.items() if answers}
     # What a module that is shown whole makes public: its own items, and those that it names by `pub
     # use`.
     for path, it in text.items():
@@ -142,6 +143,8 @@ def public_calls():
         if path == f"crates/{ENGINE}/src/lib.rt":
             whole = ENGINE
         module = whole and os.path.basename(path)[:-3].replace("lib", whole).replace("mod", whole)
-        for call, kind in calls_of(path, names, traits, module, answers):
+        # A crate's own enum of a name is what its signatures mean by it.
+        others = {name for (crate, name), it in enums.items() if not it and crate in path.split("/")}
+        for call, kind in calls_of(path, names, traits, module, answers - others):
             found[call] = max(kind, found.get(call, kind), key=KINDS.index)
     return found
