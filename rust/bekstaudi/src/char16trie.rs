@@ -1,23 +1,32 @@
 //! Maps from keys of 16-bit units to numbers that are read in place (ICU's unit tries).
 //!
 //! [`Char16TrieBuilder`] makes a trie, [`Char16Trie::cursor`] and [`Char16Trie::iter`] look up in
-//! it unit by unit, and [`Char16Trie::iter2`] lists its entries.
+//! it unit by unit, [`Char16Trie::longest_match`] and [`Char16Trie::matches`] find the keys that
+//! begin a text, and [`Char16Trie::iter2`] lists its entries.
 //!
 //! ```
-//! use bekstaudi::char16trie::Char16TrieBuilder;
+//! use bekstaudi::char16trie::{Char16TrieBuilder, Char16TrieCursor};
 //! use std::fmt::Write;
 //!
 //! let mut builder = Char16TrieBuilder::new();
-//! builder.add(&"hello".encode_utf16().collect::<Vec<_>>(), 7)?;
+//! builder.add_str("hello", 7)?;
+//! builder.add(&[0x68, 0x65], 2)?;
+//! assert_eq!(builder.len(), 2);
 //! let trie = builder.try_build()?;
 //! let mut cursor = trie.cursor();
 //! write!(cursor, "hello")?;
 //! assert_eq!(cursor.value(), Some(7));
+//! let again = Char16TrieCursor::resume(trie.data.as_slice(), cursor.place());
+//! assert_eq!(again.value(), Some(7));
+//! assert_eq!(trie.longest_match_str("help"), Some((2, 2)));
+//! let text: Vec<u16> = "hello!".encode_utf16().collect();
+//! assert_eq!(trie.longest_match(&text), Some((5, 7)));
+//! assert_eq!(trie.matches(&text).collect::<Vec<_>>(), [(2, 2), (5, 7)]);
 //! # Ok::<(), Box<dyn std::error::Error>>(())
 //! ```
 
 pub use crate::icu_char16trie::char16trie::{
-    Char16Trie, Char16TrieCursor, Char16TrieIterator, Iter2, TrieResult,
+    Char16Trie, Char16TrieCursor, Char16TrieIterator, CursorPlace, Iter2, Matches, TrieResult,
 };
 #[cfg(feature = "json")]
 pub use crate::icu_char16trie::char16trie::Char16JsonError;

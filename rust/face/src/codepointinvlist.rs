@@ -2,10 +2,11 @@
 //!
 //! [`CodePointInversionListBuilder`] makes a [`CodePointInversionList`];
 //! [`FrozenCodePointSet::freeze`] adds a bit for each code point, for many look-ups, and
-//! [`FrozenCodePointSet::spans`] cuts a text into what is held and what is not.
+//! [`FrozenCodePointSet::spans`] cuts a text into what is held and what is not. [`serialized`] has
+//! sets in ICU's serialized form, written and read.
 //!
 //! ```
-//! use bekstaudi::codepointinvlist::{CodePointInversionList, FrozenCodePointSet};
+//! use bekstaudi::codepointinvlist::{CodePointInversionList, FrozenCodePointSet, serialized};
 //!
 //! let set: CodePointInversionList = ['b', 'a', 'c'].into_iter().collect();
 //! assert_eq!(set.get_inversion_list_vec(), [0x61, 0x64]);
@@ -14,7 +15,10 @@
 //! assert!(set.contains32(0x62) && !set.contains('d'));
 //! let frozen = FrozenCodePointSet::freeze(&set);
 //! assert_eq!(frozen.spans("abxc").count(), 3);
-//! # Ok::<(), bekstaudi::codepointinvlist::RangeError>(())
+//! let units = serialized::to_serialized(&set)?;
+//! assert_eq!(units, [2, 0x61, 0x64]);
+//! assert_eq!(serialized::from_serialized(&units)?, (set, 3));
+//! # Ok::<(), Box<dyn std::error::Error>>(())
 //! ```
 
 pub use crate::icu_frozen_sets::frozen::FrozenCodePointSet;
@@ -27,6 +31,7 @@ pub use crate::icu_invlist::codepointinvlist::{
 };
 #[cfg(feature = "json")]
 pub use crate::icu_invlist::codepointinvlist::SetJsonError;
+pub use crate::icu_invlist_binary::serialized;
 
 use crate::codepointinvliststringlist::CodePointInversionListAndStringList;
 use crate::icu_zerovec::CODE_POINT_LIMIT;

@@ -1,7 +1,8 @@
 //! Maps from code points to values that are read in place (ICU's code point tries).
 //!
-//! [`CodePointTrieBuilder`] makes a trie, [`CodePointTrie::get32`] asks it. A trie that ICU wrote is
-//! read where it is by [`binary::from_binary`]; one of another file is made of its parts by
+//! [`CodePointTrieBuilder`] makes a trie, [`CodePointTrie::get32`] asks it, and
+//! [`CodePointTrieBuilder::from_trie`] takes one to be written to and built again. A trie that ICU
+//! wrote is read where it is by [`binary::from_binary`]; one of another file is made of its parts by
 //! [`CodePointTrie::try_new`], which borrows them.
 //!
 //! ```
@@ -14,6 +15,11 @@
 //! assert_eq!(ranges[1], (0x30..=0x39, '0'));
 //! assert_eq!(trie.get('7'), '0');
 //! assert_eq!(trie.get32(0x110000), '!');
+//! let mut builder = CodePointTrieBuilder::from_trie(&trie);
+//! builder.set_value(0x37, '7');
+//! assert_eq!(builder.get(0x37), '7');
+//! assert_eq!(builder.get_range(0x38).map(|it| it.range), Some(0x38..=0x39));
+//! assert_eq!(builder.build().get('8'), '0');
 //! ```
 
 pub use crate::icu_trie::cptrie::CodePointTrie;
@@ -58,6 +64,14 @@ impl<T: TrieValue> CodePointTrie<'_, T> {
 }
 
 impl<T: TrieValue> CodePointTrieBuilder<T> {
+    /// [`try_from_trie`](Self::try_from_trie), plainly.
+    ///
+    /// # Panics
+    /// Where memory was refused.
+    pub fn from_trie(trie: &CodePointTrie<'_, T>) -> CodePointTrieBuilder<T> {
+        plain(CodePointTrieBuilder::try_from_trie(trie))
+    }
+
     /// [`try_set_value`](Self::try_set_value), plainly.
     ///
     /// # Panics

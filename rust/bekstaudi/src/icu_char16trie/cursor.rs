@@ -2,7 +2,7 @@
 
 #[allow(unused_imports)]
 use crate::support::prelude::*;
-use crate::icu_char16trie::place::Place;
+use crate::icu_char16trie::place::{CursorPlace, Place, numbers_of, place_of};
 use crate::icu_char16trie::step::{is_empty_at, step, value_at};
 use crate::icu_zerovec::ZeroSlice;
 
@@ -24,6 +24,28 @@ impl<'a> Char16TrieCursor<'a> {
             units: trie,
             place: Place::Node(0),
         }
+    }
+
+    /// The cursor at a place of the trie with these units (ICU: `resetToState`). The place may be
+    /// of another trie, or from a stranger.
+    ///
+    /// ```ignore
+    /// let place = cursor.place();
+    /// let same = Char16TrieCursor::resume(trie.data.as_slice(), place); // stands where cursor stood
+    /// ```
+    #[inline]
+    pub fn resume(trie: ZeroSlice<'a, u16>, place: CursorPlace) -> Self {
+        Char16TrieCursor {
+            units: trie,
+            place: place_of(place),
+        }
+    }
+
+    /// Where the cursor stands, to go on from there by [`resume`](Self::resume) (ICU:
+    /// `saveState`).
+    #[inline]
+    pub fn place(&self) -> CursorPlace {
+        numbers_of(self.place)
     }
 
     /// One more unit. After no match nothing changes.

@@ -17,6 +17,8 @@
 //!   `write`: of a text that is written to it
 //! - `iterator`: [`Char16TrieIterator`](char16trie::Char16TrieIterator), the same with a result for
 //!   each step
+//! - `dictionary`: the longest key that begins a text; `matches`: [`Matches`](char16trie::Matches),
+//!   all of them
 //! - `entries`: [`Iter2`](char16trie::Iter2), the entries in unit order; `pending`: what they have
 //!   still to go through; `spelling`: the key as text while it grows
 //! - `json`: a trie from and to JSON
@@ -26,11 +28,13 @@
 mod branch;
 pub mod char16trie;
 mod cursor;
+mod dictionary;
 mod encoded;
 mod entries;
 mod iterator;
 #[cfg(feature = "json")]
 mod json;
+mod matches;
 mod pending;
 mod place;
 mod spelling;

@@ -70,11 +70,7 @@ impl<'data> Char16Trie<'data> {
     /// }
     /// ```
     #[inline]
-    pub fn try_iter2(&self) -> Iter2<'_>
-
-        // Until the want of memory, if there is one, the items are the entries; only then are they
-        // cut short.
-    {
+    pub fn try_iter2(&self) -> Iter2<'_> {
         Iter2::new(self.data.as_slice())
     }
 

@@ -4,6 +4,7 @@
 use crate::support::prelude::*;
 use crate::icu_char16trie_builder::entry::Entry;
 use crate::icu_char16trie_builder::error::{AddError, BuildError};
+use crate::icu_char16trie_builder::text::{is_too_long, units_of_text};
 use crate::icu_char16trie_builder::units::units_of;
 use crate::icu_char16trie::char16trie::Char16Trie;
 use crate::icu_zerovec::ZeroVec;
@@ -11,7 +12,7 @@ use crate::support::{AllocError};
 use crate::support::BTreeMap;
 
 /// The most units that a key may have.
-const LONGEST_KEY: usize = 65_535;
+pub(crate) const LONGEST_KEY: usize = 65_535;
 
 /// The most units that a trie may need: a jump over so many has its number.
 const MOST_UNITS: u64 = 0x7FFF_FFFF;
@@ -38,6 +39,17 @@ fn has_key(entries: &BTreeMap<Vec<u16>, i32>, key: &[u16]) -> bool {
     entries.contains_key(key)
 }
 
+/// Adds an entry, whose key is given away, to a map. A refused one leaves it as it was.
+#[inline]
+fn insert_key(
+    entries: &mut BTreeMap<Vec<u16>, i32>,
+    key: Vec<u16>,
+    value: i32,
+) -> Result<(), AllocError> {
+    entries.try_insert(key, value)?;
+    Ok(())
+}
+
 /// Adds an entry to a map. A refused one leaves it as it was.
 #[inline]
 fn insert(
@@ -46,8 +58,7 @@ fn insert(
     value: i32,
 ) -> Result<(), AllocError> {
     let key = Vec::from_slice(key)?;
-    entries.try_insert(key, value)?;
-    Ok(())
+    insert_key(entries, key, value)
 }
 
 /// The entries of a map, in their order.
@@ -112,10 +123,8 @@ impl Char16TrieBuilder {
     /// `KeyTooLong` exactly where the key has more than 65,535 units, else `Duplicate` exactly
     /// where there is an entry with this key, and `Memory` where memory was refused. The entries
     /// are then as before.
-    pub fn add(&mut self, key: &[u16], value: i32) -> Result<(), AddError>
-
-        // Of the errors the first one that holds is answered.
-    {
+    #[inline]
+    pub fn add(&mut self, key: &[u16], value: i32) -> Result<(), AddError> {
         if key.len() > LONGEST_KEY {
             return Err(AddError::KeyTooLong);
         }
@@ -126,6 +135,45 @@ impl Char16TrieBuilder {
             Ok(()) => Ok(()),
             Err(_) => Err(AddError::Memory),
         }
+    }
+
+    /// Adds an entry whose key is the units of a text in UTF-16, as [`add`](Self::add).
+    ///
+    /// ```ignore
+    /// builder.add_str("ab", 2)?; // as builder.add(&[0x61, 0x62], 2)?
+    /// builder.add_str("\u{1f600}", 3)?; // as builder.add(&[0xD83D, 0xDE00], 3)?
+    /// ```
+    ///
+    /// # Errors
+    /// `KeyTooLong` exactly where the text has more than 65,535 units. Else, where there is an
+    /// entry with this key, `Duplicate`, and `Memory` where memory was refused, also for the units
+    /// of a key that is there. The entries are then as before.
+    pub fn add_str(&mut self, key: &str, value: i32) -> Result<(), AddError> {
+        if is_too_long(key) {
+            return Err(AddError::KeyTooLong);
+        }
+        let Ok(units) = units_of_text(key) else {
+            return Err(AddError::Memory);
+        };
+        if has_key(&self.entries, units.as_slice()) {
+            return Err(AddError::Duplicate);
+        }
+        match insert_key(&mut self.entries, units, value) {
+            Ok(()) => Ok(()),
+            Err(_) => Err(AddError::Memory),
+        }
+    }
+
+    /// How many entries there are.
+    #[inline]
+    pub fn len(&self) -> usize {
+        self.entries.len()
+    }
+
+    /// Whether there is no entry.
+    #[inline]
+    pub fn is_empty(&self) -> bool {
+        self.entries.is_empty()
     }
 
     /// The trie of the entries: the empty list of units, if there are none. With U units in the

@@ -10,6 +10,7 @@
 //! ```
 //!
 //! - `builder`: [`Char16TrieBuilder`](builder::Char16TrieBuilder), the entries and their trie
+//! - `text`: the units of a text, which may be a key
 //! - `error`: why an entry was refused, or a trie could not be built
 //!
 //! A trie is written from its last unit to its first, so that what was written last stands in
@@ -31,5 +32,6 @@ mod known;
 mod level;
 mod open;
 mod step;
+mod text;
 mod units;
 mod write;

@@ -84,6 +84,17 @@ impl CodePointBits {
         ascii
     }
 
+    /// The bits of the first 2,048 code points, whose blocks are there, 64 a word.
+    #[inline]
+    pub(crate) fn first_words(&self) -> [u64; 32] {
+        let mut words = [0; 32];
+        for k in 0..32 {
+            let first = self.index[k / 4] as usize;
+            words[k] = self.words[first + k % 4];
+        }
+        words
+    }
+
     /// Appends so many blocks that hold everything, or, for `value` false, nothing.
     ///
     /// # Errors
@@ -103,7 +114,7 @@ impl CodePointBits {
         Ok(())
     }
 
-    /// Appends a block of these words.
+    /// Appends a block of these words. One that holds nothing or everything takes no words.
     ///
     /// # Errors
     /// `MemoryError` where memory was refused.

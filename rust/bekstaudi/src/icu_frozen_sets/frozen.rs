@@ -22,6 +22,8 @@ pub struct FrozenCodePointSet {
     set: CodePointInversionList<'static>,
     /// Whether each byte of ASCII is held: what the bits say, in one load.
     ascii: [bool; 128],
+    /// The bits of what is below 0x800, and so of at most two bytes: a word for each lead byte.
+    two_bytes: [u64; 32],
     bits: CodePointBits,
 }
 
@@ -46,6 +48,7 @@ impl FrozenCodePointSet {
         Ok(FrozenCodePointSet {
             set: set.try_clone()?,
             ascii: bits.ascii(),
+            two_bytes: bits.first_words(),
             bits,
         })
     }
@@ -59,6 +62,7 @@ impl FrozenCodePointSet {
         Ok(FrozenCodePointSet {
             set: self.set.try_clone()?,
             ascii: self.ascii,
+            two_bytes: self.two_bytes,
             bits: self.bits.try_clone()?,
         })
     }
@@ -87,6 +91,14 @@ impl FrozenCodePointSet {
 
 /// How far a text lies in a frozen set.
 impl FrozenCodePointSet {
+    /// Whether the character is held that has two bytes, or one: `word` is told by its lead byte,
+    /// and `place` by its trail byte.
+    #[inline(always)]
+    fn contains_short(&self, word: u32, place: u32) -> bool {
+        let bits = self.two_bytes[word as usize];
+        (bits >> place) & 1 == 1
+    }
+
     /// Whether the character is held that begins at `start`, and where it ends. Its lead and trail
     /// bytes are the place of its bit, so no `char` is made of them.
     #[inline(always)]
@@ -97,7 +109,7 @@ impl FrozenCodePointSet {
         }
         let second = u32::from(bytes[start + 1]) % 64;
         if lead < 0xE0 {
-            return (self.bits.contains_in(lead % 32, second), start + 2);
+            return (self.contains_short(lead % 32, second), start + 2);
         }
         let third = u32::from(bytes[start + 2]) % 64;
         if lead < 0xF0 {

@@ -61,10 +61,7 @@ fn range_at(text: &str) -> Option<(u32, u32)> {
 
 /// The first and the last point of the range that a whole text spells.
 #[inline]
-pub(crate) fn range_of(text: &str) -> Option<(u32, u32)>
-    // What is read is spelled so.
-    // What is spelled so is read.
-{
+pub(crate) fn range_of(text: &str) -> Option<(u32, u32)> {
     range_at(text)
 }
 

@@ -42,10 +42,7 @@ pub(crate) fn place_map_blocks(
     first: usize,
     count: usize,
     limit: usize,
-) -> Result<Vec<u32>, BuildError>
-
-    // Blocks that stand in the cells already add none.
-{
+) -> Result<Vec<u32>, BuildError> {
     let mut table = WindowTable::for_cells(size, stored.len())?;
     let mut room = Vec::with_room(size)?;
     let mut offsets = Vec::with_room(count)?;

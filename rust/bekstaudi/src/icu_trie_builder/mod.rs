@@ -3,6 +3,7 @@
 //!
 //! - `writes`: one write, and why a list of them was cut short
 //! - `builder`: [`CodePointTrieBuilder`](builder::CodePointTrieBuilder), the map that is written to
+//! - `amend`: the map is read, and made of the answers of a trie
 //! - `build`: the map becomes a trie: [`build_from_writes`]
 //! - `error`: why a trie could not be built
 //!
@@ -20,6 +21,7 @@
 
 #[allow(unused_imports)]
 use crate::support::prelude::*;
+mod amend;
 mod build;
 pub mod builder;
 mod data;

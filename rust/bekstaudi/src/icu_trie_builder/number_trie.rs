@@ -30,10 +30,7 @@ pub(crate) fn build_numbers(
     error: u32,
     default: u32,
     trie_type: TrieType,
-) -> Result<NumberTrie, BuildError>
-
-    // Each cell is a number of the map or the error value.
-{
+) -> Result<NumberTrie, BuildError> {
     let high_start = numbers.high_start();
     let PlacedData {
         values,

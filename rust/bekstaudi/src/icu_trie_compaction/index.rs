@@ -130,12 +130,7 @@ pub(crate) fn build_index(
     fast: &[u32],
     small: &[u32],
     null: usize,
-) -> Result<BuiltIndex, BuildError>
-
-    // Where all offsets have 16 bits, no block needs the 18-bit form.
-
-    // After all others, a different index-3 block would stand at 0x7fff or above it.
-{
+) -> Result<BuiltIndex, BuildError> {
     let mut cells = Vec::new();
     push_fast(&mut cells, fast)?;
     if high_start <= trie_type.fast_limit() as usize {

@@ -63,10 +63,7 @@ fn place_offsets(
     fast: &[u32],
     offsets: &[u32],
     start: usize,
-) -> Result<usize, BuildError>
-
-    // What is appended to the cells is one block, and no earlier one.
-{
+) -> Result<usize, BuildError> {
     let greatest = usize::from(NO_INDEX3_NULL_OFFSET) - 1 - start;
     if !fit_16_bits(offsets) {
         let packed = pack(offsets)?;

@@ -2,5 +2,7 @@
 //! UMutableCPTrie).
 //!
 //! - `number_map`: [`NumberMap`](number_map::NumberMap), the map in blocks of 16 code points
+//! - `reads`: the number of a code point, and how far a number goes on
 
 pub mod number_map;
+mod reads;

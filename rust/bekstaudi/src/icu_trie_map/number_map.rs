@@ -6,7 +6,7 @@ use crate::icu_zerovec::CODE_POINT_LIMIT;
 use crate::support::{AllocError};
 
 /// How many blocks of 16 code points there are.
-const BLOCK_COUNT: usize = CODE_POINT_LIMIT as usize / 16;
+pub(crate) const BLOCK_COUNT: usize = CODE_POINT_LIMIT as usize / 16;
 
 /// Blocks below this one are made mixed four at a time.
 const FIRST_SINGLE: usize = 0x1000;
@@ -55,19 +55,19 @@ fn make_blocks(blocks: &mut Blocks, rest: u32) -> Result<(), AllocError> {
 
 /// Whether there are blocks.
 #[inline]
-fn are_there(blocks: &Blocks) -> bool {
+pub(crate) fn are_there(blocks: &Blocks) -> bool {
     blocks.mixed.len() > 0
 }
 
 /// Whether block number `number` is mixed.
 #[inline]
-fn has_cells(blocks: &Blocks, number: usize) -> bool {
+pub(crate) fn has_cells(blocks: &Blocks, number: usize) -> bool {
     blocks.mixed[number]
 }
 
 /// The number of block number `number`, or the place of its cells.
 #[inline]
-fn number_of(blocks: &Blocks, number: usize) -> u32 {
+pub(crate) fn number_of(blocks: &Blocks, number: usize) -> u32 {
     blocks.numbers[number]
 }
 
@@ -174,7 +174,7 @@ fn write_range(
 
 /// The number of the code point `c`.
 #[inline]
-fn number_of_code_point(blocks: &Blocks, rest: u32, c: usize) -> u32 {
+pub(crate) fn number_of_code_point(blocks: &Blocks, rest: u32, c: usize) -> u32 {
     if !are_there(blocks) {
         return rest;
     }
@@ -186,7 +186,7 @@ fn number_of_code_point(blocks: &Blocks, rest: u32, c: usize) -> u32 {
 
 /// The cell number `i` of block number `block`, which is mixed.
 #[inline]
-fn cell_of(blocks: &Blocks, block: usize, i: usize) -> u32 {
+pub(crate) fn cell_of(blocks: &Blocks, block: usize, i: usize) -> u32 {
     let place = number_of(blocks, block) as usize;
     blocks.cells[place + i]
 }

@@ -10,7 +10,7 @@ use crate::icu_invlist::codepointinvlist::error::{InvalidSetError, SetError};
 use crate::icu_invlist::codepointinvlist::iter::{IterChars, IterRanges, IterRangesComplemented, start_of_gap};
 use crate::icu_invlist::codepointinvlist::utils::{RangeOf, is_valid_slice, is_valid_zv};
 use crate::icu_zerovec::ule::AsULE;
-use crate::icu_zerovec::{CODE_POINT_LIMIT, MemoryError, PotentialCodePoint, ZeroVec};
+use crate::icu_zerovec::{CODE_POINT_LIMIT, MemoryError, PotentialCodePoint, ZeroSlice, ZeroVec};
 use packing::{cut_to_points, pack, unpacked};
 use core::ops::RangeInclusive;
 
@@ -137,6 +137,20 @@ impl<'data> CodePointInversionList<'data> {
     #[inline]
     pub(crate) fn packed(&self) -> &ZeroVec<'data, PotentialCodePoint> {
         &self.ends
+    }
+
+    /// The ends, lent as they are kept, packed in three bytes each. What
+    /// [`try_from_inversion_list`](Self::try_from_inversion_list) takes, it lends again: that one
+    /// gives an equal set of these ends. It takes no memory.
+    ///
+    /// ```ignore
+    /// let ends = letters.as_inversion_list();
+    /// let same = CodePointInversionList::try_from_inversion_list(ends.as_zerovec())?;
+    /// // same == letters, and ends.as_bytes() is what a file keeps of it
+    /// ```
+    #[inline]
+    pub fn as_inversion_list(&self) -> ZeroSlice<'_, PotentialCodePoint> {
+        self.ends.as_slice()
     }
 
     /// The ends, copied.

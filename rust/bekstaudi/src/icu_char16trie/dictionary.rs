@@ -1,0 +1,84 @@
+//! The keys that begin a text, as a dictionary is asked for its words.
+
+use crate::icu_char16trie::matches::Matches;
+use crate::icu_char16trie::trie::Char16Trie;
+
+/// The match of the first `n` units, if they have a value, or else what was found before them.
+#[inline(always)]
+fn longer_match(n: usize, value: Option<i32>, found: Option<(usize, i32)>) -> Option<(usize, i32)> {
+    match value {
+        Some(v) => Some((n, v)),
+        None => found,
+    }
+}
+
+impl<'data> Char16Trie<'data> {
+    /// The longest key that begins a text: how many units it has, and its value. `None` where no
+    /// key begins the text. The empty key begins each text.
+    ///
+    /// No more units are read than some key goes on with. (With ICU: the loop over
+    /// `UCharsTrie::next` that ends where `USTRINGTRIE_HAS_NEXT` does not hold.)
+    ///
+    /// ```text
+    /// // of the map of "a" to 1 and "ab" to 2
+    /// // trie.longest_match(&[0x61, 0x62, 0x63]) is Some((2, 2)): "ab"
+    /// // trie.longest_match(&[0x61, 0x63]) is Some((1, 1)): "a"
+    /// // trie.longest_match(&[0x62]) is None
+    /// ```
+    pub fn longest_match(&self, text: &[u16]) -> Option<(usize, i32)> {
+        let mut cursor = self.cursor();
+        let empty = cursor.value();
+        let mut found = longer_match(0, empty, None);
+        for i in 0..text.len() {
+            if cursor.is_empty() {
+                return found;
+            }
+            cursor.step16(text[i]);
+            let value = cursor.value();
+            found = longer_match(i + 1, value, found);
+        }
+        found
+    }
+
+    /// The longest key that a text begins with: how many bytes of the text it is, and its value.
+    /// `None` where the text begins with no key.
+    ///
+    /// A key is here the units in UTF-16 of some first characters: one that ends between the two
+    /// units of a character doesn't count, so that `&text[length..]` is what follows.
+    ///
+    /// ```text
+    /// // of the map of "\u{e9}" to 1 and "\u{e9}t\u{e9}" to 2
+    /// // trie.longest_match_str("\u{e9}t\u{e9}s") is Some((5, 2)), and before "s" there are 5 bytes
+    /// // trie.longest_match_str("\u{e9}t") is Some((2, 1))
+    /// ```
+    pub fn longest_match_str(&self, text: &str) -> Option<(usize, i32)> {
+        let mut cursor = self.cursor();
+        let empty = cursor.value();
+        let mut found = longer_match(0, empty, None);
+        let mut end = 0;
+        for c in text.chars() {
+            if cursor.is_empty() {
+                return found;
+            }
+            cursor.step(c);
+            end += c.len_utf8();
+            let value = cursor.value();
+            found = longer_match(end, value, found);
+        }
+        found
+    }
+
+    /// All keys that begin a text, the shortest one first: how many units each has, and its value.
+    /// It takes no memory, and no more units are read than some key goes on with.
+    ///
+    /// ```text
+    /// // of the map of "a" to 1 and "ab" to 2
+    /// for (length, value) in trie.matches(&[0x61, 0x62, 0x63]) {
+    ///     // 1 and 1, then 2 and 2
+    /// }
+    /// ```
+    #[inline]
+    pub fn matches<'a>(&'a self, text: &'a [u16]) -> Matches<'a> {
+        Matches::new(self.cursor(), text)
+    }
+}

@@ -1,0 +1,123 @@
+//! The ends that units have, read in place.
+
+#[allow(unused_imports)]
+use crate::support::prelude::*;
+use crate::icu_invlist_binary::error::SerializedSetError;
+use crate::icu_zerovec::{CODE_POINT_LIMIT, MemoryError};
+
+/// The unit at place `i`, and 0 where there is none.
+#[inline]
+fn unit_at(units: &[u16], i: usize) -> usize {
+    match units.get(i) {
+        Some(unit) => *unit as usize,
+        None => 0,
+    }
+}
+
+/// How many units stand before those of the ends.
+#[inline]
+fn head_length(units: &[u16]) -> usize {
+    if unit_at(units, 0) >= 0x8000 { 2 } else { 1 }
+}
+
+/// How many units the ends take.
+#[inline]
+fn ends_length(units: &[u16]) -> usize {
+    unit_at(units, 0) % 0x8000
+}
+
+/// How many ends take one unit.
+#[inline]
+fn singles_length(units: &[u16]) -> usize {
+    if unit_at(units, 0) >= 0x8000 {
+        unit_at(units, 1)
+    } else {
+        ends_length(units)
+    }
+}
+
+/// How many units the whole set takes.
+#[inline]
+pub(crate) fn serialized_length(units: &[u16]) -> usize {
+    head_length(units) + ends_length(units)
+}
+
+/// The units of the ends.
+#[inline]
+fn units_of_ends(units: &[u16]) -> Result<&[u16], SerializedSetError> {
+    let len = serialized_length(units);
+    if units.len() < len {
+        return Err(SerializedSetError::Short);
+    }
+    let ends = &units[head_length(units)..];
+    Ok(&ends[..ends_length(units)])
+}
+
+/// The ends of a set in their units: those of one unit each, and those of two.
+#[derive(Clone, Copy, Debug)]
+pub(crate) struct LentEnds<'a> {
+    pub(crate) singles: &'a [u16],
+    pub(crate) pairs: &'a [u16],
+}
+
+/// The ends that the units have.
+#[inline]
+pub(crate) fn lent_ends(units: &[u16]) -> Result<LentEnds<'_>, SerializedSetError> {
+    let ends = units_of_ends(units)?;
+    let singles = singles_length(units);
+    if ends.len() < singles || (ends.len() - singles) % 2 == 1 {
+        return Err(SerializedSetError::Count);
+    }
+    Ok(LentEnds {
+        singles: &ends[..singles],
+        pairs: &ends[singles..],
+    })
+}
+
+impl<'a> LentEnds<'a> {
+    /// How many ends there are.
+    #[inline]
+    fn count(&self) -> usize {
+        self.singles.len() + self.pairs.len() / 2
+    }
+
+    /// The end at place `i`, counted from 0.
+    #[inline]
+    fn end_at(&self, i: usize) -> u32 {
+        let singles = self.singles.len();
+        if i < singles {
+            return u32::from(self.singles[i]);
+        }
+        let pair = 2 * (i - singles);
+        u32::from(self.pairs[pair]) * 0x1_0000 + u32::from(self.pairs[pair + 1])
+    }
+
+    /// Whether they are an inversion list, with 0x110000 after an odd number of them.
+    #[inline]
+    pub(crate) fn is_valid(&self) -> bool {
+        let count = self.count();
+        let mut next = 0;
+        for i in 0..count {
+            let end = self.end_at(i);
+            if end < next || end > CODE_POINT_LIMIT {
+                return false;
+            }
+            next = end + 1;
+        }
+        count % 2 == 0 || next <= CODE_POINT_LIMIT
+    }
+
+    /// The ends, copied, with 0x110000 after an odd number of them.
+    #[inline]
+    pub(crate) fn copied(&self) -> Result<Vec<u32>, MemoryError> {
+        let count = self.count();
+        let mut ends = Vec::with_room(count + count % 2)?;
+        for i in 0..count {
+            ends.push(self.end_at(i));
+        }
+        if count % 2 == 1 {
+            ends.push(CODE_POINT_LIMIT);
+        }
+        Ok(ends)
+    }
+}
