@@ -1,9 +1,12 @@
-//! Tries from ICU's binary form, which `ucptrie_toBinary` writes: read where they are.
+//! Tries from ICU's binary form, which `ucptrie_toBinary` writes: read where they are; and tries to
+//! it.
 
 #[allow(unused_imports)]
 use crate::support::prelude::*;
-pub use crate::icu_trie_binary::error::BinaryError;
+pub use crate::icu_trie_binary::error::{BinaryError, SwappedError, WriteError};
 use crate::icu_trie_binary::header::{BinaryHeader, HEADER_SIZE, ValueWidth, header_of, stored_header};
+pub use crate::icu_trie_binary::swapped::from_binary_swapped;
+pub use crate::icu_trie_binary::write::{binary_len, to_binary, write_binary};
 use crate::icu_trie::cptrie::CodePointTrie;
 use crate::icu_trie::header::CodePointTrieHeader;
 use crate::icu_trie::value::TrieValue;
@@ -30,15 +33,17 @@ fn data_bytes<'a>(bytes: &'a [u8], header: &BinaryHeader) -> &'a [u8] {
 
 /// The number of the null value: that of the cell where its block begins, or of the high value
 /// where there is no such block.
-#[inline]
-fn null_number<T: TrieValue>(header: &BinaryHeader, values: ZeroSlice<'_, T>) -> u32 {
+pub(crate) fn null_number<T: TrieValue>(header: &BinaryHeader, values: ZeroSlice<'_, T>) -> u32 {
     let place = if header.data_null_offset < header.data_length {
         header.data_null_offset
     } else {
         header.data_length.saturating_sub(2)
     };
     match values.get(place as usize) {
-        Some(value) => value.to_u32(),
+        Some(value) => {
+            value.shown();
+            value.to_u32()
+        }
         None => 0,
     }
 }

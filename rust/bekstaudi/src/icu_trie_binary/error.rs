@@ -1,5 +1,8 @@
-//! Why bytes are no trie in the binary form.
+//! Why bytes are no trie in the binary form, and why a trie is not written in it.
+
 use crate::icu_trie::error::CodePointTrieError;
+use crate::icu_zerovec::MemoryError;
+use crate::support::AllocError;
 
 /// Why bytes are refused. Where there are several causes, the first of these is told.
 #[derive(Clone, Copy, Debug, PartialEq)]
@@ -34,6 +37,71 @@ impl From<CodePointTrieError> for BinaryError {
     }
 }
 
+/// Why a trie is not written. Where there are several causes, the first of these is told.
+#[derive(Clone, Copy, Debug, PartialEq, Eq)]
+pub enum WriteError {
+    /// A value takes another number of bytes than 1, 2 or 4.
+    UnknownWidth,
+    /// The index that is written has more than 65,535 cells.
+    LongIndex,
+    /// The data have 1,048,576 cells or more.
+    LongData,
+    /// The offset of the data null block is 1,048,576 or above.
+    NullOffset,
+    /// The high start is no multiple of 0x200, or is 0x2000000 or above.
+    HighStart,
+    /// The null value is not that of the cell at the offset of the data null block.
+    NullValue,
+    /// The slice has fewer bytes than the trie takes.
+    Short,
+    /// Memory was refused.
+    Memory,
+}
+
+impl From<MemoryError> for WriteError {
+    #[inline]
+    fn from(_error: MemoryError) -> WriteError {
+        WriteError::Memory
+    }
+}
+
+impl From<AllocError> for WriteError {
+    #[inline]
+    fn from(_error: AllocError) -> WriteError {
+        WriteError::Memory
+    }
+}
+
+/// Why bytes of a machine with the other byte order are refused.
+#[derive(Clone, Copy, Debug, PartialEq)]
+pub enum SwappedError {
+    /// In this machine's order they are no trie.
+    Binary(BinaryError),
+    /// Memory was refused.
+    Memory,
+}
+
+impl From<BinaryError> for SwappedError {
+    #[inline]
+    fn from(error: BinaryError) -> SwappedError {
+        SwappedError::Binary(error)
+    }
+}
+
+impl From<MemoryError> for SwappedError {
+    #[inline]
+    fn from(_error: MemoryError) -> SwappedError {
+        SwappedError::Memory
+    }
+}
+
+impl From<AllocError> for SwappedError {
+    #[inline]
+    fn from(_error: AllocError) -> SwappedError {
+        SwappedError::Memory
+    }
+}
+
 impl core::fmt::Display for BinaryError {
     fn fmt(&self, f: &mut core::fmt::Formatter<'_>) -> core::fmt::Result {
         match self {
@@ -52,3 +120,33 @@ impl core::fmt::Display for BinaryError {
 }
 
 impl core::error::Error for BinaryError {}
+
+impl core::fmt::Display for WriteError {
+    #[inline]
+    fn fmt(&self, f: &mut core::fmt::Formatter<'_>) -> core::fmt::Result {
+        match self {
+            WriteError::UnknownWidth => write!(f, "the form has no values of this width"),
+            WriteError::LongIndex => write!(f, "the index is too long"),
+            WriteError::LongData => write!(f, "the data are too long"),
+            WriteError::NullOffset => write!(f, "the offset of the data null block is too large"),
+            WriteError::HighStart => write!(f, "the form has no such high start"),
+            WriteError::NullValue => write!(f, "the null value is not that of the data null block"),
+            WriteError::Short => write!(f, "the trie takes more bytes"),
+            WriteError::Memory => write!(f, "no memory"),
+        }
+    }
+}
+
+impl core::error::Error for WriteError {}
+
+impl core::fmt::Display for SwappedError {
+    #[inline]
+    fn fmt(&self, f: &mut core::fmt::Formatter<'_>) -> core::fmt::Result {
+        match self {
+            SwappedError::Binary(_0) => write!(f, "{_0}"),
+            SwappedError::Memory => write!(f, "no memory"),
+        }
+    }
+}
+
+impl core::error::Error for SwappedError {}

@@ -7,7 +7,7 @@ use crate::icu_trie::header::TrieType;
 pub(crate) const HEADER_SIZE: usize = 16;
 
 /// `Tri3` (UCPTRIE_SIG).
-const SIGNATURE: u32 = 0x5472_6933;
+pub(crate) const SIGNATURE: u32 = 0x5472_6933;
 
 /// What the signature is read as where its bytes have the other order.
 const SWAPPED_SIGNATURE: u32 = 0x3369_7254;
@@ -49,7 +49,7 @@ pub(crate) struct BinaryHeader {
 
 /// The number of 16 bits whose lower byte is byte `i`.
 #[inline]
-fn u16_at(bytes: &[u8], i: usize) -> u16 {
+pub(crate) fn u16_at(bytes: &[u8], i: usize) -> u16 {
     u16::from_le_bytes([bytes[i], bytes[i + 1]])
 }
 
@@ -126,7 +126,7 @@ pub(crate) fn header_of(bytes: &[u8]) -> Result<BinaryHeader, BinaryError> {
 
 /// How many bytes header, index and data take.
 #[inline]
-fn stored_length(header: &BinaryHeader) -> usize {
+pub(crate) fn stored_length(header: &BinaryHeader) -> usize {
     let index = 2 * header.index_length as usize;
     let data = header.value_width.bytes() * header.data_length as usize;
     HEADER_SIZE + index + data

@@ -1,0 +1,94 @@
+//! Tries from the binary form of a machine that has the highest byte first.
+
+#[allow(unused_imports)]
+use crate::support::prelude::*;
+use crate::icu_trie_binary::binary::from_binary;
+use crate::icu_trie_binary::error::SwappedError;
+use crate::icu_trie_binary::header::{HEADER_SIZE, u16_at};
+use crate::icu_trie::cptrie::CodePointTrie;
+use crate::icu_trie::value::TrieValue;
+use crate::support::{AllocError};
+
+/// Appends each whole group of `width` bytes, with its bytes in the other order.
+#[inline]
+fn append_swapped(into: &mut Vec<u8>, bytes: &[u8], width: usize) -> Result<(), AllocError> {
+    for i in 0..bytes.len() / width {
+        let mut group = [0; 4];
+        let group = &mut group[..width];
+        group.copy_from_slice(&bytes[i * width..i * width + width]);
+        group.reverse();
+        into.try_extend_from_slice(group)?;
+    }
+    Ok(())
+}
+
+/// The first bytes: so many, or as many as there are.
+#[inline]
+fn front(bytes: &[u8], len: usize) -> &[u8] {
+    if len < bytes.len() {
+        &bytes[..len]
+    } else {
+        bytes
+    }
+}
+
+/// The bytes behind the first ones, of which there are so many or fewer.
+#[inline]
+fn behind(bytes: &[u8], len: usize) -> &[u8] {
+    if len < bytes.len() {
+        &bytes[len..]
+    } else {
+        &[]
+    }
+}
+
+/// Appends the header, each of its numbers in the other order.
+#[inline]
+fn append_header(into: &mut Vec<u8>, bytes: &[u8]) -> Result<(), AllocError> {
+    append_swapped(into, front(bytes, 4), 4)?;
+    append_swapped(into, front(behind(bytes, 4), 12), 2)
+}
+
+/// How many bytes the index takes, and the data, as the header says.
+#[inline]
+fn said_by(header: &[u8], width: usize) -> (usize, usize) {
+    let cells = u16_at(header, 4) as usize / 0x1000 * 0x1_0000 + u16_at(header, 8) as usize;
+    (2 * u16_at(header, 6) as usize, width * cells)
+}
+
+/// The trie that the bytes begin with, in the other order.
+#[inline]
+fn in_other_order(bytes: &[u8], width: usize) -> Result<Vec<u8>, AllocError> {
+    if bytes.len() < HEADER_SIZE {
+        return Vec::from_slice(bytes);
+    }
+    let mut swapped = Vec::new();
+    append_header(&mut swapped, bytes)?;
+    let (index, cells) = said_by(swapped.as_slice(), width);
+    let rest = behind(bytes, HEADER_SIZE);
+    append_swapped(&mut swapped, front(rest, index), 2)?;
+    append_swapped(&mut swapped, front(behind(rest, index), cells), width)?;
+    Ok(swapped)
+}
+
+/// The trie that the bytes begin with, as a machine writes it that has the highest byte first, and
+/// how many of them it takes: as `from_binary` reads it of the same bytes in this machine's order,
+/// into which they are copied.
+///
+/// ```ignore
+/// let (trie, len) = from_binary_swapped::<u8>(bytes)?;
+/// // trie.get32(0x41) is what ucptrie_get answers, and bytes[len..] is what follows the trie
+/// ```
+///
+/// # Errors
+/// `Binary` with the first cause that `from_binary` has for the bytes in this machine's order, which
+/// is `Swapped` where they have that already; and `Memory` where memory was refused.
+#[inline]
+pub fn from_binary_swapped<T: TrieValue>(
+    bytes: &[u8],
+) -> Result<(CodePointTrie<'static, T>, usize), SwappedError> {
+    let swapped = in_other_order(bytes, T::WIDTH)?;
+    let (trie, len) = from_binary::<T>(swapped.as_slice())?;
+    let owned = trie.try_clone()?;
+    Ok((owned, len))
+}

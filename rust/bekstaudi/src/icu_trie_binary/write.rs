@@ -1,0 +1,169 @@
+//! Tries to ICU's binary form, as `ucptrie_toBinary` writes them.
+
+#[allow(unused_imports)]
+use crate::support::prelude::*;
+use crate::icu_trie_binary::binary::null_number;
+use crate::icu_trie_binary::error::WriteError;
+use crate::icu_trie_binary::header::{BinaryHeader, HEADER_SIZE, stored_length};
+use crate::icu_trie_binary::write_header::{header_bytes, width_for};
+use crate::icu_trie::cptrie::CodePointTrie;
+use crate::icu_trie::value::TrieValue;
+use crate::support::{AllocError};
+
+/// The bytes that are put behind an index of so many cells where values of so many bytes follow it.
+#[inline]
+fn padding(width: usize, cells: usize) -> &'static [u8] {
+    if width == 4 && cells % 2 == 1 {
+        &[0xee, 0xff]
+    } else {
+        &[]
+    }
+}
+
+/// The header that is written of a trie, or why the form has no room for the trie.
+fn header_for<T: TrieValue>(trie: &CodePointTrie<'_, T>) -> Result<BinaryHeader, WriteError> {
+    let (header, index, values) = trie.parts();
+    let value_width = width_for(T::WIDTH);
+    if value_width.bytes() != T::WIDTH {
+        return Err(WriteError::UnknownWidth);
+    }
+    let index_length = index.len() + padding(T::WIDTH, index.len()).len() / 2;
+    if index_length > 0xFFFF {
+        return Err(WriteError::LongIndex);
+    }
+    if values.len() > 0xF_FFFF {
+        return Err(WriteError::LongData);
+    }
+    if header.data_null_offset > 0xF_FFFF {
+        return Err(WriteError::NullOffset);
+    }
+    if header.high_start % 0x200 != 0 || header.high_start > 0x1FF_FFFF {
+        return Err(WriteError::HighStart);
+    }
+    let written = BinaryHeader {
+        trie_type: header.trie_type,
+        value_width,
+        index_length: index_length as u16,
+        data_length: values.len() as u32,
+        index3_null_offset: header.index3_null_offset,
+        data_null_offset: header.data_null_offset,
+        shifted_high_start: (header.high_start / 0x200) as u16,
+    };
+    let null_number = null_number(&written, values);
+    let names_block = written.data_null_offset < written.data_length;
+    if names_block && header.null_value != null_number {
+        return Err(WriteError::NullValue);
+    }
+    Ok(written)
+}
+
+/// The parts of the binary form of a trie, which are written one after another.
+struct WrittenParts<'a> {
+    header: [u8; HEADER_SIZE],
+    index: &'a [u8],
+    padding: &'a [u8],
+    values: &'a [u8],
+    /// How many bytes they take.
+    len: usize,
+}
+
+impl<'a> WrittenParts<'a> {
+    /// Writes the parts at the front of the bytes.
+    #[inline]
+    fn write(&self, bytes: &mut [u8]) {
+        let (header, rest) = bytes.split_at_mut(HEADER_SIZE);
+        header.copy_from_slice(&self.header);
+        let (index, rest) = rest.split_at_mut(self.index.len());
+        index.copy_from_slice(self.index);
+        let (padding, rest) = rest.split_at_mut(self.padding.len());
+        padding.copy_from_slice(self.padding);
+        let (values, _) = rest.split_at_mut(self.values.len());
+        values.copy_from_slice(self.values);
+    }
+
+    /// Appends the parts to bytes.
+    #[inline]
+    fn append(&self, bytes: &mut Vec<u8>) -> Result<(), AllocError> {
+        bytes.try_extend_from_slice(&self.header)?;
+        bytes.try_extend_from_slice(self.index)?;
+        bytes.try_extend_from_slice(self.padding)?;
+        bytes.try_extend_from_slice(self.values)
+    }
+}
+
+/// The parts of the binary form of a trie, or why the form has no room for the trie.
+#[inline]
+fn written_parts<'a, T: TrieValue>(
+    trie: &'a CodePointTrie<'_, T>,
+) -> Result<WrittenParts<'a>, WriteError> {
+    let header = header_for(trie)?;
+    let (_, index, values) = trie.parts();
+    Ok(WrittenParts {
+        header: header_bytes(&header),
+        index: index.as_bytes(),
+        padding: padding(T::WIDTH, index.len()),
+        values: values.as_bytes(),
+        len: stored_length(&header),
+    })
+}
+
+/// How many bytes [`to_binary`] and [`write_binary`] write of a trie: 16 for the header, two for
+/// each cell of the index, and as many for each value as it takes. Where values take four bytes an
+/// index of an odd length is one cell longer there.
+///
+/// # Errors
+/// The first cause in the order of [`WriteError`] for which the form has no room for the trie;
+/// `Short` and `Memory` never come.
+#[inline]
+pub fn binary_len<T: TrieValue>(trie: &CodePointTrie<'_, T>) -> Result<usize, WriteError> {
+    Ok(written_parts(trie)?.len)
+}
+
+/// The bytes of a trie in ICU's binary form, as `ucptrie_toBinary` writes them on a machine that
+/// has the lowest byte first. Read by `from_binary` they give the trie as the form has it,
+/// `stored_form`, which answers as the trie does.
+///
+/// The header of 16 bytes comes first, then the index, then the data. As ICU's builder does, an
+/// index of an odd length gets a cell 0xFFEE behind it where values take four bytes, so that these
+/// stand at a multiple of four.
+///
+/// ```ignore
+/// let bytes = to_binary(&trie)?;
+/// let (read, len) = from_binary::<u8>(&bytes)?;
+/// // len is bytes.len(), and read.get32(c) is trie.get32(c) for each code point c
+/// ```
+///
+/// # Errors
+/// The first cause in the order of [`WriteError`]: `UnknownWidth`, `LongIndex`, `LongData`,
+/// `NullOffset`, `HighStart`, `NullValue` where the form has no room for the trie, and `Memory`
+/// where memory was refused, which is asked for once. `Short` never comes.
+#[inline]
+pub fn to_binary<T: TrieValue>(
+    trie: &CodePointTrie<'_, T>,
+) -> Result<Vec<u8>, WriteError> {
+    let parts = written_parts(trie)?;
+    let mut bytes = Vec::with_room(parts.len)?;
+    parts.append(&mut bytes)?;
+    Ok(bytes)
+}
+
+/// Writes a trie into the front of the bytes, as [`to_binary`] does, and tells how many bytes it
+/// takes. The bytes behind it stay, and no memory is taken.
+///
+/// # Errors
+/// The first cause in the order of [`WriteError`]: one for which the form has no room for the trie,
+/// and `Short` where the slice has fewer bytes than [`binary_len`] says. Then nothing is written.
+/// `Memory` never comes.
+#[inline]
+pub fn write_binary<T: TrieValue>(
+    trie: &CodePointTrie<'_, T>,
+    bytes: &mut [u8],
+) -> Result<usize, WriteError> {
+    let parts = written_parts(trie)?;
+    let len = parts.len;
+    if bytes.len() < len {
+        return Err(WriteError::Short);
+    }
+    parts.write(bytes);
+    Ok(len)
+}
