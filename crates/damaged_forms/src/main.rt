@@ -8,6 +8,7 @@
 #![tactic(auto)]
 
 mod damage;
+mod icu_forms;
 mod names;
 mod outcome;
 mod sets;
@@ -15,6 +16,7 @@ mod stored;
 mod tries;
 mod units;
 
+use crate::icu_forms::icu_forms;
 use crate::outcome::{Counts, Outcome};
 use crate::stored::Stored;
 use anyhow::{Context, Result, bail};
@@ -70,7 +72,7 @@ fn tried_all(rt: &HostRuntime, stored: Stored<'_>, count: u32) -> Result<bool> {
     Ok(counts.is_well())
 }
 
-/// Makes the packed forms of a set and of units, and tries all.
+/// Makes the packed forms of the tries, of a set and of units, and tries all.
 fn run_with_tries(
     rt: &HostRuntime,
     texts: &[String],
@@ -81,14 +83,16 @@ fn run_with_tries(
     let (Some(set), Some(unit_trie)) = (texts.get(3), texts.get(5)) else {
         bail!("a stored form is missing");
     };
-    let ends = sets::stored_ends(rt.alloc(), set.as_bytes())?;
+    let set = sets::stored_set(rt.alloc(), set.as_bytes()).context("no set")?;
+    let icu = icu_forms(rt.alloc(), small, fast, &set).context("no forms of ICU's")?;
     let units = units::stored_units(rt.alloc(), unit_trie.as_bytes())?;
     let stored = Stored {
         texts,
         small,
         fast,
-        ends: &ends,
+        ends: set.as_inversion_list().as_bytes(),
         units: &units,
+        icu: &icu,
     };
     tried_all(rt, stored, count)
 }

@@ -2,8 +2,10 @@
 use crate::outcome::Outcome;
 use icu_char16trie::char16trie::Char16JsonError;
 use icu_invlist::codepointinvlist::{SetError, SetJsonError};
+use icu_invlist_binary::serialized::SerializedSetError;
 use icu_text_sets::codepointinvliststringlist::StringListJsonError;
 use icu_trie::error::CodePointTrieError;
+use icu_trie_binary::binary::{BinaryError, SwappedError};
 use icu_trie_formats::json::TrieJsonError;
 use icu_trie_formats::trie_toml::{TomlError, TrieFromTomlError};
 use icu_zerovec::ule::UleError;
@@ -92,5 +94,39 @@ pub fn by_unit_json(error: Char16JsonError) -> Outcome {
         Char16JsonError::Shape => Outcome::Refused("Char16Json::Shape"),
         Char16JsonError::Number(_) => Outcome::Refused("Char16Json::Number"),
         Char16JsonError::Memory => Outcome::Wrong("memory was refused"),
+    }
+}
+
+/// Refused as a trie in ICU's binary form.
+pub fn by_binary(error: BinaryError) -> Outcome {
+    match error {
+        BinaryError::Short => Outcome::Refused("Binary::Short"),
+        BinaryError::Signature => Outcome::Refused("Binary::Signature"),
+        BinaryError::Swapped => Outcome::Refused("Binary::Swapped"),
+        BinaryError::UnknownType => Outcome::Refused("Binary::UnknownType"),
+        BinaryError::UnknownWidth => Outcome::Refused("Binary::UnknownWidth"),
+        BinaryError::Reserved => Outcome::Refused("Binary::Reserved"),
+        BinaryError::OtherWidth => Outcome::Refused("Binary::OtherWidth"),
+        BinaryError::CutOff => Outcome::Refused("Binary::CutOff"),
+        BinaryError::Cell(_) => Outcome::Wrong("a number that is no value"),
+        BinaryError::Trie(error) => by_parts(error),
+    }
+}
+
+/// Refused as a trie in ICU's binary form, of the other byte order.
+pub fn by_swapped(error: SwappedError) -> Outcome {
+    match error {
+        SwappedError::Binary(error) => by_binary(error),
+        SwappedError::Memory => Outcome::Wrong("memory was refused"),
+    }
+}
+
+/// Refused as a set in ICU's serialized form.
+pub fn by_serialized(error: SerializedSetError) -> Outcome {
+    match error {
+        SerializedSetError::Short => Outcome::Refused("SerializedSet::Short"),
+        SerializedSetError::Count => Outcome::Refused("SerializedSet::Count"),
+        SerializedSetError::Invalid => Outcome::Refused("SerializedSet::Invalid"),
+        SerializedSetError::Memory => Outcome::Wrong("memory was refused"),
     }
 }

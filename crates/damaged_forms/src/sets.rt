@@ -5,7 +5,7 @@ use crate::stored::value_of;
 use icu_invlist::codepointinvlist::CodePointInversionList;
 use icu_text_sets::codepointinvliststringlist::CodePointInversionListAndStringList;
 use icu_zerovec::ZeroVec;
-use std::alloc::{AllocError, Global};
+use std::alloc::Global;
 use std::ops::RangeInclusive;
 
 /// The range starts after the one before it, and ends within the code points.
@@ -59,7 +59,7 @@ fn is_right(set: &CodePointInversionList<'_>) -> bool {
 }
 
 /// Asks a set for all that it answers.
-fn asked(set: &CodePointInversionList<'_>) -> Outcome {
+pub fn asked(set: &CodePointInversionList<'_>) -> Outcome {
     if is_right(set) {
         Outcome::Taken
     } else {
@@ -121,20 +121,8 @@ pub fn of_text_json(alloc: Global, text: &[u8]) -> Outcome {
     }
 }
 
-/// The packed ends of the set that a JSON text says.
-pub fn stored_ends(alloc: Global, text: &[u8]) -> Result<Vec<u8>, AllocError> {
-    let mut bytes = Vec::new(alloc);
-    let Ok(value) = value_of(alloc, text) else {
-        return Ok(bytes);
-    };
-    let Ok(set) = CodePointInversionList::from_json(alloc, &value) else {
-        return Ok(bytes);
-    };
-    for range in set.iter_ranges() {
-        for end in [*range.start(), range.end().saturating_add(1)] {
-            let [low, middle, high, _] = end.to_le_bytes();
-            bytes.extend_from_slice(&[low, middle, high])?;
-        }
-    }
-    Ok(bytes)
+/// The set that a JSON text says, if it says one.
+pub fn stored_set(alloc: Global, text: &[u8]) -> Option<CodePointInversionList<'static>> {
+    let value = value_of(alloc, text).ok()?;
+    CodePointInversionList::from_json(alloc, &value).ok()
 }

@@ -1,5 +1,6 @@
 //! The stored forms, and which of them is damaged in turn.
 use crate::damage::{Form, damaged};
+use crate::icu_forms::IcuForms;
 use crate::outcome::Outcome;
 use crate::{sets, tries, units};
 use icu_trie::cptrie::CodePointTrie;
@@ -48,8 +49,8 @@ pub fn value_of(alloc: Global, text: &[u8]) -> Result<Value, Outcome> {
     }
 }
 
-/// The stored forms: texts, the tries that the first two say, and packed ends of a set and units of
-/// a trie.
+/// The stored forms: texts, the tries that the first two say, packed ends of a set, units of a trie,
+/// and tries and a set as ICU writes them.
 #[derive(Clone, Copy)]
 pub struct Stored<'a> {
     pub texts: &'a [String],
@@ -57,6 +58,7 @@ pub struct Stored<'a> {
     pub fast: &'a CodePointTrie<'static, u8>,
     pub ends: &'a [u8],
     pub units: &'a [u8],
+    pub icu: &'a IcuForms,
 }
 
 impl<'a> Stored<'a> {
@@ -97,13 +99,14 @@ impl<'a> Stored<'a> {
         dice: &mut Pcg32,
         number: u32,
     ) -> Result<Outcome, AllocError> {
-        match number % 8 {
+        match number % 9 {
             0 => Ok(sets::of_json(alloc, &self.damaged_text(alloc, 3, dice)?)),
             1 => Ok(sets::of_text_json(alloc, &self.damaged_text(alloc, 4, dice)?)),
             2 => Ok(sets::of_bytes(alloc, &damaged(alloc, self.ends, Form::Packed, dice)?)),
             3 => Ok(units::of_json(alloc, &self.damaged_text(alloc, 5, dice)?)),
             4 => Ok(units::of_bytes(alloc, &damaged(alloc, self.units, Form::Packed, dice)?)),
-            _ => self.tried_trie(alloc, dice, number / 8),
+            5 => self.icu.tried(alloc, dice, number / 9),
+            _ => self.tried_trie(alloc, dice, number / 9),
         }
     }
 }

@@ -7,6 +7,7 @@ use icu_invlist::codepointinvlist::CodePointInversionList;
 use icu_trie::cptrie::CodePointTrie;
 use icu_trie::ranges::CodePointMapRange;
 use icu_trie_core::header::CodePointTrieHeader;
+use icu_trie_core::value::TrieValue;
 use icu_trie_formats::json::from_json;
 use icu_trie_formats::trie_toml::CodePointTrieToml;
 use icu_zerovec::ZeroVec;
@@ -34,23 +35,29 @@ const SAMPLE: [u32; 14] = [
 ];
 
 /// All ways to ask for the value of `c` agree.
-fn is_asked_alike(trie: &CodePointTrie<'_, u8>, c: u32) -> bool {
+fn is_asked_alike<T: TrieValue>(trie: &CodePointTrie<'_, T>, c: u32) -> bool {
     let value = trie.get32(c);
     let packed = match trie.get32_ule(c) {
-        Some(bytes) => bytes == [value].as_slice(),
-        None => value == trie.error_value(),
+        Some(bytes) => T::from_unaligned(bytes),
+        None => Some(trie.error_value()),
     };
-    packed && trie.get32_u32(c) == u32::from(value) && trie.get32_supplementary(c) == value
+    let Some(packed) = packed else {
+        return false;
+    };
+    packed == value && trie.get32_u32(c) == value.to_u32() && trie.get32_supplementary(c) == value
 }
 
 /// The range starts where the one before it ended, and ends within the code points.
-fn follows(range: &CodePointMapRange<u8>, start: u32) -> bool {
+fn follows<T: TrieValue>(range: &CodePointMapRange<T>, start: u32) -> bool {
     let (first, last) = (*range.range.start(), *range.range.end());
     first == start && first <= last && last < 0x11_0000
 }
 
 /// Look-ups answer the value of the range at its ends and in its middle.
-fn is_as_looked_up(trie: &CodePointTrie<'_, u8>, range: &CodePointMapRange<u8>) -> bool {
+fn is_as_looked_up<T: TrieValue>(
+    trie: &CodePointTrie<'_, T>,
+    range: &CodePointMapRange<T>,
+) -> bool {
     let (first, last) = (*range.range.start(), *range.range.end());
     let middle = first.midpoint(last);
     trie.get32(first) == range.value
@@ -60,14 +67,21 @@ fn is_as_looked_up(trie: &CodePointTrie<'_, u8>, range: &CodePointMapRange<u8>) 
 
 /// What is wrong with the ranges of a trie. Those of a coherent one are the longest runs of its
 /// answers.
-fn fault_of_ranges(trie: &CodePointTrie<'_, u8>, is_coherent: bool) -> Option<&'static str> {
+fn fault_of_ranges<T: TrieValue>(
+    trie: &CodePointTrie<'_, T>,
+    is_coherent: bool,
+) -> Option<&'static str> {
     let mut next = 0u32;
-    let mut before = None;
+    let mut before: Option<T> = None;
     for range in trie.iter_ranges() {
         if !follows(&range, next) {
             return Some("a range that doesn't follow the one before it");
         }
-        if is_coherent && (before == Some(range.value) || !is_as_looked_up(trie, &range)) {
+        let is_longer = match before {
+            Some(value) => value == range.value,
+            None => false,
+        };
+        if is_coherent && (is_longer || !is_as_looked_up(trie, &range)) {
             return Some("a range that is no longest run of what look-ups answer");
         }
         next = range.range.end().saturating_add(1);
@@ -80,7 +94,11 @@ fn fault_of_ranges(trie: &CodePointTrie<'_, u8>, is_coherent: bool) -> Option<&'
 }
 
 /// The set holds those code points of the sample at which the trie has the value.
-fn is_set_of(set: &CodePointInversionList<'_>, trie: &CodePointTrie<'_, u8>, value: u8) -> bool {
+fn is_set_of<T: TrieValue>(
+    set: &CodePointInversionList<'_>,
+    trie: &CodePointTrie<'_, T>,
+    value: T,
+) -> bool {
     for c in SAMPLE {
         if set.contains32(c) != (c < 0x11_0000 && trie.get32(c) == value) {
             return false;
@@ -90,7 +108,7 @@ fn is_set_of(set: &CodePointInversionList<'_>, trie: &CodePointTrie<'_, u8>, val
 }
 
 /// What is wrong with the set of a value of a coherent trie.
-fn fault_of_set(alloc: Global, trie: &CodePointTrie<'_, u8>) -> Option<&'static str> {
+fn fault_of_set<T: TrieValue>(alloc: Global, trie: &CodePointTrie<'_, T>) -> Option<&'static str> {
     let value = trie.get32(0x41);
     match trie.get_set_for_value(alloc, value) {
         Ok(set) if is_set_of(&set, trie, value) => None,
@@ -100,7 +118,7 @@ fn fault_of_set(alloc: Global, trie: &CodePointTrie<'_, u8>) -> Option<&'static 
 }
 
 /// Asks a trie for all that it answers.
-fn asked(alloc: Global, trie: &CodePointTrie<'_, u8>) -> Outcome {
+pub fn asked<T: TrieValue>(alloc: Global, trie: &CodePointTrie<'_, T>) -> Outcome {
     for c in SAMPLE {
         if !is_asked_alike(trie, c) {
             return Outcome::Wrong("look-ups that differ");
@@ -125,7 +143,7 @@ fn of_parts(alloc: Global, header: CodePointTrieHeader, index: &[u8], data: &[u8
         Ok(index) => index,
         Err(error) => return by_bytes(error),
     };
-    let data = match ZeroVec::parse_bytes(data) {
+    let data = match ZeroVec::<u8>::parse_bytes(data) {
         Ok(data) => data,
         Err(error) => return by_bytes(error),
     };

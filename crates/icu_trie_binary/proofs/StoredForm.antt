@@ -4,6 +4,7 @@ use Rattle.std.specs.Prelude.{IsSome, is_none, false}
 use Rattle.std.proofs.lemmas.List.{append-nil}
 use Rattle.icu_trie.specs.Parts.{Parts, fault}
 use Rattle.icu_trie.specs.Ranges.{answers, IsCoherentTrie}
+use Rattle.icu_trie_binary.specs.BinaryTrie.{IsStored, trie_in}
 use Rattle.icu_trie_binary.specs.WrittenTrie.{padding, null_number, stored_form, why_not_written}
 use Rattle.icu_trie_binary.proofs.PaddedAnswers.{keeps_answer}
 use Rattle.icu_trie_binary.proofs.PaddedCoherence.{coherent-padded}
@@ -17,6 +18,15 @@ module _ {T : Type 0} (width : ℕ) (number : T → ℕ) (t : Parts T) where
   -- what the trie answers, its stored form answers
   pub answers-stored : (c : ℕ) (x : T) → answers t c ≡ Some x → answers (stored_form width number t) c ≡ Some x
   answers-stored c x e = keeps_answer t.index (padding width (length t.index)) t.header (stored_form width number t).header t.values c refl refl x e
+
+  -- what bytes are read as that begin with the stored form answers what the trie answers
+  pub answers-read : (unpack : List ℕ → Option T) (of_number : ℕ → Option T) (b : List ℕ) (u : Parts T) (m n : ℕ)
+      → IsStored unpack width number of_number b (stored_form width number t) n → IsStored unpack width number of_number b u m
+      → (c : ℕ) (x : T) → answers t c ≡ Some x → answers u c ≡ Some x
+  answers-read unpack of_number b u m n stored read c x e =
+      let header : stored.header ≡ read.header = let one = stored.reads in let other = read.reads in cc in
+      let same : stored_form width number t ≡ u = stored.trie ∙ ap (λ h. trie_in unpack width number of_number h b) header ∙ sym read.trie in
+      ap (λ v. answers v c) (sym same) ∙ answers-stored c x e
 
   -- where the header names a block of the data, the stored form of a coherent trie is coherent
   pub coherent-stored : (of_number : ℕ → Option T) → why_not_written width number t ≡ None → t.header.data_null_offset < length t.values

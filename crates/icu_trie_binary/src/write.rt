@@ -3,6 +3,8 @@ ghost use Rattle.std.specs.Prelude.{◌≡◌, ℕ, ◌+◌, ◌*◌, ◌^◌, �
 ghost use Rattle.std.specs.List.{flat_map};
 ghost use Rattle.icu_zerovec.specs.Canonical.{IsCanonical};
 ghost use Rattle.icu_zerovec.specs.PackedBytes.{low_bytes};
+ghost use Rattle.icu_trie.specs.Parts.{Parts};
+ghost use Rattle.icu_trie.specs.Ranges.{answers};
 ghost use Rattle.icu_trie_binary.specs.BinaryHeader.{width_bytes};
 ghost use Rattle.icu_trie_binary.specs.BinaryTrie.{IsStored};
 ghost use Rattle.icu_trie_binary.specs.WrittenTrie.{padding, width_for, header_for, null_number, stored_form, written_length, why_not_written, front_bytes, binary_of};
@@ -178,6 +180,9 @@ pub fn to_binary<T: TrieValue>(
 ) -> Result<Vec<u8>, WriteError>
     ensures read { IfOk result (λ v. IsStored T.unpack T.WIDTH T.number T.of_number v.items
         (stored_form T.WIDTH T.number trie.now) (length v.items)) }
+    ensures answers { IfOk result (λ v. (t : Parts T) (n : ℕ)
+        → IsStored T.unpack T.WIDTH T.number T.of_number v.items t n → (c : ℕ) (x : T)
+        → answers trie.now c ≡ Some x → answers t c ≡ Some x) }
     ensures len { IfOk result (λ v. length v.items ≡ written_length T.WIDTH T.number trie.now) }
     ensures front { IfOk result (λ v. take (length (front_bytes T.WIDTH T.number trie.now)) v.items
         ≡ front_bytes T.WIDTH T.number trie.now) }
@@ -208,6 +213,9 @@ pub fn write_binary<T: TrieValue>(
         × (n ≤ length bytes.old)) }
     ensures read { IfOk result (λ n. IsStored T.unpack T.WIDTH T.number T.of_number bytes.new
         (stored_form T.WIDTH T.number trie.now) n) }
+    ensures answers { IfOk result (λ _. (t : Parts T) (n : ℕ)
+        → IsStored T.unpack T.WIDTH T.number T.of_number bytes.new t n → (c : ℕ) (x : T)
+        → answers trie.now c ≡ Some x → answers t c ≡ Some x) }
     ensures bytes { IsCanonical T.pack T.unpack T.WIDTH
         → IfOk result (λ n. bytes.new
         ≡ binary_of T.WIDTH T.number T.pack trie.now ++ drop n bytes.old) }

@@ -1,6 +1,7 @@
 //! The program damaged_forms, erased: it counts of the damaged forms what the proved program counts.
 
 mod damage;
+mod icu_forms;
 mod names;
 mod outcome;
 mod sets;
@@ -23,10 +24,18 @@ fn printed(count: u32) -> std::string::String {
     let texts = stored::texts(&HostRuntime, data.to_str().expect("no name")).expect("no forms");
     let small = tries::stored_trie(&texts[0]).expect("no small trie");
     let fast = tries::stored_trie(&texts[1]).expect("no fast trie");
-    let ends = sets::stored_ends(texts[3].as_bytes()).expect("no set");
+    let set = sets::stored_set(texts[3].as_bytes()).expect("no set");
+    let icu = icu_forms::icu_forms(&small, &fast, &set).expect("no forms of ICU's");
     let units = units::stored_units(texts[5].as_bytes()).expect("no unit trie");
-    let stored =
-        stored::Stored { texts: &texts, small: &small, fast: &fast, ends: &ends, units: &units };
+    let ends = set.as_inversion_list();
+    let stored = stored::Stored {
+        texts: &texts,
+        small: &small,
+        fast: &fast,
+        ends: ends.as_bytes(),
+        units: &units,
+        icu: &icu,
+    };
     let mut dice = Pcg32::new(0x1F600, 7);
     let mut counts = outcome::Counts::new();
     for number in 0..count {
