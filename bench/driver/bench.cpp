@@ -94,6 +94,7 @@ int main(int count, char **arguments) {
     tries();
     ranges();
     builds();
+    opened();
     sets();
     frozen_sets();
     set_blends();

@@ -35,6 +35,7 @@ size_t most_of_heap(const std::function<void()> &call);
 void tries();
 void ranges();
 void builds();
+void opened();
 void sets();
 void frozen_sets();
 void set_blends();

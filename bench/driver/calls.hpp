@@ -42,6 +42,8 @@ TextCall ours_text_8, rust_text_8;
 RangesCall ours_ranges_8, ours_ranges_16, ours_ranges_32, rust_ranges_8, rust_ranges_16,
     rust_ranges_32;
 BuildCall ours_build_8, ours_build_16, ours_build_32;
+uint64_t ours_open_8(const uint8_t *, size_t, size_t turns);
+uint64_t ours_try_new_8(const TrieParts *, size_t turns), rust_try_new_8(const TrieParts *, size_t turns);
 
 #define BOTH(name)                                                                                \
     uint64_t name##_setfor_8(const TrieParts *, uint8_t value, size_t turns);                     \

@@ -38,6 +38,7 @@ value!(u32, 4);
 
 /// The parts of a trie as the driver hands them over.
 #[repr(C)]
+#[derive(Clone, Copy)]
 pub struct Parts {
     index: *const u8,
     index_len: usize,
@@ -273,4 +274,15 @@ calls!(u32, rust_get_32, rust_typed_32, rust_answers_32);
 unsafe extern "C" fn rust_text_8(parts: &Parts, text: *const u8, len: usize, turns: usize) -> u64 {
     let (trie, text) = unsafe { (Trie::<u8>::of_parts(parts), slice(text, len)) };
     std::str::from_utf8(text).map_or(u64::MAX, |text| over(turns, |sum| add_text(&trie, text, sum)))
+}
+
+/// The value of `A` in the trie of these parts.
+#[inline(never)]
+fn made(parts: &Parts) -> u64 {
+    unsafe { Trie::<u8>::of_parts(parts) }.get32(0x41).number() as u64
+}
+
+#[unsafe(no_mangle)]
+unsafe extern "C" fn rust_try_new_8(parts: &Parts, turns: usize) -> u64 {
+    over(turns, |sum| sum + made(&Parts { null_value: sum as u32 & 1, ..*parts }))
 }

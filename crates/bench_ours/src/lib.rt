@@ -7,6 +7,7 @@
 pub mod builds;
 pub mod frozen;
 pub mod mixing;
+pub mod opened;
 pub mod packed;
 pub mod ranges;
 pub mod sets;

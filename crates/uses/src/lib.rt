@@ -8,6 +8,7 @@
 //! - `categories`: an enum of the caller's own as the value of a trie
 //! - `built`: what is known of a built trie beside its answers
 //! - `strangers`: tries of parts of any origin
+//! - `stored`: tries in ICU's binary form
 //! - `errors`: what a function that answers one of the errors may call by `?`
 #![tactic(auto)]
 
@@ -16,6 +17,7 @@ pub mod categories;
 pub mod errors;
 pub mod own_cells;
 pub mod sets;
+pub mod stored;
 pub mod strangers;
 pub mod tables;
 pub mod words;
