@@ -1,0 +1,32 @@
+-- The items that an iterator over values gives.
+use Rattle.std.proofs.Common.{◌≡◌, ◌∙◌, sym, ap, refl, ℕ, List, [], ◌∷◌, map, Option, Some}
+use Rattle.std.specs.Iterator.{Drains, DrainsIf}
+use Rattle.std.proofs.lemmas.Iterator.{items_from_drains}
+use Rattle.std.proofs.lemmas.Iterator.Consumers.{YieldsList-from_first}
+use Rattle.std.proofs.lemmas.List.Elements.{All-cons, All-nil}
+use Rattle.icu_trie.specs.Parts.{Parts, trie_value}
+use Rattle.icu_trie_text.specs.Values.{AreValuesOf, GivesValue, value_item, with_values}
+
+module _ {T : Type 0} (trie : Parts T) where
+  abbrev HasItsValue : ℕ × T → Type 0
+  HasItsValue item = trie_value trie item.0 ≡ Some item.1
+
+  listed_values : (cs : List ℕ) (items : List (ℕ × T)) → map value_item items ≡ with_values trie cs → AreValuesOf trie cs items
+  listed_values [] [] e = record { code_points = refl; values = All-nil HasItsValue }
+  listed_values [] (x ∷ xs) e = cc
+  listed_values (c ∷ cs) [] e = cc
+  listed_values (c ∷ cs) (x ∷ xs) e =
+      let first : value_item x ≡ (c, trie_value trie c) = cc in
+      let code_point : c ≡ x.0 = sym (ap (λ (p : ℕ × Option T). p.0) first) in
+      let value : trie_value trie c ≡ Some x.1 = sym (ap (λ (p : ℕ × Option T). p.1) first) in
+      let others : map value_item xs ≡ with_values trie cs = cc in
+      let r = listed_values cs xs others in
+      record {
+        code_points = ap (λ (n : ℕ). n ∷ map (λ item. item.0) xs) (sym code_point) ∙ ap (λ (ns : List ℕ). c ∷ ns) r.code_points;
+        values = All-cons HasItsValue x xs (ap (λ (n : ℕ). trie_value trie n) (sym code_point) ∙ value) r.values;
+      }
+
+  -- what the calls give until nothing is left are the code points, each with its value
+  pub values_of_drained : (cs : List ℕ) (items : List (ℕ × T)) → Drains GivesValue (with_values trie cs) items → AreValuesOf trie cs items
+  values_of_drained cs items d =
+      listed_values cs items (items_from_drains items (d.1.0, d.1.1, λ _. (d.0, d.1.2)) (YieldsList-from_first value_item (λ left. left) (with_values trie cs) refl))

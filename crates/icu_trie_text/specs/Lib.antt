@@ -1,0 +1,2 @@
+pub mod FirstCharacter
+pub mod Values

@@ -1,0 +1,61 @@
+//! The value of each character of a text.
+ghost use Rattle.std.specs.Prelude.{◌≡◌, ℕ, List};
+ghost use Rattle.std.specs.Iterator.{Drains, item_count};
+ghost use Rattle.std.specs.Str.{chars};
+ghost use Rattle.icu_trie_text.specs.Values.{AreValuesOf, GivesValue, with_values};
+
+use crate::first::first_character;
+use icu_trie::cptrie::CodePointTrie;
+use icu_trie_core::value::TrieValue;
+use std::marker::Model;
+
+/// The characters of a text, each with its value in a trie, as [`values_of`] gives them. A clause
+/// sees those that are left, each with what the trie has for it.
+#[derive(Debug, Drop)]
+pub struct ValuesOf<'a, T: TrieValue> {
+    trie: &'a CodePointTrie<'a, T>,
+    rest: &'a str,
+}
+
+impl<'a, T: TrieValue> Model for ValuesOf<'a, T> {
+    ghost use Rattle.std.specs.Prelude.{ℕ, List, Option};
+    ghost use Rattle.std.specs.Str.{chars};
+    ghost use Rattle.icu_trie_text.specs.Values.{with_values};
+
+    ghost Value = { List (ℕ × Option T) };
+
+    ghost view = { λ a. with_values a.trie.now (chars a.rest.now) };
+}
+
+/// The characters of the text, from its front on, each with its value in the trie, as
+/// [`get`](CodePointTrie::get) answers it (ICU: a loop over `UCPTRIE_FAST_U8_NEXT` on text that is
+/// well-formed).
+///
+/// ```
+/// for (c, category) in values_of(&categories, "aB1") {
+///     // 'a' with 2 (Ll), then 'B' with 1 (Lu), then '1' with 9 (Nd)
+/// }
+/// ```
+#[inline]
+pub fn values_of<'a, T: TrieValue>(trie: &'a CodePointTrie<'_, T>, text: &'a str) -> ValuesOf<'a, T>
+    ensures gives { result ≡ with_values trie.now (chars text.now) }
+    ensures values { (items : List (ℕ × T)) → Drains GivesValue result items
+        → AreValuesOf trie.now (chars text.now) items }
+{
+    ValuesOf { trie, rest: text }
+}
+
+impl<'a, T: TrieValue> Iterator for ValuesOf<'a, T> {
+    type Item = (char, T);
+
+    ghost next_gives = { GivesValue };
+
+    ghost remaining = { item_count (λ left. left) };
+
+    #[inline]
+    fn next(&mut self) -> Option<(char, T)> {
+        let (first, rest) = first_character(self.rest)?;
+        self.rest = rest;
+        Some((first, self.trie.get(first)))
+    }
+}
