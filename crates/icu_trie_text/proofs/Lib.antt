@@ -1,2 +1,4 @@
 pub mod CallerLemmas
+pub mod FoundLemmas
+pub mod IndexLemmas
 pub mod ValueLemmas

@@ -1,6 +1,11 @@
 -- The items that an iterator over values gives.
-use Rattle.std.proofs.Common.{◌≡◌, ◌∙◌, sym, ap, refl, ℕ, List, [], ◌∷◌, map, Option, Some}
-use Rattle.std.specs.Iterator.{Drains, DrainsIf}
+use Rattle.std.proofs.Common.{◌≡◌, ◌∙◌, sym, ap, refl, ℕ, ◌≤◌, List, [], ◌∷◌, length, map, Option, Some, arith}
+use Rattle.std.specs.Iterator.{Drains}
+use Rattle.std.specs.Iterator.Runs.{EveryRun, ItemsMapTo}
+use Rattle.std.proofs.iter.runs.Sources.{from_front}
+use Rattle.std.specs.Str.{IsUtf8, chars}
+use Rattle.std.proofs.lemmas.Str.{encodes-chars, length-le-encodes}
+use Rattle.std.proofs.lemmas.List.{length-map}
 use Rattle.std.proofs.lemmas.Iterator.{items_from_drains}
 use Rattle.std.proofs.lemmas.Iterator.Consumers.{YieldsList-from_first}
 use Rattle.std.proofs.lemmas.List.Elements.{All-cons, All-nil}
@@ -30,3 +35,12 @@ module _ {T : Type 0} (trie : Parts T) where
   pub values_of_drained : (cs : List ℕ) (items : List (ℕ × T)) → Drains GivesValue (with_values trie cs) items → AreValuesOf trie cs items
   values_of_drained cs items d =
       listed_values cs items (items_from_drains items (d.1.0, d.1.1, λ _. (d.0, d.1.2)) (YieldsList-from_first value_item (λ left. left) (with_values trie cs) refl))
+
+  -- each run gives the front of what was left
+  pub value_runs : EveryRun (GivesValue {T = T}) (λ p. ItemsMapTo p value_item p.from)
+  value_runs p s = from_front (GivesValue {T = T}) value_item (λ left. left) (λ s t h. ap length h.0) (λ s x t h. h) p s
+
+  -- there are no more characters than bytes
+  pub values_fit : (text : List ℕ) → IsUtf8 text → length (with_values trie (chars text)) ≤ length text
+  values_fit text u =
+      omega (arith, length-map {B = ℕ × Option T} (chars text) (λ (c : ℕ). (c, trie_value trie c)), length-le-encodes (chars text), ap (λ (bs : List ℕ). length bs) (encodes-chars text u))

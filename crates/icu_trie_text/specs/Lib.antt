@@ -1,2 +1,4 @@
 pub mod FirstCharacter
+pub mod Found
+pub mod Indices
 pub mod Values

@@ -1,3 +1,6 @@
 //! Values of a trie along texts of UTF-8 and UTF-16.
 
+pub use crate::find::{find_value, span_of_values};
+pub use crate::found::Found;
+pub use crate::indices::{ValueIndicesOf, value_indices_of};
 pub use crate::values::{ValuesOf, values_of};

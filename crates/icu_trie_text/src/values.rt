@@ -1,8 +1,9 @@
 //! The value of each character of a text.
-ghost use Rattle.std.specs.Prelude.{◌≡◌, ℕ, List};
+ghost use Rattle.std.specs.Prelude.{◌≡◌, ◌^◌, ◌<◌, ℕ, List, length};
 ghost use Rattle.std.specs.Iterator.{Drains, item_count};
+ghost use Rattle.std.specs.Iterator.Runs.{EveryRun, ItemsMapTo};
 ghost use Rattle.std.specs.Str.{chars};
-ghost use Rattle.icu_trie_text.specs.Values.{AreValuesOf, GivesValue, with_values};
+ghost use Rattle.icu_trie_text.specs.Values.{AreValuesOf, GivesValue, value_item, with_values};
 
 use crate::first::first_character;
 use icu_trie::cptrie::CodePointTrie;
@@ -39,8 +40,10 @@ impl<'a, T: TrieValue> Model for ValuesOf<'a, T> {
 #[inline]
 pub fn values_of<'a, T: TrieValue>(trie: &'a CodePointTrie<'_, T>, text: &'a str) -> ValuesOf<'a, T>
     ensures gives { result ≡ with_values trie.now (chars text.now) }
+    ensures fits { length result < 2 ^ 64 }
     ensures values { (items : List (ℕ × T)) → Drains GivesValue result items
         → AreValuesOf trie.now (chars text.now) items }
+    ensures runs { EveryRun (GivesValue {T = T}) (λ p. ItemsMapTo p value_item p.from) }
 {
     ValuesOf { trie, rest: text }
 }

@@ -1,0 +1,75 @@
+//! The value of each character of a text, with the place of the character.
+ghost use Rattle.std.specs.Prelude.{◌≡◌, ◌^◌, ◌<◌, ℕ, List, length};
+ghost use Rattle.std.specs.Iterator.{Drains, item_count};
+ghost use Rattle.std.specs.Iterator.Runs.{EveryRun, ItemsMapTo};
+ghost use Rattle.std.specs.Str.{chars};
+ghost use Rattle.icu_trie_text.specs.Indices.{AreIndicesOf, GivesIndex, index_item, with_indices};
+
+use crate::first::first_character;
+use icu_trie::cptrie::CodePointTrie;
+use icu_trie_core::value::TrieValue;
+use std::marker::Model;
+
+/// The characters of a text, each with its place and its value in a trie, as [`value_indices_of`]
+/// gives them. A clause sees those that are left, each with what the trie has for it.
+#[derive(Debug, Drop)]
+pub struct ValueIndicesOf<'a, T: TrieValue> {
+    trie: &'a CodePointTrie<'a, T>,
+    rest: &'a str,
+    /// How many bytes the whole text has.
+    end: usize,
+}
+
+impl<'a, T: TrieValue> Model for ValueIndicesOf<'a, T> {
+    ghost use Rattle.std.specs.Prelude.{ℕ, ◌-◌, ◌≤◌, List, Option, length};
+    ghost use Rattle.std.specs.Str.{chars};
+    ghost use Rattle.icu_trie_text.specs.Indices.{with_indices};
+
+    ghost Value = { List (ℕ × ℕ × Option T) };
+
+    ghost view = { λ a. with_indices a.trie.now (a.end - length a.rest.now) (chars a.rest.now) };
+
+    ghost invariant = { λ a. length a.rest.now ≤ a.end };
+}
+
+/// The characters of the text as [`values_of`](crate::values::values_of) gives them, each with the
+/// byte offset at which it begins, as [`char_indices`](str::char_indices) has it.
+///
+/// ```
+/// for (offset, c, category) in value_indices_of(&categories, "éB") {
+///     // 0 and 'é' with 2 (Ll), then 2 and 'B' with 1 (Lu)
+/// }
+/// ```
+#[inline]
+pub fn value_indices_of<'a, T: TrieValue>(
+    trie: &'a CodePointTrie<'_, T>,
+    text: &'a str,
+) -> ValueIndicesOf<'a, T>
+    ensures gives { result ≡ with_indices trie.now 0 (chars text.now) }
+    ensures fits { length result < 2 ^ 64 }
+    ensures values { (items : List (ℕ × ℕ × T)) → Drains GivesIndex result items
+        → AreIndicesOf trie.now (chars text.now) items }
+    ensures runs { EveryRun (GivesIndex {T = T}) (λ p. ItemsMapTo p index_item p.from) }
+{
+    ValueIndicesOf {
+        trie,
+        rest: text,
+        end: text.len(),
+    }
+}
+
+impl<'a, T: TrieValue> Iterator for ValueIndicesOf<'a, T> {
+    type Item = (usize, char, T);
+
+    ghost next_gives = { GivesIndex };
+
+    ghost remaining = { item_count (λ left. left) };
+
+    #[inline]
+    fn next(&mut self) -> Option<(usize, char, T)> {
+        let offset = self.end - self.rest.len();
+        let (first, rest) = first_character(self.rest)?;
+        self.rest = rest;
+        Some((offset, first, self.trie.get(first)))
+    }
+}
