@@ -10,9 +10,14 @@ use Rattle.std.proofs.lemmas.Iterator.{items_from_drains}
 use Rattle.std.proofs.lemmas.Iterator.Consumers.{YieldsList-from_first}
 use Rattle.std.proofs.lemmas.List.Elements.{All-cons, All-nil}
 use Rattle.icu_trie.specs.Parts.{Parts, trie_value}
+use Rattle.icu_trie_text.specs.Utf16.{code_points_of}
 use Rattle.icu_trie_text.specs.Values.{AreValuesOf, GivesValue, value_item, with_values}
+use Rattle.icu_trie_text.proofs.Utf16Lemmas.{length-code_points}
 
 module _ {T : Type 0} (trie : Parts T) where
+  length-with_values : (cs : List ℕ) → length (with_values trie cs) ≡ length cs
+  length-with_values cs = length-map {B = ℕ × Option T} cs (λ (c : ℕ). (c, trie_value trie c))
+
   abbrev HasItsValue : ℕ × T → Type 0
   HasItsValue item = trie_value trie item.0 ≡ Some item.1
 
@@ -43,4 +48,8 @@ module _ {T : Type 0} (trie : Parts T) where
   -- there are no more characters than bytes
   pub values_fit : (text : List ℕ) → IsUtf8 text → length (with_values trie (chars text)) ≤ length text
   values_fit text u =
-      omega (arith, length-map {B = ℕ × Option T} (chars text) (λ (c : ℕ). (c, trie_value trie c)), length-le-encodes (chars text), ap (λ (bs : List ℕ). length bs) (encodes-chars text u))
+      omega (arith, length-with_values (chars text), length-le-encodes (chars text), ap (λ (bs : List ℕ). length bs) (encodes-chars text u))
+
+  -- and no more code points than units
+  pub units_fit : (units : List ℕ) → length (with_values trie (code_points_of units)) ≤ length units
+  units_fit units = omega (arith, length-with_values (code_points_of units), length-code_points units)

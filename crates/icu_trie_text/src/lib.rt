@@ -5,12 +5,15 @@
 //! - `indices`: [`ValueIndicesOf`](indices::ValueIndicesOf), the same with the characters' places
 //! - `find`: the first character with a value that is sought, and the longest front of such ones
 //! - `found`: [`Found`](found::Found), a character, its place and its value
-//! - `first`: the first character of a text
+//! - `utf16`: [`ValuesOfUtf16`](utf16::ValuesOfUtf16), the value of each code point of 16-bit units
+//! - `first`, `first_utf16`: the first character of a text, the first code point of units
 #![tactic(auto)]
 
 mod find;
 mod first;
+mod first_utf16;
 mod found;
 mod indices;
 pub mod text;
+mod utf16;
 mod values;

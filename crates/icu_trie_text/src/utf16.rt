@@ -1,0 +1,68 @@
+//! The value of each code point of 16-bit units.
+ghost use Rattle.std.specs.Prelude.{◌≡◌, ◌^◌, ◌<◌, ℕ, List, length};
+ghost use Rattle.std.specs.Iterator.{Drains, item_count};
+ghost use Rattle.std.specs.Iterator.Runs.{EveryRun, ItemsMapTo};
+ghost use Rattle.icu_trie_text.specs.Utf16.{code_points_of};
+ghost use Rattle.icu_trie_text.specs.Values.{AreValuesOf, GivesValue, value_item, with_values};
+
+use crate::first_utf16::first_code_point;
+use icu_trie::cptrie::CodePointTrie;
+use icu_trie_core::value::TrieValue;
+use std::marker::Model;
+
+/// The code points of 16-bit units, each with its value in a trie, as [`values_of_utf16`] gives
+/// them. A clause sees those that are left, each with what the trie has for it.
+#[derive(Debug, Drop)]
+pub struct ValuesOfUtf16<'a, T: TrieValue> {
+    trie: &'a CodePointTrie<'a, T>,
+    rest: &'a [u16],
+}
+
+impl<'a, T: TrieValue> Model for ValuesOfUtf16<'a, T> {
+    ghost use Rattle.std.specs.Prelude.{ℕ, List, Option};
+    ghost use Rattle.icu_trie_text.specs.Utf16.{code_points_of};
+    ghost use Rattle.icu_trie_text.specs.Values.{with_values};
+
+    ghost Value = { List (ℕ × Option T) };
+
+    ghost view = { λ a. with_values a.trie.now (code_points_of a.rest.now) };
+}
+
+/// The code points of the units, from their front on, each with its value in the trie, as
+/// [`get32`](CodePointTrie::get32) answers it (ICU: a loop over `UCPTRIE_FAST_U16_NEXT`). The units
+/// may be ill-formed: a surrogate that has no partner is a code point by itself, with the value that
+/// the trie has for it.
+///
+/// ```
+/// for (c, category) in values_of_utf16(&categories, &[0xD835, 0xDC00, 0x31, 0xD835]) {
+///     // 0x1D400 with 1 (Lu), then 0x31 with 9 (Nd), then 0xD835 with 18 (Cs)
+/// }
+/// ```
+#[inline]
+pub fn values_of_utf16<'a, T: TrieValue>(
+    trie: &'a CodePointTrie<'_, T>,
+    units: &'a [u16],
+) -> ValuesOfUtf16<'a, T>
+    ensures gives { result ≡ with_values trie.now (code_points_of units.now) }
+    ensures fits { length result < 2 ^ 64 }
+    ensures values { (items : List (ℕ × T)) → Drains GivesValue result items
+        → AreValuesOf trie.now (code_points_of units.now) items }
+    ensures runs { EveryRun (GivesValue {T = T}) (λ p. ItemsMapTo p value_item p.from) }
+{
+    ValuesOfUtf16 { trie, rest: units }
+}
+
+impl<'a, T: TrieValue> Iterator for ValuesOfUtf16<'a, T> {
+    type Item = (u32, T);
+
+    ghost next_gives = { GivesValue };
+
+    ghost remaining = { item_count (λ left. left) };
+
+    #[inline]
+    fn next(&mut self) -> Option<(u32, T)> {
+        let (first, rest) = first_code_point(self.rest)?;
+        self.rest = rest;
+        Some((first, self.trie.get32(first)))
+    }
+}
