@@ -39,6 +39,19 @@ ADDER(small_32, UCPTRIE_SMALL_GET, 32)
 TEXT_ADDER(fast_text, UCPTRIE_FAST_GET)
 TEXT_ADDER(small_text, UCPTRIE_SMALL_GET)
 
+// The macro for texts that may be ill-formed, which makes no code point where it needs none. There
+// is one for fast tries alone.
+__attribute__((noinline)) static uint64_t fast_values(const UCPTrie *trie, const string &text,
+                                                      uint64_t sum) {
+    const uint8_t *at = reinterpret_cast<const uint8_t *>(text.data());
+    for (const uint8_t *end = at + text.size(); at < end;) {
+        uint8_t value;
+        UCPTRIE_FAST_U8_NEXT(trie, UCPTRIE_8, at, end, value);
+        sum += value;
+    }
+    return sum;
+}
+
 static const struct Width {
     string name;
     UCPTrieValueWidth icu;
@@ -123,10 +136,17 @@ static void look_ups(const Width &width, const Table &table, bool is_fast) {
     }
 }
 
-static void over_texts(const Table &table, bool is_fast) {
+static const struct AlongText {
+    string kernel;
+    TextCall *ours, *rust;
+    TextAdder *fast, *small;
+} along_texts[] = {{"text_u8", ours_text_8, rust_text_8, fast_text, small_text},
+                   {"values_u8", ours_values_8, rust_text_8, fast_values, nullptr}};
+
+static void over_texts(const AlongText &along, const Table &table, bool is_fast) {
     const IcuTrie trie = icu_trie(table, is_fast, UCPTRIE_VALUE_BITS_8);
     const TrieParts parts = parts_of(trie, 1, is_fast);
-    TextAdder *adder = is_fast ? fast_text : small_text;
+    TextAdder *adder = is_fast ? along.fast : along.small;
     for (size_t characters : {SHORT_TEXT, LONG_TEXT}) {
         const size_t turns = TURNS * POINTS / characters;
         for (const Text &text : texts(characters)) {
@@ -138,11 +158,11 @@ static void over_texts(const Table &table, bool is_fast) {
                 return sum;
             };
             row(
-                "text_u8",
+                along.kernel,
                 name_of(table, is_fast) + "-" + text.name +
                     (characters == LONG_TEXT ? "-long" : "-short"),
-                double(characters) * turns, [&] { return ours_text_8(&parts, bytes, size, turns); },
-                [&] { return rust_text_8(&parts, bytes, size, turns); }, icu);
+                double(characters) * turns, [&] { return along.ours(&parts, bytes, size, turns); },
+                [&] { return along.rust(&parts, bytes, size, turns); }, icu);
         }
     }
 }
@@ -154,7 +174,9 @@ void tries() {
                 if (table.greatest <= width.greatest &&
                     (wanted("get" + width.name) || wanted("typed" + width.name)))
                     look_ups(width, table, is_fast);
-    for (const Table &table : tables())
-        for (bool is_fast : {true, false})
-            if (table.greatest <= 0xFF && wanted("text_u8")) over_texts(table, is_fast);
+    for (const AlongText &along : along_texts)
+        for (const Table &table : tables())
+            for (bool is_fast : {true, false})
+                if (table.greatest <= 0xFF && wanted(along.kernel) && (is_fast || along.small))
+                    over_texts(along, table, is_fast);
 }

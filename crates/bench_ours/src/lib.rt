@@ -11,5 +11,6 @@ pub mod opened;
 pub mod packed;
 pub mod ranges;
 pub mod sets;
+pub mod texts;
 pub mod tries;
 pub mod unit_tries;

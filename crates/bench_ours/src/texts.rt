@@ -1,0 +1,36 @@
+//! Values of a trie along texts.
+
+use crate::tries::{Parts, trie_of};
+use icu_trie::cptrie::CodePointTrie;
+use icu_trie::value::TrieValue;
+use icu_trie_text::text::values_of;
+
+/// What `sum` becomes when the value of each character of a text is added to it.
+#[inline(never)]
+fn add_values<T: TrieValue>(trie: &CodePointTrie<'_, T>, text: &str, sum: u64) -> u64 {
+    let mut sum = sum;
+    for (_, value) in values_of(trie, text) {
+        sum = sum.wrapping_add(value.to_u32() as u64);
+    }
+    sum
+}
+
+fn values_added_often(trie: &CodePointTrie<'_, u8>, text: &str, turns: usize) -> u64 {
+    let mut sum = 0u64;
+    for _ in 0..turns {
+        sum = add_values(trie, text, sum);
+    }
+    sum
+}
+
+/// The sum of the values along a text in a trie of 8 bits, so many times.
+#[unsafe(no_mangle)]
+pub extern "C" fn ours_values_8(parts: &Parts<'_>, text: &[u8], turns: usize) -> u64 {
+    let Ok(text) = std::str::from_utf8(text) else {
+        return u64::MAX;
+    };
+    match trie_of::<u8>(parts) {
+        Some(trie) => values_added_often(&trie, text, turns),
+        None => u64::MAX,
+    }
+}
