@@ -1,10 +1,12 @@
 -- A trie and the form that it is read in again: the answers, coherence, and when both are one.
 use Rattle.std.proofs.Common.{◌≡◌, ℕ, ◌+◌, ◌/◌, ◌<◌, List, [], ◌++◌, length, Option, Some, None, refl, sym, ◌∙◌, ap}
-use Rattle.std.specs.Prelude.{IsSome, is_none, false}
+use Rattle.std.specs.Prelude.{Err, IsSome, Ok, Result, is_none, false}
 use Rattle.std.proofs.lemmas.List.{append-nil}
 use Rattle.icu_trie.specs.Parts.{Parts, fault}
 use Rattle.icu_trie.specs.Ranges.{answers, IsCoherentTrie}
 use Rattle.icu_trie_binary.specs.BinaryTrie.{IsStored, trie_in}
+use Rattle.icu_trie_binary.specs.declared.error.BinaryError.{BinaryError}
+use Rattle.icu_trie_binary.specs.declared.header.BinaryHeader.{BinaryHeader}
 use Rattle.icu_trie_binary.specs.WrittenTrie.{padding, null_number, stored_form, why_not_written}
 use Rattle.icu_trie_binary.proofs.PaddedAnswers.{keeps_answer}
 use Rattle.icu_trie_binary.proofs.PaddedCoherence.{coherent-padded}
@@ -13,6 +15,11 @@ use Rattle.icu_trie_binary.proofs.WrittenLemmas.{first_faults, null_fits}
 some_from_none : {A : Type 0} (o : Option A) → is_none o ≡ false → IsSome o
 some_from_none None h = cc
 some_from_none (Some x) h = refl
+
+-- the header that was read, and h where none was
+abbrev header_or : BinaryHeader → Result (BinaryHeader × ℕ) BinaryError → BinaryHeader
+header_or h (Ok read) = read.0
+header_or h (Err e) = h
 
 module _ {T : Type 0} (width : ℕ) (number : T → ℕ) (t : Parts T) where
   -- what the trie answers, its stored form answers
@@ -24,7 +31,7 @@ module _ {T : Type 0} (width : ℕ) (number : T → ℕ) (t : Parts T) where
       → IsStored unpack width number of_number b (stored_form width number t) n → IsStored unpack width number of_number b u m
       → (c : ℕ) (x : T) → answers t c ≡ Some x → answers u c ≡ Some x
   answers-read unpack of_number b u m n stored read c x e =
-      let header : stored.header ≡ read.header = let one = stored.reads in let other = read.reads in cc in
+      let header : stored.header ≡ read.header = ap (header_or stored.header) (sym stored.reads ∙ read.reads) in
       let same : stored_form width number t ≡ u = stored.trie ∙ ap (λ h. trie_in unpack width number of_number h b) header ∙ sym read.trie in
       ap (λ v. answers v c) (sym same) ∙ answers-stored c x e
 
