@@ -1,0 +1,59 @@
+"""What tests/rust has beside the rules of rust/make: which of our crates of tests run as Rust, what
+they need that the code doesn't, and forms that rust/make has to refuse."""
+
+# Our crates of tests, and those of their modules that need JSON.
+TESTS = "packed_tests set_tests trie_tests built_trie_tests ucptab_table".split()
+FORMS = ["damaged_forms"]
+LEFT_OUT = (
+    "damaged_forms/main set_tests/tests/code_points/json set_tests/tests/texts/json packed_tests/tests/unit_tries/json"
+    " packed_tests/tests/unit_tries/written"
+).split()
+# What tests of Rattle have besides the code: a runtime in hand, and assertions that name it.
+TEST_RULES = [
+    (r"(#\[test\]\s*fn \w+\()(?:mut )?rt: HostRuntime\)([^{]*)\{", r"\1)\2{\n    let rt = HostRuntime;"),
+    (r"\b(assert|assert_eq|assert_ne|panic)!\(&?rt;\s*", r"\1!("),
+    (r"\.expect\(&?rt, ", ".expect("),
+    (r"\(impl Abort \+ AllocGlobal\)", "impl Abort"),
+    (r"impl Abort \+ AllocGlobal\b", "impl Abort"),
+    (r"\.clone\(\)(?:\.ok\(\))?\?", ".clone()"),
+    (r"\.collect\((rt\.alloc\(\)|alloc)\)", ".listed()"),
+    (r"\.sort\((?:rt\.alloc\(\)|alloc)?\)\?", ".sort()"),
+    (r"(String::from_utf16_lossy\()(?:rt\.alloc\(\)|alloc), (\w+)\)\?", r"\1\2)"),
+    (r"use std::(?:test::Fail|process::Abort);\n", ""),
+    (r"use std::hash::\{DefaultHasher, ", "use std::hash::{"),
+    (r"\.to_string\((?=rt)", ".try_to_string("),
+    (r"\.push_str\(", ".try_push_str("),
+    (r"\bformat!\(in (?:rt\.alloc\(\)|alloc);\s*", "try_format!("),
+    (r"\bprintln!\(&?rt;\s*", "printed!("),
+    # What is needed beside JSON and TOML.
+    (r"\bValue::from_str\((?:alloc, )?", "serde_json::from_str::<Value>("),
+    (r"\btoml::table_from_str\(alloc, ", "table_from_str("),
+    (r"use rand_core::Rng;\n|use rand_pcg::Pcg32;\n|use std::\{fs, io, str\};\n|use std::str;\n", ""),
+    (r"\b(fs::read_to_string\()rt, ", r"\1"),
+    (r"let alloc = (?:self\.)?rt\.alloc\(\);\s*", ""),
+    (r"\balloc: std::alloc::Global\b", "alloc: Global"),
+]
+# What needs JSON in them.
+JSON_RULES = [
+    (r"(?ms)^(?:\x01\d+\x03\n)*(?:#\[test\]\n)?fn (?:(?!^\}).)*?(?:\w+_json_refused|JsonError|<Value,|(?:: |\()Value\b)(?:(?!^\}).)*^\}\n", ""),
+    (r"\b\w+JsonError, |, \w+JsonError\b|use serde_json::Value;\n", ""),
+]
+# Forms that rust/make does not know.
+UNKNOWN = [
+    "fn f(x: u8) -> u8\n    decreases { x }\n{\n    x\n}\n",
+    "fn f(x: u8)\n    modifies { x }\n{\n}\n",
+    "fn f() {\n    loop invariant { x } {}\n}\n",
+    "fn f(x: u8) {\n    while x < 3 invariant { x } {}\n}\n",
+    "ghost fn f() {}\n",
+    "fn f()\n    requires x < 3\n{\n}\n",
+    "lemma f { x }\n",
+    "#[ghostly]\nfn f() {}\n",
+    "fn f() {\n    lemma!(x);\n}\n",
+    "fn f() {\n    let x = \u03bb;\n}\n",
+    "pub fn unsafe_one(x: u8)\n    requires { x < 3 }\n{\n}\n",
+    "pub const fn unsafe_two(x: u8)\n    requires { x < 3 }\n{\n}\n",
+    "use std::process::Abort;\n",
+    "fn f() {\n    g(1, Global);\n}\n",
+]
+# What each source of them sees.
+TEST_NAMES = "#[allow(unused_imports)]\nuse crate::runtime::*;\n"
