@@ -9,7 +9,9 @@ import re
 import shutil
 import sys
 
-from rust_rules import FORMS, JSON_RULES, LEFT_OUT, TEST_NAMES, TEST_RULES, TESTS, UNKNOWN
+from rust_rules import (
+    FORM_MODULES, FORM_RULES, FORMS, LEFT_OUT, TEST_NAMES, TEST_RULES, TESTS, UNKNOWN
+)
 
 TOP = os.path.dirname(os.path.dirname(os.path.realpath(__file__)))
 PARTS = f"{TOP}/tests/rust_parts"
@@ -70,10 +72,9 @@ def cut(folder):
 
 def add_tests(made, folder):
     """Puts the crates of tests into a crate that was made, as modules of its own."""
-    crates = [*TESTS, *(FORMS if HAS_FORMATS else [])]
-    made.LEFT_OUT += LEFT_OUT
-    made.make(folder, TESTS, TEST_RULES + JSON_RULES)
-    made.make(folder, crates[len(TESTS) :], TEST_RULES)
+    crates = [it for it in TESTS if HAS_FORMATS or it not in FORMS]
+    made.LEFT_OUT += LEFT_OUT if HAS_FORMATS else LEFT_OUT + FORM_MODULES
+    made.make(folder, crates, TEST_RULES if HAS_FORMATS else TEST_RULES + FORM_RULES)
     for crate in crates:
         for path in glob.glob(f"{folder}/src/{crate}/**/*.rs", recursive=True):
             with open(path, encoding="utf-8") as file:

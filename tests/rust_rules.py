@@ -1,12 +1,19 @@
 """What tests/rust has beside the rules of rust/make: which of our crates of tests run as Rust, what
 they need that the code doesn't, and forms that rust/make has to refuse."""
 
-# Our crates of tests, and those of their modules that need JSON.
-TESTS = "packed_tests set_tests trie_tests built_trie_tests ucptab_table".split()
+# Our crates of tests, and what they test beside the library.
+TESTS = (
+    "packed_tests set_tests trie_tests built_trie_tests trie_format_tests ucptab_table ucptab_tests"
+    " uses uses_tests damaged_forms"
+).split()
+# A program's own file, for which tests/rust_parts has another.
+LEFT_OUT = ["damaged_forms/main"]
+# What needs JSON or TOML: crates, and modules of others.
 FORMS = ["damaged_forms"]
-LEFT_OUT = (
-    "damaged_forms/main set_tests/tests/code_points/json set_tests/tests/texts/json packed_tests/tests/unit_tries/json"
-    " packed_tests/tests/unit_tries/written"
+FORM_MODULES = (
+    "set_tests/tests/code_points/json set_tests/tests/texts/json packed_tests/tests/unit_tries/json"
+    " packed_tests/tests/unit_tries/written trie_format_tests/tests/json"
+    " trie_format_tests/tests/toml_keys trie_format_tests/tests/trie_toml"
 ).split()
 # What tests of Rattle have besides the code: a runtime in hand, and assertions that name it.
 TEST_RULES = [
@@ -16,11 +23,12 @@ TEST_RULES = [
     (r"\(impl Abort \+ AllocGlobal\)", "impl Abort"),
     (r"impl Abort \+ AllocGlobal\b", "impl Abort"),
     (r"\.clone\(\)(?:\.ok\(\))?\?", ".clone()"),
-    (r"\.collect\((rt\.alloc\(\)|alloc)\)", ".listed()"),
+    (r"\.collect(?:::<Vec<_>>)?\((rt\.alloc\(\)|alloc)\)", ".listed()"),
     (r"\.sort\((?:rt\.alloc\(\)|alloc)?\)\?", ".sort()"),
     (r"(String::from_utf16_lossy\()(?:rt\.alloc\(\)|alloc), (\w+)\)\?", r"\1\2)"),
     (r"use std::(?:test::Fail|process::Abort);\n", ""),
     (r"use std::hash::\{DefaultHasher, ", "use std::hash::{"),
+    (r"\bstd::convert\b", "core::convert"),
     (r"\.to_string\((?=rt)", ".try_to_string("),
     (r"\.push_str\(", ".try_push_str("),
     (r"\bformat!\(in (?:rt\.alloc\(\)|alloc);\s*", "try_format!("),
@@ -33,9 +41,17 @@ TEST_RULES = [
     (r"let alloc = (?:self\.)?rt\.alloc\(\);\s*", ""),
     (r"\balloc: std::alloc::Global\b", "alloc: Global"),
 ]
-# What needs JSON in them.
-JSON_RULES = [
-    (r"(?ms)^(?:\x01\d+\x03\n)*(?:#\[test\]\n)?fn (?:(?!^\}).)*?(?:\w+_json_refused|JsonError|<Value,|(?:: |\()Value\b)(?:(?!^\}).)*^\}\n", ""),
+# Words of functions that need JSON in the other modules: these go, and what is imported for them.
+JSON_WORDS = (
+    r"\w+_json_refused|JsonError|<Value,|(?:: |\()Value\b|\bjson::(?:to|from)_json\b"
+    r"|\berrors::(?:read_with_strings|table_read_back)\b|\bsets::stored\b|\btables::stored_value\b"
+)
+FORM_RULES = [
+    (
+        r"(?ms)^(?:\x01\d+\x03\n)*(?:#\[test\]\n)?(?:pub )?fn (?:(?!^\}).)*?"
+        rf"(?:{JSON_WORDS})(?:(?!^\}}).)*^\}}\n",
+        "",
+    ),
     (r"\b\w+JsonError, |, \w+JsonError\b|use serde_json::Value;\n", ""),
 ]
 # Forms that rust/make does not know.

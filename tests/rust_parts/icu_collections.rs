@@ -7,7 +7,8 @@ pub(crate) mod codepointtrie {
     pub(crate) use crate::icu_trie_core::lookup::{look_up, look_up_whole};
     pub(crate) use crate::icu_trie_core::walk::walk;
 
-    /// The header's numbers by the keys that JSON gives them.
+    /// The header's numbers by the keys that JSON gives them, where there is no JSON.
+    #[cfg(not(feature = "json"))]
     pub(crate) mod json {
         use crate::codepointtrie::{CodePointTrie, TrieValue};
 
@@ -47,4 +48,6 @@ pub(crate) mod codepointtrie {
         }
     }
 }
-pub(crate) use crate::{codepointinvlist, iterator_utils, zerovec};
+pub(crate) use crate::{
+    char16trie, codepointinvlist, codepointinvliststringlist, iterator_utils, zerovec,
+};

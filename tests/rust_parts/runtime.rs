@@ -1,6 +1,7 @@
 //! What tests of Rattle see of their runtime, for the crates of tests that run as this crate's own.
 
 pub(crate) use crate::support::AllocError;
+pub(crate) use crate::{ucptab_table, uses};
 use alloc::string::String;
 use core::fmt;
 pub(crate) use std::hash::DefaultHasher;
@@ -13,7 +14,7 @@ pub(crate) struct HostRuntime;
 
 /// Who may end the test.
 pub(crate) trait Abort {
-    fn panic(&self, what: &str) -> ! {
+    fn panic(&self, what: impl fmt::Display) -> ! {
         panic!("{what}")
     }
 }
