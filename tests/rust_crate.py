@@ -9,8 +9,10 @@ import re
 import shutil
 import sys
 
+import public_calls
 from rust_rules import (
-    FORM_MODULES, FORM_RULES, FORMS, LEFT_OUT, TEST_NAMES, TEST_RULES, TESTS, UNKNOWN
+    FORM_MODULES, FORM_RULES, FORMS, LEFT_OUT, NOT_SWEPT, OTHER_NAMES, TEST_NAMES, TEST_RULES, TESTS,
+    UNKNOWN
 )
 
 TOP = os.path.dirname(os.path.dirname(os.path.realpath(__file__)))
@@ -18,6 +20,16 @@ PARTS = f"{TOP}/tests/rust_parts"
 # Sources of serde_json and toml, as Debian has them in librust-serde-json-dev, librust-toml-dev.
 SOURCES = "/usr/share/cargo/registry"
 HAS_FORMATS = all(glob.glob(f"{SOURCES}/{it}-*") for it in ("serde_json", "toml"))
+
+
+def read(path):
+    with open(path, encoding="utf-8") as file:
+        return file.read()
+
+
+def write(path, text, mode="w"):
+    with open(path, mode, encoding="utf-8") as file:
+        file.write(text)
 
 
 def maker():
@@ -34,8 +46,7 @@ def refuses_all(made, folder):
     failed = []
     for number, text in enumerate(UNKNOWN):
         path = f"{folder}/unknown{number}.rt"
-        with open(path, "w", encoding="utf-8") as file:
-            file.write(text)
+        write(path, text)
         try:
             made.rust(path, "icu_zerovec", "icu_zerovec/unknown")
             print(f"rust/make takes {text!r}")
@@ -62,40 +73,60 @@ def is_as_made(made, folder):
     return not other and not missing
 
 
+def runs_all():
+    """Whether each of our crates that has tests is one of those that run."""
+    paths = glob.glob(f"{TOP}/crates/*/src/**/*.rt", recursive=True)
+    tested = {os.path.relpath(it, TOP).split("/")[1] for it in paths if "#[test]" in read(it)}
+    for crate in sorted(tested - {*TESTS}):
+        print(f"crates/{crate} has tests, and is not in TESTS of tests/rust_rules.py")
+    return tested <= {*TESTS}
+
+
+def sweeps_all(made):
+    """Whether each public call that answers a want of memory is refused it by a test in
+    rust_parts/public that names it, as it is named in the edition."""
+    named = "".join(read(it) for it in glob.glob(f"{PARTS}/public/refused_*.rs"))
+    failed = []
+    for call, memory in public_calls.public_calls().items():
+        owner, name = call.rsplit("::", 1)
+        tried = "try_" if name in [*made.TRIED, "build_from_writes"] else ""
+        call = OTHER_NAMES.get(call, f"{owner}::{tried}{name}")
+        if memory == "answers" and f'"{call}"' not in named and not re.search(NOT_SWEPT, call):
+            print(f"{call}: no test in rust_parts/public refuses it memory")
+            failed.append(call)
+    return not failed
+
+
 def cut(folder):
     """Takes JSON and TOML out of a crate, where what they stand on is not at hand."""
-    with open(f"{folder}/Cargo.toml", encoding="utf-8") as file:
-        text = re.sub(r'"dep:\w+"|(?m:^(?:serde_json|toml) = \{.*\n)', "", file.read())
-    with open(f"{folder}/Cargo.toml", "w", encoding="utf-8") as file:
-        file.write(text)
+    path = f"{folder}/Cargo.toml"
+    write(path, re.sub(r'"dep:\w+"|(?m:^(?:serde_json|toml) = \{.*\n)', "", read(path)))
 
 
 def add_tests(made, folder):
-    """Puts the crates of tests into a crate that was made, as modules of its own."""
+    """Puts the crates of tests into a crate that was made, as modules of its own, and what lies in
+    rust_parts beside them."""
     crates = [it for it in TESTS if HAS_FORMATS or it not in FORMS]
     made.LEFT_OUT += LEFT_OUT if HAS_FORMATS else LEFT_OUT + FORM_MODULES
     made.make(folder, crates, TEST_RULES if HAS_FORMATS else TEST_RULES + FORM_RULES)
     for crate in crates:
         for path in glob.glob(f"{folder}/src/{crate}/**/*.rs", recursive=True):
-            with open(path, encoding="utf-8") as file:
-                text = file.read()
+            text = read(path)
             place = re.match(r"(?://!.*\n)*\n*", text).end()
-            with open(path, "w", encoding="utf-8") as file:
-                file.write(text[:place] + TEST_NAMES + text[place:])
+            write(path, text[:place] + TEST_NAMES + text[place:])
     shutil.copytree(PARTS, f"{folder}/src", dirs_exist_ok=True)
     shutil.move(f"{folder}/src/public", f"{folder}/tests")
+    shutil.move(f"{folder}/src/refusing", folder)
+    write(f"{folder}/Cargo.toml", '\n[dev-dependencies]\nrefusing = { path = "refusing" }\n', "a")
     names = "".join(
         f"#[cfg(test)]\n#[allow(dead_code, unused_imports, unused_variables)]\nmod {name};\n"
-        for name in ["runtime", "icu_collections", "tables", *crates]
+        for name in ["runtime", "refusals", "icu_collections", "tables", *crates]
     )
-    with open(f"{folder}/src/lib.rs", "a", encoding="utf-8") as file:
-        file.write(f"#[cfg(test)]\nextern crate std;\n{names}")
+    write(f"{folder}/src/lib.rs", f"#[cfg(test)]\nextern crate std;\n{names}", "a")
 
 
 def add_example(folder):
     """Makes a test of the example in rust/README.md."""
-    with open(f"{TOP}/rust/README.md", encoding="utf-8") as file:
-        example = re.search(r"```rust\n(.*?)```", file.read(), re.S)[1]
-    with open(f"{folder}/tests/readme.rs", "w", encoding="utf-8") as file:
-        head = "#[test]\nfn example() -> Result<(), Box<dyn std::error::Error>> {\n"
-        file.write(f"{head}{example}Ok(())\n}}\n")
+    example = re.search(r"```rust\n(.*?)```", read(f"{TOP}/rust/README.md"), re.S)[1]
+    head = "#[test]\nfn example() -> Result<(), Box<dyn std::error::Error>> {\n"
+    write(f"{folder}/tests/readme.rs", f"{head}{example}Ok(())\n}}\n")

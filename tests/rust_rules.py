@@ -17,6 +17,10 @@ FORM_MODULES = (
 ).split()
 # What tests of Rattle have besides the code: a runtime in hand, and assertions that name it.
 TEST_RULES = [
+    # A test of memory runs with each of its requests refused, but for serde_json's, which has no
+    # answer to that: see tests/rust_parts/refusals.rs.
+    (r"#\[test\]\s*fn (?!to_json)(\w+_refused)\(", r"#[test]\nfn \1() {\n    each_refused(\1_once);\n}\n\nfn \1_once("),
+    (r"#\[test\]\s*fn (\w+_quiet)\(", r"#[test]\nfn \1() {\n    none_asked(\1_once);\n}\n\nfn \1_once("),
     (r"(#\[test\]\s*fn \w+\()(?:mut )?rt: HostRuntime\)([^{]*)\{", r"\1)\2{\n    let rt = HostRuntime;"),
     (r"\b(assert|assert_eq|assert_ne|panic)!\(&?rt;\s*", r"\1!("),
     (r"\.expect\(&?rt, ", ".expect("),
@@ -32,7 +36,7 @@ TEST_RULES = [
     (r"\.to_string\((?=rt)", ".try_to_string("),
     (r"\.push_str\(", ".try_push_str("),
     (r"\bformat!\(in (?:rt\.alloc\(\)|alloc);\s*", "try_format!("),
-    (r"\bprintln!\(&?rt;\s*", "printed!("),
+    (r"\bprintln!\(rt; \x02\d+\x03\)", "rt.println(line)"),
     # What is needed beside JSON and TOML.
     (r"\bValue::from_str\((?:alloc, )?", "serde_json::from_str::<Value>("),
     (r"\btoml::table_from_str\(alloc, ", "table_from_str("),
@@ -54,6 +58,11 @@ FORM_RULES = [
     ),
     (r"\b\w+JsonError, |, \w+JsonError\b|use serde_json::Value;\n", ""),
 ]
+# Calls that have other names in the edition than TRIED in rust/make says.
+OTHER_NAMES = {"CodePointInversionList::try_from": "CodePointInversionList::try_from_range"}
+# Calls whose requests are not refused one by one: those of the program, one that is inside, and
+# those that write JSON.
+NOT_SWEPT = r"^ucptab_table::|::from_valid_slice$|::to_json$"
 # Forms that rust/make does not know.
 UNKNOWN = [
     "fn f(x: u8) -> u8\n    decreases { x }\n{\n    x\n}\n",

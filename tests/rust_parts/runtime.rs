@@ -1,6 +1,7 @@
 //! What tests of Rattle see of their runtime, for the crates of tests that run as this crate's own.
 
 pub(crate) use crate::support::AllocError;
+pub(crate) use crate::refusals::{each_refused, hear, none_asked};
 pub(crate) use crate::{ucptab_table, uses};
 use alloc::string::String;
 use core::fmt;
@@ -24,25 +25,14 @@ impl Abort for HostRuntime {}
 /// Who may print.
 pub(crate) trait Print {
     fn println(&self, line: &str) -> Result<(), fmt::Error> {
-        std::println!("{line}");
+        hear(line);
         Ok(())
     }
 }
 
 impl Print for HostRuntime {}
 
-/// A value as a text, where there is memory for it.
-pub(crate) trait TryToString {
-    fn try_to_string(&self) -> Result<String, AllocError>;
-}
-
-impl<T: fmt::Display> TryToString for T {
-    fn try_to_string(&self) -> Result<String, AllocError> {
-        Ok(std::format!("{self}"))
-    }
-}
-
-/// Texts grow by `write!` too.
+/// A text that grows, where there is memory for it.
 pub(crate) trait Text {
     fn write_fmt(&mut self, arguments: fmt::Arguments<'_>) -> Result<(), AllocError>;
     fn try_push_str(&mut self, text: &str) -> Result<(), AllocError>;
@@ -50,29 +40,48 @@ pub(crate) trait Text {
 
 impl Text for String {
     fn write_fmt(&mut self, arguments: fmt::Arguments<'_>) -> Result<(), AllocError> {
-        fmt::Write::write_fmt(self, arguments).map_err(|_| AllocError)
+        fmt::write(&mut Growing(self), arguments).map_err(|_| AllocError)
     }
 
     fn try_push_str(&mut self, text: &str) -> Result<(), AllocError> {
-        self.push_str(text);
+        fmt::Write::write_str(&mut Growing(self), text).map_err(|_| AllocError)
+    }
+}
+
+/// A text as Rust's formatter writes to it.
+struct Growing<'a>(&'a mut String);
+
+impl fmt::Write for Growing<'_> {
+    fn write_str(&mut self, text: &str) -> fmt::Result {
+        self.0.try_reserve(text.len()).map_err(|_| fmt::Error)?;
+        self.0.push_str(text);
         Ok(())
     }
 }
 
-/// A text that is made of parts, where there is memory for it.
+/// The text of these parts, where there is memory for it.
+pub(crate) fn text_of(parts: fmt::Arguments<'_>) -> Result<String, AllocError> {
+    let mut text = String::new();
+    Text::write_fmt(&mut text, parts)?;
+    Ok(text)
+}
+
+/// A text that is made of parts.
 macro_rules! try_format {
-    ($($part:tt)*) => { Ok::<alloc::string::String, crate::support::AllocError>(std::format!($($part)*)) };
+    ($($part:tt)*) => { crate::runtime::text_of(core::format_args!($($part)*)) };
 }
 pub(crate) use try_format;
 
-/// Prints a line, where that is possible.
-macro_rules! printed {
-    ($($part:tt)*) => {{
-        std::println!($($part)*);
-        Ok::<(), core::fmt::Error>(())
-    }};
+/// A value as a text.
+pub(crate) trait TryToString {
+    fn try_to_string(&self) -> Result<String, AllocError>;
 }
-pub(crate) use printed;
+
+impl<T: fmt::Display> TryToString for T {
+    fn try_to_string(&self) -> Result<String, AllocError> {
+        text_of(core::format_args!("{self}"))
+    }
+}
 
 /// What an iterator gives, as a vector.
 pub(crate) trait Listed: Iterator + Sized {

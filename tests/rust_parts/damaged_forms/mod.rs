@@ -14,8 +14,8 @@ use std::path::{Path, PathBuf};
 
 /// The folder of the program.
 fn folder() -> PathBuf {
-    let tests = std::env::var("TABLES").expect("TABLES names no folder");
-    Path::new(&tests).join("../crates/damaged_forms")
+    let top = std::env::var("REPOSITORY").expect("no REPOSITORY");
+    Path::new(&top).join("crates/damaged_forms")
 }
 
 /// What the program prints of so many forms, as its `main` does.

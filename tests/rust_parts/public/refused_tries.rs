@@ -1,0 +1,176 @@
+//! Each request for memory of the calls of tries refused in turn: the call answers it, nothing
+//! panics, and what was lent is as it was.
+
+use bekstaudi::codepointtrie::binary::{SwappedError, WriteError, from_binary_swapped, to_binary};
+use bekstaudi::codepointtrie::{
+    ApplyRefused, BuildError, CodePointTrie, CodePointTrieBuilder, TrieType, Write, binary,
+    try_build_from_writes,
+};
+use refusing::{asks_for_nothing, refused_at, refused_in_turn, unchanged_where_refused};
+
+/// Ranges and single values, in the plane of Emoji too.
+fn writes() -> Vec<Write<u16>> {
+    let ranges = (0..60u16).map(|i| {
+        let start = u32::from(i) * 0x333;
+        Write::Range(start..=start + 0x40, i)
+    });
+    ranges.chain((0..60u16).map(|i| Write::One(0x1_F600 + u32::from(i) * 7, i + 1))).collect()
+}
+
+fn builder(trie_type: TrieType) -> CodePointTrieBuilder<u16> {
+    let mut builder = CodePointTrieBuilder::new(0u16, 999, trie_type);
+    builder.apply(&writes()).expect("no memory");
+    builder
+}
+
+/// Whether the builder's map is that of the trie.
+fn is_map_of(builder: &CodePointTrieBuilder<u16>, trie: &CodePointTrie<'_, u16>) -> bool {
+    let mut next = 0;
+    while let Some(range) = builder.get_range(next) {
+        if trie.get_range(next) != Some(range.clone()) || builder.get(next) != range.value {
+            return false;
+        }
+        next = range.range.end() + 1;
+    }
+    next == 0x11_0000
+}
+
+/// The answer of a builder but for want of memory.
+fn built<T>(answer: Result<T, BuildError>) -> Option<T> {
+    match answer {
+        Ok(trie) => Some(trie),
+        Err(error) => {
+            assert_eq!(error, BuildError::Memory);
+            None
+        }
+    }
+}
+
+#[test]
+fn builders() {
+    let writes = writes();
+    for trie_type in [TrieType::Fast, TrieType::Small] {
+        let made = || CodePointTrieBuilder::new(7u16, 999, trie_type);
+        let empty = made().build();
+        let is_as_made = |it: &CodePointTrieBuilder<u16>| is_map_of(it, &empty);
+        unchanged_where_refused(
+            "CodePointTrieBuilder::try_set_value",
+            made,
+            |it| it.try_set_value(0x10_0000, 8).is_ok(),
+            is_as_made,
+        );
+        unchanged_where_refused(
+            "CodePointTrieBuilder::try_set_range_value",
+            made,
+            |it| it.try_set_range_value(0x5_0005..=0x7_7777, 8).is_ok(),
+            is_as_made,
+        );
+        let whole = builder(trie_type).build();
+        refused_in_turn("CodePointTrieBuilder::try_from_trie", || {
+            CodePointTrieBuilder::try_from_trie(&whole).ok()
+        });
+        refused_in_turn("codepointtrie::try_build_from_writes", || {
+            built(try_build_from_writes(0, 999, trie_type, &writes))
+        });
+    }
+}
+
+/// What is built takes the builder's place, which is made anew beforehand.
+#[test]
+fn builds() {
+    for trie_type in [TrieType::Fast, TrieType::Small] {
+        let whole = builder(trie_type).build();
+        for place in 0.. {
+            let builder = builder(trie_type);
+            let (trie, is_refused) = refused_at(place, || built(builder.try_build()));
+            assert_eq!(trie.is_none(), is_refused, "CodePointTrieBuilder::try_build");
+            if let Some(trie) = trie {
+                assert!(place > 2 && trie == whole);
+                break;
+            }
+        }
+    }
+}
+
+/// The writes before the one that was refused are made, and no other.
+#[test]
+fn writes_up_to_a_refusal() {
+    let writes = writes();
+    for place in 0.. {
+        let mut builder = CodePointTrieBuilder::new(0u16, 999, TrieType::Small);
+        let (applied, is_refused) = refused_at(place, || builder.apply(&writes));
+        let made = match applied {
+            Ok(()) => writes.len(),
+            Err(ApplyRefused(made)) => made,
+        };
+        assert_eq!(applied.is_err(), is_refused, "CodePointTrieBuilder::apply");
+        let front = try_build_from_writes(0, 999, TrieType::Small, &writes[..made]);
+        assert!(is_map_of(&builder, &front.expect("no memory")));
+        if !is_refused {
+            assert!(place > 2);
+            return;
+        }
+    }
+}
+
+#[test]
+fn tries() {
+    for trie_type in [TrieType::Fast, TrieType::Small] {
+        let trie = builder(trie_type).build();
+        let (header, index, values) = trie.parts();
+        let (index, values): (Vec<u16>, Vec<u16>) = (index.iter().collect(), values.iter().collect());
+        refused_in_turn("CodePointTrie::try_clone", || trie.try_clone().ok());
+        refused_in_turn("CodePointTrie::try_get_set_for_value", || {
+            trie.try_get_set_for_value(3).ok()
+        });
+        refused_in_turn("CodePointTrie::try_alloc_map_value", || {
+            trie.try_alloc_map_value(|it| Ok::<u32, ()>(u32::from(it) * 2)).ok()
+        });
+        refused_in_turn("CodePointTrie::alloc_from_slices", || {
+            CodePointTrie::alloc_from_slices(header, &index, &values).ok()
+        });
+        assert!(trie == builder(trie_type).build());
+    }
+}
+
+#[test]
+fn binary_forms() {
+    for trie_type in [TrieType::Fast, TrieType::Small] {
+        let trie = builder(trie_type).build();
+        let bytes = to_binary(&trie).expect("no memory");
+        refused_in_turn("binary::to_binary", || match to_binary(&trie) {
+            Ok(bytes) => Some(bytes),
+            Err(error) => {
+                assert_eq!(error, WriteError::Memory);
+                None
+            }
+        });
+        let swapped = swapped(&bytes);
+        refused_in_turn("binary::from_binary_swapped", || {
+            match from_binary_swapped::<u16>(&swapped) {
+                Ok((read, len)) => Some(assert!(read == trie && len == bytes.len())),
+                Err(error) => {
+                    assert_eq!(error, SwappedError::Memory);
+                    None
+                }
+            }
+        });
+        expect_quiet(&trie, &bytes);
+    }
+}
+
+/// The form on a machine that has the highest byte first: a number of 32 bits, and others of 16.
+fn swapped(bytes: &[u8]) -> Vec<u8> {
+    let front = bytes[..4].iter().rev();
+    front.chain(bytes[4..].chunks(2).flat_map(|it| it.iter().rev())).copied().collect()
+}
+
+/// The other calls of the binary form that answer the same errors, and take no memory.
+fn expect_quiet(trie: &CodePointTrie<'_, u16>, bytes: &[u8]) {
+    let mut written = vec![0; bytes.len()];
+    let len = asks_for_nothing("binary::binary_len", || binary::binary_len(trie));
+    assert_eq!(len, Ok(bytes.len()));
+    let len = asks_for_nothing("binary::write_binary", || binary::write_binary(trie, &mut written));
+    assert_eq!(len, Ok(bytes.len()));
+    assert_eq!(written, bytes);
+}

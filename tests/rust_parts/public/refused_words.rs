@@ -1,0 +1,77 @@
+//! Each request for memory of the calls of unit tries and packed vectors refused in turn: the call
+//! answers it, nothing panics, and what was lent is as it was.
+
+use bekstaudi::char16trie::{AddError, Char16Trie, Char16TrieBuilder};
+use bekstaudi::zerovec::ZeroVec;
+use refusing::{refused_at, refused_in_turn, unchanged_where_refused};
+
+/// Keys of different lengths, with the front of a surrogate pair in some.
+fn keys() -> Vec<Vec<u16>> {
+    (0..400u16)
+        .map(|i| {
+            let key = [0x61 + i % 26, 0x61 + i / 26, 0x3040 + i % 7, 0xD83D, 0xDE00 + i % 5];
+            key[..usize::from(i % 4) + 2].to_vec()
+        })
+        .collect()
+}
+
+fn builder(keys: &[Vec<u16>]) -> Char16TrieBuilder {
+    let mut builder = Char16TrieBuilder::new();
+    for (key, i) in keys.iter().zip(0..) {
+        builder.add(key, i * 977).expect("not added");
+    }
+    builder
+}
+
+/// What is built takes the builder's place, which is made anew beforehand.
+fn trie(keys: &[Vec<u16>], place: usize) -> (Option<Char16Trie<'static>>, bool) {
+    let builder = builder(keys);
+    refused_at(place, || builder.try_build().ok())
+}
+
+#[test]
+fn builders() {
+    let keys = keys();
+    for place in 0.. {
+        let (trie, is_refused) = trie(&keys, place);
+        assert_eq!(trie.is_none(), is_refused, "Char16TrieBuilder::try_build");
+        if let Some(trie) = trie {
+            assert!(place > 20 && trie.iter2().count() == 400);
+            break;
+        }
+    }
+    let added = |answer: Result<(), AddError>| match answer {
+        Ok(()) => true,
+        Err(error) => {
+            assert_eq!(error, AddError::Memory);
+            false
+        }
+    };
+    // So many that the list of keys is full.
+    let some = || builder(&keys[..64]);
+    let is_some = |it: &Char16TrieBuilder| it.len() == 64;
+    let add = |it: &mut Char16TrieBuilder| added(it.add(&[0xE000, 0xE000], 1));
+    unchanged_where_refused("Char16TrieBuilder::add", some, add, is_some);
+    let add_str = |it: &mut Char16TrieBuilder| added(it.add_str("ÿÿ", 1));
+    unchanged_where_refused("Char16TrieBuilder::add_str", some, add_str, is_some);
+}
+
+#[test]
+fn unit_tries() {
+    let whole = trie(&keys(), usize::MAX).0.expect("no trie");
+    refused_in_turn("Char16Trie::try_clone", || whole.try_clone().ok());
+    refused_in_turn("Iter2::next", || whole.try_iter2().all(|it| it.is_ok()).then_some(()));
+    assert_eq!(whole.iter2().count(), 400);
+}
+
+#[test]
+fn packed_vectors() {
+    let values = [1u32, 0x10FFFF, 7];
+    refused_in_turn("ZeroVec::alloc_from_slice", || ZeroVec::alloc_from_slice(&values).ok());
+    refused_in_turn("ZeroVec::alloc_from_iter", || {
+        ZeroVec::alloc_from_iter((0..99u32).filter(|it| it % 7 > 0)).ok()
+    });
+    let lent = || ZeroVec::<u16>::parse_bytes(&[1, 2, 3, 4]).ok();
+    refused_in_turn("ZeroVec::try_clone", || lent()?.try_clone().ok());
+    refused_in_turn("ZeroVec::try_into_owned", || lent()?.try_into_owned().ok());
+}

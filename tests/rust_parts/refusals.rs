@@ -1,0 +1,60 @@
+//! The tests of memory: those whose names end in `_refused` have each request between `call` and
+//! `done` refused in turn, and say so; in those that end in `_quiet` there is none.
+
+use crate::runtime::{Fail, HostRuntime};
+use std::cell::Cell;
+
+std::thread_local! {
+    static IS_SAID: Cell<bool> = const { Cell::new(false) };
+}
+
+/// How a test ends.
+pub(crate) trait Ending {
+    fn expect_well(self);
+}
+
+impl Ending for () {
+    fn expect_well(self) {}
+}
+
+impl Ending for Result<(), Fail> {
+    fn expect_well(self) {
+        self.expect("failed");
+    }
+}
+
+/// Hears what a test says of its calls.
+pub(crate) fn hear(line: &str) {
+    match line {
+        "call" => refusing::count(true),
+        "done" => refusing::count(false),
+        "refused" => IS_SAID.set(true),
+        _ => {}
+    }
+}
+
+/// Runs the test with its request at this place refused. Answers how many it made.
+fn asked_in<E: Ending>(test: fn(HostRuntime) -> E, refused: usize) -> usize {
+    IS_SAID.set(false);
+    refusing::begin(refused);
+    test(HostRuntime).expect_well();
+    refusing::count(false);
+    refusing::asked()
+}
+
+/// Runs a test that ends in `_refused`.
+pub(crate) fn each_refused<E: Ending>(test: fn(HostRuntime) -> E) {
+    for place in 0.. {
+        let is_refused = asked_in(test, place) > place;
+        assert_eq!(IS_SAID.get(), is_refused, "what is said of request {place}");
+        if !is_refused {
+            assert!(place > 0, "the call asks for nothing");
+            return;
+        }
+    }
+}
+
+/// Runs a test that ends in `_quiet`.
+pub(crate) fn none_asked<E: Ending>(test: fn(HostRuntime) -> E) {
+    assert_eq!(asked_in(test, usize::MAX), 0, "requests in the call");
+}
