@@ -5,9 +5,9 @@ use Rattle.std.specs.Char.{IsScalar, len_utf8}
 use Rattle.std.proofs.lemmas.List.{append-nil, get_or-take, length-append, length-drop, length-take-le, take-append-drop}
 use Rattle.std.proofs.Math.Seq.{take-append_seam}
 use Rattle.std.proofs.lemmas.Str.{len_utf8_bounds, length-encode}
-use Rattle.icu_trie_text.specs.Inside.Trails.{IsNoTrail, IsTrail}
+use Rattle.icu_trie_text.specs.Inside.Trails.{IsHighOfFour, IsHighOfThree, IsNoTrail, IsTrail}
 use Rattle.icu_trie_text.specs.Utf8.{BeginsCharacter, IsFirstPart, IsIllFormedPart}
-use Rattle.icu_trie_text.proofs.Utf8Table.{HasBytes, IsHighOfFour, IsHighOfThree, IsSecond, begins_four, begins_three, begins_two, four, longer_than_one, longer_than_three, longer_than_two, one, second_of_four, second_of_three, second_of_two, three, two}
+use Rattle.icu_trie_text.proofs.Utf8Table.{HasBytes, IsSecond, begins_four, begins_three, begins_two, four, longer_than_one, longer_than_three, longer_than_two, one, second_of_four, second_of_three, second_of_two, three, two}
 
 -- ---- characters
 -- a character and what follows it
@@ -123,18 +123,30 @@ not_second_of_two bytes from to bad some = one_byte bytes some (omega (arith, fr
   refused more (second_of_three a b la lb x y h) = omega (arith, x, to)
   refused more (second_of_four a b lb x y h) = omega (arith, x, to)
 
--- the second byte of three is none that may follow the first one
-pub not_second_of_three : (bytes : List ℕ) → 224 ≤ get_or bytes 0 0 → get_or bytes 0 0 < 240 → 0 < length bytes
-    → ((a b : ℕ) → 1 < length bytes → a < 16 → b < 64 → get_or bytes 0 0 ≡ 224 + a → get_or bytes 1 0 ≡ 128 + b → IsHighOfThree (a * 64 + b) → ⊥)
+-- the second byte of three is no trail byte, or none that may follow the first one
+not_second_of_three : (bytes : List ℕ) → 224 ≤ get_or bytes 0 0 → get_or bytes 0 0 < 240 → 0 < length bytes
+    → ((a b : ℕ) → 1 < length bytes → b < 64 → get_or bytes 0 0 ≡ 224 + a → get_or bytes 1 0 ≡ 128 + b → IsHighOfThree (a * 64 + b) → ⊥)
     → IsIllFormedPart bytes 1
 not_second_of_three bytes from to some bad = one_byte bytes some (omega (arith, from)) (λ more second. refused more second) where
   refused : 1 < length bytes → IsSecond (get_or bytes 0 0) (get_or bytes 1 0) → ⊥
   refused more (second_of_two l h m n) = omega (arith, h, from)
-  refused more (second_of_three a b la lb x y h) = bad a b more la lb x y h
+  refused more (second_of_three a b la lb x y h) = bad a b more lb x y h
   refused more (second_of_four a b lb x y h) = omega (arith, x, to)
 
--- the second byte of four is none that may follow the first one
-pub not_second_of_four : (bytes : List ℕ) → 240 ≤ get_or bytes 0 0 → 0 < length bytes
+pub no_second_of_three : (bytes : List ℕ) → 224 ≤ get_or bytes 0 0 → get_or bytes 0 0 < 240 → 0 < length bytes → IsNoTrail bytes 1
+    → IsIllFormedPart bytes 1
+no_second_of_three bytes from to some none = not_second_of_three bytes from to some
+    (λ a b more lb x y h. no_trail _ (none more) (omega (arith, y), omega (arith, y, lb)))
+
+pub bad_second_of_three : (bytes : List ℕ) (a b : ℕ) → get_or bytes 0 0 ≡ 224 + a → a < 16 → IsTrail bytes 1 b → (IsHighOfThree (a * 64 + b) → ⊥)
+    → IsIllFormedPart bytes 1
+bad_second_of_three bytes a b e l s bad =
+    let there = s.there in let byte = s.byte in
+    not_second_of_three bytes (omega (arith, e)) (omega (arith, e)) (omega arith)
+    (λ i k more lk x y h. let first : i ≡ a = omega (arith, e, x) in let second : k ≡ b = omega (arith, byte, y) in bad (rw (first, second) at h))
+
+-- and so of four
+not_second_of_four : (bytes : List ℕ) → 240 ≤ get_or bytes 0 0 → 0 < length bytes
     → ((a b : ℕ) → 1 < length bytes → b < 64 → get_or bytes 0 0 ≡ 240 + a → get_or bytes 1 0 ≡ 128 + b → IsHighOfFour (a * 64 + b) → ⊥)
     → IsIllFormedPart bytes 1
 not_second_of_four bytes from some bad = one_byte bytes some (omega (arith, from)) (λ more second. refused more second) where
@@ -142,6 +154,17 @@ not_second_of_four bytes from some bad = one_byte bytes some (omega (arith, from
   refused more (second_of_two l h m n) = omega (arith, h, from)
   refused more (second_of_three a b la lb x y h) = omega (arith, x, la, from)
   refused more (second_of_four a b lb x y h) = bad a b more lb x y h
+
+pub no_second_of_four : (bytes : List ℕ) → 240 ≤ get_or bytes 0 0 → 0 < length bytes → IsNoTrail bytes 1 → IsIllFormedPart bytes 1
+no_second_of_four bytes from some none = not_second_of_four bytes from some
+    (λ a b more lb x y h. no_trail _ (none more) (omega (arith, y), omega (arith, y, lb)))
+
+pub bad_second_of_four : (bytes : List ℕ) (a b : ℕ) → get_or bytes 0 0 ≡ 240 + a → IsTrail bytes 1 b → (IsHighOfFour (a * 64 + b) → ⊥)
+    → IsIllFormedPart bytes 1
+bad_second_of_four bytes a b e s bad =
+    let there = s.there in let byte = s.byte in
+    not_second_of_four bytes (omega (arith, e)) (omega arith)
+    (λ i k more lk x y h. let first : i ≡ a = omega (arith, e, x) in let second : k ≡ b = omega (arith, byte, y) in bad (rw (first, second) at h))
 
 -- no character begins with this byte
 pub not_first : (bytes : List ℕ) → 0 < length bytes → 128 ≤ get_or bytes 0 0 → (get_or bytes 0 0 < 194) ⊎ (245 ≤ get_or bytes 0 0) → IsIllFormedPart bytes 1
@@ -153,3 +176,46 @@ not_first bytes some lead bad = one_byte bytes some lead (λ more second. refuse
   refused (inr high) (second_of_two l h m n) = omega (arith, high, h)
   refused (inr high) (second_of_three a b la lb x y h) = omega (arith, high, x, la)
   refused (inr high) (second_of_four a b lb x y h) = omega (arith, high, x, h.1)
+
+-- ---- where the second byte may follow the first one, and the third one is no trail byte
+pub not_third_of_three : (bytes : List ℕ) (a b : ℕ) → get_or bytes 0 0 ≡ 224 + a → a < 16 → IsTrail bytes 1 b → IsHighOfThree (a * 64 + b)
+    → IsNoTrail bytes 2 → IsIllFormedPart bytes 2
+not_third_of_three [] a b e l s h bad = let n = s.there in absurd (omega arith)
+not_third_of_three (x ∷ []) a b e l s h bad = let n = s.there in absurd (omega arith)
+not_third_of_three (x ∷ y ∷ rest) a b e l s h bad =
+    let second : y ≡ 128 + b = s.byte in
+    let t = three a b 0 l s.six (omega arith) h in
+    two_bytes (x ∷ y ∷ rest) s.there (omega (arith, e))
+    ((a * 64 + b) * 64 + 0, t.scalar, ((128 + 0) ∷ [], rw (e, second) (sym t.encoded))) bad
+
+pub not_third_of_four : (bytes : List ℕ) (a b : ℕ) → get_or bytes 0 0 ≡ 240 + a → IsTrail bytes 1 b → IsHighOfFour (a * 64 + b)
+    → IsNoTrail bytes 2 → IsIllFormedPart bytes 2
+not_third_of_four [] a b e s h bad = let n = s.there in absurd (omega arith)
+not_third_of_four (x ∷ []) a b e s h bad = let n = s.there in absurd (omega arith)
+not_third_of_four (x ∷ y ∷ rest) a b e s h bad =
+    let second : y ≡ 128 + b = s.byte in
+    let t = four a b 0 0 s.six (omega arith) (omega arith) h in
+    two_bytes (x ∷ y ∷ rest) s.there (omega (arith, e))
+    ((a * 64 + b) * 4096 + 0 * 64 + 0, t.scalar, ((128 + 0) ∷ (128 + 0) ∷ [], rw (e, second) (sym t.encoded))) bad
+
+pub not_fourth : (bytes : List ℕ) (a b d : ℕ) → get_or bytes 0 0 ≡ 240 + a → IsTrail bytes 1 b → IsHighOfFour (a * 64 + b)
+    → IsTrail bytes 2 d → IsNoTrail bytes 3 → IsIllFormedPart bytes 3
+not_fourth [] a b d e s h t bad = let n = s.there in absurd (omega arith)
+not_fourth (x ∷ []) a b d e s h t bad = let n = s.there in absurd (omega arith)
+not_fourth (x ∷ y ∷ []) a b d e s h t bad = let n = t.there in absurd (omega arith)
+not_fourth (x ∷ y ∷ z ∷ rest) a b d e s h t bad =
+    let second : y ≡ 128 + b = s.byte in
+    let third : z ≡ 128 + d = t.byte in
+    let u = four a b d 0 s.six t.six (omega arith) h in
+    three_bytes (x ∷ y ∷ z ∷ rest) t.there (omega (arith, e))
+    ((a * 64 + b) * 4096 + d * 64 + 0, u.scalar, ((128 + 0) ∷ [], rw (e, second, third) (sym u.encoded))) bad
+
+-- ---- how long a part is
+pub part_size : (bytes : List ℕ) (part : Option ℕ) (size : ℕ) → IsFirstPart bytes part size → (0 < size) × (size ≤ length bytes)
+part_size bytes None size p = (p.some, p.within)
+part_size bytes (Some c) size p =
+    let lengths = ap (λ (bs : List ℕ). length bs) p.2 ∙ length-append (encode_utf8 c) (drop size bytes) in
+    let own = length-encode c in
+    let some = (len_utf8_bounds c).0 in
+    let same = p.1 in
+    (omega arith, omega (arith, length-drop size bytes))

@@ -6,6 +6,7 @@ use Rattle.std.proofs.Math.Utf8.{scalar_cases}
 use Rattle.std.proofs.lemmas.Bool.{cases_lt, lt-ltb, le-ltb, le-leb}
 use Rattle.std.proofs.lemmas.List.{get_or_append_left, length-append}
 use Rattle.std.proofs.lemmas.Str.{encode_ascii}
+use Rattle.icu_trie_text.specs.Inside.Trails.{IsHighOfFour, IsHighOfThree}
 use Rattle.icu_trie_text.specs.Utf8.{BeginsCharacter}
 
 -- ---- the bytes of a character
@@ -26,13 +27,6 @@ scalar_low c h = rw (lt-ltb c 0xD800 h) refl
 
 scalar_high : (c : ℕ) → 0xE000 ≤ c → c < 0x110000 → IsScalar c
 scalar_high c l h = rw (le-ltb c 0xD800 (omega arith), le-leb 0xE000 c l, lt-ltb c 0x110000 h) refl
-
--- what the first two bytes of three say without their marks is no surrogate's, and what is below is written in two
-abbrev pub IsHighOfThree : ℕ → Type 0
-IsHighOfThree h = (32 ≤ h) × ((h < 864) ⊎ (896 ≤ h))
-
-abbrev pub IsHighOfFour : ℕ → Type 0
-IsHighOfFour h = (16 ≤ h) × (h < 272)
 
 -- a character with these bytes
 pub record HasBytes (c : ℕ) (bytes : List ℕ) : Type 0 where

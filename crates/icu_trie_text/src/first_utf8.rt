@@ -1,8 +1,8 @@
 //! The first part of bytes that may be ill-formed UTF-8.
-ghost use Rattle.std.specs.Prelude.{◌≡◌, ◌+◌, ◌*◌, ◌^◌, ◌<◌, ◌≤◌, length, slice_index};
+ghost use Rattle.std.specs.Prelude.{◌≡◌, ◌+◌, ◌*◌, ◌^◌, ◌<◌, ◌≤◌, ◌↔◌, IsTrue, length, slice_index};
 ghost use Rattle.std.specs.Char.{IsScalar};
 ghost use Rattle.std.specs.Option.{MatchOption};
-ghost use Rattle.icu_trie_text.specs.Inside.Trails.{IsNoTrail, IsTrail};
+ghost use Rattle.icu_trie_text.specs.Inside.Trails.{IsHighOfFour, IsHighOfThree, IsNoTrail, IsTrail};
 ghost use Rattle.icu_trie_text.specs.Utf8.{IsFirstPart};
 
 /// A part of bytes: a character, or a maximal part that is ill-formed.
@@ -49,6 +49,24 @@ fn trail_bits(bytes: &[u8], place: usize) -> Option<u32>
     Some(byte - 0x80)
 }
 
+/// Whether these are the upper ten bits of a character of three bytes, which its first two say: of
+/// one that takes no fewer bytes, and is no surrogate.
+#[inline(always)]
+fn is_high_of_three(high: u32) -> bool
+    ensures { IsTrue result ↔ IsHighOfThree high }
+{
+    0x20 <= high && (high < 0x360 || 0x380 <= high)
+}
+
+/// Whether these are the upper nine bits of a character of four bytes, which its first two say: of
+/// one that takes no fewer bytes, and is no number above 0x10FFFF.
+#[inline(always)]
+fn is_high_of_four(high: u32) -> bool
+    ensures { IsTrue result ↔ IsHighOfFour high }
+{
+    0x10 <= high && high < 0x110
+}
+
 /// The first part of bytes whose first one leads two.
 #[inline(always)]
 fn part_of_two(bytes: &[u8]) -> Part
@@ -67,8 +85,7 @@ fn part_of_two(bytes: &[u8]) -> Part
     }
 }
 
-/// The first part of bytes whose first one leads three. The first two tell whether it is longer than
-/// need be, or a surrogate.
+/// The first part of bytes whose first one leads three.
 #[inline(always)]
 fn part_of_three(bytes: &[u8]) -> Part
     requires some { 0 < length bytes.now }
@@ -81,10 +98,7 @@ fn part_of_three(bytes: &[u8]) -> Part
         return ill_formed(1);
     };
     let high = lead * 64 + second;
-    if high < 0x20 {
-        return ill_formed(1);
-    }
-    if 0x360 <= high && high < 0x380 {
+    if !is_high_of_three(high) {
         return ill_formed(1);
     }
     let Some(third) = trail_bits(bytes, 2) else {
@@ -96,8 +110,7 @@ fn part_of_three(bytes: &[u8]) -> Part
     }
 }
 
-/// The first part of bytes whose first one leads four. The first two tell whether it is longer than
-/// need be, or above 0x10FFFF.
+/// The first part of bytes whose first one leads four.
 #[inline(always)]
 fn part_of_four(bytes: &[u8]) -> Part
     requires some { 0 < length bytes.now }
@@ -110,10 +123,7 @@ fn part_of_four(bytes: &[u8]) -> Part
         return ill_formed(1);
     };
     let high = lead * 64 + second;
-    if high < 0x10 {
-        return ill_formed(1);
-    }
-    if high >= 0x110 {
+    if !is_high_of_four(high) {
         return ill_formed(1);
     }
     let Some(third) = trail_bits(bytes, 2) else {
