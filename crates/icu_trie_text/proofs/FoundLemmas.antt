@@ -1,5 +1,5 @@
 -- The walk over a text that looks for a value.
-use Rattle.std.proofs.Common.{◌≡◌, ◌∙◌, sym, ap, subst, refl, ℕ, ◌+◌, List, [], ◌∷◌, ◌++◌, append_assoc, length, Bool, true, false, ◌&&◌, Option, Some, arith, encode_utf8}
+use Rattle.std.proofs.Common.{◌≡◌, ◌∙◌, sym, ap, refl, ℕ, ◌+◌, List, [], ◌∷◌, ◌++◌, append_assoc, length, Bool, true, false, Option, Some, arith, encode_utf8}
 use Rattle.std.specs.Char.{len_utf8}
 use Rattle.std.specs.List.{All}
 use Rattle.std.specs.Str.{IsCharBoundary, IsUtf8, all_scalars, chars, encode_utf8_all}
@@ -10,7 +10,6 @@ use Rattle.std.proofs.lemmas.Str.{IsCharBoundary-at_seam, encodes-append, encode
 use Rattle.icu_trie.specs.Parts.{Parts, trie_value}
 use Rattle.icu_trie_text.specs.Found.{AnswersOf, IsAcceptedFront, IsFirstAccepted}
 use Rattle.icu_trie_text.specs.Indices.{index_item, with_indices}
-use Rattle.icu_trie_text.specs.declared.found.Found.{Found}
 
 -- ---- where characters stand
 -- how many bytes characters take

@@ -4,4 +4,5 @@ pub mod IndexLemmas
 pub mod Utf16Lemmas
 pub mod Utf8Parts
 pub mod Utf8Table
+pub mod Utf8ValueLemmas
 pub mod ValueLemmas

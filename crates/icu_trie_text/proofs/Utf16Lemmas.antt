@@ -1,7 +1,6 @@
 -- The code points of 16-bit units, one by one.
-use Rattle.std.proofs.Common.{◌≡◌, ◌∙◌, ap, refl, ℕ, ◌≤◌, List, [], ◌∷◌, length, Bool, true, false, ◌&&◌, arith}
+use Rattle.std.proofs.Common.{◌≡◌, refl, ℕ, ◌≤◌, List, [], ◌∷◌, length, Bool, true, false, ◌&&◌, arith}
 use Rattle.std.specs.Char.Utf16.{is_high_surrogate, is_low_surrogate, surrogate_pair_char}
-use Rattle.std.proofs.lemmas.Bool.{cond-true, cond-false}
 use Rattle.icu_trie_text.specs.Utf16.{code_points_of}
 
 pub code_points-nil : code_points_of [] ≡ []

@@ -1,8 +1,9 @@
 //! The value of each character of bytes that may be ill-formed UTF-8.
-ghost use Rattle.std.specs.Prelude.{◌≡◌, ℕ, List};
+ghost use Rattle.std.specs.Prelude.{◌≡◌, ℕ, List, Some};
 ghost use Rattle.std.specs.Iterator.{Drains, item_count};
+ghost use Rattle.std.specs.Option.{unwrap_or};
 ghost use Rattle.std.specs.Str.{IsUtf8, chars};
-ghost use Rattle.icu_trie_text.specs.Utf8Values.{AreValuesOfBytes, GivesPart};
+ghost use Rattle.icu_trie_text.specs.Utf8Values.{AreValuesOfBytes, GivesPart, part_value};
 ghost use Rattle.icu_trie_text.specs.Values.{AreValuesOf};
 
 use crate::first_utf8::first_part;
@@ -52,6 +53,19 @@ pub fn values_of_utf8<'a, T: TrieValue>(
     ValuesOfUtf8 { trie, rest: bytes }
 }
 
+/// The item of a part: its character with its value, or U+FFFD with the error value where the part
+/// is ill-formed.
+#[inline(always)]
+fn item_of<T: TrieValue>(trie: &CodePointTrie<'_, T>, part: Option<char>) -> (char, T)
+    ensures character { result.0 ≡ unwrap_or part 0xFFFD }
+    ensures value { part_value trie.now part ≡ Some result.1 }
+{
+    match part {
+        Some(c) => (c, trie.get(c)),
+        None => ('\u{FFFD}', trie.error_value()),
+    }
+}
+
 impl<'a, T: TrieValue> Iterator for ValuesOfUtf8<'a, T> {
     type Item = (char, T);
 
@@ -66,9 +80,6 @@ impl<'a, T: TrieValue> Iterator for ValuesOfUtf8<'a, T> {
         }
         let part = first_part(self.rest);
         self.rest = &self.rest[part.size..];
-        match part.character {
-            Some(c) => Some((c, self.trie.get(c))),
-            None => Some(('\u{FFFD}', self.trie.error_value())),
-        }
+        Some(item_of(self.trie, part.character))
     }
 }

@@ -1,5 +1,5 @@
 -- The trail bytes of UTF-8, and what the first two of three or four bytes say.
-use Rattle.std.specs.Prelude.{◌≡◌, ℕ, ◌+◌, ◌<◌, ◌≤◌, ◌⊎◌, List, length, slice_index, Option, MatchOption}
+use Rattle.std.specs.Prelude.{◌≡◌, ℕ, ◌+◌, ◌<◌, ◌≤◌, ◌⊎◌, List, length, slice_index}
 
 -- at the place there is a trail byte with these six bits
 pub record IsTrail (bytes : List ℕ) (place bits : ℕ) : Type 0 where

@@ -1,4 +1,4 @@
-use Rattle.std.proofs.Common.{◌≡◌, Bool, false, true, subst}
+use Rattle.std.proofs.Common.{◌≡◌, Bool, true, subst}
 use Rattle.std.specs.Str.{chars}
 use Rattle.icu_trie_text.specs.Indices.{with_indices}
 use Rattle.icu_trie_text.proofs.FoundLemmas.{front_before, passed_boundary, passed_more, passed_none, whole_front}

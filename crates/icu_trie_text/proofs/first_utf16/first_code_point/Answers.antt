@@ -1,5 +1,4 @@
-use Rattle.std.proofs.Common.{◌≡◌, ◌∙◌, ◌∷◌, [], List, ℕ, ap, sym, false, true}
-use Rattle.std.specs.Char.Utf16.{is_high_surrogate, is_low_surrogate}
+use Rattle.std.proofs.Common.{◌≡◌, ◌∙◌, ◌∷◌, [], ℕ, ap, sym}
 use Rattle.std.proofs.lemmas.List.{nil_from_length}
 use Rattle.icu_trie_text.specs.Utf16.{code_points_of}
 use Rattle.icu_trie_text.proofs.Utf16Lemmas.{code_points-nil, code_points_alone, code_points_before, code_points_last, code_points_pair}

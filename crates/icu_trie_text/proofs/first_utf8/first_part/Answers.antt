@@ -1,5 +1,5 @@
-use Rattle.std.proofs.Common.{arith, inl, inr}
-use Rattle.icu_trie_text.proofs.Utf8Parts.{not_first, part_of_ascii}
+use Rattle.std.proofs.Common.{inl, inr}
+use Rattle.icu_trie_text.proofs.Utf8Parts.{not_first}
 use Rattle.icu_trie_text.proofs.first_utf8.first_part.Goals as goal
 
 pub returns-then-lead-lt194 : goal.returns-then-lead-lt194

@@ -1,4 +1,4 @@
-use Rattle.std.proofs.Common.{◌≡◌, ℕ, ◌+◌, ◌-◌, get_or, arith, Some}
+use Rattle.std.proofs.Common.{◌≡◌, ℕ, ◌+◌, ◌-◌, get_or, arith}
 use Rattle.icu_trie_text.proofs.Utf8Parts.{not_second_of_two, two_found}
 use Rattle.icu_trie_text.proofs.first_utf8.part_of_two.Goals as goal
 

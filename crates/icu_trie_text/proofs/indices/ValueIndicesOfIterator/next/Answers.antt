@@ -1,4 +1,4 @@
-use Rattle.std.proofs.Common.{◌∙◌, sym, ap, arith, rules}
+use Rattle.std.proofs.Common.{◌∙◌, sym, rules}
 use Rattle.icu_trie_text.proofs.IndexLemmas.{first_index}
 use Rattle.icu_trie_text.proofs.indices.ValueIndicesOfIterator.next.Goals as goal
 
