@@ -1,0 +1,50 @@
+//! The trie that the tests ask, and what they share.
+use icu_trie::cptrie::CodePointTrie;
+use icu_trie::error::PartsError;
+use icu_trie::header::{CodePointTrieHeader, TrieType};
+use std::alloc::Global;
+use std::fmt::Debug;
+use std::process::Abort;
+
+/// The value of each surrogate.
+pub const SURROGATE: u8 = 100;
+
+/// The value of each code point from 0x10000 on.
+pub const HIGH: u8 = 200;
+
+/// The value where there is no code point.
+pub const ERROR: u8 = 255;
+
+const HEADER: CodePointTrieHeader = CodePointTrieHeader {
+    high_start: 0x10000,
+    shifted12_high_start: 0x10,
+    index3_null_offset: 0x7FFF,
+    data_null_offset: 0xFFFFF,
+    null_value: 0,
+    trie_type: TrieType::Fast,
+};
+
+/// A trie in which each code point below 0x10000 but the surrogates has its last six bits.
+pub fn six_bits(alloc: Global) -> Result<CodePointTrie<'static, u8>, PartsError> {
+    let mut index = [0; 1024];
+    for block in 0xD800 / 64..0xE000 / 64 {
+        index[block] = 64;
+    }
+    let mut values = [SURROGATE; 130];
+    for k in 0..64 {
+        values[k] = k as u8;
+    }
+    values[128] = HIGH;
+    values[129] = ERROR;
+    CodePointTrie::alloc_from_slices(alloc, HEADER, &index, &values)
+}
+
+/// What was found is what is wanted.
+pub fn expect_same<T: Copy + Debug + PartialEq>(rt: &impl Abort, found: T, want: T, what: &str) {
+    assert_eq!(rt; found, want, "{what}");
+}
+
+/// The items are the wanted ones.
+pub fn expect_items<T: Debug + PartialEq + Drop>(rt: &impl Abort, found: Vec<T>, want: &[T]) {
+    assert_eq!(rt; found.as_slice(), want);
+}

@@ -1,0 +1,36 @@
+//! The value of each code point of 16-bit units.
+use super::support::{HIGH, SURROGATE, expect_items, six_bits};
+use icu_trie_text::text::values_of_utf16;
+use std::test::Fail;
+
+/// Units, and their code points with their values, as `U16_NEXT` of ICU goes over them: pairs joined,
+/// and each surrogate without a partner by itself.
+static ROWS: [(&[u16], &[(u32, u8)]); 8] = [
+    (&[], &[]),
+    (&[0x41, 0xFFFF], &[(0x41, 1), (0xFFFF, 0x3F)]),
+    (&[0xD83D, 0xDE00], &[(0x1F600, HIGH)]),
+    (
+        &[0xD800, 0xDC00, 0xDBFF, 0xDFFF],
+        &[(0x10000, HIGH), (0x10FFFF, HIGH)],
+    ),
+    (&[0xD83D], &[(0xD83D, SURROGATE)]),
+    (&[0xD83D, 0x41], &[(0xD83D, SURROGATE), (0x41, 1)]),
+    (
+        &[0xDE00, 0xD83D, 0xD83D, 0xDE00],
+        &[(0xDE00, SURROGATE), (0xD83D, SURROGATE), (0x1F600, HIGH)],
+    ),
+    (
+        &[0xD7FF, 0xDBFF, 0xE000],
+        &[(0xD7FF, 0x3F), (0xDBFF, SURROGATE), (0xE000, 0)],
+    ),
+];
+
+#[test]
+fn code_points(rt: HostRuntime) -> Result<(), Fail> {
+    let trie = six_bits(rt.alloc())?;
+    for (units, want) in ROWS.iter() {
+        let found = values_of_utf16(&trie, units).collect(rt.alloc())?;
+        expect_items(&rt, found, want);
+    }
+    Ok(())
+}

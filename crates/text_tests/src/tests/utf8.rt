@@ -1,0 +1,88 @@
+//! The value of each character of bytes that may be ill-formed UTF-8.
+use super::support::{ERROR, HIGH, expect_items, expect_same, six_bits};
+use icu_trie_text::text::values_of_utf8;
+use std::process::Abort;
+use std::test::Fail;
+
+/// Bytes, and the characters that they become, a U+FFFD for each maximal subpart of what is
+/// ill-formed: the examples of the Unicode Standard, section 3.9, tables 3-8 to 3-11 of version 15,
+/// the one before them from older versions, and fronts of its own at the end of the bytes.
+static ROWS: [(&[u8], &str); 12] = [
+    (
+        b"\x61\xF1\x80\x80\xE1\x80\xC2\x62\x80\x63\x80\xBF\x64",
+        "a\u{FFFD}\u{FFFD}\u{FFFD}b\u{FFFD}c\u{FFFD}\u{FFFD}d",
+    ),
+    (
+        b"\xC0\xAF\xE0\x80\xBF\xF0\x81\x82\x41",
+        "\u{FFFD}\u{FFFD}\u{FFFD}\u{FFFD}\u{FFFD}\u{FFFD}\u{FFFD}\u{FFFD}A",
+    ),
+    (
+        b"\xED\xA0\x80\xED\xBF\xBF\xED\xAF\x41",
+        "\u{FFFD}\u{FFFD}\u{FFFD}\u{FFFD}\u{FFFD}\u{FFFD}\u{FFFD}\u{FFFD}A",
+    ),
+    (
+        b"\xF4\x91\x92\x93\xFF\x41\x80\xBF\x42",
+        "\u{FFFD}\u{FFFD}\u{FFFD}\u{FFFD}\u{FFFD}A\u{FFFD}\u{FFFD}B",
+    ),
+    (
+        b"\xE1\x80\xE2\xF0\x91\x92\xF1\xBF\x41",
+        "\u{FFFD}\u{FFFD}\u{FFFD}\u{FFFD}A",
+    ),
+    (b"\xC2", "\u{FFFD}"),
+    (b"\xE0\xA0", "\u{FFFD}"),
+    (b"\xE0\x9F", "\u{FFFD}\u{FFFD}"),
+    (b"\xED\x9F", "\u{FFFD}"),
+    (b"\xF0\x90\x80", "\u{FFFD}"),
+    (b"\xF4\x8F\xBF", "\u{FFFD}"),
+    (b"\xF5\x80\x80\x80", "\u{FFFD}\u{FFFD}\u{FFFD}\u{FFFD}"),
+];
+
+/// The text is the wanted one.
+fn expect_text(rt: &impl Abort, found: String, want: &str) {
+    expect_same(rt, found.as_str(), want, "the characters");
+}
+
+#[test]
+fn ill_formed(rt: HostRuntime) -> Result<(), Fail> {
+    let trie = six_bits(rt.alloc())?;
+    for (bytes, want) in ROWS.iter() {
+        let found = values_of_utf8(&trie, bytes)
+            .map(|item| item.0)
+            .collect(rt.alloc())?;
+        expect_text(&rt, found, want);
+    }
+    Ok(())
+}
+
+/// Bytes, and the characters that they become with their values: of the last and the first of each
+/// length, of a U+FFFD that stands there, and of one that stands for an ill-formed part.
+static VALUES: [(&[u8], &[(char, u8)]); 5] = [
+    (b"", &[]),
+    (b"\x7F\xC2\x80", &[('\x7F', 0x3F), ('\u{80}', 0)]),
+    (
+        b"\xDF\xBF\xE0\xA0\x80",
+        &[('\u{7FF}', 0x3F), ('\u{800}', 0)],
+    ),
+    (
+        b"\xEF\xBF\xBF\xF0\x90\x80\x80\xF4\x8F\xBF\xBF",
+        &[
+            ('\u{FFFF}', 0x3F),
+            ('\u{10000}', HIGH),
+            ('\u{10FFFF}', HIGH),
+        ],
+    ),
+    (
+        b"\xEF\xBF\xBD\xEF\xBF\x41",
+        &[('\u{FFFD}', 0x3D), ('\u{FFFD}', ERROR), ('A', 1)],
+    ),
+];
+
+#[test]
+fn values(rt: HostRuntime) -> Result<(), Fail> {
+    let trie = six_bits(rt.alloc())?;
+    for (bytes, want) in VALUES.iter() {
+        let found = values_of_utf8(&trie, bytes).collect(rt.alloc())?;
+        expect_items(&rt, found, want);
+    }
+    Ok(())
+}
