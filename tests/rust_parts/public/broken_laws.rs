@@ -1,130 +1,165 @@
-//! Types that break their laws get wrong answers or panics: no place is read that is not there, which
-//! is seen with `proved-reads` where places are asserted.
+//! Types that break their laws get wrong answers or panics: no place is read that is not there, as
+//! `proved-reads` asserts without optimization, and other reads test.
 
-use bekstaudi::codepointinvlist::{CodePointInversionListBuilder, FrozenCodePointSet};
-use bekstaudi::codepointtrie::{CodePointTrie, CodePointTrieBuilder, NotAValue, TrieType, TrieValue};
+#[allow(dead_code)]
+mod liar;
+
+use bekstaudi::codepointtrie::binary::{
+    binary_len, from_binary, from_binary_swapped, to_binary, write_binary,
+};
+use bekstaudi::codepointtrie::{
+    CodePointTrie, CodePointTrieBuilder, NotAValue, TrieType, TrieValue, Write,
+    try_build_from_writes,
+};
 use bekstaudi::zerovec::{ZeroVec, ule::AsULE};
+use liar::{Liar, ask, tried, watch};
 use std::cell::Cell;
-use std::panic::{AssertUnwindSafe, catch_unwind};
+use std::collections::hash_map::DefaultHasher;
+use std::hash::Hash;
 
-thread_local! {
-    static ASKED: Cell<u32> = const { Cell::new(0) };
-}
+const TYPES: [TrieType; 2] = [TrieType::Fast, TrieType::Small];
 
-/// Whether it is the turn of a lie: one in so many answers.
-fn lies(turn: u32) -> bool {
-    ASKED.set(ASKED.get().wrapping_add(1));
-    ASKED.get() % turn == 0
-}
-
-#[derive(Clone, Copy, Debug)]
-struct Liar<const TURN: u32>(u8);
-
-impl<const TURN: u32> PartialEq for Liar<TURN> {
-    fn eq(&self, other: &Self) -> bool {
-        (self.0 == other.0) != lies(TURN)
-    }
-}
-
-impl<const TURN: u32> Eq for Liar<TURN> {}
-
-impl<const TURN: u32> PartialOrd for Liar<TURN> {
-    fn partial_cmp(&self, other: &Self) -> Option<std::cmp::Ordering> {
-        Some(self.cmp(other))
-    }
-}
-
-impl<const TURN: u32> Ord for Liar<TURN> {
-    fn cmp(&self, other: &Self) -> std::cmp::Ordering {
-        if lies(TURN) { std::cmp::Ordering::Less } else { self.0.cmp(&other.0) }
-    }
-}
-
-impl<const TURN: u32> AsULE for Liar<TURN> {
-    const WIDTH: usize = 1;
-
-    fn to_unaligned(self) -> [u8; 4] {
-        [self.0 ^ u8::from(lies(TURN)), 1, 2, 3]
-    }
-
-    fn from_unaligned(bytes: &[u8]) -> Option<Self> {
-        (!lies(TURN)).then_some(Liar(bytes[0]))
-    }
-}
-
-impl<const TURN: u32> TrieValue for Liar<TURN> {
-    type TryFromU32Error = NotAValue;
-
-    fn to_u32(self) -> u32 {
-        if lies(TURN) { u32::MAX } else { u32::from(self.0) }
-    }
-
-    fn try_from_u32(number: u32) -> Result<Self, NotAValue> {
-        if lies(TURN) { Err(NotAValue) } else { Ok(Liar(number as u8)) }
-    }
-}
-
-/// Asks a trie for all that it answers.
-fn ask<const TURN: u32>(trie: &CodePointTrie<'_, Liar<TURN>>) {
-    for c in (0..0x11_0100).step_by(0x3FD) {
-        let _ = catch_unwind(AssertUnwindSafe(|| trie.get32(c)));
-    }
-    let _ = catch_unwind(AssertUnwindSafe(|| trie.iter_ranges().take(300).count()));
-    for value in 0..4 {
-        let _ = catch_unwind(AssertUnwindSafe(|| {
-            let set = trie.get_set_for_value(Liar(value));
-            let other = trie.get_set_for_value(Liar(value + 1));
-            let mut builder = CodePointInversionListBuilder::new();
-            builder.add_set(&set);
-            builder.complement_set(&other);
-            let built = builder.build();
-            let _ = (built.contains_set(&set), built.size(), built.position32(0x1_F600));
-            FrozenCodePointSet::freeze(&built).span("a\u{1F600}b", true)
-        }));
-    }
-}
-
-fn all<const TURN: u32>(trie_type: TrieType) {
-    let _ = catch_unwind(|| {
-        let mut builder = CodePointTrieBuilder::new(0u8, 255, trie_type);
-        for i in 0..90u32 {
-            builder.set_range_value(i * 0x333..=i * 0x333 + 0x40, i as u8 % 5);
+/// Makes of a trie all that is made of one, and asks that.
+fn make_of<const TURN: u32>(trie: &CodePointTrie<'_, Liar<TURN>>) {
+    ask(trie);
+    tried(|| ask(&trie.try_alloc_map_value(|it| Ok::<_, ()>(it)).expect("not mapped")));
+    tried(|| trie.clone().try_into_converted::<u8>().map(|it| it.get32(0x1_F600)));
+    tried(|| trie.clone().try_into_converted::<Liar<3>>().map(|it| ask(&it)));
+    tried(|| *trie == trie.clone());
+    tried(|| {
+        let mut builder = CodePointTrieBuilder::from_trie(trie);
+        for c in (0..0x11_0100).step_by(0x3FFD) {
+            tried(|| builder.get(c));
+            tried(|| builder.get_range(c));
         }
-        let trie = builder.build();
-        let mapped = trie.try_alloc_map_value(|it| Ok::<_, ()>(Liar::<TURN>(it)));
-        ask(&mapped.expect("not mapped"));
+        builder.set_value(0x41, Liar(9));
+        ask(&builder.build());
     });
-    let _ = catch_unwind(|| {
-        let mut builder = CodePointTrieBuilder::new(Liar::<TURN>(0), Liar(255), trie_type);
-        for i in 0..90u32 {
-            builder.set_range_value(i * 0x333..=i * 0x333 + 0x40, Liar(i as u8 % 5));
-        }
-        let trie = builder.build();
-        ask(&trie);
-        let mapped = trie.try_alloc_map_value(|it| Ok::<_, ()>(it));
-        ask(&mapped.expect("not mapped"));
+    tried(|| {
+        let (header, index, values) = trie.parts();
+        let (index, values): (Vec<_>, Vec<_>) = (index.iter().collect(), values.iter().collect());
+        ask(&CodePointTrie::alloc_from_slices(header, &index, &values).expect("no trie"));
     });
-    let _ = catch_unwind(|| {
-        let values: ZeroVec<Liar<TURN>> = (0..200).map(Liar).collect();
-        let _ = values.binary_search(&Liar(7));
-        let _ = (values == values.clone(), values.iter().count(), values.last());
+}
+
+/// A trie of truthful numbers.
+fn truthful(trie_type: TrieType) -> CodePointTrie<'static, u8> {
+    let mut builder = CodePointTrieBuilder::new(0u8, 255, trie_type);
+    for i in 0..90u32 {
+        builder.set_range_value(i * 0x333..=i * 0x333 + 0x40, i as u8 % 5);
+    }
+    builder.build()
+}
+
+fn tries<const TURN: u32>(trie_type: TrieType) {
+    let whole = truthful(trie_type);
+    tried(|| {
+        let mapped = whole.try_alloc_map_value(|it| Ok::<_, ()>(Liar::<TURN>(it)));
+        make_of(&mapped.expect("not mapped"));
+    });
+    tried(|| make_of(&whole.clone().try_into_converted::<Liar<TURN>>().expect("not converted")));
+    let writes: Vec<_> = (0..90u8)
+        .map(|i| {
+            let start = u32::from(i) * 0x333;
+            Write::Range(start..=start + 0x40, Liar::<TURN>(i % 5))
+        })
+        .collect();
+    tried(|| {
+        let built = try_build_from_writes(Liar(0), Liar(255), trie_type, &writes);
+        make_of(&built.expect("not built"));
     });
 }
 
 #[test]
 fn liars() {
-    std::panic::set_hook(Box::new(|_| {}));
-    for trie_type in [TrieType::Fast, TrieType::Small] {
-        all::<2>(trie_type);
-        all::<97>(trie_type);
-        all::<100_003>(trie_type);
+    watch();
+    for trie_type in TYPES {
+        tries::<2>(trie_type);
+        tries::<97>(trie_type);
+        tries::<100_003>(trie_type);
     }
+}
+
+/// Reads ICU's binary form as a trie of liars, and writes it: what is read may be written otherwise.
+fn binary_forms<const TURN: u32>(trie_type: TrieType) {
+    let mut bytes = to_binary(&truthful(trie_type)).expect("not written");
+    tried(|| {
+        let (trie, _) = from_binary::<Liar<TURN>>(&bytes).expect("not read");
+        make_of(&trie);
+        tried(|| to_binary(&trie).map(|it| it.len()));
+        let mut written = vec![0; binary_len(&trie).expect("no length")];
+        write_binary(&trie, &mut written).expect("not written");
+        from_binary::<u8>(&written).map(|(read, _)| read.get32(0x333))
+    });
+    // The other order: a number of 32 bits, others of 16, and values of a byte.
+    let len = 16 + 2 * usize::from(u16::from_le_bytes([bytes[6], bytes[7]]));
+    bytes[..4].reverse();
+    bytes[4..len].chunks_mut(2).for_each(|it| it.reverse());
+    tried(|| ask(&from_binary_swapped::<Liar<TURN>>(&bytes).expect("not read").0));
+}
+
+#[test]
+fn binary_forms_of_liars() {
+    watch();
+    for trie_type in TYPES {
+        for _ in 0..9 {
+            binary_forms::<3>(trie_type);
+            binary_forms::<5_003>(trie_type);
+            binary_forms::<100_003>(trie_type);
+        }
+    }
+}
+
+fn vectors<const TURN: u32, const WIDTH: usize>() {
+    tried(|| {
+        let values: ZeroVec<Liar<TURN, WIDTH>> = (0..200).map(Liar).collect();
+        tried(|| values.binary_search(&Liar(7)));
+        tried(|| values == values.clone());
+        tried(|| (values.iter().count(), values.first(), values.last(), values.get(199)));
+        tried(|| values.hash(&mut DefaultHasher::new()));
+        tried(|| values.as_slice().iter().len());
+    });
+    tried(|| ZeroVec::alloc_from_slice(&[Liar::<TURN, WIDTH>(1); 99]).map(|it| it.last()));
+    for len in 0..40 {
+        tried(|| {
+            let bytes = vec![7; len];
+            let values = ZeroVec::<Liar<TURN, WIDTH>>::parse_bytes(&bytes).expect("no vector");
+            (values.binary_search(&Liar(7)), values.last(), values.iter().last())
+        });
+    }
+}
+
+/// No type has such a width but one to four, and that of its bytes.
+fn widths<const WIDTH: usize>() {
+    vectors::<97, WIDTH>();
+    vectors::<{ u32::MAX }, WIDTH>();
+    tried(|| {
+        let mapped = truthful(TrieType::Fast)
+            .try_alloc_map_value(|it| Ok::<_, ()>(Liar::<{ u32::MAX }, WIDTH>(it)));
+        ask(&mapped.expect("not mapped"));
+    });
+    let bytes = to_binary(&truthful(TrieType::Small)).expect("not written");
+    tried(|| ask(&from_binary::<Liar<{ u32::MAX }, WIDTH>>(&bytes).expect("not read").0));
+}
+
+#[test]
+fn other_widths() {
+    watch();
+    widths::<0>();
+    widths::<1>();
+    widths::<4>();
+    widths::<5>();
+    widths::<9>();
+    widths::<{ usize::MAX }>();
 }
 
 /// A trie whose values stop to be values has no shorter data: it is not made.
 #[test]
-#[should_panic]
+#[should_panic(expected = "left == right")]
 fn shorter_data() {
+    thread_local! {
+        static ASKED: Cell<u32> = const { Cell::new(0) };
+    }
     #[derive(Clone, Copy, Debug, PartialEq, Eq)]
     struct Ending(u8);
     impl AsULE for Ending {

@@ -1,0 +1,122 @@
+//! Values that break each law of `AsULE`, `TrieValue`, `Ord` and `Eq`: one in so many of their
+//! answers is a lie.
+
+use bekstaudi::codepointinvlist::{CodePointInversionListBuilder, FrozenCodePointSet};
+use bekstaudi::codepointtrie::{CodePointTrie, NotAValue, TrieValue, Typed, TypedCodePointTrie};
+use bekstaudi::zerovec::ule::AsULE;
+use std::backtrace::Backtrace;
+use std::cell::Cell;
+use std::cmp::Ordering;
+use std::hash::{Hash, Hasher};
+use std::panic::{AssertUnwindSafe, catch_unwind};
+
+thread_local! {
+    static ASKED: Cell<u32> = const { Cell::new(0) };
+}
+
+/// Whether it is the turn of a lie: one in so many answers.
+fn lies(turn: u32) -> bool {
+    ASKED.set(ASKED.get().wrapping_add(1));
+    ASKED.get() % turn == 0
+}
+
+/// A number of a byte, said to take `WIDTH` bytes.
+#[derive(Clone, Copy, Debug)]
+pub struct Liar<const TURN: u32, const WIDTH: usize = 1>(pub u8);
+
+impl<const TURN: u32, const WIDTH: usize> PartialEq for Liar<TURN, WIDTH> {
+    fn eq(&self, other: &Self) -> bool {
+        (self.0 == other.0) != lies(TURN)
+    }
+}
+
+impl<const TURN: u32, const WIDTH: usize> Eq for Liar<TURN, WIDTH> {}
+
+impl<const TURN: u32, const WIDTH: usize> PartialOrd for Liar<TURN, WIDTH> {
+    fn partial_cmp(&self, other: &Self) -> Option<Ordering> {
+        Some(self.cmp(other))
+    }
+}
+
+impl<const TURN: u32, const WIDTH: usize> Ord for Liar<TURN, WIDTH> {
+    fn cmp(&self, other: &Self) -> Ordering {
+        if lies(TURN) { Ordering::Less } else { self.0.cmp(&other.0) }
+    }
+}
+
+impl<const TURN: u32, const WIDTH: usize> Hash for Liar<TURN, WIDTH> {
+    fn hash<H: Hasher>(&self, state: &mut H) {
+        (self.0 ^ u8::from(lies(TURN))).hash(state);
+    }
+}
+
+impl<const TURN: u32, const WIDTH: usize> AsULE for Liar<TURN, WIDTH> {
+    const WIDTH: usize = WIDTH;
+
+    fn to_unaligned(self) -> [u8; 4] {
+        [self.0 ^ u8::from(lies(TURN)), 1, 2, 3]
+    }
+
+    fn from_unaligned(bytes: &[u8]) -> Option<Self> {
+        (!lies(TURN)).then_some(Liar(bytes[0]))
+    }
+}
+
+impl<const TURN: u32, const WIDTH: usize> TrieValue for Liar<TURN, WIDTH> {
+    type TryFromU32Error = NotAValue;
+
+    fn to_u32(self) -> u32 {
+        if lies(TURN) { u32::MAX } else { u32::from(self.0) }
+    }
+
+    fn try_from_u32(number: u32) -> Result<Self, NotAValue> {
+        if lies(TURN) { Err(NotAValue) } else { Ok(Liar(number as u8)) }
+    }
+}
+
+/// What the call answers, or `None` where it panics, which it may.
+pub fn tried<A>(call: impl FnOnce() -> A) -> Option<A> {
+    catch_unwind(AssertUnwindSafe(call)).ok()
+}
+
+/// Panics are no news here, but for one: a place that was to be there is asserted in the file of the
+/// reads, and ends the tests where it is not.
+pub fn watch() {
+    std::panic::set_hook(Box::new(|panic| {
+        if panic.location().is_some_and(|it| it.file().ends_with("support/cells.rs")) {
+            eprintln!("a place is read that is not there: {}", Backtrace::force_capture());
+            std::process::abort();
+        }
+    }));
+}
+
+/// Asks a trie for all that it answers.
+pub fn ask<const TURN: u32, const WIDTH: usize>(trie: &CodePointTrie<'_, Liar<TURN, WIDTH>>) {
+    for c in (0..0x11_0100).step_by(0x3FD) {
+        tried(|| trie.get32(c));
+        tried(|| trie.get32_u32(c));
+        tried(|| char::from_u32(c).map(|c| trie.get(c)));
+        tried(|| match trie.as_typed_ref() {
+            Typed::Fast(typed) => typed.get16(c as u16),
+            Typed::Small(typed) => typed.get16(c as u16),
+        });
+    }
+    tried(|| trie.is_coherent());
+    tried(|| (0..9).map(|it| trie.get_range(it * 0x1_9999)).count());
+    tried(|| trie.iter_ranges().take(300).count());
+    tried(|| trie.iter_ranges_mapped(|it| Liar::<TURN>(it.0 % 2)).take(300).count());
+    tried(|| (trie.error_value(), trie.null_value()));
+    for value in 0..4 {
+        tried(|| trie.iter_ranges_for_value(Liar(value)).take(300).count());
+        tried(|| {
+            let set = trie.get_set_for_value(Liar(value));
+            let other = trie.get_set_for_value(Liar(value + 1));
+            let mut builder = CodePointInversionListBuilder::new();
+            builder.add_set(&set);
+            builder.complement_set(&other);
+            let built = builder.build();
+            let _ = (built.contains_set(&set), built.size(), built.position32(0x1_F600));
+            FrozenCodePointSet::freeze(&built).span("a\u{1F600}b", true)
+        });
+    }
+}
