@@ -8,6 +8,8 @@ pub use Rattle.icu_text_sets.proofs.CallerLemmas.{equal_sets_hold_alike, sets_de
 pub use Rattle.icu_frozen_sets.proofs.CallerLemmas.{spans_of_drained}
 pub use Rattle.icu_trie_core.proofs.CallerLemmas.{AreMaximalRuns-same, AreMaximalRuns-some, LongestRun-from_gives, runs-unique, value_runs-some}
 pub use Rattle.icu_trie.proofs.CallerLemmas.{All-given, All-selected, AreMappedRunsFrom-same, joined_ranges-are}
+-- Values along a text: what the calls of an iterator give until nothing is left
+pub use Rattle.icu_trie_text.proofs.CallerLemmas.{indices_of_drained, values_of_drained}
 -- A trie and what it is read as where it was written in ICU's binary form
 pub use Rattle.icu_trie_binary.proofs.CallerLemmas.{answers-stored, coherent-stored, stored_form-same}
 -- A trie of a map: its writes, its answers, its ranges, and its null block

@@ -5,6 +5,7 @@ pub mod CodePointInversionList
 pub mod CodePointInversionListAndStringList
 pub mod CodePointTrie
 pub mod CodePointTrieBuilder
+pub mod CodePointTrieText
 pub mod Char16Trie
 pub mod IteratorUtils
 -- What the JSON and TOML forms are, and the first fault of a reader that goes from item to item

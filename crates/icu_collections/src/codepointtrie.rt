@@ -3,7 +3,8 @@
 //! [`CodePointTrieBuilder`] or [`build_from_writes`] makes a trie, [`CodePointTrie::get32`] asks
 //! it. A trie that ICU wrote is read where it is by [`binary::from_binary`], and one is written for
 //! ICU by [`binary::to_binary`]; one of another file is made of its parts by
-//! [`CodePointTrie::try_new`], which borrows them.
+//! [`CodePointTrie::try_new`], which borrows them. The values along a text are those of
+//! [`text::values_of`].
 
 pub use icu_trie::cells::{Cells, Steps};
 pub use icu_trie::coherent::is_coherent;
@@ -27,3 +28,4 @@ pub use icu_trie_builder::builder::CodePointTrieBuilder;
 pub use icu_trie_builder::error::BuildError;
 pub use icu_trie_builder::writes::{ApplyRefused, Write};
 pub use icu_trie_formats::{json, planes, trie_toml};
+pub use icu_trie_text::text;
