@@ -1,24 +1,40 @@
 //! Tables as ICU's files keep them.
-ghost use Rattle.std.specs.Prelude.{◌≡◌, ℕ, drop, Some, IfOk, IfSome};
+ghost use Rattle.std.specs.Prelude.{◌≡◌, ℕ, drop, Some, IfOk};
 ghost use Rattle.icu_collections.specs.BinaryTrie.{IsUnsignedStored};
 ghost use Rattle.icu_collections.specs.CodePointTrie.{answers};
 
 use icu_collections::codepointtrie::CodePointTrie;
-use icu_collections::codepointtrie::binary::{BinaryError, from_binary, to_binary};
+use icu_collections::codepointtrie::binary::{BinaryError, WriteError, from_binary, to_binary};
+use icu_collections::zerovec::MemoryError;
 use std::alloc::Global;
+use thiserror::Error;
 
-/// A trie by way of a file between two programs. It answers what the trie answers. `None` where the
-/// form has no room for the trie, or memory was refused.
+/// Why a table does not pass through a file.
+#[derive(Clone, Copy, Debug, PartialEq, Error)]
+pub enum FileError {
+    /// It can't be written.
+    #[error("{0}")]
+    Write(#[from] WriteError),
+    /// It can't be read.
+    #[error("{0}")]
+    Read(#[from] BinaryError),
+    /// There is no memory for what was read.
+    #[error("{0}")]
+    Memory(#[from] MemoryError),
+}
+
+/// A trie by way of a file between two programs. It answers what the trie answers.
 pub fn through_a_file(
     alloc: Global,
     trie: &CodePointTrie<'_, u8>,
-) -> Option<CodePointTrie<'static, u8>>
-    ensures { IfSome result (λ copy. (c x : ℕ)
+) -> Result<CodePointTrie<'static, u8>, FileError>
+    ensures { IfOk result (λ copy. (c x : ℕ)
         → answers trie.now c ≡ Some x → answers copy c ≡ Some x) }
 {
-    let bytes = to_binary(alloc, trie).ok()?;
-    let (read, _) = from_binary::<u8>(&bytes).ok()?;
-    read.try_clone(alloc).ok()
+    let bytes = to_binary(alloc, trie)?;
+    let (read, _) = from_binary::<u8>(&bytes)?;
+    let copy = read.try_clone(alloc)?;
+    Ok(copy)
 }
 
 /// Two tables of a file, one behind the other: values of 8 bits, and of 16.

@@ -5,4 +5,6 @@
 #[cfg(test)]
 mod errors;
 #[cfg(test)]
+mod stored;
+#[cfg(test)]
 mod tests;
