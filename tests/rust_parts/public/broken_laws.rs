@@ -73,7 +73,7 @@ fn tries<const TURN: u32>(trie_type: TrieType) {
 #[test]
 fn liars() {
     watch();
-    for trie_type in TYPES {
+    for trie_type in [TYPES; 9].concat() {
         tries::<2>(trie_type);
         tries::<97>(trie_type);
         tries::<100_003>(trie_type);
@@ -101,12 +101,10 @@ fn binary_forms<const TURN: u32>(trie_type: TrieType) {
 #[test]
 fn binary_forms_of_liars() {
     watch();
-    for trie_type in TYPES {
-        for _ in 0..9 {
-            binary_forms::<3>(trie_type);
-            binary_forms::<5_003>(trie_type);
-            binary_forms::<100_003>(trie_type);
-        }
+    for trie_type in [TYPES; 9].concat() {
+        binary_forms::<3>(trie_type);
+        binary_forms::<5_003>(trie_type);
+        binary_forms::<100_003>(trie_type);
     }
 }
 

@@ -20,7 +20,6 @@ const MOST_UNITS: u64 = 0x7FFF_FFFF;
 /// Entries, each a key of 16-bit units with a value, on their way into a trie (ICU's
 /// `UCharsTrieBuilder`).
 ///
-///
 /// ```ignore
 /// let mut builder = Char16TrieBuilder::new();
 /// builder.add(&[0x61, 0x62], 2)?;

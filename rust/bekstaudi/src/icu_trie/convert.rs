@@ -21,7 +21,6 @@ impl<'trie, T: TrieValue> CodePointTrie<'trie, T> {
     /// data are kept, borrowed or owned as they were, none of them copied. The header's null value
     /// becomes the other type's number for the same packed bytes.
     ///
-    ///
     /// # Errors
     /// In this order: `Width` where values of the two types take different numbers of bytes; `Cell`
     /// with the first cell of the data that is no value of the other type, the error value among

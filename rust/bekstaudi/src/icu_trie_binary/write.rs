@@ -121,7 +121,7 @@ pub fn binary_len<T: TrieValue>(trie: &CodePointTrie<'_, T>) -> Result<usize, Wr
 
 /// The bytes of a trie in ICU's binary form, as `ucptrie_toBinary` writes them on a machine that
 /// has the lowest byte first. Read by `from_binary` they give the trie as the form has it,
-/// `stored_form`, which answers as the trie does.
+/// which answers as the trie does.
 ///
 /// The header of 16 bytes comes first, then the index, then the data. As ICU's builder does, an
 /// index of an odd length gets a cell 0xFFEE behind it where values take four bytes, so that these

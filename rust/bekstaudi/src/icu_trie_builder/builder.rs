@@ -12,7 +12,6 @@ use core::ops::RangeInclusive;
 /// A map from code points to values that can be written to, and then built into a trie
 /// (UMutableCPTrie).
 ///
-///
 /// ```ignore
 /// let mut builder = CodePointTrieBuilder::new(0u8, 9, TrieType::Fast);
 /// builder.try_set_range_value(0x41..=0x5A, 1)?;
