@@ -17,6 +17,7 @@ from rust_rules import (
 
 TOP = os.path.dirname(os.path.dirname(os.path.realpath(__file__)))
 PARTS = f"{TOP}/tests/rust_parts"
+README = f"{TOP}/rust/README.md"
 # Sources of serde_json and toml, as Debian has them in librust-serde-json-dev, librust-toml-dev.
 SOURCES = "/usr/share/cargo/registry"
 HAS_FORMATS = all(glob.glob(f"{SOURCES}/{it}-*") for it in ("serde_json", "toml"))
@@ -125,8 +126,8 @@ def add_tests(made, folder):
     write(f"{folder}/src/lib.rs", f"#[cfg(test)]\nextern crate std;\n{names}", "a")
 
 
-def add_example(folder):
-    """Makes a test of the example in rust/README.md."""
-    example = re.search(r"```rust\n(.*?)```", read(f"{TOP}/rust/README.md"), re.S)[1]
-    head = "#[test]\nfn example() -> Result<(), Box<dyn std::error::Error>> {\n"
-    write(f"{folder}/tests/readme.rs", f"{head}{example}Ok(())\n}}\n")
+def add_caller(folder):
+    """A crate of a user's own: its program is the example in rust/README.md."""
+    os.makedirs(f"{folder}/src")
+    write(f"{folder}/Cargo.toml", '[package]\nname = "words"\nedition = "2024"\n')
+    write(f"{folder}/src/main.rs", re.search(r"```rust\n(.*?)```", read(README), re.S)[1])
