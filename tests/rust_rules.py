@@ -3,8 +3,8 @@ they need that the code doesn't, and forms that rust/make has to refuse."""
 
 # Our crates of tests, and what they test beside the library.
 TESTS = (
-    "packed_tests set_tests trie_tests built_trie_tests trie_format_tests ucptab_table ucptab_tests"
-    " uses uses_tests damaged_forms"
+    "packed_tests set_tests text_tests trie_tests built_trie_tests trie_format_tests ucptab_table"
+    " ucptab_tests uses uses_tests damaged_forms"
 ).split()
 # A program's own file, for which tests/rust_parts has another.
 LEFT_OUT = ["damaged_forms/main"]

@@ -94,6 +94,6 @@ macro_rules! generated {
 
 generated! {
     icu_zerovec icu_invlist icu_invlist_binary icu_text_sets icu_frozen_sets icu_char16trie
-    icu_char16trie_builder icu_trie_core icu_trie icu_trie_formats icu_trie_binary icu_trie_map
-    icu_trie_compaction icu_trie_builder
+    icu_char16trie_builder icu_trie_core icu_trie icu_trie_formats icu_trie_binary icu_trie_text
+    icu_trie_map icu_trie_compaction icu_trie_builder
 }

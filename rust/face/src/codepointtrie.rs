@@ -3,7 +3,8 @@
 //! [`CodePointTrieBuilder`] makes a trie, [`CodePointTrie::get32`] asks it, and
 //! [`CodePointTrieBuilder::from_trie`] takes one to be written to and built again. A trie that ICU
 //! wrote is read where it is by [`binary::from_binary`]; one of another file is made of its parts by
-//! [`CodePointTrie::try_new`], which borrows them.
+//! [`CodePointTrie::try_new`], which borrows them. The values along a text are those of
+//! [`text::values_of`].
 //!
 //! ```
 //! use bekstaudi::codepointtrie::{CodePointTrieBuilder, TrieType};
@@ -20,6 +21,18 @@
 //! assert_eq!(builder.get(0x37), '7');
 //! assert_eq!(builder.get_range(0x38).map(|it| it.range), Some(0x38..=0x39));
 //! assert_eq!(builder.build().get('8'), '0');
+//! ```
+//!
+//! ```
+//! use bekstaudi::codepointtrie::{CodePointTrieBuilder, TrieType, text};
+//!
+//! let mut builder = CodePointTrieBuilder::new(0u8, 9, TrieType::Fast);
+//! builder.set_range_value(0x61..=0x7A, 1);
+//! let trie = builder.build();
+//! let values: Vec<_> = text::values_of_utf8(&trie, b"a\xF1\x80B").collect();
+//! assert_eq!(values, [('a', 1), ('\u{FFFD}', 9), ('B', 0)]);
+//! let found = text::find_value(&trie, "abC", |value| value == 0);
+//! assert_eq!(found.map(|it| it.offset), Some(2));
 //! ```
 
 pub use crate::icu_trie::cptrie::CodePointTrie;
@@ -44,6 +57,7 @@ pub use crate::icu_trie_formats::json;
 pub use crate::icu_trie_formats::planes;
 #[cfg(feature = "toml")]
 pub use crate::icu_trie_formats::trie_toml;
+pub use crate::icu_trie_text::text;
 
 use crate::codepointinvlist::CodePointInversionList;
 use crate::plain::{plain, plain_clone};

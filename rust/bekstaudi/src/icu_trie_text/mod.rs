@@ -1,0 +1,23 @@
+//! Values of code point tries along texts.
+//!
+//! - `text`: all public calls, as `icu_collections::codepointtrie::text` has them
+//! - `values`: [`ValuesOf`](values::ValuesOf), the value of each character of a text
+//! - `indices`: [`ValueIndicesOf`](indices::ValueIndicesOf), the same with the characters' places
+//! - `find`: the first character with a value that is sought, and the longest front of such ones
+//! - `found`: [`Found`](found::Found), a character, its place and its value
+//! - `utf16`: [`ValuesOfUtf16`](utf16::ValuesOfUtf16), the value of each code point of 16-bit units
+//! - `utf8`: [`ValuesOfUtf8`](utf8::ValuesOfUtf8), the value of each character of bytes that may be
+//!   ill-formed UTF-8
+//! - `first`, `first_utf16`, `first_utf8`: the first character of a text, the first code point of
+//!   units, the first part of bytes
+
+mod find;
+mod first;
+mod first_utf16;
+mod first_utf8;
+mod found;
+mod indices;
+pub mod text;
+mod utf16;
+mod utf8;
+mod values;

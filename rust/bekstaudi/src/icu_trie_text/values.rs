@@ -1,0 +1,37 @@
+//! The value of each character of a text.
+
+use crate::icu_trie_text::first::first_character;
+use crate::icu_trie::cptrie::CodePointTrie;
+use crate::icu_trie_core::value::TrieValue;
+
+/// The characters of a text, each with its value in a trie, as [`values_of`] gives them.
+#[derive(Debug)]
+pub struct ValuesOf<'a, T: TrieValue> {
+    trie: &'a CodePointTrie<'a, T>,
+    rest: &'a str,
+}
+
+/// The characters of the text, from its front on, each with its value in the trie, as
+/// [`get`](CodePointTrie::get) answers it (ICU: a loop over `UCPTRIE_FAST_U8_NEXT` on text that is
+/// well-formed).
+///
+/// ```ignore
+/// for (c, category) in values_of(&categories, "aB1") {
+///     // 'a' with 2 (Ll), then 'B' with 1 (Lu), then '1' with 9 (Nd)
+/// }
+/// ```
+#[inline]
+pub fn values_of<'a, T: TrieValue>(trie: &'a CodePointTrie<'_, T>, text: &'a str) -> ValuesOf<'a, T> {
+    ValuesOf { trie, rest: text }
+}
+
+impl<'a, T: TrieValue> Iterator for ValuesOf<'a, T> {
+    type Item = (char, T);
+
+    #[inline]
+    fn next(&mut self) -> Option<(char, T)> {
+        let (first, rest) = first_character(self.rest)?;
+        self.rest = rest;
+        Some((first, self.trie.get(first)))
+    }
+}
