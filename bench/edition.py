@@ -20,6 +20,8 @@ SHOWN = {
     "icu_invlist::codepointinvlist": "codepointinvlist",
     "icu_frozen_sets::frozen": "codepointinvlist",
     "icu_trie::(?:cptrie|header|typed|value)": "codepointtrie",
+    "icu_trie_binary::binary": "codepointtrie::binary",
+    "icu_trie_text::text": "codepointtrie::text",
     "icu_trie_builder(?:::writes)?": "codepointtrie",
     "icu_char16trie::char16trie": "char16trie",
     "icu_char16trie_builder::builder": "char16trie",
