@@ -1,7 +1,7 @@
 //! What tests of Rattle see of their runtime, for the crates of tests that run as this crate's own.
 
-pub(crate) use crate::support::AllocError;
 pub(crate) use crate::refusals::{each_refused, hear, none_asked};
+pub(crate) use crate::support::AllocError;
 pub(crate) use crate::{ucptab_table, uses};
 use alloc::string::String;
 use core::fmt;

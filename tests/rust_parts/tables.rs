@@ -93,7 +93,12 @@ fn all_tables() {
 
 #[test]
 fn streams() {
-    expect_printed("fast 0 9 0041 005B 110000", b"0041..005A;1\n", 99, b"0041;1\n005B;0\n110000;9\n");
+    expect_printed(
+        "fast 0 9 0041 005B 110000",
+        b"0041..005A;1\n",
+        99,
+        b"0041;1\n005B;0\n110000;9\n",
+    );
     for most in 1..9 {
         expect_printed("small 0 9 41 42", b"0041;7", most, b"0041;7\n0042;0\n");
     }

@@ -12,7 +12,7 @@ use bekstaudi::codepointtrie::{
     try_build_from_writes,
 };
 use bekstaudi::zerovec::{ZeroVec, ule::AsULE};
-use liar::{Liar, ask, tried, watch};
+use liar::{Liar, ask, lie_each, tried, watch};
 use std::cell::Cell;
 use std::collections::hash_map::DefaultHasher;
 use std::hash::Hash;
@@ -20,11 +20,11 @@ use std::hash::Hash;
 const TYPES: [TrieType; 2] = [TrieType::Fast, TrieType::Small];
 
 /// Makes of a trie all that is made of one, and asks that.
-fn make_of<const TURN: u32>(trie: &CodePointTrie<'_, Liar<TURN>>) {
+fn make_of(trie: &CodePointTrie<'_, Liar>) {
     ask(trie);
     tried(|| ask(&trie.try_alloc_map_value(|it| Ok::<_, ()>(it)).expect("not mapped")));
     tried(|| trie.clone().try_into_converted::<u8>().map(|it| it.get32(0x1_F600)));
-    tried(|| trie.clone().try_into_converted::<Liar<3>>().map(|it| ask(&it)));
+    tried(|| trie.clone().try_into_converted::<Liar>().map(|it| ask(&it)));
     tried(|| *trie == trie.clone());
     tried(|| {
         let mut builder = CodePointTrieBuilder::from_trie(trie);
@@ -51,17 +51,17 @@ fn truthful(trie_type: TrieType) -> CodePointTrie<'static, u8> {
     builder.build()
 }
 
-fn tries<const TURN: u32>(trie_type: TrieType) {
+fn tries(trie_type: TrieType) {
     let whole = truthful(trie_type);
     tried(|| {
-        let mapped = whole.try_alloc_map_value(|it| Ok::<_, ()>(Liar::<TURN>(it)));
+        let mapped = whole.try_alloc_map_value(|it| Ok::<_, ()>(Liar::<1>(it)));
         make_of(&mapped.expect("not mapped"));
     });
-    tried(|| make_of(&whole.clone().try_into_converted::<Liar<TURN>>().expect("not converted")));
+    tried(|| make_of(&whole.clone().try_into_converted::<Liar>().expect("not converted")));
     let writes: Vec<_> = (0..90u8)
         .map(|i| {
             let start = u32::from(i) * 0x333;
-            Write::Range(start..=start + 0x40, Liar::<TURN>(i % 5))
+            Write::Range(start..=start + 0x40, Liar(i % 5))
         })
         .collect();
     tried(|| {
@@ -74,17 +74,18 @@ fn tries<const TURN: u32>(trie_type: TrieType) {
 fn liars() {
     watch();
     for trie_type in [TYPES; 9].concat() {
-        tries::<2>(trie_type);
-        tries::<97>(trie_type);
-        tries::<100_003>(trie_type);
+        for turn in [2, 97, 100_003] {
+            lie_each(turn);
+            tries(trie_type);
+        }
     }
 }
 
-/// Reads ICU's binary form as a trie of liars, and writes it: what is read may be written otherwise.
-fn binary_forms<const TURN: u32>(trie_type: TrieType) {
+/// Reads ICU's binary form as a trie of liars, and writes it, perhaps as another one.
+fn binary_forms(trie_type: TrieType) {
     let mut bytes = to_binary(&truthful(trie_type)).expect("not written");
     tried(|| {
-        let (trie, _) = from_binary::<Liar<TURN>>(&bytes).expect("not read");
+        let (trie, _) = from_binary::<Liar>(&bytes).expect("not read");
         make_of(&trie);
         tried(|| to_binary(&trie).map(|it| it.len()));
         let mut written = vec![0; binary_len(&trie).expect("no length")];
@@ -95,60 +96,62 @@ fn binary_forms<const TURN: u32>(trie_type: TrieType) {
     let len = 16 + 2 * usize::from(u16::from_le_bytes([bytes[6], bytes[7]]));
     bytes[..4].reverse();
     bytes[4..len].chunks_mut(2).for_each(|it| it.reverse());
-    tried(|| ask(&from_binary_swapped::<Liar<TURN>>(&bytes).expect("not read").0));
+    tried(|| ask(&from_binary_swapped::<Liar>(&bytes).expect("not read").0));
 }
 
 #[test]
 fn binary_forms_of_liars() {
     watch();
     for trie_type in [TYPES; 9].concat() {
-        binary_forms::<3>(trie_type);
-        binary_forms::<5_003>(trie_type);
-        binary_forms::<100_003>(trie_type);
+        for turn in [3, 5_003, 100_003] {
+            lie_each(turn);
+            binary_forms(trie_type);
+        }
     }
 }
 
-fn vectors<const TURN: u32, const WIDTH: usize>() {
+fn vectors<const WIDTH: usize>() {
     tried(|| {
-        let values: ZeroVec<Liar<TURN, WIDTH>> = (0..200).map(Liar).collect();
+        let values: ZeroVec<Liar<WIDTH>> = (0..200).map(Liar).collect();
         tried(|| values.binary_search(&Liar(7)));
         tried(|| values == values.clone());
         tried(|| (values.iter().count(), values.first(), values.last(), values.get(199)));
         tried(|| values.hash(&mut DefaultHasher::new()));
         tried(|| values.as_slice().iter().len());
     });
-    tried(|| ZeroVec::alloc_from_slice(&[Liar::<TURN, WIDTH>(1); 99]).map(|it| it.last()));
+    tried(|| ZeroVec::alloc_from_slice(&[Liar::<WIDTH>(1); 99]).map(|it| it.last()));
     for len in 0..40 {
         tried(|| {
             let bytes = vec![7; len];
-            let values = ZeroVec::<Liar<TURN, WIDTH>>::parse_bytes(&bytes).expect("no vector");
+            let values = ZeroVec::<Liar<WIDTH>>::parse_bytes(&bytes).expect("no vector");
             (values.binary_search(&Liar(7)), values.last(), values.iter().last())
         });
     }
 }
 
 /// No type has such a width but one to four, and that of its bytes.
-fn widths<const WIDTH: usize>() {
-    vectors::<97, WIDTH>();
-    vectors::<{ u32::MAX }, WIDTH>();
-    tried(|| {
-        let mapped = truthful(TrieType::Fast)
-            .try_alloc_map_value(|it| Ok::<_, ()>(Liar::<{ u32::MAX }, WIDTH>(it)));
-        ask(&mapped.expect("not mapped"));
-    });
-    let bytes = to_binary(&truthful(TrieType::Small)).expect("not written");
-    tried(|| ask(&from_binary::<Liar<{ u32::MAX }, WIDTH>>(&bytes).expect("not read").0));
+fn width<const WIDTH: usize>() {
+    for turn in [97, u32::MAX] {
+        lie_each(turn);
+        vectors::<WIDTH>();
+        tried(|| {
+            let mapped =
+                truthful(TrieType::Fast).try_alloc_map_value(|it| Ok::<_, ()>(Liar::<WIDTH>(it)));
+            ask(&mapped.expect("not mapped"));
+        });
+        let bytes = to_binary(&truthful(TrieType::Small)).expect("not written");
+        tried(|| ask(&from_binary::<Liar<WIDTH>>(&bytes).expect("not read").0));
+    }
 }
 
 #[test]
 fn other_widths() {
     watch();
-    widths::<0>();
-    widths::<1>();
-    widths::<4>();
-    widths::<5>();
-    widths::<9>();
-    widths::<{ usize::MAX }>();
+    width::<0>();
+    width::<1>();
+    width::<4>();
+    width::<5>();
+    width::<{ usize::MAX }>();
 }
 
 /// A trie whose values stop to be values has no shorter data: it is not made.

@@ -55,9 +55,7 @@ const CHANGES: [Change; 17] = [
     ("CodePointInversionListBuilder::try_complement_range32", |it, _| {
         it.try_complement_range32(0x63..0x66)
     }),
-    ("CodePointInversionListBuilder::try_complement_set", |it, other| {
-        it.try_complement_set(other)
-    }),
+    ("CodePointInversionListBuilder::try_complement_set", |it, other| it.try_complement_set(other)),
     ("CodePointInversionListBuilder::try_complement", |it, _| it.try_complement()),
 ];
 

@@ -118,7 +118,8 @@ fn tries() {
     for trie_type in [TrieType::Fast, TrieType::Small] {
         let trie = builder(trie_type).build();
         let (header, index, values) = trie.parts();
-        let (index, values): (Vec<u16>, Vec<u16>) = (index.iter().collect(), values.iter().collect());
+        let (index, values): (Vec<u16>, Vec<u16>) =
+            (index.iter().collect(), values.iter().collect());
         refused_in_turn("CodePointTrie::try_clone", || trie.try_clone().ok());
         refused_in_turn("CodePointTrie::try_get_set_for_value", || {
             trie.try_get_set_for_value(3).ok()

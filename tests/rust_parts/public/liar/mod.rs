@@ -12,65 +12,71 @@ use std::panic::{AssertUnwindSafe, catch_unwind};
 
 thread_local! {
     static ASKED: Cell<u32> = const { Cell::new(0) };
+    static TURN: Cell<u32> = const { Cell::new(1) };
 }
 
-/// Whether it is the turn of a lie: one in so many answers.
-fn lies(turn: u32) -> bool {
+/// From here on one in so many answers is a lie.
+pub fn lie_each(turn: u32) {
+    TURN.set(turn);
+}
+
+/// Whether it is the turn of a lie.
+fn lies() -> bool {
     ASKED.set(ASKED.get().wrapping_add(1));
-    ASKED.get() % turn == 0
+    ASKED.get() % TURN.get() == 0
 }
 
 /// A number of a byte, said to take `WIDTH` bytes.
 #[derive(Clone, Copy, Debug)]
-pub struct Liar<const TURN: u32, const WIDTH: usize = 1>(pub u8);
+pub struct Liar<const WIDTH: usize = 1>(pub u8);
 
-impl<const TURN: u32, const WIDTH: usize> PartialEq for Liar<TURN, WIDTH> {
+impl<const WIDTH: usize> PartialEq for Liar<WIDTH> {
     fn eq(&self, other: &Self) -> bool {
-        (self.0 == other.0) != lies(TURN)
+        (self.0 == other.0) != lies()
     }
 }
 
-impl<const TURN: u32, const WIDTH: usize> Eq for Liar<TURN, WIDTH> {}
+impl<const WIDTH: usize> Eq for Liar<WIDTH> {}
 
-impl<const TURN: u32, const WIDTH: usize> PartialOrd for Liar<TURN, WIDTH> {
+impl<const WIDTH: usize> PartialOrd for Liar<WIDTH> {
     fn partial_cmp(&self, other: &Self) -> Option<Ordering> {
         Some(self.cmp(other))
     }
 }
 
-impl<const TURN: u32, const WIDTH: usize> Ord for Liar<TURN, WIDTH> {
+impl<const WIDTH: usize> Ord for Liar<WIDTH> {
     fn cmp(&self, other: &Self) -> Ordering {
-        if lies(TURN) { Ordering::Less } else { self.0.cmp(&other.0) }
+        if lies() { Ordering::Less } else { self.0.cmp(&other.0) }
     }
 }
 
-impl<const TURN: u32, const WIDTH: usize> Hash for Liar<TURN, WIDTH> {
+impl<const WIDTH: usize> Hash for Liar<WIDTH> {
     fn hash<H: Hasher>(&self, state: &mut H) {
-        (self.0 ^ u8::from(lies(TURN))).hash(state);
+        (self.0 ^ u8::from(lies())).hash(state);
     }
 }
 
-impl<const TURN: u32, const WIDTH: usize> AsULE for Liar<TURN, WIDTH> {
+impl<const WIDTH: usize> AsULE for Liar<WIDTH> {
     const WIDTH: usize = WIDTH;
 
     fn to_unaligned(self) -> [u8; 4] {
-        [self.0 ^ u8::from(lies(TURN)), 1, 2, 3]
+        [self.0 ^ u8::from(lies()), 1, 2, 3]
     }
 
     fn from_unaligned(bytes: &[u8]) -> Option<Self> {
-        (!lies(TURN)).then_some(Liar(bytes[0]))
+        (!lies()).then_some(Liar(bytes[0]))
     }
 }
 
-impl<const TURN: u32, const WIDTH: usize> TrieValue for Liar<TURN, WIDTH> {
+impl<const WIDTH: usize> TrieValue for Liar<WIDTH> {
     type TryFromU32Error = NotAValue;
 
     fn to_u32(self) -> u32 {
-        if lies(TURN) { u32::MAX } else { u32::from(self.0) }
+        if lies() { u32::MAX } else { u32::from(self.0) }
     }
 
     fn try_from_u32(number: u32) -> Result<Self, NotAValue> {
-        if lies(TURN) { Err(NotAValue) } else { Ok(Liar(number as u8)) }
+        if lies() { Err(NotAValue) } else { Ok(Liar(number as u8)) }
     }
 }
 
@@ -79,8 +85,8 @@ pub fn tried<A>(call: impl FnOnce() -> A) -> Option<A> {
     catch_unwind(AssertUnwindSafe(call)).ok()
 }
 
-/// Panics are no news here, but for one: a place that was to be there is asserted in the file of the
-/// reads, and ends the tests where it is not.
+/// Panics are no news here, but for one: a place that has to be there is asserted in the file of
+/// the reads, and ends the tests where it is not.
 pub fn watch() {
     std::panic::set_hook(Box::new(|panic| {
         if panic.location().is_some_and(|it| it.file().ends_with("support/cells.rs")) {
@@ -91,7 +97,7 @@ pub fn watch() {
 }
 
 /// Asks a trie for all that it answers.
-pub fn ask<const TURN: u32, const WIDTH: usize>(trie: &CodePointTrie<'_, Liar<TURN, WIDTH>>) {
+pub fn ask<const WIDTH: usize>(trie: &CodePointTrie<'_, Liar<WIDTH>>) {
     for c in (0..0x11_0100).step_by(0x3FD) {
         tried(|| trie.get32(c));
         tried(|| trie.get32_u32(c));
@@ -104,7 +110,7 @@ pub fn ask<const TURN: u32, const WIDTH: usize>(trie: &CodePointTrie<'_, Liar<TU
     tried(|| trie.is_coherent());
     tried(|| (0..9).map(|it| trie.get_range(it * 0x1_9999)).count());
     tried(|| trie.iter_ranges().take(300).count());
-    tried(|| trie.iter_ranges_mapped(|it| Liar::<TURN>(it.0 % 2)).take(300).count());
+    tried(|| trie.iter_ranges_mapped(|it| Liar::<1>(it.0 % 2)).take(300).count());
     tried(|| (trie.error_value(), trie.null_value()));
     for value in 0..4 {
         tried(|| trie.iter_ranges_for_value(Liar(value)).take(300).count());

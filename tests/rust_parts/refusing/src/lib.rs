@@ -99,7 +99,11 @@ unsafe impl GlobalAlloc for Refusing {
     }
 
     unsafe fn realloc(&self, place: *mut u8, layout: Layout, size: usize) -> *mut u8 {
-        if is_granted() { unsafe { System.realloc(place, layout, size) } } else { std::ptr::null_mut() }
+        if is_granted() {
+            unsafe { System.realloc(place, layout, size) }
+        } else {
+            std::ptr::null_mut()
+        }
     }
 }
 
