@@ -30,8 +30,8 @@ impl<'a, T: TrieValue> Model for ValuesOfUtf16<'a, T> {
 
 /// The code points of the units, from their front on, each with its value in the trie, as
 /// [`get32`](CodePointTrie::get32) answers it (ICU: a loop over `UCPTRIE_FAST_U16_NEXT`). The units
-/// may be ill-formed: a surrogate that has no partner is a code point by itself, with the value that
-/// the trie has for it.
+/// may be ill-formed: a surrogate that has no partner is a code point by itself, with the value
+/// that the trie has for it.
 ///
 /// ```
 /// for (c, category) in values_of_utf16(&categories, &[0xD835, 0xDC00, 0x31, 0xD835]) {

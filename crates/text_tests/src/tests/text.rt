@@ -1,7 +1,9 @@
 //! The value of each character of a text, and its place.
 use super::support::{HIGH, expect_items, six_bits};
-use icu_trie::typed::Typed;
+use icu_trie::cptrie::CodePointTrie;
+use icu_trie::typed::FastCodePointTrie;
 use icu_trie_text::text::{value_indices_of, values_of};
+use std::process::Abort;
 use std::test::Fail;
 
 /// Characters of one to four bytes, and the values that the last six bits of their code points are:
@@ -16,12 +18,20 @@ static VALUES: [(char, u8); 5] = [
     ('\u{1F600}', HIGH),
 ];
 
+/// The characters of the text have these values.
+fn expect_values(
+    rt: &(impl Abort + AllocGlobal),
+    trie: &CodePointTrie<'_, u8>,
+) -> Result<(), Fail> {
+    let found = values_of(trie, TEXT).collect(rt.alloc())?;
+    expect_items(rt, found, &VALUES);
+    Ok(())
+}
+
 #[test]
 fn values(rt: HostRuntime) -> Result<(), Fail> {
     let trie = six_bits(rt.alloc())?;
-    let found = values_of(&trie, TEXT).collect(rt.alloc())?;
-    expect_items(&rt, found, &VALUES);
-    Ok(())
+    expect_values(&rt, &trie)
 }
 
 #[test]
@@ -51,10 +61,6 @@ fn indices(rt: HostRuntime) -> Result<(), Fail> {
 /// A trie whose type is known lends one whose type is not.
 #[test]
 fn values_of_a_typed_trie(rt: HostRuntime) -> Result<(), Fail> {
-    let trie = six_bits(rt.alloc())?;
-    if let Typed::Fast(trie) = trie.as_typed_ref() {
-        let found = values_of(trie.as_untyped_ref(), TEXT).collect(rt.alloc())?;
-        expect_items(&rt, found, &VALUES);
-    }
-    Ok(())
+    let trie = FastCodePointTrie::try_from(six_bits(rt.alloc())?).map_err(|_| "not fast")?;
+    expect_values(&rt, trie.as_untyped_ref())
 }
