@@ -1,5 +1,5 @@
-//! Tries and sets in ICU's binary forms: what a damaged one is refused with, and whether one that is
-//! taken answers as it has to.
+//! Tries and sets in ICU's binary forms: what a damaged one is refused with, and whether one that
+//! is taken answers as it has to.
 use crate::damage::{Form, below, damaged};
 use crate::names::{by_binary, by_serialized, by_swapped};
 use crate::outcome::Outcome;

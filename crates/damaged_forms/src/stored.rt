@@ -49,8 +49,8 @@ pub fn value_of(alloc: Global, text: &[u8]) -> Result<Value, Outcome> {
     }
 }
 
-/// The stored forms: texts, the tries that the first two say, packed ends of a set, units of a trie,
-/// and tries and a set as ICU writes them.
+/// The stored forms: texts, the tries that the first two say, packed ends of a set, units of a
+/// trie, and tries and a set as ICU writes them.
 #[derive(Clone, Copy)]
 pub struct Stored<'a> {
     pub texts: &'a [String],
