@@ -14,8 +14,8 @@ pub struct ValuesOfUtf16<'a, T: TrieValue> {
 
 /// The code points of the units, from their front on, each with its value in the trie, as
 /// [`get32`](CodePointTrie::get32) answers it (ICU: a loop over `UCPTRIE_FAST_U16_NEXT`). The units
-/// may be ill-formed: a surrogate that has no partner is a code point by itself, with the value that
-/// the trie has for it.
+/// may be ill-formed: a surrogate that has no partner is a code point by itself, with the value
+/// that the trie has for it.
 ///
 /// ```ignore
 /// for (c, category) in values_of_utf16(&categories, &[0xD835, 0xDC00, 0x31, 0xD835]) {
