@@ -1,0 +1,210 @@
+/* bekstaudi.h: code point tries and sets of code points, read in place.
+ *
+ * A trie has a value for each code point, and is read from the bytes that ICU's ucptrie_toBinary
+ * writes, wherever they are. A set is the ascending list of its ends: it begins at the first, stops
+ * before the second, begins again at the third, and so on, so that {0x41, 0x5B} is A to Z.
+ *
+ * Nothing is kept between calls, and nothing has to be freed. Results go into buffers of yours, as
+ * far as there is room, and a call answers how much there is in all: ask again with more room where
+ * that is more than you had. What lies behind a result in a buffer is unchanged.
+ *
+ * A code point is any number of 32 bits; above 0x10FFFF a trie answers its error value, and a set
+ * holds nothing. A count is of items, a size of bytes. Bytes of tries and texts may stand at any
+ * address; numbers of 16 and 32 bits stand where C has them. A pointer is never NULL, also where
+ * the count beside it is 0 (the data() of an empty std::vector may be). All calls may be made from
+ * several threads at once, as long as nobody changes what they read.
+ *
+ * The calls in the second and the third part are proved: README.md says what. Those marked [m] take
+ * memory by malloc while they run. C99 or later, C++11 or later, on a machine with the lowest byte
+ * first. Link with -lbekstaudi.
+ */
+#ifndef BEKSTAUDI_H
+#define BEKSTAUDI_H
+
+#include <stdbool.h>
+#include <stddef.h>
+#include <stdint.h>
+#include <string.h>
+
+#if !defined(__BYTE_ORDER__) || __BYTE_ORDER__ != __ORDER_LITTLE_ENDIAN__
+#error "bekstaudi.h: a machine with the lowest byte first is wanted"
+#endif
+
+#ifdef __cplusplus
+extern "C" {
+#endif
+
+/* ---- Types ------------------------------------------------------------------------------------ */
+
+/* What bks_trie_open answers. Where there are several faults, the first of these is told. */
+enum bks_status {
+    BKS_OK = 0,
+    BKS_SHORT = 1,           /* fewer than the 16 bytes of a header */
+    BKS_SIGNATURE = 2,       /* no signature of a trie */
+    BKS_SWAPPED = 3,         /* a trie of a machine with the highest byte first */
+    BKS_UNKNOWN_TYPE = 4,    /* neither fast nor small */
+    BKS_UNKNOWN_WIDTH = 5,   /* values of another width than 8, 16 and 32 bits */
+    BKS_RESERVED = 6,        /* a reserved bit is not 0 */
+    BKS_OTHER_WIDTH = 7,     /* kept for calls that want a width; bks_trie_open takes any */
+    BKS_CUT_OFF = 8,         /* fewer bytes than index and data take */
+    BKS_CELL = 9,            /* kept for values that not all bytes are */
+    BKS_EMPTY_DATA = 10,     /* no data */
+    BKS_NULL_VALUE = 11,     /* kept: the null value is no value */
+    BKS_SHORT_INDEX = 12,    /* fewer index cells than blocks below the fast limit */
+    BKS_SHORT_DATA = 13,     /* a block below the fast limit ends outside the data */
+    BKS_UNKNOWN_NUMBER = 14  /* kept for tries in other forms */
+};
+
+/* What a call answers instead of a count. Its buffer is then unchanged. */
+enum bks_refusal {
+    BKS_NO_MEMORY = -1,  /* malloc refused */
+    BKS_NO_SET = -2,     /* a list that bks_set_test refuses */
+    BKS_NO_TRIE = -2,    /* a trie that bks_trie_open has not made */
+    BKS_NO_TEXT = -3     /* bytes that are no UTF-8 */
+};
+
+/* A trie, by value: yours to copy and to forget. Its cells stay in the bytes that it was opened
+ * from, which have to stay there, unchanged, while it is used. Read its fields, never write them.
+ * A bks_trie of zeros, and one that was not opened, is no trie: its values are all 0. */
+typedef struct bks_trie {
+    const uint8_t *index;             /* the bytes of the index, two a cell */
+    size_t index_size;
+    const uint8_t *values;            /* the bytes of the data, `width` a cell */
+    size_t values_size;
+    size_t size;                      /* how many bytes the trie takes, its header among them */
+    uint32_t fast_limit;              /* the first code point without a cell in the fast index:
+                                         0x10000 of a fast trie, 0x1000 of a small one, 0 of none */
+    uint32_t high_start;              /* from here on all code points have one value */
+    uint32_t null_value;
+    uint32_t data_null_offset;
+    uint32_t width;                   /* how many bytes a value takes: 1, 2 or 4 */
+    uint16_t index3_null_offset;
+    uint16_t shifted12_high_start;
+} bks_trie;
+
+/* Code points from `first` to `last`, both included, and their value. */
+typedef struct bks_range {
+    uint32_t first;
+    uint32_t last;
+    uint32_t value;
+    bool found;                       /* false: there is no range, and the other fields are 0 */
+} bks_range;
+
+/* ---- Tries ------------------------------------------------------------------------------------ */
+
+/* Opens the trie that the bytes begin with: ucptrie_openFromBinary, with either type and any width.
+ * trie->size says how many bytes it takes; what follows them is not read. Answers BKS_OK, or the
+ * first fault in the order of enum bks_status, and then *trie is no trie. *trie has to be a
+ * bks_trie already: bks_open below sees to that. */
+uint32_t bks_trie_open(const void *bytes, size_t size, bks_trie *trie);
+
+/* The value of c: ucptrie_get. The number in the name is how many bits a value has, and has to be
+ * that of the trie, 8 * trie->width; values of another width are nonsense, but read inside. */
+uint8_t bks_trie8_get(const bks_trie *trie, uint32_t c);
+uint16_t bks_trie16_get(const bks_trie *trie, uint32_t c);
+uint32_t bks_trie32_get(const bks_trie *trie, uint32_t c);
+
+/* The values of many code points: values[i] is that of points[i], for as many as both have.
+ * Answers how many these are. */
+size_t bks_trie8_get_many(const bks_trie *trie, const uint32_t *points, size_t count,
+                          uint8_t *values, size_t room);
+size_t bks_trie16_get_many(const bks_trie *trie, const uint32_t *points, size_t count,
+                           uint16_t *values, size_t room);
+size_t bks_trie32_get_many(const bks_trie *trie, const uint32_t *points, size_t count,
+                           uint32_t *values, size_t room);
+
+/* Whether what the trie's header says of the high value and of null blocks is so, as in every trie
+ * that ICU built. Look-ups don't care. Ranges trust the header: in a coherent trie they are the
+ * longest runs of equal values, in another one they may be shorter or have another value. */
+bool bks_trie_is_coherent(const bks_trie *trie);
+
+/* The range of one value from c on, as far as it goes: ucptrie_getRange. None above 0x10FFFF, and
+ * where the trie lacks a cell. All ranges of a trie:
+ *     for (bks_range r = bks_trie_range(&t, 0); r.found; r = bks_trie_range(&t, r.last + 1)) ..
+ */
+bks_range bks_trie_range(const bks_trie *trie, uint32_t c);
+
+/* [m] The set of the code points in ranges of this value. Answers how many ends it has, and writes
+ * them into `ends`, as many as there is room for; BKS_NO_MEMORY or BKS_NO_TRIE. */
+int64_t bks_trie_set(const bks_trie *trie, uint32_t value, uint32_t *ends, size_t room);
+
+/* ---- Sets ------------------------------------------------------------------------------------- */
+
+/* Whether the numbers are the ends of a set: of even count, ascending without a repetition, and
+ * none above 0x110000. The empty list is the empty set. */
+bool bks_set_test(const uint32_t *ends, size_t count);
+
+/* Whether the set holds c: uset_contains. Nonsense of ends that bks_set_test refuses. */
+bool bks_set_contains(const uint32_t *ends, size_t count, uint32_t c);
+
+/* [m] How many code points the set holds, surrogates among them; BKS_NO_MEMORY or BKS_NO_SET. */
+int64_t bks_set_size(const uint32_t *ends, size_t count);
+
+/* [m] The size in bytes of the longest front of a UTF-8 text whose characters the set holds, or,
+ * where `held` is false, doesn't hold: uset_spanUTF8. A character ends there. BKS_NO_MEMORY,
+ * BKS_NO_SET, or BKS_NO_TEXT. */
+int64_t bks_set_span(const uint32_t *ends, size_t count, const char *text, size_t size, bool held);
+
+/* [m] The set that an operation makes of two: what one of them holds or both, what both hold, what
+ * the first holds and the second doesn't, what exactly one of them holds. Answers how many ends it
+ * has, and writes them into `ends`, as many as there is room for, which a_count + b_count always
+ * is; BKS_NO_MEMORY or BKS_NO_SET. `ends` may not be where a or b are. */
+int64_t bks_set_union(const uint32_t *a, size_t a_count, const uint32_t *b, size_t b_count,
+                      uint32_t *ends, size_t room);
+int64_t bks_set_intersection(const uint32_t *a, size_t a_count, const uint32_t *b, size_t b_count,
+                             uint32_t *ends, size_t room);
+int64_t bks_set_difference(const uint32_t *a, size_t a_count, const uint32_t *b, size_t b_count,
+                           uint32_t *ends, size_t room);
+int64_t bks_set_symmetric_difference(const uint32_t *a, size_t a_count, const uint32_t *b,
+                                     size_t b_count, uint32_t *ends, size_t room);
+
+/* ---- In line ---------------------------------------------------------------------------------- */
+/* These are C, and are tested, not proved. */
+
+/* bks_trie_open into any memory. */
+static inline uint32_t bks_open(bks_trie *trie, const void *bytes, size_t size) {
+    memset(trie, 0, sizeof *trie);
+    trie->index = (const uint8_t *)bytes;
+    trie->values = (const uint8_t *)bytes;
+    return bks_trie_open(bytes, size, trie);
+}
+
+/* Where the value of c stands in the data of a trie, below its fast limit, in cells. That the index
+ * has this cell, and the data the cell that it leads to, is what bks_trie_open has tested. */
+static inline size_t bks_fast_place(const bks_trie *trie, uint32_t c) {
+    uint16_t block;
+    memcpy(&block, trie->index + 2 * (size_t)(c >> 6), sizeof block);
+    return (size_t)block + (c & 63);
+}
+
+/* bks_trie8_get in line: two reads below the fast limit, and the call elsewhere. */
+static inline uint8_t bks_get8(const bks_trie *trie, uint32_t c) {
+    if (c < trie->fast_limit) return trie->values[bks_fast_place(trie, c)];
+    return bks_trie8_get(trie, c);
+}
+
+/* bks_trie16_get in line. */
+static inline uint16_t bks_get16(const bks_trie *trie, uint32_t c) {
+    if (c < trie->fast_limit) {
+        uint16_t value;
+        memcpy(&value, trie->values + sizeof value * bks_fast_place(trie, c), sizeof value);
+        return value;
+    }
+    return bks_trie16_get(trie, c);
+}
+
+/* bks_trie32_get in line. */
+static inline uint32_t bks_get32(const bks_trie *trie, uint32_t c) {
+    if (c < trie->fast_limit) {
+        uint32_t value;
+        memcpy(&value, trie->values + sizeof value * bks_fast_place(trie, c), sizeof value);
+        return value;
+    }
+    return bks_trie32_get(trie, c);
+}
+
+#ifdef __cplusplus
+}
+#endif
+
+#endif

@@ -1,0 +1,290 @@
+"""Code point tries and sets of code points, over the shared library libbekstaudi.so by ctypes.
+
+    >>> trie = Trie(open("general_category.bin", "rb").read())
+    >>> trie["A"]
+    10
+    >>> CodePointSet([0x41, 0x5B]) | CodePointSet([0x61, 0x7B])
+    CodePointSet([0x41, 0x5b, 0x61, 0x7b])
+
+A code point is an int, or a str of one character. The library is looked for where the variable
+BEKSTAUDI_LIBRARY says, then beside this file, then where the system keeps libraries. bekstaudi.h
+says of each call what it answers; what is proved of it is in README.md there.
+"""
+import ctypes
+import ctypes.util
+import os
+
+__all__ = ["BekstaudiError", "CodePointSet", "NoMemory", "NoSet", "NoTrie", "Trie", "TrieRefused"]
+
+
+class BekstaudiError(Exception):
+    """Why a call has no answer."""
+
+
+class TrieRefused(BekstaudiError, ValueError):
+    """The bytes are no trie. `status` is the name of the first fault, as in enum bks_status."""
+
+    NAMES = (
+        "OK SHORT SIGNATURE SWAPPED UNKNOWN_TYPE UNKNOWN_WIDTH RESERVED OTHER_WIDTH CUT_OFF CELL"
+        " EMPTY_DATA NULL_VALUE SHORT_INDEX SHORT_DATA UNKNOWN_NUMBER"
+    ).split()
+
+    def __init__(self, status):
+        self.status = self.NAMES[status]
+        super().__init__(self.status)
+
+
+class NoMemory(BekstaudiError, MemoryError):
+    """Memory was refused."""
+
+
+class NoSet(BekstaudiError, ValueError):
+    """The ends are those of no set: not of even number, not ascending, or above 0x110000."""
+
+
+class NoTrie(BekstaudiError, ValueError):
+    """The trie was not opened."""
+
+
+class _Trie(ctypes.Structure):
+    """bks_trie of bekstaudi.h."""
+
+    _fields_ = [
+        ("index", ctypes.c_void_p),
+        ("index_size", ctypes.c_size_t),
+        ("values", ctypes.c_void_p),
+        ("values_size", ctypes.c_size_t),
+        ("size", ctypes.c_size_t),
+        ("fast_limit", ctypes.c_uint32),
+        ("high_start", ctypes.c_uint32),
+        ("null_value", ctypes.c_uint32),
+        ("data_null_offset", ctypes.c_uint32),
+        ("width", ctypes.c_uint32),
+        ("index3_null_offset", ctypes.c_uint16),
+        ("shifted12_high_start", ctypes.c_uint16),
+    ]
+
+
+class _Range(ctypes.Structure):
+    """bks_range of bekstaudi.h."""
+
+    _fields_ = [
+        ("first", ctypes.c_uint32),
+        ("last", ctypes.c_uint32),
+        ("value", ctypes.c_uint32),
+        ("found", ctypes.c_bool),
+    ]
+
+
+_NUMBERS = {1: ctypes.c_uint8, 2: ctypes.c_uint16, 4: ctypes.c_uint32}
+_LIST = [ctypes.POINTER(ctypes.c_uint32), ctypes.c_size_t]
+_TEXT = [ctypes.c_char_p, ctypes.c_size_t]
+
+
+def _library():
+    """The shared library, with the types of its calls."""
+    beside = os.path.join(os.path.dirname(os.path.abspath(__file__)), "libbekstaudi.so")
+    path = os.environ.get("BEKSTAUDI_LIBRARY") or (beside if os.path.exists(beside) else None)
+    found = ctypes.CDLL(path or ctypes.util.find_library("bekstaudi") or "libbekstaudi.so")
+    trie, point = ctypes.POINTER(_Trie), ctypes.c_uint32
+    calls = {
+        "bks_trie_open": (ctypes.c_uint32, [ctypes.c_void_p, ctypes.c_size_t, trie]),
+        "bks_trie_is_coherent": (ctypes.c_bool, [trie]),
+        "bks_trie_range": (_Range, [trie, point]),
+        "bks_trie_set": (ctypes.c_int64, [trie, ctypes.c_uint32, *_LIST]),
+        "bks_set_test": (ctypes.c_bool, _LIST),
+        "bks_set_contains": (ctypes.c_bool, [*_LIST, point]),
+        "bks_set_size": (ctypes.c_int64, _LIST),
+        "bks_set_span": (ctypes.c_int64, [*_LIST, *_TEXT, ctypes.c_bool]),
+    }
+    for width, number in _NUMBERS.items():
+        many = [trie, *_LIST, ctypes.POINTER(number), ctypes.c_size_t]
+        calls[f"bks_trie{8 * width}_get"] = (number, [trie, point])
+        calls[f"bks_trie{8 * width}_get_many"] = (ctypes.c_size_t, many)
+    for name in ("union", "intersection", "difference", "symmetric_difference"):
+        calls[f"bks_set_{name}"] = (ctypes.c_int64, [*_LIST, *_LIST, *_LIST])
+    for name, (answer, words) in calls.items():
+        call = getattr(found, name)
+        call.restype, call.argtypes = answer, words
+    return found
+
+
+_lib = _library()
+
+
+def _point(code_point):
+    """The number of a code point."""
+    number = ord(code_point) if isinstance(code_point, str) else code_point
+    if not 0 <= number < 1 << 32:
+        raise ValueError(f"{number} is no number of 32 bits")
+    return number
+
+
+def _array(numbers):
+    """The numbers in memory of C's, which is never NULL, and how many they are."""
+    return (ctypes.c_uint32 * max(len(numbers), 1))(*numbers), len(numbers)
+
+
+def _count(answer, refusals):
+    """An answer that is a count, or the exception that a negative one stands for."""
+    if answer < 0:
+        raise refusals[answer]()
+    return answer
+
+
+def _set_answered(call, room, refusals):
+    """The set whose ends a call writes, into as much room as it turns out to need."""
+    while True:
+        ends = (ctypes.c_uint32 * max(room, 1))()
+        count = _count(call(ends, room), refusals)
+        if count <= room:
+            return CodePointSet._of(ends[:count])
+        room = count
+
+
+class Trie:
+    """A map from code points to numbers, from the bytes that ICU's `ucptrie_toBinary` writes. What
+    follows the trie in the bytes is not read; `size` says how many it takes.
+
+    `trie[c]` is the value of a code point: the trie's error value above 0x10FFFF.
+    """
+
+    def __init__(self, data):
+        # The copy lies where it is while this object lives, and nobody changes it.
+        self._bytes = bytes(data)
+        self._trie = _Trie()
+        place = ctypes.cast(ctypes.c_char_p(self._bytes), ctypes.c_void_p)
+        self._trie.index = self._trie.values = place
+        status = _lib.bks_trie_open(place, len(self._bytes), self._trie)
+        if status:
+            raise TrieRefused(status)
+        self._number = _NUMBERS[self._trie.width]
+        self._get = getattr(_lib, f"bks_trie{8 * self._trie.width}_get")
+        self._get_many = getattr(_lib, f"bks_trie{8 * self._trie.width}_get_many")
+
+    @property
+    def size(self):
+        """How many bytes the trie takes."""
+        return self._trie.size
+
+    @property
+    def value_bits(self):
+        """How many bits a value has: 8, 16 or 32."""
+        return 8 * self._trie.width
+
+    @property
+    def is_fast(self):
+        """Whether look-ups below 0x10000 take two reads, and not those below 0x1000 alone."""
+        return self._trie.fast_limit == 0x10000
+
+    def is_coherent(self):
+        """Whether ranges are the longest runs of equal values (`bks_trie_is_coherent`)."""
+        return _lib.bks_trie_is_coherent(self._trie)
+
+    def __getitem__(self, code_point):
+        return self._get(self._trie, _point(code_point))
+
+    def values(self, code_points):
+        """The values of a text's characters, or of a list of code points, by one call: an array of
+        ctypes, which has an index, a length and an order."""
+        if isinstance(code_points, str):
+            packed = code_points.encode("utf-32-le", "surrogatepass")
+            count = len(packed) // 4
+            points = (ctypes.c_uint32 * max(count, 1)).from_buffer_copy(packed or bytes(4))
+        else:
+            points, count = _array([_point(it) for it in code_points])
+        values = (self._number * count)()
+        room = ctypes.cast(values, ctypes.POINTER(self._number))
+        self._get_many(self._trie, points, count, room, count)
+        return values
+
+    def ranges(self):
+        """The ranges of one value, in order: their first and last code points and their values."""
+        found = _lib.bks_trie_range(self._trie, 0)
+        while found.found:
+            yield found.first, found.last, found.value
+            found = _lib.bks_trie_range(self._trie, found.last + 1)
+
+    def set_of(self, value):
+        """The set of the code points in ranges of this value."""
+        refusals = {-1: NoMemory, -2: NoTrie}
+        return _set_answered(
+            lambda ends, room: _lib.bks_trie_set(self._trie, value, ends, room), 64, refusals
+        )
+
+
+class CodePointSet:
+    """A set of code points, by its ascending ends: it begins at the first, stops before the second,
+    begins again at the third, and so on. Sets are equal, and hash alike, where they hold the same;
+    `|`, `&`, `-` and `^` join two. `in` asks for a code point, `len` counts them, and iteration
+    gives them as ints.
+    """
+
+    __slots__ = ("ends", "_ends")
+    _REFUSALS = {-1: NoMemory, -2: NoSet}
+
+    def __init__(self, ends=()):
+        ends = tuple(ends)
+        if any(not 0 <= end <= 0x110000 for end in ends):
+            raise NoSet(ends)
+        self.ends, self._ends = ends, _array(ends)
+        if not _lib.bks_set_test(*self._ends):
+            raise NoSet(ends)
+
+    @classmethod
+    def _of(cls, ends):
+        """The set of ends that a call has answered."""
+        made = cls.__new__(cls)
+        made.ends, made._ends = tuple(ends), _array(ends)
+        return made
+
+    def ranges(self):
+        """The ranges of code points, in order, with their last ones included."""
+        return [(self.ends[i], self.ends[i + 1] - 1) for i in range(0, len(self.ends), 2)]
+
+    def span(self, text, held=True):
+        """How many characters of the front of a text are held, or, for `held` false, are not. The
+        text has no surrogates."""
+        encoded = text.encode("utf-8")
+        size = _lib.bks_set_span(*self._ends, encoded, len(encoded), held)
+        return len(encoded[: _count(size, self._REFUSALS)].decode("utf-8"))
+
+    def __contains__(self, code_point):
+        return _lib.bks_set_contains(*self._ends, _point(code_point))
+
+    def __len__(self):
+        return _count(_lib.bks_set_size(*self._ends), self._REFUSALS)
+
+    def __iter__(self):
+        for first, last in self.ranges():
+            yield from range(first, last + 1)
+
+    def __eq__(self, other):
+        return self.ends == other.ends if isinstance(other, CodePointSet) else NotImplemented
+
+    def __hash__(self):
+        return hash(self.ends)
+
+    def __repr__(self):
+        return f"CodePointSet([{', '.join(map(hex, self.ends))}])"
+
+    def _joined(self, call, other):
+        """The set that a call makes of two."""
+        if not isinstance(other, CodePointSet):
+            return NotImplemented
+        room = len(self.ends) + len(other.ends)
+        return _set_answered(
+            lambda ends, room: call(*self._ends, *other._ends, ends, room), room, self._REFUSALS
+        )
+
+    def __or__(self, other):
+        return self._joined(_lib.bks_set_union, other)
+
+    def __and__(self, other):
+        return self._joined(_lib.bks_set_intersection, other)
+
+    def __sub__(self, other):
+        return self._joined(_lib.bks_set_difference, other)
+
+    def __xor__(self, other):
+        return self._joined(_lib.bks_set_symmetric_difference, other)

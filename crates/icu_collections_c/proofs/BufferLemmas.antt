@@ -1,0 +1,25 @@
+-- A buffer that is filled from its front.
+use Rattle.std.proofs.Common.{◌≡◌, ◌∙◌, refl, sym, ap, ℕ, zero, suc, ◌+◌, ◌<◌, ◌≤◌, min, List, [], ◌∷◌, ◌++◌, length, take, drop, get_or, add-one, arith, inl, inr}
+use Rattle.std.specs.List.{map}
+use Rattle.std.proofs.Math.ListN.{set}
+use Rattle.std.proofs.lemmas.Bool.{cases_lt}
+use Rattle.std.proofs.lemmas.Grind.{common_steps}
+use Rattle.icu_collections_c.specs.Buffers.{written}
+
+module _ {A B : Type 0} (f : A → B) where
+  fill_suc : (xs : List A) (ys : List B) (i : ℕ) (d : A) → i < length xs → i < length ys
+      → set (map f (take i xs) ++ drop i ys) i (f (get_or xs i d)) ≡ map f (take (suc i) xs) ++ drop (suc i) ys
+  fill_suc [] ys i d l m = absurd (omega arith)
+  fill_suc (x ∷ xs) [] i d l m = absurd (omega arith)
+  fill_suc (x ∷ xs) (y ∷ ys) zero d l m = refl
+  fill_suc (x ∷ xs) (y ∷ ys) (suc i) d l m = ap (λ zs. f x ∷ zs) (fill_suc xs ys i d (omega arith) (omega arith))
+
+  -- one more item is written
+  pub filled_more : (xs : List A) (ys : List B) (i : ℕ) (d : A) → i < length xs → i < length ys
+      → set (map f (take i xs) ++ drop i ys) i (f (get_or xs i d)) ≡ map f (take (i + 1) xs) ++ drop (i + 1) ys
+  filled_more xs ys i d l m = rw add-one (fill_suc xs ys i d l m)
+
+  -- all are written for which there is room
+  pub filled_all : (xs : List A) (ys : List B) (n : ℕ) → n ≡ min (length xs) (length ys)
+      → map f (take n xs) ++ drop n ys ≡ written (map f xs) ys
+  filled_all xs ys n e = ?

@@ -1,0 +1,3 @@
+mod BufferLemmas
+mod CellLemmas
+mod SetLemmas

@@ -1,0 +1,137 @@
+//! The cells of a trie in bytes, at any address, and what is read through them.
+ghost use Rattle.std.specs.Prelude.{◌≡◌, ℕ, ◌/◌, ◌<◌, List, length, slice_get, IsSome, refl};
+ghost use Rattle.icu_zerovec.specs.Cells.{values_of};
+ghost use Rattle.icu_trie_core.specs.Format.{answer};
+ghost use Rattle.icu_trie.specs.Parts.{last_cell};
+ghost use Rattle.icu_collections_c.specs.BytesTrie.{cells_of};
+
+use icu_trie_core::cells::{Cells, Steps};
+use icu_trie_core::header::CodePointTrieHeader;
+use icu_trie_core::lookup::look_up;
+use icu_trie_core::value::TrieValue;
+use icu_zerovec::ule::AsULE;
+use std::marker::{Brand, PhantomData};
+use std::sync::ledger::{Blank, Ledger};
+
+/// A value of 8, 16 or 32 bits: whatever bytes a cell has, they are one.
+pub(crate) trait UnsignedValue: TrieValue {
+    /// The bytes of a cell are a value.
+    ghost every_cell: { (cell : List ℕ) → IsSome (Self.unpack cell) };
+}
+
+impl UnsignedValue for u8 {
+    ghost every_cell = { λ _. refl };
+}
+
+impl UnsignedValue for u16 {
+    ghost every_cell = { λ _. refl };
+}
+
+impl UnsignedValue for u32 {
+    ghost every_cell = { λ _. refl };
+}
+
+/// How many whole cells the bytes have.
+#[inline(always)]
+fn count_of<T: UnsignedValue>(bytes: &[u8]) -> usize
+    ensures { result ≡ length (values_of T.unpack T.WIDTH bytes.now) }
+{
+    bytes.len() / T::WIDTH
+}
+
+/// The value of the cell at place `i`. `None` past the last whole cell.
+#[inline(always)]
+fn value_at<T: UnsignedValue>(bytes: &[u8], i: usize) -> Option<T>
+    ensures { result ≡ slice_get (values_of T.unpack T.WIDTH bytes.now) i }
+{
+    if i >= bytes.len() / T::WIDTH {
+        return None;
+    }
+    let start = i * T::WIDTH;
+    T::from_unaligned(&bytes[start..start + T::WIDTH])
+}
+
+/// The value of the last whole cell. `None` where there is none.
+#[inline(always)]
+pub(crate) fn last_of<T: UnsignedValue>(bytes: &[u8]) -> Option<T>
+    ensures { result ≡ last_cell (values_of T.unpack T.WIDTH bytes.now) }
+{
+    value_at(bytes, count_of::<T>(bytes).saturating_sub(1))
+}
+
+/// Index and data of a trie, where they stand in bytes.
+#[derive(Drop)]
+pub(crate) struct ByteCells<'a, T: UnsignedValue, L: Ledger> {
+    index: &'a [u8],
+    values: &'a [u8],
+    of: PhantomData<T>,
+    reads: Steps<L>,
+}
+
+impl<'a, T: UnsignedValue, L: Ledger> Cells<T> for ByteCells<'a, T, L> {
+    ghost index = { λ cells. cells_of 2 cells.index.now };
+
+    ghost values = { λ cells. values_of T.unpack T.WIDTH cells.values.now };
+
+    ghost reads = { λ cells. cells.reads };
+
+    #[inline(always)]
+    fn index_len(&self) -> usize {
+        count_of::<u16>(self.index)
+    }
+
+    #[inline(always)]
+    fn data_len(&self) -> usize {
+        count_of::<T>(self.values)
+    }
+
+    #[inline(always)]
+    fn index_cell(&mut self, i: usize) -> Option<u16> {
+        self.reads.tick();
+        value_at(self.index, i)
+    }
+
+    #[inline(always)]
+    fn data_cell(&mut self, i: usize) -> Option<T> {
+        self.reads.tick();
+        value_at(self.values, i)
+    }
+}
+
+/// `look_up` in bytes, with a count in the ledger of `blank`.
+#[inline(always)]
+fn look_up_counted<T: UnsignedValue, L: Ledger>(
+    header: &CodePointTrieHeader,
+    index: &[u8],
+    values: &[u8],
+    c: u32,
+    blank: Blank,
+) -> Option<T>
+    requires name { blank.name ≡ L.name }
+    requires parts { blank.parts ≡ L.parts }
+    requires some { 0 < blank.parts }
+    ensures { result
+        ≡ answer header.now (cells_of 2 index.now) (values_of T.unpack T.WIDTH values.now) c }
+{
+    let mut cells = ByteCells {
+        index,
+        values,
+        of: PhantomData,
+        reads: Steps::<L>::new(blank),
+    };
+    look_up(header, &mut cells, c)
+}
+
+/// The format's answer at `c`, in bytes.
+#[inline(always)]
+pub(crate) fn look_up_in<T: UnsignedValue>(
+    header: &CodePointTrieHeader,
+    index: &[u8],
+    values: &[u8],
+    c: u32,
+) -> Option<T>
+    ensures { result
+        ≡ answer header.now (cells_of 2 index.now) (values_of T.unpack T.WIDTH values.now) c }
+{
+    look_up_counted::<T, Brand>(header, index, values, c, Blank::new(1))
+}
