@@ -1,9 +1,9 @@
 -- A buffer that is filled from its front.
-use Rattle.std.proofs.Common.{◌≡◌, ◌∙◌, refl, sym, ap, ℕ, zero, suc, ◌+◌, ◌<◌, ◌≤◌, min, List, [], ◌∷◌, ◌++◌, length, take, drop, get_or, add-one, arith, inl, inr}
-use Rattle.std.specs.List.{map}
+use Rattle.std.proofs.Common.{◌≡◌, ◌∙◌, refl, ap, ℕ, zero, suc, ◌+◌, ◌<◌, ◌≤◌, min, List, [], ◌∷◌, ◌++◌, length, take, drop, get_or, add-one, arith, inl, inr}
+use Rattle.std.specs.Prelude.{map}
 use Rattle.std.proofs.Math.ListN.{set}
 use Rattle.std.proofs.lemmas.Bool.{cases_lt}
-use Rattle.std.proofs.lemmas.Grind.{common_steps}
+use Rattle.std.proofs.lemmas.List.{drop_all, length-map, take_all, take-map}
 use Rattle.icu_collections_c.specs.Buffers.{written}
 
 module _ {A B : Type 0} (f : A → B) where
@@ -22,4 +22,11 @@ module _ {A B : Type 0} (f : A → B) where
   -- all are written for which there is room
   pub filled_all : (xs : List A) (ys : List B) (n : ℕ) → n ≡ min (length xs) (length ys)
       → map f (take n xs) ++ drop n ys ≡ written (map f xs) ys
-  filled_all xs ys n e = ?
+  filled_all xs ys n e = elim (cases_lt (length ys) (length xs)) [
+    | inl h ↦
+        let many : n ≡ length ys = omega arith in
+        rw (many, take-map f (length ys) xs, drop_all (length ys) ys (omega arith), length-map xs f, drop_all (length xs) ys (omega arith)) refl
+    | inr h ↦
+        let many : n ≡ length xs = omega arith in
+        rw (many, take_all (length xs) xs (omega arith), length-map xs f, take_all (length ys) (map f xs) (rw (length-map xs f) h)) refl
+  ]

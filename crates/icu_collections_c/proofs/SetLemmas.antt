@@ -1,4 +1,4 @@
--- How many ends are not above a number, by the place where they pass it.
+-- Ends that are tested one after another, and how many of them are not above a number.
 use Rattle.std.proofs.Common.{◌≡◌, ◌∙◌, ℕ, zero, suc, ◌+◌, ◌-◌, ◌<◌, ◌≤◌, min, Bool, true, false, List, length, take, get_or, add-zero, arith, inl, inr}
 use Rattle.std.specs.List.{AllWithin, count_by}
 use Rattle.std.specs.List.Sorted.{IsStrictlyIncreasing, IsNonDecreasingBy}
@@ -6,6 +6,14 @@ use Rattle.std.proofs.lemmas.Bool.{cases_lt}
 use Rattle.std.proofs.lemmas.Grind.{get_or_default_zero}
 use Rattle.std.proofs.lemmas.List.Sums.{count_by_more_yes, count_by_more_no}
 use Rattle.std.proofs.Math.Seq.{take-length}
+use Rattle.icu_zerovec.specs.CodePoints.{code_point_limit}
+
+-- the ends below place i ascend within the code points, and `next` follows the last of them
+pub record Ascend (ends : List ℕ) (i next : ℕ) : Type 0 where
+  pub within : (k : ℕ) → k < i → get_or ends k 0 ≤ code_point_limit
+  pub ascending : (k : ℕ) → k + 1 < i → get_or ends k 0 < get_or ends (k + 1) 0
+  pub none : i ≡ 0 → next ≡ 0
+  pub last : 0 < i → get_or ends (i - 1) 0 + 1 ≡ next
 
 -- ends that rise do not fall
 rises : (xs : List ℕ) (i n : ℕ) → IsStrictlyIncreasing xs → i + n < length xs → get_or xs i 0 ≤ get_or xs (i + n) 0
@@ -29,9 +37,9 @@ count_front p xs i (suc n) passed failed l =
     let before = count_front p xs i n passed failed (omega arith) in
     let e : suc n ≡ n + 1 = omega arith in
     elim (cases_lt n i) [
-    | inl h ↦ rw e (let one = count_by_more_yes p xs n 0 (omega arith) (passed n 0 (omega arith) h) in omega arith)
-    | inr h ↦ rw e (let same = count_by_more_no p xs n 0 (omega arith) (failed n 0 h (omega arith)) in omega arith)
-]
+      | inl h ↦ rw e (let one = count_by_more_yes p xs n 0 (omega arith) (passed n 0 (omega arith) h) in omega arith)
+      | inr h ↦ rw e (let same = count_by_more_no p xs n 0 (omega arith) (failed n 0 h (omega arith)) in omega arith)
+    ]
 
 pub count-at : (p : ℕ → Bool) (xs : List ℕ) (i : ℕ) → AllWithin (λ y. p y ≡ true) xs 0 i → AllWithin (λ y. p y ≡ false) xs i (length xs)
     → i ≤ length xs → count_by p xs ≡ i

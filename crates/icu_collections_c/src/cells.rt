@@ -1,14 +1,20 @@
 //! The cells of a trie in bytes, at any address, and what is read through them.
-ghost use Rattle.std.specs.Prelude.{◌≡◌, ℕ, ◌/◌, ◌<◌, List, length, slice_get, IsSome, refl};
+ghost use Rattle.std.specs.Prelude.{◌≡◌, ℕ, ◌/◌, ◌<◌, ◌≤◌, ◌↔◌, List, length, slice_get, Some, IsSome, IsTrue, MatchOption, refl};
 ghost use Rattle.icu_zerovec.specs.Cells.{values_of};
+ghost use Rattle.icu_trie_core.specs.Coherence.{IsCoherent};
 ghost use Rattle.icu_trie_core.specs.Format.{answer};
+ghost use Rattle.icu_trie_core.specs.Range.{GivesWalk, last_of};
+ghost use Rattle.icu_trie_core.specs.Runs.{LongestRun};
 ghost use Rattle.icu_trie.specs.Parts.{last_cell};
 ghost use Rattle.icu_collections_c.specs.BytesTrie.{cells_of};
 
 use icu_trie_core::cells::{Cells, Steps};
+use icu_trie_core::coherent::is_coherent;
 use icu_trie_core::header::CodePointTrieHeader;
 use icu_trie_core::lookup::look_up;
+use icu_trie_core::range::CodePointMapRange;
 use icu_trie_core::value::TrieValue;
+use icu_trie_core::walk::walk;
 use icu_zerovec::ule::AsULE;
 use std::marker::{Brand, PhantomData};
 use std::sync::ledger::{Blank, Ledger};
@@ -53,7 +59,7 @@ fn value_at<T: UnsignedValue>(bytes: &[u8], i: usize) -> Option<T>
 
 /// The value of the last whole cell. `None` where there is none.
 #[inline(always)]
-pub(crate) fn last_of<T: UnsignedValue>(bytes: &[u8]) -> Option<T>
+pub(crate) fn last_value<T: UnsignedValue>(bytes: &[u8]) -> Option<T>
     ensures { result ≡ last_cell (values_of T.unpack T.WIDTH bytes.now) }
 {
     value_at(bytes, count_of::<T>(bytes).saturating_sub(1))
@@ -134,4 +140,88 @@ pub(crate) fn look_up_in<T: UnsignedValue>(
         ≡ answer header.now (cells_of 2 index.now) (values_of T.unpack T.WIDTH values.now) c }
 {
     look_up_counted::<T, Brand>(header, index, values, c, Blank::new(1))
+}
+
+/// `walk` in bytes, with a count in the ledger of `blank`.
+#[inline(always)]
+fn walk_counted<T: UnsignedValue, L: Ledger>(
+    header: &CodePointTrieHeader,
+    index: &[u8],
+    values: &[u8],
+    c: u32,
+    blank: Blank,
+) -> Option<CodePointMapRange<T>>
+    requires name { blank.name ≡ L.name }
+    requires parts { blank.parts ≡ L.parts }
+    requires some { 0 < blank.parts }
+    ensures gives { GivesWalk T.of_number header.now (cells_of 2 index.now)
+        (values_of T.unpack T.WIDTH values.now) c result }
+    ensures longest { IsCoherent T.of_number header.now (cells_of 2 index.now)
+        (values_of T.unpack T.WIDTH values.now) → MatchOption result (0x110000 ≤ c)
+        (λ r. LongestRun
+        (answer header.now (cells_of 2 index.now) (values_of T.unpack T.WIDTH values.now)) c
+        (last_of r) (Some r.value)) }
+{
+    let mut cells = ByteCells {
+        index,
+        values,
+        of: PhantomData,
+        reads: Steps::<L>::new(blank),
+    };
+    walk(header, &mut cells, c)
+}
+
+/// The range of one value from `c` on, in bytes.
+#[inline(always)]
+pub(crate) fn walk_in<T: UnsignedValue>(
+    header: &CodePointTrieHeader,
+    index: &[u8],
+    values: &[u8],
+    c: u32,
+) -> Option<CodePointMapRange<T>>
+    ensures gives { GivesWalk T.of_number header.now (cells_of 2 index.now)
+        (values_of T.unpack T.WIDTH values.now) c result }
+    ensures longest { IsCoherent T.of_number header.now (cells_of 2 index.now)
+        (values_of T.unpack T.WIDTH values.now) → MatchOption result (0x110000 ≤ c)
+        (λ r. LongestRun
+        (answer header.now (cells_of 2 index.now) (values_of T.unpack T.WIDTH values.now)) c
+        (last_of r) (Some r.value)) }
+{
+    walk_counted::<T, Brand>(header, index, values, c, Blank::new(1))
+}
+
+/// `is_coherent` in bytes, with a count in the ledger of `blank`.
+fn is_coherent_counted<T: UnsignedValue, L: Ledger>(
+    header: &CodePointTrieHeader,
+    index: &[u8],
+    values: &[u8],
+    blank: Blank,
+) -> bool
+    requires name { blank.name ≡ L.name }
+    requires parts { blank.parts ≡ L.parts }
+    requires some { 0 < blank.parts }
+    ensures { IsTrue result
+        ↔ IsCoherent T.of_number header.now (cells_of 2 index.now)
+        (values_of T.unpack T.WIDTH values.now) }
+{
+    let mut cells = ByteCells {
+        index,
+        values,
+        of: PhantomData,
+        reads: Steps::<L>::new(blank),
+    };
+    is_coherent::<T, _>(header, &mut cells)
+}
+
+/// Whether a trie in bytes is coherent.
+pub(crate) fn is_coherent_in<T: UnsignedValue>(
+    header: &CodePointTrieHeader,
+    index: &[u8],
+    values: &[u8],
+) -> bool
+    ensures { IsTrue result
+        ↔ IsCoherent T.of_number header.now (cells_of 2 index.now)
+        (values_of T.unpack T.WIDTH values.now) }
+{
+    is_coherent_counted::<T, Brand>(header, index, values, Blank::new(1))
 }

@@ -9,6 +9,7 @@
 mod answers;
 mod buffers;
 mod cells;
+pub mod ranges;
 pub mod set_operations;
 pub mod sets;
 pub mod tries;

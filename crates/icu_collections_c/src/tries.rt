@@ -5,8 +5,8 @@ ghost use Rattle.icu_trie.specs.Parts.{last_cell, trie_value};
 ghost use Rattle.icu_collections_c.specs.Buffers.{written};
 ghost use Rattle.icu_collections_c.specs.BytesTrie.{header_of, parts_in, value_at};
 
-use crate::cells::{UnsignedValue, last_of, look_up_in};
-use icu_trie::header::{CodePointTrieHeader, TrieType};
+use crate::cells::{UnsignedValue, last_value, look_up_in};
+use icu_trie_core::header::{CodePointTrieHeader, TrieType};
 
 /// A trie as C keeps it, by value: its cells stay where they are, in the caller's bytes, and these
 /// must not change while it is used. What `bks_trie_open` made is used as it is.
@@ -62,7 +62,7 @@ fn value_in<T: UnsignedValue>(trie: &Trie<'_>, c: u32) -> Option<T>
 {
     match look_up_in(&header_of(trie), trie.index, trie.values, c) {
         Some(value) => Some(value),
-        None => last_of(trie.values),
+        None => last_value(trie.values),
     }
 }
 

@@ -1,0 +1,24 @@
+-- The ranges that C is given of a trie.
+use Rattle.std.specs.Prelude.{◌≡◌, ℕ, ◌≤◌, true, false, Option, Some, None, MatchOption}
+use Rattle.icu_trie_core.specs.declared.range.CodePointMapRange.{CodePointMapRange}
+use Rattle.icu_trie_core.specs.Range.{GivesWalk, first_of, last_of}
+use Rattle.icu_trie_core.specs.Runs.{LongestRun}
+use Rattle.icu_trie.specs.Parts.{Parts}
+use Rattle.icu_trie.specs.Ranges.{IsCoherentTrie, answers}
+use Rattle.icu_collections_c.specs.declared.ranges.Range.{Range}
+
+-- the range of a walk, its value by its number; nothing but 0 where there is none
+abbrev pub range_of : {A : Type 0} → (A → ℕ) → Option (CodePointMapRange A) → Range
+range_of number (Some r) =
+    record { first = first_of r; last = last_of r; value = number r.value; found = true }
+range_of number None = record { first = 0; last = 0; value = 0; found = false }
+
+-- what is given from c on, over any trie; over a coherent one the longest run of equal answers,
+-- which every code point has
+pub record GivesRange {A : Type 0} (of_number : ℕ → Option A) (number : A → ℕ) (t : Parts A) (c : ℕ)
+    (given : Range) : Type 0 where
+  pub walk : Option (CodePointMapRange A)
+  pub gives : GivesWalk of_number t.header t.index t.values c walk
+  pub longest : IsCoherentTrie of_number t → MatchOption walk (0x110000 ≤ c)
+      (λ r. LongestRun (answers t) c (last_of r) (Some r.value))
+  pub range : given ≡ range_of number walk

@@ -1,0 +1,135 @@
+"""The Python module over the shared library that BEKSTAUDI_LIBRARY names, on tries in the folder
+that TRIES names: NAME.bin with NAME.runs.txt, lines HEX..HEX;N, HEX;N."""
+import glob
+import os
+import sys
+import unittest
+
+from bekstaudi import CodePointSet, NoSet, Trie, TrieRefused
+
+FOLDER = os.environ["TRIES"]
+NAMES = sorted(os.path.basename(it)[:-4] for it in glob.glob(f"{FOLDER}/*.bin"))
+
+
+def read(name):
+    """The bytes of a trie."""
+    with open(f"{FOLDER}/{name}.bin", "rb") as file:
+        return file.read()
+
+
+def runs_of(name):
+    """The runs beside it: first, last and value."""
+    with open(f"{FOLDER}/{name}.runs.txt", encoding="utf-8") as file:
+        for line in file:
+            points, value = line.split(";")
+            first, _, last = points.partition("..")
+            yield int(first, 16), int(last or first, 16), int(value)
+
+
+class Tries(unittest.TestCase):
+    def setUp(self):
+        self.assertTrue(NAMES)
+
+    def test_ranges_are_the_runs(self):
+        for name in NAMES:
+            self.assertEqual(list(Trie(read(name)).ranges()), list(runs_of(name)))
+
+    def test_values_of_ends(self):
+        for name in NAMES:
+            trie, runs = Trie(read(name)), list(runs_of(name))
+            firsts = [it[0] for it in runs]
+            self.assertEqual([trie[it] for it in firsts], [it[2] for it in runs])
+            self.assertEqual(list(trie.values(firsts)), [it[2] for it in runs])
+            self.assertEqual([trie[it[1]] for it in runs], [it[2] for it in runs])
+
+    def test_text_and_list_alike(self):
+        trie = Trie(read(NAMES[0]))
+        text = "aZ9 \u4e16\U0001f600\ud800\0"
+        self.assertEqual(list(trie.values(text)), [trie[it] for it in text])
+        self.assertEqual(list(trie.values([ord(it) for it in text])), [trie[it] for it in text])
+        self.assertEqual((len(trie.values("")), len(trie.values([]))), (0, 0))
+
+    def test_error_value(self):
+        trie = Trie(read(NAMES[0]))
+        self.assertEqual(trie[0x110000], trie[0xFFFFFFFF])
+        for far in (-1, 1 << 32):
+            with self.assertRaises(ValueError):
+                trie[far]
+
+    def test_what_a_trie_says_of_itself(self):
+        for name in NAMES:
+            data = read(name)
+            trie = Trie(data + b"more")
+            self.assertEqual(trie.size, len(data))
+            self.assertIn(trie.value_bits, (8, 16, 32))
+            self.assertTrue(trie.is_coherent())
+
+    def test_set_of_a_value(self):
+        for name in NAMES:
+            trie, runs = Trie(read(name)), list(runs_of(name))
+            value = runs[0][2]
+            wanted = [it[:2] for it in runs if it[2] == value]
+            self.assertEqual(trie.set_of(value).ranges(), wanted)
+            self.assertEqual(len(trie.set_of(0xFFFFFFF0)), 0)
+
+    def test_faults_by_name(self):
+        data = bytearray(read(NAMES[0]))
+        faults = {"SHORT": data[:15], "CUT_OFF": data[:-1], "SIGNATURE": b"x" + data[1:]}
+        faults["SWAPPED"] = data[3::-1] + data[4:]
+        faults["RESERVED"] = data[:4] + bytes([data[4] | 8]) + data[5:]
+        faults["UNKNOWN_WIDTH"] = data[:4] + bytes([data[4] | 7]) + data[5:]
+        faults["UNKNOWN_TYPE"] = data[:4] + bytes([data[4] | 0xC0]) + data[5:]
+        faults["SHORT_INDEX"] = data[:6] + b"\1\0" + data[8:]
+        for name, fault in faults.items():
+            with self.assertRaises(TrieRefused) as told:
+                Trie(bytes(fault))
+            self.assertEqual(told.exception.status, name)
+        with self.assertRaises(TrieRefused):
+            Trie(b"")
+
+
+class Sets(unittest.TestCase):
+    letters = CodePointSet([0x41, 0x5B, 0x61, 0x7B])
+
+    def test_as_sets_of_python(self):
+        other = CodePointSet([0, 0x42, 0x70, 0x80, 0x10FFFF, 0x110000])
+        mine, theirs = set(self.letters), set(other)
+        self.assertEqual(set(self.letters | other), mine | theirs)
+        self.assertEqual(set(self.letters & other), mine & theirs)
+        self.assertEqual(set(self.letters - other), mine - theirs)
+        self.assertEqual(set(self.letters ^ other), mine ^ theirs)
+        self.assertEqual((len(self.letters), len(other)), (len(mine), len(theirs)))
+        for c in [*range(0x90), 0x10FFFE, 0x10FFFF, 0x110000]:
+            self.assertEqual(c in other, c in theirs)
+
+    def test_empty_and_all(self):
+        everything = CodePointSet([0, 0x110000])
+        self.assertEqual(len(CodePointSet()), 0)
+        self.assertEqual(len(everything), 0x110000)
+        self.assertEqual(everything - everything, CodePointSet())
+        self.assertEqual(CodePointSet() | CodePointSet(), CodePointSet())
+        self.assertNotIn("a", CodePointSet())
+
+    def test_equal_sets_hash_alike(self):
+        same = CodePointSet([0x41, 0x5B]) | CodePointSet([0x61, 0x7B])
+        self.assertEqual(same, self.letters)
+        self.assertEqual(hash(same), hash(self.letters))
+        self.assertNotEqual(same, {0x41})
+        self.assertEqual(repr(same), "CodePointSet([0x41, 0x5b, 0x61, 0x7b])")
+
+    def test_span_in_characters(self):
+        greek = CodePointSet([0x370, 0x400])
+        self.assertEqual(greek.span("\u03b1\u03b2c"), 2)
+        self.assertEqual(greek.span("ab\u03b1", held=False), 2)
+        self.assertEqual(greek.span(""), 0)
+
+    def test_lists_that_are_no_sets(self):
+        for ends in ([1], [2, 1], [1, 1], [0, 0x110001], [-1, 4], [1, 1 << 40]):
+            with self.assertRaises(NoSet):
+                CodePointSet(ends)
+        with self.assertRaises(TypeError):
+            self.letters | {0x41}
+
+
+if __name__ == "__main__":
+    sys.exit(unittest.main())

@@ -1,0 +1,102 @@
+/* The calls over a trie, compared with the runs of its table that another program found, and with
+   ICU4C where it is at hand (WITH_ICU): all code points, all ranges, and the set of each value.
+   Usage: tries TRIE RUNS ERROR, where ERROR is the trie's error value. */
+#include "parts.h"
+#ifdef WITH_ICU
+#include <unicode/ucptrie.h>
+#include <unicode/uset.h>
+#endif
+
+static bks_range runs[1 << 17];
+static uint32_t expected[CODE_POINTS + 16], points[CODE_POINTS + 16], ends[1 << 17];
+static uint32_t values[CODE_POINTS + 16];
+
+/* Each code point by the call, in line, and by the call for many; and what is above them. */
+static void look_ups(const bks_trie *trie, uint32_t error) {
+    for (uint32_t c = 0; c < CODE_POINTS + 16; c++) {
+        points[c] = c;
+        CHECK(called(trie, c) == expected[c] && in_line(trie, c) == expected[c]);
+    }
+    CHECK(many(trie, points, CODE_POINTS + 16, values, CODE_POINTS + 16) == CODE_POINTS + 16);
+    for (uint32_t c = 0; c < CODE_POINTS + 16; c++) CHECK(value_in(trie, values, c) == expected[c]);
+    for (uint32_t c = CODE_POINTS; c >= CODE_POINTS; c *= 2)
+        CHECK(called(trie, c) == error && in_line(trie, c) == error);
+    CHECK(called(trie, UINT32_MAX) == error && in_line(trie, UINT32_MAX) == error);
+}
+
+/* All ranges from 0 on, and the one from the midst of each. */
+static void ranges(const bks_trie *trie, size_t count) {
+    bks_range r = bks_trie_range(trie, 0);
+    for (size_t i = 0; i < count; i++) {
+        CHECK(r.found && r.first == runs[i].first && r.last == runs[i].last);
+        CHECK(r.value == runs[i].value);
+        uint32_t midst = r.first + (r.last - r.first) / 2;
+        bks_range half = bks_trie_range(trie, midst);
+        CHECK(half.found && half.first == midst && half.last == r.last && half.value == r.value);
+        r = bks_trie_range(trie, r.last + 1);
+    }
+    CHECK(!r.found && r.first == 0 && r.last == 0 && r.value == 0);
+    CHECK(!bks_trie_range(trie, UINT32_MAX).found);
+}
+
+/* The set of a value: its ends are those of the runs with the value. */
+static void set_of(const bks_trie *trie, uint32_t value, size_t count) {
+    int64_t n = bks_trie_set(trie, value, ends, 1 << 17);
+    size_t i = 0;
+    for (size_t k = 0; k < count; k++)
+        if (runs[k].value == value) {
+            CHECK((int64_t)i + 1 < n && ends[i] == runs[k].first && ends[i + 1] == runs[k].last + 1);
+            i += 2;
+        }
+    CHECK(n == (int64_t)i && bks_set_test(ends, i));
+    for (size_t k = 0; k < count; k++) {
+        CHECK(bks_set_contains(ends, i, runs[k].first) == (runs[k].value == value));
+        CHECK(bks_set_contains(ends, i, runs[k].last) == (runs[k].value == value));
+    }
+}
+
+#ifdef WITH_ICU
+static void as_icu(const bks_trie *trie, uint8_t *bytes, size_t size) {
+    UErrorCode status = U_ZERO_ERROR;
+    int32_t taken = 0;
+    uint32_t *aligned = (uint32_t *)malloc(size + 4);
+    memcpy(aligned, bytes, size);
+    UCPTrie *icu = ucptrie_openFromBinary(UCPTRIE_TYPE_ANY, UCPTRIE_VALUE_BITS_ANY, aligned,
+                                          (int32_t)size, &taken, &status);
+    CHECK(U_SUCCESS(status) && trie->size == (size_t)taken);
+    CHECK((ucptrie_getType(icu) == UCPTRIE_TYPE_FAST) == (trie->fast_limit == 0x10000));
+    for (uint32_t c = 0; c < CODE_POINTS + 16; c++)
+        CHECK(called(trie, c) == ucptrie_get(icu, (UChar32)c));
+    for (UChar32 c = 0, last; c < CODE_POINTS; c = last + 1) {
+        uint32_t value;
+        last = ucptrie_getRange(icu, c, UCPMAP_RANGE_NORMAL, 0, NULL, NULL, &value);
+        bks_range r = bks_trie_range(trie, (uint32_t)c);
+        CHECK(r.found && r.last == (uint32_t)last && r.value == value);
+    }
+    ucptrie_close(icu);
+    free(aligned);
+}
+#endif
+
+int main(int count, char **words) {
+    CHECK(count == 4);
+    size_t size, many_runs = read_runs(words[2], runs, sizeof runs / sizeof runs[0]);
+    uint8_t *bytes = file_bytes(words[1], &size);
+    uint32_t error = (uint32_t)strtoul(words[3], NULL, 0);
+    bks_trie trie;
+    CHECK(bks_open(&trie, bytes, size) == BKS_OK && trie.size == size);
+    CHECK(bks_trie_is_coherent(&trie));
+    for (size_t i = 0; i < many_runs; i++)
+        for (uint32_t c = runs[i].first; c <= runs[i].last; c++) expected[c] = runs[i].value;
+    for (uint32_t c = CODE_POINTS; c < CODE_POINTS + 16; c++) expected[c] = error;
+    look_ups(&trie, error);
+    ranges(&trie, many_runs);
+    for (size_t i = 0; i < many_runs && i < 64; i++) set_of(&trie, runs[i].value, many_runs);
+    set_of(&trie, 0xFFFFFFFE, many_runs);
+#ifdef WITH_ICU
+    as_icu(&trie, bytes, size);
+#endif
+    printf("%s: %u bits, %s, %zu ranges\n", words[1], 8 * trie.width,
+           trie.fast_limit == 0x10000 ? "fast" : "small", many_runs);
+    return 0;
+}
