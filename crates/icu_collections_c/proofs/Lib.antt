@@ -1,3 +1,4 @@
 mod BufferLemmas
 mod CellLemmas
+mod OpeningLemmas
 mod SetLemmas

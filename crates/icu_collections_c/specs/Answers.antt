@@ -19,3 +19,18 @@ AnswersEnds sound P old new (pos n) = sound × HasEnds P old new n
 AnswersEnds sound P old new (negsuc zero) = sound × (new ≡ old)
 AnswersEnds sound P old new (negsuc (suc zero)) = ¬ sound × (new ≡ old)
 AnswersEnds sound P old new (negsuc (suc (suc n))) = ⊥
+
+-- where what was given is sound, this number; or -1 where memory was refused; -2 where it is not sound
+abbrev pub AnswersNumber : Type 0 → ℕ → ℤ → Type 0
+AnswersNumber sound n (pos k) = sound × (k ≡ n)
+AnswersNumber sound n (negsuc zero) = sound
+AnswersNumber sound n (negsuc (suc zero)) = ¬ sound
+AnswersNumber sound n (negsuc (suc (suc k))) = ⊥
+
+-- the same of a set and a text, which may be no text: -3
+abbrev pub AnswersSpan : Type 0 → Type 0 → ℕ → ℤ → Type 0
+AnswersSpan sound text n (pos k) = sound × text × (k ≡ n)
+AnswersSpan sound text n (negsuc zero) = sound × text
+AnswersSpan sound text n (negsuc (suc zero)) = ¬ sound
+AnswersSpan sound text n (negsuc (suc (suc zero))) = sound × ¬ text
+AnswersSpan sound text n (negsuc (suc (suc (suc k)))) = ⊥

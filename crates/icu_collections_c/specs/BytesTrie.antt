@@ -1,13 +1,13 @@
 -- A trie of code points as C keeps it: the bytes of its index and of its data, and what its header
 -- says.
-use Rattle.std.specs.Prelude.{◌≡◌, ℕ, ◌^◌, ◌*◌, nat_eq, List, length, Some, Option, unwrap_or, if◌then◌else◌}
+use Rattle.std.specs.Prelude.{◌≡◌, ℕ, ◌^◌, ◌*◌, ◌%◌, nat_eq, List, length, Some, None, Option, unwrap_or, if◌then◌else◌}
 use Rattle.icu_zerovec.specs.Cells.{values_of}
 use Rattle.icu_zerovec.specs.PackedBytes.{number_of}
 use Rattle.icu_trie_core.specs.ValueNumbers.{fitting}
 use Rattle.icu_trie_core.specs.declared.header.TrieType.{TrieType}
 use Rattle.icu_trie_core.specs.declared.header.TrieType.TheVariants.{Fast, Small}
 use Rattle.icu_trie_core.specs.declared.header.CodePointTrieHeader.{CodePointTrieHeader}
-use Rattle.icu_trie.specs.Parts.{Parts, trie_value}
+use Rattle.icu_trie.specs.Parts.{Parts, fault, trie_value}
 use Rattle.icu_collections_c.specs.declared.tries.Trie.{Trie}
 
 -- the numbers of the whole cells of bytes, so many bytes each, the lowest byte first
@@ -59,3 +59,16 @@ pub record IsNoTrie (trie : Trie) : Type 0 where
   pub index : length trie.index.now ≡ 0
   pub values : length trie.values.now ≡ 0
   pub limit : trie.fast_limit ≡ 0
+
+-- the bytes are whole cells, and the cells are those of a trie
+pub record IsSound {T : Type 0} (of_number : ℕ → Option T) (unpack : List ℕ → Option T)
+    (width : ℕ) (trie : Trie) : Type 0 where
+  pub index : length trie.index.now % 2 ≡ 0
+  pub values : length trie.values.now % width ≡ 0
+  pub parts : fault of_number (header_of trie) (cells_of 2 trie.index.now)
+      (values_of unpack width trie.values.now) ≡ None
+
+-- the same of numbers of so many bytes each
+abbrev pub IsSoundOf : ℕ → Trie → Type 0
+IsSoundOf width trie =
+    IsSound (fitting_in width) (λ cell. Some (number_of width cell)) width trie

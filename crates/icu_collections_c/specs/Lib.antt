@@ -1,4 +1,5 @@
 pub mod Answers
 pub mod Buffers
 pub mod BytesTrie
+pub mod Opening
 pub mod Ranges

@@ -1,10 +1,11 @@
 -- The ranges that C is given of a trie.
-use Rattle.std.specs.Prelude.{◌≡◌, ℕ, ◌≤◌, true, false, Option, Some, None, MatchOption}
+use Rattle.std.specs.Prelude.{◌≡◌, ℕ, ◌<◌, ◌≤◌, ◌↔◌, true, false, List, [], Option, Some, None, MatchOption}
+use Rattle.icu_invlist.specs.InversionList.{holds}
 use Rattle.icu_trie_core.specs.declared.range.CodePointMapRange.{CodePointMapRange}
 use Rattle.icu_trie_core.specs.Range.{GivesWalk, first_of, last_of}
 use Rattle.icu_trie_core.specs.Runs.{LongestRun}
 use Rattle.icu_trie.specs.Parts.{Parts}
-use Rattle.icu_trie.specs.Ranges.{IsCoherentTrie, answers}
+use Rattle.icu_trie.specs.Ranges.{AreRangesFrom, IsCoherentTrie, IsInRangeOf, answers}
 use Rattle.icu_collections_c.specs.declared.ranges.Range.{Range}
 
 -- the range of a walk, its value by its number; nothing but 0 where there is none
@@ -22,3 +23,18 @@ pub record GivesRange {A : Type 0} (of_number : ℕ → Option A) (number : A �
   pub longest : IsCoherentTrie of_number t → MatchOption walk (0x110000 ≤ c)
       (λ r. LongestRun (answers t) c (last_of r) (Some r.value))
   pub range : given ≡ range_of number walk
+
+-- the code points in ranges of the value, and over a coherent trie those that have it
+pub record IsSetOfValue {A : Type 0} (of_number : ℕ → Option A) (t : Parts A) (value : A)
+    (set : List ℕ) : Type 0 where
+  pub all : List (CodePointMapRange A)
+  pub given : AreRangesFrom of_number t 0 all
+  pub held : (c : ℕ) → c < 0x110000 → (holds set c ≡ true) ↔ IsInRangeOf value all c
+  pub preimage : IsCoherentTrie of_number t → (c : ℕ) → c < 0x110000
+      → (holds set c ≡ true) ↔ (answers t c ≡ Some value)
+
+-- the set of the value that has the number n: the code points in ranges of it, and over a coherent
+-- trie those that have it; the empty set where no value has this number
+abbrev pub IsSetOf : {A : Type 0} → (ℕ → Option A) → Parts A → ℕ → List ℕ → Type 0
+IsSetOf of_number t n set = MatchOption (of_number n) (set ≡ [])
+    (λ value. IsSetOfValue of_number t value set)

@@ -1,0 +1,40 @@
+-- What C is told of bytes that are to be a trie in ICU's binary form.
+use Rattle.std.specs.Prelude.{◌≡◌, ℕ, List}
+use Rattle.icu_trie_core.specs.declared.error.CodePointTrieError.{CodePointTrieError}
+use Rattle.icu_trie_core.specs.declared.error.CodePointTrieError.TheVariants.{EmptyDataVector, InvalidNullValue, IndexTooShortForFastAccess, DataTooShortForFastAccess, FromDeserialized}
+use Rattle.icu_trie_binary.specs.BinaryTrie.{IsUnsignedStored, IsWhyNoneStored}
+use Rattle.icu_trie_binary.specs.declared.error.BinaryError.{BinaryError}
+use Rattle.icu_trie_binary.specs.declared.error.BinaryError.TheVariants.{Short, Signature, Swapped, UnknownType, UnknownWidth, Reserved, OtherWidth, CutOff, Cell, Trie}
+use Rattle.icu_collections_c.specs.declared.tries.Trie as kept
+use Rattle.icu_collections_c.specs.BytesTrie.{parts_of, value_width}
+
+-- the numbers of the faults, as bekstaudi.h names them
+abbrev pub parts_status : CodePointTrieError → ℕ
+parts_status EmptyDataVector = 10
+parts_status InvalidNullValue = 11
+parts_status IndexTooShortForFastAccess = 12
+parts_status DataTooShortForFastAccess = 13
+parts_status (FromDeserialized reason) = 14
+
+abbrev pub status_of : BinaryError → ℕ
+status_of Short = 1
+status_of Signature = 2
+status_of Swapped = 3
+status_of UnknownType = 4
+status_of UnknownWidth = 5
+status_of Reserved = 6
+status_of OtherWidth = 7
+status_of CutOff = 8
+status_of (Cell i) = 9
+status_of (Trie e) = parts_status e
+
+-- the trie is the one that the bytes begin with, of its width, and takes so many of them
+pub record IsOpened (bytes : List ℕ) (trie : kept.Trie) : Type 0 where
+  pub width : value_width trie.width ≡ trie.width
+  pub stored : IsUnsignedStored trie.width bytes (parts_of trie.width trie) trie.size
+
+-- the bytes begin with no trie, and this is the number of their first fault
+pub record IsRefused (bytes : List ℕ) (status : ℕ) : Type 0 where
+  pub error : BinaryError
+  pub first : IsWhyNoneStored bytes error
+  pub told : status ≡ status_of error

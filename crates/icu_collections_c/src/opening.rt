@@ -1,0 +1,121 @@
+//! Tries from ICU's binary form.
+ghost use Rattle.std.specs.Prelude.{◌≡◌, ◌≢◌, IfOk, IfErr};
+ghost use Rattle.icu_trie_binary.specs.BinaryTrie.{IsStored, IsWhyNoneStored};
+ghost use Rattle.icu_collections_c.specs.BytesTrie.{IsNoTrie, parts_in};
+ghost use Rattle.icu_collections_c.specs.Opening.{IsOpened, IsRefused, parts_status, status_of};
+
+use crate::cells::UnsignedValue;
+use crate::tries::Trie;
+use icu_trie::cptrie::CodePointTrie;
+use icu_trie_binary::binary::{AnyWidthTrie, BinaryError, from_binary_any};
+use icu_trie_core::error::CodePointTrieError;
+
+/// The number of a fault of a trie's parts.
+fn parts_status(error: CodePointTrieError) -> u32
+    ensures { result ≡ parts_status error }
+{
+    match error {
+        CodePointTrieError::EmptyDataVector => 10,
+        CodePointTrieError::InvalidNullValue => 11,
+        CodePointTrieError::IndexTooShortForFastAccess => 12,
+        CodePointTrieError::DataTooShortForFastAccess => 13,
+        CodePointTrieError::FromDeserialized { reason: _ } => 14,
+    }
+}
+
+/// The number of a fault of bytes.
+fn status_of(error: BinaryError) -> u32
+    ensures { result ≡ status_of error }
+{
+    match error {
+        BinaryError::Short => 1,
+        BinaryError::Signature => 2,
+        BinaryError::Swapped => 3,
+        BinaryError::UnknownType => 4,
+        BinaryError::UnknownWidth => 5,
+        BinaryError::Reserved => 6,
+        BinaryError::OtherWidth => 7,
+        BinaryError::CutOff => 8,
+        BinaryError::Cell(_) => 9,
+        BinaryError::Trie(error) => parts_status(error),
+    }
+}
+
+/// No trie: all its values are 0.
+fn no_trie<'a>(bytes: &'a [u8]) -> Trie<'a>
+    ensures { IsNoTrie result }
+{
+    Trie {
+        index: &bytes[..0],
+        values: &bytes[..0],
+        size: 0,
+        fast_limit: 0,
+        high_start: 0,
+        null_value: 0,
+        data_null_offset: 0,
+        width: 0,
+        index3_null_offset: 0,
+        shifted12_high_start: 0,
+    }
+}
+
+/// The trie that was found at the front of the bytes, as C keeps it.
+fn kept<'a, T: UnsignedValue>(
+    bytes: &'a [u8],
+    trie: &CodePointTrie<'_, T>,
+    width: u32,
+    size: usize,
+) -> Trie<'a>
+    requires { IsStored T.unpack T.WIDTH T.number T.of_number bytes.now trie.now size }
+    ensures parts { parts_in T.unpack T.WIDTH result ≡ trie.now }
+    ensures width { result.width ≡ width }
+    ensures size { result.size ≡ size }
+{
+    let (header, index, _) = trie.parts();
+    let start = 16 + 2 * index.len();
+    Trie {
+        index: &bytes[16..start],
+        values: &bytes[start..size],
+        size,
+        fast_limit: header.trie_type.fast_limit(),
+        high_start: header.high_start,
+        null_value: header.null_value,
+        data_null_offset: header.data_null_offset,
+        width,
+        index3_null_offset: header.index3_null_offset,
+        shifted12_high_start: header.shifted12_high_start,
+    }
+}
+
+/// The trie that the bytes begin with.
+fn opened(bytes: &[u8]) -> Result<Trie<'_>, BinaryError>
+    ensures ok { IfOk result (IsOpened bytes.now) }
+    ensures err { IfErr result (IsWhyNoneStored bytes.now) }
+{
+    let (trie, size) = from_binary_any(bytes)?;
+    Ok(match &trie {
+        AnyWidthTrie::Bits8(trie) => kept(bytes, trie, 1, size),
+        AnyWidthTrie::Bits16(trie) => kept(bytes, trie, 2, size),
+        AnyWidthTrie::Bits32(trie) => kept(bytes, trie, 4, size),
+    })
+}
+
+/// Opens the trie that the bytes begin with (`ucptrie_openFromBinary`, with either type and any
+/// width): 0, and `trie` is it; or the number of the first fault, and `trie` is no trie.
+#[unsafe(no_mangle)]
+pub extern "C" fn bks_trie_open<'a>(bytes: &'a [u8], trie: &mut Trie<'a>) -> u32
+    ensures ok { result ≡ 0 → IsOpened bytes.now trie.new }
+    ensures err { result ≢ 0 → IsRefused bytes.now result }
+    ensures none { result ≢ 0 → IsNoTrie trie.new }
+{
+    match opened(bytes) {
+        Ok(found) => {
+            *trie = found;
+            0
+        }
+        Err(error) => {
+            *trie = no_trie(bytes);
+            status_of(error)
+        }
+    }
+}

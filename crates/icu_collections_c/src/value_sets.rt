@@ -1,0 +1,76 @@
+//! The set of the code points that have a value in a trie over bytes.
+ghost use Rattle.std.specs.Prelude.{◌≡◌, IfOk, MatchOption};
+ghost use Rattle.icu_collections_c.specs.Answers.{AnswersEnds};
+ghost use Rattle.icu_collections_c.specs.BytesTrie.{IsSound, IsSoundOf, fitting_in, parts_in, parts_of, value_width};
+ghost use Rattle.icu_collections_c.specs.Ranges.{IsSetOf};
+
+use crate::answers::ends_answered;
+use crate::cells::UnsignedValue;
+use crate::tries::{Trie, header_of};
+use icu_invlist::codepointinvlist::{CodePointInversionList, CodePointInversionListBuilder};
+use icu_trie::cptrie::CodePointTrie;
+use icu_zerovec::{MemoryError, ZeroVec};
+use std::alloc::Global;
+
+/// The trie of these cells. `None` where they are no trie.
+fn trie_of<'a, T: UnsignedValue>(trie: &Trie<'a>) -> Option<CodePointTrie<'a, T>>
+    ensures { MatchOption result (¬ (IsSound T.of_number T.unpack T.WIDTH trie.now))
+        (λ t. IsSound T.of_number T.unpack T.WIDTH trie.now
+        × (t ≡ parts_in T.unpack T.WIDTH trie.now)) }
+{
+    let index = ZeroVec::parse_bytes(trie.index).ok()?;
+    let values = ZeroVec::parse_bytes(trie.values).ok()?;
+    CodePointTrie::try_new(header_of(trie), index, values).ok()
+}
+
+/// The set of the value that has this number: the empty set where no value has it.
+fn set_of<T: UnsignedValue>(
+    alloc: Global,
+    trie: &CodePointTrie<'_, T>,
+    number: u32,
+) -> Result<CodePointInversionList<'static>, MemoryError>
+    ensures { IfOk result (IsSetOf T.of_number trie.now number) }
+{
+    match T::try_from_u32(number) {
+        Ok(value) => trie.get_set_for_value(alloc, value),
+        Err(_) => CodePointInversionListBuilder::new(alloc).build(),
+    }
+}
+
+/// `bks_trie_set` of such values.
+fn set_answered<T: UnsignedValue>(
+    alloc: Global,
+    trie: &Trie<'_>,
+    number: u32,
+    ends: &mut [u32],
+) -> i64
+    ensures { AnswersEnds (IsSound T.of_number T.unpack T.WIDTH trie.now)
+        (IsSetOf T.of_number (parts_in T.unpack T.WIDTH trie.now) number) ends.old ends.new
+        result }
+{
+    let Some(trie) = trie_of::<T>(trie) else {
+        return -2;
+    };
+    match set_of(alloc, &trie, number) {
+        Ok(set) => ends_answered(alloc, &set, ends),
+        Err(_) => -1,
+    }
+}
+
+/// The set of the code points whose range has this value, over a coherent trie of those that have
+/// it: how many ends it has, and as many of them in the buffer as there is room for.
+///
+/// # Errors
+/// -1 where memory was refused; -2 of what is no trie. The buffer is then unchanged.
+#[unsafe(no_mangle)]
+pub extern "C" fn bks_trie_set(alloc: Global, trie: &Trie<'_>, value: u32, ends: &mut [u32]) -> i64
+    ensures { let width = value_width trie.now.width in
+        AnswersEnds (IsSoundOf width trie.now)
+        (IsSetOf (fitting_in width) (parts_of width trie.now) value) ends.old ends.new result }
+{
+    match trie.width {
+        1 => set_answered::<u8>(alloc, trie, value, ends),
+        2 => set_answered::<u16>(alloc, trie, value, ends),
+        _ => set_answered::<u32>(alloc, trie, value, ends),
+    }
+}
