@@ -1,3 +1,4 @@
+mod AnswerLemmas
 mod BufferLemmas
 mod CellLemmas
 mod OpeningLemmas

@@ -6,7 +6,9 @@ use Rattle.std.proofs.lemmas.Bool.{cases_lt}
 use Rattle.std.proofs.lemmas.Grind.{get_or_default_zero}
 use Rattle.std.proofs.lemmas.List.Sums.{count_by_more_yes, count_by_more_no}
 use Rattle.std.proofs.Math.Seq.{take-length}
+use Rattle.std.specs.Prelude.{if◌then◌else◌}
 use Rattle.icu_zerovec.specs.CodePoints.{code_point_limit}
+use Rattle.icu_invlist.specs.InversionList.{holds, members_below}
 
 -- the ends below place i ascend within the code points, and `next` follows the last of them
 pub record Ascend (ends : List ℕ) (i next : ℕ) : Type 0 where
@@ -47,3 +49,13 @@ count-at p xs i passed failed l =
     let whole : count_by p (take (length xs) xs) ≡ min (length xs) i = count_front p xs i (length xs) passed failed (omega arith) in
     let least : min (length xs) i ≡ i = omega arith in
     (rw take-length at whole) ∙ least
+
+-- there are no more members below n than numbers
+pub members_below-le : (ends : List ℕ) (n : ℕ) → members_below ends n ≤ n
+unfolding members_below
+members_below-le ends zero = omega arith
+members_below-le ends (suc n) = let before = members_below-le ends n in one_more (holds ends n) (members_below ends n) n before
+  where
+    one_more : (b : Bool) (k n : ℕ) → k ≤ n → k + (if b then 1 else 0) ≤ suc n
+    one_more true k n h = omega arith
+    one_more false k n h = omega arith

@@ -1,5 +1,5 @@
--- What calls answer that take memory: how many ends a set has, or a number below 0 that says why there
--- is no answer.
+-- What calls answer that take memory: how many ends a set has, or a number below 0 that says why
+-- there is no answer.
 use Rattle.std.specs.Prelude.{◌≡◌, ℕ, zero, suc, ℤ, pos, negsuc, List, length}
 use Rattle.icu_invlist.specs.InversionList.{IsValid}
 use Rattle.icu_collections_c.specs.Buffers.{written}
@@ -20,7 +20,8 @@ AnswersEnds sound P old new (negsuc zero) = sound × (new ≡ old)
 AnswersEnds sound P old new (negsuc (suc zero)) = ¬ sound × (new ≡ old)
 AnswersEnds sound P old new (negsuc (suc (suc n))) = ⊥
 
--- where what was given is sound, this number; or -1 where memory was refused; -2 where it is not sound
+-- where what was given is sound, this number; or -1 where memory was refused; -2 where it is not
+-- sound
 abbrev pub AnswersNumber : Type 0 → ℕ → ℤ → Type 0
 AnswersNumber sound n (pos k) = sound × (k ≡ n)
 AnswersNumber sound n (negsuc zero) = sound

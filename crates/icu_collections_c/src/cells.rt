@@ -1,6 +1,7 @@
 //! The cells of a trie in bytes, at any address, and what is read through them.
 ghost use Rattle.std.specs.Prelude.{◌≡◌, ℕ, ◌/◌, ◌<◌, ◌≤◌, ◌↔◌, List, length, slice_get, Some, IsSome, IsTrue, MatchOption, refl};
 ghost use Rattle.icu_zerovec.specs.Cells.{values_of};
+ghost use Rattle.icu_zerovec.specs.PackedBytes.{number_of};
 ghost use Rattle.icu_trie_core.specs.Coherence.{IsCoherent};
 ghost use Rattle.icu_trie_core.specs.Format.{answer};
 ghost use Rattle.icu_trie_core.specs.Range.{GivesWalk, last_of};
@@ -75,7 +76,7 @@ pub(crate) struct ByteCells<'a, T: UnsignedValue, L: Ledger> {
 }
 
 impl<'a, T: UnsignedValue, L: Ledger> Cells<T> for ByteCells<'a, T, L> {
-    ghost index = { λ cells. cells_of 2 cells.index.now };
+    ghost index = { λ cells. values_of (λ cell. Some (number_of 2 cell)) 2 cells.index.now };
 
     ghost values = { λ cells. values_of T.unpack T.WIDTH cells.values.now };
 

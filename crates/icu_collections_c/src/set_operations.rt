@@ -1,5 +1,5 @@
 //! Sets made of two sets.
-ghost use Rattle.std.specs.Prelude.{◌≡◌, ℕ, List, IfOk};
+ghost use Rattle.std.specs.Prelude.{◌≡◌, ◌↔◌, IfOk, IsTrue};
 ghost use Rattle.icu_invlist.specs.InversionList.{IsValid, Acts, holds, either, both, without, one_of};
 ghost use Rattle.icu_collections_c.specs.Answers.{AnswersEnds};
 
@@ -8,6 +8,13 @@ use crate::sets::bks_set_test;
 use icu_invlist::codepointinvlist::{CodePointInversionList, CodePointInversionListBuilder};
 use icu_zerovec::MemoryError;
 use std::alloc::Global;
+
+/// Whether both lists are the ends of sets.
+fn are_sets(a: &[u32], b: &[u32]) -> bool
+    ensures { IsTrue result ↔ (IsValid a.now × IsValid b.now) }
+{
+    bks_set_test(a) && bks_set_test(b)
+}
 
 /// A builder of the set of these ends.
 fn builder_of(alloc: Global, ends: &[u32]) -> Result<CodePointInversionListBuilder, MemoryError>
@@ -19,7 +26,7 @@ fn builder_of(alloc: Global, ends: &[u32]) -> Result<CodePointInversionListBuild
     Ok(builder)
 }
 
-/// What both hold, or either of them.
+/// What one of them holds, or both.
 fn union_of(
     alloc: Global,
     a: &[u32],
@@ -83,8 +90,8 @@ fn symmetric_difference_of(
     builder.build()
 }
 
-/// The union of two sets (`uset_addAll`): how many ends it has, and as many of them in the buffer as
-/// there is room for.
+/// The union of two sets (`uset_addAll`): how many ends it has, and as many of them in the buffer
+/// as there is room for.
 ///
 /// # Errors
 /// -1 where memory was refused; -2 where one of the lists is no set ([`bks_set_test`]). The buffer
@@ -94,7 +101,7 @@ pub extern "C" fn bks_set_union(alloc: Global, a: &[u32], b: &[u32], ends: &mut 
     ensures { AnswersEnds (IsValid a.now × IsValid b.now) (Acts either a.now (holds b.now))
         ends.old ends.new result }
 {
-    if !bks_set_test(a) || !bks_set_test(b) {
+    if !are_sets(a, b) {
         return -2;
     }
     match union_of(alloc, a, b) {
@@ -109,7 +116,7 @@ pub extern "C" fn bks_set_intersection(alloc: Global, a: &[u32], b: &[u32], ends
     ensures { AnswersEnds (IsValid a.now × IsValid b.now) (Acts both a.now (holds b.now))
         ends.old ends.new result }
 {
-    if !bks_set_test(a) || !bks_set_test(b) {
+    if !are_sets(a, b) {
         return -2;
     }
     match intersection_of(alloc, a, b) {
@@ -124,7 +131,7 @@ pub extern "C" fn bks_set_difference(alloc: Global, a: &[u32], b: &[u32], ends: 
     ensures { AnswersEnds (IsValid a.now × IsValid b.now) (Acts without a.now (holds b.now))
         ends.old ends.new result }
 {
-    if !bks_set_test(a) || !bks_set_test(b) {
+    if !are_sets(a, b) {
         return -2;
     }
     match difference_of(alloc, a, b) {
@@ -144,7 +151,7 @@ pub extern "C" fn bks_set_symmetric_difference(
     ensures { AnswersEnds (IsValid a.now × IsValid b.now) (Acts one_of a.now (holds b.now))
         ends.old ends.new result }
 {
-    if !bks_set_test(a) || !bks_set_test(b) {
+    if !are_sets(a, b) {
         return -2;
     }
     match symmetric_difference_of(alloc, a, b) {

@@ -57,11 +57,12 @@ pub extern "C" fn bks_set_size(alloc: Global, ends: &[u32]) -> i64
     }
 }
 
-/// How many bytes the longest front of a UTF-8 text has whose characters are all in the set of these
-/// ends, or, for `held` false, all not in it (`uset_spanUTF8`). A character ends there.
+/// How many bytes the longest front of a UTF-8 text has whose characters are all in the set of
+/// these ends, or, for `held` false, all not in it (`uset_spanUTF8`). A character ends there.
 ///
 /// # Errors
-/// -1 where memory was refused; -2 where the ends are those of no set; -3 where the text is no UTF-8.
+/// -1 where memory was refused; -2 where the ends are those of no set; -3 where the text is no
+/// UTF-8.
 #[unsafe(no_mangle)]
 pub extern "C" fn bks_set_span(alloc: Global, ends: &[u32], text: &[u8], held: bool) -> i64
     ensures { AnswersSpan (IsValid ends.now) (IsUtf8 text.now)
