@@ -1,4 +1,4 @@
--- The bytes of index and data of a trie that bytes begin with.
+-- Where index and data stand of a trie that bytes begin with, and what is kept of it.
 use Rattle.std.proofs.Common.{◌≡◌, ◌∙◌, refl, sym, ap, subst, ℕ, ◌+◌, ◌-◌, ◌*◌, ◌/◌, ◌<◌, ◌≤◌, Bool, true, false, List, length, take, drop, Option, Some, arith}
 use Rattle.std.specs.Prelude.{Result, Ok, Err, nat_eq, nat_lt, if◌then◌else◌}
 use Rattle.std.proofs.lemmas.Bool.{eqb-true, ltb-false}
@@ -6,74 +6,97 @@ use Rattle.std.proofs.lemmas.List.{drop-drop, length-drop, length-take-le}
 use Rattle.icu_zerovec.specs.Cells.{values_of}
 use Rattle.icu_zerovec.specs.FirstFault.{and_then}
 use Rattle.icu_zerovec.specs.PackedBytes.{number_of}
-use Rattle.icu_trie_binary.specs.BinaryHeader.{data_size, header_of, index_size, stored_header, stored_length, width_bytes}
-use Rattle.icu_trie_binary.specs.BinaryTrie.{data_bytes, index_bytes, index_of, IsStored}
-use Rattle.icu_trie_binary.specs.declared.header.BinaryHeader.{BinaryHeader}
+use Rattle.icu_trie.specs.Parts.{Parts}
+use Rattle.icu_trie_core.specs.Format.{fast_limit}
+use Rattle.icu_trie_core.specs.declared.header.CodePointTrieHeader.{CodePointTrieHeader}
+use Rattle.icu_trie_core.specs.declared.header.TrieType.{TrieType}
+use Rattle.icu_trie_core.specs.declared.header.TrieType.TheVariants.{Fast, Small}
+use Rattle.icu_trie_binary.specs.BinaryHeader.{data_size, header_of as read_header, index_size, stored_header, stored_length, width_bytes}
+use Rattle.icu_trie_binary.specs.BinaryTrie.{index_bytes, IsStored, IsUnsignedStored}
 use Rattle.icu_trie_binary.specs.declared.error.BinaryError.{BinaryError}
 use Rattle.icu_trie_binary.specs.declared.error.BinaryError.TheVariants.{CutOff, OtherWidth}
+use Rattle.icu_collections_c.specs.declared.tries.Trie.{Trie}
+use Rattle.icu_collections_c.specs.BytesTrie.{cells_of, parts_of, type_of, value_width}
+use Rattle.icu_collections_c.specs.Opening.{IsOpened}
 use Rattle.icu_collections_c.proofs.CellLemmas.{length-values_of}
 
--- what was read of a header that has its cells
-record Reads (w : ℕ) (b : List ℕ) (h : BinaryHeader) (n : ℕ) : Type 0 where
-  width : width_bytes h.value_width ≡ w
-  within : stored_length h ≤ length b
-  length_is : n ≡ stored_length h
+-- a header h that was read, whose trie takes n of the bytes
+record Reads {H : Type 0} (width_of stored : H → ℕ) (w : ℕ) (b : List ℕ) (h : H) (n : ℕ) : Type 0 where
+  width : width_of h ≡ w
+  within : stored h ≤ length b
+  size : n ≡ stored h
 
--- the answer of a test that gives a pair
-first_of_pair : Result (BinaryHeader × ℕ) BinaryError → BinaryHeader → BinaryHeader
-first_of_pair (Ok p) h = p.0
-first_of_pair (Err e) h = h
+module _ {H : Type 0} where
+  first_of : Result (H × ℕ) BinaryError → H → H
+  first_of (Ok p) h = p.0
+  first_of (Err e) h = h
 
-second_of_pair : Result (BinaryHeader × ℕ) BinaryError → ℕ → ℕ
-second_of_pair (Ok p) n = p.1
-second_of_pair (Err e) n = n
+  second_of : Result (H × ℕ) BinaryError → ℕ → ℕ
+  second_of (Ok p) n = p.1
+  second_of (Err e) n = n
 
-tested : (x y : Bool) (g h : BinaryHeader) (m n w : ℕ) (b : List ℕ)
-    → nat_eq (width_bytes g.value_width) w ≡ x → nat_lt (length b) (stored_length g) ≡ y → m ≡ stored_length g
-    → (if x then (if y then Err CutOff else Ok (g, m)) else Err OtherWidth) ≡ Ok (h, n) → Reads w b h n
-tested true true g h m n w b p q r e = cc
-tested false y g h m n w b p q r e = cc
-tested true false g h m n w b p q r e =
-    let same : g ≡ h = ap (λ r. first_of_pair r g) e in
-    let many : m ≡ n = ap (λ r. second_of_pair r m) e in
-    let P : BinaryHeader → Type 0 = λ k. Reads w b k n in
-    subst P same (record { width = eqb-true _ _ p; within = ltb-false _ _ q; length_is = sym many ∙ r })
+  -- what is answered by two tests
+  abbrev tests : Bool → Bool → H × ℕ → Result (H × ℕ) BinaryError
+  tests x y p = if x then (if y then Err CutOff else Ok p) else Err OtherWidth
 
-reads_of : (r : Result BinaryHeader BinaryError) (w n : ℕ) (b : List ℕ) (h : BinaryHeader)
-    → and_then r (λ g. if nat_eq (width_bytes g.value_width) w
-    then (if nat_lt (length b) (stored_length g) then Err CutOff else Ok (g, stored_length g)) else Err OtherWidth) ≡ Ok (h, n)
-    → Reads w b h n
-reads_of (Err x) w n b h e = cc
-reads_of (Ok g) w n b h e = tested _ _ g h _ n w b refl refl refl e
+  tested : (width_of stored : H → ℕ) (x y : Bool) (g h : H) (n w : ℕ) (b : List ℕ) → nat_eq (width_of g) w ≡ x → nat_lt (length b) (stored g) ≡ y
+      → tests x y (g, stored g) ≡ Ok (h, n) → Reads width_of stored w b h n
+  unfolding first_of second_of
+  tested width_of stored false y g h n w b p q e = cc
+  tested width_of stored true true g h n w b p q e = cc
+  tested width_of stored true false g h n w b p q e =
+      let same : g ≡ h = ap (λ r. first_of r g) e in
+      let many : stored g ≡ n = ap (λ r. second_of r n) e in
+      let P : H → Type 0 = λ k. Reads width_of stored w b k n in
+      subst P same (record { width = eqb-true _ _ p; within = ltb-false _ _ q; size = sym many })
 
-reads_stored : (w n : ℕ) (b : List ℕ) (h : BinaryHeader) → stored_header w b ≡ Ok (h, n) → Reads w b h n
-unfolding stored_header
-reads_stored w n b h e = reads_of (header_of b) w n b h e
+  reads_of : (r : Result H BinaryError) (width_of stored : H → ℕ) (w n : ℕ) (b : List ℕ) (h : H)
+      → and_then {B = H × ℕ} r (λ g. tests (nat_eq (width_of g) w) (nat_lt (length b) (stored g)) (g, stored g)) ≡ Ok (h, n)
+      → Reads width_of stored w b h n
+  reads_of (Err x) width_of stored w n b h e = cc
+  reads_of (Ok g) width_of stored w n b h e = tested width_of stored _ _ g h n w b refl refl e
+
+-- the index and the values in n bytes, by how many cells the index has
+pub record Places {T : Type 0} (unpack : List ℕ → Option T) (w : ℕ) (b index : List ℕ) (values : List T) (n : ℕ) : Type 0 where
+  pub within : 16 + 2 * length index ≤ n
+  pub fits : n ≤ length b
+  pub index_read : values_of (λ c. Some (number_of 2 c)) 2 (take (16 + 2 * length index - 16) (drop 16 b)) ≡ index
+  pub values_read : values_of unpack w (take (n - (16 + 2 * length index)) (drop (16 + 2 * length index) b)) ≡ values
 
 module _ {T : Type 0} (unpack : List ℕ → Option T) (w : ℕ) (number : T → ℕ) (of_number : ℕ → Option T) where
-  -- where the cells stand, by how many the index has
-  pub record Places (b : List ℕ) (index : List ℕ) (values : List T) (n : ℕ) : Type 0 where
-    pub within : 16 + 2 * length index ≤ n
-    pub fits : n ≤ length b
-    pub index_read : values_of (λ c. Some (number_of 2 c)) 2 (take (16 + 2 * length index - 16) (drop 16 b)) ≡ index
-    pub values_read : values_of unpack w (take (n - (16 + 2 * length index)) (drop (16 + 2 * length index) b)) ≡ values
-
-  places_of : (b index : List ℕ) (values : List T) (n : ℕ) (h : BinaryHeader) → Reads w b h n → index ≡ index_of h b
-      → values ≡ values_of unpack w (data_bytes h b) → Places b index values n
-  places_of b index values n h r is has =
-      let long : length (index_bytes h b) ≡ index_size h = length-take-le (index_size h) (drop 16 b) (omega (arith, r.within, length-drop 16 b)) in
-      let count : length index ≡ index_size h / 2 = ap length is ∙ length-values_of (λ c. Some (number_of 2 c)) 2 (λ _. refl) (index_bytes h b) ∙ ap (λ k. k / 2) long in
-      let whole : 2 * length index ≡ index_size h = omega arith in
-      let from : 16 + 2 * length index - 16 ≡ index_size h = omega arith in
-      let left : n - (16 + 2 * length index) ≡ data_size h = omega (arith, r.length_is) in
-      let past : drop (16 + 2 * length index) b ≡ drop (index_size h) (drop 16 b) =
-      ap (λ k. drop k b) (omega arith) ∙ sym (drop-drop (index_size h) 16 b) in
+  pub places-stored : (b : List ℕ) (t : Parts T) (n : ℕ) → IsStored unpack w number of_number b t n → Places unpack w b t.index t.values n
+  unfolding stored_header
+  places-stored b t n s =
+      let h = s.header in
+      let reads = reads_of (read_header b) (λ g. width_bytes g.value_width) stored_length w n b h s.reads in
+      let is = ap (λ (p : Parts T). p.index) s.trie in
+      let has = ap (λ (p : Parts T). p.values) s.trie in
+      let long : length (index_bytes h b) ≡ index_size h = length-take-le (index_size h) (drop 16 b) (omega (arith, reads.within, length-drop 16 b)) in
+      let count : length t.index ≡ index_size h / 2 =
+      ap length is ∙ length-values_of (λ c. Some (number_of 2 c)) 2 (λ _. refl) (index_bytes h b) ∙ ap (λ k. k / 2) long in
+      let whole : 2 * length t.index ≡ index_size h = omega (arith, count) in
+      let from : 16 + 2 * length t.index - 16 ≡ index_size h = omega (arith, whole) in
+      let left : n - (16 + 2 * length t.index) ≡ data_size h = omega (arith, reads.size, whole) in
+      let far : 16 + 2 * length t.index ≡ index_size h + 16 = omega (arith, whole) in
+      let past : drop (index_size h) (drop 16 b) ≡ drop (index_size h + 16) b = drop-drop (index_size h) 16 b ∙ ap (λ k. drop k b) (omega arith) in
       record {
-        within = omega (arith, r.length_is);
-        fits = omega (arith, r.length_is, r.within);
+        within = omega (arith, reads.size, whole);
+        fits = omega (arith, reads.size, reads.within);
         index_read = rw from (sym is);
-        values_read = rw (left, past) (sym has);
+        values_read = rw (left, far) (ap (λ d. values_of unpack w (take (data_size h) d)) (sym past) ∙ sym has);
       }
 
-  pub places-stored : (b : List ℕ) (t : _) (n : ℕ) → IsStored unpack w number of_number b t n → Places b t.index t.values n
-  places-stored b t n s = rw s.trie (places_of b _ _ n s.header (reads_stored w n b s.header s.reads) refl refl)
+-- what is kept is the trie that was found
+pub opened-kept : (width : ℕ) (b : List ℕ) (kept : Trie) (t : Parts ℕ) (n : ℕ) → value_width width ≡ width → IsUnsignedStored width b t n
+    → parts_of width kept ≡ t → kept.width ≡ width → kept.size ≡ n → IsOpened b kept
+opened-kept width b kept t n one stored parts is many = record { width = rw is one; stored = rw (is, parts, many) stored }
+
+-- the type of a trie is told by its fast limit
+pub type-of_limit : (kind : TrieType) → type_of (fast_limit kind) ≡ kind
+type-of_limit Fast = refl
+type-of_limit Small = refl
+
+-- a trie is told by its parts
+pub parts-told : {T : Type 0} (unpack : List ℕ → Option T) (w : ℕ) (header : CodePointTrieHeader) (index values : List ℕ) (t : Parts T) → header ≡ t.header → cells_of 2 index ≡ t.index
+    → values_of unpack w values ≡ t.values → (let p : Parts T = record { header = header; index = cells_of 2 index; values = values_of unpack w values } in p) ≡ t
+parts-told unpack w header index values t h i v = rw (h, i, v) refl

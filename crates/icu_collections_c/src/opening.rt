@@ -1,5 +1,5 @@
 //! Tries from ICU's binary form.
-ghost use Rattle.std.specs.Prelude.{◌≡◌, ◌≢◌, IfOk, IfErr};
+ghost use Rattle.std.specs.Prelude.{◌≡◌, ◌≢◌, ◌-◌, ◌≤◌, IfOk, IfErr, drop, length, take};
 ghost use Rattle.icu_trie_binary.specs.BinaryTrie.{IsStored, IsWhyNoneStored};
 ghost use Rattle.icu_collections_c.specs.BytesTrie.{IsNoTrie, parts_in};
 ghost use Rattle.icu_collections_c.specs.Opening.{IsOpened, IsRefused, parts_status, status_of};
@@ -59,6 +59,18 @@ fn no_trie<'a>(bytes: &'a [u8]) -> Trie<'a>
     }
 }
 
+/// The bytes from behind a header to `start`, and those from there to `end`.
+#[inline(always)]
+fn parts_between(bytes: &[u8], start: usize, end: usize) -> (&[u8], &[u8])
+    requires from { 16 ≤ start }
+    requires within { start ≤ end }
+    requires fits { end ≤ length bytes.now }
+    ensures index { result.0.now ≡ take (start - 16) (drop 16 bytes.now) }
+    ensures values { result.1.now ≡ take (end - start) (drop start bytes.now) }
+{
+    (&bytes[16..start], &bytes[start..end])
+}
+
 /// The trie that was found at the front of the bytes, as C keeps it.
 fn kept<'a, T: UnsignedValue>(
     bytes: &'a [u8],
@@ -72,10 +84,10 @@ fn kept<'a, T: UnsignedValue>(
     ensures size { result.size ≡ size }
 {
     let (header, index, _) = trie.parts();
-    let start = 16 + 2 * index.len();
+    let (index, values) = parts_between(bytes, 16 + 2 * index.len(), size);
     Trie {
-        index: &bytes[16..start],
-        values: &bytes[start..size],
+        index,
+        values,
         size,
         fast_limit: header.trie_type.fast_limit(),
         high_start: header.high_start,

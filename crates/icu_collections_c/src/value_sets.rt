@@ -31,10 +31,10 @@ fn set_of<T: UnsignedValue>(
 ) -> Result<CodePointInversionList<'static>, MemoryError>
     ensures { IfOk result (IsSetOf T.of_number trie.now number) }
 {
-    match T::try_from_u32(number) {
-        Ok(value) => trie.get_set_for_value(alloc, value),
-        Err(_) => CodePointInversionListBuilder::new(alloc).build(),
-    }
+    let Some(value) = T::try_from_u32(number).ok() else {
+        return CodePointInversionListBuilder::new(alloc).build();
+    };
+    trie.get_set_for_value(alloc, value)
 }
 
 /// `bks_trie_set` of such values.
