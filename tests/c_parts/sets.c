@@ -89,7 +89,7 @@ static void spans(const set_table *s) {
             text[size++] = (char)c;
         } else {
             int more = c < 0x800 ? 1 : c < 0x10000 ? 2 : 3;
-            text[size++] = (char)((0xF00 >> more & 0xFF) | c >> 6 * more);
+            text[size++] = (char)((0xFF00u >> (more + 1) & 0xFF) | c >> 6 * more);
             while (more-- > 0) text[size++] = (char)(0x80 | (c >> 6 * more & 0x3F));
         }
         for (int held = 0; held < 2; held++) {
