@@ -81,6 +81,8 @@ class Tries(unittest.TestCase):
         faults["UNKNOWN_WIDTH"] = data[:4] + bytes([data[4] | 7]) + data[5:]
         faults["UNKNOWN_TYPE"] = data[:4] + bytes([data[4] | 0xC0]) + data[5:]
         faults["SHORT_INDEX"] = data[:6] + b"\1\0" + data[8:]
+        faults["EMPTY_DATA"] = data[:8] + b"\0\0" + data[10:]
+        faults["SHORT_DATA"] = data[:8] + b"\x40\0" + data[10:]
         for name, fault in faults.items():
             with self.assertRaises(TrieRefused) as told:
                 Trie(bytes(fault))

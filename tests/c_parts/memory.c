@@ -1,0 +1,82 @@
+/* The calls that take memory, with each of their requests refused in turn, by malloc and realloc of
+   this program's own (linked with --wrap): a refusal is told, the buffer stays, and what was taken
+   is given back. Usage: memory TRIE.. */
+#include "parts.h"
+
+void *__real_malloc(size_t size);
+void *__real_realloc(void *block, size_t size);
+void __real_free(void *block);
+void *__wrap_malloc(size_t size);
+void *__wrap_realloc(void *block, size_t size);
+void __wrap_free(void *block);
+
+static long left = -1, requests, taken;
+
+/* Whether this request is the one to be refused. */
+static bool refuses(void) {
+    requests++;
+    return left >= 0 && left-- == 0;
+}
+
+void *__wrap_malloc(size_t size) {
+    void *block = refuses() ? NULL : __real_malloc(size);
+    taken += block != NULL;
+    return block;
+}
+
+void *__wrap_realloc(void *block, size_t size) {
+    void *moved = refuses() ? NULL : __real_realloc(block, size);
+    taken += block == NULL && moved != NULL;
+    return moved;
+}
+
+void __wrap_free(void *block) {
+    taken -= block != NULL;
+    __real_free(block);
+}
+
+static const uint32_t a[] = {0, 9, 20, 30, 40, 0x110000}, b[] = {5, 25, 0x4E00, 0x5000};
+static bks_trie trie;
+static uint32_t ends[4096];
+
+typedef int64_t (*call)(void);
+static int64_t set_of(void) { return bks_trie_set(&trie, called(&trie, 0x41), ends, 4096); }
+static int64_t set_of_none(void) { return bks_trie_set(&trie, 0xFFFFFFFE, ends, 4096); }
+static int64_t size(void) { return bks_set_size(a, 6); }
+static int64_t span(void) { return bks_set_span(a, 6, "\1\2z\t", 4, true); }
+static int64_t both(void) { return bks_set_intersection(a, 6, b, 4, ends, 4096); }
+static int64_t either(void) { return bks_set_union(a, 6, b, 4, ends, 4096); }
+static int64_t without(void) { return bks_set_difference(a, 6, b, 4, ends, 4096); }
+static int64_t one_of(void) { return bks_set_symmetric_difference(a, 6, b, 4, ends, 4096); }
+
+/* How many requests the call makes, each of which was refused once. */
+static long refused_in_turn(call tried) {
+    long before = taken, made;
+    requests = 0;
+    int64_t wanted = tried();
+    made = requests;
+    CHECK(wanted >= 0 && taken == before);
+    for (long n = 0; n < made; n++) {
+        memset(ends, 0x77, sizeof ends);
+        left = n;
+        CHECK(tried() == BKS_NO_MEMORY && taken == before);
+        for (size_t i = 0; i < 4096; i++) CHECK(ends[i] == 0x77777777);
+    }
+    left = -1;
+    CHECK(tried() == wanted && taken == before);
+    return made;
+}
+
+int main(int count, char **words) {
+    static const call calls[] = {set_of, set_of_none, size, span, both, either, without, one_of};
+    long made = 0;
+    for (int i = 1; i < count; i++) {
+        size_t bytes;
+        uint8_t *found = file_bytes(words[i], &bytes);
+        CHECK(bks_open(&trie, found, bytes) == BKS_OK);
+        for (size_t k = 0; k < sizeof calls / sizeof calls[0]; k++) made += refused_in_turn(calls[k]);
+    }
+    CHECK(made > 0);
+    printf("%ld requests for memory refused\n", made);
+    return 0;
+}
