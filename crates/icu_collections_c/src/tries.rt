@@ -1,9 +1,11 @@
 //! Tries over bytes: look-ups.
-ghost use Rattle.std.specs.Prelude.{◌≡◌, ℕ, List, length, map, min, unwrap_or};
+ghost use Rattle.std.specs.Prelude.{◌≡◌, length, map, min, unwrap_or};
+ghost use Rattle.std.specs.Option.{option_or};
 ghost use Rattle.icu_zerovec.specs.Cells.{values_of};
+ghost use Rattle.icu_trie_core.specs.Format.{answer};
 ghost use Rattle.icu_trie.specs.Parts.{last_cell, trie_value};
 ghost use Rattle.icu_collections_c.specs.Buffers.{written};
-ghost use Rattle.icu_collections_c.specs.BytesTrie.{header_of, parts_in, value_at};
+ghost use Rattle.icu_collections_c.specs.BytesTrie.{cells_of, header_of, parts_in, value_at};
 
 use crate::cells::{UnsignedValue, last_value, look_up_in};
 use icu_trie_core::header::{CodePointTrieHeader, TrieType};
@@ -55,15 +57,32 @@ pub(crate) fn header_of(trie: &Trie<'_>) -> CodePointTrieHeader
     }
 }
 
-/// The value of `c`: the format's answer, or else the last cell. `None` where there is no cell.
+/// The value of `c` in bytes: the format's answer, or else the last cell. `None` where there is no
+/// cell.
+#[inline(always)]
+fn value_of<T: UnsignedValue>(
+    header: &CodePointTrieHeader,
+    index: &[u8],
+    values: &[u8],
+    c: u32,
+) -> Option<T>
+    ensures { result
+        ≡ option_or
+        (answer header.now (cells_of 2 index.now) (values_of T.unpack T.WIDTH values.now) c)
+        (last_cell (values_of T.unpack T.WIDTH values.now)) }
+{
+    match look_up_in(header, index, values, c) {
+        Some(value) => Some(value),
+        None => last_value(values),
+    }
+}
+
+/// The value of `c` in a trie of such values. `None` where there is no cell.
 #[inline(always)]
 fn value_in<T: UnsignedValue>(trie: &Trie<'_>, c: u32) -> Option<T>
     ensures { result ≡ trie_value (parts_in T.unpack T.WIDTH trie.now) c }
 {
-    match look_up_in(&header_of(trie), trie.index, trie.values, c) {
-        Some(value) => Some(value),
-        None => last_value(trie.values),
-    }
+    value_of(&header_of(trie), trie.index, trie.values, c)
 }
 
 /// Writes the values of code points into the front of a buffer, as many as it has room for, and
@@ -82,8 +101,9 @@ fn write_values<T: UnsignedValue>(
         values.old }
 {
     let count = points.len().min(values.len());
+    let (header, index, cells) = (header_of(trie), trie.index, trie.values);
     for i in 0..count {
-        values[i] = value_in(trie, points[i]).unwrap_or(none);
+        values[i] = value_of(&header, index, cells, points[i]).unwrap_or(none);
     }
     count
 }

@@ -12,7 +12,8 @@ loop-i-preserved g c =
     let i = c.loop-i.i in
     let asked : i < length c.args.points.now = omega (arith, c.loop-i-test.true, c.min-count.ensures) in
     let room : i < length c.args.values.now = omega (arith, c.loop-i-test.true, c.min-count.ensures) in
-    let found : c.unwrap_or.result ≡ value (get_or c.args.points.now i 0) = c.unwrap_or.ensures ∙ ap (λ o. unwrap_or o c.args.none) c.value_in.ensures in
+    let found : c.unwrap_or.result ≡ value (get_or c.args.points.now i 0) =
+    c.unwrap_or.ensures ∙ ap (λ o. unwrap_or o c.args.none) (rw c.header_of-header.ensures at c.value_of.ensures) in
     rw (c.loop-i.invariant, found) (filled_more value c.args.points.now c.args.values.now i 0 asked room)
 
 pub returns-clause-values : goal.returns-clause-values
