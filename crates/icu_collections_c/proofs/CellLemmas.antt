@@ -1,5 +1,5 @@
 -- Cells of bytes, each of which is a value.
-use Rattle.std.proofs.Common.{◌≡◌, ℕ, zero, suc, ◌+◌, ◌*◌, ◌/◌, ◌<◌, ◌≤◌, List, [], ◌∷◌, ◌++◌, length, take, drop, slice_get, Option, Some, None, refl, arith, sym, ◌∙◌, ap}
+use Rattle.std.proofs.Common.{◌≡◌, ℕ, zero, suc, ◌*◌, ◌/◌, ◌<◌, ◌≤◌, List, ◌++◌, length, take, drop, slice_get, Option, Some, None, refl, arith, sym, ◌∙◌, ap}
 use Rattle.std.specs.Prelude.{IsSome}
 use Rattle.std.specs.Option.{option_to_list}
 use Rattle.std.proofs.Math.Nat.{zero-mul, suc-mul}

@@ -1,5 +1,5 @@
 -- A set has no more members than there are code points.
-use Rattle.std.proofs.Common.{◌<◌, ◌≤◌, ◌^◌, ◌∙◌, ap, arith, rules, w64}
+use Rattle.std.proofs.Common.{◌≤◌, ◌∙◌, ap, arith, rules, w64}
 use Rattle.std.proofs.lemmas.Int.{ints, to_z_pos}
 use Rattle.icu_zerovec.specs.CodePoints.{code_point_limit}
 use Rattle.icu_invlist.specs.InversionList.{members_below}
