@@ -1,5 +1,5 @@
 -- Where index and data stand of a trie that bytes begin with, and what is kept of it.
-use Rattle.std.proofs.Common.{◌≡◌, ◌∙◌, refl, sym, ap, subst, ℕ, ◌+◌, ◌-◌, ◌*◌, ◌/◌, ◌≤◌, Bool, true, false, List, length, take, drop, Option, Some, arith}
+use Rattle.std.proofs.Common.{◌≡◌, ◌∙◌, refl, sym, ap, subst, ℕ, ◌+◌, ◌-◌, ◌*◌, ◌/◌, ◌%◌, ◌≤◌, Bool, true, false, List, length, take, drop, Option, Some, arith}
 use Rattle.std.specs.Prelude.{Result, Ok, Err, nat_eq, nat_lt, if◌then◌else◌}
 use Rattle.std.proofs.lemmas.Bool.{eqb-true, ltb-false}
 use Rattle.std.proofs.lemmas.List.{drop-drop, length-drop, length-take-le}
@@ -16,7 +16,7 @@ use Rattle.icu_trie_binary.specs.BinaryTrie.{index_bytes, IsStored, IsUnsignedSt
 use Rattle.icu_trie_binary.specs.declared.error.BinaryError.{BinaryError}
 use Rattle.icu_trie_binary.specs.declared.error.BinaryError.TheVariants.{CutOff, OtherWidth}
 use Rattle.icu_collections_c.specs.declared.tries.Trie.{Trie}
-use Rattle.icu_collections_c.specs.BytesTrie.{cells_of, parts_of, type_of, value_width}
+use Rattle.icu_collections_c.specs.BytesTrie.{IsSoundOf, cells_of, parts_of, type_of, value_width}
 use Rattle.icu_collections_c.specs.Opening.{IsOpened}
 use Rattle.icu_collections_c.proofs.CellLemmas.{length-values_of}
 
@@ -60,6 +60,8 @@ module _ {H : Type 0} where
 pub record Places {T : Type 0} (unpack : List ℕ → Option T) (w : ℕ) (b index : List ℕ) (values : List T) (n : ℕ) : Type 0 where
   pub within : 16 + 2 * length index ≤ n
   pub fits : n ≤ length b
+  pub index_whole : length (take (16 + 2 * length index - 16) (drop 16 b)) % 2 ≡ 0
+  pub values_whole : length (take (n - (16 + 2 * length index)) (drop (16 + 2 * length index) b)) % w ≡ 0
   pub index_read : values_of (λ c. Some (number_of 2 c)) 2 (take (16 + 2 * length index - 16) (drop 16 b)) ≡ index
   pub values_read : values_of unpack w (take (n - (16 + 2 * length index)) (drop (16 + 2 * length index) b)) ≡ values
 
@@ -82,14 +84,18 @@ module _ {T : Type 0} (unpack : List ℕ → Option T) (w : ℕ) (number : T →
       record {
         within = omega (arith, reads.size, whole);
         fits = omega (arith, reads.size, reads.within);
+        index_whole = rw (from, long) (omega arith);
+        values_whole = rw (left, far) (ap (λ d. length (take (data_size h) d) % w) (sym past) ∙ s.packed.whole);
         index_read = rw from (sym is);
         values_read = rw (left, far) (ap (λ d. values_of unpack w (take (data_size h) d)) (sym past) ∙ sym has);
       }
 
 -- what is kept is the trie that was found
 pub opened-kept : (width : ℕ) (b : List ℕ) (kept : Trie) (t : Parts ℕ) (n : ℕ) → value_width width ≡ width → IsUnsignedStored width b t n
-    → parts_of width kept ≡ t → kept.width ≡ width → kept.size ≡ n → IsOpened b kept
-opened-kept width b kept t n one stored parts is many = record { width = rw is one; stored = rw (is, parts, many) stored }
+    → parts_of width kept ≡ t → IsSoundOf width kept → kept.width ≡ width → kept.size ≡ n → IsOpened b kept
+opened-kept width b kept t n one stored parts sound is many =
+    let P : ℕ → Type 0 = λ k. IsSoundOf k kept in
+    record { width = rw is one; stored = rw (is, parts, many) stored; sound = subst P (sym is) sound }
 
 -- the type of a trie is told by its fast limit
 pub type-of_limit : (kind : TrieType) → type_of (fast_limit kind) ≡ kind

@@ -28,10 +28,10 @@ AnswersNumber sound n (negsuc zero) = sound
 AnswersNumber sound n (negsuc (suc zero)) = ¬ sound
 AnswersNumber sound n (negsuc (suc (suc k))) = ⊥
 
--- the same of a set and a text, which may be no text: -3
-abbrev pub AnswersSpan : Type 0 → Type 0 → ℕ → ℤ → Type 0
-AnswersSpan sound text n (pos k) = sound × text × (k ≡ n)
-AnswersSpan sound text n (negsuc zero) = sound × text
-AnswersSpan sound text n (negsuc (suc zero)) = ¬ sound
-AnswersSpan sound text n (negsuc (suc (suc zero))) = sound × ¬ text
-AnswersSpan sound text n (negsuc (suc (suc (suc k)))) = ⊥
+-- the same of a set and a text, which may be no text: -3. The number is a place of the text
+abbrev pub AnswersSpan : Type 0 → Type 0 → ℕ → (ℕ → Type 0) → ℤ → Type 0
+AnswersSpan sound text n is_place (pos k) = sound × text × (k ≡ n) × is_place k
+AnswersSpan sound text n is_place (negsuc zero) = sound × text
+AnswersSpan sound text n is_place (negsuc (suc zero)) = ¬ sound
+AnswersSpan sound text n is_place (negsuc (suc (suc zero))) = sound × ¬ text
+AnswersSpan sound text n is_place (negsuc (suc (suc (suc k)))) = ⊥

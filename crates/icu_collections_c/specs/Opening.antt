@@ -6,7 +6,7 @@ use Rattle.icu_trie_binary.specs.BinaryTrie.{IsUnsignedStored, IsWhyNoneStored}
 use Rattle.icu_trie_binary.specs.declared.error.BinaryError.{BinaryError}
 use Rattle.icu_trie_binary.specs.declared.error.BinaryError.TheVariants.{Short, Signature, Swapped, UnknownType, UnknownWidth, Reserved, OtherWidth, CutOff, Cell, Trie}
 use Rattle.icu_collections_c.specs.declared.tries.Trie as kept
-use Rattle.icu_collections_c.specs.BytesTrie.{parts_of, value_width}
+use Rattle.icu_collections_c.specs.BytesTrie.{IsSoundOf, parts_of, value_width}
 
 -- the numbers of the faults, as bekstaudi.h names them
 abbrev pub parts_status : CodePointTrieError → ℕ
@@ -28,10 +28,12 @@ status_of CutOff = 8
 status_of (Cell i) = 9
 status_of (Trie e) = parts_status e
 
--- the trie is the one that the bytes begin with, of its width, and takes so many of them
+-- the trie is the one that the bytes begin with, of its width, and takes so many of them; so its
+-- cells are whole, and are those of a trie
 pub record IsOpened (bytes : List ℕ) (trie : kept.Trie) : Type 0 where
   pub width : value_width trie.width ≡ trie.width
   pub stored : IsUnsignedStored trie.width bytes (parts_of trie.width trie) trie.size
+  pub sound : IsSoundOf trie.width trie
 
 -- the bytes begin with no trie, and this is the number of their first fault
 pub record IsRefused (bytes : List ℕ) (status : ℕ) : Type 0 where

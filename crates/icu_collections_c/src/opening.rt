@@ -1,7 +1,7 @@
 //! Tries from ICU's binary form.
 ghost use Rattle.std.specs.Prelude.{◌≡◌, ◌≢◌, ◌-◌, ◌≤◌, IfOk, IfErr, drop, length, take};
 ghost use Rattle.icu_trie_binary.specs.BinaryTrie.{IsStored, IsWhyNoneStored};
-ghost use Rattle.icu_collections_c.specs.BytesTrie.{IsNoTrie, parts_in};
+ghost use Rattle.icu_collections_c.specs.BytesTrie.{IsNoTrie, IsSound, parts_in};
 ghost use Rattle.icu_collections_c.specs.Opening.{IsOpened, IsRefused, parts_status, status_of};
 
 use crate::cells::UnsignedValue;
@@ -80,6 +80,7 @@ fn kept<'a, T: UnsignedValue>(
 ) -> Trie<'a>
     requires { IsStored T.unpack T.WIDTH T.number T.of_number bytes.now trie.now size }
     ensures parts { parts_in T.unpack T.WIDTH result ≡ trie.now }
+    ensures sound { IsSound T.of_number T.unpack T.WIDTH result }
     ensures width { result.width ≡ width }
     ensures size { result.size ≡ size }
 {

@@ -1,7 +1,7 @@
 //! Sets of code points as lists of their ends.
 ghost use Rattle.std.specs.Prelude.{◌≡◌, ◌↔◌, IsTrue, length};
 ghost use Rattle.std.specs.List.{take_while};
-ghost use Rattle.std.specs.Str.{IsUtf8, chars, encode_utf8_all};
+ghost use Rattle.std.specs.Str.{IsCharBoundary, IsUtf8, chars, encode_utf8_all};
 ghost use mathlib.Core.Bool.{beq};
 ghost use Rattle.icu_zerovec.specs.CodePoints.{code_point_limit};
 ghost use Rattle.icu_invlist.specs.InversionList.{IsValid, holds, members_below};
@@ -67,7 +67,8 @@ pub extern "C" fn bks_set_size(alloc: Global, ends: &[u32]) -> i64
 pub extern "C" fn bks_set_span(alloc: Global, ends: &[u32], text: &[u8], held: bool) -> i64
     ensures { AnswersSpan (IsValid ends.now) (IsUtf8 text.now)
         (length (encode_utf8_all
-        (take_while (λ c. beq (holds ends.now c) held) (chars text.now)))) result }
+        (take_while (λ c. beq (holds ends.now c) held) (chars text.now))))
+        (IsCharBoundary text.now) result }
 {
     if !bks_set_test(ends) {
         return -2;
