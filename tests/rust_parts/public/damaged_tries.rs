@@ -35,6 +35,8 @@ fn ask<T: TrieValue + Debug>(trie: &CodePointTrie<'_, T>, random: &mut Random) {
         let c = random.below(0x11_1000) as u32;
         let answer = trie.get32(c);
         assert_eq!(trie.get32_u32(c), answer.to_u32());
+        let bytes = trie.get32_ule(c);
+        assert!(bytes.is_none_or(|it| T::from_unaligned(it) == Some(answer)));
         if let Some(c) = char::from_u32(c) {
             assert_eq!(trie.get(c), answer);
         }

@@ -100,7 +100,8 @@ pub fn watch() {
 pub fn ask<const WIDTH: usize>(trie: &CodePointTrie<'_, Liar<WIDTH>>) {
     for c in (0..0x11_0100).step_by(0x3FD) {
         tried(|| trie.get32(c));
-        tried(|| trie.get32_u32(c));
+        tried(|| (trie.get32_u32(c), trie.get32_supplementary(c)));
+        tried(|| trie.get32_ule(c).map(|it| it.len()));
         tried(|| char::from_u32(c).map(|c| trie.get(c)));
         tried(|| match trie.as_typed_ref() {
             Typed::Fast(typed) => typed.get16(c as u16),
