@@ -207,6 +207,8 @@ class Trie:
 
     def set_of(self, value):
         """The set of the code points in ranges of this value."""
+        if not 0 <= value < 1 << 32:
+            return CodePointSet()
         refusals = {-1: NoMemory, -2: NoTrie}
         return _set_answered(
             lambda ends, room: _lib.bks_trie_set(self._trie, value, ends, room), 64, refusals

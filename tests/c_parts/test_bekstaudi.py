@@ -71,7 +71,8 @@ class Tries(unittest.TestCase):
             wanted = [it[:2] for it in runs if it[2] == value]
             self.assertEqual(trie.set_of(value).ranges(), wanted)
             self.assertNotIn(77777777, [it[2] for it in runs])
-            self.assertEqual(trie.set_of(77777777), CodePointSet())
+            for absent in (77777777, -1, (1 << 32) + value):
+                self.assertEqual(trie.set_of(absent), CodePointSet())
 
     def test_faults_by_name(self):
         data = bytearray(read(NAMES[0]))
