@@ -1,3 +1,4 @@
+pub mod AsciiLemmas
 pub mod CallerLemmas
 pub mod FoundLemmas
 pub mod IndexLemmas

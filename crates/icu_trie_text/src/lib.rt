@@ -12,6 +12,7 @@
 //!   units, the first part of bytes
 #![tactic(auto)]
 
+mod ascii;
 mod find;
 mod first;
 mod first_utf16;
