@@ -7,7 +7,7 @@ use Rattle.std.proofs.Math.Seq.{take-append_seam}
 use Rattle.std.proofs.lemmas.Str.{len_utf8_bounds, length-encode}
 use Rattle.icu_trie_text.specs.Inside.Trails.{IsHighOfFour, IsHighOfThree, IsNoTrail, IsTrail}
 use Rattle.icu_trie_text.specs.Utf8.{BeginsCharacter, IsFirstPart, IsIllFormedPart}
-use Rattle.icu_trie_text.proofs.Utf8Table.{HasBytes, IsSecond, begins_four, begins_three, begins_two, four, longer_than_one, longer_than_three, longer_than_two, second_of_four, second_of_three, second_of_two, three, two}
+use Rattle.icu_trie_text.proofs.Utf8Table.{HasBytes, IsSecond, begins_four, begins_three, begins_two, four, longer_than_one, longer_than_three, longer_than_two, one, second_of_four, second_of_three, second_of_two, three, two}
 
 -- ---- characters
 -- a character and what follows it
@@ -17,6 +17,10 @@ found c own rest h = (
   sym (length-encode c) ∙ ap (λ (bs : List ℕ). length bs) h.encoded,
   ap (λ (bs : List ℕ). bs ++ rest) (sym h.encoded),
 )
+
+pub part_of_ascii : (bytes : List ℕ) → 0 < length bytes → get_or bytes 0 0 < 128 → IsFirstPart bytes (Some (get_or bytes 0 0)) 1
+part_of_ascii [] n h = absurd (omega arith)
+part_of_ascii (x ∷ rest) n h = let f = found x (x ∷ []) rest (one x h) in (f.0, sym f.1, f.2)
 
 pub two_found : (bytes : List ℕ) (a b : ℕ) → get_or bytes 0 0 ≡ 192 + a → 2 ≤ a → a < 32 → IsTrail bytes 1 b → IsFirstPart bytes (Some (a * 64 + b)) 2
 two_found [] a b e l h t = let n = t.there in absurd (omega arith)

@@ -33,6 +33,9 @@ pub record HasBytes (c : ℕ) (bytes : List ℕ) : Type 0 where
   pub scalar : IsScalar c
   pub encoded : encode_utf8 c ≡ bytes
 
+pub one : (c : ℕ) → c < 128 → HasBytes c (c ∷ [])
+one c h = record { scalar = scalar_low c (omega arith); encoded = encode_ascii c h }
+
 pub two : (a b : ℕ) → 2 ≤ a → a < 32 → b < 64 → HasBytes (a * 64 + b) ((192 + a) ∷ (128 + b) ∷ [])
 two a b l h s =
     let c = a * 64 + b in

@@ -5,7 +5,8 @@ ghost use Rattle.std.specs.Iterator.Runs.{EveryRun, ItemsMapTo};
 ghost use Rattle.std.specs.Str.{chars};
 ghost use Rattle.icu_trie_text.specs.Indices.{AreIndicesOf, GivesIndex, index_item, with_indices};
 
-use crate::first::first_character;
+use crate::ascii::AsciiInPlace;
+use crate::first::first_value;
 use icu_trie::cptrie::CodePointTrie;
 use icu_trie_core::value::TrieValue;
 use std::marker::Model;
@@ -14,7 +15,7 @@ use std::marker::Model;
 /// gives them. A clause sees those that are left, each with what the trie has for it.
 #[derive(Debug, Drop)]
 pub struct ValueIndicesOf<'a, T: TrieValue> {
-    trie: &'a CodePointTrie<'a, T>,
+    trie: AsciiInPlace<'a, T>,
     rest: &'a str,
     /// How many bytes the whole text has.
     end: usize,
@@ -27,7 +28,7 @@ impl<'a, T: TrieValue> Model for ValueIndicesOf<'a, T> {
 
     ghost Value = { List (ℕ × ℕ × Option T) };
 
-    ghost view = { λ a. with_indices a.trie.now (a.end - length a.rest.now) (chars a.rest.now) };
+    ghost view = { λ a. with_indices a.trie (a.end - length a.rest.now) (chars a.rest.now) };
 
     ghost invariant = { λ a. length a.rest.now ≤ a.end };
 }
@@ -52,7 +53,7 @@ pub fn value_indices_of<'a, T: TrieValue>(
     ensures runs { EveryRun (GivesIndex {T = T}) (λ p. ItemsMapTo p index_item p.from) }
 {
     ValueIndicesOf {
-        trie,
+        trie: AsciiInPlace::new(trie),
         rest: text,
         end: text.len(),
     }
@@ -68,8 +69,8 @@ impl<'a, T: TrieValue> Iterator for ValueIndicesOf<'a, T> {
     #[inline]
     fn next(&mut self) -> Option<(usize, char, T)> {
         let offset = self.end - self.rest.len();
-        let (first, rest) = first_character(self.rest)?;
+        let (item, rest) = first_value(&self.trie, self.rest)?;
         self.rest = rest;
-        Some((offset, first, self.trie.get(first)))
+        Some((offset, item.0, item.1))
     }
 }

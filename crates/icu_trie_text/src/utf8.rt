@@ -1,11 +1,12 @@
 //! The value of each character of bytes that may be ill-formed UTF-8.
-ghost use Rattle.std.specs.Prelude.{◌≡◌, ℕ, List, Some};
+ghost use Rattle.std.specs.Prelude.{◌≡◌, ◌<◌, ℕ, List, Some, length};
 ghost use Rattle.std.specs.Iterator.{Drains, item_count};
 ghost use Rattle.std.specs.Option.{unwrap_or};
 ghost use Rattle.std.specs.Str.{IsUtf8, chars};
-ghost use Rattle.icu_trie_text.specs.Utf8Values.{AreValuesOfBytes, GivesPart, part_value};
+ghost use Rattle.icu_trie_text.specs.Utf8Values.{AreValuesOfBytes, GivesPart, IsFirstItem, part_value};
 ghost use Rattle.icu_trie_text.specs.Values.{AreValuesOf};
 
+use crate::ascii::AsciiInPlace;
 use crate::first_utf8::first_part;
 use icu_trie::cptrie::CodePointTrie;
 use icu_trie_core::value::TrieValue;
@@ -15,7 +16,7 @@ use std::marker::Model;
 /// [`values_of_utf8`] gives them. A clause sees the bytes that are left, and the trie.
 #[derive(Debug, Drop)]
 pub struct ValuesOfUtf8<'a, T: TrieValue> {
-    trie: &'a CodePointTrie<'a, T>,
+    trie: AsciiInPlace<'a, T>,
     rest: &'a [u8],
 }
 
@@ -24,7 +25,7 @@ impl<'a, T: TrieValue> Model for ValuesOfUtf8<'a, T> {
 
     ghost Value = { BytesToValue T };
 
-    ghost view = { λ a. record { trie = a.trie.now; bytes = a.rest.now } };
+    ghost view = { λ a. record { trie = a.trie; bytes = a.rest.now } };
 }
 
 /// The characters of the bytes, from their front on, each with its value in the trie, as
@@ -50,13 +51,16 @@ pub fn values_of_utf8<'a, T: TrieValue>(
     ensures text { IsUtf8 bytes.now → (items : List (ℕ × T)) → Drains GivesPart result items
         → AreValuesOf trie.now (chars bytes.now) items }
 {
-    ValuesOfUtf8 { trie, rest: bytes }
+    ValuesOfUtf8 {
+        trie: AsciiInPlace::new(trie),
+        rest: bytes,
+    }
 }
 
 /// The item of a part: its character with its value, or U+FFFD with the error value where the part
 /// is ill-formed.
 #[inline(always)]
-fn item_of<T: TrieValue>(trie: &CodePointTrie<'_, T>, part: Option<char>) -> (char, T)
+fn item_of<T: TrieValue>(trie: &AsciiInPlace<'_, T>, part: Option<char>) -> (char, T)
     ensures character { result.0 ≡ unwrap_or part 0xFFFD }
     ensures value { part_value trie.now part ≡ Some result.1 }
 {
@@ -64,6 +68,20 @@ fn item_of<T: TrieValue>(trie: &CodePointTrie<'_, T>, part: Option<char>) -> (ch
         Some(c) => (c, trie.get(c)),
         None => ('\u{FFFD}', trie.error_value()),
     }
+}
+
+/// The item of the first part of the bytes, which are some, and how many bytes the part has.
+#[inline(always)]
+fn first_item<T: TrieValue>(trie: &AsciiInPlace<'_, T>, bytes: &[u8]) -> ((char, T), usize)
+    requires { 0 < length bytes.now }
+    ensures { IsFirstItem trie.now bytes.now result.0 result.1 }
+{
+    let lead = bytes[0];
+    if let Some(value) = trie.ascii(lead) {
+        return ((char::from(lead), value), 1);
+    }
+    let part = first_part(bytes);
+    (item_of(trie, part.character), part.size)
 }
 
 impl<'a, T: TrieValue> Iterator for ValuesOfUtf8<'a, T> {
@@ -78,8 +96,8 @@ impl<'a, T: TrieValue> Iterator for ValuesOfUtf8<'a, T> {
         if self.rest.is_empty() {
             return None;
         }
-        let part = first_part(self.rest);
-        self.rest = &self.rest[part.size..];
-        Some(item_of(self.trie, part.character))
+        let (item, size) = first_item(&self.trie, self.rest);
+        self.rest = &self.rest[size..];
+        Some(item)
     }
 }

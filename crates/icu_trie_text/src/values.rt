@@ -5,7 +5,8 @@ ghost use Rattle.std.specs.Iterator.Runs.{EveryRun, ItemsMapTo};
 ghost use Rattle.std.specs.Str.{chars};
 ghost use Rattle.icu_trie_text.specs.Values.{AreValuesOf, GivesValue, value_item, with_values};
 
-use crate::first::first_character;
+use crate::ascii::AsciiInPlace;
+use crate::first::first_value;
 use icu_trie::cptrie::CodePointTrie;
 use icu_trie_core::value::TrieValue;
 use std::marker::Model;
@@ -14,7 +15,7 @@ use std::marker::Model;
 /// sees those that are left, each with what the trie has for it.
 #[derive(Debug, Drop)]
 pub struct ValuesOf<'a, T: TrieValue> {
-    trie: &'a CodePointTrie<'a, T>,
+    trie: AsciiInPlace<'a, T>,
     rest: &'a str,
 }
 
@@ -25,7 +26,7 @@ impl<'a, T: TrieValue> Model for ValuesOf<'a, T> {
 
     ghost Value = { List (ℕ × Option T) };
 
-    ghost view = { λ a. with_values a.trie.now (chars a.rest.now) };
+    ghost view = { λ a. with_values a.trie (chars a.rest.now) };
 }
 
 /// The characters of the text, from its front on, each with its value in the trie, as
@@ -45,7 +46,10 @@ pub fn values_of<'a, T: TrieValue>(trie: &'a CodePointTrie<'_, T>, text: &'a str
         → AreValuesOf trie.now (chars text.now) items }
     ensures runs { EveryRun (GivesValue {T = T}) (λ p. ItemsMapTo p value_item p.from) }
 {
-    ValuesOf { trie, rest: text }
+    ValuesOf {
+        trie: AsciiInPlace::new(trie),
+        rest: text,
+    }
 }
 
 impl<'a, T: TrieValue> Iterator for ValuesOf<'a, T> {
@@ -57,8 +61,8 @@ impl<'a, T: TrieValue> Iterator for ValuesOf<'a, T> {
 
     #[inline]
     fn next(&mut self) -> Option<(char, T)> {
-        let (first, rest) = first_character(self.rest)?;
+        let (item, rest) = first_value(&self.trie, self.rest)?;
         self.rest = rest;
-        Some((first, self.trie.get(first)))
+        Some(item)
     }
 }
