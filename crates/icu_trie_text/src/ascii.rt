@@ -12,8 +12,8 @@ use std::marker::Model;
 /// How many code points ASCII has.
 const ASCII_END: u8 = 0x80;
 
-/// A trie that is asked for many values. Where its data begin with the values of ASCII, as a builder
-/// of ICU's or of ours puts them, those take one read.
+/// A trie that is asked for many values. Where its data begin with the values of ASCII, as a
+/// builder of ICU's or of ours puts them, those take one read.
 #[derive(Debug, Drop)]
 pub(crate) struct AsciiInPlace<'a, T: TrieValue> {
     trie: &'a CodePointTrie<'a, T>,

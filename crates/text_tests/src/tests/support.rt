@@ -44,6 +44,13 @@ pub fn expect_same<T: Copy + Debug + PartialEq>(rt: &impl Abort, found: T, want:
     assert_eq!(rt; found, want, "{what}");
 }
 
+/// Prints the line.
+pub fn say(rt: &(impl Abort + Print), line: &str) {
+    if rt.println(line).is_err() {
+        rt.panic("nothing can be printed");
+    }
+}
+
 /// The items are the wanted ones.
 pub fn expect_items<T: Debug + PartialEq + Drop>(rt: &impl Abort, found: Vec<T>, want: &[T]) {
     assert_eq!(rt; found.as_slice(), want);

@@ -1,9 +1,33 @@
-//! The first character of a text.
+//! The first character of a text with its value, and what follows it.
+
+use crate::icu_trie_text::ascii::AsciiInPlace;
+use crate::icu_trie_core::value::TrieValue;
 
 /// The first character of a text, and what follows it. `None` exactly where the text is empty.
 #[inline(always)]
-pub(crate) fn first_character(text: &str) -> Option<(char, &str)> {
+fn first_character(text: &str) -> Option<(char, &str)> {
     let mut characters = text.chars();
     let first = characters.next()?;
     Some((first, characters.as_str()))
+}
+
+/// What follows the first character of a text, which is of ASCII.
+#[inline(always)]
+fn after_ascii(text: &str) -> &str {
+    &text[1..]
+}
+
+/// The first character of a text with its value, and what follows it. `None` exactly where the text
+/// is empty.
+#[inline(always)]
+pub(crate) fn first_value<'t, T: TrieValue>(
+    trie: &AsciiInPlace<'_, T>,
+    text: &'t str,
+) -> Option<((char, T), &'t str)> {
+    if let Some(lead) = text.as_bytes().first()
+        && let Some(value) = trie.ascii(*lead) {
+        return Some(((char::from(*lead), value), after_ascii(text)));
+    }
+    let (first, rest) = first_character(text)?;
+    Some(((first, trie.get(first)), rest))
 }

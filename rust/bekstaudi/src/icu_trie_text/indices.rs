@@ -1,6 +1,7 @@
 //! The value of each character of a text, with the place of the character.
 
-use crate::icu_trie_text::first::first_character;
+use crate::icu_trie_text::ascii::AsciiInPlace;
+use crate::icu_trie_text::first::first_value;
 use crate::icu_trie::cptrie::CodePointTrie;
 use crate::icu_trie_core::value::TrieValue;
 
@@ -8,7 +9,7 @@ use crate::icu_trie_core::value::TrieValue;
 /// gives them.
 #[derive(Debug)]
 pub struct ValueIndicesOf<'a, T: TrieValue> {
-    trie: &'a CodePointTrie<'a, T>,
+    trie: AsciiInPlace<'a, T>,
     rest: &'a str,
     /// How many bytes the whole text has.
     end: usize,
@@ -28,7 +29,7 @@ pub fn value_indices_of<'a, T: TrieValue>(
     text: &'a str,
 ) -> ValueIndicesOf<'a, T> {
     ValueIndicesOf {
-        trie,
+        trie: AsciiInPlace::new(trie),
         rest: text,
         end: text.len(),
     }
@@ -40,8 +41,8 @@ impl<'a, T: TrieValue> Iterator for ValueIndicesOf<'a, T> {
     #[inline]
     fn next(&mut self) -> Option<(usize, char, T)> {
         let offset = self.end - self.rest.len();
-        let (first, rest) = first_character(self.rest)?;
+        let (item, rest) = first_value(&self.trie, self.rest)?;
         self.rest = rest;
-        Some((offset, first, self.trie.get(first)))
+        Some((offset, item.0, item.1))
     }
 }

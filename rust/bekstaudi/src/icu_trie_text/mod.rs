@@ -11,6 +11,7 @@
 //! - `first`, `first_utf16`, `first_utf8`: the first character of a text, the first code point of
 //!   units, the first part of bytes
 
+mod ascii;
 mod find;
 mod first;
 mod first_utf16;

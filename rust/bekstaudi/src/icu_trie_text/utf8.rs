@@ -1,5 +1,6 @@
 //! The value of each character of bytes that may be ill-formed UTF-8.
 
+use crate::icu_trie_text::ascii::AsciiInPlace;
 use crate::icu_trie_text::first_utf8::first_part;
 use crate::icu_trie::cptrie::CodePointTrie;
 use crate::icu_trie_core::value::TrieValue;
@@ -8,7 +9,7 @@ use crate::icu_trie_core::value::TrieValue;
 /// [`values_of_utf8`] gives them.
 #[derive(Debug)]
 pub struct ValuesOfUtf8<'a, T: TrieValue> {
-    trie: &'a CodePointTrie<'a, T>,
+    trie: AsciiInPlace<'a, T>,
     rest: &'a [u8],
 }
 
@@ -29,17 +30,31 @@ pub fn values_of_utf8<'a, T: TrieValue>(
     trie: &'a CodePointTrie<'_, T>,
     bytes: &'a [u8],
 ) -> ValuesOfUtf8<'a, T> {
-    ValuesOfUtf8 { trie, rest: bytes }
+    ValuesOfUtf8 {
+        trie: AsciiInPlace::new(trie),
+        rest: bytes,
+    }
 }
 
 /// The item of a part: its character with its value, or U+FFFD with the error value where the part
 /// is ill-formed.
 #[inline(always)]
-fn item_of<T: TrieValue>(trie: &CodePointTrie<'_, T>, part: Option<char>) -> (char, T) {
+fn item_of<T: TrieValue>(trie: &AsciiInPlace<'_, T>, part: Option<char>) -> (char, T) {
     match part {
         Some(c) => (c, trie.get(c)),
         None => ('\u{FFFD}', trie.error_value()),
     }
+}
+
+/// The item of the first part of the bytes, which are some, and how many bytes the part has.
+#[inline(always)]
+fn first_item<T: TrieValue>(trie: &AsciiInPlace<'_, T>, bytes: &[u8]) -> ((char, T), usize) {
+    let lead = bytes[0];
+    if let Some(value) = trie.ascii(lead) {
+        return ((char::from(lead), value), 1);
+    }
+    let part = first_part(bytes);
+    (item_of(trie, part.character), part.size)
 }
 
 impl<'a, T: TrieValue> Iterator for ValuesOfUtf8<'a, T> {
@@ -50,8 +65,8 @@ impl<'a, T: TrieValue> Iterator for ValuesOfUtf8<'a, T> {
         if self.rest.is_empty() {
             return None;
         }
-        let part = first_part(self.rest);
-        self.rest = &self.rest[part.size..];
-        Some(item_of(self.trie, part.character))
+        let (item, size) = first_item(&self.trie, self.rest);
+        self.rest = &self.rest[size..];
+        Some(item)
     }
 }

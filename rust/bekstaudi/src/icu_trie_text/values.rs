@@ -1,13 +1,14 @@
 //! The value of each character of a text.
 
-use crate::icu_trie_text::first::first_character;
+use crate::icu_trie_text::ascii::AsciiInPlace;
+use crate::icu_trie_text::first::first_value;
 use crate::icu_trie::cptrie::CodePointTrie;
 use crate::icu_trie_core::value::TrieValue;
 
 /// The characters of a text, each with its value in a trie, as [`values_of`] gives them.
 #[derive(Debug)]
 pub struct ValuesOf<'a, T: TrieValue> {
-    trie: &'a CodePointTrie<'a, T>,
+    trie: AsciiInPlace<'a, T>,
     rest: &'a str,
 }
 
@@ -22,7 +23,10 @@ pub struct ValuesOf<'a, T: TrieValue> {
 /// ```
 #[inline]
 pub fn values_of<'a, T: TrieValue>(trie: &'a CodePointTrie<'_, T>, text: &'a str) -> ValuesOf<'a, T> {
-    ValuesOf { trie, rest: text }
+    ValuesOf {
+        trie: AsciiInPlace::new(trie),
+        rest: text,
+    }
 }
 
 impl<'a, T: TrieValue> Iterator for ValuesOf<'a, T> {
@@ -30,8 +34,8 @@ impl<'a, T: TrieValue> Iterator for ValuesOf<'a, T> {
 
     #[inline]
     fn next(&mut self) -> Option<(char, T)> {
-        let (first, rest) = first_character(self.rest)?;
+        let (item, rest) = first_value(&self.trie, self.rest)?;
         self.rest = rest;
-        Some((first, self.trie.get(first)))
+        Some(item)
     }
 }
