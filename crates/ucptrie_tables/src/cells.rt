@@ -1,0 +1,35 @@
+//! The cells of a trie as numbers in a text.
+use icu_trie::value::TrieValue;
+use icu_zerovec::ZeroSlice;
+use std::alloc::AllocError;
+
+/// How many cells stand in a line.
+const CELLS_IN_LINE: usize = 16;
+
+/// Appends a number as ICU's tools write it: in decimal digits up to 9, and else in hexadecimal ones.
+fn push_number(text: &mut String, number: u32) -> Result<(), AllocError> {
+    if number <= 9 {
+        write!(text, "{number}")
+    } else {
+        write!(text, "{number:#x}")
+    }
+}
+
+/// Appends the cells' numbers, sixteen a line, each line but the first behind the indent
+/// (usrc_writeArray).
+pub(crate) fn push_cells<T: TrieValue>(
+    text: &mut String,
+    cells: ZeroSlice<'_, T>,
+    indent: &str,
+) -> Result<(), AllocError> {
+    for (i, cell) in cells.iter().enumerate() {
+        if i % CELLS_IN_LINE != 0 {
+            text.push(',')?;
+        } else if i > 0 {
+            text.push_str(",\n")?;
+            text.push_str(indent)?;
+        }
+        push_number(text, cell.to_u32())?;
+    }
+    Ok(())
+}

@@ -1,0 +1,160 @@
+//! Why a table can't be made of rows, written or read.
+use crate::width::ValueWidth;
+use icu_trie_binary::binary::{BinaryError, SwappedError, WriteError};
+use icu_trie_builder::error::BuildError;
+use icu_trie_formats::json::TrieJsonError;
+use icu_trie_formats::trie_toml::{TomlError, TrieFromTomlError};
+use icu_zerovec::MemoryError;
+use std::alloc::AllocError;
+use std::error;
+use std::fmt;
+use thiserror::Error;
+use ucptab_table::fault::TableError;
+
+/// Why rows make no table, or a table is not written.
+#[derive(Clone, Copy, Debug, PartialEq, Eq, Error)]
+pub enum BuildFault {
+    /// A row is at fault, the map is too large for a trie, or memory was refused.
+    #[error("{0}")]
+    Table(TableError),
+    /// This value has more bits than are asked for.
+    #[error("value {0} has more than {1}")]
+    Width(u32, ValueWidth),
+    /// ICU's binary form has no room for the trie.
+    #[error("{0}")]
+    Binary(WriteError),
+}
+
+impl From<TableError> for BuildFault {
+    fn from(fault: TableError) -> BuildFault {
+        BuildFault::Table(fault)
+    }
+}
+
+impl From<BuildError> for BuildFault {
+    fn from(error: BuildError) -> BuildFault {
+        BuildFault::Table(TableError::from(error))
+    }
+}
+
+impl From<WriteError> for BuildFault {
+    fn from(error: WriteError) -> BuildFault {
+        match error {
+            WriteError::Memory => BuildFault::Table(TableError::Memory),
+            _ => BuildFault::Binary(error),
+        }
+    }
+}
+
+impl From<AllocError> for BuildFault {
+    fn from(_error: AllocError) -> BuildFault {
+        BuildFault::Table(TableError::Memory)
+    }
+}
+
+impl From<MemoryError> for BuildFault {
+    fn from(_error: MemoryError) -> BuildFault {
+        BuildFault::Table(TableError::Memory)
+    }
+}
+
+/// Why a text is no TOML, and in which line, counted from 1.
+#[derive(Clone, Copy, Debug, PartialEq, Eq)]
+pub struct TomlFault {
+    line: usize,
+    error: toml::de::Error,
+}
+
+impl TomlFault {
+    /// The fault of a text.
+    pub(crate) fn new(text: &str, error: toml::de::Error) -> TomlFault {
+        let start = error.span().map_or(0, |span| span.start);
+        let before = text.bytes().take(start);
+        let line = 1 + before.filter(|byte| *byte == b'\n').count();
+        TomlFault { line, error }
+    }
+}
+
+/// In one line.
+impl fmt::Display for TomlFault {
+    fn fmt<W: fmt::Write>(&self, f: &mut fmt::Formatter<W>) -> fmt::Result {
+        let (line, message) = (self.line, self.error.message());
+        write!(f, "line {line}: {message}")
+    }
+}
+
+impl error::Error for TomlFault {}
+
+/// Why a file has no table.
+#[derive(Debug, Drop, Error)]
+pub enum ReadFault {
+    /// It begins as a trie in ICU's binary form, and is none.
+    #[error("{0}")]
+    Binary(BinaryError),
+    /// It is no text in UTF-8.
+    #[error("neither a trie in the binary form nor a text in UTF-8")]
+    Text,
+    /// It begins as JSON, and is none.
+    #[error("{0}")]
+    Json(serde_json::Error),
+    /// Its JSON is no trie.
+    #[error("{0}")]
+    TrieJson(TrieJsonError),
+    /// It is no TOML.
+    #[error("{0}")]
+    Toml(TomlFault),
+    /// Its TOML is no trie.
+    #[error("{0}")]
+    TrieToml(TrieFromTomlError),
+    /// Memory was refused.
+    #[error("no memory")]
+    Memory,
+}
+
+impl From<BinaryError> for ReadFault {
+    fn from(error: BinaryError) -> ReadFault {
+        ReadFault::Binary(error)
+    }
+}
+
+impl From<SwappedError> for ReadFault {
+    fn from(error: SwappedError) -> ReadFault {
+        match error {
+            SwappedError::Binary(error) => ReadFault::Binary(error),
+            SwappedError::Memory => ReadFault::Memory,
+        }
+    }
+}
+
+impl From<serde_json::Error> for ReadFault {
+    fn from(error: serde_json::Error) -> ReadFault {
+        if error.is_memory() {
+            return ReadFault::Memory;
+        }
+        ReadFault::Json(error)
+    }
+}
+
+impl From<TrieJsonError> for ReadFault {
+    fn from(error: TrieJsonError) -> ReadFault {
+        match error {
+            TrieJsonError::Memory => ReadFault::Memory,
+            _ => ReadFault::TrieJson(error),
+        }
+    }
+}
+
+impl From<TomlError> for ReadFault {
+    fn from(error: TomlError) -> ReadFault {
+        ReadFault::from(TrieFromTomlError::from(error))
+    }
+}
+
+impl From<TrieFromTomlError> for ReadFault {
+    fn from(error: TrieFromTomlError) -> ReadFault {
+        match error {
+            TrieFromTomlError::Memory => ReadFault::Memory,
+            _ => ReadFault::TrieToml(error),
+        }
+    }
+}

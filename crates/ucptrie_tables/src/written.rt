@@ -1,0 +1,68 @@
+//! A table as the bytes of a file.
+use crate::fault::BuildFault;
+use crate::table::Table;
+use crate::toml_text::toml_text;
+use crate::values::with_values_of;
+use crate::width::ValueWidth;
+use icu_trie::cptrie::CodePointTrie;
+use icu_trie::map_value::MapError;
+use icu_trie::value::TrieValue;
+use icu_trie_binary::binary::to_binary;
+use icu_trie_formats::json::to_json;
+use icu_zerovec::MemoryError;
+use std::alloc::{AllocError, Global};
+use ucptab_table::text::ranges_text;
+
+/// The forms in which a table is written.
+#[derive(Clone, Copy, Debug, PartialEq, Eq)]
+pub enum Form {
+    /// ICU's binary form, which `ucptrie_openFromBinary` opens.
+    Icu,
+    /// TOML, as ICU's tools write it.
+    Toml,
+    /// JSON, as the Rust crate has it.
+    Json,
+    /// The rows of `ucptab`: a line for each range of equal values.
+    Rows,
+}
+
+/// The bytes of the table's trie, over values of another type, in ICU's binary form.
+fn binary_over<P: TrieValue>(alloc: Global, table: &Table) -> Result<Vec<u8>, BuildFault> {
+    let narrowed: CodePointTrie<'static, P> = match with_values_of(alloc, &table.trie) {
+        Ok(narrowed) => narrowed,
+        Err(MapError::Closure(value)) => return Err(BuildFault::Width(value, table.width)),
+        Err(MapError::Memory) => return Err(BuildFault::from(AllocError)),
+    };
+    Ok(to_binary(alloc, &narrowed)?)
+}
+
+/// The table in ICU's binary form, with values of its width.
+fn binary(alloc: Global, table: &Table) -> Result<Vec<u8>, BuildFault> {
+    match table.width {
+        ValueWidth::Bits8 => binary_over::<u8>(alloc, table),
+        ValueWidth::Bits16 => binary_over::<u16>(alloc, table),
+        ValueWidth::Bits32 => Ok(to_binary(alloc, &table.trie)?),
+    }
+}
+
+/// The table in JSON, in one line.
+fn json_text(alloc: Global, table: &Table) -> Result<String, MemoryError> {
+    let mut text = to_json(alloc, &table.trie)?.to_string(alloc)?;
+    text.push('\n')?;
+    Ok(text)
+}
+
+/// The table in a form, as the bytes of a file.
+///
+/// # Errors
+/// `Binary` where ICU's binary form has no room for the trie, `Width` where a value has more bits
+/// than the table's width, `Table` where memory was refused.
+pub fn written(alloc: Global, table: &Table, form: Form) -> Result<Vec<u8>, BuildFault> {
+    let text = match form {
+        Form::Icu => return binary(alloc, table),
+        Form::Toml => toml_text(alloc, table)?,
+        Form::Json => json_text(alloc, table)?,
+        Form::Rows => ranges_text(alloc, &table.trie)?,
+    };
+    Ok(text.into_bytes())
+}
