@@ -12,8 +12,10 @@ use std::fs;
 use std::io::{Read, Write};
 use std::process::ExitCode;
 use ucptab_table::digits::hexadecimal;
+use ucptrie_tables::diff::differences_text;
 use ucptrie_tables::read::read_table;
 use ucptrie_tables::shown::{answered, shown};
+use ucptrie_tables::source::is_name;
 use ucptrie_tables::table::{Table, TableOptions, table_of_rows};
 use ucptrie_tables::width::ValueWidth;
 use ucptrie_tables::written::{Form, written};
@@ -37,13 +39,19 @@ fn width(matches: &ArgMatches<'_>) -> ValueWidth {
 }
 
 /// The form that the words name.
-fn form(matches: &ArgMatches<'_>) -> Form {
-    match matches.get_str("as") {
+fn form<'a>(matches: &ArgMatches<'a>) -> Result<Form<'a>> {
+    let name = matches.get_str("name").unwrap_or("table");
+    if !is_name(name) {
+        bail!("{name}: no name of letters, digits and _ that begins with no digit");
+    }
+    Ok(match matches.get_str("as") {
         Some("icu") => Form::Icu,
         Some("toml") => Form::Toml,
         Some("json") => Form::Json,
+        Some("c") => Form::C(name),
+        Some("rust") => Form::Rust(name),
         _ => Form::Rows,
-    }
+    })
 }
 
 /// What a table is to be beside its rows.
@@ -58,10 +66,11 @@ fn options(matches: &ArgMatches<'_>) -> TableOptions {
 
 /// Writes a table of the rows on standard input to standard output.
 fn build(rt: &HostRuntime, matches: &ArgMatches<'_>) -> Result<()> {
+    let form = form(matches)?;
     let mut rows = Vec::new(rt.alloc());
     rt.stdin().read_to_end(&mut rows)?;
     let table = table_of_rows(rt.alloc(), &rows, options(matches))?;
-    let bytes = written(rt.alloc(), &table, form(matches))?;
+    let bytes = written(rt.alloc(), &table, form)?;
     rt.stdout().write_all(&bytes)?;
     Ok(())
 }
@@ -103,6 +112,15 @@ fn get(rt: &HostRuntime, matches: &ArgMatches<'_>) -> Result<()> {
     Ok(())
 }
 
+/// Prints where two tables differ.
+fn diff(rt: &HostRuntime, matches: &ArgMatches<'_>) -> Result<()> {
+    let first = table_at(rt, matches, "first")?;
+    let second = table_at(rt, matches, "second")?;
+    let text = differences_text(rt.alloc(), &first.trie, &second.trie)?;
+    rt.stdout().write_all(text.as_bytes())?;
+    Ok(())
+}
+
 /// Does what the words ask for, and answers the status.
 fn run(rt: &HostRuntime) -> Result<ExitCode> {
     let words: Vec<String> = env::args(rt)?.collect(rt.alloc())?;
@@ -118,6 +136,7 @@ fn run(rt: &HostRuntime) -> Result<ExitCode> {
         Some(("build", matches)) => build(rt, matches)?,
         Some(("show", matches)) => show(rt, matches)?,
         Some(("get", matches)) => get(rt, matches)?,
+        Some(("diff", matches)) => diff(rt, matches)?,
         _ => bail!("no command"),
     }
     Ok(ExitCode::SUCCESS)

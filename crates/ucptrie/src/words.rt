@@ -32,8 +32,11 @@ fn build_words<'a>(alloc: Global) -> Result<Command<'a>, AllocError> {
         .value_parser(value_parser!(u32))
         .default_value("0");
     let form = option(alloc, "as")
-        .value_parser(["icu", "toml", "json", "rows"].as_slice())
+        .value_parser(["icu", "toml", "json", "c", "rust", "rows"].as_slice())
         .required(true);
+    let name = option(alloc, "name")
+        .help("The name in C and Rust")
+        .default_value("table");
     let about = "Writes the table of the rows on standard input to standard output";
     Command::new(alloc, "build")
         .about(about)
@@ -41,7 +44,8 @@ fn build_words<'a>(alloc: Global) -> Result<Command<'a>, AllocError> {
         .arg(width)?
         .arg(default)?
         .arg(error)?
-        .arg(form)
+        .arg(form)?
+        .arg(name)
 }
 
 /// `show`: what a table is.
@@ -64,6 +68,14 @@ fn get_words<'a>(alloc: Global) -> Result<Command<'a>, AllocError> {
         .arg(asked)
 }
 
+/// `diff`: where two tables differ.
+fn diff_words<'a>(alloc: Global) -> Result<Command<'a>, AllocError> {
+    Command::new(alloc, "diff")
+        .about("Prints the ranges in which two tables differ, with the value of each")
+        .arg(file(alloc, "first"))?
+        .arg(file(alloc, "second"))
+}
+
 /// The program's words.
 pub fn program_words<'a>(alloc: Global) -> Result<Command<'a>, AllocError> {
     Command::new(alloc, "ucptrie")
@@ -71,5 +83,6 @@ pub fn program_words<'a>(alloc: Global) -> Result<Command<'a>, AllocError> {
         .subcommand_required(true)
         .subcommand(build_words(alloc)?)?
         .subcommand(show_words(alloc)?)?
-        .subcommand(get_words(alloc)?)
+        .subcommand(get_words(alloc)?)?
+        .subcommand(diff_words(alloc)?)
 }

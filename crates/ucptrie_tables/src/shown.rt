@@ -1,16 +1,9 @@
 //! What a table is, in lines.
+use crate::sizes::bounds_of;
+use crate::source::type_name;
 use crate::table::Table;
-use icu_trie::header::TrieType;
 use std::alloc::{AllocError, Global};
-use ucptab_table::text::ranges_text;
-
-/// The name of a type, as `ucptab` takes it.
-fn type_name(trie_type: TrieType) -> &'static str {
-    match trie_type {
-        TrieType::Fast => "fast",
-        TrieType::Small => "small",
-    }
-}
+use ucptab_table::text::{answers_text, ranges_text};
 
 /// Appends what the header says.
 fn push_header(text: &mut String, table: &Table) -> Result<(), AllocError> {
@@ -25,22 +18,36 @@ fn push_header(text: &mut String, table: &Table) -> Result<(), AllocError> {
     writeln!(text, "# error value: {}", table.trie.error_value())
 }
 
-/// What the table is: the fields of its header, how many cells it has, whether the header can be
-/// trusted, each in a comment of `ucptab`'s form; and then its ranges, in rows of that form. So the
-/// whole text is a table again.
+/// Appends how many cells the table has, each count with the bound on it, and whether the header can
+/// be trusted.
+fn push_cells(alloc: Global, text: &mut String, table: &Table) -> Result<(), AllocError> {
+    let (_, index, values) = table.trie.parts();
+    let bounds = bounds_of(alloc, &table.trie)?;
+    let coherent = if table.trie.is_coherent() { "yes" } else { "no" };
+    writeln!(text, "# index cells: {}, bound {}", index.len(), bounds.index)?;
+    writeln!(text, "# data cells: {}, bound {}", values.len(), bounds.data)?;
+    writeln!(text, "# coherent: {coherent}")
+}
+
+/// What the table is: the fields of its header, how many cells it has beside the bounds that a built
+/// trie of its values keeps, and whether its header can be trusted, each in a comment of `ucptab`'s
+/// form; and then its ranges, in rows of that form. So the whole text is a table again.
+///
+/// # Errors
+/// `AllocError` where memory was refused.
 pub fn shown(alloc: Global, table: &Table) -> Result<String, AllocError> {
     let mut text = String::new(alloc);
     push_header(&mut text, table)?;
-    let (_, index, values) = table.trie.parts();
-    writeln!(text, "# index cells: {}", index.len())?;
-    writeln!(text, "# data cells: {}", values.len())?;
-    let coherent = if table.trie.is_coherent() { "yes" } else { "no" };
-    writeln!(text, "# coherent: {coherent}")?;
-    text.push_str(&ranges_text(alloc, &table.trie)?)?;
+    push_cells(alloc, &mut text, table)?;
+    let ranges = ranges_text(alloc, &table.trie)?;
+    text.push_str(&ranges)?;
     Ok(text)
 }
 
 /// The lines of the asked numbers, in order, as `ucptab` prints them.
+///
+/// # Errors
+/// `AllocError` where memory was refused.
 pub fn answered(alloc: Global, table: &Table, asked: &[u32]) -> Result<String, AllocError> {
-    ucptab_table::text::answers_text(alloc, asked, |n| table.trie.get32(n))
+    answers_text(alloc, asked, |n| table.trie.get32(n))
 }

@@ -1,13 +1,8 @@
 //! A table in TOML, as ICU's usrc_writeUCPTrie writes it.
 use crate::cells::push_cells;
+use crate::source::type_code;
 use crate::table::Table;
-use icu_trie::header::TrieType;
 use std::alloc::{AllocError, Global};
-
-/// The number that ICU has for a type (UCPTRIE_TYPE_FAST, _SMALL).
-pub(crate) fn type_code(trie_type: TrieType) -> u8 {
-    trie_type as u8
-}
 
 /// Appends the numbers of the header.
 fn push_header(text: &mut String, table: &Table) -> Result<(), AllocError> {

@@ -1,5 +1,7 @@
 //! A table as the bytes of a file.
+use crate::c_source::c_text;
 use crate::fault::BuildFault;
+use crate::rust_source::rust_text;
 use crate::table::Table;
 use crate::toml_text::toml_text;
 use crate::values::with_values_of;
@@ -15,13 +17,17 @@ use ucptab_table::text::ranges_text;
 
 /// The forms in which a table is written.
 #[derive(Clone, Copy, Debug, PartialEq, Eq)]
-pub enum Form {
+pub enum Form<'a> {
     /// ICU's binary form, which `ucptrie_openFromBinary` opens.
     Icu,
     /// TOML, as ICU's tools write it.
     Toml,
     /// JSON, as the Rust crate has it.
     Json,
+    /// Source in C, with this name in front of each of its own.
+    C(&'a str),
+    /// Source in Rust, a module of this name.
+    Rust(&'a str),
     /// The rows of `ucptab`: a line for each range of equal values.
     Rows,
 }
@@ -57,11 +63,13 @@ fn json_text(alloc: Global, table: &Table) -> Result<String, MemoryError> {
 /// # Errors
 /// `Binary` where ICU's binary form has no room for the trie, `Width` where a value has more bits
 /// than the table's width, `Table` where memory was refused.
-pub fn written(alloc: Global, table: &Table, form: Form) -> Result<Vec<u8>, BuildFault> {
+pub fn written(alloc: Global, table: &Table, form: Form<'_>) -> Result<Vec<u8>, BuildFault> {
     let text = match form {
         Form::Icu => return binary(alloc, table),
         Form::Toml => toml_text(alloc, table)?,
         Form::Json => json_text(alloc, table)?,
+        Form::C(name) => c_text(alloc, table, name)?,
+        Form::Rust(name) => rust_text(alloc, table, name)?,
         Form::Rows => ranges_text(alloc, &table.trie)?,
     };
     Ok(text.into_bytes())

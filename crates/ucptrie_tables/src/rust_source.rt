@@ -1,0 +1,73 @@
+//! A table as source in Rust.
+use crate::cells::push_cells;
+use crate::source::{index1_offset, push_sizes, type_code};
+use crate::table::Table;
+use std::alloc::{AllocError, Global};
+
+/// The look-up, by the three stages of the format.
+const LOOK_UP: &str = "
+    fn index(place: u32) -> u32 {
+        u32::from(INDEX[place as usize])
+    }
+
+    /// The value of `c`, and the error value above 0x10FFFF.
+    pub fn get(c: u32) -> Value {
+        if c < FAST_LIMIT {
+            return DATA[(index(c >> 6) + (c & 63)) as usize];
+        }
+        if c > 0x10ffff {
+            return DATA[DATA.len() - 1];
+        }
+        if c >= HIGH_START {
+            return DATA[DATA.len() - 2];
+        }
+        let (part, block) = ((c >> 4) & 31, index(index((c >> 14) + INDEX1) + ((c >> 9) & 31)));
+        let start = if block < 0x8000 {
+            index(block + part)
+        } else {
+            // Eight offsets of 18 bits have nine cells, the first one for their upper bits.
+            let (cell, part) = ((block & 0x7fff) + part / 8 * 9, part & 7);
+            ((index(cell) << (2 + 2 * part)) & 0x30000) | index(cell + 1 + part)
+        };
+        DATA[(start + (c & 15)) as usize]
+    }
+}
+";
+
+/// Appends the header, field by field.
+fn push_header(text: &mut String, table: &Table) -> Result<(), AllocError> {
+    let (header, _, _) = table.trie.parts();
+    let (kind, limit) = (type_code(header.trie_type), header.trie_type.fast_limit());
+    writeln!(text, "    pub const TRIE_TYPE: u8 = {kind};")?;
+    writeln!(text, "    pub const HIGH_START: u32 = {:#x};", header.high_start)?;
+    writeln!(text, "    pub const SHIFTED12_HIGH_START: u16 = {:#x};", header.shifted12_high_start)?;
+    writeln!(text, "    pub const INDEX3_NULL_OFFSET: u16 = {:#x};", header.index3_null_offset)?;
+    writeln!(text, "    pub const DATA_NULL_OFFSET: u32 = {:#x};", header.data_null_offset)?;
+    writeln!(text, "    pub const NULL_VALUE: u32 = {:#x};", header.null_value)?;
+    writeln!(text, "    const FAST_LIMIT: u32 = {limit:#x};")?;
+    writeln!(text, "    const INDEX1: u32 = {};\n", index1_offset(header.trie_type))
+}
+
+/// Appends the two arrays.
+fn push_arrays(text: &mut String, table: &Table) -> Result<(), AllocError> {
+    let (_, index, values) = table.trie.parts();
+    text.push_str("    #[rustfmt::skip]\n")?;
+    writeln!(text, "    pub static INDEX: [u16; {}] = [", index.len())?;
+    push_cells(text, index, "")?;
+    text.push_str("\n    ];\n\n    #[rustfmt::skip]\n")?;
+    writeln!(text, "    pub static DATA: [Value; {}] = [", values.len())?;
+    push_cells(text, values, "")?;
+    text.push_str("\n    ];\n")
+}
+
+/// The table in Rust: a module with the header, the two arrays and a look-up over them.
+pub(crate) fn rust_text(alloc: Global, table: &Table, name: &str) -> Result<String, AllocError> {
+    let mut text = String::new(alloc);
+    push_sizes(&mut text, table)?;
+    writeln!(text, "pub mod {name} {{")?;
+    writeln!(text, "    pub type Value = u{};\n", table.width.bits())?;
+    push_header(&mut text, table)?;
+    push_arrays(&mut text, table)?;
+    text.push_str(LOOK_UP)?;
+    Ok(text)
+}

@@ -1,0 +1,62 @@
+//! How many cells a trie may have by its values: the bounds that a built one keeps.
+use icu_trie::cptrie::CodePointTrie;
+use icu_zerovec::CODE_POINT_LIMIT;
+use std::alloc::{AllocError, Global};
+use std::collections::BTreeSet;
+
+/// The most cells that a built trie of some values has.
+#[derive(Clone, Copy, Debug, PartialEq, Eq)]
+pub struct Bounds {
+    pub index: usize,
+    pub data: usize,
+}
+
+/// The value of each code point.
+fn values_of(alloc: Global, trie: &CodePointTrie<'_, u32>) -> Result<Vec<u32>, AllocError> {
+    let mut values = Vec::with_capacity(alloc, CODE_POINT_LIMIT as usize)?;
+    for c in 0..CODE_POINT_LIMIT {
+        values.push(trie.get32(c))?;
+    }
+    Ok(values)
+}
+
+/// How many of the aligned blocks of so many values are different.
+fn count_different(alloc: Global, values: &[u32], size: usize) -> Result<usize, AllocError> {
+    let blocks: BTreeSet<&[u32]> = values.chunks(size).collect(alloc)?;
+    Ok(blocks.len())
+}
+
+/// How many different blocks of 16 there are that stand nowhere in an aligned block of 64 of the
+/// others.
+fn count_lone(alloc: Global, small: &[u32], fast: &[u32]) -> Result<usize, AllocError> {
+    let mut windows: BTreeSet<&[u32]> = BTreeSet::new(alloc);
+    for block in fast.chunks(64) {
+        for window in block.windows(16) {
+            windows.insert(window)?;
+        }
+    }
+    let mut lone: BTreeSet<&[u32]> = BTreeSet::new(alloc);
+    for block in small.chunks(16) {
+        if !windows.contains(block) {
+            lone.insert(block)?;
+        }
+    }
+    Ok(lone.len())
+}
+
+/// The bounds on the cells of a trie that is built of the values of this one, of its type, which
+/// count different aligned blocks: 64 cells of data for each of 64 code points below the fast
+/// limit, and 16 for each of 16 from there on that stands in none of these, and 160; 36 cells of
+/// index for each of 512 from the fast limit on, or 32 where that bound on the data is at most
+/// 0x10000, and 3,200.
+pub fn bounds_of(alloc: Global, trie: &CodePointTrie<'_, u32>) -> Result<Bounds, AllocError> {
+    let (header, _, _) = trie.parts();
+    let values = values_of(alloc, trie)?;
+    let (fast, small) = values.split_at(header.trie_type.fast_limit() as usize);
+    let data = 64 * count_different(alloc, fast, 64)? + 16 * count_lone(alloc, small, fast)? + 160;
+    let cells = if data <= 0x10000 { 32 } else { 36 };
+    Ok(Bounds {
+        index: cells * count_different(alloc, small, 512)? + 3200,
+        data,
+    })
+}

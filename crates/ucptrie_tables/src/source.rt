@@ -1,0 +1,56 @@
+//! What source in C and in Rust have in common.
+use crate::table::Table;
+use icu_trie::header::TrieType;
+use std::alloc::AllocError;
+
+/// Whether a text can be a name in C and in Rust: ASCII letters, digits and `_`, and no digit in
+/// front. Words of either language are not looked for.
+pub fn is_name(text: &str) -> bool {
+    let Some(first) = text.bytes().next() else {
+        return false;
+    };
+    !first.is_ascii_digit()
+        && text
+            .bytes()
+            .all(|byte| byte.is_ascii_alphanumeric() || byte == b'_')
+}
+
+/// The name of a type, as `ucptab` takes it.
+pub(crate) fn type_name(trie_type: TrieType) -> &'static str {
+    match trie_type {
+        TrieType::Fast => "fast",
+        TrieType::Small => "small",
+    }
+}
+
+/// The number that ICU has for a type (UCPTRIE_TYPE_FAST, _SMALL).
+pub(crate) fn type_code(trie_type: TrieType) -> u8 {
+    match trie_type {
+        TrieType::Fast => 0,
+        TrieType::Small => 1,
+    }
+}
+
+/// What is added to `c >> 14` for the place of a code point's index-1 cell: behind the fast index,
+/// where a fast trie leaves out the four cells of the BMP.
+pub(crate) fn index1_offset(trie_type: TrieType) -> u32 {
+    match trie_type {
+        TrieType::Fast => 1024 - 4,
+        TrieType::Small => 64,
+    }
+}
+
+/// Appends a comment that says what the trie is, and its sizes.
+pub(crate) fn push_sizes(text: &mut String, table: &Table) -> Result<(), AllocError> {
+    let (header, index, values) = table.trie.parts();
+    let (cells, bits) = (values.len(), table.width.bits());
+    let kind = type_name(header.trie_type);
+    writeln!(text, "// Made by ucptrie: a {kind} code point trie, with values of {bits} bits.")?;
+    writeln!(
+        text,
+        "// Index: {} cells, {} bytes. Data: {cells} cells, {} bytes.",
+        index.len(),
+        index.as_bytes().len(),
+        cells * bits as usize / 8
+    )
+}
