@@ -1,11 +1,16 @@
 //! The ranges in which two tables differ.
+ghost use Rattle.std.specs.Prelude.{◌≡◌, ◌≢◌, ℕ, ◌<◌, ◌≤◌, Some, IfOk};
+ghost use Rattle.ucptrie_tables.specs.Differences.{both_values, AreDifferencesFrom};
+
 use icu_trie::cptrie::CodePointTrie;
 use icu_trie_core::range::CodePointMapRange;
 use icu_zerovec::CODE_POINT_LIMIT;
 use std::alloc::{AllocError, Global};
 
 /// The values that two tries have at a number, as their look-ups answer it.
-fn values_at(first: &CodePointTrie<'_, u32>, second: &CodePointTrie<'_, u32>, c: u32) -> (u32, u32) {
+fn values_at(first: &CodePointTrie<'_, u32>, second: &CodePointTrie<'_, u32>, c: u32) -> (u32, u32)
+    ensures { both_values first.now second.now c ≡ (Some result.0, Some result.1) }
+{
     (first.get32(c), second.get32(c))
 }
 
@@ -15,7 +20,16 @@ fn end_of_values(
     second: &CodePointTrie<'_, u32>,
     c: u32,
     values: (u32, u32),
-) -> u32 {
+) -> u32
+    requires within { c < 0x110000 }
+    requires values { both_values first.now second.now c ≡ (Some values.0, Some values.1) }
+    ensures after { c < result }
+    ensures within { result ≤ 0x110000 }
+    ensures equal { (u : ℕ) → c ≤ u → u < result
+        → both_values first.now second.now u ≡ (Some values.0, Some values.1) }
+    ensures ends { result < 0x110000
+        → both_values first.now second.now result ≢ (Some values.0, Some values.1) }
+{
     for next in c + 1..CODE_POINT_LIMIT {
         if values_at(first, second, next) != values {
             return next;
@@ -33,7 +47,9 @@ pub fn differences(
     alloc: Global,
     first: &CodePointTrie<'_, u32>,
     second: &CodePointTrie<'_, u32>,
-) -> Result<Vec<CodePointMapRange<(u32, u32)>>, AllocError> {
+) -> Result<Vec<CodePointMapRange<(u32, u32)>>, AllocError>
+    ensures { IfOk result (λ found. AreDifferencesFrom first.now second.now 0 found.items) }
+{
     let mut found = Vec::new(alloc);
     let mut start = 0;
     while start < CODE_POINT_LIMIT {

@@ -1,4 +1,6 @@
 //! Why a table can't be made of rows, written or read.
+ghost use Rattle.std.specs.Prelude.{◌≡◌, ◌⊎◌};
+
 use crate::width::ValueWidth;
 use icu_trie_binary::binary::{BinaryError, SwappedError, WriteError};
 use icu_trie_builder::error::BuildError;
@@ -26,12 +28,23 @@ pub enum BuildFault {
 }
 
 impl From<TableError> for BuildFault {
+    ghost use Rattle.ucptrie_tables.specs.declared.fault.BuildFault.TheVariants.{Table};
+
+    ghost from_gives = { λ x e. e ≡ Table x };
+
     fn from(fault: TableError) -> BuildFault {
         BuildFault::Table(fault)
     }
 }
 
 impl From<BuildError> for BuildFault {
+    ghost use Rattle.icu_trie_compaction.specs.declared.error.BuildError.TheVariants.{TooLarge as BuildTooLarge};
+    ghost use Rattle.ucptab_table.specs.declared.fault.TableError.TheVariants.{TooLarge, Memory};
+    ghost use Rattle.ucptrie_tables.specs.declared.fault.BuildFault.TheVariants.{Table};
+
+    ghost from_gives = { λ x e. (e ≡ Table TooLarge → x ≡ BuildTooLarge)
+        × ((e ≡ Table TooLarge) ⊎ (e ≡ Table Memory)) };
+
     fn from(error: BuildError) -> BuildFault {
         BuildFault::Table(TableError::from(error))
     }
@@ -47,12 +60,22 @@ impl From<WriteError> for BuildFault {
 }
 
 impl From<AllocError> for BuildFault {
+    ghost use Rattle.ucptab_table.specs.declared.fault.TableError.TheVariants.{Memory};
+    ghost use Rattle.ucptrie_tables.specs.declared.fault.BuildFault.TheVariants.{Table};
+
+    ghost from_gives = { λ _ e. e ≡ Table Memory };
+
     fn from(_error: AllocError) -> BuildFault {
         BuildFault::Table(TableError::Memory)
     }
 }
 
 impl From<MemoryError> for BuildFault {
+    ghost use Rattle.ucptab_table.specs.declared.fault.TableError.TheVariants.{Memory};
+    ghost use Rattle.ucptrie_tables.specs.declared.fault.BuildFault.TheVariants.{Table};
+
+    ghost from_gives = { λ _ e. e ≡ Table Memory };
+
     fn from(_error: MemoryError) -> BuildFault {
         BuildFault::Table(TableError::Memory)
     }

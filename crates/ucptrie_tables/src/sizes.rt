@@ -1,4 +1,6 @@
 //! How many cells a trie may have by its values: the bounds that a built one keeps.
+ghost use Rattle.std.specs.Prelude.{◌≡◌, ◌<◌, ◌≤◌, length, IfOk, vec_len};
+
 use icu_trie::cptrie::CodePointTrie;
 use icu_zerovec::CODE_POINT_LIMIT;
 use std::alloc::{AllocError, Global};
@@ -12,7 +14,9 @@ pub struct Bounds {
 }
 
 /// The value of each code point.
-fn values_of(alloc: Global, trie: &CodePointTrie<'_, u32>) -> Result<Vec<u32>, AllocError> {
+fn values_of(alloc: Global, trie: &CodePointTrie<'_, u32>) -> Result<Vec<u32>, AllocError>
+    ensures { IfOk result (λ values. vec_len values ≡ 0x110000) }
+{
     let mut values = Vec::with_capacity(alloc, CODE_POINT_LIMIT as usize)?;
     for c in 0..CODE_POINT_LIMIT {
         values.push(trie.get32(c))?;
@@ -21,20 +25,34 @@ fn values_of(alloc: Global, trie: &CodePointTrie<'_, u32>) -> Result<Vec<u32>, A
 }
 
 /// How many of the aligned blocks of so many values are different.
-fn count_different(alloc: Global, values: &[u32], size: usize) -> Result<usize, AllocError> {
-    let blocks: BTreeSet<&[u32]> = values.chunks(size).collect(alloc)?;
+fn count_different(alloc: Global, values: &[u32], size: usize) -> Result<usize, AllocError>
+    requires some { 0 < size }
+    ensures { IfOk result (λ n. n ≤ length values.now) }
+{
+    let mut blocks: BTreeSet<&[u32]> = BTreeSet::new(alloc);
+    for block in values.chunks(size) {
+        blocks.insert(block)?;
+    }
     Ok(blocks.len())
 }
 
-/// How many different blocks of 16 there are that stand nowhere in an aligned block of 64 of the
-/// others.
-fn count_lone(alloc: Global, small: &[u32], fast: &[u32]) -> Result<usize, AllocError> {
-    let mut windows: BTreeSet<&[u32]> = BTreeSet::new(alloc);
-    for block in fast.chunks(64) {
+/// The lists of 16 neighbours in an aligned block of 64.
+fn windows_of(alloc: Global, values: &[u32]) -> Result<BTreeSet<&[u32]>, AllocError> {
+    let mut windows = BTreeSet::new(alloc);
+    for block in values.chunks(64) {
         for window in block.windows(16) {
             windows.insert(window)?;
         }
     }
+    Ok(windows)
+}
+
+/// How many different blocks of 16 there are that stand nowhere in an aligned block of 64 of the
+/// others.
+fn count_lone(alloc: Global, small: &[u32], fast: &[u32]) -> Result<usize, AllocError>
+    ensures { IfOk result (λ n. n ≤ length small.now) }
+{
+    let windows = windows_of(alloc, fast)?;
     let mut lone: BTreeSet<&[u32]> = BTreeSet::new(alloc);
     for block in small.chunks(16) {
         if !windows.contains(block) {

@@ -44,13 +44,13 @@ pub(crate) fn index1_offset(trie_type: TrieType) -> u32 {
 pub(crate) fn push_sizes(text: &mut String, table: &Table) -> Result<(), AllocError> {
     let (header, index, values) = table.trie.parts();
     let (cells, bits) = (values.len(), table.width.bits());
+    let bytes = cells.saturating_mul(table.width.bytes());
     let kind = type_name(header.trie_type);
     writeln!(text, "// Made by ucptrie: a {kind} code point trie, with values of {bits} bits.")?;
     writeln!(
         text,
-        "// Index: {} cells, {} bytes. Data: {cells} cells, {} bytes.",
+        "// Index: {} cells, {} bytes. Data: {cells} cells, {bytes} bytes.",
         index.len(),
-        index.as_bytes().len(),
-        cells * bits as usize / 8
+        index.as_bytes().len()
     )
 }

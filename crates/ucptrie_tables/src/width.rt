@@ -1,4 +1,7 @@
 //! How many bits a value takes where a trie is stored.
+ghost use Rattle.std.specs.Prelude.{◌≡◌, ◌^◌, ◌<◌, ◌≤◌, ◌↔◌, IsTrue};
+ghost use Rattle.ucptrie_tables.specs.ValueWidth.{bits_of, bytes_of};
+
 use std::fmt;
 
 /// How many bits a value takes where a trie is stored (UCPTrieValueWidth).
@@ -11,11 +14,24 @@ pub enum ValueWidth {
 
 impl ValueWidth {
     /// How many bits these are: 8, 16 or 32.
-    pub fn bits(self) -> u32 {
+    pub fn bits(self) -> u32
+        ensures { result ≡ bits_of self }
+    {
         match self {
             ValueWidth::Bits8 => 8,
             ValueWidth::Bits16 => 16,
             ValueWidth::Bits32 => 32,
+        }
+    }
+
+    /// How many bytes these are: 1, 2 or 4.
+    pub fn bytes(self) -> usize
+        ensures { result ≡ bytes_of self }
+    {
+        match self {
+            ValueWidth::Bits8 => 1,
+            ValueWidth::Bits16 => 2,
+            ValueWidth::Bits32 => 4,
         }
     }
 
@@ -29,7 +45,9 @@ impl ValueWidth {
     }
 
     /// Whether a value has no more bits.
-    pub fn fits(self, value: u32) -> bool {
+    pub fn fits(self, value: u32) -> bool
+        ensures { IsTrue result ↔ (value < 2 ^ bits_of self) }
+    {
         match self {
             ValueWidth::Bits8 => value <= 0xff,
             ValueWidth::Bits16 => value <= 0xffff,

@@ -1,0 +1,4 @@
+pub mod Differences
+pub mod Inside
+pub mod Tables
+pub mod ValueWidth
