@@ -29,10 +29,7 @@ fn count_different(alloc: Global, values: &[u32], size: usize) -> Result<usize, 
     requires some { 0 < size }
     ensures { IfOk result (λ n. n ≤ length values.now) }
 {
-    let mut blocks: BTreeSet<&[u32]> = BTreeSet::new(alloc);
-    for block in values.chunks(size) {
-        blocks.insert(block)?;
-    }
+    let blocks: BTreeSet<&[u32]> = values.chunks(size).collect(alloc)?;
     Ok(blocks.len())
 }
 
@@ -53,12 +50,10 @@ fn count_lone(alloc: Global, small: &[u32], fast: &[u32]) -> Result<usize, Alloc
     ensures { IfOk result (λ n. n ≤ length small.now) }
 {
     let windows = windows_of(alloc, fast)?;
-    let mut lone: BTreeSet<&[u32]> = BTreeSet::new(alloc);
-    for block in small.chunks(16) {
-        if !windows.contains(block) {
-            lone.insert(block)?;
-        }
-    }
+    let lone: BTreeSet<&[u32]> = small
+        .chunks(16)
+        .filter(|block| !windows.contains(*block))
+        .collect(alloc)?;
     Ok(lone.len())
 }
 
