@@ -1,2 +1,4 @@
 mod DifferenceLemmas
+mod JsonLemmas
 mod SameNumbers
+mod WidthLemmas

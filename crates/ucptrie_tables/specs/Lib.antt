@@ -1,4 +1,5 @@
 pub mod Differences
+pub mod Files
 pub mod Inside
 pub mod Tables
 pub mod ValueWidth

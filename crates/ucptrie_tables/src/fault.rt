@@ -51,6 +51,10 @@ impl From<BuildError> for BuildFault {
 }
 
 impl From<WriteError> for BuildFault {
+    ghost use Rattle.ucptrie_tables.specs.declared.fault.BuildFault.TheVariants.{Binary as NotWritten};
+
+    ghost from_gives = { λ x e. (why : _) → e ≡ NotWritten why → x ≡ why };
+
     fn from(error: WriteError) -> BuildFault {
         match error {
             WriteError::Memory => BuildFault::Table(TableError::Memory),
@@ -135,6 +139,10 @@ pub enum ReadFault {
 }
 
 impl From<BinaryError> for ReadFault {
+    ghost use Rattle.ucptrie_tables.specs.declared.fault.ReadFault.TheVariants.{Binary};
+
+    ghost from_gives = { λ x e. e ≡ Binary x };
+
     fn from(error: BinaryError) -> ReadFault {
         ReadFault::Binary(error)
     }

@@ -1,4 +1,11 @@
 //! The table that a file has.
+ghost use Rattle.std.specs.Prelude.{◌≡◌, ◌^◌, ◌<◌, ℕ, IfErr, IfOk, codes, take};
+ghost use Rattle.icu_trie_core.specs.ValueNumbers.{fitting};
+ghost use Rattle.icu_trie_binary.specs.BinaryTrie.{IsWhyNoneStored};
+ghost use Rattle.ucptrie_tables.specs.Files.{IsBinaryOf, IsSwappedOf, IsJsonOf};
+ghost use Rattle.ucptrie_tables.specs.Inside.Numbers.{HasNumbersOf};
+ghost use Rattle.ucptrie_tables.specs.declared.fault.ReadFault.TheVariants.{Binary, Memory};
+
 use crate::fault::{ReadFault, TomlFault};
 use crate::table::Table;
 use crate::values::with_values_of;
@@ -20,7 +27,12 @@ fn widened<T: TrieValue>(
     alloc: Global,
     trie: &CodePointTrie<'_, T>,
     width: ValueWidth,
-) -> Result<Table, ReadFault> {
+) -> Result<Table, ReadFault>
+    ensures trie { IfOk result (λ t. HasNumbersOf T.number T.of_number (λ n. n) (fitting (2 ^ 32))
+        trie.now t.trie) }
+    ensures width { IfOk result (λ t. t.width ≡ width) }
+    ensures memory { IfErr result (λ e. e ≡ Memory) }
+{
     match with_values_of(alloc, trie) {
         Ok(trie) => Ok(Table { trie, width }),
         // Each value's number is one of 32 bits.
@@ -30,8 +42,12 @@ fn widened<T: TrieValue>(
 }
 
 /// The table in ICU's binary form.
-fn table_of_binary(alloc: Global, file: &[u8]) -> Result<Table, ReadFault> {
-    match from_binary_any(file)?.0 {
+fn table_of_binary(alloc: Global, file: &[u8]) -> Result<Table, ReadFault>
+    ensures ok { IfOk result (IsBinaryOf file.now) }
+    ensures err { IfErr result (λ e. (x : _) → e ≡ Binary x → IsWhyNoneStored file.now x) }
+{
+    let (read, _) = from_binary_any(file)?;
+    match read {
         AnyWidthTrie::Bits8(trie) => widened(alloc, &trie, ValueWidth::Bits8),
         AnyWidthTrie::Bits16(trie) => widened(alloc, &trie, ValueWidth::Bits16),
         AnyWidthTrie::Bits32(trie) => widened(alloc, &trie, ValueWidth::Bits32),
@@ -39,14 +55,18 @@ fn table_of_binary(alloc: Global, file: &[u8]) -> Result<Table, ReadFault> {
 }
 
 /// The table in ICU's binary form, of a machine with the other byte order: each width is tried.
-fn table_of_swapped(alloc: Global, file: &[u8]) -> Result<Table, ReadFault> {
+fn table_of_swapped(alloc: Global, file: &[u8]) -> Result<Table, ReadFault>
+    ensures { IfOk result (IsSwappedOf file.now) }
+{
     match from_binary_swapped::<u8>(alloc, file) {
+        Ok((trie, _)) => return widened(alloc, &trie, ValueWidth::Bits8),
         Err(SwappedError::Binary(BinaryError::OtherWidth)) => {}
-        read => return widened(alloc, &read?.0, ValueWidth::Bits8),
+        Err(error) => return Err(ReadFault::from(error)),
     }
     match from_binary_swapped::<u16>(alloc, file) {
+        Ok((trie, _)) => return widened(alloc, &trie, ValueWidth::Bits16),
         Err(SwappedError::Binary(BinaryError::OtherWidth)) => {}
-        read => return widened(alloc, &read?.0, ValueWidth::Bits16),
+        Err(error) => return Err(ReadFault::from(error)),
     }
     let (trie, _) = from_binary_swapped::<u32>(alloc, file)?;
     Ok(Table {
@@ -56,7 +76,9 @@ fn table_of_swapped(alloc: Global, file: &[u8]) -> Result<Table, ReadFault> {
 }
 
 /// The table in JSON. It says no width: its numbers have 32 bits.
-fn table_of_json(alloc: Global, text: &str) -> Result<Table, ReadFault> {
+fn table_of_json(alloc: Global, text: &str) -> Result<Table, ReadFault>
+    ensures { IfOk result (IsJsonOf text.now) }
+{
     let value = Value::from_str(alloc, text)?;
     Ok(Table {
         trie: from_json(alloc, &value)?,
@@ -108,7 +130,12 @@ fn table_of_toml(alloc: Global, text: &str) -> Result<Table, ReadFault> {
 /// # Errors
 /// `Binary`, `Json` and `TrieJson`, `Toml` and `TrieToml` with the fault of its form; `Text` where
 /// it has no signature and is no text; `Memory` where memory was refused.
-pub fn read_table(alloc: Global, file: &[u8]) -> Result<Table, ReadFault> {
+pub fn read_table(alloc: Global, file: &[u8]) -> Result<Table, ReadFault>
+    ensures binary { take 4 file.now ≡ codes "3irT" → IfOk result (IsBinaryOf file.now) }
+    ensures swapped { take 4 file.now ≡ codes "Tri3" → IfOk result (IsSwappedOf file.now) }
+    ensures err { take 4 file.now ≡ codes "3irT"
+        → IfErr result (λ e. (x : _) → e ≡ Binary x → IsWhyNoneStored file.now x) }
+{
     match file {
         [b'3', b'i', b'r', b'T', ..] => return table_of_binary(alloc, file),
         [b'T', b'r', b'i', b'3', ..] => return table_of_swapped(alloc, file),

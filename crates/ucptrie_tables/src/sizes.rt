@@ -1,5 +1,5 @@
 //! How many cells a trie may have by its values: the bounds that a built one keeps.
-ghost use Rattle.std.specs.Prelude.{◌≡◌, ◌<◌, ◌≤◌, length, IfOk, vec_len};
+ghost use Rattle.std.specs.Prelude.{◌≡◌, ◌<◌, IfOk, vec_len};
 
 use icu_trie::cptrie::CodePointTrie;
 use icu_zerovec::CODE_POINT_LIMIT;
@@ -26,8 +26,7 @@ fn values_of(alloc: Global, trie: &CodePointTrie<'_, u32>) -> Result<Vec<u32>, A
 
 /// How many of the aligned blocks of so many values are different.
 fn count_different(alloc: Global, values: &[u32], size: usize) -> Result<usize, AllocError>
-    requires some { 0 < size }
-    ensures { IfOk result (λ n. n ≤ length values.now) }
+    requires { 0 < size }
 {
     let blocks: BTreeSet<&[u32]> = values.chunks(size).collect(alloc)?;
     Ok(blocks.len())
@@ -46,9 +45,7 @@ fn windows_of(alloc: Global, values: &[u32]) -> Result<BTreeSet<&[u32]>, AllocEr
 
 /// How many different blocks of 16 there are that stand nowhere in an aligned block of 64 of the
 /// others.
-fn count_lone(alloc: Global, small: &[u32], fast: &[u32]) -> Result<usize, AllocError>
-    ensures { IfOk result (λ n. n ≤ length small.now) }
-{
+fn count_lone(alloc: Global, small: &[u32], fast: &[u32]) -> Result<usize, AllocError> {
     let windows = windows_of(alloc, fast)?;
     let lone: BTreeSet<&[u32]> = small
         .chunks(16)
@@ -66,10 +63,13 @@ pub fn bounds_of(alloc: Global, trie: &CodePointTrie<'_, u32>) -> Result<Bounds,
     let (header, _, _) = trie.parts();
     let values = values_of(alloc, trie)?;
     let (fast, small) = values.split_at(header.trie_type.fast_limit() as usize);
-    let data = 64 * count_different(alloc, fast, 64)? + 16 * count_lone(alloc, small, fast)? + 160;
+    let fast_cells = count_different(alloc, fast, 64)?.saturating_mul(64);
+    let small_cells = count_lone(alloc, small, fast)?.saturating_mul(16);
+    let data = fast_cells.saturating_add(small_cells).saturating_add(160);
     let cells = if data <= 0x10000 { 32 } else { 36 };
+    let index = count_different(alloc, small, 512)?.saturating_mul(cells);
     Ok(Bounds {
-        index: cells * count_different(alloc, small, 512)? + 3200,
+        index: index.saturating_add(3200),
         data,
     })
 }

@@ -1,4 +1,18 @@
 //! A table as the bytes of a file.
+ghost use Rattle.std.specs.Prelude.{◌≡◌, ◌^◌, ◌<◌, ◌++◌, ℕ, List, [], ◌∷◌, Some, IfErr, IfOk, string_bytes};
+ghost use Rattle.serde_json.specs.Written.{compact_text};
+ghost use Rattle.icu_zerovec.specs.CodePoints.{code_point_limit};
+ghost use Rattle.icu_zerovec.specs.Canonical.{IsCanonical};
+ghost use Rattle.icu_trie_core.specs.Runs.{Run, AreMaximalRuns};
+ghost use Rattle.icu_trie_core.specs.ValueNumbers.{fitting};
+ghost use Rattle.icu_trie.specs.Parts.{Parts};
+ghost use Rattle.icu_trie.specs.Ranges.{answers, IsCoherentTrie};
+ghost use Rattle.icu_trie_binary.specs.WrittenTrie.{binary_of};
+ghost use Rattle.icu_trie_formats.specs.TrieJson.{json_of};
+ghost use Rattle.ucptab_table.specs.TableText.{runs_text};
+ghost use Rattle.ucptrie_tables.specs.Inside.Numbers.{HasNumbersOf};
+ghost use Rattle.ucptrie_tables.specs.Tables.{binary_bytes};
+
 use crate::c_source::c_text;
 use crate::fault::BuildFault;
 use crate::rust_source::rust_text;
@@ -33,7 +47,11 @@ pub enum Form<'a> {
 }
 
 /// The bytes of the table's trie, over values of another type, in ICU's binary form.
-fn binary_over<P: TrieValue>(alloc: Global, table: &Table) -> Result<Vec<u8>, BuildFault> {
+fn binary_over<P: TrieValue>(alloc: Global, table: &Table) -> Result<Vec<u8>, BuildFault>
+    ensures { IsCanonical P.pack P.unpack P.WIDTH → IfOk result (λ bytes. (t : Parts _)
+        × HasNumbersOf (λ n. n) (fitting (2 ^ 32)) P.number P.of_number table.now.trie t
+        × (bytes.items ≡ binary_of P.WIDTH P.number P.pack t)) }
+{
     let narrowed: CodePointTrie<'static, P> = match with_values_of(alloc, &table.trie) {
         Ok(narrowed) => narrowed,
         Err(MapError::Closure(value)) => return Err(BuildFault::Width(value, table.width)),
@@ -43,7 +61,9 @@ fn binary_over<P: TrieValue>(alloc: Global, table: &Table) -> Result<Vec<u8>, Bu
 }
 
 /// The table in ICU's binary form, with values of its width.
-fn binary(alloc: Global, table: &Table) -> Result<Vec<u8>, BuildFault> {
+fn binary(alloc: Global, table: &Table) -> Result<Vec<u8>, BuildFault>
+    ensures { IfOk result (λ bytes. bytes.items ≡ binary_bytes table.now) }
+{
     match table.width {
         ValueWidth::Bits8 => binary_over::<u8>(alloc, table),
         ValueWidth::Bits16 => binary_over::<u16>(alloc, table),
@@ -52,7 +72,10 @@ fn binary(alloc: Global, table: &Table) -> Result<Vec<u8>, BuildFault> {
 }
 
 /// The table in JSON, in one line.
-fn json_text(alloc: Global, table: &Table) -> Result<String, MemoryError> {
+fn json_text(alloc: Global, table: &Table) -> Result<String, MemoryError>
+    ensures { IfOk result (λ text. string_bytes text
+        ≡ compact_text (json_of (λ n. n) table.now.trie) ++ 10 ∷ []) }
+{
     let mut text = to_json(alloc, &table.trie)?.to_string(alloc)?;
     text.push('\n')?;
     Ok(text)
@@ -63,7 +86,17 @@ fn json_text(alloc: Global, table: &Table) -> Result<String, MemoryError> {
 /// # Errors
 /// `Binary` where ICU's binary form has no room for the trie, `Width` where a value has more bits
 /// than the table's width, `Table` where memory was refused.
-pub fn written(alloc: Global, table: &Table, form: Form<'_>) -> Result<Vec<u8>, BuildFault> {
+pub fn written(alloc: Global, table: &Table, form: Form<'_>) -> Result<Vec<u8>, BuildFault>
+    ensures icu { form.entry ≡ Form.Icu
+        → IfOk result (λ bytes. bytes.items ≡ binary_bytes table.now) }
+    ensures json { form.entry ≡ Form.Json → IfOk result (λ bytes. bytes.items
+        ≡ compact_text (json_of (λ n. n) table.now.trie) ++ 10 ∷ []) }
+    ensures rows { form.entry ≡ Form.Rows → IsCoherentTrie (fitting (2 ^ 32)) table.now.trie
+        → (value : ℕ → ℕ)
+        → ((u : ℕ) → u < code_point_limit → answers table.now.trie u ≡ Some (value u))
+        → IfOk result (λ bytes. (runs : List (Run ℕ)) × (AreMaximalRuns value runs
+        × (bytes.items ≡ runs_text runs))) }
+{
     let text = match form {
         Form::Icu => return binary(alloc, table),
         Form::Toml => toml_text(alloc, table)?,
