@@ -1,5 +1,5 @@
 -- The table that rows make, and the bytes of a table in ICU's binary form.
-use Rattle.std.specs.Prelude.{◌≡◌, ℕ, ◌^◌, ◌<◌, List, All}
+use Rattle.std.specs.Prelude.{◌≡◌, ℕ, ◌^◌, ◌<◌, List, All, ⊤}
 use Rattle.icu_zerovec.specs.PackedBytes.{low_bytes}
 use Rattle.icu_trie_core.specs.ValueNumbers.{fitting}
 use Rattle.icu_trie_binary.specs.WrittenTrie.{binary_of}
@@ -8,7 +8,10 @@ use Rattle.icu_trie_builder.specs.MapAnswers.{AnswersMap}
 use Rattle.icu_trie_builder.specs.Writes.{value_after}
 use Rattle.icu_trie_builder.specs.declared.writes.Write.{Write}
 use Rattle.ucptab_table.specs.TableText.{AreRows}
+use Rattle.ucptab_table.specs.declared.fault.TableError.TheVariants.{Memory}
 use Rattle.ucptrie_tables.specs.ValueWidth.{bits_of, bytes_of}
+use Rattle.ucptrie_tables.specs.declared.fault.BuildFault.{BuildFault}
+use Rattle.ucptrie_tables.specs.declared.fault.BuildFault.TheVariants.{Table as TableFault, Width, Binary}
 use Rattle.ucptrie_tables.specs.declared.table.Table.{Table}
 use Rattle.ucptrie_tables.specs.declared.table.TableOptions.{TableOptions}
 
@@ -28,3 +31,10 @@ pub record IsTableOf (input : List ℕ) (options : TableOptions) (t : Table) : T
 -- the bytes of a table in ICU's binary form, with values of its width
 abbrev pub binary_bytes : Table → List ℕ
 binary_bytes t = binary_of (bytes_of t.width) (λ n. n) (low_bytes (bytes_of t.width)) t.trie
+
+-- a fault of the writing of a table, and not of its rows
+abbrev pub IsWriteFault : BuildFault → Type 0
+IsWriteFault (TableFault Memory) = ⊤
+IsWriteFault (TableFault _) = ⊥
+IsWriteFault (Width value width) = ⊤
+IsWriteFault (Binary why) = ⊤

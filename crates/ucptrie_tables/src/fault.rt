@@ -51,9 +51,9 @@ impl From<BuildError> for BuildFault {
 }
 
 impl From<WriteError> for BuildFault {
-    ghost use Rattle.ucptrie_tables.specs.declared.fault.BuildFault.TheVariants.{Binary as NotWritten};
+    ghost use Rattle.ucptrie_tables.specs.Tables.{IsWriteFault};
 
-    ghost from_gives = { λ x e. (why : _) → e ≡ NotWritten why → x ≡ why };
+    ghost from_gives = { λ _ e. IsWriteFault e };
 
     fn from(error: WriteError) -> BuildFault {
         match error {

@@ -10,6 +10,16 @@
 //! - `fault`: why a table can't be made, written or read
 #![tactic(auto)]
 
+ghost use Rattle.std.specs.Prelude.{◌≡◌, ◌++◌, ℕ, [], ◌∷◌, Err, IfOk};
+ghost use Rattle.serde_json.specs.Written.{compact_text};
+ghost use Rattle.icu_trie_formats.specs.TrieJson.{json_of};
+ghost use Rattle.ucptab_table.specs.TableText.{IsFirstFault, IsTableText, IsTooLargeInput};
+ghost use Rattle.ucptab_table.specs.declared.fault.RowFault.{RowFault};
+ghost use Rattle.ucptab_table.specs.declared.fault.TableError.TheVariants.{Row, TooLarge};
+ghost use Rattle.ucptrie_tables.specs.Tables.{binary_bytes, IsTableOf};
+ghost use Rattle.ucptrie_tables.specs.declared.fault.BuildFault.TheVariants.{Table as TableFault};
+ghost use Rattle.ucptrie_tables.specs.declared.table.Table.{Table};
+
 pub mod diff;
 pub mod fault;
 pub mod read;
@@ -25,3 +35,37 @@ mod cells;
 mod rust_source;
 mod toml_text;
 mod values;
+
+use crate::fault::BuildFault;
+use crate::table::{TableOptions, table_of_rows};
+use crate::written::{Form, written};
+use std::alloc::Global;
+
+/// The table of rows in a form, as the bytes of a file. The rows of it are the text that `ucptab`
+/// prints where no number is asked.
+///
+/// # Errors
+/// `Table` with the first line that is no row, where the map is too large for a trie, and where
+/// memory was refused; `Width` with a value that has more bits than are asked for; `Binary` where
+/// ICU's binary form has no room for the trie.
+pub fn built(
+    alloc: Global,
+    rows: &[u8],
+    options: TableOptions,
+    form: Form<'_>,
+) -> Result<Vec<u8>, BuildFault>
+    ensures rows { form.entry ≡ Form.Rows → IfOk result
+        (λ bytes. IsTableText rows.now options.default options.error [] bytes.items) }
+    ensures icu { form.entry ≡ Form.Icu → IfOk result
+        (λ bytes. (t : Table) × (IsTableOf rows.now options t × (bytes.items ≡ binary_bytes t))) }
+    ensures json { form.entry ≡ Form.Json → IfOk result
+        (λ bytes. (t : Table) × (IsTableOf rows.now options t
+        × (bytes.items ≡ compact_text (json_of (λ n. n) t.trie) ++ 10 ∷ []))) }
+    ensures row { (k : ℕ) (f : RowFault) → result ≡ Err (TableFault (Row k f))
+        → IsFirstFault rows.now k f }
+    ensures too_large { result ≡ Err (TableFault TooLarge)
+        → IsTooLargeInput options.default rows.now }
+{
+    let table = table_of_rows(alloc, rows, options)?;
+    written(alloc, &table, form)
+}

@@ -1,4 +1,12 @@
 //! What a table is, in lines.
+ghost use Rattle.std.specs.Prelude.{◌≡◌, ◌++◌, ◌^◌, ◌<◌, ℕ, List, Some, IfOk, string_bytes};
+ghost use Rattle.icu_zerovec.specs.CodePoints.{code_point_limit};
+ghost use Rattle.icu_trie_core.specs.Runs.{Run, AreMaximalRuns};
+ghost use Rattle.icu_trie_core.specs.ValueNumbers.{fitting};
+ghost use Rattle.icu_trie.specs.Parts.{trie_value};
+ghost use Rattle.icu_trie.specs.Ranges.{answers, IsCoherentTrie};
+ghost use Rattle.ucptab_table.specs.TableText.{answers_text, runs_text};
+
 use crate::sizes::bounds_of;
 use crate::source::type_name;
 use crate::table::Table;
@@ -35,7 +43,12 @@ fn push_cells(alloc: Global, text: &mut String, table: &Table) -> Result<(), All
 ///
 /// # Errors
 /// `AllocError` where memory was refused.
-pub fn shown(alloc: Global, table: &Table) -> Result<String, AllocError> {
+pub fn shown(alloc: Global, table: &Table) -> Result<String, AllocError>
+    ensures { IsCoherentTrie (fitting (2 ^ 32)) table.now.trie → (value : ℕ → ℕ)
+        → ((u : ℕ) → u < code_point_limit → answers table.now.trie u ≡ Some (value u))
+        → IfOk result (λ text. (comments : List ℕ) × ((runs : List (Run ℕ))
+        × (AreMaximalRuns value runs × (string_bytes text ≡ comments ++ runs_text runs)))) }
+{
     let mut text = String::new(alloc);
     push_header(&mut text, table)?;
     push_cells(alloc, &mut text, table)?;
@@ -48,6 +61,10 @@ pub fn shown(alloc: Global, table: &Table) -> Result<String, AllocError> {
 ///
 /// # Errors
 /// `AllocError` where memory was refused.
-pub fn answered(alloc: Global, table: &Table, asked: &[u32]) -> Result<String, AllocError> {
+pub fn answered(alloc: Global, table: &Table, asked: &[u32]) -> Result<String, AllocError>
+    ensures { (given : ℕ → ℕ)
+        → ((n : ℕ) → n < 2 ^ 32 → trie_value table.now.trie n ≡ Some (given n))
+        → IfOk result (λ text. string_bytes text ≡ answers_text given asked.now) }
+{
     answers_text(alloc, asked, |n| table.trie.get32(n))
 }

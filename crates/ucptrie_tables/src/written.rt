@@ -11,7 +11,7 @@ ghost use Rattle.icu_trie_binary.specs.WrittenTrie.{binary_of};
 ghost use Rattle.icu_trie_formats.specs.TrieJson.{json_of};
 ghost use Rattle.ucptab_table.specs.TableText.{runs_text};
 ghost use Rattle.ucptrie_tables.specs.Inside.Numbers.{HasNumbersOf};
-ghost use Rattle.ucptrie_tables.specs.Tables.{binary_bytes};
+ghost use Rattle.ucptrie_tables.specs.Tables.{binary_bytes, IsWriteFault};
 
 use crate::c_source::c_text;
 use crate::fault::BuildFault;
@@ -26,7 +26,8 @@ use icu_trie::value::TrieValue;
 use icu_trie_binary::binary::to_binary;
 use icu_trie_formats::json::to_json;
 use icu_zerovec::MemoryError;
-use std::alloc::{AllocError, Global};
+use std::alloc::Global;
+use ucptab_table::fault::TableError;
 use ucptab_table::text::ranges_text;
 
 /// The forms in which a table is written.
@@ -48,21 +49,23 @@ pub enum Form<'a> {
 
 /// The bytes of the table's trie, over values of another type, in ICU's binary form.
 fn binary_over<P: TrieValue>(alloc: Global, table: &Table) -> Result<Vec<u8>, BuildFault>
-    ensures { IsCanonical P.pack P.unpack P.WIDTH → IfOk result (λ bytes. (t : Parts _)
+    ensures ok { IsCanonical P.pack P.unpack P.WIDTH → IfOk result (λ bytes. (t : Parts _)
         × HasNumbersOf (λ n. n) (fitting (2 ^ 32)) P.number P.of_number table.now.trie t
         × (bytes.items ≡ binary_of P.WIDTH P.number P.pack t)) }
+    ensures err { IfErr result IsWriteFault }
 {
     let narrowed: CodePointTrie<'static, P> = match with_values_of(alloc, &table.trie) {
         Ok(narrowed) => narrowed,
         Err(MapError::Closure(value)) => return Err(BuildFault::Width(value, table.width)),
-        Err(MapError::Memory) => return Err(BuildFault::from(AllocError)),
+        Err(MapError::Memory) => return Err(BuildFault::Table(TableError::Memory)),
     };
     Ok(to_binary(alloc, &narrowed)?)
 }
 
 /// The table in ICU's binary form, with values of its width.
 fn binary(alloc: Global, table: &Table) -> Result<Vec<u8>, BuildFault>
-    ensures { IfOk result (λ bytes. bytes.items ≡ binary_bytes table.now) }
+    ensures ok { IfOk result (λ bytes. bytes.items ≡ binary_bytes table.now) }
+    ensures err { IfErr result IsWriteFault }
 {
     match table.width {
         ValueWidth::Bits8 => binary_over::<u8>(alloc, table),
@@ -96,6 +99,7 @@ pub fn written(alloc: Global, table: &Table, form: Form<'_>) -> Result<Vec<u8>, 
         → ((u : ℕ) → u < code_point_limit → answers table.now.trie u ≡ Some (value u))
         → IfOk result (λ bytes. (runs : List (Run ℕ)) × (AreMaximalRuns value runs
         × (bytes.items ≡ runs_text runs))) }
+    ensures err { IfErr result IsWriteFault }
 {
     let text = match form {
         Form::Icu => return binary(alloc, table),
