@@ -7,18 +7,18 @@ mod words;
 use anyhow::{Context, Result, bail};
 use clap::ArgMatches;
 use icu_trie_core::header::TrieType;
-use std::env;
-use std::fs;
 use std::io::{Read, Write};
 use std::process::ExitCode;
+use std::{env, fs};
 use ucptab_table::digits::hexadecimal;
+use ucptrie_tables::built;
 use ucptrie_tables::diff::differences_text;
 use ucptrie_tables::read::read_table;
 use ucptrie_tables::shown::{answered, shown};
 use ucptrie_tables::source::is_name;
-use ucptrie_tables::table::{Table, TableOptions, table_of_rows};
+use ucptrie_tables::table::{Table, TableOptions};
 use ucptrie_tables::width::ValueWidth;
-use ucptrie_tables::written::{Form, written};
+use ucptrie_tables::written::Form;
 use words::program_words;
 
 /// The type that the words name.
@@ -69,8 +69,7 @@ fn build(rt: &HostRuntime, matches: &ArgMatches<'_>) -> Result<()> {
     let form = form(matches)?;
     let mut rows = Vec::new(rt.alloc());
     rt.stdin().read_to_end(&mut rows)?;
-    let table = table_of_rows(rt.alloc(), &rows, options(matches))?;
-    let bytes = written(rt.alloc(), &table, form)?;
+    let bytes = built(rt.alloc(), &rows, options(matches), form)?;
     rt.stdout().write_all(&bytes)?;
     Ok(())
 }

@@ -1,11 +1,11 @@
 -- How the differences of two tries go on from run to run.
-use Rattle.std.proofs.Common.{◌≡◌, ◌≢◌, ℕ, ◌+◌, ◌-◌, ◌<◌, ◌≤◌, List, [], ◌∷◌, ◌++◌, append_assoc, Option, Some, refl, sym, ap, ◌∙◌, arith, inl, inr}
+use Rattle.std.proofs.Common.{◌≡◌, ◌≢◌, ℕ, ◌+◌, ◌<◌, ◌≤◌, List, [], ◌∷◌, Option, Some, sym, ap, ◌∙◌, arith, inl, inr}
 use Rattle.std.proofs.lemmas.Bool.{cases_lt}
 use Rattle.icu_trie.specs.Parts.{Parts, trie_value}
 use Rattle.icu_trie_core.specs.Range.{first_of, last_of}
 use Rattle.icu_trie_core.specs.Runs.{LongestRun}
 use Rattle.icu_trie_core.specs.declared.range.CodePointMapRange.{CodePointMapRange}
-use Rattle.ucptrie_tables.specs.Differences.{both_values, AreSame, IsDifference, AreDifferencesFrom}
+use Rattle.ucptrie_tables.specs.Differences.{both_values, AreSame, AreDifferencesFrom}
 
 module _ (a b : Parts ℕ) where
   -- a run of one value in both tries

@@ -1,6 +1,6 @@
 -- The JSON of a trie has whole numbers alone.
 use Rattle.std.proofs.Common.{◌≡◌, ℕ, List, [], ◌∷◌, map, false, refl, ◌∙◌, ap}
-use Rattle.serde_json.specs.Data.{Data, number, unsigned, array}
+use Rattle.serde_json.specs.Data.{Data, number, unsigned}
 use Rattle.serde_json.specs.View.{items_of}
 use Rattle.serde_json.specs.Written.{compact_text, has_float, items_have_float}
 use Rattle.icu_trie.specs.Parts.{Parts}

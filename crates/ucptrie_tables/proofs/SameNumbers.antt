@@ -5,7 +5,7 @@ use Rattle.std.specs.Option.{ok_or}
 use Rattle.icu_trie_core.specs.ValueNumbers.{fitting}
 use Rattle.icu_trie.specs.Parts.{Parts}
 use Rattle.icu_trie.specs.Conversion.{with_null_value}
-use Rattle.icu_trie.specs.MappedTrie.{CallsInTurn, IsMapOfTrie, IsWhyNone, MapsInTurn}
+use Rattle.icu_trie.specs.MappedTrie.{CallsInTurn, IsMapOfTrie, MapsInTurn}
 use Rattle.icu_trie.specs.declared.map_value.MapError.{MapError}
 use Rattle.icu_trie.specs.declared.map_value.MapError.TheVariants.{Closure, Memory}
 use Rattle.ucptrie_tables.specs.Inside.Numbers.{HasNumbersOf}

@@ -28,10 +28,17 @@ static inline uint32_t @_get(uint32_t c) {
 fn push_arrays(text: &mut String, table: &Table, name: &str) -> Result<(), AllocError> {
     let (_, index, values) = table.trie.parts();
     let (bits, cells) = (table.width.bits(), values.len());
-    writeln!(text, "static const uint16_t {name}_trieIndex[{}]={{", index.len())?;
+    writeln!(
+        text,
+        "static const uint16_t {name}_trieIndex[{}]={{",
+        index.len()
+    )?;
     push_cells(text, index, "")?;
     text.push_str("\n};\n\n")?;
-    writeln!(text, "static const uint{bits}_t {name}_trieData[{cells}]={{")?;
+    writeln!(
+        text,
+        "static const uint{bits}_t {name}_trieData[{cells}]={{"
+    )?;
     push_cells(text, values, "")?;
     text.push_str("\n};\n\n")
 }
@@ -40,9 +47,17 @@ fn push_arrays(text: &mut String, table: &Table, name: &str) -> Result<(), Alloc
 fn push_numbers(text: &mut String, table: &Table, name: &str) -> Result<(), AllocError> {
     let (header, _, values) = table.trie.parts();
     text.push_str("enum {\n")?;
-    writeln!(text, "    {name}_fastLimit = {:#x},", header.trie_type.fast_limit())?;
+    writeln!(
+        text,
+        "    {name}_fastLimit = {:#x},",
+        header.trie_type.fast_limit()
+    )?;
     writeln!(text, "    {name}_highStart = {:#x},", header.high_start)?;
-    writeln!(text, "    {name}_index1 = {},", index1_offset(header.trie_type))?;
+    writeln!(
+        text,
+        "    {name}_index1 = {},",
+        index1_offset(header.trie_type)
+    )?;
     writeln!(text, "    {name}_dataLength = {}", values.len())?;
     text.push_str("};\n\n")
 }
@@ -68,10 +83,18 @@ fn push_struct(text: &mut String, table: &Table, name: &str) -> Result<(), Alloc
     writeln!(text, "    {name}_trieIndex,")?;
     writeln!(text, "    {{ {name}_trieData }},")?;
     writeln!(text, "    {}, {},", index.len(), values.len())?;
-    writeln!(text, "    {:#x}, {:#x},", header.high_start, header.shifted12_high_start)?;
+    writeln!(
+        text,
+        "    {:#x}, {:#x},",
+        header.high_start, header.shifted12_high_start
+    )?;
     writeln!(text, "    {kind}, {width},")?;
     writeln!(text, "    0, 0,")?;
-    writeln!(text, "    {:#x}, {:#x},", header.index3_null_offset, header.data_null_offset)?;
+    writeln!(
+        text,
+        "    {:#x}, {:#x},",
+        header.index3_null_offset, header.data_null_offset
+    )?;
     writeln!(text, "    {:#x},", header.null_value)?;
     text.push_str("};\n#endif\n")
 }

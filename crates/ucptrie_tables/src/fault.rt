@@ -8,8 +8,7 @@ use icu_trie_formats::json::TrieJsonError;
 use icu_trie_formats::trie_toml::{TomlError, TrieFromTomlError};
 use icu_zerovec::MemoryError;
 use std::alloc::AllocError;
-use std::error;
-use std::fmt;
+use std::{error, fmt};
 use thiserror::Error;
 use ucptab_table::fault::TableError;
 

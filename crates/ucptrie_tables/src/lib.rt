@@ -20,21 +20,20 @@ ghost use Rattle.ucptrie_tables.specs.Tables.{binary_bytes, IsTableOf};
 ghost use Rattle.ucptrie_tables.specs.declared.fault.BuildFault.TheVariants.{Table as TableFault};
 ghost use Rattle.ucptrie_tables.specs.declared.table.Table.{Table};
 
+mod c_source;
+mod cells;
 pub mod diff;
 pub mod fault;
 pub mod read;
+mod rust_source;
 pub mod shown;
 pub mod sizes;
 pub mod source;
 pub mod table;
-pub mod width;
-pub mod written;
-
-mod c_source;
-mod cells;
-mod rust_source;
 mod toml_text;
 mod values;
+pub mod width;
+pub mod written;
 
 use crate::fault::BuildFault;
 use crate::table::{TableOptions, table_of_rows};

@@ -39,13 +39,37 @@ fn push_header(text: &mut String, table: &Table) -> Result<(), AllocError> {
     let (header, _, _) = table.trie.parts();
     let (kind, limit) = (type_code(header.trie_type), header.trie_type.fast_limit());
     writeln!(text, "    pub const TRIE_TYPE: u8 = {kind};")?;
-    writeln!(text, "    pub const HIGH_START: u32 = {:#x};", header.high_start)?;
-    writeln!(text, "    pub const SHIFTED12_HIGH_START: u16 = {:#x};", header.shifted12_high_start)?;
-    writeln!(text, "    pub const INDEX3_NULL_OFFSET: u16 = {:#x};", header.index3_null_offset)?;
-    writeln!(text, "    pub const DATA_NULL_OFFSET: u32 = {:#x};", header.data_null_offset)?;
-    writeln!(text, "    pub const NULL_VALUE: u32 = {:#x};", header.null_value)?;
+    writeln!(
+        text,
+        "    pub const HIGH_START: u32 = {:#x};",
+        header.high_start
+    )?;
+    writeln!(
+        text,
+        "    pub const SHIFTED12_HIGH_START: u16 = {:#x};",
+        header.shifted12_high_start
+    )?;
+    writeln!(
+        text,
+        "    pub const INDEX3_NULL_OFFSET: u16 = {:#x};",
+        header.index3_null_offset
+    )?;
+    writeln!(
+        text,
+        "    pub const DATA_NULL_OFFSET: u32 = {:#x};",
+        header.data_null_offset
+    )?;
+    writeln!(
+        text,
+        "    pub const NULL_VALUE: u32 = {:#x};",
+        header.null_value
+    )?;
     writeln!(text, "    const FAST_LIMIT: u32 = {limit:#x};")?;
-    writeln!(text, "    const INDEX1: u32 = {};\n", index1_offset(header.trie_type))
+    writeln!(
+        text,
+        "    const INDEX1: u32 = {};\n",
+        index1_offset(header.trie_type)
+    )
 }
 
 /// Appends the two arrays.

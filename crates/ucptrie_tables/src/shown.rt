@@ -19,8 +19,16 @@ fn push_header(text: &mut String, table: &Table) -> Result<(), AllocError> {
     writeln!(text, "# type: {}", type_name(header.trie_type))?;
     writeln!(text, "# value width: {} bits", table.width.bits())?;
     writeln!(text, "# high start: {:#x}", header.high_start)?;
-    writeln!(text, "# shifted12 high start: {:#x}", header.shifted12_high_start)?;
-    writeln!(text, "# index3 null offset: {:#x}", header.index3_null_offset)?;
+    writeln!(
+        text,
+        "# shifted12 high start: {:#x}",
+        header.shifted12_high_start
+    )?;
+    writeln!(
+        text,
+        "# index3 null offset: {:#x}",
+        header.index3_null_offset
+    )?;
     writeln!(text, "# data null offset: {:#x}", header.data_null_offset)?;
     writeln!(text, "# null value: {}", header.null_value)?;
     writeln!(text, "# error value: {}", table.trie.error_value())
@@ -31,9 +39,23 @@ fn push_header(text: &mut String, table: &Table) -> Result<(), AllocError> {
 fn push_cells(alloc: Global, text: &mut String, table: &Table) -> Result<(), AllocError> {
     let (_, index, values) = table.trie.parts();
     let bounds = bounds_of(alloc, &table.trie)?;
-    let coherent = if table.trie.is_coherent() { "yes" } else { "no" };
-    writeln!(text, "# index cells: {}, bound {}", index.len(), bounds.index)?;
-    writeln!(text, "# data cells: {}, bound {}", values.len(), bounds.data)?;
+    let coherent = if table.trie.is_coherent() {
+        "yes"
+    } else {
+        "no"
+    };
+    writeln!(
+        text,
+        "# index cells: {}, bound {}",
+        index.len(),
+        bounds.index
+    )?;
+    writeln!(
+        text,
+        "# data cells: {}, bound {}",
+        values.len(),
+        bounds.data
+    )?;
     writeln!(text, "# coherent: {coherent}")
 }
 

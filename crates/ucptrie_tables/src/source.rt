@@ -46,7 +46,10 @@ pub(crate) fn push_sizes(text: &mut String, table: &Table) -> Result<(), AllocEr
     let (cells, bits) = (values.len(), table.width.bits());
     let bytes = cells.saturating_mul(table.width.bytes());
     let kind = type_name(header.trie_type);
-    writeln!(text, "// Made by ucptrie: a {kind} code point trie, with values of {bits} bits.")?;
+    writeln!(
+        text,
+        "// Made by ucptrie: a {kind} code point trie, with values of {bits} bits."
+    )?;
     writeln!(
         text,
         "// Index: {} cells, {} bytes. Data: {cells} cells, {bytes} bytes.",

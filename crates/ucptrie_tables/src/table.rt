@@ -51,11 +51,7 @@ fn first_wider(trie: &CodePointTrie<'_, u32>, width: ValueWidth) -> Option<u32>
 /// `Table` with the first line that is no row, where the map is too large for a trie, and where
 /// memory was refused; `Width` with the first value in the trie's data that has more bits than are
 /// asked for.
-pub fn table_of_rows(
-    alloc: Global,
-    rows: &[u8],
-    options: TableOptions,
-) -> Result<Table, BuildFault>
+pub fn table_of_rows(alloc: Global, rows: &[u8], options: TableOptions) -> Result<Table, BuildFault>
     ensures ok { IfOk result (IsTableOf rows.now options) }
     ensures row { (k : ℕ) (f : RowFault) → result ≡ Err (TableFault (Row k f))
         → IsFirstFault rows.now k f }

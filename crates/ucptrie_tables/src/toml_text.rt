@@ -10,7 +10,11 @@ fn push_header(text: &mut String, table: &Table) -> Result<(), AllocError> {
     writeln!(text, "indexLength = {}", index.len())?;
     writeln!(text, "dataLength = {}", values.len())?;
     writeln!(text, "highStart = {:#x}", header.high_start)?;
-    writeln!(text, "shifted12HighStart = {:#x}", header.shifted12_high_start)?;
+    writeln!(
+        text,
+        "shifted12HighStart = {:#x}",
+        header.shifted12_high_start
+    )?;
     writeln!(text, "type = {}", type_code(header.trie_type))?;
     writeln!(text, "valueWidth = {}", table.width.code())?;
     writeln!(text, "index3NullOffset = {:#x}", header.index3_null_offset)?;

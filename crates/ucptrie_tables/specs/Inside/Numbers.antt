@@ -1,5 +1,5 @@
 -- A trie that has the numbers of another one as values of its own type.
-use Rattle.std.specs.Prelude.{◌≡◌, ℕ, List, map, Option, Some}
+use Rattle.std.specs.Prelude.{◌≡◌, ℕ, map, Option, Some}
 use Rattle.icu_trie.specs.Parts.{Parts}
 use Rattle.icu_trie.specs.Conversion.{with_null_value}
 

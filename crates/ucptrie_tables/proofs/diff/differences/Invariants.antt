@@ -1,4 +1,4 @@
-use Rattle.std.proofs.Common.{◌-◌, ◌≡◌, ℕ, ◌≤◌, List, ◌++◌}
+use Rattle.std.proofs.Common.{◌-◌, ℕ, ◌≤◌, List, ◌++◌}
 use Rattle.icu_trie_core.specs.declared.range.CodePointMapRange.{CodePointMapRange}
 use Rattle.ucptrie_tables.specs.Differences.{AreDifferencesFrom}
 use Rattle.ucptrie_tables.proofs.diff.differences.Given as goal

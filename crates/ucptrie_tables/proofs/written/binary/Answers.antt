@@ -1,4 +1,3 @@
-use Rattle.std.proofs.Common.{rules}
 use Rattle.icu_zerovec.proofs.CallerLemmas.{canonical_u8, canonical_u16, canonical_u32}
 use Rattle.ucptrie_tables.specs.declared.width.ValueWidth.TheVariants.{Bits8, Bits16}
 use Rattle.ucptrie_tables.proofs.WidthLemmas.{binary_bytes-narrowed}
