@@ -16,9 +16,9 @@ use Rattle.ucptrie_tables.specs.declared.table.Table.{Table}
 use Rattle.ucptrie_tables.specs.declared.table.TableOptions.{TableOptions}
 
 -- no line of the input has a fault, and the table is what its rows and the options ask for: it
--- answers each code point by the last row that covers it and else by the default, and a number above
--- the code space by the error value, its trie is of the asked type and well built, and each of its
--- values has no more bits than are asked for
+-- answers each code point by the last row that covers it and else by the default, and a number
+-- above the code space by the error value, its trie is of the asked type and well built, and each
+-- of its values has no more bits than are asked for
 pub record IsTableOf (input : List ℕ) (options : TableOptions) (t : Table) : Type 0 where
   pub writes : List (Write ℕ)
   pub rows : AreRows input writes

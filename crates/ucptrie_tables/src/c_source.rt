@@ -99,8 +99,8 @@ fn push_struct(text: &mut String, table: &Table, name: &str) -> Result<(), Alloc
     text.push_str("};\n#endif\n")
 }
 
-/// The table in C: the two arrays, a look-up over them that needs no ICU, and the trie for ICU where
-/// its header is included before.
+/// The table in C: the two arrays, a look-up over them that needs no ICU, and the trie for ICU
+/// where its header is included before.
 pub(crate) fn c_text(alloc: Global, table: &Table, name: &str) -> Result<String, AllocError> {
     let mut text = String::new(alloc);
     push_sizes(&mut text, table)?;

@@ -6,7 +6,8 @@ use std::alloc::AllocError;
 /// How many cells stand in a line.
 const CELLS_IN_LINE: usize = 16;
 
-/// Appends a number as ICU's tools write it: in decimal digits up to 9, and else in hexadecimal ones.
+/// Appends a number as ICU's tools write it: in decimal digits up to 9, and else in hexadecimal
+/// ones.
 fn push_number(text: &mut String, number: u32) -> Result<(), AllocError> {
     if number <= 9 {
         write!(text, "{number}")

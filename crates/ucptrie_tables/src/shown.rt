@@ -34,8 +34,8 @@ fn push_header(text: &mut String, table: &Table) -> Result<(), AllocError> {
     writeln!(text, "# error value: {}", table.trie.error_value())
 }
 
-/// Appends how many cells the table has, each count with the bound on it, and whether the header can
-/// be trusted.
+/// Appends how many cells the table has, each count with the bound on it, and whether the header
+/// can be trusted.
 fn push_cells(alloc: Global, text: &mut String, table: &Table) -> Result<(), AllocError> {
     let (_, index, values) = table.trie.parts();
     let bounds = bounds_of(alloc, &table.trie)?;
@@ -59,9 +59,9 @@ fn push_cells(alloc: Global, text: &mut String, table: &Table) -> Result<(), All
     writeln!(text, "# coherent: {coherent}")
 }
 
-/// What the table is: the fields of its header, how many cells it has beside the bounds that a built
-/// trie of its values keeps, and whether its header can be trusted, each in a comment of `ucptab`'s
-/// form; and then its ranges, in rows of that form. So the whole text is a table again.
+/// What the table is: the fields of its header, how many cells it has beside the bounds that a
+/// built trie of its values keeps, and whether its header can be trusted, each in a comment of
+/// `ucptab`'s form; and then its ranges, in rows of that form. So the whole text is a table again.
 ///
 /// # Errors
 /// `AllocError` where memory was refused.
