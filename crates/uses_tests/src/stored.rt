@@ -13,10 +13,16 @@ fn expect(rt: &impl Abort, holds: bool, what: &str) {
     assert!(rt; holds, "{what}");
 }
 
-/// A trie in which `A` to `Z` have this value, and what is above the code points too.
-fn table_of<T: TrieValue>(alloc: Global, none: T, letter: T) -> Option<CodePointTrie<'static, T>> {
-    let rows = [Write::Range(0x41..=0x5A, letter)];
-    build_from_writes(alloc, none, letter, TrieType::Small, &rows).ok()
+/// A trie in which `A` to `Z` have 1, and what is above the code points too.
+fn ones(alloc: Global) -> Option<CodePointTrie<'static, u8>> {
+    let rows = [Write::Range(0x41..=0x5A, 1)];
+    build_from_writes(alloc, 0, 1, TrieType::Small, &rows).ok()
+}
+
+/// A trie in which `A` to `Z` have 500.
+fn five_hundreds(alloc: Global) -> Option<CodePointTrie<'static, u16>> {
+    let rows = [Write::Range(0x41..=0x5A, 500)];
+    build_from_writes(alloc, 0, 0, TrieType::Small, &rows).ok()
 }
 
 /// Two tables, written one behind the other.
@@ -33,7 +39,7 @@ fn file_of(
 
 #[test]
 fn a_table_through_a_file(rt: HostRuntime) {
-    let Some(trie) = table_of(rt.alloc(), 0u8, 1) else {
+    let Some(trie) = ones(rt.alloc()) else {
         panic!(rt; "built");
     };
     let found = match stored::through_a_file(rt.alloc(), &trie) {
@@ -51,9 +57,7 @@ fn values_of_a(bytes: &[u8]) -> Option<(u8, u16)> {
 
 #[test]
 fn two_tables_of_a_file(rt: HostRuntime) {
-    let first = table_of(rt.alloc(), 0u8, 1);
-    let second = table_of(rt.alloc(), 0u16, 500);
-    let (Some(first), Some(second)) = (first, second) else {
+    let (Some(first), Some(second)) = (ones(rt.alloc()), five_hundreds(rt.alloc())) else {
         panic!(rt; "built");
     };
     let found = match file_of(rt.alloc(), &first, &second) {
