@@ -1,5 +1,5 @@
-"""The edition in Rust as tests/rust has it: written anew, with our crates of tests in it, or without
-what stands on other crates."""
+"""The edition in Rust as tests/rust has it: written anew, with our crates of tests in it, or
+without what stands on other crates."""
 import filecmp
 import glob
 import importlib.machinery
@@ -11,8 +11,8 @@ import sys
 
 import public_calls
 from rust_rules import (
-    FORM_MODULES, FORM_RULES, FORMS, LEFT_OUT, NOT_SWEPT, OTHER_NAMES, TEST_NAMES, TEST_RULES, TESTS,
-    UNKNOWN
+    FORM_MODULES, FORM_RULES, FORMS, LEFT_OUT, NOT_SWEPT, OTHER_NAMES, TEST_NAMES, TEST_RULES,
+    TESTS, UNKNOWN
 )
 
 TOP = os.path.dirname(os.path.dirname(os.path.realpath(__file__)))

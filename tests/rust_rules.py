@@ -15,13 +15,17 @@ FORM_MODULES = (
     " packed_tests/tests/unit_tries/written trie_format_tests/tests/json"
     " trie_format_tests/tests/toml_keys trie_format_tests/tests/trie_toml"
 ).split()
+# A test of memory becomes one that runs it by one of tests/rust_parts/refusals.rs.
+RUN_BY = r"#[test]\nfn \1() {\n    %s(\1_once);\n}\n\nfn \1_once("
 # What tests of Rattle have besides the code: a runtime in hand, and assertions that name it.
 TEST_RULES = [
-    # A test of memory runs with each of its requests refused, but for serde_json's, which has no
-    # answer to that: see tests/rust_parts/refusals.rs.
-    (r"#\[test\]\s*fn (?!to_json)(\w+_refused)\(", r"#[test]\nfn \1() {\n    each_refused(\1_once);\n}\n\nfn \1_once("),
-    (r"#\[test\]\s*fn (\w+_quiet)\(", r"#[test]\nfn \1() {\n    none_asked(\1_once);\n}\n\nfn \1_once("),
-    (r"(#\[test\]\s*fn \w+\()(?:mut )?rt: HostRuntime\)([^{]*)\{", r"\1)\2{\n    let rt = HostRuntime;"),
+    # serde_json has no answer to want of memory.
+    (r"#\[test\]\s*fn (?!to_json)(\w+_refused)\(", RUN_BY % "each_refused"),
+    (r"#\[test\]\s*fn (\w+_quiet)\(", RUN_BY % "none_asked"),
+    (
+        r"(#\[test\]\s*fn \w+\()(?:mut )?rt: HostRuntime\)([^{]*)\{",
+        r"\1)\2{\n    let rt = HostRuntime;",
+    ),
     (r"\b(assert|assert_eq|assert_ne|panic)!\(&?rt;\s*", r"\1!("),
     (r"\.expect\(&?rt, ", ".expect("),
     (r"\(impl Abort \+ AllocGlobal\)", "impl Abort"),
@@ -40,7 +44,7 @@ TEST_RULES = [
     # What is needed beside JSON and TOML.
     (r"\bValue::from_str\((?:alloc, )?", "serde_json::from_str::<Value>("),
     (r"\btoml::table_from_str\(alloc, ", "table_from_str("),
-    (r"use rand_core::Rng;\n|use rand_pcg::Pcg32;\n|use std::\{fs, io, str\};\n|use std::str;\n", ""),
+    (r"use (?:rand_core::Rng|rand_pcg::Pcg32|std::\{fs, io, str\}|std::str);\n", ""),
     (r"\b(fs::read_to_string\()rt, ", r"\1"),
     (r"let alloc = (?:self\.)?rt\.alloc\(\);\s*", ""),
     (r"\balloc: std::alloc::Global\b", "alloc: Global"),

@@ -10,7 +10,7 @@ use bekstaudi::codepointtrie::binary::{
 };
 use bekstaudi::codepointtrie::{
     CodePointTrie, CodePointTrieBuilder, CodePointTrieHeader, TrieType, TrieValue, Typed,
-    TypedCodePointTrie,
+    TypedCodePointTrie, text,
 };
 use bekstaudi::zerovec::ZeroVec;
 use random::Random;
@@ -52,6 +52,12 @@ fn ask<T: TrieValue + Debug>(trie: &CodePointTrie<'_, T>, random: &mut Random) {
             let _ = trie.get_range(c);
         }
     }
+    let line = "\0az\u{7F}\u{80}\u{333}\u{FFFF}\u{10000}";
+    assert!(text::values_of(trie, line).all(|(c, value)| value == trie.get(c)));
+    assert!(text::values_of_utf8(trie, line.as_bytes()).eq(text::values_of(trie, line)));
+    let units: Vec<u16> = line.encode_utf16().collect();
+    let values = text::values_of_utf16(trie, &units);
+    assert!(values.eq(text::values_of(trie, line).map(|(c, value)| (u32::from(c), value))));
     assert!(trie.iter_ranges().take(300).count() > 0 || trie.get_range(0).is_none());
 }
 

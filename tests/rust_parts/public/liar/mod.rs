@@ -2,7 +2,9 @@
 //! answers is a lie.
 
 use bekstaudi::codepointinvlist::{CodePointInversionListBuilder, FrozenCodePointSet};
-use bekstaudi::codepointtrie::{CodePointTrie, NotAValue, TrieValue, Typed, TypedCodePointTrie};
+use bekstaudi::codepointtrie::{
+    CodePointTrie, NotAValue, TrieValue, Typed, TypedCodePointTrie, text,
+};
 use bekstaudi::zerovec::ule::AsULE;
 use std::backtrace::Backtrace;
 use std::cell::Cell;
@@ -113,6 +115,7 @@ pub fn ask<const WIDTH: usize>(trie: &CodePointTrie<'_, Liar<WIDTH>>) {
     tried(|| trie.iter_ranges().take(300).count());
     tried(|| trie.iter_ranges_mapped(|it| Liar::<1>(it.0 % 2)).take(300).count());
     tried(|| (trie.error_value(), trie.null_value()));
+    ask_along_texts(trie);
     for value in 0..4 {
         tried(|| trie.iter_ranges_for_value(Liar(value)).take(300).count());
         tried(|| {
@@ -126,4 +129,15 @@ pub fn ask<const WIDTH: usize>(trie: &CodePointTrie<'_, Liar<WIDTH>>) {
             FrozenCodePointSet::freeze(&built).span("a\u{1F600}b", true)
         });
     }
+}
+
+/// Asks a trie for the values along texts.
+fn ask_along_texts<const WIDTH: usize>(trie: &CodePointTrie<'_, Liar<WIDTH>>) {
+    let line = "\0az\u{7F}\u{80}ß\u{FFFF}\u{1F600}";
+    tried(|| text::values_of(trie, line).count());
+    tried(|| text::value_indices_of(trie, line).count());
+    tried(|| text::values_of_utf8(trie, b"az\x7F\xF1\x80B\xFF").count());
+    tried(|| text::values_of_utf16(trie, &[0x61, 0x7F, 0xD83D, 0xDE00, 0xDC00]).count());
+    tried(|| text::find_value(trie, line, |it| it == Liar(3)));
+    tried(|| text::span_of_values(trie, line, |it| it != Liar(3)));
 }
