@@ -27,11 +27,8 @@ else
     command -v rt >/dev/null || stop "no rt: put the kit's folder bin on PATH"
     libc=$(dirname -- "$(dirname -- "$(readlink -f -- "$(command -v rt)")")")/c/liblibc_c.a
     echo "bench: proves and builds; from a clean clone this takes some minutes" >&2
-    if ! (cd "$root/crates/bench_ours" && rt lib) >"$work/log" 2>&1; then
-        tail -n 20 "$work/log" >&2
-        stop "rt lib failed"
-    fi
-    ours=$root/crates/bench_ours/out/libbench_ours.a rust=$work/libpeer.a
+    ours=$("$root/tests/build" bench_ours) || stop "bench_ours is not proved and built"
+    rust=$work/libpeer.a
     rustc --edition 2024 -O -C target-cpu=x86-64-v2 -C panic=abort --crate-type staticlib \
         -o "$rust" "$here/peer/lib.rs"
 fi

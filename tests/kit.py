@@ -55,7 +55,7 @@ def sources(crate):
 
 def is_fresh(crate, program):
     """Whether the program is built, and nothing that it is made from was changed since."""
-    if not os.access(program, os.X_OK):
+    if not os.path.exists(program):
         return False
     made = os.stat(program).st_mtime_ns
     return all(os.stat(it).st_mtime_ns <= made for it in sources(crate))
@@ -69,15 +69,33 @@ def proved(crate):
     return crate.build_rlib(["--jobs", "1"], anew=False) == 0
 
 
+def stamp(crate):
+    """Tells rt which of the libraries below are proved of the files as they are: `rt ci` leaves them
+    without a stamp, and so `rt lib` would prove them once more."""
+    for it in sorted(crate.below(), key=lambda it: len(it.below())):
+        if os.path.exists(it.rlib) and not it.is_built() and is_fresh(it, it.rlib):
+            if all(below.is_built() for below in it.below()):
+                with open(f"{it.folder}/out/rlib/stamp", "w", encoding="utf-8") as file:
+                    file.write(it.stamp())
+
+
+def output(crate):
+    """What a crate is built into: a program, a static library, or a library's tests."""
+    if crate.is_static:
+        return f"{crate.folder}/out/lib{crate.name}.a"
+    return f"{crate.folder}/out/{crate.name}{'' if crate.is_program else '_tests'}"
+
+
 def built(crate):
-    """The path of the crate's program, or of its tests where it is a library, or None where it
-    can't be built. What rt ci left is taken, and nothing is proved again; where it isn't of the
-    files as they are, it is proved and built."""
-    program = f"{crate.folder}/out/{crate.name}{'' if crate.is_program else '_tests'}"
-    if is_fresh(crate, program):
-        return program
+    """The path of the crate's program or static library, or of its tests where it is a library, or
+    None where it can't be built. What rt ci left is taken, and nothing is proved again; where it
+    isn't of the files as they are, it is proved and built."""
+    made = output(crate)
+    if is_fresh(crate, made):
+        return made
     begun = time.time_ns()
-    words = ["rt", "run" if crate.is_program else "test"]
+    stamp(crate)
+    words = ["rt", "lib" if crate.is_static else "run" if crate.is_program else "test"]
     ran = subprocess.run(
         words,
         cwd=crate.folder,
@@ -87,11 +105,10 @@ def built(crate):
         text=True,
         errors="replace",
     )
-    if not os.access(program, os.X_OK) or not re.search(
-        r"^(linked |rt: nothing has changed)", ran.stdout, re.M
-    ):
+    done = not ran.returncode if crate.is_static else re.search(r"^(linked |rt: nothing has changed)", ran.stdout, re.M)
+    if not os.path.exists(made) or not done:
         print("\n".join(ran.stdout.split("\n")[-20:]), file=sys.stderr)
         return None
     # A file that is edited while rt builds stays newer than the program.
-    os.utime(program, ns=(begun, begun))
-    return program
+    os.utime(made, ns=(begun, begun))
+    return made
