@@ -3,7 +3,9 @@
 #ifndef PARTS_H
 #define PARTS_H
 
+#ifndef _DEFAULT_SOURCE
 #define _DEFAULT_SOURCE /* mmap, in strict C */
+#endif
 
 #include "bekstaudi.h"
 #include <stdio.h>

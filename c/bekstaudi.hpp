@@ -1,0 +1,253 @@
+// bekstaudi.hpp: bekstaudi.h in C++17, as classes by value.
+//
+// A trie is a view: its cells stay in the bytes that it was opened from. A set owns its ends. What C
+// answers by a number below 0 is thrown here: std::bad_alloc, or one of the two errors below. Link
+// with -lbekstaudi.
+#ifndef BEKSTAUDI_HPP
+#define BEKSTAUDI_HPP
+
+#include "bekstaudi.h"
+
+#include <cstddef>
+#include <cstdint>
+#include <initializer_list>
+#include <iterator>
+#include <new>
+#include <optional>
+#include <stdexcept>
+#include <string_view>
+#include <type_traits>
+#include <utility>
+#include <vector>
+
+namespace bekstaudi {
+
+// The bytes are no trie of the wanted width: status() is the first fault.
+class trie_refused : public std::invalid_argument {
+public:
+    explicit trie_refused(bks_status status)
+        : std::invalid_argument("bekstaudi: the bytes are no such trie"), status_(status) {}
+    bks_status status() const noexcept { return status_; }
+
+private:
+    bks_status status_;
+};
+
+// The ends are those of no set, or the bytes are no UTF-8.
+class set_refused : public std::invalid_argument {
+public:
+    using std::invalid_argument::invalid_argument;
+};
+
+// Items that lie one after another, of a container or an array: std::span<const T> of C++20, as far as
+// it is needed here.
+template <class T>
+class view {
+public:
+    constexpr view(const T *data, std::size_t size) noexcept : data_(data ? data : &none), size_(size) {}
+    template <class C, class = decltype(std::data(std::declval<const C &>())),
+              class = std::enable_if_t<!std::is_same_v<C, view>>>
+    constexpr view(const C &items) noexcept : view(std::data(items), std::size(items)) {}
+    constexpr const T *data() const noexcept { return data_; }
+    constexpr std::size_t size() const noexcept { return size_; }
+
+private:
+    // C wants a pointer that is not NULL, also beside a size of 0.
+    static constexpr T none{};
+    const T *data_;
+    std::size_t size_;
+};
+
+namespace detail {
+
+// What a call answers, or the error that it tells.
+inline std::size_t answered(std::int64_t answer, const char *refused) {
+    if (answer == BKS_NO_MEMORY) throw std::bad_alloc();
+    if (answer < 0) throw set_refused(refused);
+    return static_cast<std::size_t>(answer);
+}
+
+// The ends that a call writes, which is asked again with more room where there are more than `room`.
+template <class Call>
+std::vector<std::uint32_t> ends_of(std::size_t room, const char *refused, Call call) {
+    std::vector<std::uint32_t> ends(room ? room : 1);
+    std::size_t count = answered(call(ends.data(), ends.size()), refused);
+    if (count > ends.size()) {
+        ends.resize(count);
+        answered(call(ends.data(), ends.size()), refused);
+    }
+    ends.resize(count);
+    return ends;
+}
+
+}  // namespace detail
+
+// A set of code points, by the list of its ends (ICU: UnicodeSet).
+class code_point_set {
+public:
+    // The empty set.
+    code_point_set() = default;
+
+    // The set with these ends: {0x41, 0x5B} is A to Z. Throws set_refused where they are no set's.
+    explicit code_point_set(view<std::uint32_t> ends) : ends_(ends.data(), ends.data() + ends.size()) {
+        if (!bks_set_test(ends.data(), ends.size())) throw set_refused("bekstaudi: no ends of a set");
+    }
+    code_point_set(std::initializer_list<std::uint32_t> ends)
+        : code_point_set(view<std::uint32_t>(ends.begin(), ends.size())) {}
+
+    const std::vector<std::uint32_t> &ends() const noexcept { return ends_; }
+    bool empty() const noexcept { return ends_.empty(); }
+
+    bool contains(std::uint32_t c) const noexcept {
+        return bks_set_contains(of().data(), ends_.size(), c);
+    }
+
+    // How many code points it holds, surrogates among them.
+    std::size_t size() const {
+        return detail::answered(bks_set_size(of().data(), ends_.size()), "bekstaudi: no set");
+    }
+
+    // The longest front of a UTF-8 text whose characters the set holds, or, where `held` is false,
+    // doesn't hold. Throws set_refused where the bytes are no UTF-8.
+    std::string_view span(std::string_view text, bool held = true) const {
+        view<char> bytes(text);
+        std::int64_t size = bks_set_span(of().data(), ends_.size(), bytes.data(), bytes.size(), held);
+        return text.substr(0, detail::answered(size, "bekstaudi: no UTF-8"));
+    }
+
+    friend code_point_set operator|(const code_point_set &a, const code_point_set &b) {
+        return made(bks_set_union, a, b);
+    }
+    friend code_point_set operator&(const code_point_set &a, const code_point_set &b) {
+        return made(bks_set_intersection, a, b);
+    }
+    friend code_point_set operator-(const code_point_set &a, const code_point_set &b) {
+        return made(bks_set_difference, a, b);
+    }
+    friend code_point_set operator^(const code_point_set &a, const code_point_set &b) {
+        return made(bks_set_symmetric_difference, a, b);
+    }
+    friend bool operator==(const code_point_set &a, const code_point_set &b) noexcept {
+        return a.ends_ == b.ends_;
+    }
+    friend bool operator!=(const code_point_set &a, const code_point_set &b) noexcept {
+        return !(a == b);
+    }
+
+private:
+    template <class Value>
+    friend class trie;
+
+    view<std::uint32_t> of() const noexcept { return ends_; }
+
+    template <class Operation>
+    static code_point_set made(Operation operation, const code_point_set &a, const code_point_set &b) {
+        code_point_set set;
+        auto call = [&](std::uint32_t *ends, std::size_t room) {
+            return operation(a.of().data(), a.ends_.size(), b.of().data(), b.ends_.size(), ends, room);
+        };
+        set.ends_ = detail::ends_of(a.ends_.size() + b.ends_.size(), "bekstaudi: no set", call);
+        return set;
+    }
+
+    std::vector<std::uint32_t> ends_;
+};
+
+// A trie whose values have 8, 16 or 32 bits (ICU: UCPTrie). The bytes that it was opened from have to
+// stay where they are, unchanged, while it or a copy of it is used.
+template <class Value>
+class trie {
+    static_assert(std::is_same_v<Value, std::uint8_t> || std::is_same_v<Value, std::uint16_t> ||
+                      std::is_same_v<Value, std::uint32_t>,
+                  "the values of a trie have 8, 16 or 32 bits");
+
+public:
+    // Opens the trie that the bytes begin with. Throws trie_refused where there is none, or one of
+    // another width (BKS_OTHER_WIDTH).
+    trie(const void *bytes, std::size_t size) {
+        auto status = static_cast<bks_status>(bks_open(&trie_, bytes, size));
+        if (status == BKS_OK && trie_.width != sizeof(Value)) status = BKS_OTHER_WIDTH;
+        if (status != BKS_OK) throw trie_refused(status);
+    }
+    template <class C, class = decltype(std::data(std::declval<const C &>())),
+              class = std::enable_if_t<!std::is_same_v<C, trie>>>
+    explicit trie(const C &bytes)
+        : trie(std::data(bytes), std::size(bytes) * sizeof *std::data(bytes)) {}
+
+    // The trie as C has it, and how many of the bytes it takes.
+    const bks_trie &as_c() const noexcept { return trie_; }
+    std::size_t size() const noexcept { return trie_.size; }
+
+    // The value of c; above 0x10FFFF the error value.
+    Value operator[](std::uint32_t c) const noexcept {
+        if constexpr (sizeof(Value) == 1) return bks_get8(&trie_, c);
+        else if constexpr (sizeof(Value) == 2) return bks_get16(&trie_, c);
+        else return bks_get32(&trie_, c);
+    }
+
+    // Whether ranges are the longest runs of equal values, as in every trie that ICU or this library
+    // built.
+    bool is_coherent() const noexcept { return bks_trie_is_coherent(&trie_); }
+
+    // The range of one value from c on; none above 0x10FFFF, and where the trie lacks a cell.
+    std::optional<bks_range> range(std::uint32_t c) const noexcept {
+        bks_range found = bks_trie_range(&trie_, c);
+        return found.found ? std::optional<bks_range>(found) : std::nullopt;
+    }
+
+    // All ranges, in order: for (const bks_range &range : trie) ..
+    class iterator {
+    public:
+        using iterator_category = std::input_iterator_tag;
+        using value_type = bks_range;
+        using difference_type = std::ptrdiff_t;
+        using pointer = const bks_range *;
+        using reference = const bks_range &;
+
+        iterator() = default;
+        explicit iterator(const bks_trie *of) noexcept : trie_(of), range_(bks_trie_range(of, 0)) {}
+        reference operator*() const noexcept { return range_; }
+        pointer operator->() const noexcept { return &range_; }
+        iterator &operator++() noexcept {
+            range_ = bks_trie_range(trie_, range_.last + 1);
+            return *this;
+        }
+        iterator operator++(int) noexcept {
+            iterator before = *this;
+            ++*this;
+            return before;
+        }
+        // Two that are at their end are equal, and others where they stand at the same range.
+        friend bool operator==(const iterator &a, const iterator &b) noexcept {
+            return a.range_.found == b.range_.found && a.range_.first == b.range_.first;
+        }
+        friend bool operator!=(const iterator &a, const iterator &b) noexcept { return !(a == b); }
+
+    private:
+        const bks_trie *trie_ = nullptr;
+        bks_range range_ = {};
+    };
+    iterator begin() const noexcept { return iterator(&trie_); }
+    iterator end() const noexcept { return iterator(); }
+
+    // The code points in ranges of this value.
+    code_point_set set_of(Value value) const {
+        code_point_set set;
+        auto call = [&](std::uint32_t *ends, std::size_t room) {
+            return bks_trie_set(&trie_, value, ends, room);
+        };
+        set.ends_ = detail::ends_of(256, "bekstaudi: no trie", call);
+        return set;
+    }
+
+private:
+    bks_trie trie_;
+};
+
+using trie8 = trie<std::uint8_t>;
+using trie16 = trie<std::uint16_t>;
+using trie32 = trie<std::uint32_t>;
+
+}  // namespace bekstaudi
+
+#endif

@@ -1,0 +1,120 @@
+/* The classes of bekstaudi.hpp over a trie, beside the runs of its table and std's own sets.
+   Usage: classes TRIE RUNS ERROR, where ERROR is the trie's error value. */
+#include "bekstaudi.hpp"
+#include "parts.h"
+#include <set>
+#include <string>
+
+using bekstaudi::code_point_set;
+
+static bks_range runs[1 << 17];
+
+/* Whether the call throws such an error. */
+template <class Error, class Call>
+static bool throws(Call call) {
+    try {
+        call();
+    } catch (const Error &) {
+        return true;
+    }
+    return false;
+}
+
+/* All look-ups and ranges, and the sets of a few values. */
+template <class Value>
+static void all_of(const bekstaudi::view<uint8_t> &bytes, size_t count, uint32_t error) {
+    const bekstaudi::trie<Value> trie(bytes);
+    CHECK(trie.size() == bytes.size() && trie.is_coherent());
+    for (size_t i = 0; i < count; i++)
+        for (uint32_t c = runs[i].first; c <= runs[i].last; c++) CHECK(trie[c] == runs[i].value);
+    CHECK(trie[0x110000] == static_cast<Value>(error) && !trie.range(0x110000));
+    CHECK(trie.range(runs[0].last)->first == runs[0].last);
+    size_t i = 0;
+    for (const bks_range &range : trie) {
+        CHECK(i < count && range.first == runs[i].first && range.last == runs[i].last);
+        CHECK(range.value == runs[i++].value);
+    }
+    CHECK(i == count);
+    for (size_t k = 0; k < count; k += 97) {
+        code_point_set set = trie.set_of(static_cast<Value>(runs[k].value));
+        size_t held = 0;
+        for (size_t j = 0; j < count; j++) {
+            bool wanted = runs[j].value == runs[k].value;
+            CHECK(set.contains(runs[j].first) == wanted && set.contains(runs[j].last) == wanted);
+            held += wanted ? runs[j].last - runs[j].first + 1 : 0;
+        }
+        CHECK(set.size() == held);
+    }
+}
+
+/* Bytes that are no trie, or one of another width. */
+static void refused(const bekstaudi::view<uint8_t> &bytes, size_t width) {
+    auto status_of = [](auto open) {
+        try {
+            open();
+        } catch (const bekstaudi::trie_refused &fault) {
+            return fault.status();
+        }
+        return BKS_OK;
+    };
+    CHECK(status_of([&] { bekstaudi::trie8(bytes.data(), 3); }) == BKS_SHORT);
+    CHECK(status_of([&] { bekstaudi::trie8(std::string(16, 'x')); }) == BKS_SIGNATURE);
+    CHECK(status_of([&] { bekstaudi::trie8 trie(bytes); }) == (width == 1 ? BKS_OK : BKS_OTHER_WIDTH));
+    CHECK(status_of([&] { bekstaudi::trie16 trie(bytes); }) == (width == 2 ? BKS_OK : BKS_OTHER_WIDTH));
+    CHECK(status_of([&] { bekstaudi::trie32 trie(bytes); }) == (width == 4 ? BKS_OK : BKS_OTHER_WIDTH));
+}
+
+/* The code points below 40 of a set, and those that std's set has. */
+static std::set<uint32_t> below_40(const code_point_set &set) {
+    std::set<uint32_t> found;
+    for (uint32_t c = 0; c < 40; c++)
+        if (set.contains(c)) found.insert(c);
+    return found;
+}
+
+static void operations() {
+    const code_point_set none, a{1, 5, 9, 20}, b{3, 12, 30, 31}, all{0, 0x110000};
+    for (const code_point_set *x : {&none, &a, &b, &all})
+        for (const code_point_set *y : {&none, &a, &b, &all}) {
+            std::set<uint32_t> either = below_40(*x), both, left, one;
+            for (uint32_t c : below_40(*x))
+                (y->contains(c) ? both : left).insert(c);
+            one = left;
+            for (uint32_t c : below_40(*y)) {
+                either.insert(c);
+                if (!x->contains(c)) one.insert(c);
+            }
+            CHECK(below_40(*x | *y) == either && below_40(*x & *y) == both);
+            CHECK(below_40(*x - *y) == left && below_40(*x ^ *y) == one);
+            CHECK((*x == *y) == (x->ends() == y->ends()) && (*x != *y) == (x->ends() != y->ends()));
+        }
+    CHECK((a | b) == code_point_set({1, 20, 30, 31}) && (a & none).empty() && all.size() == 0x110000);
+}
+
+static void spans() {
+    const code_point_set letters{0x41, 0x5B, 0x61, 0x7B, 0xDF, 0xE0};
+    CHECK(letters.span("Stra\xC3\x9F" "e 7") == "Stra\xC3\x9F" "e");
+    CHECK(letters.span("7 a", false) == "7 " && letters.span("").empty());
+    CHECK(letters.span(std::string_view()).empty());
+    CHECK(throws<bekstaudi::set_refused>([&] { letters.span("a\xFF"); }));
+    for (std::initializer_list<uint32_t> ends : {std::initializer_list<uint32_t>{1}, {2, 1}, {0, 0x110001}})
+        CHECK(throws<bekstaudi::set_refused>([&] { code_point_set set(ends); }));
+}
+
+int main(int argc, char **argv) {
+    CHECK(argc == 4);
+    size_t size, count = read_runs(argv[2], runs, 1 << 17);
+    const uint8_t *bytes = file_bytes(argv[1], &size);
+    uint32_t error = static_cast<uint32_t>(strtoul(argv[3], nullptr, 10));
+    bks_trie trie;
+    CHECK(bks_open(&trie, bytes, size) == BKS_OK);
+    bekstaudi::view<uint8_t> all(bytes, trie.size);
+    if (trie.width == 1) all_of<uint8_t>(all, count, error);
+    if (trie.width == 2) all_of<uint16_t>(all, count, error);
+    if (trie.width == 4) all_of<uint32_t>(all, count, error);
+    refused(all, trie.width);
+    operations();
+    spans();
+    puts("all as expected");
+    return 0;
+}
