@@ -34,7 +34,7 @@
 extern "C" {
 #endif
 
-/* ---- Types ------------------------------------------------------------------------------------ */
+/* ---- Types ----------------------------------------------------------------------------------- */
 
 /* What bks_trie_open answers. Where there are several faults, the first of these is told. */
 enum bks_status {
@@ -90,7 +90,7 @@ typedef struct bks_range {
     bool found;                       /* false: there is no range, and the other fields are 0 */
 } bks_range;
 
-/* ---- Tries ------------------------------------------------------------------------------------ */
+/* ---- Tries ----------------------------------------------------------------------------------- */
 
 /* Opens the trie that the bytes begin with: ucptrie_openFromBinary, with either type and any width.
  * trie->size says how many bytes it takes; what follows them is not read. Answers BKS_OK, or the
@@ -113,6 +113,15 @@ size_t bks_trie16_get_many(const bks_trie *trie, const uint32_t *points, size_t 
 size_t bks_trie32_get_many(const bks_trie *trie, const uint32_t *points, size_t count,
                            uint32_t *values, size_t room);
 
+/* The values of the characters of a UTF-8 text, in order. Answers how many characters there are,
+ * and writes as many values as there is room for, which `size` always is; BKS_NO_TEXT. */
+int64_t bks_trie8_get_utf8(const bks_trie *trie, const char *text, size_t size, uint8_t *values,
+                           size_t room);
+int64_t bks_trie16_get_utf8(const bks_trie *trie, const char *text, size_t size, uint16_t *values,
+                            size_t room);
+int64_t bks_trie32_get_utf8(const bks_trie *trie, const char *text, size_t size, uint32_t *values,
+                            size_t room);
+
 /* Whether what the trie's header says of the high value and of null blocks is so, as in every trie
  * that ICU built. Look-ups don't care. Ranges trust the header: in a coherent trie they are the
  * longest runs of equal values, in another one they may be shorter or have another value. */
@@ -128,7 +137,7 @@ bks_range bks_trie_range(const bks_trie *trie, uint32_t c);
  * them into `ends`, as many as there is room for; BKS_NO_MEMORY or BKS_NO_TRIE. */
 int64_t bks_trie_set(const bks_trie *trie, uint32_t value, uint32_t *ends, size_t room);
 
-/* ---- Sets ------------------------------------------------------------------------------------- */
+/* ---- Sets ------------------------------------------------------------------------------------ */
 
 /* Whether the numbers are the ends of a set: of even count, ascending without a repetition, and
  * none above 0x110000. The empty list is the empty set. */
@@ -158,7 +167,7 @@ int64_t bks_set_difference(const uint32_t *a, size_t a_count, const uint32_t *b,
 int64_t bks_set_symmetric_difference(const uint32_t *a, size_t a_count, const uint32_t *b,
                                      size_t b_count, uint32_t *ends, size_t room);
 
-/* ---- In line ---------------------------------------------------------------------------------- */
+/* ---- In line --------------------------------------------------------------------------------- */
 /* These are C, and are tested, not proved. */
 
 /* bks_trie_open into any memory. */

@@ -9,20 +9,9 @@ static const char names[][3] = {"Cn", "Lu", "Ll", "Lt", "Lm", "Lo", "Mn", "Me", 
                                 "Nl", "No", "Zs", "Zl", "Zp", "Cc", "Cf", "Co", "Cs", "Pd",
                                 "Ps", "Pe", "Pc", "Po", "Sm", "Sc", "Sk", "So", "Pi", "Pf"};
 
-/* The character that begins a UTF-8 text, and its size; bytes that begin none are taken singly. */
-static size_t character(const char *text, uint32_t *c) {
-    const unsigned char *s = (const unsigned char *)text;
-    size_t size = s[0] < 0xC2 ? 1 : s[0] < 0xE0 ? 2 : s[0] < 0xF0 ? 3 : s[0] < 0xF5 ? 4 : 1;
-    *c = size == 1 ? s[0] : s[0] & (0x7Fu >> size);
-    for (size_t i = 1; i < size; i++) {
-        if ((s[i] & 0xC0) != 0x80) return *c = s[0], 1;
-        *c = *c << 6 | (s[i] & 0x3F);
-    }
-    return size;
-}
-
 int main(int count, char **words) {
     static unsigned char table[1 << 16];
+    static uint8_t categories[1 << 16];
     FILE *file = count == 3 ? fopen(words[1], "rb") : NULL;
     if (!file) {
         fprintf(stderr, "usage: categories TABLE TEXT\n");
@@ -36,11 +25,17 @@ int main(int count, char **words) {
         fprintf(stderr, "categories: no table of 8 bits: fault %u\n", status);
         return 1;
     }
-    uint32_t c;
-    for (const char *text = words[2]; *text; text += size) {
-        size = character(text, &c);
-        uint8_t category = bks_get8(&trie, c);
-        printf("U+%04X %.*s %s\n", c, (int)size, text, category < 30 ? names[category] : "?");
+    const char *text = words[2];
+    int64_t found = bks_trie8_get_utf8(&trie, text, strlen(text), categories, sizeof categories);
+    if (found < 0 || (size_t)found > sizeof categories) {
+        fprintf(stderr, "categories: the text is no UTF-8, or too long\n");
+        return 1;
+    }
+    for (int64_t i = 0; i < found; i++) {
+        int bytes = 1;
+        while ((text[bytes] & 0xC0) == 0x80) bytes++;
+        printf("%.*s %s\n", bytes, text, categories[i] < 30 ? names[categories[i]] : "?");
+        text += bytes;
     }
     return 0;
 }

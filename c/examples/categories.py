@@ -21,7 +21,7 @@ def main():
         sys.exit(f"categories: no table: {fault}")
     text = sys.argv[2]
     for character, category in zip(text, table.values(text)):
-        print(f"U+{ord(character):04X} {character} {NAMES[category]}")
+        print(character, NAMES[category])
 
 
 main()

@@ -38,6 +38,7 @@ static void odd_addresses(const uint8_t *bytes, size_t size, const bks_trie *tri
 /* Buffers of every length up to what is needed: what fits is written, and nothing else. */
 static void short_buffers(const bks_trie *trie) {
     enum { POINTS = 40 };
+    static const uint32_t characters[] = {'a', 0xE9, 0x4E16, 'z', 'z', 'z'};
     static uint32_t all[1 << 17];
     uint32_t value = called(trie, 0x41);
     int64_t needed = bks_trie_set(trie, value, all, 1 << 17);
@@ -59,6 +60,11 @@ static void short_buffers(const bks_trie *trie) {
         for (size_t i = trie->width * count; i < trie->width * room; i++)
             CHECK(values[i] == 0x55);
         CHECK(many(trie, points, 0, values, room) == 0);
+        char *text = (char *)before_closed_page(9);
+        memcpy(text, "a\xC3\xA9\xE4\xB8\x96zzz", 9);
+        CHECK(of_text(trie, text, 9, values, room) == 6);
+        for (size_t i = 0; i < room && i < 6; i++)
+            CHECK(value_in(trie, values, i) == called(trie, characters[i]));
     }
 }
 

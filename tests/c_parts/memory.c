@@ -74,7 +74,8 @@ int main(int count, char **words) {
         size_t bytes;
         uint8_t *found = file_bytes(words[i], &bytes);
         CHECK(bks_open(&trie, found, bytes) == BKS_OK);
-        for (size_t k = 0; k < sizeof calls / sizeof calls[0]; k++) made += refused_in_turn(calls[k]);
+        for (size_t k = 0; k < sizeof calls / sizeof calls[0]; k++)
+            made += refused_in_turn(calls[k]);
     }
     CHECK(made > 0);
     printf("%ld requests for memory refused\n", made);

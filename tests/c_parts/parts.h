@@ -1,4 +1,4 @@
-/* What the tests in C share: files, the runs of a table, and memory that ends at a page which cannot
+/* What the tests in C share: files, the runs of a table, and memory that ends at a page which can't
    be read or written. */
 #ifndef PARTS_H
 #define PARTS_H
@@ -85,6 +85,23 @@ static inline size_t many(const bks_trie *trie, const uint32_t *points, size_t c
            : trie->width == 2
                ? bks_trie16_get_many(trie, points, count, (uint16_t *)values, room)
                : bks_trie32_get_many(trie, points, count, (uint32_t *)values, room);
+}
+
+static inline int64_t of_text(const bks_trie *trie, const char *text, size_t size, void *values,
+                              size_t room) {
+    return trie->width == 1 ? bks_trie8_get_utf8(trie, text, size, (uint8_t *)values, room)
+           : trie->width == 2
+               ? bks_trie16_get_utf8(trie, text, size, (uint16_t *)values, room)
+               : bks_trie32_get_utf8(trie, text, size, (uint32_t *)values, room);
+}
+
+/* Writes a code point in UTF-8, and answers its size. */
+static inline size_t write_utf8(uint32_t c, char *text) {
+    size_t more = c < 0x80 ? 0 : c < 0x800 ? 1 : c < 0x10000 ? 2 : 3, size = more + 1;
+    if (more == 0) *text++ = (char)c;
+    else *text++ = (char)((0xFF00u >> (more + 1) & 0xFF) | c >> 6 * more);
+    while (more-- > 0) *text++ = (char)(0x80 | (c >> 6 * more & 0x3F));
+    return size;
 }
 
 static inline uint32_t value_in(const bks_trie *trie, const void *values, size_t i) {

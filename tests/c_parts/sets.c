@@ -1,5 +1,5 @@
-/* The calls over sets, compared with tables of a flag for each code point, and with ICU4C where it is
-   at hand (WITH_ICU). Usage: sets PAIRS */
+/* The calls over sets, compared with tables of a flag for each code point, and with ICU4C where it
+   is at hand (WITH_ICU). Usage: sets PAIRS */
 #include "parts.h"
 #ifdef WITH_ICU
 #include <unicode/uset.h>
@@ -85,13 +85,7 @@ static void spans(const set_table *s) {
         uint32_t c = s->count && below(8) ? s->ends[below((uint32_t)s->count)] : below(CODE_POINTS);
         c = i < 32 && s->count ? s->ends[0] : c < CODE_POINTS ? c : CODE_POINTS - 1;
         if (c >= 0xD800 && c < 0xE000) continue;
-        if (c < 0x80) {
-            text[size++] = (char)c;
-        } else {
-            int more = c < 0x800 ? 1 : c < 0x10000 ? 2 : 3;
-            text[size++] = (char)((0xFF00u >> (more + 1) & 0xFF) | c >> 6 * more);
-            while (more-- > 0) text[size++] = (char)(0x80 | (c >> 6 * more & 0x3F));
-        }
+        size += write_utf8(c, text + size);
         for (int held = 0; held < 2; held++) {
             going[held] = going[held] && s->held[c] == held;
             if (going[held]) front[held] = size;

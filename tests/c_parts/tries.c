@@ -10,6 +10,7 @@
 static bks_range runs[1 << 17];
 static uint32_t expected[CODE_POINTS + 16], points[CODE_POINTS + 16], ends[1 << 17];
 static uint32_t values[CODE_POINTS + 16];
+static char text[4 * CODE_POINTS];
 
 /* Each code point by the call, in line, and by the call for many; and what is above them. */
 static void look_ups(const bks_trie *trie, uint32_t error) {
@@ -22,6 +23,24 @@ static void look_ups(const bks_trie *trie, uint32_t error) {
     for (uint32_t c = CODE_POINTS; c >= CODE_POINTS; c *= 2)
         CHECK(called(trie, c) == error && in_line(trie, c) == error);
     CHECK(called(trie, UINT32_MAX) == error && in_line(trie, UINT32_MAX) == error);
+}
+
+/* All characters in one text, with room for all values and for a few. */
+static void texts(const bks_trie *trie) {
+    size_t size = 0, count = 0;
+    for (uint32_t c = 0; c < CODE_POINTS; c++)
+        if (c < 0xD800 || c >= 0xE000) {
+            points[count++] = c;
+            size += write_utf8(c, text + size);
+        }
+    CHECK(of_text(trie, text, size, values, count) == (int64_t)count);
+    for (size_t i = 0; i < count; i++) CHECK(value_in(trie, values, i) == expected[points[i]]);
+    memset(values, 0x55, sizeof values);
+    CHECK(of_text(trie, text, size, values, 3) == (int64_t)count);
+    CHECK(value_in(trie, values, 2) == expected[2] && ((uint8_t *)values)[3 * trie->width] == 0x55);
+    CHECK(of_text(trie, text, 0, values, 3) == 0);
+    CHECK(of_text(trie, "ab\xFF", 3, values, 3) == BKS_NO_TEXT);
+    CHECK(of_text(trie, "\xED\xB0\x80", 3, values, 3) == BKS_NO_TEXT);
 }
 
 /* All ranges from 0 on, and the one from the midst of each. */
@@ -45,7 +64,8 @@ static void set_of(const bks_trie *trie, uint32_t value, size_t count) {
     size_t i = 0;
     for (size_t k = 0; k < count; k++)
         if (runs[k].value == value) {
-            CHECK((int64_t)i + 1 < n && ends[i] == runs[k].first && ends[i + 1] == runs[k].last + 1);
+            CHECK((int64_t)i + 1 < n);
+            CHECK(ends[i] == runs[k].first && ends[i + 1] == runs[k].last + 1);
             i += 2;
         }
     CHECK(n == (int64_t)i && bks_set_test(ends, i));
@@ -90,6 +110,7 @@ int main(int count, char **words) {
         for (uint32_t c = runs[i].first; c <= runs[i].last; c++) expected[c] = runs[i].value;
     for (uint32_t c = CODE_POINTS; c < CODE_POINTS + 16; c++) expected[c] = error;
     look_ups(&trie, error);
+    texts(&trie);
     ranges(&trie, many_runs);
     for (size_t i = 0; i < many_runs && i < 64; i++) set_of(&trie, runs[i].value, many_runs);
     set_of(&trie, 0xFFFFFFFE, many_runs);

@@ -1,5 +1,5 @@
 -- A buffer that is filled from its front.
-use Rattle.std.proofs.Common.{◌≡◌, refl, ap, ℕ, zero, suc, ◌+◌, ◌<◌, min, List, [], ◌∷◌, ◌++◌, length, take, drop, get_or, add-one, arith, inl, inr}
+use Rattle.std.proofs.Common.{◌≡◌, refl, ap, ℕ, zero, suc, ◌+◌, ◌<◌, ◌≤◌, ◌∙◌, min, List, [], ◌∷◌, ◌++◌, length, take, drop, get_or, add-one, arith, inl, inr}
 use Rattle.std.specs.Prelude.{map}
 use Rattle.std.proofs.Math.ListN.{set}
 use Rattle.std.proofs.lemmas.Bool.{cases_lt}
@@ -29,4 +29,22 @@ module _ {A B : Type 0} (f : A → B) where
     | inr h ↦
         let many : n ≡ length xs = omega arith in
         rw (many, take_all (length xs) xs (omega arith), length-map xs f, take_all (length ys) (map f xs) (rw (length-map xs f) h)) refl
+  ]
+
+  -- one more item is written, if there is room for it
+  pub filled_next : (xs : List A) (ys vs new : List B) (n : ℕ) (d : A) → n < length xs → length vs ≡ length ys
+      → vs ≡ map f (take (min n (length ys)) xs) ++ drop (min n (length ys)) ys
+      → (n < length vs → new ≡ set vs n (f (get_or xs n d))) → (length vs ≤ n → new ≡ vs)
+      → new ≡ map f (take (min (n + 1) (length ys)) xs) ++ drop (min (n + 1) (length ys)) ys
+  filled_next xs ys vs new n d l same before within past = elim (cases_lt n (length ys)) [
+    | inl h ↦
+        let now : min n (length ys) ≡ n = omega arith in
+        let next : min (n + 1) (length ys) ≡ n + 1 = omega arith in
+        let is : vs ≡ map f (take n xs) ++ drop n ys = rw now at before in
+        rw next (within (omega arith) ∙ rw is (filled_more xs ys n d l h))
+    | inr h ↦
+        let now : min n (length ys) ≡ length ys = omega arith in
+        let next : min (n + 1) (length ys) ≡ length ys = omega arith in
+        let is : vs ≡ map f (take (length ys) xs) ++ drop (length ys) ys = rw now at before in
+        rw next (past (omega arith) ∙ is)
   ]

@@ -35,3 +35,13 @@ AnswersSpan sound text n is_place (negsuc zero) = sound × text
 AnswersSpan sound text n is_place (negsuc (suc zero)) = ¬ sound
 AnswersSpan sound text n is_place (negsuc (suc (suc zero))) = sound × ¬ text
 AnswersSpan sound text n is_place (negsuc (suc (suc (suc k)))) = ⊥
+
+-- of a text, so many values, and as many of them in the buffer as there is room for; or -3 where it
+-- is no text
+abbrev pub AnswersText : {T : Type 0} → Type 0 → List T → List T → List T → ℤ → Type 0
+AnswersText text values old new (pos n) =
+    text × (n ≡ length values) × (new ≡ written values old)
+AnswersText text values old new (negsuc zero) = ⊥
+AnswersText text values old new (negsuc (suc zero)) = ⊥
+AnswersText text values old new (negsuc (suc (suc zero))) = ¬ text × (new ≡ old)
+AnswersText text values old new (negsuc (suc (suc (suc n)))) = ⊥

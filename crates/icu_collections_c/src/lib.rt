@@ -7,6 +7,7 @@
 //!
 //! - `opening`: a trie from ICU's binary form
 //! - `tries`: a trie as C keeps it, and its values
+//! - `texts`: the values of a text's characters
 //! - `ranges`: its ranges, and whether they can be trusted
 //! - `value_sets`: the set of a value
 //! - `sets`: sets as lists of their ends, and what is asked of them
@@ -22,5 +23,6 @@ pub mod opening;
 pub mod ranges;
 pub mod set_operations;
 pub mod sets;
+pub mod texts;
 pub mod tries;
 pub mod value_sets;

@@ -1,4 +1,4 @@
-//! Tries over bytes: ranges of one value, and the set of a value.
+//! Tries over bytes: ranges of one value, and whether they can be trusted.
 ghost use Rattle.std.specs.Prelude.{◌≡◌, ◌↔◌, IsTrue};
 ghost use Rattle.icu_trie.specs.Ranges.{IsCoherentTrie};
 ghost use Rattle.icu_collections_c.specs.BytesTrie.{parts_in, parts_of, value_width, fitting_in};
@@ -11,8 +11,11 @@ use crate::tries::{Trie, header_of};
 #[repr(C)]
 #[derive(Clone, Copy)]
 pub struct Range {
+    /// The first code point.
     pub first: u32,
+    /// The last code point, which is in the range.
     pub last: u32,
+    /// The number of their value.
     pub value: u32,
     /// Whether there is a range. Where there is none, the other fields are 0.
     pub found: bool,
@@ -55,7 +58,7 @@ pub extern "C" fn bks_trie_range(trie: &Trie<'_>, c: u32) -> Range
 }
 
 /// Whether what the header says of the high value and of null blocks is so, as in every trie that
-/// was built.
+/// was built. Over such a trie ranges are the longest runs of equal values; look-ups don't care.
 #[unsafe(no_mangle)]
 pub extern "C" fn bks_trie_is_coherent(trie: &Trie<'_>) -> bool
     ensures { let width = value_width trie.now.width in

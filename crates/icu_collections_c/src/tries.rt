@@ -10,8 +10,10 @@ ghost use Rattle.icu_collections_c.specs.BytesTrie.{cells_of, header_of, parts_i
 use crate::cells::{UnsignedValue, last_value, look_up_in};
 use icu_trie_core::header::{CodePointTrieHeader, TrieType};
 
-/// A trie as C keeps it, by value: its cells stay where they are, in the caller's bytes, and these
-/// must not change while it is used. What `bks_trie_open` made is used as it is.
+/// A trie as C keeps it, by value (UCPTrie): its cells stay where they are, in the caller's bytes,
+/// which don't change while it is used. What
+/// [`bks_trie_open`](crate::opening::bks_trie_open) made is used as it is; any other numbers make a
+/// trie of other answers.
 #[repr(C)]
 #[derive(Clone, Copy)]
 pub struct Trie<'a> {
@@ -26,9 +28,9 @@ pub struct Trie<'a> {
     pub fast_limit: u32,
     /// The code point from which on all have one value.
     pub high_start: u32,
-    /// The null value.
+    /// The value that the blocks have which the header names as null.
     pub null_value: u32,
-    /// Where its block stands in the data.
+    /// Where the null block stands in the data.
     pub data_null_offset: u32,
     /// How many bytes a value takes: 1, 2 or 4.
     pub width: u32,
@@ -60,7 +62,7 @@ pub(crate) fn header_of(trie: &Trie<'_>) -> CodePointTrieHeader
 /// The value of `c` in bytes: the format's answer, or else the last cell. `None` where there is no
 /// cell.
 #[inline(always)]
-fn value_of<T: UnsignedValue>(
+pub(crate) fn value_of<T: UnsignedValue>(
     header: &CodePointTrieHeader,
     index: &[u8],
     values: &[u8],

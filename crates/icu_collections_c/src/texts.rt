@@ -1,0 +1,82 @@
+//! Tries over bytes: the values of a text's characters.
+ghost use Rattle.std.specs.Prelude.{◌≡◌, ◌<◌, ◌≤◌, length, map, slice_set, unwrap_or};
+ghost use Rattle.std.specs.Str.{IsUtf8, chars};
+ghost use Rattle.icu_trie.specs.Parts.{trie_value};
+ghost use Rattle.icu_collections_c.specs.Answers.{AnswersText};
+ghost use Rattle.icu_collections_c.specs.Buffers.{written};
+ghost use Rattle.icu_collections_c.specs.BytesTrie.{parts_in, value_at};
+
+use crate::cells::UnsignedValue;
+use crate::tries::{Trie, header_of, value_of};
+
+/// Writes the value at place `i`, if there is one.
+#[inline(always)]
+fn put<T: UnsignedValue>(values: &mut [T], i: usize, value: T)
+    ensures within { i < length values.old → values.new ≡ slice_set values.old i value }
+    ensures past { length values.old ≤ i → values.new ≡ values.old }
+{
+    if i < values.len() {
+        values[i] = value;
+    }
+}
+
+/// Writes the values of a text's characters into the front of a buffer, as many as it has room for,
+/// and `none` where the trie has no cell; answers how many characters there are.
+#[inline(always)]
+fn write_text<T: UnsignedValue>(trie: &Trie<'_>, text: &str, values: &mut [T], none: T) -> usize
+    ensures count { result ≡ length (chars text.now) }
+    ensures bound { result ≤ length text.now }
+    ensures values { values.new
+        ≡ written
+        (map (λ c. unwrap_or (trie_value (parts_in T.unpack T.WIDTH trie.now) c) none)
+        (chars text.now)) values.old }
+{
+    let (header, index, cells) = (header_of(trie), trie.index, trie.values);
+    let mut count = 0;
+    for c in text.chars() {
+        let value = value_of(&header, index, cells, u32::from(c)).unwrap_or(none);
+        put(values, count, value);
+        count += 1;
+    }
+    count
+}
+
+/// The values of the characters of a UTF-8 text in a trie of 8 bits, in order: how many characters
+/// there are, and as many values in the buffer as there is room for.
+///
+/// # Errors
+/// -3 where the text is no UTF-8. The buffer is then unchanged.
+#[unsafe(no_mangle)]
+pub extern "C" fn bks_trie8_get_utf8(trie: &Trie<'_>, text: &[u8], values: &mut [u8]) -> i64
+    ensures { AnswersText (IsUtf8 text.now) (map (value_at 1 trie.now) (chars text.now))
+        values.old values.new result }
+{
+    match str::from_utf8(text) {
+        Ok(text) => write_text(trie, text, values, 0) as i64,
+        Err(_) => -3,
+    }
+}
+
+/// The same of 16 bits.
+#[unsafe(no_mangle)]
+pub extern "C" fn bks_trie16_get_utf8(trie: &Trie<'_>, text: &[u8], values: &mut [u16]) -> i64
+    ensures { AnswersText (IsUtf8 text.now) (map (value_at 2 trie.now) (chars text.now))
+        values.old values.new result }
+{
+    match str::from_utf8(text) {
+        Ok(text) => write_text(trie, text, values, 0) as i64,
+        Err(_) => -3,
+    }
+}
+
+/// The same of 32 bits.
+#[unsafe(no_mangle)]
+pub extern "C" fn bks_trie32_get_utf8(trie: &Trie<'_>, text: &[u8], values: &mut [u32]) -> i64
+    ensures { AnswersText (IsUtf8 text.now) (map (value_at 4 trie.now) (chars text.now))
+        values.old values.new result }
+{
+    match str::from_utf8(text) {
+        Ok(text) => write_text(trie, text, values, 0) as i64,
+        Err(_) => -3,
+    }
+}
