@@ -3,6 +3,8 @@
  * A trie has a value for each code point, and is read from the bytes that ICU's ucptrie_toBinary
  * writes, wherever they are. A set is the ascending list of its ends: it begins at the first, stops
  * before the second, begins again at the third, and so on, so that {0x41, 0x5B} is A to Z.
+ * A unit trie has a number for each text of a list, and is read from what ICU's UCharsTrieBuilder
+ * writes.
  *
  * Nothing is kept between calls, and nothing has to be freed. Results go into buffers of yours, as
  * far as there is room, and a call answers how much there is in all: ask again with more room where
@@ -14,7 +16,7 @@
  * the count beside it is 0 (the data() of an empty std::vector may be). All calls may be made from
  * several threads at once, as long as nobody changes what they read.
  *
- * The calls in the second and the third part are proved: README.md says what. Those marked [m] take
+ * The calls in the second to the fourth part are proved: README.md says what. Those marked [m] take
  * memory by malloc while they run. C99 or later, C++11 or later, on a machine with the lowest byte
  * first. Link with -lbekstaudi.
  */
@@ -60,7 +62,8 @@ enum bks_refusal {
     BKS_NO_MEMORY = -1,  /* malloc refused */
     BKS_NO_SET = -2,     /* a list that bks_set_test refuses */
     BKS_NO_TRIE = -2,    /* a trie that bks_trie_open has not made */
-    BKS_NO_TEXT = -3     /* bytes that are no UTF-8 */
+    BKS_NO_TEXT = -3,    /* bytes that are no UTF-8 */
+    BKS_NO_KEY = -4      /* a text that no key of a unit trie begins */
 };
 
 /* A trie, by value: yours to copy and to forget. Its cells stay in the bytes that it was opened
@@ -89,6 +92,23 @@ typedef struct bks_range {
     uint32_t value;
     bool found;                       /* false: there is no range, and the other fields are 0 */
 } bks_range;
+
+/* What a step in a unit trie comes to: enum UStringTrieResult. Bit 0 says that a key goes on. */
+enum bks_step {
+    BKS_NO_MATCH = 0,           /* no key begins so, and no unit matches any more */
+    BKS_NO_VALUE = 1,           /* no key ends here */
+    BKS_FINAL_VALUE = 2,        /* a key ends here, and none goes on */
+    BKS_INTERMEDIATE_VALUE = 3  /* a key ends here, and one goes on */
+};
+
+/* Where one stands in a unit trie, by value: yours to copy and to forget. All zeros is the root,
+ * before any unit. Any numbers are a place: at one that no step led to, the units say what follows,
+ * and nothing matches where a unit is not there. */
+typedef struct bks_cursor {
+    size_t position;                  /* the next unit, counted from 0 */
+    uint16_t left;                    /* 0 at a node; in a row of units that all have to match how
+                                         many are left, 1 to 256; above 256 after no match */
+} bks_cursor;
 
 /* ---- Tries ----------------------------------------------------------------------------------- */
 
@@ -166,6 +186,37 @@ int64_t bks_set_difference(const uint32_t *a, size_t a_count, const uint32_t *b,
                            uint32_t *ends, size_t room);
 int64_t bks_set_symmetric_difference(const uint32_t *a, size_t a_count, const uint32_t *b,
                                      size_t b_count, uint32_t *ends, size_t room);
+
+/* ---- Unit tries ------------------------------------------------------------------------------ */
+/* Maps from keys, lists of 16-bit units and mostly texts in UTF-16, to numbers: what ICU's
+ * UCharsTrieBuilder writes, read where it is. `units` are `size` bytes at any address, two a unit,
+ * the lowest first; an odd last byte is no unit. They are not tested: all bytes are answered, a
+ * unit that is needed and not there is no match, and a value whose units are cut off is 0. */
+
+/* The value of a key: UCharsTrie::reset, next and getValue. True, and it is in *value; false where
+ * the key is not there, and *value stays. */
+bool bks_units_get(const void *units, size_t size, const uint16_t *key, size_t count,
+                   int32_t *value);
+
+/* The longest key that begins a text, as a dictionary is asked for a word: how many units it has,
+ * and its value in *value. BKS_NO_KEY where no key does, and *value stays. */
+int64_t bks_units_longest(const void *units, size_t size, const uint16_t *text, size_t count,
+                          int32_t *value);
+
+/* The same of a UTF-8 text: how many bytes the key takes, the units of some first characters; one
+ * that ends within a character doesn't count. BKS_NO_KEY or BKS_NO_TEXT, and *value stays. */
+int64_t bks_units_longest_utf8(const void *units, size_t size, const char *text, size_t text_size,
+                               int32_t *value);
+
+/* One step: UCharsTrie::next. The cursor goes on by a unit, and the answer is of enum bks_step:
+ *     bks_cursor cursor = {0, 0};
+ *     while (bks_units_step(units, size, &cursor, *text++) & 1) ..
+ */
+uint32_t bks_units_step(const void *units, size_t size, bks_cursor *cursor, uint16_t unit);
+
+/* The value where the cursor stands: UCharsTrie::getValue. True, and it is in *value; false where
+ * no key ends, and *value stays. */
+bool bks_units_value(const void *units, size_t size, const bks_cursor *cursor, int32_t *value);
 
 /* ---- In line --------------------------------------------------------------------------------- */
 /* These are C, and are tested, not proved. */

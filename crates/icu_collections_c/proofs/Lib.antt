@@ -3,3 +3,4 @@ mod BufferLemmas
 mod CellLemmas
 mod OpeningLemmas
 mod SetLemmas
+mod UnitLemmas

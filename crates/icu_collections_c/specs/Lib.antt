@@ -3,3 +3,4 @@ pub mod Buffers
 pub mod BytesTrie
 pub mod Opening
 pub mod Ranges
+pub mod UnitTries

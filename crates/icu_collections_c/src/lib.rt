@@ -12,6 +12,7 @@
 //! - `value_sets`: the set of a value
 //! - `sets`: sets as lists of their ends, and what is asked of them
 //! - `set_operations`: sets made of two
+//! - `unit_tries`: unit tries in bytes; `units`: what is told of them
 //! - `cells`: cells of tries, in bytes at any address
 //! - `answers`, `buffers`: what calls answer, and what they write
 #![tactic(auto)]
@@ -25,4 +26,6 @@ pub mod set_operations;
 pub mod sets;
 pub mod texts;
 pub mod tries;
+pub mod unit_tries;
+mod units;
 pub mod value_sets;

@@ -1,0 +1,64 @@
+//! Unit tries in bytes, and what is told of them.
+ghost use Rattle.std.specs.Prelude.{◌≡◌, ℕ, ◌<◌, ◌^◌, List, IfSome, not};
+ghost use Rattle.icu_char16trie.specs.Passed.{answer_at, result_of};
+ghost use Rattle.icu_char16trie.specs.UnitMap.{UnitMap, goes_on, value_of};
+ghost use Rattle.icu_char16trie.specs.UnitPlaces.{IsAfter};
+ghost use Rattle.icu_collections_c.specs.UnitTries.{GivesMatch, GivesValue, step_number, units_of};
+
+use icu_char16trie::char16trie::{Char16Trie, Char16TrieCursor};
+use icu_zerovec::ZeroVec;
+
+/// The trie of the units in the bytes. An odd last byte is left out.
+#[inline(always)]
+pub(crate) fn trie_in(bytes: &[u8]) -> Char16Trie<'_>
+    ensures { result ≡ units_of bytes.now }
+{
+    match ZeroVec::parse_bytes(&bytes[..bytes.len() / 2 * 2]) {
+        Ok(units) => Char16Trie::new(units),
+        Err(_) => unreachable!(),
+    }
+}
+
+/// Writes a value, if there is one, and answers whether there is.
+#[inline(always)]
+pub(crate) fn give(found: Option<i32>, value: &mut i32) -> bool
+    ensures { GivesValue found value.old result value.new }
+{
+    match found {
+        Some(found) => {
+            *value = found;
+            true
+        }
+        None => false,
+    }
+}
+
+/// Writes the value of a match, if there is one, and answers its length; -4 where there is none.
+#[inline(always)]
+pub(crate) fn give_match(found: Option<(usize, i32)>, value: &mut i32) -> i64
+    requires { IfSome found (λ found. found.0 < 2 ^ 63) }
+    ensures { GivesMatch found value.old result value.new }
+{
+    match found {
+        Some((length, found)) => {
+            *value = found;
+            length as i64
+        }
+        None => -4,
+    }
+}
+
+/// The number of what is told where the cursor stands.
+#[inline(always)]
+pub(crate) fn step_number(cursor: &Char16TrieCursor<'_>) -> u32
+    ensures keys { (m : UnitMap) (w : List ℕ) → IsAfter cursor.now m w
+        → result ≡ step_number (result_of (value_of m w) (not (goes_on m w))) }
+    ensures exact { result ≡ step_number (answer_at cursor.now) }
+{
+    match (cursor.value().is_some(), cursor.is_empty()) {
+        (true, true) => 2,
+        (true, false) => 3,
+        (false, true) => 0,
+        (false, false) => 1,
+    }
+}
