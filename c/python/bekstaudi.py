@@ -5,6 +5,8 @@
     10
     >>> CodePointSet([0x41, 0x5B]) | CodePointSet([0x61, 0x7B])
     CodePointSet([0x41, 0x5b, 0x61, 0x7b])
+    >>> UnitTrie(open("words.units", "rb").read()).longest("category")
+    ('cat', 3)
 
 A code point is an int, or a str of one character. The library is looked for where the variable
 BEKSTAUDI_LIBRARY says, then beside this file, then where the system keeps libraries. bekstaudi.h
@@ -15,6 +17,7 @@ import ctypes.util
 import os
 
 __all__ = ["BekstaudiError", "CodePointSet", "NoMemory", "NoSet", "NoTrie", "Trie", "TrieRefused"]
+__all__ += ["UnitTrie"]
 
 
 class BekstaudiError(Exception):
@@ -101,6 +104,10 @@ def _library():
         many = [trie, *_LIST, ctypes.POINTER(number), ctypes.c_size_t]
         calls[f"bks_trie{8 * width}_get"] = (number, [trie, point])
         calls[f"bks_trie{8 * width}_get_many"] = (ctypes.c_size_t, many)
+    units = [ctypes.c_void_p, ctypes.c_size_t]
+    key, value = [ctypes.POINTER(ctypes.c_uint16), ctypes.c_size_t], ctypes.POINTER(ctypes.c_int32)
+    calls["bks_units_get"] = (ctypes.c_bool, [*units, *key, value])
+    calls["bks_units_longest_utf8"] = (ctypes.c_int64, [*units, *_TEXT, value])
     for name in ("union", "intersection", "difference", "symmetric_difference"):
         calls[f"bks_set_{name}"] = (ctypes.c_int64, [*_LIST, *_LIST, *_LIST])
     for name, (answer, words) in calls.items():
@@ -290,3 +297,42 @@ class CodePointSet:
 
     def __xor__(self, other):
         return self._joined(_lib.bks_set_symmetric_difference, other)
+
+
+class UnitTrie:
+    """A map from keys to numbers, from the units that ICU's `UCharsTrieBuilder` writes, as bytes:
+    two a unit, the lowest first. They are not tested: all bytes are answered.
+
+    `trie[key]` is the value of a key, or a `KeyError`; `key in trie` asks whether it is there. A
+    key is a str, as its units in UTF-16, or a list of units.
+    """
+
+    def __init__(self, units):
+        self._bytes = bytes(units)
+        self._units = ctypes.cast(ctypes.c_char_p(self._bytes), ctypes.c_void_p), len(self._bytes)
+
+    def get(self, key, default=None):
+        """The value of a key, or `default`."""
+        if isinstance(key, str):
+            packed = key.encode("utf-16-le", "surrogatepass")
+        else:
+            packed = b"".join(unit.to_bytes(2, "little") for unit in key)
+        count, value = len(packed) // 2, ctypes.c_int32()
+        units = (ctypes.c_uint16 * max(count, 1)).from_buffer_copy(packed or bytes(2))
+        return value.value if _lib.bks_units_get(*self._units, units, count, value) else default
+
+    def __getitem__(self, key):
+        value = self.get(key)
+        if value is None:
+            raise KeyError(key)
+        return value
+
+    def __contains__(self, key):
+        return self.get(key) is not None
+
+    def longest(self, text):
+        """The longest key that begins a text without surrogates, and its value; None where no key
+        does."""
+        encoded, value = text.encode("utf-8"), ctypes.c_int32()
+        size = _lib.bks_units_longest_utf8(*self._units, encoded, len(encoded), value)
+        return (encoded[:size].decode("utf-8"), value.value) if size >= 0 else None
