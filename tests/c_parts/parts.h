@@ -32,6 +32,12 @@ static inline uint8_t *before_closed_page(size_t size) {
     return pages + open - size;
 }
 
+/* Gives such memory back. */
+static inline void released(void *bytes, size_t size) {
+    size_t open = (size + PAGE - 1) / PAGE * PAGE + PAGE;
+    CHECK(munmap((uint8_t *)bytes + size - open, open + PAGE) == 0);
+}
+
 /* The bytes of a file, before a closed page. */
 static inline uint8_t *file_bytes(const char *path, size_t *size) {
     FILE *file = fopen(path, "rb");

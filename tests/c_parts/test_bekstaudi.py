@@ -1,11 +1,12 @@
 """The Python module over the shared library that BEKSTAUDI_LIBRARY names, on tries in the folder
-that TRIES names: NAME.bin with NAME.runs.txt, lines HEX..HEX;N, HEX;N."""
+that TRIES names: NAME.bin with NAME.runs.txt, lines HEX..HEX;N, HEX;N; and where ICU is at hand
+names.units with names.keys.txt, lines KEY;N."""
 import glob
 import os
 import sys
 import unittest
 
-from bekstaudi import CodePointSet, NoSet, Trie, TrieRefused
+from bekstaudi import CodePointSet, NoSet, Trie, TrieRefused, UnitTrie
 
 FOLDER = os.environ["TRIES"]
 NAMES = sorted(os.path.basename(it)[:-4] for it in glob.glob(f"{FOLDER}/*.bin"))
@@ -133,6 +134,47 @@ class Sets(unittest.TestCase):
                 CodePointSet(ends)
         with self.assertRaises(TypeError):
             self.letters | {0x41}
+
+
+class UnitTries(unittest.TestCase):
+    worked = UnitTrie(bytes.fromhex("30006100B00062006480"))
+    pair = UnitTrie(bytes.fromhex("30003DD8B00000DE0280"))
+
+    def test_keys(self):
+        self.assertEqual((self.worked["a"], self.worked["ab"]), (1, 100))
+        self.assertEqual([it in self.worked for it in ("", "a", "b", "ab", "abc")], [0, 1, 0, 1, 0])
+        self.assertEqual((self.worked.get("b"), self.worked.get("b", 7)), (None, 7))
+        with self.assertRaises(KeyError):
+            self.worked["abc"]
+
+    def test_surrogates(self):
+        self.assertEqual((self.pair["\U0001f600"], self.pair["\ud83d"]), (2, 1))
+        self.assertEqual(self.pair[[0xD83D, 0xDE00]], 2)
+        self.assertEqual(self.pair.longest("\U0001f600!"), ("\U0001f600", 2))
+        self.assertIsNone(self.pair.longest("\U0001f601"))
+
+    def test_longest(self):
+        self.assertEqual(self.worked.longest("abba"), ("ab", 100))
+        self.assertEqual(self.worked.longest("acb"), ("a", 1))
+        self.assertIsNone(self.worked.longest("ba"))
+        self.assertIsNone(self.worked.longest(""))
+        self.assertEqual(UnitTrie(b"\x07\x80").longest(""), ("", 7))
+
+    def test_no_units(self):
+        for units in (b"", b"\x30", b"\x30\0"):
+            self.assertNotIn("0", UnitTrie(units))
+            self.assertIsNone(UnitTrie(units).longest("0"))
+
+    def test_names(self):
+        if not os.path.exists(f"{FOLDER}/names.units"):
+            self.skipTest("no ICU")
+        with open(f"{FOLDER}/names.units", "rb") as file:
+            trie = UnitTrie(file.read())
+        with open(f"{FOLDER}/names.keys.txt", encoding="ascii") as file:
+            for line in file:
+                key, _, value = line.strip().partition(";")
+                self.assertEqual(trie[key], int(value))
+                self.assertEqual(trie.longest(f"{key};"), (key, int(value)))
 
 
 if __name__ == "__main__":
