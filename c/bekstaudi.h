@@ -63,7 +63,10 @@ enum bks_refusal {
     BKS_NO_SET = -2,     /* a list that bks_set_test refuses */
     BKS_NO_TRIE = -2,    /* a trie that bks_trie_open has not made */
     BKS_NO_TEXT = -3,    /* bytes that are no UTF-8 */
-    BKS_NO_KEY = -4      /* a text that no key of a unit trie begins */
+    BKS_NO_KEY = -4,     /* a text that no key of a unit trie begins */
+    BKS_NO_FORM = -5,    /* a type or a width that tries don't have */
+    BKS_NO_VALUE = -6,   /* a value with more bits than the width */
+    BKS_TOO_LARGE = -7   /* a map that makes too large a trie */
 };
 
 /* A trie, by value: yours to copy and to forget. Its cells stay in the bytes that it was opened
@@ -92,6 +95,19 @@ typedef struct bks_range {
     uint32_t value;
     bool found;                       /* false: there is no range, and the other fields are 0 */
 } bks_range;
+
+/* The type of a trie that is built: UCPTrieType. */
+enum bks_type {
+    BKS_FAST = 0,   /* look-ups below 0x10000 take two reads */
+    BKS_SMALL = 1   /* only those below 0x1000 do, and the trie is smaller */
+};
+
+/* Code points from `first` to `last`, both included, and the value that they are to have. */
+typedef struct bks_row {
+    uint32_t first;
+    uint32_t last;
+    uint32_t value;
+} bks_row;
 
 /* What a step in a unit trie comes to: enum UStringTrieResult. Bit 0 says that a key goes on. */
 enum bks_step {
@@ -156,6 +172,21 @@ bks_range bks_trie_range(const bks_trie *trie, uint32_t c);
 /* [m] The set of the code points in ranges of this value. Answers how many ends it has, and writes
  * them into `ends`, as many as there is room for; BKS_NO_MEMORY or BKS_NO_TRIE. */
 int64_t bks_trie_set(const bks_trie *trie, uint32_t value, uint32_t *ends, size_t room);
+
+/* [m] Builds a trie of rows in ICU's binary form: umutablecptrie_setRange of each row,
+ * umutablecptrie_buildImmutable and ucptrie_toBinary. A later row covers an earlier one; a code
+ * point in no row has the default value, and numbers above 0x10FFFF the error value. A row whose
+ * first is above its last, or above 0x10FFFF, says nothing; one that passes 0x10FFFF ends there.
+ * `type` is one of enum bks_type, `width` how many bytes a value takes: 1, 2 or 4.
+ *
+ * Answers how many bytes the trie takes. They are in `bytes` where there is room for all of them,
+ * and else `bytes` is unchanged: ask with no room first, or again with more. bks_open opens them.
+ * Else the first of these that there is cause for: BKS_NO_FORM, BKS_NO_VALUE (of a row, of the
+ * default or of the error value), BKS_TOO_LARGE (never for the number of blocks with up to 256
+ * rows); or BKS_NO_MEMORY, which may come before BKS_TOO_LARGE. */
+int64_t bks_trie_build(const bks_row *rows, size_t count, uint32_t default_value,
+                       uint32_t error_value, uint32_t type, uint32_t width, void *bytes,
+                       size_t room);
 
 /* ---- Sets ------------------------------------------------------------------------------------ */
 

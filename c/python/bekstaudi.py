@@ -17,7 +17,7 @@ import ctypes.util
 import os
 
 __all__ = ["BekstaudiError", "CodePointSet", "NoMemory", "NoSet", "NoTrie", "Trie", "TrieRefused"]
-__all__ += ["UnitTrie"]
+__all__ += ["NoForm", "NoValue", "TooLarge", "UnitTrie"]
 
 
 class BekstaudiError(Exception):
@@ -47,6 +47,18 @@ class NoSet(BekstaudiError, ValueError):
 
 class NoTrie(BekstaudiError, ValueError):
     """The trie was not opened."""
+
+
+class NoForm(BekstaudiError, ValueError):
+    """Tries have no values of this width: it is neither 1, 2 nor 4 bytes."""
+
+
+class NoValue(BekstaudiError, ValueError):
+    """A value has more bits than the width."""
+
+
+class TooLarge(BekstaudiError, ValueError):
+    """The map makes too large a trie."""
 
 
 class _Trie(ctypes.Structure):
@@ -79,9 +91,21 @@ class _Range(ctypes.Structure):
     ]
 
 
+class _Row(ctypes.Structure):
+    """bks_row of bekstaudi.h."""
+
+    _fields_ = [
+        ("first", ctypes.c_uint32),
+        ("last", ctypes.c_uint32),
+        ("value", ctypes.c_uint32),
+    ]
+
+
 _NUMBERS = {1: ctypes.c_uint8, 2: ctypes.c_uint16, 4: ctypes.c_uint32}
 _LIST = [ctypes.POINTER(ctypes.c_uint32), ctypes.c_size_t]
 _TEXT = [ctypes.c_char_p, ctypes.c_size_t]
+_ROWS = [ctypes.POINTER(_Row), ctypes.c_size_t]
+_BYTES = [ctypes.c_void_p, ctypes.c_size_t]
 
 
 def _library():
@@ -95,6 +119,7 @@ def _library():
         "bks_trie_is_coherent": (ctypes.c_bool, [trie]),
         "bks_trie_range": (_Range, [trie, point]),
         "bks_trie_set": (ctypes.c_int64, [trie, ctypes.c_uint32, *_LIST]),
+        "bks_trie_build": (ctypes.c_int64, [*_ROWS, *[ctypes.c_uint32] * 4, *_BYTES]),
         "bks_set_test": (ctypes.c_bool, _LIST),
         "bks_set_contains": (ctypes.c_bool, [*_LIST, point]),
         "bks_set_size": (ctypes.c_int64, _LIST),
@@ -156,6 +181,8 @@ class Trie:
     `trie[c]` is the value of a code point: the trie's error value above 0x10FFFF.
     """
 
+    _REFUSALS = {-1: NoMemory, -5: NoForm, -6: NoValue, -7: TooLarge}
+
     def __init__(self, data):
         # The copy lies where it is while this object lives, and nobody changes it.
         self._bytes = bytes(data)
@@ -168,6 +195,32 @@ class Trie:
         self._number = _NUMBERS[self._trie.width]
         self._get = getattr(_lib, f"bks_trie{8 * self._trie.width}_get")
         self._get_many = getattr(_lib, f"bks_trie{8 * self._trie.width}_get_many")
+
+    @classmethod
+    def build(cls, rows, default=0, error=0, width=None, small=False):
+        """The trie of rows: a first and a last code point, both included, and a value each. A later
+        row covers an earlier one; a code point in no row has the default, and what is above
+        0x10FFFF the error value. `width` is how many bytes a value takes, 1, 2 or 4: where it is
+        None, as few as all values fit in. `bks_trie_build` says more."""
+        rows = [(_point(first), _point(last), value) for first, last, value in rows]
+        largest = max([default, error, *(it[2] for it in rows)])
+        if min([default, error, *(it[2] for it in rows)]) < 0 or largest >= 1 << 32:
+            raise NoValue()
+        if width is None:
+            width = next(it for it in _NUMBERS if largest >> 8 * it == 0)
+        if width not in _NUMBERS:
+            raise NoForm()
+        packed, refusals = (_Row * max(len(rows), 1))(*rows), cls._REFUSALS
+        asked = (packed, len(rows), default, error, int(bool(small)), width)
+        size = _count(_lib.bks_trie_build(*asked, ctypes.create_string_buffer(1), 0), refusals)
+        data = ctypes.create_string_buffer(size)
+        _count(_lib.bks_trie_build(*asked, data, size), refusals)
+        return cls(data.raw)
+
+    @property
+    def data(self):
+        """The bytes of the trie, in ICU's binary form."""
+        return self._bytes[: self.size]
 
     @property
     def size(self):

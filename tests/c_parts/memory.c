@@ -48,6 +48,10 @@ static int64_t both(void) { return bks_set_intersection(a, 6, b, 4, ends, 4096);
 static int64_t either(void) { return bks_set_union(a, 6, b, 4, ends, 4096); }
 static int64_t without(void) { return bks_set_difference(a, 6, b, 4, ends, 4096); }
 static int64_t one_of(void) { return bks_set_symmetric_difference(a, 6, b, 4, ends, 4096); }
+static int64_t built(void) {
+    static const bks_row rows[] = {{0x41, 0x5A, 1}, {0x4E00, 0x9FFF, 2}, {0x61, 0x20000, 3}};
+    return bks_trie_build(rows, 3, 0, 9, BKS_SMALL, 2, ends, sizeof ends);
+}
 
 /* How many requests the call makes, each of which was refused once. */
 static long refused_in_turn(call tried) {
@@ -68,7 +72,8 @@ static long refused_in_turn(call tried) {
 }
 
 int main(int count, char **words) {
-    static const call calls[] = {set_of, set_of_none, size, span, both, either, without, one_of};
+    static const call calls[] = {set_of, set_of_none, size, span, both, either, without, one_of,
+                                 built};
     long made = 0;
     for (int i = 1; i < count; i++) {
         size_t bytes;

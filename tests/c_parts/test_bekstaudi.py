@@ -6,7 +6,9 @@ import os
 import sys
 import unittest
 
-from bekstaudi import CodePointSet, NoSet, Trie, TrieRefused, UnitTrie
+from bekstaudi import (
+    CodePointSet, NoForm, NoSet, NoValue, TooLarge, Trie, TrieRefused, UnitTrie
+)
 
 FOLDER = os.environ["TRIES"]
 NAMES = sorted(os.path.basename(it)[:-4] for it in glob.glob(f"{FOLDER}/*.bin"))
@@ -91,6 +93,42 @@ class Tries(unittest.TestCase):
             self.assertEqual(told.exception.status, name)
         with self.assertRaises(TrieRefused):
             Trie(b"")
+
+
+class Building(unittest.TestCase):
+    def test_built_of_runs(self):
+        for name in NAMES:
+            runs = list(runs_of(name))
+            for small in (False, True):
+                trie = Trie.build(runs, error=255, small=small)
+                self.assertEqual(list(trie.ranges()), runs)
+                self.assertEqual((trie.is_fast, trie[0x110000]), (not small, 255))
+                self.assertEqual(list(Trie(trie.data + b"more").ranges()), runs)
+                self.assertTrue(trie.is_coherent())
+
+    def test_later_rows_cover_earlier_ones(self):
+        trie = Trie.build([("A", "Z", 1), ("C", "D", 2), (9, 8, 3), (0x10FFFF, 1 << 31, 4)], 5, 6)
+        self.assertEqual([trie[it] for it in "@ABCDEZ["], [5, 1, 1, 2, 2, 1, 1, 5])
+        self.assertEqual([trie[it] for it in (8, 9, 0x10FFFF, 0x110000)], [5, 5, 4, 6])
+
+    def test_width(self):
+        for largest, bits in ((0, 8), (255, 8), (256, 16), (65535, 16), (65536, 32)):
+            self.assertEqual(Trie.build([(0, 0, largest)]).value_bits, bits)
+            self.assertEqual(Trie.build([], default=largest).value_bits, bits)
+        self.assertEqual(Trie.build([], width=2).value_bits, 16)
+
+    def test_refusals(self):
+        for rows, default, error in (([(0, 1, 256)], 0, 0), ([], 256, 0), ([], 0, 256)):
+            with self.assertRaises(NoValue):
+                Trie.build(rows, default, error, width=1)
+        for value in (-1, 1 << 32):
+            with self.assertRaises(NoValue):
+                Trie.build([(0, 1, value)])
+        for width in (0, 3, (1 << 32) + 1):
+            with self.assertRaises(NoForm):
+                Trie.build([], width=width)
+        with self.assertRaises(TooLarge):
+            Trie.build([(it, it, it) for it in range(0x110000)])
 
 
 class Sets(unittest.TestCase):

@@ -1,5 +1,6 @@
 mod AnswerLemmas
 mod BufferLemmas
+mod BuildingLemmas
 mod CellLemmas
 mod OpeningLemmas
 mod SetLemmas

@@ -1,5 +1,5 @@
 //! The cells of a trie in bytes, at any address, and what is read through them.
-ghost use Rattle.std.specs.Prelude.{◌≡◌, ℕ, ◌/◌, ◌<◌, ◌≤◌, ◌↔◌, List, length, slice_get, Some, IsSome, IsTrue, MatchOption, refl};
+ghost use Rattle.std.specs.Prelude.{◌≡◌, ℕ, ◌/◌, ◌^◌, ◌<◌, ◌≤◌, ◌↔◌, List, length, slice_get, Some, IsSome, IsTrue, MatchOption, refl};
 ghost use Rattle.icu_zerovec.specs.Cells.{values_of};
 ghost use Rattle.icu_zerovec.specs.PackedBytes.{number_of};
 ghost use Rattle.icu_trie_core.specs.Coherence.{IsCoherent};
@@ -8,6 +8,7 @@ ghost use Rattle.icu_trie_core.specs.Range.{GivesWalk, last_of};
 ghost use Rattle.icu_trie_core.specs.Runs.{LongestRun};
 ghost use Rattle.icu_trie.specs.Parts.{last_cell};
 ghost use Rattle.icu_collections_c.specs.BytesTrie.{cells_of};
+ghost use Rattle.icu_collections_c.specs.Inside.NumberLaws.{fitting-number};
 
 use icu_trie_core::cells::{Cells, Steps};
 use icu_trie_core::coherent::is_coherent;
@@ -24,18 +25,27 @@ use std::sync::ledger::{Blank, Ledger};
 pub(crate) trait UnsignedValue: TrieValue {
     /// The bytes of a cell are a value.
     ghost every_cell: { (cell : List ℕ) → IsSome (Self.unpack cell) };
+
+    /// The number that a value was made of is its number.
+    ghost number_is: { (n : ℕ) (x : Self) → Self.of_number n ≡ Some x → Self.number x ≡ n };
 }
 
 impl UnsignedValue for u8 {
     ghost every_cell = { λ _. refl };
+
+    ghost number_is = { fitting-number (2 ^ 8) };
 }
 
 impl UnsignedValue for u16 {
     ghost every_cell = { λ _. refl };
+
+    ghost number_is = { fitting-number (2 ^ 16) };
 }
 
 impl UnsignedValue for u32 {
     ghost every_cell = { λ _. refl };
+
+    ghost number_is = { fitting-number (2 ^ 32) };
 }
 
 /// How many whole cells the bytes have.

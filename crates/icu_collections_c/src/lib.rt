@@ -6,6 +6,7 @@
 //! program's `malloc` while it runs. `c/bekstaudi.h` has each call as C sees it.
 //!
 //! - `opening`: a trie from ICU's binary form
+//! - `building`: a trie of rows, in ICU's binary form
 //! - `tries`: a trie as C keeps it, and its values
 //! - `texts`: the values of a text's characters
 //! - `ranges`: its ranges, and whether they can be trusted
@@ -19,6 +20,7 @@
 
 mod answers;
 mod buffers;
+pub mod building;
 mod cells;
 pub mod opening;
 pub mod ranges;

@@ -1,0 +1,99 @@
+-- Tries that are built of rows, and the bytes that they are written as.
+use Rattle.std.specs.Prelude.{◌≡◌, ℕ, zero, suc, ℤ, pos, negsuc, ◌<◌, ◌⊎◌, ◌&&◌, nat_le, Bool, List, [], ◌∷◌, ◌++◌, length, drop, All, Option, Some, None, IsSome, unwrap_or, if◌then◌else◌}
+use Rattle.std.specs.Option.{option_or}
+use Rattle.icu_trie.specs.Parts.{Parts, trie_value}
+use Rattle.icu_trie_core.specs.ValueNumbers.{type_number}
+use Rattle.icu_trie_binary.specs.BinaryTrie.{IsUnsignedStored}
+use Rattle.icu_trie_binary.specs.WrittenTrie.{why_not_written}
+use Rattle.icu_trie_binary.specs.declared.error.WriteError.{WriteError}
+use Rattle.icu_trie_builder.specs.Bounds.{IsTooLarge}
+use Rattle.icu_collections_c.specs.BytesTrie.{value_width}
+use Rattle.icu_collections_c.specs.declared.building.Row.{Row}
+use Rattle.icu_collections_c.specs.declared.building.Refusal.{Refusal}
+use Rattle.icu_collections_c.specs.declared.building.Refusal.TheVariants.{Form, Value, TooLarge, Memory}
+
+-- ---- what rows say
+-- whether a row covers c: it begins in the code space, and c lies from its first to its last
+abbrev pub covers : Row → ℕ → Bool
+covers row c = nat_le row.first 0x10FFFF && (nat_le row.first c && nat_le c row.last)
+
+-- the value of the last of the rows that cover c, if any does
+abbrev pub last_row : List Row → ℕ → Option ℕ
+last_row [] c = None
+last_row (row ∷ rows) c =
+    option_or (last_row rows c) (if covers row c then Some row.value else None)
+
+-- the value that the rows ask for at a code point: the last row's, or else the default
+abbrev pub row_value : List Row → ℕ → ℕ → ℕ
+row_value rows default c = unwrap_or (last_row rows c) default
+
+-- the same at any number, which is the error value above the code space
+abbrev pub row_answer : List Row → ℕ → ℕ → ℕ → ℕ
+row_answer rows default error u = if nat_le u 0x10FFFF then row_value rows default u else error
+
+-- ---- what is asked for
+-- a type of this number, and values of so many bytes
+abbrev pub IsForm : ℕ → ℕ → Type 0
+IsForm kind width = (kind < 2) × (value_width width ≡ width)
+
+-- each number that is given is that of a value
+pub record AreFitting {T : Type 0} (of_number : ℕ → Option T) (rows : List Row)
+    (default error : ℕ) : Type 0 where
+  pub of_rows : All (λ row. IsSome (of_number row.value)) rows
+  pub of_default : IsSome (of_number default)
+  pub of_error : IsSome (of_number error)
+
+-- ---- what is answered
+-- the trie is of the type, and answers every number as the rows ask
+pub record IsTrieOf (rows : List Row) (default error kind : ℕ) (t : Parts ℕ) : Type 0 where
+  pub of_kind : type_number t.header.trie_type ≡ kind
+  pub answers : (u : ℕ) → trie_value t u ≡ Some (row_answer rows default error u)
+
+-- the bytes are, whole, such a trie in ICU's binary form, with values of so many bytes
+pub record IsBuilt (rows : List Row) (default error kind width : ℕ) (bytes : List ℕ)
+    : Type 0 where
+  pub trie : Parts ℕ
+  pub stored : IsUnsignedStored width bytes trie (length bytes)
+  pub of_rows : IsTrieOf rows default error kind trie
+
+-- the rows make a map that a builder may refuse for its size, which at most 256 rows never do; or
+-- the binary form has no room for such a trie
+abbrev pub IsTooLargeFor : List Row → ℕ → ℕ → ℕ → ℕ → Type 0
+IsTooLargeFor rows default error kind width =
+    ((256 < length rows) × IsTooLarge (row_value rows default))
+    ⊎ ((t : Parts ℕ) × IsTrieOf rows default error kind t
+    × (why : WriteError) × (why_not_written width (λ n. n) t ≡ Some why))
+
+-- the bytes are in front of the buffer where it has room for all of them, and else it stays
+abbrev pub written_whole : List ℕ → List ℕ → List ℕ
+written_whole bytes old =
+    if nat_le (length bytes) (length old) then bytes ++ drop (length bytes) old else old
+
+-- n is how many bytes with this property there are, and the buffer has them if it has the room
+pub record HasBytes (P : List ℕ → Type 0) (old new : List ℕ) (n : ℕ) : Type 0 where
+  pub bytes : List ℕ
+  pub good : P bytes
+  pub count : n ≡ length bytes
+  pub buffer : new ≡ written_whole bytes old
+
+-- why there are no bytes
+abbrev pub IsWhyNotBuilt : Type 0 → Type 0 → Type 0 → Refusal → Type 0
+IsWhyNotBuilt form fitting large Form = ¬ form
+IsWhyNotBuilt form fitting large Value = form × ¬ fitting
+IsWhyNotBuilt form fitting large TooLarge = form × fitting × large
+IsWhyNotBuilt form fitting large Memory = form × fitting
+
+-- how many bytes there are with this property, where the form is known and the values fit; or -1
+-- where memory was refused; -5 where the form is not known; -6 where a value does not fit; -7 where
+-- the trie is too large. The buffer stays where there are no bytes
+abbrev pub AnswersBytes : Type 0 → Type 0 → Type 0 → (List ℕ → Type 0) → List ℕ → List ℕ → ℤ
+    → Type 0
+AnswersBytes form fitting large P old new (pos n) = form × fitting × HasBytes P old new n
+AnswersBytes form fitting large P old new (negsuc zero) = (form × fitting) × (new ≡ old)
+AnswersBytes form fitting large P old new (negsuc (suc (suc (suc (suc zero))))) =
+    (¬ form) × (new ≡ old)
+AnswersBytes form fitting large P old new (negsuc (suc (suc (suc (suc (suc zero)))))) =
+    (form × ¬ fitting) × (new ≡ old)
+AnswersBytes form fitting large P old new (negsuc (suc (suc (suc (suc (suc (suc zero))))))) =
+    (form × fitting × large) × (new ≡ old)
+AnswersBytes form fitting large P old new (negsuc _) = ⊥

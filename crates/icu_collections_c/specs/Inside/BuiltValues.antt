@@ -1,0 +1,56 @@
+-- Tries that are built of rows, over values of any type by their numbers.
+use Rattle.std.specs.Prelude.{◌≡◌, ℕ, ◌<◌, ◌⊎◌, List, length, map, Option, Some, option_map}
+use Rattle.icu_trie.specs.Parts.{Parts, trie_value}
+use Rattle.icu_trie_core.specs.declared.header.TrieType.{TrieType}
+use Rattle.icu_trie_binary.specs.BinaryTrie.{IsStored}
+use Rattle.icu_trie_binary.specs.WrittenTrie.{why_not_written}
+use Rattle.icu_trie_binary.specs.declared.error.WriteError.{WriteError}
+use Rattle.icu_trie_binary.specs.declared.error.WriteError.TheVariants as write
+use Rattle.icu_trie_compaction.specs.declared.error.BuildError.{BuildError}
+use Rattle.icu_trie_compaction.specs.declared.error.BuildError.TheVariants.{TooLarge, Memory}
+use Rattle.icu_trie_builder.specs.Bounds.{IsTooLarge}
+use Rattle.icu_trie_builder.specs.Writes.{first_of, last_of, value_of}
+use Rattle.icu_trie_builder.specs.declared.writes.Write.{Write}
+use Rattle.icu_collections_c.specs.Building.{row_answer, row_value}
+use Rattle.icu_collections_c.specs.declared.building.Row.{Row}
+use Rattle.icu_collections_c.specs.declared.building.Refusal.{Refusal}
+use Rattle.icu_collections_c.specs.declared.building.Refusal.TheVariants as Refused
+
+-- why no trie is built, by what a builder refuses, and by what a writer does
+abbrev pub of_build : BuildError → Refusal
+of_build TooLarge = Refused.TooLarge
+of_build Memory = Refused.Memory
+
+abbrev pub of_write : WriteError → Refusal
+of_write write.Memory = Refused.Memory
+of_write _ = Refused.TooLarge
+
+module _ {T : Type 0} (number : T → ℕ) where
+  -- the row that says what a write does
+  abbrev pub row_of : Write T → Row
+  row_of w = record { first = first_of w; last = last_of w; value = number (value_of w) }
+
+  -- the writes do what the rows say, one each
+  abbrev pub AreWritesOf : List Row → List (Write T) → Type 0
+  AreWritesOf rows writes = map row_of writes ≡ rows
+
+  -- the trie is of the type, and the numbers of its answers are those that the rows ask for
+  pub record IsTrieOfNumbers (rows : List Row) (default error : ℕ) (kind : TrieType) (t : Parts T)
+      : Type 0 where
+    pub of_kind : t.header.trie_type ≡ kind
+    pub answers : (u : ℕ)
+        → option_map number (trie_value t u) ≡ Some (row_answer rows default error u)
+
+  -- the bytes are, whole, such a trie
+  pub record IsBuiltOf (unpack : List ℕ → Option T) (width : ℕ) (of_number : ℕ → Option T)
+      (rows : List Row) (default error : ℕ) (kind : TrieType) (bytes : List ℕ) : Type 0 where
+    pub trie : Parts T
+    pub stored : IsStored unpack width number of_number bytes trie (length bytes)
+    pub of_rows : IsTrieOfNumbers rows default error kind trie
+
+  -- the map is too large for a trie, or such a trie for the form
+  abbrev pub IsTooLargeOf : ℕ → List Row → ℕ → ℕ → TrieType → Type 0
+  IsTooLargeOf width rows default error kind =
+      ((256 < length rows) × IsTooLarge (row_value rows default))
+      ⊎ ((t : Parts T) × IsTrieOfNumbers rows default error kind t
+      × (why : WriteError) × (why_not_written width number t ≡ Some why))

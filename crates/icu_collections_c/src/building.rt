@@ -1,0 +1,216 @@
+//! Tries that are built of rows, in ICU's binary form.
+ghost use Rattle.std.specs.Prelude.{◌≡◌, ◌<◌, ◌↔◌, IsTrue, IsSome, IfNone, IfOk, IfErr, IfSome, length, All};
+ghost use Rattle.icu_trie_core.specs.ValueNumbers.{type_number};
+ghost use Rattle.icu_collections_c.specs.Building.{AnswersBytes, AreFitting, IsBuilt, IsForm, IsTooLargeFor, IsWhyNotBuilt, written_whole};
+ghost use Rattle.icu_collections_c.specs.BytesTrie.{fitting_in};
+ghost use Rattle.icu_collections_c.specs.Inside.BuiltValues.{AreWritesOf, IsBuiltOf, IsTooLargeOf};
+
+use crate::cells::UnsignedValue;
+use icu_trie_binary::binary::{WriteError, to_binary};
+use icu_trie_builder::build_from_writes;
+use icu_trie_builder::error::BuildError;
+use icu_trie_builder::writes::Write;
+use icu_trie_core::header::TrieType;
+use std::alloc::{AllocError, Global};
+
+/// The value of the code points from `first` to `last`, both included. Where the first one is above
+/// the last one, or above 0x10FFFF, there are none.
+#[repr(C)]
+#[derive(Clone, Copy)]
+pub struct Row {
+    pub first: u32,
+    pub last: u32,
+    pub value: u32,
+}
+
+/// Why no trie is built.
+#[derive(Clone, Copy)]
+pub(crate) enum Refusal {
+    /// There is no such type, or no such width.
+    Form,
+    /// A value has more bits than the width.
+    Value,
+    /// The map is too large for a trie, or the trie for the binary form.
+    TooLarge,
+    /// Memory was refused.
+    Memory,
+}
+
+impl From<AllocError> for Refusal {
+    ghost use Rattle.icu_collections_c.specs.declared.building.Refusal.TheVariants.{Memory};
+
+    ghost from_gives = { λ _ e. e ≡ Memory };
+
+    fn from(_error: AllocError) -> Refusal {
+        Refusal::Memory
+    }
+}
+
+impl From<BuildError> for Refusal {
+    ghost use Rattle.icu_collections_c.specs.Inside.BuiltValues.{of_build};
+
+    ghost from_gives = { λ x e. e ≡ of_build x };
+
+    fn from(error: BuildError) -> Refusal {
+        match error {
+            BuildError::TooLarge => Refusal::TooLarge,
+            BuildError::Memory => Refusal::Memory,
+        }
+    }
+}
+
+impl From<WriteError> for Refusal {
+    ghost use Rattle.icu_collections_c.specs.Inside.BuiltValues.{of_write};
+
+    ghost from_gives = { λ x e. e ≡ of_write x };
+
+    fn from(error: WriteError) -> Refusal {
+        match error {
+            WriteError::Memory => Refusal::Memory,
+            _ => Refusal::TooLarge,
+        }
+    }
+}
+
+/// The type that has this number (UCPTrieType). `None` above 1.
+fn type_of(number: u32) -> Option<TrieType>
+    ensures some { IfSome result (λ t. number ≡ type_number t) }
+    ensures none { IfNone result (1 < number) }
+{
+    match number {
+        0 => Some(TrieType::Fast),
+        1 => Some(TrieType::Small),
+        _ => None,
+    }
+}
+
+/// Whether a value has this number.
+fn fits<T: UnsignedValue>(number: u32) -> bool
+    ensures { IsTrue result ↔ IsSome (T.of_number number) }
+{
+    T::try_from_u32(number).is_ok()
+}
+
+/// Whether a value has the number of each row.
+fn rows_fit<T: UnsignedValue>(rows: &[Row]) -> bool
+    ensures { IsTrue result ↔ All (λ row. IsSome (T.of_number row.value)) rows.now }
+{
+    rows.iter().all(|row| fits::<T>(row.value))
+}
+
+/// The writes that the rows stand for.
+fn writes_of<T: UnsignedValue>(alloc: Global, rows: &[Row]) -> Result<Vec<Write<T>>, AllocError>
+    requires { All (λ row. IsSome (T.of_number row.value)) rows.now }
+    ensures { IfOk result (λ writes. AreWritesOf T.number rows.now writes.items) }
+{
+    let mut writes = Vec::with_capacity(alloc, rows.len())?;
+    for row in rows {
+        match T::try_from_u32(row.value) {
+            Ok(value) => writes.push(Write::Range(row.first..=row.last, value))?,
+            Err(_) => unreachable!(),
+        }
+    }
+    Ok(writes)
+}
+
+/// A trie of these values, of the rows, in ICU's binary form.
+fn built_in<T: UnsignedValue>(
+    alloc: Global,
+    rows: &[Row],
+    default: u32,
+    error: u32,
+    trie_type: TrieType,
+) -> Result<Vec<u8>, Refusal>
+    ensures fits { IfOk result (λ _. AreFitting T.of_number rows.now default error) }
+    ensures built { IfOk result (λ bytes. IsBuiltOf T.number T.unpack T.WIDTH T.of_number rows.now
+        default error trie_type bytes.items) }
+    ensures err { IfErr result (IsWhyNotBuilt (Unit {0})
+        (AreFitting T.of_number rows.now default error)
+        (IsTooLargeOf T.number T.WIDTH rows.now default error trie_type)) }
+{
+    let (Ok(default), Ok(error)) = (T::try_from_u32(default), T::try_from_u32(error)) else {
+        return Err(Refusal::Value);
+    };
+    if !rows_fit::<T>(rows) {
+        return Err(Refusal::Value);
+    }
+    let writes = writes_of::<T>(alloc, rows)?;
+    let trie = build_from_writes(alloc, default, error, trie_type, &writes)?;
+    Ok(to_binary(alloc, &trie)?)
+}
+
+/// A trie of the rows in ICU's binary form, of the type that has this number, with values of so
+/// many bytes.
+fn built(
+    alloc: Global,
+    rows: &[Row],
+    default: u32,
+    error: u32,
+    trie_type: u32,
+    width: u32,
+) -> Result<Vec<u8>, Refusal>
+    ensures form { IfOk result (λ _. IsForm trie_type width) }
+    ensures fits { IfOk result (λ _. AreFitting (fitting_in width) rows.now default error) }
+    ensures built { IfOk result (λ bytes. IsBuilt rows.now default error trie_type width
+        bytes.items) }
+    ensures err { IfErr result (IsWhyNotBuilt (IsForm trie_type width)
+        (AreFitting (fitting_in width) rows.now default error)
+        (IsTooLargeFor rows.now default error trie_type width)) }
+{
+    let Some(trie_type) = type_of(trie_type) else {
+        return Err(Refusal::Form);
+    };
+    match width {
+        1 => built_in::<u8>(alloc, rows, default, error, trie_type),
+        2 => built_in::<u16>(alloc, rows, default, error, trie_type),
+        4 => built_in::<u32>(alloc, rows, default, error, trie_type),
+        _ => Err(Refusal::Form),
+    }
+}
+
+/// Writes the bytes into the front of a buffer that has room for all of them.
+fn write_whole(bytes: &[u8], buffer: &mut [u8])
+    ensures { buffer.new ≡ written_whole bytes.now buffer.old }
+{
+    if bytes.len() <= buffer.len() {
+        buffer[..bytes.len()].copy_from_slice(bytes);
+    }
+}
+
+/// Builds a trie of rows in ICU's binary form (`umutablecptrie_setRange`,
+/// `umutablecptrie_buildImmutable`, `ucptrie_toBinary`): how many bytes it takes, and these bytes
+/// in the buffer where there is room for all of them. A later row covers an earlier one. Code
+/// points that no row names have the default, and above 0x10FFFF the trie answers the error value.
+/// A row whose first is above its last, or above 0x10FFFF, writes nothing, and one that passes
+/// 0x10FFFF is cut there.
+///
+/// # Errors
+/// -5 where the type is neither 0, fast, nor 1, small, or the width neither 1, 2 nor 4 bytes; else
+/// -6 where a value has more bits than the width; else -7 where the map is too large for a trie, or
+/// the trie for the binary form; -1 where memory was refused. The buffer is then unchanged.
+#[unsafe(no_mangle)]
+pub extern "C" fn bks_trie_build(
+    alloc: Global,
+    rows: &[Row],
+    default_value: u32,
+    error_value: u32,
+    trie_type: u32,
+    width: u32,
+    bytes: &mut [u8],
+) -> i64
+    ensures { AnswersBytes (IsForm trie_type width)
+        (AreFitting (fitting_in width) rows.now default_value error_value)
+        (IsTooLargeFor rows.now default_value error_value trie_type width)
+        (IsBuilt rows.now default_value error_value trie_type width) bytes.old bytes.new result }
+{
+    match built(alloc, rows, default_value, error_value, trie_type, width) {
+        Ok(stored) => {
+            write_whole(&stored, bytes);
+            stored.len() as i64
+        }
+        Err(Refusal::Memory) => -1,
+        Err(Refusal::Form) => -5,
+        Err(Refusal::Value) => -6,
+        Err(Refusal::TooLarge) => -7,
+    }
+}
