@@ -65,7 +65,7 @@ enum bks_refusal {
     BKS_NO_TEXT = -3,    /* bytes that are no UTF-8 */
     BKS_NO_KEY = -4,     /* a text that no key of a unit trie begins */
     BKS_NO_FORM = -5,    /* a type or a width that tries don't have */
-    BKS_NO_VALUE = -6,   /* a value with more bits than the width */
+    BKS_WIDE_VALUE = -6, /* a value with more bits than the width */
     BKS_TOO_LARGE = -7   /* a map that makes too large a trie */
 };
 
@@ -181,7 +181,7 @@ int64_t bks_trie_set(const bks_trie *trie, uint32_t value, uint32_t *ends, size_
  *
  * Answers how many bytes the trie takes. They are in `bytes` where there is room for all of them,
  * and else `bytes` is unchanged: ask with no room first, or again with more. bks_open opens them.
- * Else the first of these that there is cause for: BKS_NO_FORM, BKS_NO_VALUE (of a row, of the
+ * Else the first of these that there is cause for: BKS_NO_FORM, BKS_WIDE_VALUE (of a row, of the
  * default or of the error value), BKS_TOO_LARGE (never for the number of blocks with up to 256
  * rows); or BKS_NO_MEMORY, which may come before BKS_TOO_LARGE. */
 int64_t bks_trie_build(const bks_row *rows, size_t count, uint32_t default_value,

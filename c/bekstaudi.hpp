@@ -1,8 +1,8 @@
 // bekstaudi.hpp: bekstaudi.h in C++17, as classes by value.
 //
-// A trie is a view: its cells stay in the bytes that it was opened from. A set owns its ends. What C
-// answers by a number below 0 is thrown here: std::bad_alloc, or one of the two errors below. Link
-// with -lbekstaudi.
+// Tries are views: what they read stays in the bytes that they were made over. A set owns its ends.
+// What C answers by a number below 0 is thrown here: std::bad_alloc, or one of the errors below.
+// Link with -lbekstaudi.
 #ifndef BEKSTAUDI_HPP
 #define BEKSTAUDI_HPP
 
@@ -33,18 +33,19 @@ private:
     bks_status status_;
 };
 
-// The ends are those of no set, or the bytes are no UTF-8.
+// The ends are those of no set, or the bytes of a text are no UTF-8.
 class set_refused : public std::invalid_argument {
 public:
     using std::invalid_argument::invalid_argument;
 };
 
-// Items that lie one after another, of a container or an array: std::span<const T> of C++20, as far as
-// it is needed here.
+// Items that lie one after another, of a container or an array: std::span<const T> of C++20, as far
+// as it is needed here.
 template <class T>
 class view {
 public:
-    constexpr view(const T *data, std::size_t size) noexcept : data_(data ? data : &none), size_(size) {}
+    constexpr view(const T *data, std::size_t size) noexcept
+        : data_(data ? data : &none), size_(size) {}
     template <class C, class = decltype(std::data(std::declval<const C &>())),
               class = std::enable_if_t<!std::is_same_v<C, view>>>
     constexpr view(const C &items) noexcept : view(std::data(items), std::size(items)) {}
@@ -67,7 +68,8 @@ inline std::size_t answered(std::int64_t answer, const char *refused) {
     return static_cast<std::size_t>(answer);
 }
 
-// The ends that a call writes, which is asked again with more room where there are more than `room`.
+// The ends that a call writes, which is asked again with more room where there are more than
+// `room`.
 template <class Call>
 std::vector<std::uint32_t> ends_of(std::size_t room, const char *refused, Call call) {
     std::vector<std::uint32_t> ends(room ? room : 1);
@@ -89,8 +91,10 @@ public:
     code_point_set() = default;
 
     // The set with these ends: {0x41, 0x5B} is A to Z. Throws set_refused where they are no set's.
-    explicit code_point_set(view<std::uint32_t> ends) : ends_(ends.data(), ends.data() + ends.size()) {
-        if (!bks_set_test(ends.data(), ends.size())) throw set_refused("bekstaudi: no ends of a set");
+    explicit code_point_set(view<std::uint32_t> ends)
+        : ends_(ends.data(), ends.data() + ends.size()) {
+        if (!bks_set_test(ends.data(), ends.size()))
+            throw set_refused("bekstaudi: no ends of a set");
     }
     code_point_set(std::initializer_list<std::uint32_t> ends)
         : code_point_set(view<std::uint32_t>(ends.begin(), ends.size())) {}
@@ -111,7 +115,8 @@ public:
     // doesn't hold. Throws set_refused where the bytes are no UTF-8.
     std::string_view span(std::string_view text, bool held = true) const {
         view<char> bytes(text);
-        std::int64_t size = bks_set_span(of().data(), ends_.size(), bytes.data(), bytes.size(), held);
+        std::int64_t size =
+            bks_set_span(of().data(), ends_.size(), bytes.data(), bytes.size(), held);
         return text.substr(0, detail::answered(size, "bekstaudi: no UTF-8"));
     }
 
@@ -141,10 +146,12 @@ private:
     view<std::uint32_t> of() const noexcept { return ends_; }
 
     template <class Operation>
-    static code_point_set made(Operation operation, const code_point_set &a, const code_point_set &b) {
+    static code_point_set made(Operation operation, const code_point_set &a,
+                               const code_point_set &b) {
         code_point_set set;
         auto call = [&](std::uint32_t *ends, std::size_t room) {
-            return operation(a.of().data(), a.ends_.size(), b.of().data(), b.ends_.size(), ends, room);
+            return operation(a.of().data(), a.ends_.size(), b.of().data(), b.ends_.size(), ends,
+                             room);
         };
         set.ends_ = detail::ends_of(a.ends_.size() + b.ends_.size(), "bekstaudi: no set", call);
         return set;
@@ -153,8 +160,8 @@ private:
     std::vector<std::uint32_t> ends_;
 };
 
-// A trie whose values have 8, 16 or 32 bits (ICU: UCPTrie). The bytes that it was opened from have to
-// stay where they are, unchanged, while it or a copy of it is used.
+// A trie whose values have 8, 16 or 32 bits (ICU: UCPTrie). The bytes that it was opened from have
+// to stay where they are, unchanged, while it or a copy of it is used.
 template <class Value>
 class trie {
     static_assert(std::is_same_v<Value, std::uint8_t> || std::is_same_v<Value, std::uint16_t> ||
@@ -180,13 +187,16 @@ public:
 
     // The value of c; above 0x10FFFF the error value.
     Value operator[](std::uint32_t c) const noexcept {
-        if constexpr (sizeof(Value) == 1) return bks_get8(&trie_, c);
-        else if constexpr (sizeof(Value) == 2) return bks_get16(&trie_, c);
-        else return bks_get32(&trie_, c);
+        if constexpr (sizeof(Value) == 1)
+            return bks_get8(&trie_, c);
+        else if constexpr (sizeof(Value) == 2)
+            return bks_get16(&trie_, c);
+        else
+            return bks_get32(&trie_, c);
     }
 
-    // Whether ranges are the longest runs of equal values, as in every trie that ICU or this library
-    // built.
+    // Whether ranges are the longest runs of equal values, as in every trie that ICU or this
+    // library built.
     bool is_coherent() const noexcept { return bks_trie_is_coherent(&trie_); }
 
     // The range of one value from c on; none above 0x10FFFF, and where the trie lacks a cell.
@@ -242,6 +252,108 @@ public:
 
 private:
     bks_trie trie_;
+};
+
+// The bytes of a trie of the rows in ICU's binary form, as bks_trie_build has them. Throws
+// row_refused.
+class row_refused : public std::invalid_argument {
+public:
+    explicit row_refused(bks_refusal refusal)
+        : std::invalid_argument("bekstaudi: no trie of these rows"), refusal_(refusal) {}
+    // BKS_WIDE_VALUE: a value has more bits than the trie's; BKS_TOO_LARGE.
+    bks_refusal refusal() const noexcept { return refusal_; }
+
+private:
+    bks_refusal refusal_;
+};
+
+template <class Value>
+std::vector<std::uint8_t> build(view<bks_row> rows, std::uint32_t default_value = 0,
+                                std::uint32_t error_value = 0, bks_type type = BKS_FAST) {
+    std::vector<std::uint8_t> bytes(1 << 14);
+    for (;;) {
+        std::int64_t size = bks_trie_build(rows.data(), rows.size(), default_value, error_value,
+                                           type, sizeof(Value), bytes.data(), bytes.size());
+        if (size == BKS_NO_MEMORY) throw std::bad_alloc();
+        if (size < 0) throw row_refused(static_cast<bks_refusal>(size));
+        bool fits = static_cast<std::size_t>(size) <= bytes.size();
+        bytes.resize(static_cast<std::size_t>(size));
+        if (fits) return bytes;
+    }
+}
+
+// A map from keys of 16-bit units to numbers (ICU: UCharsTrie). The units, two bytes each, have to
+// stay where they are, unchanged, while it or a copy of it is used. Any bytes are answered.
+class unit_trie {
+public:
+    // The front of a text that is a key: its size in the items of the text, and its value.
+    struct match {
+        std::size_t size;
+        std::int32_t value;
+    };
+
+    unit_trie(const void *units, std::size_t size) noexcept
+        : units_(static_cast<const std::uint8_t *>(units), size) {}
+    template <class C, class = decltype(std::data(std::declval<const C &>())),
+              class = std::enable_if_t<!std::is_same_v<C, unit_trie>>>
+    explicit unit_trie(const C &units) noexcept
+        : unit_trie(std::data(units), std::size(units) * sizeof *std::data(units)) {}
+
+    // The value of a key; none where it is not there.
+    std::optional<std::int32_t> operator[](std::u16string_view key) const noexcept {
+        std::int32_t value = 0;
+        view<std::uint16_t> units = units_of(key);
+        bool found =
+            bks_units_get(units_.data(), units_.size(), units.data(), units.size(), &value);
+        return found ? std::optional<std::int32_t>(value) : std::nullopt;
+    }
+
+    // The longest key that begins a text of UTF-16; none where no key does.
+    std::optional<match> longest(std::u16string_view text) const noexcept {
+        std::int32_t value = 0;
+        view<std::uint16_t> units = units_of(text);
+        std::int64_t size =
+            bks_units_longest(units_.data(), units_.size(), units.data(), units.size(), &value);
+        if (size < 0) return std::nullopt;
+        return match{static_cast<std::size_t>(size), value};
+    }
+
+    // The same of UTF-8. Throws set_refused where the bytes are none.
+    std::optional<match> longest(std::string_view text) const {
+        std::int32_t value = 0;
+        view<char> bytes(text);
+        std::int64_t size = bks_units_longest_utf8(units_.data(), units_.size(), bytes.data(),
+                                                   bytes.size(), &value);
+        if (size == BKS_NO_TEXT) throw set_refused("bekstaudi: no UTF-8");
+        if (size < 0) return std::nullopt;
+        return match{static_cast<std::size_t>(size), value};
+    }
+
+    // Goes unit by unit from the root (UCharsTrie::next, getValue).
+    class cursor {
+    public:
+        explicit cursor(const unit_trie &trie) noexcept : units_(trie.units_) {}
+        bks_step step(char16_t unit) noexcept {
+            return static_cast<bks_step>(
+                bks_units_step(units_.data(), units_.size(), &place_, unit));
+        }
+        std::optional<std::int32_t> value() const noexcept {
+            std::int32_t value = 0;
+            bool found = bks_units_value(units_.data(), units_.size(), &place_, &value);
+            return found ? std::optional<std::int32_t>(value) : std::nullopt;
+        }
+
+    private:
+        view<std::uint8_t> units_;
+        bks_cursor place_ = {};
+    };
+
+private:
+    static view<std::uint16_t> units_of(std::u16string_view text) noexcept {
+        return {reinterpret_cast<const std::uint16_t *>(text.data()), text.size()};
+    }
+
+    view<std::uint8_t> units_;
 };
 
 using trie8 = trie<std::uint8_t>;

@@ -17,7 +17,7 @@ import ctypes.util
 import os
 
 __all__ = ["BekstaudiError", "CodePointSet", "NoMemory", "NoSet", "NoTrie", "Trie", "TrieRefused"]
-__all__ += ["NoForm", "NoValue", "TooLarge", "UnitTrie"]
+__all__ += ["NoForm", "TooLarge", "UnitTrie", "WideValue"]
 
 
 class BekstaudiError(Exception):
@@ -53,7 +53,7 @@ class NoForm(BekstaudiError, ValueError):
     """Tries have no values of this width: it is neither 1, 2 nor 4 bytes."""
 
 
-class NoValue(BekstaudiError, ValueError):
+class WideValue(BekstaudiError, ValueError):
     """A value has more bits than the width."""
 
 
@@ -181,7 +181,7 @@ class Trie:
     `trie[c]` is the value of a code point: the trie's error value above 0x10FFFF.
     """
 
-    _REFUSALS = {-1: NoMemory, -5: NoForm, -6: NoValue, -7: TooLarge}
+    _REFUSALS = {-1: NoMemory, -5: NoForm, -6: WideValue, -7: TooLarge}
 
     def __init__(self, data):
         # The copy lies where it is while this object lives, and nobody changes it.
@@ -205,7 +205,7 @@ class Trie:
         rows = [(_point(first), _point(last), value) for first, last, value in rows]
         largest = max([default, error, *(it[2] for it in rows)])
         if min([default, error, *(it[2] for it in rows)]) < 0 or largest >= 1 << 32:
-            raise NoValue()
+            raise WideValue()
         if width is None:
             width = next(it for it in _NUMBERS if largest >> 8 * it == 0)
         if width not in _NUMBERS:

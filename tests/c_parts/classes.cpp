@@ -1,9 +1,10 @@
-/* The classes of bekstaudi.hpp over a trie, beside the runs of its table and std's own sets.
+/* The classes of bekstaudi.hpp over a trie, beside the runs of its table, std's own sets and worked rows.
    Usage: classes TRIE RUNS ERROR, where ERROR is the trie's error value. */
 #include "bekstaudi.hpp"
 #include "parts.h"
 #include <set>
 #include <string>
+#include <vector>
 
 using bekstaudi::code_point_set;
 
@@ -101,6 +102,58 @@ static void spans() {
         CHECK(throws<bekstaudi::set_refused>([&] { code_point_set set(ends); }));
 }
 
+/* The worked tries of the format's description: a has 1 and ab 100; a lead surrogate has 1 and its pair
+   with DE00 has 2. */
+static void unit_tries() {
+    const uint8_t worked[] = {0x30, 0, 0x61, 0, 0xB0, 0, 0x62, 0, 0x64, 0x80};
+    const uint8_t pairs[] = {0x30, 0, 0x3D, 0xD8, 0xB0, 0, 0, 0xDE, 2, 0x80};
+    const bekstaudi::unit_trie words(worked), pair(pairs, sizeof pairs), none(worked, 0);
+    CHECK(words[u"a"] == 1 && words[u"ab"] == 100 && !words[u"b"] && !words[u""] && !none[u"a"]);
+    CHECK(words.longest(u"abba")->size == 2 && words.longest("acb")->value == 1);
+    CHECK(!words.longest("ba") && !words.longest(u"") && !none.longest("a"));
+    CHECK(pair.longest("\xF0\x9F\x98\x80!")->size == 4 && pair.longest(u"\xD83D\xDE00")->value == 2);
+    CHECK(!pair.longest("\xF0\x9F\x98\x81") && pair.longest(u"\xD83D\xDE01")->size == 1);
+    CHECK(throws<bekstaudi::set_refused>([&] { words.longest("a\xFF"); }));
+    bekstaudi::unit_trie::cursor cursor(words);
+    CHECK(!cursor.value() && cursor.step(u'a') == BKS_INTERMEDIATE_VALUE && cursor.value() == 1);
+    CHECK(cursor.step(u'b') == BKS_FINAL_VALUE && cursor.value() == 100);
+    CHECK(cursor.step(u'b') == BKS_NO_MATCH && !cursor.value());
+}
+
+/* Tries of the runs of a table, and of rows that are refused. */
+template <class Value>
+static void built(size_t count, uint32_t error) {
+    for (bks_type type : {BKS_FAST, BKS_SMALL}) {
+        std::vector<bks_row> rows;
+        for (size_t i = 0; i < count; i++)
+            rows.push_back({runs[i].first, runs[i].last, runs[i].value});
+        std::vector<uint8_t> bytes = bekstaudi::build<Value>(rows, 0, error, type);
+        const bekstaudi::trie<Value> trie(bytes);
+        CHECK(trie.size() == bytes.size() && trie[0x110000] == static_cast<Value>(error));
+        size_t i = 0;
+        for (const bks_range &range : trie) {
+            CHECK(i < count && range.last == runs[i].last && range.value == runs[i].value);
+            i++;
+        }
+        CHECK(i == count);
+    }
+}
+
+static void rows_refused() {
+    auto refusal_of = [](auto build) {
+        try {
+            build();
+        } catch (const bekstaudi::row_refused &fault) {
+            return static_cast<int>(fault.refusal());
+        }
+        return 0;
+    };
+    const bks_row large[] = {{0x41, 0x41, 0x100}};
+    CHECK(refusal_of([&] { bekstaudi::build<uint8_t>(large); }) == BKS_WIDE_VALUE);
+    CHECK(refusal_of([&] { bekstaudi::build<uint16_t>(large); }) == 0);
+    CHECK(bekstaudi::trie8(bekstaudi::build<uint8_t>(std::vector<bks_row>(), 3))[0x41] == 3);
+}
+
 int main(int argc, char **argv) {
     CHECK(argc == 4);
     size_t size, count = read_runs(argv[2], runs, 1 << 17);
@@ -112,7 +165,12 @@ int main(int argc, char **argv) {
     if (trie.width == 1) all_of<uint8_t>(all, count, error);
     if (trie.width == 2) all_of<uint16_t>(all, count, error);
     if (trie.width == 4) all_of<uint32_t>(all, count, error);
+    if (trie.width == 1) built<uint8_t>(count, error);
+    if (trie.width == 2) built<uint16_t>(count, error);
+    if (trie.width == 4) built<uint32_t>(count, error);
     refused(all, trie.width);
+    rows_refused();
+    unit_tries();
     operations();
     spans();
     puts("all as expected");

@@ -7,7 +7,7 @@ import sys
 import unittest
 
 from bekstaudi import (
-    CodePointSet, NoForm, NoSet, NoValue, TooLarge, Trie, TrieRefused, UnitTrie
+    CodePointSet, NoForm, NoSet, TooLarge, Trie, TrieRefused, UnitTrie, WideValue
 )
 
 FOLDER = os.environ["TRIES"]
@@ -119,10 +119,10 @@ class Building(unittest.TestCase):
 
     def test_refusals(self):
         for rows, default, error in (([(0, 1, 256)], 0, 0), ([], 256, 0), ([], 0, 256)):
-            with self.assertRaises(NoValue):
+            with self.assertRaises(WideValue):
                 Trie.build(rows, default, error, width=1)
         for value in (-1, 1 << 32):
-            with self.assertRaises(NoValue):
+            with self.assertRaises(WideValue):
                 Trie.build([(0, 1, value)])
         for width in (0, 3, (1 << 32) + 1):
             with self.assertRaises(NoForm):
