@@ -171,7 +171,7 @@ module _ (width : ℕ) (rows : List Row) (default error : ℕ) (kind : TrieType)
 
   built-numbers : (bytes : List ℕ) → IsBuiltOf (λ x. x) (λ cell. Some (number_of width cell)) width (fitting (2 ^ (8 * width))) rows default error kind bytes
       → IsBuilt rows default error n width bytes
-  built-numbers bytes b = record { trie = b.trie; stored = b.stored; of_rows = trie-numbers b.trie b.of_rows }
+  built-numbers bytes b = record { trie = b.trie; stored = b.stored; of_rows = trie-numbers b.trie b.of_rows; coherent = b.coherent }
 
   pub if_ok-numbers : {V : Type 0} (items : V → List ℕ) (r : Result V Refusal)
       → IfOk r (λ v. IsBuiltOf (λ x. x) (λ cell. Some (number_of width cell)) width (fitting (2 ^ (8 * width))) rows default error kind (items v))

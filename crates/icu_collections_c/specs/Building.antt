@@ -2,12 +2,13 @@
 use Rattle.std.specs.Prelude.{◌≡◌, ℕ, zero, suc, ℤ, pos, negsuc, ◌<◌, ◌⊎◌, ◌&&◌, nat_le, Bool, List, [], ◌∷◌, ◌++◌, length, drop, All, Option, Some, None, IsSome, unwrap_or, if◌then◌else◌}
 use Rattle.std.specs.Option.{option_or}
 use Rattle.icu_trie.specs.Parts.{Parts, trie_value}
+use Rattle.icu_trie.specs.Ranges.{IsCoherentTrie}
 use Rattle.icu_trie_core.specs.ValueNumbers.{type_number}
 use Rattle.icu_trie_binary.specs.BinaryTrie.{IsUnsignedStored}
 use Rattle.icu_trie_binary.specs.WrittenTrie.{why_not_written}
 use Rattle.icu_trie_binary.specs.declared.error.WriteError.{WriteError}
 use Rattle.icu_trie_builder.specs.Bounds.{IsTooLarge}
-use Rattle.icu_collections_c.specs.BytesTrie.{value_width}
+use Rattle.icu_collections_c.specs.BytesTrie.{fitting_in, value_width}
 use Rattle.icu_collections_c.specs.declared.building.Row.{Row}
 use Rattle.icu_collections_c.specs.declared.building.Refusal.{Refusal}
 use Rattle.icu_collections_c.specs.declared.building.Refusal.TheVariants.{Form, Value, TooLarge, Memory}
@@ -49,12 +50,14 @@ pub record IsTrieOf (rows : List Row) (default error kind : ℕ) (t : Parts ℕ)
   pub of_kind : type_number t.header.trie_type ≡ kind
   pub answers : (u : ℕ) → trie_value t u ≡ Some (row_answer rows default error u)
 
--- the bytes are, whole, such a trie in ICU's binary form, with values of so many bytes
+-- the bytes are, whole, such a trie in ICU's binary form, with values of so many bytes, and a
+-- coherent one, so that its ranges are the longest runs
 pub record IsBuilt (rows : List Row) (default error kind width : ℕ) (bytes : List ℕ)
     : Type 0 where
   pub trie : Parts ℕ
   pub stored : IsUnsignedStored width bytes trie (length bytes)
   pub of_rows : IsTrieOf rows default error kind trie
+  pub coherent : IsCoherentTrie (fitting_in width) trie
 
 -- the rows make a map that a builder may refuse for its size, which at most 256 rows never do; or
 -- the binary form has no room for such a trie

@@ -136,6 +136,8 @@ fn built_in<T: UnsignedValue>(
     }
     let writes = writes_of::<T>(alloc, rows)?;
     let trie = build_from_writes(alloc, default, error, trie_type, &writes)?;
+    // Its parts have no fault, which shows that it is coherent as it is stored.
+    let _ = trie.parts();
     Ok(to_binary(alloc, &trie)?)
 }
 

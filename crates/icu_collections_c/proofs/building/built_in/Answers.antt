@@ -2,6 +2,8 @@
 use Rattle.std.proofs.Common.{◌≡◌, ◌∙◌, Err, ap, rules}
 use Rattle.std.proofs.lemmas.Result.{err_from_is_err_and}
 use Rattle.icu_trie_binary.specs.WrittenTrie.{stored_form}
+use Rattle.icu_trie_builder.specs.Writes.{value_after}
+use Rattle.icu_collections_c.proofs.CoherenceLemmas.{coherent-stored_form}
 use Rattle.icu_collections_c.proofs.BuildingLemmas.{AreFitting-from, stored-of_rows, too_large-of_rows, trie-of_rows, why-build, why-write}
 use Rattle.icu_collections_c.specs.Inside.BuiltValues.{AreWritesOf, of_build, of_write}
 use Rattle.icu_collections_c.proofs.building.built_in.Goals as goal
@@ -71,4 +73,6 @@ returns-clause-built g c =
       stored = c.in_ok-to_binary.ensures.read;
       of_rows = stored-of_rows number rows c.deref.result.now is d e default error d-is e-is
           c.in_ok-trie.trie c.in_ok-trie.ensures.answers c.args.trie_type c.in_ok-trie.ensures.trie_type width;
+      coherent = coherent-stored_form g.T.TrieValue.of_number number width (value_after c.deref.result.now d) e
+          c.in_ok-trie.trie c.in_ok-trie.ensures.answers c.in_ok-trie.ensures.built c.in_ok-to_binary.ensures.room c.parts.ensures.whole;
     }
