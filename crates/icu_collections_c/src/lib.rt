@@ -1,4 +1,4 @@
-//! What C calls of this repository: code point tries, sets and unit tries, over the caller's memory.
+//! What C calls of this repository: tries, sets and unit tries, over the caller's memory.
 //!
 //! Slices come as a pointer and a length. Nothing is kept between calls, and nothing that is handed
 //! out has to be freed: results go into the caller's buffers, as far as there is room. A call that
