@@ -21,6 +21,7 @@ use Rattle.icu_trie_compaction.specs.declared.error.BuildError.{BuildError}
 use Rattle.icu_trie_compaction.specs.declared.error.BuildError.TheVariants as build
 use Rattle.icu_trie_binary.proofs.CallerLemmas.{answers-stored}
 use Rattle.icu_trie_builder.specs.Bounds.{IsTooLarge}
+use Rattle.icu_trie_builder.specs.Built.{IsWellBuilt}
 use Rattle.icu_trie_builder.specs.MapAnswers.{AnswersMap}
 use Rattle.icu_trie_builder.specs.Writes.{covers as write_covers, first_of, is_accepted, last_of, last_written, value_after, value_of}
 use Rattle.icu_trie_builder.specs.declared.writes.Write.{Write}
@@ -102,6 +103,12 @@ module _ {T : Type 0} (number : T → ℕ) (rows : List Row) (ws : List (Write T
       answers = λ u. ap (option_map number) (value-stored width number (value_after ws d) e t of u) ∙ row_answer-of u;
     }
 
+  -- a trie that is well built of the writes' map is so of the rows'
+  pub well-of_rows : (of_number : ℕ → Option T) (t : Parts T) → IsWellBuilt of_number (λ c. number (value_after ws d c)) t → IsWellBuilt of_number (row_value rows default) t
+  well-of_rows of_number t well =
+      let same : (λ c. number (value_after ws d c)) ≡ row_value rows default = λ i c. sym (row_value-of c) i in
+      subst (λ f. IsWellBuilt of_number f t) same well
+
   -- a map that is refused for its size is that of the rows, which are many
   pub too_large-of_rows : IsTooLarge (λ c. number (value_after ws d c)) → (count_by (is_accepted) ws ≤ 256 → ⊥)
       → (256 < length rows) × IsTooLarge (row_value rows default)
@@ -127,20 +134,20 @@ AreFitting-from of_number rows default error d e all d-of e-of = record {
   of_error = is_some-from (of_number error) e e-of;
 }
 
-module _ {T : Type 0} (number : T → ℕ) (width : ℕ) (rows : List Row) (default error : ℕ) (kind : TrieType) (F : Type 0) (fitting : F) where
+module _ {T : Type 0} (number : T → ℕ) (of_number : ℕ → Option T) (width : ℕ) (rows : List Row) (default error : ℕ) (kind : TrieType) (F : Type 0) (fits : F) where
   pub why-build : (x : BuildError) → (x ≡ build.TooLarge → (256 < length rows) × IsTooLarge (row_value rows default))
-      → IsWhyNotBuilt (Unit {0}) F (IsTooLargeOf number width rows default error kind) (of_build x)
-  why-build build.TooLarge large = (tt, fitting, inl (large refl))
-  why-build build.Memory large = (tt, fitting)
+      → IsWhyNotBuilt (Unit {0}) F (IsTooLargeOf number of_number width rows default error kind) (of_build x)
+  why-build build.TooLarge large = (tt, fits, inl (large refl))
+  why-build build.Memory large = (tt, fits)
 
-  module _ (t : Parts T) (of : IsTrieOfNumbers number rows default error kind t) where
+  module _ (t : Parts T) (of : IsTrieOfNumbers number rows default error kind t) (well : IsWellBuilt of_number (row_value rows default) t) where
     no_room : (x : WriteError) → (why_not_written width number t ≡ Some x) ⊎ ((x ≡ write.Memory) × (why_not_written width number t ≡ None))
-        → (x ≡ write.Memory → ⊥) → (Unit {0}) × F × IsTooLargeOf number width rows default error kind
-    no_room x (inl w) other = (tt, fitting, inr (t, of, x, w))
+        → (x ≡ write.Memory → ⊥) → (Unit {0}) × F × IsTooLargeOf number of_number width rows default error kind
+    no_room x (inl w) other = (tt, fits, inr (t, of, well, x, w))
     no_room x (inr m) other = absurd (other m.0)
 
     pub why-write : (x : WriteError) → (why_not_written width number t ≡ Some x) ⊎ ((x ≡ write.Memory) × (why_not_written width number t ≡ None))
-        → IsWhyNotBuilt (Unit {0}) F (IsTooLargeOf number width rows default error kind) (of_write x)
+        → IsWhyNotBuilt (Unit {0}) F (IsTooLargeOf number of_number width rows default error kind) (of_write x)
     why-write write.UnknownWidth h = no_room write.UnknownWidth h (λ e. absurd (cc))
     why-write write.LongIndex h = no_room write.LongIndex h (λ e. absurd (cc))
     why-write write.LongData h = no_room write.LongData h (λ e. absurd (cc))
@@ -148,7 +155,7 @@ module _ {T : Type 0} (number : T → ℕ) (width : ℕ) (rows : List Row) (defa
     why-write write.HighStart h = no_room write.HighStart h (λ e. absurd (cc))
     why-write write.NullValue h = no_room write.NullValue h (λ e. absurd (cc))
     why-write write.Short h = no_room write.Short h (λ e. absurd (cc))
-    why-write write.Memory h = (tt, fitting)
+    why-write write.Memory h = (tt, fits)
 
 -- ---- values that are numbers
 option_map-same : (o : Option ℕ) → option_map (λ n. n) o ≡ o
@@ -179,19 +186,19 @@ module _ (width : ℕ) (rows : List Row) (default error : ℕ) (kind : TrieType)
   if_ok-numbers items (Ok v) h = built-numbers (items v) h
   if_ok-numbers items (Err e) h = tt
 
-  why-numbers : (F : Type 0) → value_width width ≡ width → (e : Refusal) → IsWhyNotBuilt (Unit {0}) F (IsTooLargeOf (λ x. x) width rows default error kind) e
+  why-numbers : (F : Type 0) → value_width width ≡ width → (e : Refusal) → IsWhyNotBuilt (Unit {0}) F (IsTooLargeOf (λ x. x) (fitting (2 ^ (8 * width))) width rows default error kind) e
       → IsWhyNotBuilt (IsForm n width) F (IsTooLargeFor rows default error n width) e
   why-numbers F w refused.Form h = absurd (h tt)
   why-numbers F w refused.Value h = (form-known w, h.1)
   why-numbers F w refused.TooLarge h = (form-known w, h.1, by h.2)
     where
-      by : IsTooLargeOf (λ x. x) width rows default error kind → IsTooLargeFor rows default error n width
+      by : IsTooLargeOf (λ x. x) (fitting (2 ^ (8 * width))) width rows default error kind → IsTooLargeFor rows default error n width
       by (inl l) = inl l
-      by (inr l) = inr (l.0, trie-numbers l.0 l.1, l.2, l.3)
+      by (inr l) = inr (l.0, trie-numbers l.0 l.1, l.2, l.3, l.4)
   why-numbers F w refused.Memory h = (form-known w, h.1)
 
   pub if_err-numbers : {V : Type 0} (F : Type 0) → value_width width ≡ width → (r : Result V Refusal)
-      → IfErr r (IsWhyNotBuilt (Unit {0}) F (IsTooLargeOf (λ x. x) width rows default error kind))
+      → IfErr r (IsWhyNotBuilt (Unit {0}) F (IsTooLargeOf (λ x. x) (fitting (2 ^ (8 * width))) width rows default error kind))
       → IfErr r (IsWhyNotBuilt (IsForm n width) F (IsTooLargeFor rows default error n width))
   if_err-numbers F w (Ok v) h = tt
   if_err-numbers F w (Err e) h = why-numbers F w e h

@@ -8,6 +8,7 @@ use Rattle.icu_trie_binary.specs.BinaryTrie.{IsUnsignedStored}
 use Rattle.icu_trie_binary.specs.WrittenTrie.{why_not_written}
 use Rattle.icu_trie_binary.specs.declared.error.WriteError.{WriteError}
 use Rattle.icu_trie_builder.specs.Bounds.{IsTooLarge}
+use Rattle.icu_trie_builder.specs.Built.{IsWellBuilt}
 use Rattle.icu_collections_c.specs.BytesTrie.{fitting_in, value_width}
 use Rattle.icu_collections_c.specs.declared.building.Row.{Row}
 use Rattle.icu_collections_c.specs.declared.building.Refusal.{Refusal}
@@ -60,11 +61,12 @@ pub record IsBuilt (rows : List Row) (default error kind width : ℕ) (bytes : L
   pub coherent : IsCoherentTrie (fitting_in width) trie
 
 -- the rows make a map that a builder may refuse for its size, which at most 256 rows never do; or
--- the binary form has no room for such a trie
+-- the binary form has no room for such a trie, though it is well built
 abbrev pub IsTooLargeFor : List Row → ℕ → ℕ → ℕ → ℕ → Type 0
 IsTooLargeFor rows default error kind width =
     ((256 < length rows) × IsTooLarge (row_value rows default))
     ⊎ ((t : Parts ℕ) × IsTrieOf rows default error kind t
+    × IsWellBuilt (fitting_in width) (row_value rows default) t
     × (why : WriteError) × (why_not_written width (λ n. n) t ≡ Some why))
 
 -- the bytes are in front of the buffer where it has room for all of them, and else it stays

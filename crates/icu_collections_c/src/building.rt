@@ -126,7 +126,7 @@ fn built_in<T: UnsignedValue>(
         default error trie_type bytes.items) }
     ensures err { IfErr result (IsWhyNotBuilt (Unit {0})
         (AreFitting T.of_number rows.now default error)
-        (IsTooLargeOf T.number T.WIDTH rows.now default error trie_type)) }
+        (IsTooLargeOf T.number T.of_number T.WIDTH rows.now default error trie_type)) }
 {
     let (Ok(default), Ok(error)) = (T::try_from_u32(default), T::try_from_u32(error)) else {
         return Err(Refusal::Value);

@@ -10,6 +10,7 @@ use Rattle.icu_trie_binary.specs.declared.error.WriteError.TheVariants as write
 use Rattle.icu_trie_compaction.specs.declared.error.BuildError.{BuildError}
 use Rattle.icu_trie_compaction.specs.declared.error.BuildError.TheVariants.{TooLarge, Memory}
 use Rattle.icu_trie_builder.specs.Bounds.{IsTooLarge}
+use Rattle.icu_trie_builder.specs.Built.{IsWellBuilt}
 use Rattle.icu_trie_builder.specs.Writes.{first_of, last_of, value_of}
 use Rattle.icu_trie_builder.specs.declared.writes.Write.{Write}
 use Rattle.icu_collections_c.specs.Building.{row_answer, row_value}
@@ -51,8 +52,9 @@ module _ {T : Type 0} (number : T → ℕ) where
     pub coherent : IsCoherentTrie of_number trie
 
   -- the map is too large for a trie, or such a trie for the form
-  abbrev pub IsTooLargeOf : ℕ → List Row → ℕ → ℕ → TrieType → Type 0
-  IsTooLargeOf width rows default error kind =
+  abbrev pub IsTooLargeOf : (ℕ → Option T) → ℕ → List Row → ℕ → ℕ → TrieType → Type 0
+  IsTooLargeOf of_number width rows default error kind =
       ((256 < length rows) × IsTooLarge (row_value rows default))
       ⊎ ((t : Parts T) × IsTrieOfNumbers rows default error kind t
+      × IsWellBuilt of_number (row_value rows default) t
       × (why : WriteError) × (why_not_written width number t ≡ Some why))

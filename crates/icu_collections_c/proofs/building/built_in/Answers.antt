@@ -4,7 +4,7 @@ use Rattle.std.proofs.lemmas.Result.{err_from_is_err_and}
 use Rattle.icu_trie_binary.specs.WrittenTrie.{stored_form}
 use Rattle.icu_trie_builder.specs.Writes.{value_after}
 use Rattle.icu_collections_c.proofs.CoherenceLemmas.{coherent-stored_form}
-use Rattle.icu_collections_c.proofs.BuildingLemmas.{AreFitting-from, stored-of_rows, too_large-of_rows, trie-of_rows, why-build, why-write}
+use Rattle.icu_collections_c.proofs.BuildingLemmas.{AreFitting-from, stored-of_rows, too_large-of_rows, trie-of_rows, well-of_rows, why-build, why-write}
 use Rattle.icu_collections_c.specs.Inside.BuiltValues.{AreWritesOf, of_build, of_write}
 use Rattle.icu_collections_c.proofs.building.built_in.Goals as goal
 
@@ -20,7 +20,7 @@ returns-in_err-trie-clause-err g c =
     let d-is = g.met.T.UnsignedValue.number_is default d c.in-Ok-Ok.ensures.ok in
     let e-is = g.met.T.UnsignedValue.number_is error e c.in-Ok-Ok.ensures'.ok in
     let given : c.from_residual-in_err-trie.result ≡ Err (of_build c.in_err-trie.field-0.0) = search rules in
-    rw given (why-build number g.T.AsULE.WIDTH rows default error c.args.trie_type _
+    rw given (why-build number g.T.TrieValue.of_number g.T.AsULE.WIDTH rows default error c.args.trie_type _
     (AreFitting-from g.T.TrieValue.of_number rows default error d e (c.rows_fit.ensures.0 c.if-not-rows_fit.false) c.in-Ok-Ok.ensures.ok c.in-Ok-Ok.ensures'.ok)
     c.in_err-trie.field-0.0
     (λ large. too_large-of_rows number rows c.deref.result.now is d e default error d-is e-is
@@ -39,11 +39,12 @@ returns-in_err-to_binary-clause-err g c =
     let e-is = g.met.T.UnsignedValue.number_is error e c.in-Ok-Ok.ensures'.ok in
     let came = err_from_is_err_and c.from_residual-in_err-to_binary.result c.from_residual-in_err-to_binary.ensures.1 in
     let given : c.from_residual-in_err-to_binary.result ≡ Err (of_write c.in_err-to_binary.field-0.0) = came.1 ∙ ap (λ y. Err y) came.2 in
-    rw given (why-write number g.T.AsULE.WIDTH rows default error c.args.trie_type _
+    rw given (why-write number g.T.TrieValue.of_number g.T.AsULE.WIDTH rows default error c.args.trie_type _
     (AreFitting-from g.T.TrieValue.of_number rows default error d e (c.rows_fit.ensures.0 c.if-not-rows_fit.false) c.in-Ok-Ok.ensures.ok c.in-Ok-Ok.ensures'.ok)
     c.in_ok-trie.trie
     (trie-of_rows number rows c.deref.result.now is d e default error d-is e-is
     c.in_ok-trie.trie c.in_ok-trie.ensures.answers c.args.trie_type c.in_ok-trie.ensures.trie_type)
+    (well-of_rows number rows c.deref.result.now is d e default error d-is e-is g.T.TrieValue.of_number c.in_ok-trie.trie c.in_ok-trie.ensures.built)
     c.in_err-to_binary.field-0.0 c.in_err-to_binary.ensures.err)
 
 pub returns-clause-fits : goal.returns-clause-fits
