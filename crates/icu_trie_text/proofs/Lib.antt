@@ -3,6 +3,7 @@ pub mod CallerLemmas
 pub mod FoundLemmas
 pub mod IndexLemmas
 pub mod Utf16Lemmas
+pub mod Utf8Absent
 pub mod Utf8Parts
 pub mod Utf8Table
 pub mod Utf8ValueLemmas

@@ -22,10 +22,10 @@ encode_four : (c : ℕ) → 65536 ≤ c → encode_utf8 c ≡ (240 + c / 262144)
 unfolding encode_utf8
 encode_four c l = rw (le-ltb c 128 (omega arith), le-ltb c 2048 (omega arith), le-ltb c 65536 l) refl
 
-scalar_low : (c : ℕ) → c < 0xD800 → IsScalar c
+pub scalar_low : (c : ℕ) → c < 0xD800 → IsScalar c
 scalar_low c h = rw (lt-ltb c 0xD800 h) refl
 
-scalar_high : (c : ℕ) → 0xE000 ≤ c → c < 0x110000 → IsScalar c
+pub scalar_high : (c : ℕ) → 0xE000 ≤ c → c < 0x110000 → IsScalar c
 scalar_high c l h = rw (le-ltb c 0xD800 (omega arith), le-leb 0xE000 c l, lt-ltb c 0x110000 h) refl
 
 -- a character with these bytes

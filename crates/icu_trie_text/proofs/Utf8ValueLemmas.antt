@@ -1,5 +1,5 @@
 -- The items that an iterator over bytes that may be ill-formed UTF-8 gives.
-use Rattle.std.proofs.Common.{◌≡◌, ◌∙◌, sym, ap, subst, ℕ, ◌<◌, List, [], ◌∷◌, drop, length, true, Option, Some, None, arith}
+use Rattle.std.proofs.Common.{◌≡◌, ◌∙◌, sym, ap, subst, ℕ, ◌<◌, List, [], ◌∷◌, drop, get_or, length, true, Option, Some, None, arith}
 use Rattle.std.specs.Option.{unwrap_or}
 use Rattle.std.specs.Iterator.{Drains, Yields}
 use Rattle.std.specs.Str.{IsUtf8, StartsWithNoChar, all_scalars, chars, encode_utf8_all}
@@ -8,8 +8,9 @@ use Rattle.std.proofs.lemmas.List.Elements.{All-cons, All-nil}
 use Rattle.std.proofs.lemmas.Str.{IsUtf8-past_char, chars-nil, chars_past_char}
 use Rattle.icu_trie.specs.Parts.{Parts, trie_value}
 use Rattle.icu_trie_text.specs.Utf8.{IsFirstPart}
-use Rattle.icu_trie_text.specs.Utf8Values.{AreValuesOfBytes, BytesToValue, GivesPart, part_value}
+use Rattle.icu_trie_text.specs.Utf8Values.{AreValuesOfBytes, BytesToValue, GivesPart, IsFirstItem, part_value}
 use Rattle.icu_trie_text.specs.Values.{AreValuesOf}
+use Rattle.icu_trie_text.proofs.Utf8Parts.{part_of_ascii}
 
 -- a character begins text that is not empty
 some_begins : (bytes cs : List ℕ) → all_scalars cs ≡ true → encode_utf8_all cs ≡ bytes → 0 < length bytes → StartsWithNoChar bytes → ⊥
@@ -50,3 +51,13 @@ module _ {T : Type 0} (trie : Parts T) where
   values_of_text bytes [] u e = rw e (record { code_points = sym chars-nil; values = All-nil HasItsValue })
   values_of_text bytes (x ∷ xs) u a =
       text_item bytes x xs a.0 a.1.part u a.1.stands a.1.character a.1.value (λ v. values_of_text (drop a.0 bytes) xs v a.2)
+
+  -- a byte of ASCII is a character
+  pub ascii_item : (bytes : List ℕ) (lead c : ℕ) (value : T) → 0 < length bytes → lead ≡ get_or bytes 0 0 → lead < 128 → c ≡ lead
+      → Some value ≡ trie_value trie lead → IsFirstItem trie bytes (c, value) 1
+  ascii_item bytes lead c value some l h e v = record {
+    part = Some lead;
+    stands = rw l (part_of_ascii bytes some (rw l at h));
+    character = e;
+    value = sym v;
+  }

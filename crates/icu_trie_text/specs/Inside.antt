@@ -1,3 +1,4 @@
 -- Words that the functions inside the crate and their proofs need. No public contract cites them.
 pub mod Ascii
+pub mod FirstItem
 pub mod Trails

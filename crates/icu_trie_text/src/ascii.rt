@@ -10,7 +10,7 @@ use icu_zerovec::ZeroSlice;
 use std::marker::Model;
 
 /// How many code points ASCII has.
-const ASCII_END: u8 = 0x80;
+const ASCII_END: u32 = 0x80;
 
 /// A trie that is asked for many values. Where its data begin with the values of ASCII, as a
 /// builder of ICU's or of ours puts them, those take one read.
@@ -21,7 +21,7 @@ pub(crate) struct AsciiInPlace<'a, T: TrieValue> {
     values: ZeroSlice<'a, T>,
     /// How many code points have their values in the places of their numbers, as far as is known:
     /// those of ASCII, or none.
-    end: u8,
+    end: u32,
 }
 
 impl<'a, T: TrieValue> Model for AsciiInPlace<'a, T> {
@@ -38,7 +38,7 @@ impl<'a, T: TrieValue> Model for AsciiInPlace<'a, T> {
 
 /// How many code points have their values in the places of their numbers: those of ASCII where the
 /// first two blocks are those that the data begin with, else none.
-fn ascii_end<T: TrieValue>(index: ZeroSlice<'_, u16>, values: ZeroSlice<'_, T>) -> u8
+fn ascii_end<T: TrieValue>(index: ZeroSlice<'_, u16>, values: ZeroSlice<'_, T>) -> u32
     ensures bound { result ≤ 0x80 }
     ensures first { 0 < result → slice_get (slice_values index.entry) 0 ≡ Some 0 }
     ensures second { 0 < result → slice_get (slice_values index.entry) 1 ≡ Some 64 }
@@ -72,12 +72,12 @@ impl<'a, T: TrieValue> AsciiInPlace<'a, T> {
 
     /// The value of a code point of ASCII that stands in its place, if that is known.
     #[inline(always)]
-    pub(crate) fn ascii(&self, byte: u8) -> Option<T>
-        ensures ascii { IfSome result (λ _. byte < 0x80) }
-        ensures value { IfSome result (λ value. Some value ≡ trie_value self.now byte) }
+    pub(crate) fn ascii(&self, c: u32) -> Option<T>
+        ensures ascii { IfSome result (λ _. c < 0x80) }
+        ensures value { IfSome result (λ value. Some value ≡ trie_value self.now c) }
     {
-        if byte < self.end {
-            Some(self.values.at(byte as usize))
+        if c < self.end {
+            Some(self.values.at(c as usize))
         } else {
             None
         }
@@ -89,14 +89,6 @@ impl<'a, T: TrieValue> AsciiInPlace<'a, T> {
         ensures { Some result ≡ trie_value self.now c }
     {
         self.trie.get(c)
-    }
-
-    /// The value of a code point.
-    #[inline(always)]
-    pub(crate) fn get32(&self, c: u32) -> T
-        ensures { Some result ≡ trie_value self.now c }
-    {
-        self.trie.get32(c)
     }
 
     /// What stands where there is no value: the last cell of the data.

@@ -40,7 +40,7 @@ pub(crate) fn first_value<'t, T: TrieValue>(
         (λ found. IsFirstValue trie.now text.now found.0 found.1.now) }
 {
     if let Some(lead) = text.as_bytes().first()
-        && let Some(value) = trie.ascii(*lead)
+        && let Some(value) = trie.ascii(u32::from(*lead))
     {
         return Some(((char::from(*lead), value), after_ascii(text)));
     }

@@ -1,38 +1,9 @@
 //! The first part of bytes that may be ill-formed UTF-8.
-ghost use Rattle.std.specs.Prelude.{◌≡◌, ◌+◌, ◌*◌, ◌^◌, ◌<◌, ◌≤◌, ◌↔◌, IsTrue, length, slice_index};
-ghost use Rattle.std.specs.Char.{IsScalar};
+ghost use Rattle.std.specs.Prelude.{◌≡◌, ◌+◌, ◌*◌, ◌^◌, ◌<◌, ◌≤◌, ◌↔◌, Some, IsTrue, length, slice_index};
 ghost use Rattle.std.specs.Option.{MatchOption};
+ghost use Rattle.std.specs.Str.{StartsWithNoChar};
 ghost use Rattle.icu_trie_text.specs.Inside.Trails.{IsHighOfFour, IsHighOfThree, IsNoTrail, IsTrail};
-ghost use Rattle.icu_trie_text.specs.Utf8.{IsFirstPart};
-
-/// A part of bytes: a character, or a maximal part that is ill-formed.
-#[derive(Clone, Copy)]
-pub(crate) struct Part {
-    /// The character, `None` where the part is ill-formed.
-    pub(crate) character: Option<char>,
-    /// How many bytes it has.
-    pub(crate) size: usize,
-}
-
-/// An ill-formed part.
-#[inline(always)]
-fn ill_formed(size: usize) -> Part
-    ensures { result ≡ record { character = None; size = size } }
-{
-    Part {
-        character: None,
-        size,
-    }
-}
-
-/// The character whose code point this is.
-#[inline(always)]
-fn character_of(code_point: u32) -> Option<char>
-    requires { IsScalar code_point }
-    ensures { result ≡ Some code_point }
-{
-    char::from_u32(code_point)
-}
+ghost use Rattle.icu_trie_text.specs.Utf8.{IsFirstPart, IsIllFormedPart};
 
 /// The six bits of the trail byte at the place, `None` where there is none.
 #[inline(always)]
@@ -49,9 +20,70 @@ fn trail_bits(bytes: &[u8], place: usize) -> Option<u32>
     Some(byte - 0x80)
 }
 
+/// The character that begins bytes whose first one leads two, `None` where none does.
+#[inline(always)]
+pub(crate) fn of_two(bytes: &[u8]) -> Option<char>
+    requires some { 0 < length bytes.now }
+    requires from { 0xC2 ≤ slice_index bytes.now 0 }
+    requires to { slice_index bytes.now 0 < 0xE0 }
+    ensures { MatchOption result (StartsWithNoChar bytes.now)
+        (λ c. IsFirstPart bytes.now (Some c) 2) }
+{
+    let first = u32::from(bytes[0]) - 0xC0;
+    let second = trail_bits(bytes, 1)?;
+    char::from_u32(first * 64 + second)
+}
+
+/// The character that begins bytes whose first one leads three, `None` where none does: so where
+/// fewer bytes would say it, and where it would be a surrogate. The length is tested once, for all
+/// reads.
+#[inline(always)]
+pub(crate) fn of_three(bytes: &[u8]) -> Option<char>
+    requires some { 0 < length bytes.now }
+    requires from { 0xE0 ≤ slice_index bytes.now 0 }
+    requires to { slice_index bytes.now 0 < 0xF0 }
+    ensures { MatchOption result (StartsWithNoChar bytes.now)
+        (λ c. IsFirstPart bytes.now (Some c) 3) }
+{
+    if bytes.len() < 3 {
+        return None;
+    }
+    let first = u32::from(bytes[0]) - 0xE0;
+    let second = trail_bits(bytes, 1)?;
+    let third = trail_bits(bytes, 2)?;
+    let code_point = (first * 64 + second) * 64 + third;
+    if code_point < 0x800 {
+        return None;
+    }
+    char::from_u32(code_point)
+}
+
+/// The character that begins bytes whose first one leads four, `None` where none does: so where
+/// fewer bytes would say it, and where it would be above 0x10FFFF. The length is tested once, for
+/// all reads.
+#[inline(always)]
+pub(crate) fn of_four(bytes: &[u8]) -> Option<char>
+    requires some { 0 < length bytes.now }
+    requires from { 0xF0 ≤ slice_index bytes.now 0 }
+    ensures { MatchOption result (StartsWithNoChar bytes.now)
+        (λ c. IsFirstPart bytes.now (Some c) 4) }
+{
+    if bytes.len() < 4 {
+        return None;
+    }
+    let first = u32::from(bytes[0]) - 0xF0;
+    let second = trail_bits(bytes, 1)?;
+    let third = trail_bits(bytes, 2)?;
+    let fourth = trail_bits(bytes, 3)?;
+    let code_point = (first * 64 + second) * 4096 + third * 64 + fourth;
+    if code_point < 0x10000 {
+        return None;
+    }
+    char::from_u32(code_point)
+}
+
 /// Whether these are the upper ten bits of a character of three bytes, which its first two say: of
 /// one that takes no fewer bytes, and is no surrogate.
-#[inline(always)]
 fn is_high_of_three(high: u32) -> bool
     ensures { IsTrue result ↔ IsHighOfThree high }
 {
@@ -60,105 +92,65 @@ fn is_high_of_three(high: u32) -> bool
 
 /// Whether these are the upper nine bits of a character of four bytes, which its first two say: of
 /// one that takes no fewer bytes, and is no number above 0x10FFFF.
-#[inline(always)]
 fn is_high_of_four(high: u32) -> bool
     ensures { IsTrue result ↔ IsHighOfFour high }
 {
     0x10 <= high && high < 0x110
 }
 
-/// The first part of bytes whose first one leads two.
-#[inline(always)]
-fn part_of_two(bytes: &[u8]) -> Part
-    requires some { 0 < length bytes.now }
-    requires from { 0xC2 ≤ slice_index bytes.now 0 }
-    requires to { slice_index bytes.now 0 < 0xE0 }
-    ensures { IsFirstPart bytes.now result.character result.size }
-{
-    let high = u32::from(bytes[0]) - 0xC0;
-    let Some(low) = trail_bits(bytes, 1) else {
-        return ill_formed(1);
-    };
-    Part {
-        character: character_of(high * 64 + low),
-        size: 2,
-    }
-}
-
-/// The first part of bytes whose first one leads three.
-#[inline(always)]
-fn part_of_three(bytes: &[u8]) -> Part
+/// How long the ill-formed part is of bytes whose first one leads three.
+fn size_of_three(bytes: &[u8]) -> usize
+    requires none { StartsWithNoChar bytes.now }
     requires some { 0 < length bytes.now }
     requires from { 0xE0 ≤ slice_index bytes.now 0 }
     requires to { slice_index bytes.now 0 < 0xF0 }
-    ensures { IsFirstPart bytes.now result.character result.size }
+    ensures { IsIllFormedPart bytes.now result }
 {
-    let lead = u32::from(bytes[0]) - 0xE0;
+    let first = u32::from(bytes[0]) - 0xE0;
     let Some(second) = trail_bits(bytes, 1) else {
-        return ill_formed(1);
+        return 1;
     };
-    let high = lead * 64 + second;
-    if !is_high_of_three(high) {
-        return ill_formed(1);
+    if !is_high_of_three(first * 64 + second) {
+        return 1;
     }
-    let Some(third) = trail_bits(bytes, 2) else {
-        return ill_formed(2);
-    };
-    Part {
-        character: character_of(high * 64 + third),
-        size: 3,
-    }
+    2
 }
 
-/// The first part of bytes whose first one leads four.
-#[inline(always)]
-fn part_of_four(bytes: &[u8]) -> Part
+/// How long the ill-formed part is of bytes whose first one leads four, or is above those.
+fn size_of_four(bytes: &[u8]) -> usize
+    requires none { StartsWithNoChar bytes.now }
     requires some { 0 < length bytes.now }
     requires from { 0xF0 ≤ slice_index bytes.now 0 }
-    requires to { slice_index bytes.now 0 < 0xF5 }
-    ensures { IsFirstPart bytes.now result.character result.size }
+    ensures { IsIllFormedPart bytes.now result }
 {
-    let lead = u32::from(bytes[0]) - 0xF0;
+    let first = u32::from(bytes[0]) - 0xF0;
     let Some(second) = trail_bits(bytes, 1) else {
-        return ill_formed(1);
+        return 1;
     };
-    let high = lead * 64 + second;
-    if !is_high_of_four(high) {
-        return ill_formed(1);
+    if !is_high_of_four(first * 64 + second) {
+        return 1;
     }
-    let Some(third) = trail_bits(bytes, 2) else {
-        return ill_formed(2);
+    let Some(_) = trail_bits(bytes, 2) else {
+        return 2;
     };
-    let Some(fourth) = trail_bits(bytes, 3) else {
-        return ill_formed(3);
-    };
-    Part {
-        character: character_of(high * 4096 + third * 64 + fourth),
-        size: 4,
-    }
+    3
 }
 
-/// The first part of the bytes, which are some (table 3-7 of the Unicode Standard).
-#[inline(always)]
-pub(crate) fn first_part(bytes: &[u8]) -> Part
-    requires { 0 < length bytes.now }
-    ensures { IsFirstPart bytes.now result.character result.size }
+/// How long the ill-formed part is that begins the bytes, which are some, where no character does
+/// (table 3-7 of the Unicode Standard).
+#[cold]
+#[inline(never)]
+pub(crate) fn ill_formed_size(bytes: &[u8]) -> usize
+    requires none { StartsWithNoChar bytes.now }
+    requires some { 0 < length bytes.now }
+    ensures { IsIllFormedPart bytes.now result }
 {
     let lead = bytes[0];
-    if lead < 0x80 {
-        Part {
-            character: Some(char::from(lead)),
-            size: 1,
-        }
-    } else if lead < 0xC2 {
-        ill_formed(1)
-    } else if lead < 0xE0 {
-        part_of_two(bytes)
+    if lead < 0xE0 {
+        1
     } else if lead < 0xF0 {
-        part_of_three(bytes)
-    } else if lead < 0xF5 {
-        part_of_four(bytes)
+        size_of_three(bytes)
     } else {
-        ill_formed(1)
+        size_of_four(bytes)
     }
 }

@@ -5,7 +5,6 @@ ghost use Rattle.std.specs.Iterator.Runs.{EveryRun, ItemsMapTo};
 ghost use Rattle.icu_trie_text.specs.Utf16.{code_points_of};
 ghost use Rattle.icu_trie_text.specs.Values.{AreValuesOf, GivesValue, value_item, with_values};
 
-use crate::ascii::AsciiInPlace;
 use crate::first_utf16::first_code_point;
 use icu_trie::cptrie::CodePointTrie;
 use icu_trie_core::value::TrieValue;
@@ -15,7 +14,7 @@ use std::marker::Model;
 /// them. A clause sees those that are left, each with what the trie has for it.
 #[derive(Debug, Drop)]
 pub struct ValuesOfUtf16<'a, T: TrieValue> {
-    trie: AsciiInPlace<'a, T>,
+    trie: &'a CodePointTrie<'a, T>,
     rest: &'a [u16],
 }
 
@@ -26,7 +25,7 @@ impl<'a, T: TrieValue> Model for ValuesOfUtf16<'a, T> {
 
     ghost Value = { List (ℕ × Option T) };
 
-    ghost view = { λ a. with_values a.trie (code_points_of a.rest.now) };
+    ghost view = { λ a. with_values a.trie.now (code_points_of a.rest.now) };
 }
 
 /// The code points of the units, from their front on, each with its value in the trie, as
@@ -50,10 +49,7 @@ pub fn values_of_utf16<'a, T: TrieValue>(
         → AreValuesOf trie.now (code_points_of units.now) items }
     ensures runs { EveryRun (GivesValue {T = T}) (λ p. ItemsMapTo p value_item p.from) }
 {
-    ValuesOfUtf16 {
-        trie: AsciiInPlace::new(trie),
-        rest: units,
-    }
+    ValuesOfUtf16 { trie, rest: units }
 }
 
 impl<'a, T: TrieValue> Iterator for ValuesOfUtf16<'a, T> {

@@ -5,7 +5,7 @@ use crate::icu_trie_core::value::TrieValue;
 use crate::icu_zerovec::ZeroSlice;
 
 /// How many code points ASCII has.
-const ASCII_END: u8 = 0x80;
+const ASCII_END: u32 = 0x80;
 
 /// A trie that is asked for many values. Where its data begin with the values of ASCII, as a
 /// builder of ICU's or of ours puts them, those take one read.
@@ -16,13 +16,13 @@ pub(crate) struct AsciiInPlace<'a, T: TrieValue> {
     values: ZeroSlice<'a, T>,
     /// How many code points have their values in the places of their numbers, as far as is known:
     /// those of ASCII, or none.
-    end: u8,
+    end: u32,
 }
 
 /// How many code points have their values in the places of their numbers: those of ASCII where the
 /// first two blocks are those that the data begin with, else none.
 #[inline]
-fn ascii_end<T: TrieValue>(index: ZeroSlice<'_, u16>, values: ZeroSlice<'_, T>) -> u8 {
+fn ascii_end<T: TrieValue>(index: ZeroSlice<'_, u16>, values: ZeroSlice<'_, T>) -> u32 {
     if values.len() < ASCII_END as usize {
         return 0;
     }
@@ -49,9 +49,9 @@ impl<'a, T: TrieValue> AsciiInPlace<'a, T> {
 
     /// The value of a code point of ASCII that stands in its place, if that is known.
     #[inline(always)]
-    pub(crate) fn ascii(&self, byte: u8) -> Option<T> {
-        if byte < self.end {
-            Some(self.values.at(byte as usize))
+    pub(crate) fn ascii(&self, c: u32) -> Option<T> {
+        if c < self.end {
+            Some(self.values.at(c as usize))
         } else {
             None
         }
@@ -61,12 +61,6 @@ impl<'a, T: TrieValue> AsciiInPlace<'a, T> {
     #[inline(always)]
     pub(crate) fn get(&self, c: char) -> T {
         self.trie.get(c)
-    }
-
-    /// The value of a code point.
-    #[inline(always)]
-    pub(crate) fn get32(&self, c: u32) -> T {
-        self.trie.get32(c)
     }
 
     /// What stands where there is no value: the last cell of the data.

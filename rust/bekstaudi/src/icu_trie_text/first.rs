@@ -25,7 +25,7 @@ pub(crate) fn first_value<'t, T: TrieValue>(
     text: &'t str,
 ) -> Option<((char, T), &'t str)> {
     if let Some(lead) = text.as_bytes().first()
-        && let Some(value) = trie.ascii(*lead) {
+        && let Some(value) = trie.ascii(u32::from(*lead)) {
         return Some(((char::from(*lead), value), after_ascii(text)));
     }
     let (first, rest) = first_character(text)?;

@@ -10,6 +10,7 @@
 //!   ill-formed UTF-8
 //! - `first`, `first_utf16`, `first_utf8`: the first character of a text, the first code point of
 //!   units, the first part of bytes
+//! - `ascii`: tries whose values of ASCII stand in their places
 
 mod ascii;
 mod find;

@@ -1,6 +1,5 @@
 //! The value of each code point of 16-bit units.
 
-use crate::icu_trie_text::ascii::AsciiInPlace;
 use crate::icu_trie_text::first_utf16::first_code_point;
 use crate::icu_trie::cptrie::CodePointTrie;
 use crate::icu_trie_core::value::TrieValue;
@@ -9,7 +8,7 @@ use crate::icu_trie_core::value::TrieValue;
 /// them.
 #[derive(Debug)]
 pub struct ValuesOfUtf16<'a, T: TrieValue> {
-    trie: AsciiInPlace<'a, T>,
+    trie: &'a CodePointTrie<'a, T>,
     rest: &'a [u16],
 }
 
@@ -28,10 +27,7 @@ pub fn values_of_utf16<'a, T: TrieValue>(
     trie: &'a CodePointTrie<'_, T>,
     units: &'a [u16],
 ) -> ValuesOfUtf16<'a, T> {
-    ValuesOfUtf16 {
-        trie: AsciiInPlace::new(trie),
-        rest: units,
-    }
+    ValuesOfUtf16 { trie, rest: units }
 }
 
 impl<'a, T: TrieValue> Iterator for ValuesOfUtf16<'a, T> {

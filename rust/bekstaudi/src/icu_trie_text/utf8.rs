@@ -1,7 +1,7 @@
 //! The value of each character of bytes that may be ill-formed UTF-8.
 
 use crate::icu_trie_text::ascii::AsciiInPlace;
-use crate::icu_trie_text::first_utf8::first_part;
+use crate::icu_trie_text::first_utf8::{ill_formed_size, of_four, of_three, of_two};
 use crate::icu_trie::cptrie::CodePointTrie;
 use crate::icu_trie_core::value::TrieValue;
 
@@ -36,25 +36,58 @@ pub fn values_of_utf8<'a, T: TrieValue>(
     }
 }
 
-/// The item of a part: its character with its value, or U+FFFD with the error value where the part
-/// is ill-formed.
+/// The item of a character that begins the bytes and has so many of them, and what follows it.
 #[inline(always)]
-fn item_of<T: TrieValue>(trie: &AsciiInPlace<'_, T>, part: Option<char>) -> (char, T) {
-    match part {
-        Some(c) => (c, trie.get(c)),
-        None => ('\u{FFFD}', trie.error_value()),
+fn item_of<'b, T: TrieValue>(
+    trie: &AsciiInPlace<'_, T>,
+    bytes: &'b [u8],
+    c: char,
+    size: usize,
+) -> ((char, T), &'b [u8]) {
+    ((c, trie.get(c)), &bytes[size..])
+}
+
+/// The item of the character that begins the bytes, which are some, and what follows it; `None`
+/// where none does. Each size looks up for itself, since what is known of its characters saves
+/// tests.
+#[inline(always)]
+fn character_item<'b, T: TrieValue>(
+    trie: &AsciiInPlace<'_, T>,
+    bytes: &'b [u8],
+) -> Option<((char, T), &'b [u8])> {
+    let lead = bytes[0];
+    if lead < 0xE0 {
+        if lead < 0x80 {
+            return Some(item_of(trie, bytes, char::from(lead), 1));
+        }
+        if lead < 0xC2 {
+            return None;
+        }
+        Some(item_of(trie, bytes, of_two(bytes)?, 2))
+    } else if lead < 0xF0 {
+        Some(item_of(trie, bytes, of_three(bytes)?, 3))
+    } else {
+        Some(item_of(trie, bytes, of_four(bytes)?, 4))
     }
 }
 
-/// The item of the first part of the bytes, which are some, and how many bytes the part has.
+/// The item of the first part of the bytes, which are some, and what follows it.
 #[inline(always)]
-fn first_item<T: TrieValue>(trie: &AsciiInPlace<'_, T>, bytes: &[u8]) -> ((char, T), usize) {
+fn first_item<'b, T: TrieValue>(
+    trie: &AsciiInPlace<'_, T>,
+    bytes: &'b [u8],
+) -> ((char, T), &'b [u8]) {
     let lead = bytes[0];
-    if let Some(value) = trie.ascii(lead) {
-        return ((char::from(lead), value), 1);
+    if let Some(value) = trie.ascii(u32::from(lead)) {
+        return ((char::from(lead), value), &bytes[1..]);
     }
-    let part = first_part(bytes);
-    (item_of(trie, part.character), part.size)
+    match character_item(trie, bytes) {
+        Some(found) => found,
+        None => {
+            let size = ill_formed_size(bytes);
+            (('\u{FFFD}', trie.error_value()), &bytes[size..])
+        }
+    }
 }
 
 impl<'a, T: TrieValue> Iterator for ValuesOfUtf8<'a, T> {
@@ -65,8 +98,8 @@ impl<'a, T: TrieValue> Iterator for ValuesOfUtf8<'a, T> {
         if self.rest.is_empty() {
             return None;
         }
-        let (item, size) = first_item(&self.trie, self.rest);
-        self.rest = &self.rest[size..];
+        let (item, rest) = first_item(&self.trie, self.rest);
+        self.rest = rest;
         Some(item)
     }
 }

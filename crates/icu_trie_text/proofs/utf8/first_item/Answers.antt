@@ -1,11 +1,12 @@
-use Rattle.std.proofs.Common.{◌≡◌, Some, get_or, sym}
-use Rattle.icu_trie_text.proofs.Utf8Parts.{part_of_ascii}
+use Rattle.std.proofs.Common.{◌∙◌, sym}
+use Rattle.std.proofs.lemmas.List.{take_rest}
+use Rattle.icu_trie_text.proofs.Utf8ValueLemmas.{ascii_item}
 use Rattle.icu_trie_text.proofs.utf8.first_item.Goals as goal
 
 pub returns-in-Some : goal.returns-in-Some
-returns-in-Some g c = record {
-  part = Some (get_or c.args.bytes.now 0 0);
-  stands = part_of_ascii c.args.bytes.now c.requires c.in-Some.ensures.ascii;
-  character = c.from.ensures;
-  value = sym c.in-Some.ensures.value;
-}
+returns-in-Some g c = (
+  1,
+  ascii_item c.args.trie.now c.args.bytes.now c.from.result c.from-in-Some.result c.in-Some.value c.requires c.from.ensures c.in-Some.ensures.ascii
+      (c.from-in-Some.ensures ∙ sym c.from.ensures) c.in-Some.ensures.value,
+  take_rest c.args.bytes.now 1,
+)
