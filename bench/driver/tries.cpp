@@ -141,7 +141,8 @@ static const struct AlongText {
     TextCall *ours, *rust;
     TextAdder *fast, *small;
 } along_texts[] = {{"text_u8", ours_text_8, rust_text_8, fast_text, small_text},
-                   {"values_u8", ours_values_8, rust_text_8, fast_values, nullptr}};
+                   {"values_u8", ours_values_8, rust_text_8, fast_values, nullptr},
+                   {"bytes_u8", ours_bytes_8, rust_text_8, fast_values, nullptr}};
 
 static void over_texts(const AlongText &along, const Table &table, bool is_fast) {
     const IcuTrie trie = icu_trie(table, is_fast, UCPTRIE_VALUE_BITS_8);

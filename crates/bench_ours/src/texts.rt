@@ -3,7 +3,7 @@
 use crate::tries::{Parts, trie_of};
 use icu_trie::cptrie::CodePointTrie;
 use icu_trie::value::TrieValue;
-use icu_trie_text::text::values_of;
+use icu_trie_text::text::{values_of, values_of_utf8};
 
 /// What `sum` becomes when the value of each character of a text is added to it.
 #[inline(never)]
@@ -23,6 +23,24 @@ fn values_added_often(trie: &CodePointTrie<'_, u8>, text: &str, turns: usize) ->
     sum
 }
 
+/// The same of bytes that may be ill-formed UTF-8.
+#[inline(never)]
+fn add_values_of_bytes<T: TrieValue>(trie: &CodePointTrie<'_, T>, bytes: &[u8], sum: u64) -> u64 {
+    let mut sum = sum;
+    for (_, value) in values_of_utf8(trie, bytes) {
+        sum = sum.wrapping_add(value.to_u32() as u64);
+    }
+    sum
+}
+
+fn values_of_bytes_added_often(trie: &CodePointTrie<'_, u8>, bytes: &[u8], turns: usize) -> u64 {
+    let mut sum = 0u64;
+    for _ in 0..turns {
+        sum = add_values_of_bytes(trie, bytes, sum);
+    }
+    sum
+}
+
 /// The sum of the values along a text in a trie of 8 bits, so many times.
 #[unsafe(no_mangle)]
 pub extern "C" fn ours_values_8(parts: &Parts<'_>, text: &[u8], turns: usize) -> u64 {
@@ -31,6 +49,15 @@ pub extern "C" fn ours_values_8(parts: &Parts<'_>, text: &[u8], turns: usize) ->
     };
     match trie_of::<u8>(parts) {
         Some(trie) => values_added_often(&trie, text, turns),
+        None => u64::MAX,
+    }
+}
+
+/// The same of bytes that may be ill-formed UTF-8.
+#[unsafe(no_mangle)]
+pub extern "C" fn ours_bytes_8(parts: &Parts<'_>, bytes: &[u8], turns: usize) -> u64 {
+    match trie_of::<u8>(parts) {
+        Some(trie) => values_of_bytes_added_often(&trie, bytes, turns),
         None => u64::MAX,
     }
 }
