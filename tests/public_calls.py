@@ -4,10 +4,13 @@ import glob
 import os
 import re
 
-# The crate through which the library is called, and the program's engine.
-SHOWN, ENGINE = "icu_collections", "ucptab_table"
-# What answers a want of memory, beside each enum with a variant `Memory`.
+# The crate through which the library is called, and the programs' engines. Of the first one's
+# modules the program calls none.
+SHOWN = "icu_collections"
+ENGINES = {"ucptab_table": "", "ucptrie_tables": r"^pub mod (\w+);"}
+# What answers a want of memory, beside each enum with a variant `Memory`, or one for such an enum.
 ANSWERS = {"MemoryError", "AllocError", "ApplyRefused"}
+WANTS = re.compile(r"\bMemory\b|\bTableError\b")
 ENUM = re.compile(r"^pub enum (\w+)[^{]*\{(.*?)^\}", re.M | re.S)
 # Traits whose methods are called by an operator or by a format, and those whose methods are the
 # caller's own.
@@ -65,6 +68,17 @@ def shown():
     return names, modules
 
 
+def engines():
+    """The sources of the engines that have their programs' calls, each with its module."""
+    found = {}
+    for engine, shown_modules in ENGINES.items():
+        head = f"crates/{engine}/src/lib.rt"
+        found[head] = engine
+        for name in re.findall(shown_modules or r"(?!)", open(head).read(), re.M):
+            found[f"crates/{engine}/src/{name}.rt"] = f"{engine}::{name}"
+    return found
+
+
 def calls_of(path, names, traits, module, answers):
     """The public calls of a file, each with its kind: `names` are those that are shown, `traits`
     the traits among them; `module` is its own where it is shown whole, else None."""
@@ -110,10 +124,11 @@ def memory_of(signature, answers):
 def public_calls():
     """Each public call by its name, as `CodePointInversionListBuilder::add_char`, and its kind."""
     names, modules = shown()
-    crates = sorted({os.path.basename(it) for it in glob.glob("crates/icu_*")} - {SHOWN}) + [ENGINE]
+    crates = sorted({os.path.basename(it) for it in glob.glob("crates/icu_*")} - {SHOWN})
+    crates += ENGINES
     text = {path: plain(open(path).read()) for crate in crates for path in sources(crate)}
     enums = {
-        (path.split("/")[1], name): bool(re.search(r"\bMemory\b", body))
+        (path.split("/")[1], name): bool(WANTS.search(body))
         for path, it in text.items()
         for name, body in ENUM.findall(it)
     }
@@ -135,14 +150,13 @@ def public_calls():
     traits = {
         name for it in text.values() for name in re.findall(r"^pub trait (\w+)", it, re.M)
     } & names.keys()
-    found = {}
+    found, called = {}, engines()
     for path in text:
         whole = next(
             (module for folder, module in modules.items() if path.startswith(folder)), None
         )
-        if path == f"crates/{ENGINE}/src/lib.rt":
-            whole = ENGINE
         module = whole and os.path.basename(path)[:-3].replace("lib", whole).replace("mod", whole)
+        module = called.get(path, module)
         # A crate's own enum of a name is what its signatures mean by it.
         others = {name for (crate, name), it in enums.items() if not it and crate in path.split("/")}
         for call, kind in calls_of(path, names, traits, module, answers - others):

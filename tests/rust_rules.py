@@ -6,6 +6,9 @@ TESTS = (
     "packed_tests set_tests text_tests trie_tests built_trie_tests trie_format_tests ucptab_table"
     " ucptab_tests uses uses_tests damaged_forms"
 ).split()
+# That of ucptrie stays behind: its engine asks errors of JSON and TOML for what the kit's crates tell
+# of them, and Debian's do not, as the line of a fault.
+NOT_RUN = ["ucptrie_tests"]
 # A program's own file, for which tests/rust_parts has another.
 LEFT_OUT = ["damaged_forms/main"]
 # What needs JSON or TOML: crates, and modules of others.
@@ -66,7 +69,7 @@ FORM_RULES = [
 OTHER_NAMES = {"CodePointInversionList::try_from": "CodePointInversionList::try_from_range"}
 # Calls whose requests are not refused one by one: those of the program, one that is inside, and
 # those that write JSON.
-NOT_SWEPT = r"^ucptab_table::|::from_valid_slice$|::to_json$"
+NOT_SWEPT = r"^ucptab_table::|^ucptrie_tables::|::from_valid_slice$|::to_json$"
 # Forms that rust/make does not know.
 UNKNOWN = [
     "fn f(x: u8) -> u8\n    decreases { x }\n{\n    x\n}\n",

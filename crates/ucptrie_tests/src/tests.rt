@@ -1,0 +1,11 @@
+//! Tries that ICU wrote, read and shown; rows built; the texts of each form and of each fault; memory
+//! that is refused.
+mod diff;
+mod faults;
+mod icu_tables;
+mod memory;
+mod names;
+mod read;
+mod rows;
+mod support;
+mod texts;
