@@ -31,12 +31,12 @@ fn expect_same<T: Copy + Debug + PartialEq>(rt: &impl Abort, found: T, want: T, 
 
 /// The text is the wanted one.
 fn expect_text(rt: &impl Abort, text: String, want: &str) {
-    assert_eq!(rt; text.as_str(), want);
+    expect_same(rt, text.as_str(), want, "the text");
 }
 
 /// The ends are the wanted ones.
 fn expect_ends(rt: &impl Abort, ends: Vec<u32>, want: &[u32]) {
-    assert_eq!(rt; ends.as_slice(), want);
+    expect_same(rt, ends.as_slice(), want, "the ends");
 }
 
 /// The set has these ends.

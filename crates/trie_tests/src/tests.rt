@@ -1,5 +1,5 @@
 //! What no clause says of tries that are made of their parts: examples whose answers come from
-//! outside, packed values of a user's own, and headers that lie.
+//! outside, packed values of a user's own, headers that lie, and values along texts.
 //!
 //! An assert stands in a small helper without a contract, and a value that owns memory is handed to
 //! it: a proof of a test that asserts and holds such values at the same time is long.
@@ -11,6 +11,7 @@ mod quiet_calls;
 mod reader;
 mod reads;
 mod refused_parts;
+mod texts;
 mod typed_tries;
 mod values;
 mod views;
@@ -28,8 +29,10 @@ const BOTH: [TrieType; 2] = [TrieType::Fast, TrieType::Small];
 static ZEROS: [u8; 128] = [0; 128];
 
 /// What is said holds.
-fn expect(rt: &impl Abort, holds: bool, what: &str) {
-    assert!(rt; holds, "{what}");
+fn expect(rt: &impl Abort, holds: bool, what: &'static str) {
+    if !holds {
+        rt.panic(what);
+    }
 }
 
 /// What was found is what was wanted.
@@ -42,18 +45,19 @@ fn expect_of<T: PartialEq + Debug + Drop>(
     rt: &impl Abort,
     found: T,
     want: T,
-    (high_start, null_offset): (u32, u32),
+    of: (u32, u32),
 ) {
-    assert_eq!(rt;
-        found,
-        want,
-        "high start {high_start:x}, null offset {null_offset:x}"
-    );
+    expect_same(rt, (of, found), (of, want), "high start, null offset, found");
 }
 
 /// What was found at the code point `c` is what was wanted.
 fn expect_at<T: PartialEq + Debug + Drop>(rt: &impl Abort, found: T, want: T, c: u32) {
-    assert_eq!(rt; found, want, "at {c:x}");
+    expect_same(rt, (c, found), (c, want), "at a code point");
+}
+
+/// The items found are those wanted, in their order.
+fn expect_items<T: PartialEq + Debug + Drop>(rt: &impl Abort, found: Vec<T>, want: &[T]) {
+    expect_same(rt, found.as_slice(), want, "the items");
 }
 
 /// Prints a word of which the caller of the test knows what the test is about to do, or has done.
@@ -71,7 +75,7 @@ fn built<T: TrieValue>(
 ) -> CodePointTrie<'static, T> {
     match build_from_writes(alloc, values.0, values.1, trie_type, writes) {
         Ok(trie) => trie,
-        Err(_) => panic!(rt; "not built"),
+        Err(_) => rt.panic("not built"),
     }
 }
 

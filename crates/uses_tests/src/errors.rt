@@ -1,6 +1,7 @@
 //! `?` among the errors, run: what is answered, and each error that a caller is told by another
 //! one's call.
 
+use crate::tests::expect;
 use icu_collections::char16trie::{AddError, BuildError, Char16TrieBuilder};
 use icu_collections::codepointinvlist::{
     CodePointInversionList, CodePointInversionListBuilder, RangeError, SetError, TryRangeError,
@@ -10,14 +11,8 @@ use icu_collections::codepointtrie::{
 };
 use icu_collections::zerovec::ule::UleError;
 use icu_collections::zerovec::{PotentialCodePoint, ZeroVec};
-use std::process::Abort;
 use uses::errors::TableError;
 use uses::{errors, words};
-
-/// What is said holds.
-fn expect(rt: &impl Abort, holds: bool, what: &str) {
-    assert!(rt; holds, "{what}");
-}
 
 /// A small trie's header.
 fn small_header() -> CodePointTrieHeader {

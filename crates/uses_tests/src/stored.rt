@@ -1,5 +1,6 @@
 //! Tables by way of ICU's binary form, run.
 
+use crate::tests::expect;
 use icu_collections::codepointtrie::binary::{BinaryError, WriteError, to_binary};
 use icu_collections::codepointtrie::{
     CodePointTrie, TrieType, TrieValue, Write, build_from_writes,
@@ -7,11 +8,6 @@ use icu_collections::codepointtrie::{
 use std::alloc::Global;
 use std::process::Abort;
 use uses::stored;
-
-/// What is said holds.
-fn expect(rt: &impl Abort, holds: bool, what: &str) {
-    assert!(rt; holds, "{what}");
-}
 
 /// A trie in which `A` to `Z` have 1, and what is above the code points too.
 fn ones(alloc: Global) -> Option<CodePointTrie<'static, u8>> {
@@ -40,7 +36,7 @@ fn file_of(
 #[test]
 fn a_table_through_a_file(rt: HostRuntime) {
     let Some(trie) = ones(rt.alloc()) else {
-        panic!(rt; "built");
+        rt.panic("built");
     };
     let found = match stored::through_a_file(rt.alloc(), &trie) {
         Ok(copy) => [copy.get32(0x41), copy.get32(0x5B), copy.get32(0x110000)],
@@ -58,7 +54,7 @@ fn values_of_a(bytes: &[u8]) -> Option<(u8, u16)> {
 #[test]
 fn two_tables_of_a_file(rt: HostRuntime) {
     let (Some(first), Some(second)) = (ones(rt.alloc()), five_hundreds(rt.alloc())) else {
-        panic!(rt; "built");
+        rt.panic("built");
     };
     let found = match file_of(rt.alloc(), &first, &second) {
         Ok(bytes) => values_of_a(&bytes),

@@ -14,15 +14,17 @@ use uses::categories::Category;
 use uses::{built, categories, own_cells, sets, strangers, tables, words};
 
 /// What is said holds.
-fn expect(rt: &impl Abort, holds: bool, what: &str) {
-    assert!(rt; holds, "{what}");
+pub fn expect(rt: &impl Abort, holds: bool, what: &'static str) {
+    if !holds {
+        rt.panic(what);
+    }
 }
 
 /// The set of these ends.
 fn set_of(rt: &(impl Abort + AllocGlobal), ends: &[u32]) -> CodePointInversionList<'static> {
     match CodePointInversionList::try_from_u32_inversion_list_slice(rt.alloc(), ends) {
         Ok(set) => set,
-        Err(_) => panic!(rt; "no set"),
+        Err(_) => rt.panic("no set"),
     }
 }
 
@@ -33,7 +35,7 @@ fn expect_set(
     ends: &[u32],
 ) -> Result<(), MemoryError> {
     let found = set.get_inversion_list_vec(rt.alloc())?;
-    assert_eq!(rt; found.as_slice(), ends);
+    expect(rt, found.as_slice() == ends, "the ends");
     Ok(())
 }
 
@@ -56,7 +58,7 @@ fn sets_that_are_asked(rt: HostRuntime) {
 #[test]
 fn a_set_that_is_stored(rt: HostRuntime) {
     let Ok(set) = sets::stored(rt.alloc(), &set_of(&rt, &[0x41, 0x5B])) else {
-        panic!(rt; "stored");
+        rt.panic("stored");
     };
     let _ = expect_set(&rt, set, &[0x41, 0x5B]);
 }
@@ -64,7 +66,7 @@ fn a_set_that_is_stored(rt: HostRuntime) {
 #[test]
 fn letters_that_are_changed(rt: HostRuntime) {
     let Ok(set) = sets::changed_letters(rt.alloc(), &set_of(&rt, &[0x41, 0x62])) else {
-        panic!(rt; "changed");
+        rt.panic("changed");
     };
     let _ = expect_set(&rt, set, &[0x41, 0x61, 0x62, 0x7B]);
 }
@@ -74,7 +76,7 @@ fn a_code_point_that_is_added(rt: HostRuntime) {
     let mut builder = CodePointInversionListBuilder::new(rt.alloc());
     expect(&rt, sets::try_to_add(&mut builder, 0x41), "added");
     let Ok(set) = builder.build() else {
-        panic!(rt; "built");
+        rt.panic("built");
     };
     let _ = expect_set(&rt, set, &[0x41, 0x42]);
 }
@@ -123,7 +125,7 @@ fn expect_changed(rt: &impl Abort, changed: &CodePointTrie<'_, u8>) {
 #[test]
 fn a_table_that_is_changed(rt: HostRuntime) {
     let Ok(trie) = build_from_writes(rt.alloc(), 0u8, 9, TrieType::Small, &rows()) else {
-        panic!(rt; "built");
+        rt.panic("built");
     };
     match tables::with_range_changed(rt.alloc(), &trie, 0x42..=0x43, 7) {
         Ok(changed) => expect_changed(&rt, &changed),
@@ -136,7 +138,7 @@ fn values_by_other_calls(rt: HostRuntime) {
     let next = tables::next_value(rt.alloc(), &rows(), 0x41);
     expect(&rt, next == Ok(2), "one more");
     let Ok(trie) = build_from_writes(rt.alloc(), 0u8, 9, TrieType::Small, &rows()) else {
-        panic!(rt; "built");
+        rt.panic("built");
     };
     expect(&rt, tables::value_by_type(&trie, 'a') == 2, "by its type");
 }
@@ -144,7 +146,7 @@ fn values_by_other_calls(rt: HostRuntime) {
 #[test]
 fn a_table_that_is_stored(rt: HostRuntime) {
     let Ok(trie) = build_from_writes(rt.alloc(), 0u8, 9, TrieType::Small, &rows()) else {
-        panic!(rt; "built");
+        rt.panic("built");
     };
     let found = tables::stored_value(rt.alloc(), &trie, 0x11_0000);
     expect(&rt, found == Ok(9), "stored");
@@ -153,7 +155,7 @@ fn a_table_that_is_stored(rt: HostRuntime) {
 #[test]
 fn the_set_of_a_category(rt: HostRuntime) {
     let Ok(set) = tables::set_of_category(rt.alloc(), &rows(), 2) else {
-        panic!(rt; "set");
+        rt.panic("set");
     };
     let _ = expect_set(&rt, set, &[0x5A, 0x5B, 0x61, 0x7B]);
 }
@@ -161,7 +163,7 @@ fn the_set_of_a_category(rt: HostRuntime) {
 #[test]
 fn the_runs_of_rows(rt: HostRuntime) {
     let Ok(ranges) = tables::runs_of_rows(rt.alloc(), &rows()) else {
-        panic!(rt; "ranges");
+        rt.panic("ranges");
     };
     expect(&rt, ranges.len() == 6, "six runs");
 }
@@ -175,7 +177,7 @@ fn word_trie(alloc: Global) -> Result<Char16Trie<'static>, MemoryError> {
 #[test]
 fn words_that_are_looked_up(rt: HostRuntime) {
     let Ok(trie) = word_trie(rt.alloc()) else {
-        panic!(rt; "trie");
+        rt.panic("trie");
     };
     expect(&rt, words::number_of_word(&trie, "ab") == Some(2), "ab");
     expect(&rt, words::number_of_word(&trie, "b").is_none(), "b");
@@ -194,7 +196,7 @@ fn are_two_words(list: Vec<(String, i32)>) -> bool {
 #[test]
 fn words_that_are_listed(rt: HostRuntime) {
     let Some(list) = words::two_words(rt.alloc()) else {
-        panic!(rt; "listed");
+        rt.panic("listed");
     };
     expect(&rt, are_two_words(list), "a and ab");
 }
@@ -202,10 +204,10 @@ fn words_that_are_listed(rt: HostRuntime) {
 #[test]
 fn a_set_that_can_be_trusted(rt: HostRuntime) {
     let Ok(trie) = build_from_writes(rt.alloc(), 0u8, 9, TrieType::Small, &rows()) else {
-        panic!(rt; "built");
+        rt.panic("built");
     };
     let Some(set) = tables::trusted_set(rt.alloc(), &trie, 1) else {
-        panic!(rt; "trusted");
+        rt.panic("trusted");
     };
     let _ = expect_set(&rt, set, &[0x41, 0x5A]);
 }
@@ -231,7 +233,7 @@ fn cells_of_ones_own(rt: HostRuntime) {
 #[test]
 fn the_longest_word_of_a_text(rt: HostRuntime) {
     let Ok(trie) = word_trie(rt.alloc()) else {
-        panic!(rt; "trie");
+        rt.panic("trie");
     };
     let text = [0x61, 0x62, 0x63];
     let whole = words::longest_word(&trie, &text);
@@ -250,7 +252,7 @@ fn categories_of_characters(rt: HostRuntime) {
         Write::One(0x42, Category::Other),
     ];
     let Ok(trie) = categories::categories_of(rt.alloc(), &rows) else {
-        panic!(rt; "built");
+        rt.panic("built");
     };
     expect(&rt, categories::is_letter(&trie, 'A'), "A");
     expect(&rt, !categories::is_letter(&trie, 'B'), "B");
@@ -268,14 +270,14 @@ fn what_a_built_trie_is(rt: HostRuntime) {
 #[test]
 fn tries_from_strangers(rt: HostRuntime) {
     let Ok(trie) = build_from_writes(rt.alloc(), 0u8, 9, TrieType::Small, &rows()) else {
-        panic!(rt; "built");
+        rt.panic("built");
     };
     let Some(runs) = strangers::trusted_runs(rt.alloc(), &trie) else {
-        panic!(rt; "runs");
+        rt.panic("runs");
     };
     expect(&rt, runs.len() == 6, "six runs");
     let Some(range) = strangers::trusted_range(&trie, 'A') else {
-        panic!(rt; "range");
+        rt.panic("range");
     };
     expect(&rt, range.value == 1, "of 1");
     expect(&rt, range.range == (0x41..=0x59), "A to Y");
@@ -292,7 +294,7 @@ fn a_trie_of_bytes(rt: HostRuntime) {
         trie_type: TrieType::Small,
     };
     let Some(trie) = strangers::trie_of_bytes::<u8>(header, &[0; 128], &[7; 128]) else {
-        panic!(rt; "trie");
+        rt.panic("trie");
     };
     expect(&rt, trie.get32(0x41) == 7, "below");
     let refused = strangers::trie_of_bytes::<u8>(header, &[0; 127], &[7; 128]);
@@ -327,7 +329,7 @@ fn what_neither_set_holds(rt: HostRuntime) {
 #[test]
 fn runs_that_are_mapped(rt: HostRuntime) {
     let Ok(trie) = build_from_writes(rt.alloc(), 0u8, 9, TrieType::Small, &rows()) else {
-        panic!(rt; "built");
+        rt.panic("built");
     };
     let runs = match tables::runs_of_having(rt.alloc(), &trie, 2) {
         Ok(runs) => runs.len(),
@@ -345,7 +347,7 @@ fn runs_that_are_mapped(rt: HostRuntime) {
 fn numbers_as_differences(rt: HostRuntime) {
     let rows = [Write::One(0x41, 0xFFFFu16)];
     let Ok(trie) = build_from_writes(rt.alloc(), 32, 0, TrieType::Small, &rows) else {
-        panic!(rt; "built");
+        rt.panic("built");
     };
     let found = match tables::as_differences(trie) {
         Ok(trie) => [trie.get('A'), trie.get('B')],
@@ -358,7 +360,7 @@ fn numbers_as_differences(rt: HostRuntime) {
 fn characters_that_are_kept(rt: HostRuntime) {
     let set = set_of(&rt, &[0x61, 0x7B, 0xE4, 0xE5]);
     let Ok(frozen) = FrozenCodePointSet::freeze(rt.alloc(), &set) else {
-        panic!(rt; "frozen");
+        rt.panic("frozen");
     };
     let kept = match sets::kept_characters(rt.alloc(), &frozen, "Über 1 Bär") {
         Ok(kept) => kept.as_str() == "berär",

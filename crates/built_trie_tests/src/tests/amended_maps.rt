@@ -46,7 +46,7 @@ const RANGES: [(u32, Option<(u32, u16)>); 14] = [
 fn expect_written_ranges(rt: &impl Abort, builder: &CodePointTrieBuilder<u16>) {
     for (start, wanted) in RANGES {
         let same = end_and_value(builder, start) == wanted;
-        assert!(rt; same, "the range from {start:x}");
+        expect(rt, same, "a range");
     }
 }
 

@@ -1,6 +1,6 @@
 //! Every getter of a trie, values of every type, parts and copies.
 
-use crate::tests::support::{BOTH, built, expect, expect_number};
+use crate::tests::support::{BOTH, built, expect, expect_number, expect_same};
 use icu_collections::codepointtrie::{CodePointTrie, TrieType, TrieValue, Write};
 use std::alloc::Global;
 use std::process::Abort;
@@ -32,7 +32,7 @@ fn negative_value(rt: HostRuntime) {
 
 /// The number is that of this value, or of none.
 fn expect_value<T: TrieValue>(rt: &impl Abort, number: u32, value: Option<T>) {
-    assert!(rt; T::try_from_u32(number).ok() == value, "{number:x}");
+    expect(rt, T::try_from_u32(number).ok() == value, "a number and its value");
 }
 
 /// Numbers that are no value of a type: a surrogate, and what doesn't fit.
@@ -68,8 +68,8 @@ fn answers_of(trie: CodePointTrie<'_, char>) -> ([char; 7], [u32; 2]) {
 
 fn expect_answers(rt: &impl Abort, (characters, numbers): ([char; 7], [u32; 2])) {
     let wanted = ['A', '\u{10400}', 'A', 'B', '-', '\u{10400}', '-'];
-    assert_eq!(rt; characters, wanted);
-    assert_eq!(rt; numbers, [0x10400, 0xFFFD]);
+    expect_same(rt, characters, wanted, "characters");
+    expect_same(rt, numbers, [0x10400, 0xFFFD], "numbers");
 }
 
 /// Characters that stand for others, as in a mapping of characters to their upper case.

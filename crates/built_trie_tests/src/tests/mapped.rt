@@ -1,6 +1,6 @@
 //! Ranges and tries under a map of the values, of built tries.
 
-use crate::tests::support::{BOTH, built, expect, over_the_fast_limit};
+use crate::tests::support::{BOTH, built, expect, expect_same, over_the_fast_limit};
 use icu_collections::codepointtrie::{CodePointMapRange, CodePointTrie, MapError, TrieType};
 use std::fmt::Debug;
 use std::ops::RangeInclusive;
@@ -14,7 +14,7 @@ fn with<T>(range: RangeInclusive<u32>, value: T) -> CodePointMapRange<T> {
 
 /// What was found is what is wanted, in its order.
 fn expect_items<T: PartialEq + Debug + Drop>(rt: &impl Abort, found: Vec<T>, wanted: &[T]) {
-    assert_eq!(rt; found.as_slice(), wanted);
+    expect_same(rt, found.as_slice(), wanted, "the items");
 }
 
 #[test]

@@ -1,6 +1,6 @@
 //! Maps of random writes, built and asked beside a list of the writes.
 
-use crate::tests::support::{BOTH, Random, built, expect_number};
+use crate::tests::support::{BOTH, Random, built, expect, expect_number, expect_same};
 use icu_collections::codepointtrie::{CodePointTrie, TrieType, Write};
 use std::alloc::{AllocError, Global};
 use std::process::Abort;
@@ -125,18 +125,18 @@ fn expect_runs(
     let mut next = 0u32;
     for range in trie.iter_ranges() {
         let (first, last) = (*range.range.start(), *range.range.end());
-        assert!(rt; first == next, "a gap at {first:x}");
+        expect_same(rt, first, next, "no gap");
         expect_number(rt, first, range.value, value_of(writes, first));
         next = last.saturating_add(1);
         let goes_on = next <= 0x10FFFF && value_of(writes, next) == range.value;
-        assert!(rt; !goes_on, "cut at {last:x}");
+        expect_same(rt, (last, goes_on), (last, false), "not cut");
         for border in borders {
             if first <= *border && *border <= last {
                 expect_number(rt, *border, range.value, value_of(writes, *border));
             }
         }
     }
-    assert!(rt; next == 0x110000, "an end at {next:x}");
+    expect_same(rt, next, 0x110000, "the end");
 }
 
 /// How many aligned blocks of `size` code points from `low` to before `high` have a border inside.
@@ -170,7 +170,7 @@ fn expect_few_cells(
         .saturating_add(small.saturating_mul(16));
     let (_, _, data) = trie.parts();
     let found = data.len();
-    assert!(rt; found <= most.saturating_add(160), "{found} cells of data");
+    expect(rt, found <= most.saturating_add(160), "cells of data");
 }
 
 /// Builds the tries of a random map and asks them.

@@ -1,7 +1,7 @@
 //! Ranges and value sets of built tries, and values at the borders of what was written.
 
 use crate::tests::support::{
-    BOTH, expect, expect_map, expect_ranges, is_range, over_the_fast_limit,
+    BOTH, expect, expect_map, expect_ranges, expect_same, is_range, over_the_fast_limit,
 };
 use icu_collections::codepointtrie::{CodePointTrie, Write};
 use icu_collections::zerovec::MemoryError;
@@ -93,7 +93,7 @@ fn set_of(alloc: Global, trie: &CodePointTrie<'_, u8>, value: u8) -> Result<Vec<
 }
 
 fn expect_ends(rt: &impl Abort, found: &[u32], wanted: &[u32]) {
-    assert_eq!(rt; found, wanted);
+    expect_same(rt, found, wanted, "the ends");
 }
 
 /// Values, and the ends of their sets.

@@ -15,8 +15,9 @@ use std::process::Abort;
 
 /// Prints the line.
 fn say(rt: &(impl Abort + Print), line: &str) {
-    let printed = println!(rt; "{line}");
-    assert!(rt; printed.is_ok());
+    if rt.println(line).is_err() {
+        rt.panic("nothing can be printed");
+    }
 }
 
 /// Says where memory was refused.

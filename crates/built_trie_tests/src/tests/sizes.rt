@@ -1,7 +1,7 @@
 //! How many cells a built trie has, and which maps are too large.
 
 use crate::tests::support::{
-    BOTH, built, expect, expect_cells, expect_number, expect_numbers, own_numbers,
+    BOTH, built, expect, expect_cells, expect_number, expect_numbers, expect_same, own_numbers,
 };
 use icu_collections::codepointtrie::{
     BuildError, CodePointTrie, TrieType, Write, build_from_writes,
@@ -86,7 +86,7 @@ fn too_large(rt: HostRuntime) -> Result<(), Fail> {
 fn expect_least(rt: &impl Abort, trie: CodePointTrie<'_, u32>) {
     let (_, index, data) = trie.parts();
     let found = (index.len(), data.len());
-    assert_eq!(rt; found, (64, 129));
+    expect_same(rt, found, (64, 129), "cells of index and of data");
 }
 
 /// The smallest trie, whose data are the first 128 cells and the error value: one number for all,

@@ -4,6 +4,7 @@ use icu_collections::codepointtrie::{
     CodePointMapRange, CodePointTrie, TrieType, TrieValue, Write, build_from_writes,
 };
 use std::alloc::{AllocError, Global};
+use std::fmt::Debug;
 use std::process::Abort;
 
 pub const BOTH: [TrieType; 2] = [TrieType::Fast, TrieType::Small];
@@ -38,7 +39,7 @@ pub fn built<T: TrieValue>(
 ) -> CodePointTrie<'static, T> {
     match build_from_writes(rt.alloc(), values.0, values.1, trie_type, writes) {
         Ok(trie) => trie,
-        Err(_) => panic!(rt; "not built"),
+        Err(_) => rt.panic("not built"),
     }
 }
 
@@ -52,13 +53,20 @@ pub fn own_numbers(alloc: Global, first: u32, last: u32) -> Result<Vec<Write<u32
 }
 
 /// What is said holds.
-pub fn expect(rt: &impl Abort, holds: bool, what: &str) {
-    assert!(rt; holds, "{what}");
+pub fn expect(rt: &impl Abort, holds: bool, what: &'static str) {
+    if !holds {
+        rt.panic(what);
+    }
+}
+
+/// What was found is the wanted one.
+pub fn expect_same<T: Copy + Debug + PartialEq>(rt: &impl Abort, found: T, wanted: T, what: &str) {
+    assert_eq!(rt; found, wanted, "{what}");
 }
 
 /// The number that is found at this code point is the wanted one.
 pub fn expect_number(rt: &impl Abort, c: u32, found: u32, wanted: u32) {
-    assert_eq!(rt; found, wanted, "at {c:x}");
+    expect_same(rt, (c, found), (c, wanted), "a code point and its number");
 }
 
 /// The value at each of these code points has this number.
@@ -80,13 +88,16 @@ pub fn is_range(range: &CodePointMapRange<u8>, wanted: (u32, u32, u8)) -> bool {
 
 /// The trie has these ranges, each with its first and last code point and its value, and no more.
 pub fn expect_ranges(rt: &impl Abort, trie: &CodePointTrie<'_, u8>, expected: &[(u32, u32, u8)]) {
-    let mut found = 0;
+    let mut found = 0usize;
     for range in trie.iter_ranges() {
-        assert!(rt; found < expected.len(), "more than {found} ranges");
-        assert!(rt; is_range(&range, expected[found]), "range {found}");
-        found += 1;
+        let same = match expected.get(found) {
+            Some(wanted) => is_range(&range, *wanted),
+            None => false,
+        };
+        expect(rt, same, "a range");
+        found = found.saturating_add(1);
     }
-    assert!(rt; found == expected.len(), "{found} ranges");
+    expect_same(rt, found, expected.len(), "ranges");
 }
 
 /// The tries of both types that are built of these writes over the first number, with the error
@@ -115,7 +126,7 @@ pub fn expect_cells<T: TrieValue>(
     let (_, index, data) = trie.parts();
     let (index, data) = (index.len(), data.len());
     let few = index <= most_index && data <= most_data;
-    assert!(rt; few, "{index} cells of index, {data} of data");
+    expect(rt, few, "cells of index and of data");
 }
 
 /// Equal values on both sides of the fast limit, in blocks of 64 and of 16: 0, and then 1, 2 and 1.

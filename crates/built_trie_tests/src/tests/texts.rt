@@ -1,5 +1,6 @@
 //! The texts of errors.
 
+use crate::tests::support::expect_same;
 use icu_collections::codepointtrie::{ApplyRefused, BuildError, CodePointTrieError};
 use icu_collections::zerovec::MemoryError;
 use std::process::Abort;
@@ -7,7 +8,7 @@ use std::test::Fail;
 
 /// The text is the other one.
 fn expect_text(rt: &impl Abort, text: String, wanted: &str) {
-    assert_eq!(rt; text.as_str(), wanted);
+    expect_same(rt, text.as_str(), wanted, "the text");
 }
 
 static ERRORS: [(CodePointTrieError, &str); 5] = [
@@ -38,7 +39,7 @@ static ERRORS: [(CodePointTrieError, &str); 5] = [
 #[test]
 fn errors_of_tries(rt: HostRuntime) -> Result<(), Fail> {
     for (error, text) in ERRORS.iter() {
-        expect_text(&rt, format!(in rt.alloc(); "{error}")?, text);
+        expect_text(&rt, error.to_string(rt.alloc())?, text);
     }
     Ok(())
 }
@@ -49,10 +50,10 @@ fn errors_of_building(rt: HostRuntime) -> Result<(), Fail> {
         (BuildError::TooLarge, "too large"),
         (BuildError::Memory, "no memory"),
     ] {
-        expect_text(&rt, format!(in rt.alloc(); "{error}")?, text);
+        expect_text(&rt, error.to_string(rt.alloc())?, text);
     }
-    expect_text(&rt, format!(in rt.alloc(); "{}", MemoryError)?, "no memory");
-    let refused = format!(in rt.alloc(); "{}", ApplyRefused(3))?;
+    expect_text(&rt, MemoryError.to_string(rt.alloc())?, "no memory");
+    let refused = ApplyRefused(3).to_string(rt.alloc())?;
     expect_text(&rt, refused, "no memory for write 3");
     Ok(())
 }

@@ -1,6 +1,6 @@
 //! What all tests compare with, and print.
 use icu_zerovec::MemoryError;
-use std::fmt::Debug;
+use std::fmt::{Debug, Display};
 use std::hash::{DefaultHasher, Hash, Hasher};
 use std::process::Abort;
 
@@ -27,6 +27,11 @@ pub fn expect_text<E>(rt: &impl Abort, text: Result<String, E>, want: &str) {
         Ok(text) => expect_same(rt, text.as_str(), want, "the text"),
         Err(_) => rt.panic("no text"),
     }
+}
+
+/// A value is told so.
+pub fn expect_told<T: Display>(rt: &(impl Abort + AllocGlobal), told: &T, want: &str) {
+    expect_text(rt, told.to_string(rt.alloc()), want);
 }
 
 /// Prints the line.

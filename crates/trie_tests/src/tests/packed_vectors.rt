@@ -97,7 +97,7 @@ fn encodings_of_flags(rt: HostRuntime) {
 
 /// The vector has these bytes.
 fn expect_bytes<T: AsULE>(rt: &impl Abort, vector: ZeroVec<'_, T>, want: &[u8]) {
-    assert_eq!(rt; vector.as_bytes(), want);
+    expect_same(rt, vector.as_bytes(), want, "the bytes");
 }
 
 #[test]

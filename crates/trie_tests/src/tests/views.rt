@@ -85,7 +85,7 @@ fn expect_bytes<T: TrieValue>(rt: &impl Abort, trie: &CodePointTrie<'_, T>, c: u
         Some(found) => found == bytes,
         None => false,
     };
-    assert!(rt; found, "at {c:x}");
+    expect_same(rt, (c, found), (c, true), "the bytes at a code point");
 }
 
 /// The packed bytes of a cell, and of the error value's cell.

@@ -1,4 +1,5 @@
 //! How tries are built and read.
+use crate::tests::support::expect_same;
 use icu_char16trie::char16trie::{Char16Trie, Iter2};
 use icu_char16trie_builder::builder::Char16TrieBuilder;
 use icu_zerovec::MemoryError;
@@ -75,7 +76,7 @@ fn has_entries(
 
 /// What is said of these entries holds.
 fn expect_of(rt: &impl Abort, holds: bool, what: &str, entries: &[Entry]) {
-    assert!(rt; holds, "{what}: {entries:?}");
+    expect_same(rt, (entries, holds), (entries, true), what);
 }
 
 /// Whether the trie has these units.

@@ -1,5 +1,5 @@
 //! Printed texts of errors.
-use crate::tests::support::expect_text;
+use crate::tests::support::expect_told;
 use icu_char16trie_builder::error::{AddError, BuildError};
 
 static ADD_ERRORS: [(AddError, &str); 3] = [
@@ -17,9 +17,9 @@ static BUILD_ERRORS: [(BuildError, &str); 3] = [
 #[test]
 fn texts_of_errors(rt: HostRuntime) {
     for (error, want) in ADD_ERRORS.iter() {
-        expect_text(&rt, format!(in rt.alloc(); "{error}"), want);
+        expect_told(&rt, error, want);
     }
     for (error, want) in BUILD_ERRORS.iter() {
-        expect_text(&rt, format!(in rt.alloc(); "{error}"), want);
+        expect_told(&rt, error, want);
     }
 }

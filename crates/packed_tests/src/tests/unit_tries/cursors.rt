@@ -27,7 +27,12 @@ fn expect_no_match(rt: &impl Abort, trie: Char16Trie<'_>, units: &[u16]) {
     for number in [0x11_0000, 0x12_0000, 0xFFFF_FFFF] {
         let found = told_of(&trie, number);
         let want = (None, true, TrieResult::NoMatch);
-        assert_eq!(rt; found, want, "{number:x} of {units:?}");
+        expect_same(
+            rt,
+            (units, number, found),
+            (units, number, want),
+            "no match",
+        );
     }
 }
 

@@ -1,5 +1,6 @@
 //! The keys that begin a text: the longest one, and all of them.
 use super::support::{SIX, trie_of};
+use crate::tests::support::expect_same;
 use icu_char16trie::char16trie::Char16Trie;
 use icu_zerovec::MemoryError;
 use std::process::Abort;
@@ -95,21 +96,11 @@ fn three_matches(trie: &Char16Trie<'_>, text: &[u16]) -> [Option<(usize, i32)>; 
     [matches.next(), matches.next(), matches.next()]
 }
 
-/// What was found is what is wanted.
-fn expect_all(
-    rt: &impl Abort,
-    found: [Option<(usize, i32)>; 3],
-    want: [Option<(usize, i32)>; 3],
-    units: &[u16],
-) {
-    assert_eq!(rt; found, want, "of {units:?}");
-}
-
 #[test]
 fn all_matches(rt: HostRuntime) -> Result<(), Fail> {
     for (units, text, want) in ALL.iter() {
         let found = three_matches(&trie_of(rt.alloc(), units)?, text);
-        expect_all(&rt, found, *want, units);
+        expect_same(&rt, (*units, found), (*units, *want), "all matches");
     }
     Ok(())
 }
@@ -121,7 +112,7 @@ fn expect_found(
     want: Option<(usize, i32)>,
     units: &[u16],
 ) {
-    assert_eq!(rt; found, want, "of {units:?}");
+    expect_same(rt, (units, found), (units, want), "the longest match");
 }
 
 /// The longest key that begins each text.

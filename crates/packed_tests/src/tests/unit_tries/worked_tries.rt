@@ -1,6 +1,7 @@
 //! Tries whose entries and results are known from the format's description, and units that are no
 //! trie.
 use super::support::{SIX, last_result, trie_of};
+use crate::tests::support::expect_same;
 use icu_char16trie::char16trie::{Char16Trie, TrieResult};
 use icu_zerovec::MemoryError;
 use std::alloc::Global;
@@ -34,12 +35,12 @@ fn entries_of(alloc: Global, trie: &Char16Trie<'_>) -> Result<String, MemoryErro
 
 /// The entries of these units are these.
 fn expect_entries(rt: &impl Abort, said: String, entries: &str, units: &[u16]) {
-    assert_eq!(rt; said.as_str(), entries, "of {units:?}");
+    expect_same(rt, (units, said.as_str()), (units, entries), "entries");
 }
 
 /// The text gives this result.
 fn expect_result(rt: &impl Abort, found: TrieResult, want: TrieResult, text: &str, units: &[u16]) {
-    assert_eq!(rt; found, want, "{text} of {units:?}");
+    expect_same(rt, (units, found), (units, want), text);
 }
 
 /// These units give these entries, and this result after the characters of the text.

@@ -1,6 +1,6 @@
 //! Printed texts of errors and of tries.
 use super::support::trie_of;
-use crate::tests::support::expect_text;
+use crate::tests::support::{expect_text, expect_told};
 use icu_char16trie::char16trie::Char16JsonError;
 use std::test::Fail;
 
@@ -19,7 +19,7 @@ static ERRORS: [(Char16JsonError, &str); 3] = [
 #[test]
 fn texts_of_errors(rt: HostRuntime) {
     for (error, want) in ERRORS.iter() {
-        expect_text(&rt, format!(in rt.alloc(); "{error}"), want);
+        expect_told(&rt, error, want);
     }
 }
 

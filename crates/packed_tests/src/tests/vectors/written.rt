@@ -1,18 +1,13 @@
 //! Printed texts of vectors and of errors.
-use crate::tests::support::{expect_same, expect_text};
+use crate::tests::support::{expect_same, expect_text, expect_told};
 use icu_zerovec::ule::UleError;
 use icu_zerovec::{MemoryError, ZeroVec};
-use std::fmt::{Debug, Display};
+use std::fmt::Debug;
 use std::process::Abort;
 
 /// A value is shown so, as for one who looks for a fault.
 fn expect_shown<T: Debug>(rt: &(impl Abort + AllocGlobal), shown: &T, want: &str) {
     expect_text(rt, format!(in rt.alloc(); "{shown:?}"), want);
-}
-
-/// An error is told so.
-fn expect_told<T: Display>(rt: &(impl Abort + AllocGlobal), told: &T, want: &str) {
-    expect_text(rt, told.to_string(rt.alloc()), want);
 }
 
 /// A vector of two numbers, its view, and what is left of its values after the first are shown so.

@@ -25,7 +25,7 @@ const WRITTEN: [(&[u32], &[u16]); 9] = [
 
 /// The units are the wanted ones.
 fn expect_units(rt: &impl Abort, found: Vec<u16>, want: &[u16]) {
-    assert_eq!(rt; found.as_slice(), want);
+    expect_same(rt, found.as_slice(), want, "the units");
 }
 
 /// The units of the set with these ends.

@@ -1,10 +1,11 @@
 //! Ranges that are joined, chosen by their value or mapped, and tries of mapped values.
-use super::super::{ONES, SEVENS, ZEROS, data, expect, expect_at, expect_same, say, small_trie};
+use super::super::{
+    ONES, SEVENS, ZEROS, data, expect, expect_at, expect_items, expect_same, say, small_trie,
+};
 use icu_trie::cptrie::CodePointTrie;
 use icu_trie::iterator_utils::RangeListIteratorCoalescer;
 use icu_trie::map_value::MapError;
 use icu_trie_core::range::CodePointMapRange;
-use std::fmt::Debug;
 use std::ops::RangeInclusive;
 use std::process::Abort;
 use std::test::Fail;
@@ -12,11 +13,6 @@ use std::test::Fail;
 /// The range of a value.
 fn with<T>(range: RangeInclusive<u32>, value: T) -> CodePointMapRange<T> {
     CodePointMapRange { range, value }
-}
-
-/// The items found are those wanted, in their order.
-fn expect_items<T: PartialEq + Debug + Drop>(rt: &impl Abort, found: Vec<T>, want: &[T]) {
-    assert_eq!(rt; found.as_slice(), want);
 }
 
 /// Ranges that touch are joined, and nothing is behind the greatest number.
@@ -94,14 +90,14 @@ fn refusal_of_a_value(rt: HostRuntime) {
 
 /// The text is the other one.
 fn expect_text(rt: &impl Abort, text: String, want: &str) {
-    assert_eq!(rt; text.as_str(), want);
+    expect_same(rt, text.as_str(), want, "the text");
 }
 
 #[test]
 fn texts_of_errors(rt: HostRuntime) -> Result<(), Fail> {
-    let refused = format!(in rt.alloc(); "{}", MapError::Closure("two"))?;
+    let refused = MapError::Closure("two").to_string(rt.alloc())?;
     expect_text(&rt, refused, "two");
-    let memory = format!(in rt.alloc(); "{}", MapError::<&str>::Memory)?;
+    let memory = MapError::<&str>::Memory.to_string(rt.alloc())?;
     expect_text(&rt, memory, "no memory");
     Ok(())
 }

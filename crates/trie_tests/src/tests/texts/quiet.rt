@@ -1,6 +1,7 @@
 //! Calls that ask for no memory. The script `tests/refused_memory` sees that a test whose name ends
 //! in `_quiet` asks for nothing between the lines `call` and `done`.
-use super::support::{expect_same, say, six_bits};
+use super::support::six_bits;
+use crate::tests::{expect_same, say};
 use icu_trie::cptrie::CodePointTrie;
 use icu_trie_text::text::{
     find_value, span_of_values, value_indices_of, values_of, values_of_utf8, values_of_utf16,

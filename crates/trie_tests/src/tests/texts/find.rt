@@ -1,5 +1,6 @@
 //! The first character with a value that is sought, and fronts of such ones.
-use super::support::{HIGH, expect_same, six_bits};
+use super::support::{HIGH, six_bits};
+use crate::tests::expect_same;
 use icu_trie_text::text::{Found, find_value, span_of_values};
 use std::test::Fail;
 

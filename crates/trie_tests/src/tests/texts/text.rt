@@ -1,5 +1,6 @@
 //! The value of each character of a text, and its place.
-use super::support::{HIGH, expect_items, six_bits};
+use super::support::{HIGH, six_bits};
+use crate::tests::expect_items;
 use icu_trie::cptrie::CodePointTrie;
 use icu_trie::typed::FastCodePointTrie;
 use icu_trie_text::text::{value_indices_of, values_of};

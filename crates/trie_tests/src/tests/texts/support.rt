@@ -1,10 +1,8 @@
-//! The trie that the tests ask, and what they share.
+//! The trie that is asked along texts.
 use icu_trie::cptrie::CodePointTrie;
 use icu_trie::error::PartsError;
 use icu_trie::header::{CodePointTrieHeader, TrieType};
 use std::alloc::Global;
-use std::fmt::Debug;
-use std::process::Abort;
 
 /// The value of each surrogate.
 pub const SURROGATE: u8 = 100;
@@ -37,21 +35,4 @@ pub fn six_bits(alloc: Global) -> Result<CodePointTrie<'static, u8>, PartsError>
     values[128] = HIGH;
     values[129] = ERROR;
     CodePointTrie::alloc_from_slices(alloc, HEADER, &index, &values)
-}
-
-/// What was found is what is wanted.
-pub fn expect_same<T: Copy + Debug + PartialEq>(rt: &impl Abort, found: T, want: T, what: &str) {
-    assert_eq!(rt; found, want, "{what}");
-}
-
-/// Prints the line.
-pub fn say(rt: &(impl Abort + Print), line: &str) {
-    if rt.println(line).is_err() {
-        rt.panic("nothing can be printed");
-    }
-}
-
-/// The items are the wanted ones.
-pub fn expect_items<T: Debug + PartialEq + Drop>(rt: &impl Abort, found: Vec<T>, want: &[T]) {
-    assert_eq!(rt; found.as_slice(), want);
 }

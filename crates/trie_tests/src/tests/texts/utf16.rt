@@ -1,5 +1,6 @@
 //! The value of each code point of 16-bit units.
-use super::support::{HIGH, SURROGATE, expect_items, six_bits};
+use super::support::{HIGH, SURROGATE, six_bits};
+use crate::tests::expect_items;
 use icu_trie_text::text::values_of_utf16;
 use std::test::Fail;
 

@@ -1,5 +1,6 @@
 //! The value of each character of bytes that may be ill-formed UTF-8.
-use super::support::{ERROR, HIGH, expect_items, expect_same, six_bits};
+use super::support::{ERROR, HIGH, six_bits};
+use crate::tests::{expect_items, expect_same};
 use icu_trie::cptrie::CodePointTrie;
 use icu_trie_text::text::values_of_utf8;
 use std::process::Abort;

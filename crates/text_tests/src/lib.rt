@@ -1,5 +1,0 @@
-//! Tests of values of tries along texts, by their public calls.
-#![tactic(auto)]
-
-#[cfg(test)]
-mod tests;

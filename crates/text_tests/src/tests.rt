@@ -1,7 +1,0 @@
-//! What no clause says: examples from outside, each call at a type.
-mod find;
-mod quiet;
-mod support;
-mod text;
-mod utf16;
-mod utf8;
