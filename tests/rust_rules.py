@@ -4,7 +4,7 @@ they need that the code doesn't, and forms that rust/make has to refuse."""
 # Our crates of tests, and what they test beside the library.
 TESTS = (
     "packed_tests set_tests trie_tests built_trie_tests trie_format_tests ucptab_table"
-    " ucptab_tests uses uses_tests damaged_forms"
+    " ucptab_tests uses damaged_forms"
 ).split()
 # That of ucptrie stays behind: its engine asks errors of JSON and TOML for what the kit's crates tell
 # of them, and Debian's do not, as the line of a fault.

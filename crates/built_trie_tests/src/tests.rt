@@ -1,8 +1,9 @@
 //! What no clause says of built tries: examples whose answers come from outside, printed texts,
-//! sizes, each public call on its happy path, and refused memory.
+//! sizes, each public call on its happy path, and refused memory; and the callers in `uses`.
 
 mod amended_maps;
 mod built_tries;
+mod callers;
 mod compaction;
 mod getters;
 mod mapped;

@@ -1,7 +1,7 @@
 //! `?` among the errors, run: what is answered, and each error that a caller is told by another
 //! one's call.
 
-use crate::tests::expect;
+use crate::tests::support::expect;
 use icu_collections::char16trie::{AddError, BuildError, Char16TrieBuilder};
 use icu_collections::codepointinvlist::{
     CodePointInversionList, CodePointInversionListBuilder, RangeError, SetError, TryRangeError,

@@ -1,6 +1,6 @@
 //! Tables by way of ICU's binary form, run.
 
-use crate::tests::expect;
+use crate::tests::support::expect;
 use icu_collections::codepointtrie::binary::{BinaryError, WriteError, to_binary};
 use icu_collections::codepointtrie::{
     CodePointTrie, TrieType, TrieValue, Write, build_from_writes,

@@ -1,5 +1,9 @@
-//! The callers, run.
+//! The callers in `uses`, run.
 
+mod errors;
+mod stored;
+
+use crate::tests::support::expect;
 use icu_collections::char16trie::{Char16Trie, TrieResult};
 use icu_collections::codepointinvlist::{
     CodePointInversionList, CodePointInversionListBuilder, FrozenCodePointSet,
@@ -12,13 +16,6 @@ use std::alloc::Global;
 use std::process::Abort;
 use uses::categories::Category;
 use uses::{built, categories, own_cells, sets, strangers, tables, words};
-
-/// What is said holds.
-pub fn expect(rt: &impl Abort, holds: bool, what: &'static str) {
-    if !holds {
-        rt.panic(what);
-    }
-}
 
 /// The set of these ends.
 fn set_of(rt: &(impl Abort + AllocGlobal), ends: &[u32]) -> CodePointInversionList<'static> {
