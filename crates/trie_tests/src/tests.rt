@@ -41,13 +41,13 @@ fn expect_same<T: PartialEq + Debug + Drop>(rt: &impl Abort, found: T, want: T, 
 }
 
 /// What was found is what was wanted of a trie with this high start and this null data offset.
-fn expect_of<T: PartialEq + Debug + Drop>(
-    rt: &impl Abort,
-    found: T,
-    want: T,
-    of: (u32, u32),
-) {
-    expect_same(rt, (of, found), (of, want), "high start, null offset, found");
+fn expect_of<T: PartialEq + Debug + Drop>(rt: &impl Abort, found: T, want: T, of: (u32, u32)) {
+    expect_same(
+        rt,
+        (of, found),
+        (of, want),
+        "high start, null offset, found",
+    );
 }
 
 /// What was found at the code point `c` is what was wanted.

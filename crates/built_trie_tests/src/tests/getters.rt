@@ -32,7 +32,11 @@ fn negative_value(rt: HostRuntime) {
 
 /// The number is that of this value, or of none.
 fn expect_value<T: TrieValue>(rt: &impl Abort, number: u32, value: Option<T>) {
-    expect(rt, T::try_from_u32(number).ok() == value, "a number and its value");
+    expect(
+        rt,
+        T::try_from_u32(number).ok() == value,
+        "a number and its value",
+    );
 }
 
 /// Numbers that are no value of a type: a surrogate, and what doesn't fit.

@@ -3,9 +3,7 @@
 ghost use Rattle.std.specs.Prelude.{◌≡◌, ◌<◌};
 ghost use Rattle.icu_zerovec.specs.Slice.{slice_values};
 
-use super::{
-    BOTH, ONES, ZEROS, built, data, expect_at, expect_same, say, small_header, trie_of,
-};
+use super::{BOTH, ONES, ZEROS, built, data, expect_at, expect_same, say, small_header, trie_of};
 use icu_collections::codepointtrie::{
     Cells, CodePointMapRange, CodePointTrie, Steps, TrieValue, Write, is_coherent, look_up,
     look_up_whole, walk,
@@ -102,7 +100,12 @@ fn asked<T: TrieValue>(trie: &CodePointTrie<'_, T>, c: u32) -> Answers<T> {
 /// A call at `c` read so many cells at least, and so many at most.
 fn expect_reads(rt: &impl Abort, reads: u64, least: u64, most: u64, c: u32) {
     let few = least <= reads && reads <= most;
-    expect_same(rt, (c, reads, few), (c, reads, true), "reads at a code point");
+    expect_same(
+        rt,
+        (c, reads, few),
+        (c, reads, true),
+        "reads at a code point",
+    );
 }
 
 /// The first and the last code point of a range, and its value.
