@@ -1,7 +1,6 @@
 //! The ranges, the gaps and the characters of sets.
 use super::*;
 use crate::tests::{expect_same, set_of};
-use icu_invlist::codepointinvlist::SetError;
 
 /// The range is the one that begins at this place of the list.
 fn expect_range(rt: &impl Abort, range: RangeInclusive<u32>, ends: &[u32], place: usize) {
@@ -31,33 +30,20 @@ fn expect_gaps(rt: &impl Abort, set: &CodePointInversionList<'_>, ends: &[u32]) 
     expect_same(rt, given, ends.len(), "ends of gaps");
 }
 
-/// The set with these ends has them as its ranges, and these gaps.
-fn expect_both(
-    rt: &(impl Abort + AllocGlobal),
-    ends: &[u32],
-    gaps: &[u32],
-) -> Result<(), SetError> {
-    let set = set_of(rt.alloc(), ends)?;
-    expect_ranges(rt, &set, ends);
-    expect_gaps(rt, &set, gaps);
-    expect_same(rt, set.iter_ranges().len(), ends.len() / 2, "ranges");
-    Ok(())
-}
-
-/// Ends of sets, and those of the gaps between.
-static RANGES_AND_GAPS: [(&[u32], &[u32]); 3] = [
-    (
-        &[0xA, 0x14, 0x28, 0x32],
-        &[0, 0xA, 0x14, 0x28, 0x32, 0x11_0000],
-    ),
-    (&[0, 0xA, 0x14, 0x11_0000], &[0xA, 0x14]),
-    (&[], &[0, 0x11_0000]),
-];
-
 #[test]
 fn ranges_and_gaps(rt: HostRuntime) -> Result<(), Fail> {
-    for (ends, gaps) in RANGES_AND_GAPS.iter() {
-        expect_both(&rt, ends, gaps)?;
+    for (ends, gaps) in [
+        (
+            [0xA, 0x14, 0x28, 0x32].as_slice(),
+            [0, 0xA, 0x14, 0x28, 0x32, 0x11_0000].as_slice(),
+        ),
+        ([0, 0xA, 0x14, 0x11_0000].as_slice(), [0xA, 0x14].as_slice()),
+        ([].as_slice(), [0, 0x11_0000].as_slice()),
+    ] {
+        let set = set_of(rt.alloc(), ends)?;
+        expect_ranges(&rt, &set, ends);
+        expect_gaps(&rt, &set, gaps);
+        expect_same(&rt, set.iter_ranges().len(), ends.len() / 2, "ranges");
     }
     expect_gaps(&rt, &CodePointInversionList::all(), &[]);
     Ok(())
