@@ -6,6 +6,7 @@ use icu_trie::cptrie::CodePointTrie;
 use icu_trie::iterator_utils::RangeListIteratorCoalescer;
 use icu_trie::map_value::MapError;
 use icu_trie_core::range::CodePointMapRange;
+use std::alloc::{AllocError, Global};
 use std::ops::RangeInclusive;
 use std::process::Abort;
 use std::test::Fail;
@@ -48,11 +49,19 @@ fn ranges_of_a_value(rt: HostRuntime) -> Result<(), Fail> {
     expect_ranges_of(&rt, 3, &[])
 }
 
+/// The ranges of whether the values are even.
+fn evens_of(
+    alloc: Global,
+    trie: &CodePointTrie<'_, u8>,
+) -> Result<Vec<CodePointMapRange<bool>>, AllocError> {
+    trie.iter_ranges_mapped(|x| x % 2 == 0).collect(alloc)
+}
+
 #[test]
 fn mapped_ranges(rt: HostRuntime) -> Result<(), Fail> {
     let ones = data(ONES);
     let trie = small_trie(&rt, (0x1000, 0xfffff), &ZEROS, &ones);
-    let evens: Vec<_> = trie.iter_ranges_mapped(|x| x % 2 == 0).collect(rt.alloc())?;
+    let evens = evens_of(rt.alloc(), &trie)?;
     expect_items(
         &rt,
         evens,
@@ -61,13 +70,21 @@ fn mapped_ranges(rt: HostRuntime) -> Result<(), Fail> {
     Ok(())
 }
 
+/// The ranges of the values as they are.
+fn same_of(
+    alloc: Global,
+    trie: &CodePointTrie<'_, u8>,
+) -> Result<Vec<CodePointMapRange<u8>>, AllocError> {
+    trie.iter_ranges_mapped(|x| x).collect(alloc)
+}
+
 /// The header names the block of all code points below 0x1000 as null, and it is not: each of them
 /// is alone, and they are joined by their equal answers.
 #[test]
 fn mapped_ranges_that_touch(rt: HostRuntime) -> Result<(), Fail> {
     let sevens = data(SEVENS);
     let trie = small_trie(&rt, (0x1000, 0), &ZEROS, &sevens);
-    let same: Vec<_> = trie.iter_ranges_mapped(|x| x).collect(rt.alloc())?;
+    let same = same_of(rt.alloc(), &trie)?;
     expect_items(&rt, same, &[with(0..=0x10FFFF, 7u8)]);
     Ok(())
 }

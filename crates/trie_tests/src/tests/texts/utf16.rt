@@ -1,7 +1,10 @@
 //! The value of each code point of 16-bit units.
 use super::support::{HIGH, SURROGATE, six_bits};
 use crate::tests::expect_items;
+use icu_trie::cptrie::CodePointTrie;
 use icu_trie_text::text::values_of_utf16;
+use std::alloc::AllocError;
+use std::process::Abort;
 use std::test::Fail;
 
 /// Units, and their code points with their values, as `U16_NEXT` of ICU goes over them: pairs joined,
@@ -26,12 +29,23 @@ static ROWS: [(&[u16], &[(u32, u8)]); 8] = [
     ),
 ];
 
+/// The units have these code points, each with its value.
+fn expect_points(
+    rt: &(impl Abort + AllocGlobal),
+    trie: &CodePointTrie<'_, u8>,
+    units: &[u16],
+    want: &[(u32, u8)],
+) -> Result<(), AllocError> {
+    let found = values_of_utf16(trie, units).collect(rt.alloc())?;
+    expect_items(rt, found, want);
+    Ok(())
+}
+
 #[test]
 fn code_points(rt: HostRuntime) -> Result<(), Fail> {
     let trie = six_bits(rt.alloc())?;
     for (units, want) in ROWS.iter() {
-        let found = values_of_utf16(&trie, units).collect(rt.alloc())?;
-        expect_items(&rt, found, want);
+        expect_points(&rt, &trie, units, want)?;
     }
     Ok(())
 }

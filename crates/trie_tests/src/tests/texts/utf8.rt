@@ -3,6 +3,7 @@ use super::support::{ERROR, HIGH, six_bits};
 use crate::tests::{expect_items, expect_same};
 use icu_trie::cptrie::CodePointTrie;
 use icu_trie_text::text::values_of_utf8;
+use std::alloc::AllocError;
 use std::process::Abort;
 use std::test::Fail;
 
@@ -83,12 +84,23 @@ static VALUES: [(&[u8], &[(char, u8)]); 5] = [
     ),
 ];
 
+/// The bytes have these characters, each with its value.
+fn expect_row(
+    rt: &(impl Abort + AllocGlobal),
+    trie: &CodePointTrie<'_, u8>,
+    bytes: &[u8],
+    want: &[(char, u8)],
+) -> Result<(), AllocError> {
+    let found = values_of_utf8(trie, bytes).collect(rt.alloc())?;
+    expect_items(rt, found, want);
+    Ok(())
+}
+
 #[test]
 fn values(rt: HostRuntime) -> Result<(), Fail> {
     let trie = six_bits(rt.alloc())?;
     for (bytes, want) in VALUES.iter() {
-        let found = values_of_utf8(&trie, bytes).collect(rt.alloc())?;
-        expect_items(&rt, found, want);
+        expect_row(&rt, &trie, bytes, want)?;
     }
     Ok(())
 }
