@@ -5,18 +5,17 @@ use std::alloc::Global;
 use std::test::Fail;
 use ucptrie_tables::diff::differences_text;
 use ucptrie_tables::read::read_table;
-use ucptrie_tables::table::{TableOptions, table_of_rows};
+use ucptrie_tables::table::{Table, TableOptions, table_of_rows};
 
-/// Where `SMALL_32` differs from rows over the default 1, with an error value.
-fn differences(alloc: Global, rows: &str, error: u32) -> Result<String, Fail> {
-    let icu = read_table(alloc, &SMALL_32)?;
+/// Where a table differs from rows over the default 1, with an error value.
+fn differences(alloc: Global, first: &Table, rows: &str, error: u32) -> Result<String, Fail> {
     let options = TableOptions {
         default: 1,
         error,
         ..SMALL
     };
-    let table = table_of_rows(alloc, rows.as_bytes(), options)?;
-    Ok(differences_text(alloc, &icu.trie, &table.trie)?)
+    let second = table_of_rows(alloc, rows.as_bytes(), options)?;
+    Ok(differences_text(alloc, &first.trie, &second.trie)?)
 }
 
 /// Rows beside those of `SMALL_32`, the error value, and what is printed.
@@ -31,8 +30,10 @@ const ROWS: [(&str, u32, &str); 2] = [
 
 #[test]
 fn rows_beside_a_trie_of_icu(rt: HostRuntime) -> Result<(), Fail> {
+    let icu = read_table(rt.alloc(), &SMALL_32)?;
     for (rows, error, want) in ROWS {
-        expect_text(&rt, differences(rt.alloc(), rows, error)?, want, rows);
+        let text = differences(rt.alloc(), &icu, rows, error)?;
+        expect_text(&rt, text, want, rows);
     }
     Ok(())
 }
