@@ -1,5 +1,5 @@
 """The kit's command rt as a module, for the scripts beside: it knows with which words the gate
-checks a crate, and which of what is built is still of the files as they are."""
+checks a crate, and what it keeps of the crates that it passed."""
 import importlib.machinery
 import importlib.util
 import os
@@ -7,7 +7,6 @@ import re
 import shutil
 import subprocess
 import sys
-import time
 
 
 def top():
@@ -43,40 +42,40 @@ def crates(rt):
     return {it.name: it for it in found}
 
 
-def sources(crate):
-    """All that a crate's program is made from: files, and the folders that they lie in."""
-    yield f"{top()}/crates.txt"
-    for it in [crate, *crate.below()]:
-        for part in ("src", "specs", "proofs"):
-            for folder, _, files in os.walk(f"{it.folder}/{part}"):
-                yield folder
-                yield from (f"{folder}/{file}" for file in files)
+def has_library(kept, crate):
+    """Whether the library is there, as rt proved it, or as `rt ci` keeps it: then it is put in place,
+    and rt told that it is proved."""
+    if not crate.is_built():
+        stamp = crate.stamp()
+        # What is there may be a second name of the file that is kept.
+        shutil.rmtree(f"{crate.folder}/out/rlib", ignore_errors=True)
+        if not kept.give(crate, False, kept.key(crate)):
+            return False
+        with open(f"{crate.folder}/out/rlib/stamp", "w", encoding="utf-8") as file:
+            file.write(stamp)
+    kept.is_built(crate)
+    return True
 
 
-def is_fresh(crate, program):
-    """Whether the program is built, and nothing that it is made from was changed since."""
-    if not os.path.exists(program):
+def take_passed(rt, crate, tests=False):
+    """Whether the kit's `rt ci` passed the crate, or its tests, with the files as they are, over
+    these libraries. What it keeps of them is then put in place, all by checksums, so that nothing
+    counts that a killed run left half written."""
+    if not keeps():
         return False
-    made = os.stat(program).st_mtime_ns
-    return all(os.stat(it).st_mtime_ns <= made for it in sources(crate))
+    below = sorted(crate.below(), key=lambda it: len(it.below()))
+    rt.Crate.allowed = rt.handles_of(top())
+    kept = rt.Kept([*below, crate])
+    if not all(has_library(kept, it) for it in below):
+        return False
+    if tests or crate.is_program:
+        return kept.give(crate, tests, kept.key(crate))
+    return crate.is_static or has_library(kept, crate)
 
 
-def proved(crate):
-    """Whether the library is there for the crates above it: as rt ci left it, or proved now."""
-    made = os.path.exists(crate.rlib) and os.stat(crate.rlib).st_mtime_ns
-    if made and all(os.stat(it).st_mtime_ns <= made for it in sources(crate)):
-        return True
-    return crate.build_rlib(["--jobs", "1"], anew=False) == 0
-
-
-def stamp(crate):
-    """Tells rt which of the libraries below are proved of the files as they are: `rt ci` leaves them
-    without a stamp, and so `rt lib` would prove them once more."""
-    for it in sorted(crate.below(), key=lambda it: len(it.below())):
-        if os.path.exists(it.rlib) and not it.is_built() and is_fresh(it, it.rlib):
-            if all(below.is_built() for below in it.below()):
-                with open(f"{it.folder}/out/rlib/stamp", "w", encoding="utf-8") as file:
-                    file.write(it.stamp())
+def proved(rt, crate):
+    """Whether the library is there for the crates above it: as rt ci passed it, or proved now."""
+    return take_passed(rt, crate) or crate.build_rlib(["--jobs", "1"], anew=False) == 0
 
 
 def output(crate):
@@ -86,15 +85,15 @@ def output(crate):
     return f"{crate.folder}/out/{crate.name}{'' if crate.is_program else '_tests'}"
 
 
-def built(crate):
+def built(rt, crate):
     """The path of the crate's program or static library, or of its tests where it is a library, or
-    None where it can't be built. What rt ci left is taken, and nothing is proved again; where it
-    isn't of the files as they are, it is proved and built."""
-    made = output(crate)
-    if is_fresh(crate, made):
+    None where it can't be built. What rt ci passed is taken, and what was built here of the files as
+    they are, by a mark with their checksums; else it is proved and built."""
+    made, stamp = output(crate), crate.stamp()
+    if rt.rtlib.text_of(f"{made}.mark") == stamp + rt.rtlib.sum_of(made):
         return made
-    begun = time.time_ns()
-    stamp(crate)
+    if take_passed(rt, crate, tests=not crate.is_program) and not crate.is_static:
+        return made
     words = ["rt", "lib" if crate.is_static else "run" if crate.is_program else "test"]
     ran = subprocess.run(
         words,
@@ -109,6 +108,7 @@ def built(crate):
     if not os.path.exists(made) or not done:
         print("\n".join(ran.stdout.split("\n")[-20:]), file=sys.stderr)
         return None
-    # A file that is edited while rt builds stays newer than the program.
-    os.utime(made, ns=(begun, begun))
+    # A file that was edited while rt built has another stamp.
+    with open(f"{made}.mark", "w", encoding="utf-8") as file:
+        file.write(stamp + rt.rtlib.sum_of(made))
     return made
