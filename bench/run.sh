@@ -22,18 +22,21 @@ trap 'exit 130' INT TERM
 
 # What the driver calls of this repository is the crate bench_ours, a static library.
 if [ -n "${OURS:-}" ]; then
-    ours=$OURS rust= libc=
+    ours=$OURS rust= libc= c= without=-DWITHOUT_C
 else
+    c=$root/c/out/libbekstaudi.a without=
     command -v rt >/dev/null || stop "no rt: put the kit's folder bin on PATH"
     libc=$(dirname -- "$(dirname -- "$(readlink -f -- "$(command -v rt)")")")/c/liblibc_c.a
     echo "bench: proves and builds; from a clean clone this takes some minutes" >&2
     ours=$("$root/tests/build" bench_ours) || stop "bench_ours is not proved and built"
+    "$root/c/build" || stop "the library for C is not built"
     rust=$work/libpeer.a
     rustc --edition 2024 -O -C target-cpu=x86-64-v2 -C panic=abort --crate-type staticlib \
         -o "$rust" "$here/peer/lib.rs"
 fi
 for file in "$here"/driver/*.cpp; do
-    g++ -std=c++17 -O3 -march=x86-64-v2 -c -o "$work/$(basename "$file" .cpp).o" "$file"
+    [ -z "$without" ] || [ "$(basename "$file")" != c_calls.cpp ] || continue
+    g++ -std=c++17 -O3 -march=x86-64-v2 $without -c -o "$work/$(basename "$file" .cpp).o" "$file"
 done
 if [ -n "${CODE:-}" ]; then
     mkdir -p "$CODE"
@@ -51,7 +54,7 @@ done
 for shift in 0 16 32 48; do
     printf '.section .note.GNU-stack,"",@progbits\n.text\n.p2align 6\n.fill %d\n' "$shift" |
         gcc -x assembler -c -o "$work/shift" -
-    g++ -o "$work/bench" "$work/shift" "$work"/*.o "$ours" $rust $libc -licuuc
+    g++ -o "$work/bench" "$work/shift" "$work"/*.o "$ours" $c $rust $libc -licuuc
     echo "bench: measures, our code $shift bytes past a multiple of 64" >&2
     "$work/bench" "$@" >"$work/measured.$shift"
 done

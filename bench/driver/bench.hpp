@@ -41,3 +41,5 @@ void frozen_sets();
 void set_blends();
 void unit_tries();
 void packed();
+// What C calls; not where the edition in Rust is measured, which has no such calls.
+void c_calls();

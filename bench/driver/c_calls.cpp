@@ -1,0 +1,157 @@
+// What C calls of this repository, beside ICU: look-ups in line, the values of a text at once, the
+// ranges of a trie, the set of a value, and a build into a buffer.
+#include "../../c/bekstaudi.h"
+#include "icu_trie.hpp"
+#include <algorithm>
+#include <unicode/uset.h>
+#include <unicode/utf8.h>
+
+using std::string;
+using std::vector;
+
+enum { POINTS = 4096, TURNS = 12, CHARACTERS = 4096, ROOM = 1 << 20 };
+
+// A trie that ICU built, in its binary form, and opened for C.
+struct Opened {
+    vector<uint32_t> bytes;
+    bks_trie trie;
+    explicit Opened(const UCPTrie *built) : bytes(ROOM / 4) {
+        UErrorCode error = U_ZERO_ERROR;
+        const int32_t size = ucptrie_toBinary(built, bytes.data(), ROOM, &error);
+        if (U_FAILURE(error) || bks_open(&trie, bytes.data(), size) != BKS_OK)
+            fail("a trie can't be opened for C");
+    }
+};
+
+#define ADDER(name, get)                                                                   \
+    template <class Trie>                                                                  \
+    __attribute__((noinline)) static uint64_t name(const Trie *trie, const uint32_t *points) { \
+        uint64_t sum = 0;                                                                  \
+        for (size_t i = 0; i < POINTS; i++) sum += get(trie, points[i]);                   \
+        return sum;                                                                        \
+    }
+#define ICU_GET(trie, c) UCPTRIE_FAST_GET(trie, UCPTRIE_8, (UChar32)(c))
+ADDER(ours_points, bks_get8)
+ADDER(icu_points, ICU_GET)
+
+template <class Turn> static uint64_t over_turns(const Turn &turn) {
+    uint64_t sum = 0;
+    for (int i = 0; i < TURNS; i++) sum += turn();
+    return sum;
+}
+
+static void points(const string &name, const Opened &ours, const UCPTrie *icu, uint32_t below) {
+    vector<uint32_t> all(POINTS);
+    for (uint32_t &c : all) c = random_number(below);
+    row(
+        "c_get_u8", name, double(POINTS) * TURNS,
+        [&] { return over_turns([&] { return ours_points(&ours.trie, all.data()); }); }, nullptr,
+        [&] { return over_turns([&] { return icu_points(icu, all.data()); }); });
+}
+
+static uint64_t sum_of(const vector<uint8_t> &values, size_t count) {
+    uint64_t sum = 0;
+    for (size_t i = 0; i < count; i++) sum += values[i];
+    return sum;
+}
+
+static uint64_t icu_values(const UCPTrie *trie, const string &text, vector<uint8_t> &values) {
+    const uint8_t *at = reinterpret_cast<const uint8_t *>(text.data()), *end = at + text.size();
+    size_t count = 0;
+    while (at < end) UCPTRIE_FAST_U8_NEXT(trie, UCPTRIE_8, at, end, values[count++]);
+    return sum_of(values, count);
+}
+
+static void text(const string &name, const Opened &ours, const UCPTrie *icu, const Text &one) {
+    vector<uint8_t> values(CHARACTERS + 4);
+    row(
+        "c_text_u8", name + "-" + one.name, CHARACTERS,
+        [&] {
+            return sum_of(values, bks_trie8_get_utf8(&ours.trie, one.bytes.data(),
+                                                     one.bytes.size(), values.data(), CHARACTERS));
+        },
+        nullptr, [&] { return icu_values(icu, one.bytes, values); });
+}
+
+static void ranges(const string &name, const Opened &ours, const UCPTrie *icu) {
+    uint32_t value, count = 0;
+    for (bks_range r = bks_trie_range(&ours.trie, 0); r.found; count++)
+        r = bks_trie_range(&ours.trie, r.last + 1);
+    row(
+        "c_ranges_u8", name, count,
+        [&] {
+            uint64_t sum = 0;
+            for (bks_range r = bks_trie_range(&ours.trie, 0); r.found;
+                 r = bks_trie_range(&ours.trie, r.last + 1))
+                sum = mixed(sum, r.last ^ r.value);
+            return sum;
+        },
+        nullptr,
+        [&] {
+            uint64_t sum = 0;
+            for (UChar32 c = 0, end; (end = ucptrie_getRange(icu, c, UCPMAP_RANGE_NORMAL, 0,
+                                                             nullptr, nullptr, &value)) >= 0;
+                 c = end + 1)
+                sum = mixed(sum, end ^ value);
+            return sum;
+        });
+}
+
+// The set of a value, by how many ends it has.
+static void set_of(const string &name, const Opened &ours, const UCPTrie *icu, uint32_t wanted) {
+    vector<uint32_t> ends(1 << 13);
+    row(
+        "c_setfor_u8", name + "-v" + std::to_string(wanted), 1,
+        [&] { return bks_trie_set(&ours.trie, wanted, ends.data(), ends.size()); }, nullptr,
+        [&] {
+            uint32_t value;
+            USet *set = uset_openEmpty();
+            for (UChar32 c = 0, end; (end = ucptrie_getRange(icu, c, UCPMAP_RANGE_NORMAL, 0,
+                                                             nullptr, nullptr, &value)) >= 0;
+                 c = end + 1)
+                if (value == wanted) uset_addRange(set, c, end);
+            const uint64_t count = 2 * uset_getRangeCount(set);
+            uset_close(set);
+            return count;
+        });
+}
+
+static void build(const Table &table, bool is_fast) {
+    vector<bks_row> rows;
+    for (const Row &it : table.rows) rows.push_back({it.start, it.end, it.value});
+    vector<uint32_t> bytes(ROOM / 4);
+    row(
+        "c_build_u8", name_of(table, is_fast), 1,
+        [&] {
+            const int64_t size = bks_trie_build(rows.data(), rows.size(), 0, ERROR_VALUE,
+                                                is_fast ? BKS_FAST : BKS_SMALL, 1, bytes.data(), ROOM);
+            return size < 0;
+        },
+        nullptr,
+        [&] {
+            UErrorCode error = U_ZERO_ERROR;
+            const IcuTrie trie = icu_trie(table, is_fast, UCPTRIE_VALUE_BITS_8);
+            return ucptrie_toBinary(trie.get(), bytes.data(), ROOM, &error) <= 0;
+        });
+}
+
+void c_calls() {
+    for (const Table &table : tables()) {
+        if (table.greatest > 0xFF) continue;
+        const IcuTrie icu = icu_trie(table, true, UCPTRIE_VALUE_BITS_8);
+        const Opened ours(icu.get());
+        const string name = name_of(table, true);
+        if (wanted("c_get_u8")) {
+            points(name + "-latin1", ours, icu.get(), 0x100);
+            points(name + "-bmp", ours, icu.get(), 0x10000);
+            points(name + "-all", ours, icu.get(), 0x110000);
+        }
+        if (wanted("c_text_u8"))
+            for (const Text &one : texts(CHARACTERS)) text(name, ours, icu.get(), one);
+        if (wanted("c_ranges_u8")) ranges(name, ours, icu.get());
+        if (wanted("c_setfor_u8"))
+            for (uint32_t value : {1u, 3u, 8u}) set_of(name, ours, icu.get(), value);
+        if (wanted("c_build_u8"))
+            for (bool is_fast : {true, false}) build(table, is_fast);
+    }
+}
