@@ -268,30 +268,44 @@ static inline size_t bks_fast_place(const bks_trie *trie, uint32_t c) {
     return (size_t)block + (c & 63);
 }
 
-/* bks_trie8_get in line: two reads below the fast limit, and the call elsewhere. */
+/* Whether c is a code point from the high start on. In a trie that is open all of these have one
+ * value, that of the last cell but one, and there are 64 cells and more. */
+static inline bool bks_is_high(const bks_trie *trie, uint32_t c) {
+    return c >= trie->high_start && c <= 0x10FFFF && trie->fast_limit != 0;
+}
+
+/* bks_trie8_get in line: two reads below the fast limit, one from the high start on, and the call
+ * elsewhere. */
 static inline uint8_t bks_get8(const bks_trie *trie, uint32_t c) {
     if (c < trie->fast_limit) return trie->values[bks_fast_place(trie, c)];
+    if (bks_is_high(trie, c)) return trie->values[trie->values_size - 2];
     return bks_trie8_get(trie, c);
 }
 
 /* bks_trie16_get in line. */
 static inline uint16_t bks_get16(const bks_trie *trie, uint32_t c) {
+    uint16_t value;
     if (c < trie->fast_limit) {
-        uint16_t value;
         memcpy(&value, trie->values + sizeof value * bks_fast_place(trie, c), sizeof value);
-        return value;
+    } else if (bks_is_high(trie, c)) {
+        memcpy(&value, trie->values + trie->values_size - 2 * sizeof value, sizeof value);
+    } else {
+        value = bks_trie16_get(trie, c);
     }
-    return bks_trie16_get(trie, c);
+    return value;
 }
 
 /* bks_trie32_get in line. */
 static inline uint32_t bks_get32(const bks_trie *trie, uint32_t c) {
+    uint32_t value;
     if (c < trie->fast_limit) {
-        uint32_t value;
         memcpy(&value, trie->values + sizeof value * bks_fast_place(trie, c), sizeof value);
-        return value;
+    } else if (bks_is_high(trie, c)) {
+        memcpy(&value, trie->values + trie->values_size - 2 * sizeof value, sizeof value);
+    } else {
+        value = bks_trie32_get(trie, c);
     }
-    return bks_trie32_get(trie, c);
+    return value;
 }
 
 #ifdef __cplusplus
