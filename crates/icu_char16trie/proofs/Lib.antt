@@ -10,6 +10,7 @@ pub mod SpellingLemmas
 pub mod OpeningLemmas
 pub mod NextLemmas
 pub mod OneMap
+pub mod SoundnessLemmas
 pub mod Runs
 pub mod PassedLemmas
 pub mod FrontLemmas

@@ -169,7 +169,7 @@ no_cons h = cc
 abbrev HasArm : List (ℕ × ℕ) → Type 0
 HasArm arms = (a : ℕ × ℕ) × (rest : List (ℕ × ℕ)) × (arms ≡ a ∷ rest)
 
-part_has : (units : List ℕ) {p n : ℕ} {arms : List (ℕ × ℕ)} → Part units p n arms → HasArm arms
+pub part_has : (units : List ℕ) {p n : ℕ} {arms : List (ℕ × ℕ)} → Part units p n arms → HasArm arms
 part_has units (last p n u arms e g a) = ((u, p + 1), [], a)
 part_has units (entry p n u v child rest arms many le5 g g' c r a) = ((u, child), rest, a)
 part_has units (split p n s d low lower upper arms many g g' c l r b f a) =

@@ -11,7 +11,7 @@ use Rattle.icu_char16trie.proofs.EntryLemmas.{children_cons, children_nil}
 
 -- ---- one map
 
-part_one : (units : List ℕ) {p n : ℕ} {arms arms' : List (ℕ × ℕ)} → Part units p n arms → Part units p n arms' → arms ≡ arms'
+pub part_one : (units : List ℕ) {p n : ℕ} {arms arms' : List (ℕ × ℕ)} → Part units p n arms → Part units p n arms' → arms ≡ arms'
 part_one units (last p n u arms few g a) y = a ∙ sym (last_is units y (omega arith) u g)
 part_one units (entry p n u v child rest arms many few g g' c r a) y =
     let e = entry_found units y many few u v g g' in
@@ -78,7 +78,7 @@ append_begins : (s : ℕ) (m n : List (List ℕ × ℤ)) → AllBeginFrom s m �
 append_begins s [] n b c = c
 append_begins s (e ∷ m) n b c = (b.0, append_begins s m n b.1 c)
 
-from_more : (s t : ℕ) (arms : List (ℕ × ℕ)) → s ≤ t → UnitsFrom t arms → UnitsFrom s arms
+pub from_more : (s t : ℕ) (arms : List (ℕ × ℕ)) → s ≤ t → UnitsFrom t arms → UnitsFrom s arms
 from_more s t [] h f = tt
 from_more s t (a ∷ arms) h f = (omega (arith, f.0), from_more s t arms h f.1)
 
@@ -88,7 +88,7 @@ children_begin units (more u q rest arms m others all a h c e) s f =
     let f' : (s ≤ u) × UnitsFrom s rest = rw a at f in
     rw e (append_begins s (under (u ∷ []) m) others (under_begins u [] m s f'.0) (children_begin units c s f'.1))
 
-any_from : (arms : List (ℕ × ℕ)) → UnitsFrom 0 arms
+pub any_from : (arms : List (ℕ × ℕ)) → UnitsFrom 0 arms
 any_from [] = tt
 any_from (a ∷ arms) = (omega arith, any_from arms)
 

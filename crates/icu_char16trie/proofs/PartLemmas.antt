@@ -73,6 +73,8 @@ pub record IsSplit (units : List ℕ) (p n s d : ℕ) (arms : List (ℕ × ℕ))
   pub is : arms ≡ lower ++ upper
   pub below : Part units low (n / 2) lower
   pub above : Part units (delta_end (p + 2) d) (n - n / 2) upper
+  pub left_of_split : UnitsBelow s lower
+  pub right_of_split : UnitsFrom s upper
   pub in_lower : (w : ℕ) → w < s → arm_of arms w ≡ arm_of lower w
   pub in_upper : (w : ℕ) → s ≤ w → arm_of arms w ≡ arm_of upper w
 
@@ -91,6 +93,8 @@ split_found units (split p n s' d' low lower upper arms more g g' c l r b f a) _
       is = a;
       below = l;
       above = rw (← sd) r;
+      left_of_split = rw (← ss) b;
+      right_of_split = rw (← ss) f;
       in_lower = λ w lt. ap (λ z. arm_of z w) a ∙ arm_append lower upper w (arm_from upper s' w f (rw ss lt));
       in_upper = λ w le. ap (λ z. arm_of z w) a ∙ arm_below lower upper s' w b (rw ss le);
     }

@@ -3,3 +3,4 @@ pub mod Cuts
 pub mod Fronts
 pub mod Going
 pub mod Opening
+pub mod Soundness

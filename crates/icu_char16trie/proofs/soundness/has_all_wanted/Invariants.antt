@@ -1,0 +1,8 @@
+use Rattle.icu_zerovec.specs.Slice.{slice_values}
+use Rattle.std.proofs.Common.{◌↔◌}
+use Rattle.icu_char16trie.specs.Inside.Soundness.{AllWantedHave}
+use Rattle.icu_char16trie.proofs.soundness.has_all_wanted.Given as goal
+
+-- nodes stand where they were wanted at first exactly if they stand where they are wanted from here
+abbrev pub invariant-loop-place : goal.invariant-loop-place
+invariant-loop-place l = AllWantedHave (slice_values l.units) l.wanted l.place ↔ AllWantedHave (slice_values l.units) l.fn.wanted 0
