@@ -4,6 +4,7 @@ mod cursors;
 mod dictionaries;
 mod json;
 mod refused_memory;
+mod soundness;
 mod support;
 mod worked_tries;
 mod written;

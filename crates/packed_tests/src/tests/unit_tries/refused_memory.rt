@@ -84,6 +84,28 @@ fn iter2_of_surrogates_refused(rt: HostRuntime) {
     ask_entries(&rt, &[0x30, 0xD83D, 0xB0, 0xDE00, 0x8006]);
 }
 
+/// The units are a trie, or memory was refused.
+fn expect_told(rt: &(impl Abort + Print), told: Result<bool, MemoryError>) {
+    match told {
+        Ok(told) => expect(rt, told, "a trie"),
+        Err(error) => say_refused(rt, error),
+    }
+}
+
+/// Calls: `Char16Trie::is_trie`.
+#[test]
+fn is_trie_refused(rt: HostRuntime) {
+    let Ok(trie) = trie_of(rt.alloc(), &SIX) else {
+        return;
+    };
+    say(&rt, "call");
+    let told = trie.is_trie(rt.alloc());
+    say(&rt, "done");
+    expect_told(&rt, told);
+    let result = last_result(&trie, "a");
+    expect_same(&rt, result, TrieResult::FinalValue(1), "the trie itself");
+}
+
 /// A JSON value has the key of the units, or memory was refused.
 fn expect_json(rt: &(impl Abort + Print), written: Result<Value, MemoryError>) {
     match written {

@@ -1,0 +1,128 @@
+//! Which units are a trie, by the format's description.
+use super::support::{SIX, trie_of};
+use crate::tests::support::expect_same;
+use icu_zerovec::MemoryError;
+use std::alloc::Global;
+use std::process::Abort;
+use std::test::Fail;
+
+/// Whether these units are a trie.
+fn told_of(alloc: Global, units: &[u16]) -> Result<bool, MemoryError> {
+    let trie = trie_of(alloc, units)?;
+    trie.is_trie(alloc)
+}
+
+/// The units of each row are a trie, or those of none are.
+fn expect_all(
+    rt: &(impl Abort + AllocGlobal),
+    rows: &[&'static [u16]],
+    want: bool,
+) -> Result<(), MemoryError> {
+    for units in rows.iter() {
+        let told = told_of(rt.alloc(), units)?;
+        expect_same(rt, (*units, told), (*units, want), "a trie");
+    }
+    Ok(())
+}
+
+static TRIES: [&[u16]; 14] = [
+    &[],
+    &[0x8007],
+    &[0xC000, 0x0001],
+    &[0xFFFF, 0xFFFF, 0xFFFE],
+    // A linear match, and one after an intermediate value.
+    &[0x31, 0x61, 0x62, 0x8003],
+    &[0x30, 0x61, 0xB0, 0x62, 0x8002],
+    // An intermediate value of three units.
+    &[0x30, 0x61, 0x7FF0, 0xFFFF, 0xFFFF, 0x62, 0x8002],
+    // Branches: with a jump, of the greatest unit, and of six entries, which is split.
+    &[1, 0x61, 2, 0x62, 0x8002, 0x8001],
+    &[1, 0, 0x8001, 0xFFFF, 0x8002],
+    &SIX,
+    // The length of a branch in a unit of its own.
+    &[0, 1, 0x61, 0x8001, 0x62, 0x8002],
+    // Two entries that lead to one node.
+    &[1, 0x61, 1, 0x62, 0x8001],
+    // A split unit below the first of the upper entries, and what no node leads to.
+    &[
+        5, 0x64, 6, 0x65, 0x8004, 0x66, 0x8005, 0x67, 0x8006, 0x61, 0x8001, 0x62, 0x8002, 0x63,
+        0x8003,
+    ],
+    &[0x8007, 0x30],
+];
+
+static BROKEN: [&[u16]; 17] = [
+    // A linear match or a branch that is cut, or behind which nothing stands.
+    &[0],
+    &[0x30],
+    &[0x30, 0x61],
+    &[0x31, 0x61, 0x62],
+    &[5, 0x61],
+    &[1, 0x61, 0x8001, 0x62],
+    &[1, 0x61, 0x8001],
+    // A value that is cut: a final one of two and of three units, and an intermediate one.
+    &[0xC000],
+    &[0xFFFF, 0x1],
+    &[0x7FC0, 0x1],
+    // A jump past the end.
+    &[1, 0x61, 3, 0x62, 0x8002, 0x8001],
+    // Equal units, and descending ones.
+    &[1, 0x61, 0x8001, 0x61, 0x8002],
+    &[1, 0x62, 0x8001, 0x61, 0x8002],
+    // A branch of one entry.
+    &[0, 0, 0x61, 0x8001],
+    // A unit of the lower entries that is not below the split unit, and one of the upper ones that
+    // is.
+    &[
+        5, 0x63, 6, 0x64, 0x8004, 0x65, 0x8005, 0x66, 0x8006, 0x61, 0x8001, 0x62, 0x8002, 0x63,
+        0x8003,
+    ],
+    &[
+        5, 0x65, 6, 0x64, 0x8004, 0x65, 0x8005, 0x66, 0x8006, 0x61, 0x8001, 0x62, 0x8002, 0x63,
+        0x8003,
+    ],
+    // The delta of a split past the end.
+    &[
+        5, 0x64, 0xFBFF, 0x64, 0x8004, 0x65, 0x8005, 0x66, 0x8006, 0x61, 0x8001, 0x62, 0x8002,
+        0x63, 0x8003,
+    ],
+];
+
+#[test]
+fn units_that_are_a_trie(rt: HostRuntime) -> Result<(), Fail> {
+    expect_all(&rt, &TRIES, true)?;
+    Ok(())
+}
+
+#[test]
+fn units_that_are_none(rt: HostRuntime) -> Result<(), Fail> {
+    expect_all(&rt, &BROKEN, false)?;
+    Ok(())
+}
+
+/// So many branches one after another, whose two entries lead to the next one, and these units
+/// behind them.
+fn branches(alloc: Global, count: usize, behind: &[u16]) -> Result<Vec<u16>, MemoryError> {
+    let mut units = Vec::new(alloc);
+    for _ in 0..count {
+        units.extend_from_slice(&[1, 0x61, 1, 0x62])?;
+    }
+    units.extend_from_slice(behind)?;
+    Ok(units)
+}
+
+/// Whether so many branches with these units behind them are a trie.
+fn told_of_branches(alloc: Global, count: usize, behind: &[u16]) -> Result<bool, MemoryError> {
+    let units = branches(alloc, count, behind)?;
+    told_of(alloc, units.as_slice())
+}
+
+/// Branches over which a list of the entries would take 2^40 steps.
+#[test]
+fn branches_that_share_nodes(rt: HostRuntime) -> Result<(), Fail> {
+    let told = told_of_branches(rt.alloc(), 40, &[])?;
+    expect_same(&rt, told, false, "with no node behind them");
+    let told = told_of_branches(rt.alloc(), 40, &[0x8001])?;
+    expect_same(&rt, told, true, "with a value behind them");
+    Ok(())
+}
