@@ -11,6 +11,7 @@ pub mod OpeningLemmas
 pub mod NextLemmas
 pub mod OneMap
 pub mod SoundnessLemmas
+pub mod CountLemmas
 pub mod Runs
 pub mod PassedLemmas
 pub mod FrontLemmas

@@ -1,14 +1,15 @@
 -- Which nodes of units have to be there.
-use Rattle.std.proofs.Common.{◌≡◌, ℕ, zero, suc, ◌+◌, ◌-◌, ◌/◌, ◌%◌, ◌<◌, ◌≤◌, Bool, true, false, nat_eq, List, [], ◌∷◌, ◌++◌, Option, Some, None, length, get_or, set, slice_get, take, drop, refl, sym, ap, subst, ◌∙◌, arith, ◌⊎◌, inl, inr, length-set}
+use Rattle.std.proofs.Common.{◌≡◌, ℕ, zero, suc, ◌+◌, ◌-◌, ◌/◌, ◌%◌, ◌<◌, ◌≤◌, Bool, true, false, nat_eq, List, [], ◌∷◌, ◌++◌, Option, Some, None, length, get_or, replicate, set, slice_get, take, drop, refl, sym, ap, subst, ◌∙◌, arith, ◌⊎◌, inl, inr, length-set}
 use Rattle.std.specs.Int.{cast_signed, w32}
 use Rattle.std.specs.Option.{is_some}
 use Rattle.std.specs.Prelude.{MatchOption}
 use Rattle.std.proofs.lemmas.Option.{same_Some, slice_get_past}
-use Rattle.std.proofs.lemmas.Bool.{eq-eqb, eqb-false, eqb-true, ne_eqb}
+use Rattle.std.proofs.lemmas.Bool.{eq-eqb, eqb-false, eqb-true, false≢true, ne_eqb}
 use Rattle.icu_char16trie.specs.Numbers.{entry_child, short_end, lower_part, delta_end, short_number, node_number, node_end}
 use Rattle.icu_char16trie.specs.Grammar.{Arms, Part, last, entry, split, UnitsBelow, UnitsFrom, IsAscending, branch_len, branch_start, final, plain, valued, Matches, run, branch, Children, none, more}
 use Rattle.icu_char16trie.specs.UnitMap.{UnitMap, under}
-use Rattle.icu_char16trie.specs.Inside.Soundness.{HasMap, HasMatch, AllHaveMaps, AllBetween, places_of, IsWanted, want_all, AllWantedHave, PartWalked, IsNoPart, RestsOnWanted}
+use Rattle.icu_char16trie.specs.Inside.Soundness.{HasMap, HasMatch, AllHaveMaps, AllBetween, places_of, IsOneWanted, IsWanted, want_all, AllWantedHave, PartWalked, IsNoPart, RestsOnWanted}
+use Rattle.icu_char16trie.specs.Inside.Counts.{MatchKids, after_run, of_arms, NodeKids, no_kids, of_plain, of_valued, NodeLeadsTo, AllWanted, LeadsToWanted, IsClosed}
 use Rattle.icu_char16trie.proofs.PartLemmas.{last_is, entry_found, split_found, part_begins, part_goes_on}
 use Rattle.icu_char16trie.proofs.NodeLemmas.{matches_run, matches_branch, holds_final, holds_plain, holds_valued, holds_within}
 use Rattle.icu_char16trie.proofs.OneMap.{any_from, from_more, part_one}
@@ -48,7 +49,7 @@ ascending_upper : (lower upper : Arms) → IsAscending (lower ++ upper) → IsAs
 ascending_upper [] upper a = a
 ascending_upper (x ∷ lower) upper a = ascending_upper lower upper a.1
 
-places_append : (lower upper : Arms) → places_of (lower ++ upper) ≡ places_of lower ++ places_of upper
+pub places_append : (lower upper : Arms) → places_of (lower ++ upper) ≡ places_of lower ++ places_of upper
 places_append [] upper = refl
 places_append (a ∷ lower) upper = ap (λ z. a.1 ∷ z) (places_append lower upper)
 
@@ -281,9 +282,10 @@ no_side units p n s d low from mid old new many g g' c w lt arms part up f have 
 -- ---- a match node and a node
 
 pub run_rests : (units : List ℕ) (p low q : ℕ) (old : List Bool) → 0x30 ≤ low → low < 0x40 → q ≡ p + (low - 0x2f) → q < length units
-    → RestsOnWanted units p (HasMatch units p low) old (set old q true)
+    → RestsOnWanted units p (HasMatch units p low) (MatchKids units p low) old (set old q true)
 run_rests units p low q old big small e within = record {
   places = q ∷ [];
+  leads = after_run p low (q ∷ []) big (ap (λ z. z ∷ []) e);
   ahead = (omega (arith, e), within, tt);
   wanted = refl;
   makes = λ h. (under (take (low - 0x2f) (drop p units)) h.0.0, run p low _ h.0.0 big small (omega (arith, e)) (rw e at h.0.1) refl);
@@ -295,9 +297,10 @@ no_run units p low q big e past h =
     let r = matches_run units h.1 big in nothing_past units q past (r.rest, rw e r.node)
 
 pub branch_rests : (units : List ℕ) (p low n start next : ℕ) (old new : List Bool) → low < 0x30 → branch_len units p low ≡ Some n → 1 ≤ n → start ≡ branch_start p low → p ≤ start
-    → PartWalked units start (n + 1) 0 next old new → RestsOnWanted units p (HasMatch units p low) old new
+    → PartWalked units start (n + 1) 0 next old new → RestsOnWanted units p (HasMatch units p low) (MatchKids units p low) old new
 branch_rests units p low n start next old new small len some e on w = record {
   places = places_of w.arms;
+  leads = of_arms p low n w.arms (places_of w.arms) small len (rw e at w.part) refl;
   ahead = between_more p start (length units) (places_of w.arms) on w.ahead;
   wanted = w.wanted;
   makes = λ h. let c = have_children units w.arms h in (c.0, branch p low n w.arms c.0 small len some (rw e at w.part) w.ascending c.1);
@@ -340,9 +343,10 @@ no_entries units p low n small len less h = by h.1
     by (branch p low n' arms m small' len' some part up c) = omega (arith, same_Some n n' (sym len ∙ len'))
 
 pub final_rests : (units : List ℕ) (p lead n : ℕ) (old : List Bool) → slice_get units p ≡ Some lead → 0x8000 ≤ lead → short_number units (p + 1) (lead - 0x8000) ≡ Some n
-    → RestsOnWanted units p (HasMap units p) old old
+    → RestsOnWanted units p (HasMap units p) (NodeLeadsTo units p) old old
 final_rests units p lead n old g big s = record {
   places = [];
+  leads = (1, no_kids p lead 1 [] g big refl refl);
   ahead = tt;
   wanted = refl;
   makes = λ h. (([], cast_signed w32 n) ∷ [], final p lead n _ g big s refl);
@@ -356,9 +360,10 @@ pub no_lead : (units : List ℕ) (p : ℕ) → slice_get units p ≡ None → Ha
 no_lead units p g h = holds_within units h.1 g
 
 pub plain_rests : (units : List ℕ) (p lead : ℕ) (old new : List Bool) → slice_get units p ≡ Some lead → lead < 0x40
-    → RestsOnWanted units (p + 1) (HasMatch units (p + 1) lead) old new → RestsOnWanted units p (HasMap units p) old new
+    → RestsOnWanted units (p + 1) (HasMatch units (p + 1) lead) (MatchKids units (p + 1) lead) old new → RestsOnWanted units p (HasMap units p) (NodeLeadsTo units p) old new
 plain_rests units p lead old new g small r = record {
   places = r.places;
+  leads = (0, of_plain p lead 0 r.places g small refl r.leads);
   ahead = between_more p (p + 1) (length units) r.places (omega arith) r.ahead;
   wanted = r.wanted;
   makes = λ h. let m = r.makes h in (m.0, plain p lead m.0 g small m.1);
@@ -369,9 +374,10 @@ pub no_plain : (units : List ℕ) (p lead : ℕ) → slice_get units p ≡ Some 
 no_plain units p lead g small never h = never (h.0, holds_plain units h.1 lead g small)
 
 pub valued_rests : (units : List ℕ) (p lead n q : ℕ) (old new : List Bool) → slice_get units p ≡ Some lead → 0x40 ≤ lead → lead < 0x8000 → node_number units (p + 1) lead ≡ Some n
-    → q ≡ node_end (p + 1) lead → p ≤ q → RestsOnWanted units q (HasMatch units q (lead % 64)) old new → RestsOnWanted units p (HasMap units p) old new
+    → q ≡ node_end (p + 1) lead → p ≤ q → RestsOnWanted units q (HasMatch units q (lead % 64)) (MatchKids units q (lead % 64)) old new → RestsOnWanted units p (HasMap units p) (NodeLeadsTo units p) old new
 valued_rests units p lead n q old new g big small s e on r = record {
   places = r.places;
+  leads = (1, of_valued p lead 1 r.places g big small refl (rw e at r.leads));
   ahead = between_more p q (length units) r.places on r.ahead;
   wanted = r.wanted;
   makes = λ h. let m = r.makes h in (([], cast_signed w32 n) ∷ m.0, valued p lead n _ m.0 g big small s (rw e at m.1) refl);
@@ -387,7 +393,7 @@ no_valued units p lead q g big small e never h = let v = holds_valued units h.1 
 
 -- ---- all places
 
-pub back_sound : (units : List ℕ) (p : ℕ) (old new : List Bool) → length units ≡ length old → RestsOnWanted units p (HasMap units p) old new
+pub back_sound : (units : List ℕ) (p : ℕ) (old new : List Bool) → length units ≡ length old → RestsOnWanted units p (HasMap units p) (NodeLeadsTo units p) old new
     → AllWantedHave units new (p + 1) → AllWantedHave units old p
 back_sound units p old new len r all q le w = by (nat_eq q p) refl
   where
@@ -395,7 +401,7 @@ back_sound units p old new len r all q le w = by (nat_eq q p) refl
     by true e = subst (HasMap units) (sym (eqb-true q p e)) (r.makes (want_made units r.places old p (length units) len r.ahead (rw r.wanted at all)))
     by false e = all q (omega (arith, eqb-false q p e)) (rw r.wanted (want_keeps r.places old q w))
 
-pub forth_sound : (units : List ℕ) (p : ℕ) (old new : List Bool) → IsWanted old p → RestsOnWanted units p (HasMap units p) old new
+pub forth_sound : (units : List ℕ) (p : ℕ) (old new : List Bool) → IsWanted old p → RestsOnWanted units p (HasMap units p) (NodeLeadsTo units p) old new
     → AllWantedHave units old p → AllWantedHave units new (p + 1)
 forth_sound units p old new here r all q le w =
     want_only units r.places old q (r.gives (all p (omega arith) here)) (all q (omega arith)) (rw r.wanted at w)
@@ -412,3 +418,66 @@ forth_unwanted units p wanted all q le w = all q (omega arith) w
 
 pub all_past : (units : List ℕ) (wanted : List Bool) (p : ℕ) → length wanted ≤ p → AllWantedHave units wanted p
 all_past units wanted p past q le w = absurd (omega (arith, wanted_within wanted q w))
+
+-- ---- what the nodes lead to is wanted
+
+want_back : (places : List ℕ) (wanted : List Bool) (q p n : ℕ) → q ≤ p → AllBetween p n places → IsWanted (want_all places wanted) q → IsWanted wanted q
+want_back [] wanted q p n le b w = w
+want_back (r ∷ places) wanted q p n le b w =
+    elim (set_only wanted r q (want_back places (set wanted r true) q p n le b.2 w)) [ inl e ↦ absurd (omega (arith, b.0, e)) | inr k ↦ k ]
+
+all_wanted : (places : List ℕ) (wanted : List Bool) (p n : ℕ) → n ≡ length wanted → AllBetween p n places → AllWanted (want_all places wanted) places
+all_wanted [] wanted p n e b = tt
+all_wanted (q ∷ places) wanted p n e b = (
+  want_keeps places (set wanted q true) q (set_here wanted q (omega (arith, b.1))),
+  all_wanted places (set wanted q true) p n (e ∙ sym (length-set wanted q true)) b.2,
+)
+
+keeps_all : (kids places : List ℕ) (wanted : List Bool) → AllWanted wanted kids → AllWanted (want_all places wanted) kids
+keeps_all [] places wanted a = tt
+keeps_all (q ∷ kids) places wanted a = (want_keeps places wanted q a.0, keeps_all kids places wanted a.1)
+
+pub closed_next : (units : List ℕ) (p : ℕ) (old new : List Bool) → length units ≡ length old → RestsOnWanted units p (HasMap units p) (NodeLeadsTo units p) old new
+    → IsClosed units old p → IsClosed units new (p + 1)
+closed_next units p old new len r closed q lt w = by (nat_eq q p) refl
+  where
+    by : (b : Bool) → nat_eq q p ≡ b → LeadsToWanted units new q
+    by true e = subst (LeadsToWanted units new) (sym (eqb-true q p e)) (record {
+      own = r.leads.0;
+      kids = r.places;
+      node = r.leads.1;
+      ahead = r.ahead;
+      all = rw r.wanted (all_wanted r.places old p (length units) len r.ahead);
+    })
+    by false e =
+        let w' : IsWanted old q = want_back r.places old q p (length units) (omega arith) r.ahead (rw r.wanted at w) in
+        let l = closed q (omega (arith, eqb-false q p e)) w' in
+        record { own = l.own; kids = l.kids; node = l.node; ahead = l.ahead; all = rw r.wanted (keeps_all l.kids r.places old l.all) }
+
+pub closed_unwanted : (units : List ℕ) (p : ℕ) (wanted : List Bool) → get_or wanted p false ≡ false → IsClosed units wanted p → IsClosed units wanted (p + 1)
+closed_unwanted units p wanted never closed q lt w = by (nat_eq q p) refl
+  where
+    by : (b : Bool) → nat_eq q p ≡ b → LeadsToWanted units wanted q
+    by true e = let same : q ≡ p = eqb-true q p e in let w' : get_or wanted p false ≡ true = rw same at w in absurd (false≢true (sym never ∙ w'))
+    by false e = closed q (omega (arith, eqb-false q p e)) w
+
+pub kept_wanted : (units : List ℕ) (p : ℕ) (old new : List Bool) → RestsOnWanted units p (HasMap units p) (NodeLeadsTo units p) old new
+    → (q : ℕ) → IsWanted old q → IsWanted new q
+kept_wanted units p old new r q w = rw r.wanted (want_keeps r.places old q w)
+
+-- where the root alone is wanted, its node is all that is asked
+pub root_asked : (units : List ℕ) (wanted : List Bool) → IsOneWanted wanted → (HasMap units 0 → AllWantedHave units wanted 0) × (AllWantedHave units wanted 0 → HasMap units 0)
+root_asked units wanted one = (λ has q le w. subst (HasMap units) (sym (one.1 q w)) has, λ all. all 0 (omega arith) one.0)
+
+none_wanted : (k q : ℕ) → IsWanted (replicate k false) q → ⊥
+none_wanted zero q w = false≢true w
+none_wanted (suc k) zero w = false≢true w
+none_wanted (suc k) (suc q) w = none_wanted k q w
+
+only_root : (n q : ℕ) → IsWanted (true ∷ replicate n false) q → q ≡ 0
+only_root n zero w = refl
+only_root n (suc q) w = absurd (none_wanted n q w)
+
+pub one_wanted : (n : ℕ) → 0 < n → IsOneWanted (set (replicate n false) 0 true)
+one_wanted zero h = absurd (omega arith)
+one_wanted (suc n) h = (refl, only_root n)

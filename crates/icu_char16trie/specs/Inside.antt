@@ -4,3 +4,4 @@ pub mod Fronts
 pub mod Going
 pub mod Opening
 pub mod Soundness
+pub mod Counts

@@ -30,6 +30,7 @@
 
 mod branch;
 pub mod char16trie;
+mod counted;
 mod cursor;
 mod dictionary;
 mod encoded;

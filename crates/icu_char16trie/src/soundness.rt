@@ -3,10 +3,11 @@
 //! Each node stands before those that it leads to, so that one pass over the units is enough: a
 //! node that is found sound marks the places where it wants others.
 ghost use Rattle.icu_zerovec.specs.Slice.{slice_values};
-ghost use Rattle.std.specs.Prelude.{◌≡◌, ◌↔◌, ◌^◌, ◌<◌, ◌≤◌, length, slice_set, MatchOption, IfOk, IsTrue, true};
+ghost use Rattle.std.specs.Prelude.{◌≡◌, ℕ, ◌↔◌, ◌^◌, ◌<◌, ◌≤◌, length, slice_set, MatchOption, IfOk, IsTrue, true};
 ghost use Rattle.icu_char16trie.specs.Grammar.{IsTrieOf};
 ghost use Rattle.icu_char16trie.specs.UnitMap.{UnitMap};
-ghost use Rattle.icu_char16trie.specs.Inside.Soundness.{HasMap, HasMatch, AllWantedHave, PartWalked, IsNoPart, RestsOnWanted};
+ghost use Rattle.icu_char16trie.specs.Inside.Counts.{IsClosed, MatchKids, NodeLeadsTo};
+ghost use Rattle.icu_char16trie.specs.Inside.Soundness.{HasMap, HasMatch, AllWantedHave, IsWanted, PartWalked, IsNoPart, RestsOnWanted};
 
 use crate::encoded::{
     delta_end, entry_child, lower_part, node_end, node_number, short_end, short_number, two_at,
@@ -102,7 +103,8 @@ fn check_match(units: ZeroSlice<'_, u16>, wanted: &mut [bool], place: usize, low
     requires wanted { length wanted.old ≡ length (slice_values units) }
     ensures { let all = slice_values units.entry in
         MatchOption result (HasMatch all place low → ⊥)
-        (λ _. RestsOnWanted all place (HasMatch all place low) wanted.old wanted.new) }
+        (λ _. RestsOnWanted all place (HasMatch all place low) (MatchKids all place low)
+        wanted.old wanted.new) }
 {
     if low >= 0x30 {
         return want(wanted, place + (usize::from(low) - 0x2f));
@@ -124,7 +126,8 @@ fn check_node(units: ZeroSlice<'_, u16>, wanted: &mut [bool], place: usize) -> O
     requires wanted { length wanted.old ≡ length (slice_values units) }
     ensures { let all = slice_values units.entry in
         MatchOption result (HasMap all place → ⊥)
-        (λ _. RestsOnWanted all place (HasMap all place) wanted.old wanted.new) }
+        (λ _. RestsOnWanted all place (HasMap all place) (NodeLeadsTo all place)
+        wanted.old wanted.new) }
 {
     let lead = unit_at(units, place)?;
     if lead >= 0x8000 {
@@ -140,9 +143,12 @@ fn check_node(units: ZeroSlice<'_, u16>, wanted: &mut [bool], place: usize) -> O
 }
 
 /// Whether a node stands at each place where one is wanted.
-fn has_all_wanted(units: ZeroSlice<'_, u16>, wanted: &mut [bool]) -> bool
+pub(crate) fn has_all_wanted(units: ZeroSlice<'_, u16>, wanted: &mut [bool]) -> bool
     requires { length wanted.old ≡ length (slice_values units) }
-    ensures { IsTrue result ↔ AllWantedHave (slice_values units.entry) wanted.old 0 }
+    ensures told { IsTrue result ↔ AllWantedHave (slice_values units.entry) wanted.old 0 }
+    ensures closed { IsTrue result
+        → IsClosed (slice_values units.entry) wanted.new (length (slice_values units.entry)) }
+    ensures kept { IsTrue result → (q : ℕ) → IsWanted wanted.old q → IsWanted wanted.new q }
 {
     for place in 0..units.len() {
         if wanted[place] && check_node(units, wanted, place).is_none() {

@@ -30,6 +30,10 @@ places_of (a ∷ arms) = a.1 ∷ places_of arms
 abbrev pub IsWanted : List Bool → ℕ → Type 0
 IsWanted wanted q = slice_index_or wanted q false ≡ true
 
+-- a node is wanted at the root, and nowhere else
+abbrev pub IsOneWanted : List Bool → Type 0
+IsOneWanted wanted = IsWanted wanted 0 × ((q : ℕ) → IsWanted wanted q → q ≡ 0)
+
 -- nodes are wanted at these places too
 abbrev pub want_all : List ℕ → List Bool → List Bool
 want_all [] wanted = wanted
@@ -58,10 +62,12 @@ IsNoPart units p n from =
     (arms : Arms) → Part units p n arms → IsAscending arms → UnitsFrom from arms
     → AllHaveMaps units (places_of arms) → ⊥
 
--- what stands at p is there exactly if nodes stand at some places after p, which are wanted now
-pub record RestsOnWanted (units : List ℕ) (p : ℕ) (Stands : Type 0) (old new : List Bool)
-    : Type 0 where
+-- what stands at p is there exactly if nodes stand at the places that it leads to, which are after p
+-- and are wanted now
+pub record RestsOnWanted (units : List ℕ) (p : ℕ) (Stands : Type 0) (LeadsTo : List ℕ → Type 0)
+    (old new : List Bool) : Type 0 where
   pub places : List ℕ
+  pub leads : LeadsTo places
   pub ahead : AllBetween p (length units) places
   pub wanted : new ≡ want_all places old
   pub makes : AllHaveMaps units places → Stands

@@ -1,0 +1,170 @@
+//! How many entries a trie has.
+//!
+//! Nodes may be shared, so that few units have very many entries. A node's entries are those of the
+//! nodes that it leads to, which stand after it, and so they are counted from the last node to the
+//! root.
+ghost use Rattle.icu_zerovec.specs.Slice.{slice_values};
+ghost use Rattle.std.specs.Prelude.{◌≡◌, ◌↔◌, ℕ, List, ◌+◌, ◌-◌, ◌^◌, ◌<◌, ◌≤◌, length, min, slice_index, IfOk, Some, None};
+ghost use Rattle.icu_char16trie.specs.Grammar.{Arms, Holds, IsTrieOf, Part};
+ghost use Rattle.icu_char16trie.specs.UnitMap.{UnitMap};
+ghost use Rattle.icu_char16trie.specs.Inside.Soundness.{HasMap, IsOneWanted, IsWanted, places_of};
+ghost use Rattle.icu_char16trie.specs.Inside.Counts.{IsClosed, IsCounted, MatchKids, NodeKids, capped, sum_at};
+
+use crate::encoded::{delta_end, entry_child, lower_part, node_end, short_end, two_at, unit_at};
+use crate::soundness::has_all_wanted;
+use crate::trie::Char16Trie;
+use icu_zerovec::{MemoryError, ZeroSlice};
+use std::alloc::Global;
+
+/// The count at a place, 0 past the end.
+fn count_at(counts: &[u64], place: usize) -> u64
+    ensures { result ≡ slice_index counts.now place }
+{
+    counts.get(place).copied().unwrap_or(0)
+}
+
+/// Two counts together, or the greatest number where they are above.
+fn both_counts(first: u64, second: u64) -> u64
+    ensures { result ≡ capped (first + second) }
+{
+    first.saturating_add(second)
+}
+
+/// How many entries the nodes of a row of at most five entries have.
+fn count_row(units: ZeroSlice<'_, u16>, counts: &[u64], row: usize, count: usize) -> Option<u64>
+    requires near { row < 2 ^ 63 }
+    requires short { count ≤ 5 }
+    ensures { (arms : Arms) → Part (slice_values units.entry) row count arms
+        → result ≡ Some (capped (sum_at counts.now (places_of arms))) }
+{
+    let mut left = count;
+    let mut place = row;
+    let mut total = 0;
+    while left > 1 {
+        let (_unit, value) = two_at(units, place)?;
+        let child = entry_child(units, place + 2, value)?;
+        total = both_counts(total, count_at(counts, child));
+        place = short_end(place + 2, value & 0x7fff);
+        left -= 1;
+    }
+    let _last = unit_at(units, place)?;
+    Some(both_counts(total, count_at(counts, place + 1)))
+}
+
+/// The same of a part of a branch. It calls itself at most 16 deep.
+fn count_part(units: ZeroSlice<'_, u16>, counts: &[u64], part: usize, count: usize) -> Option<u64>
+    requires { part < 2 ^ 63 }
+    ensures { (arms : Arms) → Part (slice_values units.entry) part count arms
+        → result ≡ Some (capped (sum_at counts.now (places_of arms))) }
+{
+    if count <= 5 {
+        return count_row(units, counts, part, count);
+    }
+    let (_split, delta) = two_at(units, part)?;
+    let low = lower_part(units, part + 2, delta)?;
+    let half = count / 2;
+    let lower = count_part(units, counts, low, half)?;
+    let high = delta_end(part + 2, delta);
+    let upper = count_part(units, counts, high, count - half)?;
+    Some(both_counts(lower, upper))
+}
+
+/// How many entries the nodes have that a match node leads to, by its low six bits; `place` is
+/// after its lead and its value.
+fn count_match(units: ZeroSlice<'_, u16>, counts: &[u64], place: usize, low: u16) -> Option<u64>
+    requires near { place < 2 ^ 63 }
+    requires low { low < 0x40 }
+    ensures { (kids : List ℕ) → MatchKids (slice_values units.entry) place low kids
+        → result ≡ Some (capped (sum_at counts.now kids)) }
+{
+    if low >= 0x30 {
+        let after = count_at(counts, place + (usize::from(low) - 0x2f));
+        return Some(after);
+    }
+    if low > 0 {
+        return count_part(units, counts, place, usize::from(low) + 1);
+    }
+    let length = unit_at(units, place)?;
+    count_part(units, counts, place + 1, usize::from(length) + 1)
+}
+
+/// How many entries a node has, by the counts of those that it leads to.
+fn count_node(units: ZeroSlice<'_, u16>, counts: &[u64], place: usize) -> Option<u64>
+    ensures { (own : ℕ) (kids : List ℕ) → NodeKids (slice_values units.entry) place own kids
+        → result ≡ Some (capped (own + sum_at counts.now kids)) }
+{
+    let lead = unit_at(units, place)?;
+    if lead >= 0x8000 {
+        return Some(1);
+    }
+    if lead < 0x40 {
+        return count_match(units, counts, place + 1, lead);
+    }
+    let end = node_end(place + 1, lead);
+    let longer = count_match(units, counts, end, lead % 64)?;
+    Some(both_counts(1, longer))
+}
+
+/// Counts the entries of each node that is wanted.
+fn count_wanted(units: ZeroSlice<'_, u16>, wanted: &[bool], counts: &mut [u64])
+    requires wanted { length wanted.now ≡ length (slice_values units) }
+    requires counts { length counts.old ≡ length (slice_values units) }
+    requires closed { IsClosed (slice_values units) wanted.now (length (slice_values units)) }
+    ensures { (q : ℕ) → IsWanted wanted.now q → IsCounted (slice_values units.entry) counts.new q }
+{
+    let mut place = units.len();
+    while place > 0 {
+        place -= 1;
+        if wanted[place] {
+            let count = count_node(units, counts, place).unwrap_or(0);
+            counts[place] = count;
+        }
+    }
+}
+
+/// How many entries the root has, which alone is wanted. `None` where no node stands there.
+fn count_at_root(units: ZeroSlice<'_, u16>, wanted: &mut [bool], counts: &mut [u64]) -> Option<u64>
+    requires some { 0 < length (slice_values units) }
+    requires wanted { length wanted.old ≡ length (slice_values units) }
+    requires counts { length counts.old ≡ length (slice_values units) }
+    requires root { IsOneWanted wanted.old }
+    ensures some { (m : UnitMap) → Holds (slice_values units.entry) 0 m
+        → result ≡ Some (capped (length m)) }
+    ensures none { result ≡ None ↔ (HasMap (slice_values units.entry) 0 → ⊥) }
+{
+    if !has_all_wanted(units, wanted) {
+        return None;
+    }
+    count_wanted(units, wanted, counts);
+    Some(counts[0])
+}
+
+impl<'data> Char16Trie<'data> {
+    /// How many entries the trie has, and `u64::MAX` where it has more. `None` where the units are
+    /// no trie, as [`Char16Trie::is_trie`] tells.
+    ///
+    /// It goes through each node twice, whatever the number is, and takes nine bytes for each unit.
+    ///
+    /// ```
+    /// // of the map of "a" to 1 and "ab" to 2: trie.count_entries(alloc)? is Some(2)
+    /// // of 40 times [1, 0x61, 1, 0x62] and 0x8001: it is Some(1 << 40)
+    /// ```
+    ///
+    /// # Errors
+    /// `MemoryError` where memory was refused.
+    pub fn count_entries(&self, alloc: Global) -> Result<Option<u64>, MemoryError>
+        ensures some { IfOk result (λ told. (m : UnitMap) → IsTrieOf self.now m
+            → told ≡ Some (min (length m) (2 ^ 64 - 1))) }
+        ensures none { IfOk result
+            (λ told. told ≡ None ↔ ((m : UnitMap) → IsTrieOf self.now m → ⊥)) }
+    {
+        let units = self.data.as_slice();
+        if units.is_empty() {
+            return Ok(Some(0));
+        }
+        let mut wanted = vec![in alloc; false; units.len()]?;
+        wanted[0] = true;
+        let mut counts = vec![in alloc; 0u64; units.len()]?;
+        Ok(count_at_root(units, &mut wanted, &mut counts))
+    }
+}
