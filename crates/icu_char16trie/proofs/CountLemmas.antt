@@ -1,5 +1,5 @@
 -- How many entries a node has, by those that it leads to.
-use Rattle.std.proofs.Common.{◌≡◌, ℕ, ℤ, zero, suc, ◌+◌, ◌-◌, ◌/◌, ◌%◌, ◌^◌, ◌<◌, ◌≤◌, ◌≢◌, ◌↔◌, Bool, true, false, nat_eq, List, [], ◌∷◌, ◌++◌, Option, Some, None, length, get_or, set, slice_get, refl, sym, ap, subst, ◌∙◌, arith, ◌⊎◌, inl, inr, length-set, length-append, get_or-set_same, get_or-set_other}
+use Rattle.std.proofs.Common.{◌≡◌, ℕ, suc, ◌+◌, ◌-◌, ◌/◌, ◌%◌, ◌<◌, ◌≤◌, ◌≢◌, ◌↔◌, Bool, true, false, nat_eq, List, [], ◌∷◌, ◌++◌, Option, Some, None, length, get_or, set, slice_get, refl, sym, ap, ◌∙◌, arith, length-append, get_or-set_same, get_or-set_other}
 use Rattle.std.specs.Prelude.{min}
 use Rattle.std.proofs.lemmas.Option.{same_Some}
 use Rattle.std.proofs.lemmas.Bool.{eqb-false, eqb-true}
@@ -7,8 +7,8 @@ use Rattle.icu_char16trie.specs.Numbers.{entry_child, short_end, lower_part, del
 use Rattle.icu_char16trie.specs.Grammar.{Arms, Part, branch_len, branch_start, Holds, final, plain, valued, Matches, run, branch, Children, none, more, IsTrieOf}
 use Rattle.icu_char16trie.specs.Grammar as grammar
 use Rattle.icu_char16trie.specs.UnitMap.{UnitMap, under}
-use Rattle.icu_char16trie.specs.Inside.Soundness.{AllBetween, HasMap, IsWanted, places_of}
-use Rattle.icu_char16trie.specs.Inside.Counts.{capped, sum_at, MatchKids, after_run, of_arms, NodeKids, no_kids, of_plain, of_valued, IsCounted, AllCounted, AllWanted, LeadsToWanted, IsClosed}
+use Rattle.icu_char16trie.specs.Inside.Soundness.{AllBetween, IsWanted, places_of}
+use Rattle.icu_char16trie.specs.Inside.Counts.{capped, sum_at, MatchKids, after_run, of_arms, NodeKids, no_kids, of_plain, of_valued, IsCounted, AllCounted, AllWanted, IsClosed}
 use Rattle.icu_char16trie.proofs.PartLemmas.{last_is, entry_found, split_found, part_begins, part_goes_on}
 use Rattle.icu_char16trie.proofs.OneMap.{part_one}
 use Rattle.icu_char16trie.proofs.SoundnessLemmas.{places_append}
@@ -29,9 +29,6 @@ cap_own own s b most e = omega arith
 
 zero_plus : (x : ℕ) → 0 + x ≡ x
 zero_plus x = omega arith
-
-cap_own_eq : (x s most : ℕ) → x ≡ min s most → min (1 + x) most ≡ min (1 + s) most
-cap_own_eq x s most e = omega arith
 
 sum_append : (counts places others : List ℕ) → sum_at counts (places ++ others) ≡ sum_at counts places + sum_at counts others
 sum_append counts [] others = omega arith
@@ -109,15 +106,6 @@ count_here units counts wanted p v closed within within' here is after q le w m 
         let other : q ≢ p = eqb-false q p e in
         rw (get_or-set_other counts p q v 0 other) (after q (omega (arith, other)) w m holds)
 
-pub count_not_here : (units counts : List ℕ) (wanted : List Bool) (p : ℕ) → get_or wanted p false ≡ false
-    → ((q : ℕ) → p + 1 ≤ q → IsWanted wanted q → IsCounted units counts q)
-    → (q : ℕ) → p ≤ q → IsWanted wanted q → IsCounted units counts q
-count_not_here units counts wanted p never after q le w = by (nat_eq q p) refl
-  where
-    by : (b : Bool) → nat_eq q p ≡ b → IsCounted units counts q
-    by true e = let same : q ≡ p = eqb-true q p e in let w' : get_or wanted p false ≡ true = rw same at w in cc
-    by false e = after q (omega (arith, eqb-false q p e)) w
-
 -- ---- what is counted at a part of a branch
 
 -- so much is counted at a part
@@ -127,9 +115,6 @@ CountsPart units counts p n r = (arms : Arms) → Part units p n arms → r ≡ 
 -- with what was counted before, so much is counted at a row
 abbrev pub CountsFrom : List ℕ → List ℕ → ℕ → ℕ → ℕ → Option ℕ → Type 0
 CountsFrom units counts total p n r = (arms : Arms) → Part units p n arms → r ≡ Some (capped (total + sum_at counts (places_of arms)))
-
-pub from_zero : (units counts : List ℕ) (p n : ℕ) (r : Option ℕ) → CountsFrom units counts 0 p n r → CountsPart units counts p n r
-from_zero units counts p n r h arms part = h arms part ∙ ap (λ z. Some (capped z)) (zero_plus (sum_at counts (places_of arms)))
 
 pub no_second : (units counts : List ℕ) (total p n : ℕ) (r : Option ℕ) → 1 < n → slice_get units (p + 1) ≡ None → CountsFrom units counts total p n r
 no_second units counts total p n r many g arms part = absurd (part_goes_on units part many g)
@@ -176,24 +161,8 @@ both_counted units counts p n s d low high x y many g g' c at l h arms part =
 
 -- ---- the whole trie
 
-no_units : (units : List ℕ) (m : UnitMap) → (units ≡ [] → ⊥) → IsTrieOf units m → Holds units 0 m
-no_units units m some (grammar.node h) = h
-no_units units m some (grammar.empty u e) = absurd (some u)
-
-pub trie_counted : (units : List ℕ) (r : Option ℕ) → (units ≡ [] → ⊥) → ((m : UnitMap) → Holds units 0 m → r ≡ Some (capped (length m)))
-    → (m : UnitMap) → IsTrieOf units m → r ≡ Some (capped (length m))
-trie_counted units r some h m is = h m (no_units units m some is)
-
-pub trie_none : (units : List ℕ) (r : Option ℕ) → (units ≡ [] → ⊥) → (r ≡ None ↔ (HasMap units 0 → ⊥)) → r ≡ None ↔ ((m : UnitMap) → IsTrieOf units m → ⊥)
-trie_none units r some h = (λ e m is. h.0 e (m, no_units units m some is), λ never. h.1 (λ has. never has.0 (grammar.node has.1)))
-
 some_none : (x : ℕ) → ◌≡◌ {A = Option ℕ} (Some x) None → ⊥
 some_none x h = cc
 
 pub empty_none : (units : List ℕ) (x : ℕ) → units ≡ [] → ◌≡◌ {A = Option ℕ} (Some x) None ↔ ((m : UnitMap) → IsTrieOf units m → ⊥)
 empty_none units x e = (λ h m is. some_none x h, λ never. absurd (never [] (grammar.empty e refl)))
-
--- what is counted at the root, where all that is wanted has nodes, and where it has not
-pub root_counted : (units counts : List ℕ) (wanted : List Bool) → IsWanted wanted 0 → ((q : ℕ) → IsWanted wanted q → IsCounted units counts q)
-    → (m : UnitMap) → Holds units 0 m → ◌≡◌ {A = Option ℕ} (Some (get_or counts 0 0)) (Some (capped (length m)))
-root_counted units counts wanted root counted m h = ap Some (counted 0 root m h)

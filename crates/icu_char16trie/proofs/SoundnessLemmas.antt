@@ -1,17 +1,17 @@
 -- Which nodes of units have to be there.
-use Rattle.std.proofs.Common.{◌≡◌, ℕ, zero, suc, ◌+◌, ◌-◌, ◌/◌, ◌%◌, ◌<◌, ◌≤◌, Bool, true, false, nat_eq, List, [], ◌∷◌, ◌++◌, Option, Some, None, length, get_or, replicate, set, slice_get, take, drop, refl, sym, ap, subst, ◌∙◌, arith, ◌⊎◌, inl, inr, length-set}
+use Rattle.std.proofs.Common.{◌≡◌, ℕ, zero, suc, ◌+◌, ◌-◌, ◌/◌, ◌%◌, ◌<◌, ◌≤◌, Bool, true, false, nat_eq, List, [], ◌∷◌, ◌++◌, Option, Some, None, length, get_or, set, slice_get, take, drop, refl, sym, ap, subst, ◌∙◌, arith, ◌⊎◌, inl, inr, length-set}
 use Rattle.std.specs.Int.{cast_signed, w32}
 use Rattle.std.specs.Option.{is_some}
 use Rattle.std.specs.Prelude.{MatchOption}
 use Rattle.std.proofs.lemmas.Option.{same_Some, slice_get_past}
 use Rattle.std.proofs.lemmas.Bool.{eq-eqb, eqb-false, eqb-true, false≢true, ne_eqb}
 use Rattle.icu_char16trie.specs.Numbers.{entry_child, short_end, lower_part, delta_end, short_number, node_number, node_end}
-use Rattle.icu_char16trie.specs.Grammar.{Arms, Part, last, entry, split, UnitsBelow, UnitsFrom, IsAscending, branch_len, branch_start, final, plain, valued, Matches, run, branch, Children, none, more}
+use Rattle.icu_char16trie.specs.Grammar.{Arms, Part, last, entry, split, UnitsBelow, UnitsFrom, IsAscending, branch_len, branch_start, final, plain, valued, run, branch, Children, none, more}
 use Rattle.icu_char16trie.specs.UnitMap.{UnitMap, under}
-use Rattle.icu_char16trie.specs.Inside.Soundness.{HasMap, HasMatch, AllHaveMaps, AllBetween, places_of, IsOneWanted, IsWanted, want_all, AllWantedHave, PartWalked, IsNoPart, RestsOnWanted}
-use Rattle.icu_char16trie.specs.Inside.Counts.{MatchKids, after_run, of_arms, NodeKids, no_kids, of_plain, of_valued, NodeLeadsTo, AllWanted, LeadsToWanted, IsClosed}
-use Rattle.icu_char16trie.proofs.PartLemmas.{last_is, entry_found, split_found, part_begins, part_goes_on}
-use Rattle.icu_char16trie.proofs.NodeLemmas.{matches_run, matches_branch, holds_final, holds_plain, holds_valued, holds_within}
+use Rattle.icu_char16trie.specs.Inside.Soundness.{HasMap, HasMatch, AllHaveMaps, AllBetween, places_of, IsWanted, want_all, AllWantedHave, PartWalked, IsNoPart, RestsOnWanted}
+use Rattle.icu_char16trie.specs.Inside.Counts.{MatchKids, after_run, of_arms, no_kids, of_plain, of_valued, NodeLeadsTo, AllWanted, LeadsToWanted, IsClosed}
+use Rattle.icu_char16trie.proofs.PartLemmas.{last_is, entry_found, split_found}
+use Rattle.icu_char16trie.proofs.NodeLemmas.{matches_run, matches_branch, holds_plain, holds_valued, holds_within}
 use Rattle.icu_char16trie.proofs.OneMap.{any_from, from_more, part_one}
 
 -- ---- arms
@@ -74,15 +74,6 @@ between_more p p' n (q ∷ places) h b = (omega (arith, b.0), b.1, between_more 
 want_append : (places others : List ℕ) (wanted : List Bool) → want_all (places ++ others) wanted ≡ want_all others (want_all places wanted)
 want_append [] others wanted = refl
 want_append (q ∷ places) others wanted = want_append places others (set wanted q true)
-
-pub want_length : (places : List ℕ) (wanted : List Bool) → length (want_all places wanted) ≡ length wanted
-want_length [] wanted = refl
-want_length (q ∷ places) wanted = want_length places (set wanted q true) ∙ length-set wanted q true
-
-wanted_within : (wanted : List Bool) (q : ℕ) → IsWanted wanted q → q < length wanted
-wanted_within [] q h = cc
-wanted_within (x ∷ wanted) zero h = omega arith
-wanted_within (x ∷ wanted) (suc q) h = omega (arith, wanted_within wanted q h)
 
 set_wants : (wanted : List Bool) (p q : ℕ) → IsWanted wanted q → IsWanted (set wanted p true) q
 set_wants [] p q h = cc
@@ -200,36 +191,11 @@ split_walked units p n s d low high from mid next old between new many g g' c e 
 
 -- ---- a part that is refused
 
-pub no_first : (units : List ℕ) (p n from : ℕ) → slice_get units p ≡ None → IsNoPart units p n from
-no_first units p n from g arms part up f have = part_begins units part g
-
-pub no_second : (units : List ℕ) (p n from : ℕ) → 1 < n → slice_get units (p + 1) ≡ None → IsNoPart units p n from
-no_second units p n from many g arms part up f have = part_goes_on units part many g
-
-no_option : {x : ℕ} → ◌≡◌ {A = Option ℕ} (Some x) None → ⊥
-no_option h = cc
-
-pub no_last_order : (units : List ℕ) (p n u from : ℕ) → n ≤ 1 → slice_get units p ≡ Some u → u < from → IsNoPart units p n from
-no_last_order units p n u from few g lt arms part up f have =
-    let is = last_is units part few u g in
-    let f' : UnitsFrom from ((u, p + 1) ∷ []) = rw is at f in
-    omega (arith, f'.0)
-
 pub no_last_child : (units : List ℕ) (p n u from : ℕ) → n ≤ 1 → slice_get units p ≡ Some u → length units ≤ p + 1 → IsNoPart units p n from
 no_last_child units p n u from few g past arms part up f have =
     let is = last_is units part few u g in
     let h : AllHaveMaps units (places_of ((u, p + 1) ∷ [])) = rw is at have in
     nothing_past units (p + 1) past h.0
-
-pub no_jump : (units : List ℕ) (p n u v from : ℕ) → 1 < n → n ≤ 5 → slice_get units p ≡ Some u → slice_get units (p + 1) ≡ Some v → entry_child units (p + 2) v ≡ None → IsNoPart units p n from
-no_jump units p n u v from many few g g' c arms part up f have =
-    let e = entry_found units part many few u v g g' in no_option (sym e.at ∙ c)
-
-pub no_order : (units : List ℕ) (p n u v from : ℕ) → 1 < n → n ≤ 5 → slice_get units p ≡ Some u → slice_get units (p + 1) ≡ Some v → u < from → IsNoPart units p n from
-no_order units p n u v from many few g g' lt arms part up f have =
-    let e = entry_found units part many few u v g g' in
-    let f' : UnitsFrom from ((u, e.child) ∷ e.rest) = rw e.is at f in
-    omega (arith, f'.0)
 
 pub no_child : (units : List ℕ) (p n u v child from : ℕ) → 1 < n → n ≤ 5 → slice_get units p ≡ Some u → slice_get units (p + 1) ≡ Some v
     → entry_child units (p + 2) v ≡ Some child → length units ≤ child → IsNoPart units p n from
@@ -246,10 +212,6 @@ no_rest units p n u v q from many few g g' at never arms part up f have =
     let up' : IsAscending ((u, e.child) ∷ e.rest) = rw e.is at up in
     let h : AllHaveMaps units (places_of ((u, e.child) ∷ e.rest)) = rw e.is at have in
     never e.rest (rw at e.others) up'.1 up'.0 h.1
-
-pub no_low : (units : List ℕ) (p n s d from : ℕ) → 5 < n → slice_get units p ≡ Some s → slice_get units (p + 1) ≡ Some d → lower_part units (p + 2) d ≡ None → IsNoPart units p n from
-no_low units p n s d from many g g' c arms part up f have =
-    let e = split_found units part many s d g g' in no_option (sym e.at ∙ c)
 
 pub no_lower : (units : List ℕ) (p n s d low from : ℕ) → 5 < n → slice_get units p ≡ Some s → slice_get units (p + 1) ≡ Some d → lower_part units (p + 2) d ≡ Some low
     → IsNoPart units low (n / 2) from → IsNoPart units p n from
@@ -332,16 +294,6 @@ long_len units p low n zero' g = let same : nat_eq low 0 ≡ true = eq-eqb low 0
 pub long_start : (p low : ℕ) → low ≤ 0 → p + 1 ≡ branch_start p low
 long_start p low zero' = let same : nat_eq low 0 ≡ true = eq-eqb low 0 (omega arith) in rw same refl
 
-pub no_length : (units : List ℕ) (p low : ℕ) → low < 0x30 → branch_len units p low ≡ None → HasMatch units p low → ⊥
-no_length units p low small len h = let b = matches_branch units h.1 small in no_option (sym b.len ∙ len)
-
-pub no_entries : (units : List ℕ) (p low n : ℕ) → low < 0x30 → branch_len units p low ≡ Some n → n < 1 → HasMatch units p low → ⊥
-no_entries units p low n small len less h = by h.1
-  where
-    by : {m : UnitMap} → Matches units p low m → ⊥
-    by (run p low m rest big small' within node e) = omega arith
-    by (branch p low n' arms m small' len' some part up c) = omega (arith, same_Some n n' (sym len ∙ len'))
-
 pub final_rests : (units : List ℕ) (p lead n : ℕ) (old : List Bool) → slice_get units p ≡ Some lead → 0x8000 ≤ lead → short_number units (p + 1) (lead - 0x8000) ≡ Some n
     → RestsOnWanted units p (HasMap units p) (NodeLeadsTo units p) old old
 final_rests units p lead n old g big s = record {
@@ -352,12 +304,6 @@ final_rests units p lead n old g big s = record {
   makes = λ h. (([], cast_signed w32 n) ∷ [], final p lead n _ g big s refl);
   gives = λ h. tt;
 }
-
-pub no_final : (units : List ℕ) (p lead : ℕ) → slice_get units p ≡ Some lead → 0x8000 ≤ lead → short_number units (p + 1) (lead - 0x8000) ≡ None → HasMap units p → ⊥
-no_final units p lead g big s h = let f = holds_final units h.1 lead g big in no_option (sym f.1 ∙ s)
-
-pub no_lead : (units : List ℕ) (p : ℕ) → slice_get units p ≡ None → HasMap units p → ⊥
-no_lead units p g h = holds_within units h.1 g
 
 pub plain_rests : (units : List ℕ) (p lead : ℕ) (old new : List Bool) → slice_get units p ≡ Some lead → lead < 0x40
     → RestsOnWanted units (p + 1) (HasMatch units (p + 1) lead) (MatchKids units (p + 1) lead) old new → RestsOnWanted units p (HasMap units p) (NodeLeadsTo units p) old new
@@ -383,9 +329,6 @@ valued_rests units p lead n q old new g big small s e on r = record {
   makes = λ h. let m = r.makes h in (([], cast_signed w32 n) ∷ m.0, valued p lead n _ m.0 g big small s (rw e at m.1) refl);
   gives = λ h. let v = holds_valued units h.1 lead g big small in r.gives (v.rest, rw e v.node);
 }
-
-pub no_number : (units : List ℕ) (p lead : ℕ) → slice_get units p ≡ Some lead → 0x40 ≤ lead → lead < 0x8000 → node_number units (p + 1) lead ≡ None → HasMap units p → ⊥
-no_number units p lead g big small s h = let v = holds_valued units h.1 lead g big small in no_option (sym v.number ∙ s)
 
 pub no_valued : (units : List ℕ) (p lead q : ℕ) → slice_get units p ≡ Some lead → 0x40 ≤ lead → lead < 0x8000 → q ≡ node_end (p + 1) lead
     → (HasMatch units q (lead % 64) → ⊥) → HasMap units p → ⊥
@@ -415,9 +358,6 @@ back_unwanted units p wanted never all q le w = by (nat_eq q p) refl
 
 pub forth_unwanted : (units : List ℕ) (p : ℕ) (wanted : List Bool) → AllWantedHave units wanted p → AllWantedHave units wanted (p + 1)
 forth_unwanted units p wanted all q le w = all q (omega arith) w
-
-pub all_past : (units : List ℕ) (wanted : List Bool) (p : ℕ) → length wanted ≤ p → AllWantedHave units wanted p
-all_past units wanted p past q le w = absurd (omega (arith, wanted_within wanted q w))
 
 -- ---- what the nodes lead to is wanted
 
@@ -464,20 +404,3 @@ closed_unwanted units p wanted never closed q lt w = by (nat_eq q p) refl
 pub kept_wanted : (units : List ℕ) (p : ℕ) (old new : List Bool) → RestsOnWanted units p (HasMap units p) (NodeLeadsTo units p) old new
     → (q : ℕ) → IsWanted old q → IsWanted new q
 kept_wanted units p old new r q w = rw r.wanted (want_keeps r.places old q w)
-
--- where the root alone is wanted, its node is all that is asked
-pub root_asked : (units : List ℕ) (wanted : List Bool) → IsOneWanted wanted → (HasMap units 0 → AllWantedHave units wanted 0) × (AllWantedHave units wanted 0 → HasMap units 0)
-root_asked units wanted one = (λ has q le w. subst (HasMap units) (sym (one.1 q w)) has, λ all. all 0 (omega arith) one.0)
-
-none_wanted : (k q : ℕ) → IsWanted (replicate k false) q → ⊥
-none_wanted zero q w = false≢true w
-none_wanted (suc k) zero w = false≢true w
-none_wanted (suc k) (suc q) w = none_wanted k q w
-
-only_root : (n q : ℕ) → IsWanted (true ∷ replicate n false) q → q ≡ 0
-only_root n zero w = refl
-only_root n (suc q) w = absurd (none_wanted n q w)
-
-pub one_wanted : (n : ℕ) → 0 < n → IsOneWanted (set (replicate n false) 0 true)
-one_wanted zero h = absurd (omega arith)
-one_wanted (suc n) h = (refl, only_root n)

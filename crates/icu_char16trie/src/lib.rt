@@ -20,7 +20,7 @@
 //!   each step
 //! - `dictionary`: the longest key that begins a text; `matches`: [`Matches`](char16trie::Matches),
 //!   all of them
-//! - `soundness`: whether units are a trie
+//! - `soundness`: whether units are a trie; `counted`: how many entries they have
 //! - `entries`: [`Iter2`](char16trie::Iter2), the entries in unit order; `pending`: what they have
 //!   still to go through; `spelling`: the key as text while it grows
 //! - `json`: a trie from and to JSON

@@ -1,5 +1,5 @@
 -- How many entries the nodes of a trie have, counted from the last node to the root.
-use Rattle.std.specs.Prelude.{◌≡◌, ℕ, ◌+◌, ◌-◌, ◌^◌, ◌%◌, ◌<◌, ◌≤◌, Bool, List, [], ◌∷◌, Some, ⊤, length, min, slice_get, slice_index}
+use Rattle.std.specs.Prelude.{◌≡◌, ℕ, ◌+◌, ◌-◌, ◌%◌, ◌<◌, ◌≤◌, Bool, List, [], ◌∷◌, Some, ⊤, length, min, slice_get, slice_index}
 use Rattle.icu_char16trie.specs.Numbers.{node_end}
 use Rattle.icu_char16trie.specs.Grammar.{Arms, Holds, Part, branch_len, branch_start}
 use Rattle.icu_char16trie.specs.UnitMap.{UnitMap}
@@ -16,19 +16,21 @@ sum_at counts (q ∷ places) = slice_index counts q + sum_at counts places
 
 -- the match node with these low six bits leads to the nodes at these places
 pub data MatchKids (units : List ℕ) : ℕ → ℕ → List ℕ → Type 0 where
-  after_run : (p low : ℕ) (kids : List ℕ) → 0x30 ≤ low → kids ≡ (p + (low - 0x2f)) ∷ [] → MatchKids units p low kids
-  of_arms : (p low n : ℕ) (arms : Arms) (kids : List ℕ) → low < 0x30 → branch_len units p low ≡ Some n
+  after_run : (p low : ℕ) (kids : List ℕ) → 0x30 ≤ low → kids ≡ (p + (low - 0x2f)) ∷ []
+      → MatchKids units p low kids
+  of_arms : (p low n : ℕ) (arms : Arms) (kids : List ℕ) → low < 0x30
+      → branch_len units p low ≡ Some n
       → Part units (branch_start p low) (n + 1) arms → kids ≡ places_of arms
       → MatchKids units p low kids
 
 -- the node at p has so many values of its own, none or one, and leads to the nodes at these places
 pub data NodeKids (units : List ℕ) : ℕ → ℕ → List ℕ → Type 0 where
-  no_kids : (p lead own : ℕ) (kids : List ℕ) → slice_get units p ≡ Some lead → 0x8000 ≤ lead → own ≡ 1 → kids ≡ []
-      → NodeKids units p own kids
-  of_plain : (p lead own : ℕ) (kids : List ℕ) → slice_get units p ≡ Some lead → lead < 0x40 → own ≡ 0
-      → MatchKids units (p + 1) lead kids → NodeKids units p own kids
-  of_valued : (p lead own : ℕ) (kids : List ℕ) → slice_get units p ≡ Some lead → 0x40 ≤ lead → lead < 0x8000
-      → own ≡ 1 → MatchKids units (node_end (p + 1) lead) (lead % 64) kids → NodeKids units p own kids
+  no_kids : (p lead own : ℕ) (kids : List ℕ) → slice_get units p ≡ Some lead → 0x8000 ≤ lead
+      → own ≡ 1 → kids ≡ [] → NodeKids units p own kids
+  of_plain : (p lead own : ℕ) (kids : List ℕ) → slice_get units p ≡ Some lead → lead < 0x40
+      → own ≡ 0 → MatchKids units (p + 1) lead kids → NodeKids units p own kids
+  of_valued : (p lead own : ℕ) (kids : List ℕ) → slice_get units p ≡ Some lead → 0x40 ≤ lead
+      → lead < 0x8000 → own ≡ 1 → MatchKids units (node_end (p + 1) lead) (lead % 64) kids → NodeKids units p own kids
 
 -- it leads to the nodes at these places
 abbrev pub NodeLeadsTo : List ℕ → ℕ → List ℕ → Type 0
@@ -36,7 +38,8 @@ NodeLeadsTo units p kids = (own : ℕ) × NodeKids units p own kids
 
 -- the count at q is that of the entries of its node
 abbrev pub IsCounted : List ℕ → List ℕ → ℕ → Type 0
-IsCounted units counts q = (m : UnitMap) → Holds units q m → slice_index counts q ≡ capped (length m)
+IsCounted units counts q =
+    (m : UnitMap) → Holds units q m → slice_index counts q ≡ capped (length m)
 
 -- so is each of these
 abbrev pub AllCounted : List ℕ → List ℕ → List ℕ → Type 0

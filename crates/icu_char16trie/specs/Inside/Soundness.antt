@@ -62,8 +62,8 @@ IsNoPart units p n from =
     (arms : Arms) → Part units p n arms → IsAscending arms → UnitsFrom from arms
     → AllHaveMaps units (places_of arms) → ⊥
 
--- what stands at p is there exactly if nodes stand at the places that it leads to, which are after p
--- and are wanted now
+-- what stands at p is there exactly if nodes stand at the places that it leads to, which are after
+-- p and are wanted now
 pub record RestsOnWanted (units : List ℕ) (p : ℕ) (Stands : Type 0) (LeadsTo : List ℕ → Type 0)
     (old new : List Bool) : Type 0 where
   pub places : List ℕ

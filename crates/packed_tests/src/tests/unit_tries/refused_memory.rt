@@ -106,6 +106,28 @@ fn is_trie_refused(rt: HostRuntime) {
     expect_same(&rt, result, TrieResult::FinalValue(1), "the trie itself");
 }
 
+/// There are six entries, or memory was refused.
+fn expect_six_entries(rt: &(impl Abort + Print), count: Result<Option<u64>, MemoryError>) {
+    match count {
+        Ok(count) => expect_same(rt, count, Some(6), "entries"),
+        Err(error) => say_refused(rt, error),
+    }
+}
+
+/// Calls: `Char16Trie::count_entries`.
+#[test]
+fn count_entries_refused(rt: HostRuntime) {
+    let Ok(trie) = trie_of(rt.alloc(), &SIX) else {
+        return;
+    };
+    say(&rt, "call");
+    let count = trie.count_entries(rt.alloc());
+    say(&rt, "done");
+    expect_six_entries(&rt, count);
+    let result = last_result(&trie, "a");
+    expect_same(&rt, result, TrieResult::FinalValue(1), "the trie itself");
+}
+
 /// A JSON value has the key of the units, or memory was refused.
 fn expect_json(rt: &(impl Abort + Print), written: Result<Value, MemoryError>) {
     match written {

@@ -1,4 +1,4 @@
-//! Which units are a trie, by the format's description.
+//! Which units are a trie, and of how many entries, by the format's description.
 use super::support::{SIX, trie_of};
 use crate::tests::support::expect_same;
 use icu_zerovec::MemoryError;
@@ -10,6 +10,12 @@ use std::test::Fail;
 fn told_of(alloc: Global, units: &[u16]) -> Result<bool, MemoryError> {
     let trie = trie_of(alloc, units)?;
     trie.is_trie(alloc)
+}
+
+/// How many entries these units have.
+fn count_of(alloc: Global, units: &[u16]) -> Result<Option<u64>, MemoryError> {
+    let trie = trie_of(alloc, units)?;
+    trie.count_entries(alloc)
 }
 
 /// The units of each row are a trie, or those of none are.
@@ -124,5 +130,57 @@ fn branches_that_share_nodes(rt: HostRuntime) -> Result<(), Fail> {
     expect_same(&rt, told, false, "with no node behind them");
     let told = told_of_branches(rt.alloc(), 40, &[0x8001])?;
     expect_same(&rt, told, true, "with a value behind them");
+    Ok(())
+}
+
+/// Units and how many entries they have.
+type Counted = (&'static [u16], Option<u64>);
+
+static COUNTED: [Counted; 9] = [
+    (&[], Some(0)),
+    (&[0x8007], Some(1)),
+    (&[0x31, 0x61, 0x62, 0x8003], Some(1)),
+    (&[0x30, 0x61, 0xB0, 0x62, 0x8002], Some(2)),
+    (&[1, 0x61, 2, 0x62, 0x8002, 0x8001], Some(2)),
+    (&[1, 0x61, 1, 0x62, 0x8001], Some(2)),
+    (&SIX, Some(6)),
+    (&[0x30, 0x61], None),
+    (&[1, 0x62, 0x8001, 0x61, 0x8002], None),
+];
+
+#[test]
+fn entries_that_are_counted(rt: HostRuntime) -> Result<(), Fail> {
+    for (units, want) in COUNTED.iter() {
+        let count = count_of(rt.alloc(), units)?;
+        expect_same(&rt, (*units, count), (*units, *want), "entries");
+    }
+    Ok(())
+}
+
+/// How many entries so many branches have with these units behind them.
+fn count_of_branches(
+    alloc: Global,
+    count: usize,
+    behind: &[u16],
+) -> Result<Option<u64>, MemoryError> {
+    let units = branches(alloc, count, behind)?;
+    count_of(alloc, units.as_slice())
+}
+
+/// Twice as many for each branch more, up to the greatest number.
+#[test]
+fn entries_of_branches(rt: HostRuntime) -> Result<(), Fail> {
+    let rows = [
+        (40, Some(1 << 40)),
+        (63, Some(1 << 63)),
+        (64, Some(u64::MAX)),
+        (70, Some(u64::MAX)),
+    ];
+    for (branches, want) in rows {
+        let count = count_of_branches(rt.alloc(), branches, &[0x8001])?;
+        expect_same(&rt, count, want, "entries");
+    }
+    let count = count_of_branches(rt.alloc(), 70, &[])?;
+    expect_same(&rt, count, None, "with no node behind them");
     Ok(())
 }
