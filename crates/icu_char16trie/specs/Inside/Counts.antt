@@ -30,7 +30,8 @@ pub data NodeKids (units : List ℕ) : ℕ → ℕ → List ℕ → Type 0 where
   of_plain : (p lead own : ℕ) (kids : List ℕ) → slice_get units p ≡ Some lead → lead < 0x40
       → own ≡ 0 → MatchKids units (p + 1) lead kids → NodeKids units p own kids
   of_valued : (p lead own : ℕ) (kids : List ℕ) → slice_get units p ≡ Some lead → 0x40 ≤ lead
-      → lead < 0x8000 → own ≡ 1 → MatchKids units (node_end (p + 1) lead) (lead % 64) kids → NodeKids units p own kids
+      → lead < 0x8000 → own ≡ 1 → MatchKids units (node_end (p + 1) lead) (lead % 64) kids
+      → NodeKids units p own kids
 
 -- it leads to the nodes at these places
 abbrev pub NodeLeadsTo : List ℕ → ℕ → List ℕ → Type 0
