@@ -8,7 +8,8 @@
 //! ```
 //!
 //! The list may come from a stranger: every call answers on all units, where a unit that is needed
-//! and is not there is no match.
+//! and is not there is no match. To list the entries of such units can take long:
+//! [`Char16Trie::is_trie`](char16trie::Char16Trie::is_trie) tests them before.
 //!
 //! All public items stand in [`char16trie`], as in the Rust crate. Inside:
 //!
@@ -19,6 +20,7 @@
 //!   each step
 //! - `dictionary`: the longest key that begins a text; `matches`: [`Matches`](char16trie::Matches),
 //!   all of them
+//! - `soundness`: whether units are a trie; `counted`: how many entries they have
 //! - `entries`: [`Iter2`](char16trie::Iter2), the entries in unit order; `pending`: what they have
 //!   still to go through; `spelling`: the key as text while it grows
 //! - `json`: a trie from and to JSON
@@ -27,6 +29,7 @@
 
 mod branch;
 pub mod char16trie;
+mod counted;
 mod cursor;
 mod dictionary;
 mod encoded;
@@ -37,6 +40,7 @@ mod json;
 mod matches;
 mod pending;
 mod place;
+mod soundness;
 mod spelling;
 mod step;
 mod trie;

@@ -60,6 +60,12 @@ impl<'data> Char16Trie<'data> {
     /// The entries, in unit order: each key as text, with its value. It takes no memory before its
     /// first item.
     ///
+    /// Units from a stranger can take long: nodes may be shared, so that few units have very many
+    /// entries, and on units that are no trie even the first item can take 2^k steps, over some 4 k
+    /// units. [`Char16Trie::is_trie`] tests that before: where it answers `true` each node leads to
+    /// an entry, so that an item takes at most some steps for each unit of its key, and
+    /// [`Char16Trie::count_entries`] tells how many there are.
+    ///
     /// It is not named `iter`, since in the Rust crate that call gives what looks up and does not
     /// list.
     ///
