@@ -72,6 +72,20 @@ impl CodePointBits {
         Ok(CodePointBits { index, words })
     }
 
+    /// The place of each block's first word.
+    pub(crate) fn index(&self) -> &[u16]
+        ensures { result.now ≡ self.now.index }
+    {
+        &self.index
+    }
+
+    /// The bits of 64 code points each, that of the first one lowest.
+    pub(crate) fn words(&self) -> &[u64]
+        ensures { result.now ≡ self.now.words }
+    {
+        &self.words
+    }
+
     /// The bit of the code point, whose block is there.
     #[inline(always)]
     pub(crate) fn contains32(&self, c: u32) -> bool

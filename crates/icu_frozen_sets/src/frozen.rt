@@ -8,6 +8,7 @@ ghost use mathlib.Core.Bool.{beq};
 ghost use mathlib.Core.List.{reverse};
 ghost use Rattle.icu_zerovec.specs.CodePoints.{code_point_limit};
 ghost use Rattle.icu_invlist.specs.InversionList.{IsValid, holds};
+ghost use Rattle.icu_frozen_sets.specs.CodePointBits.{AreTablesOf};
 ghost use Rattle.icu_frozen_sets.specs.Inside.Characters.{IsAsked};
 ghost use Rattle.icu_frozen_sets.specs.Inside.Filling.{filled};
 
@@ -48,6 +49,18 @@ impl Model for FrozenCodePointSet {
     ghost view = { λ a. a.set };
 
     ghost invariant = { λ a. IsFrozen a.set a.ascii a.two_bytes a.bits };
+}
+
+/// The tables of a frozen set, lent: of code point `c`, bit `c % 64` of the word at
+/// `index[c / 256] + c / 64 % 4`, bit 0 being the lowest, says whether the set holds it.
+#[derive(Clone, Copy, Debug)]
+pub struct FrozenTables<'a> {
+    /// The place of the first of its four words for each block of 256 code points, of which there
+    /// are 4,352. Blocks may share their words.
+    pub index: &'a [u16],
+    /// The bits of 64 code points each, that of the first one lowest: four words a block at most,
+    /// and eight.
+    pub words: &'a [u64],
 }
 
 /// How a set is frozen.
@@ -103,6 +116,22 @@ impl FrozenCodePointSet {
         ensures valid { IsValid self.now }
     {
         &self.set
+    }
+
+    /// The bits of all code points, as they are kept: to be stored, or to be asked elsewhere.
+    ///
+    /// ```
+    /// let FrozenTables { index, words } = letters.tables();
+    /// // words[index[0] as usize + 1] >> 1 & 1 says whether letters.contains('A')
+    /// ```
+    pub fn tables(&self) -> FrozenTables<'_>
+        ensures { AreTablesOf self.now
+            (record { index = result.index.now; words = result.words.now }) }
+    {
+        FrozenTables {
+            index: self.bits.index(),
+            words: self.bits.words(),
+        }
     }
 
     /// Whether the set holds the code point. No number above 0x10FFFF is held.
