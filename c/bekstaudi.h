@@ -12,7 +12,7 @@
  *
  * A code point is any number of 32 bits; above 0x10FFFF a trie answers its error value, and a set
  * holds nothing. A count is of items, a size of bytes. Bytes of tries and texts may stand at any
- * address; numbers of 16 and 32 bits stand where C has them. A pointer is never NULL, also where
+ * address; numbers of 16, 32 and 64 bits stand where C has them. A pointer is never NULL, also where
  * the count beside it is 0 (the data() of an empty std::vector may be). All calls may be made from
  * several threads at once, as long as nobody changes what they read.
  *
@@ -218,6 +218,26 @@ int64_t bks_set_difference(const uint32_t *a, size_t a_count, const uint32_t *b,
 int64_t bks_set_symmetric_difference(const uint32_t *a, size_t a_count, const uint32_t *b,
                                      size_t b_count, uint32_t *ends, size_t room);
 
+/* [m] Freezes a set, for many look-ups, of two reads each: uset_freeze. Answers how many words of 64
+ * bits the frozen set takes, BKS_FROZEN_MOST at most. They are in `table` where there is room for all
+ * of them, and else `table` is unchanged: ask with no room first, or again with more.
+ * BKS_NO_MEMORY or BKS_NO_SET.
+ *
+ * First come 4,352 places of 16 bits, one for each block of 256 code points, four a word, the lowest
+ * first; from word 1,088 on stand the bits of 64 code points a word, that of the first one lowest. A
+ * block's place says at which of these its four words begin; blocks that hold nothing share theirs,
+ * and so do those that hold everything. The words point nowhere: copy, store and map them. */
+enum { BKS_FROZEN_MOST = 18504 };
+int64_t bks_set_freeze(const uint32_t *ends, size_t count, uint64_t *table, size_t room);
+
+/* Whether the frozen set with which the words begin holds c. All words are answered: those that
+ * bks_set_freeze did not write as they say, and what is behind `count` of them is 0. */
+bool bks_frozen_contains(const uint64_t *table, size_t count, uint32_t c);
+
+/* As bks_set_span, of a frozen set and without memory; BKS_NO_TEXT. */
+int64_t bks_frozen_span(const uint64_t *table, size_t count, const char *text, size_t size,
+                        bool held);
+
 /* ---- Unit tries ------------------------------------------------------------------------------ */
 /* Maps from keys, lists of 16-bit units and mostly texts in UTF-16, to numbers: what ICU's
  * UCharsTrieBuilder writes, read where it is. `units` are `size` bytes at any address, two a unit,
@@ -306,6 +326,14 @@ static inline uint32_t bks_get32(const bks_trie *trie, uint32_t c) {
         value = bks_trie32_get(trie, c);
     }
     return value;
+}
+
+/* bks_frozen_contains in line, of words that bks_set_freeze wrote: two reads inside of them. */
+static inline bool bks_frozen_has(const uint64_t *table, uint32_t c) {
+    uint16_t place;
+    if (c >= 0x110000) return false;
+    memcpy(&place, (const uint8_t *)table + 2 * (size_t)(c >> 8), sizeof place);
+    return table[1088 + (size_t)place + (c >> 6 & 3)] >> (c & 63) & 1;
 }
 
 #ifdef __cplusplus

@@ -160,6 +160,43 @@ private:
     std::vector<std::uint32_t> ends_;
 };
 
+// A set of code points for many look-ups, of two reads each (ICU: a frozen UnicodeSet). A move copies
+// its words too, so no set is ever without them.
+class frozen_set {
+public:
+    explicit frozen_set(const code_point_set &set) {
+        view<std::uint32_t> ends(set.ends());
+        // An end lies in one block, which has four words of its own then; and eight are shared.
+        std::size_t needed = 1088 + 8 + 4 * ends.size();
+        if (needed > BKS_FROZEN_MOST) needed = BKS_FROZEN_MOST;
+        do {
+            words_.resize(needed);
+            needed = detail::answered(
+                bks_set_freeze(ends.data(), ends.size(), words_.data(), words_.size()),
+                "bekstaudi: no set");
+        } while (needed > words_.size());
+        words_.resize(needed);
+    }
+    frozen_set(const frozen_set &) = default;
+    frozen_set &operator=(const frozen_set &) = default;
+
+    // The words, as bks_set_freeze has them: to be stored, or asked from C.
+    const std::vector<std::uint64_t> &words() const noexcept { return words_; }
+
+    bool contains(std::uint32_t c) const noexcept { return bks_frozen_has(words_.data(), c); }
+
+    // As that of code_point_set, without memory.
+    std::string_view span(std::string_view text, bool held = true) const {
+        view<char> bytes(text);
+        std::int64_t size =
+            bks_frozen_span(words_.data(), words_.size(), bytes.data(), bytes.size(), held);
+        return text.substr(0, detail::answered(size, "bekstaudi: no UTF-8"));
+    }
+
+private:
+    std::vector<std::uint64_t> words_;
+};
+
 // A trie whose values have 8, 16 or 32 bits (ICU: UCPTrie). The bytes that it was opened from have
 // to stay where they are, unchanged, while it or a copy of it is used.
 template <class Value>

@@ -102,6 +102,36 @@ static void spans() {
         CHECK(throws<bekstaudi::set_refused>([&] { code_point_set set(ends); }));
 }
 
+/* Frozen sets: as the set that each was made of, copied and moved from, and where memory is refused. */
+static bool refusing = false;
+
+extern "C" void *__real_malloc(size_t size);
+extern "C" void *__wrap_malloc(size_t size);
+extern "C" void *__wrap_malloc(size_t size) { return refusing ? nullptr : __real_malloc(size); }
+
+static void frozen_sets() {
+    std::vector<uint32_t> ends;
+    for (uint32_t c = 0; c < CODE_POINTS; c += 100) ends.push_back(c);
+    if (ends.size() % 2 != 0) ends.pop_back();
+    const code_point_set none, all{0, 0x110000}, few{0x41, 0x5B, 0xDF, 0xE0}, many{bekstaudi::view<uint32_t>(ends)};
+    for (const code_point_set &set : {none, all, few, many}) {
+        bekstaudi::frozen_set first(set), copy(first), moved(std::move(first));
+        copy = std::move(moved);
+        CHECK(first.words() == copy.words() && moved.words() == copy.words());
+        CHECK(first.words().size() <= BKS_FROZEN_MOST);
+        for (uint32_t c = 0; c <= CODE_POINTS; c++) CHECK(moved.contains(c) == set.contains(c));
+        CHECK(!copy.contains(UINT32_MAX) && copy.span("") == "" && copy.span(std::string_view()).empty());
+        for (bool held : {false, true})
+            for (std::string_view text : {"A\xC3\x9F" "d", "dA", "AAAA", "\xC3\x9F"})
+                CHECK(copy.span(text, held) == set.span(text, held));
+        CHECK(throws<bekstaudi::set_refused>([&] { copy.span("A\xFF"); }));
+        refusing = true;
+        bool told = throws<std::bad_alloc>([&] { bekstaudi::frozen_set refused(set); });
+        refusing = false;
+        CHECK(told);
+    }
+}
+
 /* The worked tries of the format's description: a has 1 and ab 100; a lead surrogate has 1 and its pair
    with DE00 has 2. */
 static void unit_tries() {
@@ -171,6 +201,7 @@ int main(int argc, char **argv) {
     refused(all, trie.width);
     rows_refused();
     unit_tries();
+    frozen_sets();
     operations();
     spans();
     puts("all as expected");

@@ -37,7 +37,7 @@ void __wrap_free(void *block) {
 
 static const uint32_t a[] = {0, 9, 20, 30, 40, 0x110000}, b[] = {5, 25, 0x4E00, 0x5000};
 static bks_trie trie;
-static uint32_t ends[4096];
+static _Alignas(8) uint32_t ends[4096];
 
 typedef int64_t (*call)(void);
 static int64_t set_of(void) { return bks_trie_set(&trie, called(&trie, 0x41), ends, 4096); }
@@ -48,6 +48,7 @@ static int64_t both(void) { return bks_set_intersection(a, 6, b, 4, ends, 4096);
 static int64_t either(void) { return bks_set_union(a, 6, b, 4, ends, 4096); }
 static int64_t without(void) { return bks_set_difference(a, 6, b, 4, ends, 4096); }
 static int64_t one_of(void) { return bks_set_symmetric_difference(a, 6, b, 4, ends, 4096); }
+static int64_t frozen(void) { return bks_set_freeze(a, 6, (uint64_t *)(void *)ends, 2048); }
 static int64_t built(void) {
     static const bks_row rows[] = {{0x41, 0x5A, 1}, {0x4E00, 0x9FFF, 2}, {0x61, 0x20000, 3}};
     return bks_trie_build(rows, 3, 0, 9, BKS_SMALL, 2, ends, sizeof ends);
@@ -73,7 +74,7 @@ static long refused_in_turn(call tried) {
 
 int main(int count, char **words) {
     static const call calls[] = {set_of, set_of_none, size, span, both, either, without, one_of,
-                                 built};
+                                 frozen, built};
     long made = 0;
     for (int i = 1; i < count; i++) {
         size_t bytes;

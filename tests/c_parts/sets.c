@@ -1,44 +1,11 @@
 /* The calls over sets, compared with tables of a flag for each code point, and with ICU4C where it
    is at hand (WITH_ICU). Usage: sets PAIRS */
-#include "parts.h"
+#include "set_tables.h"
 #ifdef WITH_ICU
 #include <unicode/uset.h>
 #endif
 
-enum { MOST = 64 };
-
-typedef struct {
-    uint32_t ends[MOST];
-    size_t count;
-    bool held[CODE_POINTS];
-} set_table;
-
 static set_table a, b;
-static uint64_t state = 88172645463325252u;
-
-static uint32_t below(uint32_t limit) {
-    state ^= state << 13;
-    state ^= state >> 7;
-    state ^= state << 17;
-    return (uint32_t)(state >> 16) % limit;
-}
-
-/* A set of a few ranges, some of them at the ends of the code points, with its table. */
-static void make(set_table *s) {
-    uint32_t step = below(2) ? 200 : CODE_POINTS / 32, next = below(2) ? 0 : below(step);
-    size_t count = 2 * below(MOST / 2);
-    memset(s->held, 0, sizeof s->held);
-    for (s->count = 0; s->count < count && next < CODE_POINTS; s->count++) {
-        s->ends[s->count] = next;
-        next += 1 + below(step);
-    }
-    if (s->count % 2 != 0) {
-        s->ends[s->count] = below(2) ? CODE_POINTS : s->ends[s->count - 1] + 1;
-        s->count++;
-    }
-    for (size_t i = 0; i < s->count; i += 2)
-        memset(s->held + s->ends[i], 1, s->ends[i + 1] - s->ends[i]);
-}
 
 /* The set is asked for each code point, and for its size. */
 static void asks(const set_table *s) {
@@ -76,25 +43,12 @@ static void joined(int64_t count, const uint32_t *ends, const bool wanted[2][2])
         joined(n, ends, wanted);                                                             \
     } while (0)
 
-/* A text of characters in and about the set, and how far its front is held. */
+/* How far the front of a text is held. */
 static void spans(const set_table *s) {
-    static char text[1 << 12];
-    size_t size = 0, front[2] = {0, 0};
-    bool going[2] = {true, true};
-    for (int i = 0; i < 256; i++) {
-        uint32_t c = s->count && below(8) ? s->ends[below((uint32_t)s->count)] : below(CODE_POINTS);
-        c = i < 32 && s->count ? s->ends[0] : c < CODE_POINTS ? c : CODE_POINTS - 1;
-        if (c >= 0xD800 && c < 0xE000) continue;
-        size += write_utf8(c, text + size);
-        for (int held = 0; held < 2; held++) {
-            going[held] = going[held] && s->held[c] == held;
-            if (going[held]) front[held] = size;
-        }
-    }
-    char *kept = (char *)before_closed_page(size);
-    memcpy(kept, text, size);
+    size_t size, front[2];
+    char *text = text_about(s, &size, front);
     for (int held = 0; held < 2; held++)
-        CHECK(bks_set_span(s->ends, s->count, kept, size, held) == (int64_t)front[held]);
+        CHECK(bks_set_span(s->ends, s->count, text, size, held) == (int64_t)front[held]);
 #ifdef WITH_ICU
     USet *icu = uset_openEmpty();
     for (size_t i = 0; i < s->count; i += 2)

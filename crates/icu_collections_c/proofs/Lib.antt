@@ -3,6 +3,8 @@ mod BufferLemmas
 mod BuildingLemmas
 mod CellLemmas
 mod CoherenceLemmas
+mod FrozenLemmas
 mod OpeningLemmas
 mod SetLemmas
+mod SpanLemmas
 mod UnitLemmas

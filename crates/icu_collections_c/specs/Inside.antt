@@ -1,3 +1,4 @@
 -- Words that the functions inside the crate and their proofs need. No public contract cites them.
 pub mod BuiltValues
 pub mod NumberLaws
+pub mod PackedPlaces

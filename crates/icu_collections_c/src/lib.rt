@@ -13,6 +13,7 @@
 //! - `value_sets`: the set of a value
 //! - `sets`: sets as lists of their ends, and what is asked of them
 //! - `set_operations`: sets made of two
+//! - `frozen`: frozen sets in words, and what is asked of them
 //! - `unit_tries`: unit tries in bytes; `units`: what is told of them
 //! - `cells`: cells of tries, in bytes at any address
 //! - `answers`, `buffers`: what calls answer, and what they write
@@ -22,6 +23,7 @@ mod answers;
 mod buffers;
 pub mod building;
 mod cells;
+pub mod frozen;
 pub mod opening;
 pub mod ranges;
 pub mod set_operations;

@@ -1,0 +1,42 @@
+// Prints what a text has of letters, digits and spaces, by a table of general categories in ICU's form.
+// c++ -std=c++17 kept.cpp $(pkg-config --cflags --libs bekstaudi) -o kept
+// ./kept general_category.bin 'A+ß, 7!'
+// ./kept general_category.bin <FILE
+#include <bekstaudi.hpp>
+#include <fstream>
+#include <iostream>
+#include <iterator>
+#include <string>
+
+static std::string read_all(std::istream &in) { return {std::istreambuf_iterator<char>(in), {}}; }
+
+// The pieces of the text that are held.
+static void print_kept(const bekstaudi::frozen_set &kept, std::string_view text) {
+    while (!text.empty()) {
+        text.remove_prefix(kept.span(text, false).size());
+        std::string_view piece = kept.span(text);
+        text.remove_prefix(piece.size());
+        std::cout << piece;
+    }
+}
+
+int main(int count, char **words) {
+    std::ifstream file(count == 2 || count == 3 ? words[1] : "", std::ios::binary);
+    if (!file) {
+        std::cerr << "usage: kept TABLE [TEXT]\n";
+        return 2;
+    }
+    const std::string bytes = read_all(file);
+    try {
+        bekstaudi::trie8 categories(bytes);
+        bekstaudi::code_point_set kept{0x0A, 0x0B};             // ends of lines
+        for (std::uint8_t category : {1, 2, 3, 4, 5, 9, 12}) {  // Lu to Lo, Nd, Zs, by ICU's numbers
+            kept = kept | categories.set_of(category);
+        }
+        std::string text = count == 3 ? words[2] + std::string("\n") : read_all(std::cin);
+        print_kept(bekstaudi::frozen_set(kept), text);
+    } catch (const std::exception &fault) {
+        std::cerr << "kept: " << fault.what() << '\n';
+        return 1;
+    }
+}

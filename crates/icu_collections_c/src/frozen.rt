@@ -1,0 +1,175 @@
+//! Frozen sets in words of the caller's, and what is asked of them there.
+ghost use Rattle.std.specs.Prelude.{◌≡◌, ℕ, ◌+◌, ◌*◌, ◌≤◌, ◌++◌, List, IfOk, length, slice_index};
+ghost use Rattle.std.specs.List.{take_while};
+ghost use Rattle.std.specs.Str.{IsCharBoundary, IsUtf8, chars, encode_utf8_all};
+ghost use mathlib.Core.Bool.{beq};
+ghost use Rattle.icu_invlist.specs.InversionList.{IsValid, holds};
+ghost use Rattle.icu_collections_c.specs.Building.{written_whole};
+ghost use Rattle.icu_collections_c.specs.Frozen.{AnswersFrozen, AnswersPlace, IsFrozenOf, bit_in, is_held, place_in};
+ghost use Rattle.icu_collections_c.specs.Inside.PackedPlaces.{packed, word_at};
+
+use crate::sets::bks_set_test;
+use icu_frozen_sets::frozen::FrozenCodePointSet;
+use icu_invlist::codepointinvlist::CodePointInversionList;
+use icu_zerovec::{CODE_POINT_LIMIT, MemoryError};
+use std::alloc::Global;
+
+/// How many words the places take.
+const PLACE_WORDS: usize = 1088;
+
+/// The word at this place, or 0 where there is none.
+#[inline(always)]
+fn word(table: &[u64], place: usize) -> u64
+    ensures { result ≡ slice_index table.now place }
+{
+    if place < table.len() { table[place] } else { 0 }
+}
+
+/// The place of the block.
+#[inline(always)]
+fn place_of(table: &[u64], block: u32) -> usize
+    ensures { result ≡ place_in table.now block }
+{
+    let four = word(table, (block / 4) as usize);
+    ((four >> (16 * (block % 4))) % 0x1_0000) as usize
+}
+
+/// The bit of the code point.
+#[inline(always)]
+fn bit_of(table: &[u64], c: u32) -> bool
+    ensures { result ≡ bit_in table.now c }
+{
+    let place = PLACE_WORDS + place_of(table, c / 256) + (c / 64 % 4) as usize;
+    (word(table, place) >> (c % 64)) & 1 == 1
+}
+
+/// Whether the code point is held.
+#[inline(always)]
+fn contains(table: &[u64], c: u32) -> bool
+    ensures { result ≡ is_held table.now c }
+{
+    c < CODE_POINT_LIMIT && bit_of(table, c)
+}
+
+/// Four of the places in a word, the lowest first.
+fn packed_places(index: &[u16], i: usize) -> u64
+    requires { 4 * i + 4 ≤ length index.now }
+    ensures { result ≡ word_at index.now (4 * i) }
+{
+    let first = 4 * i;
+    let (a, b) = (u64::from(index[first]), u64::from(index[first + 1]));
+    let (c, d) = (u64::from(index[first + 2]), u64::from(index[first + 3]));
+    a + 0x1_0000 * (b + 0x1_0000 * (c + 0x1_0000 * d))
+}
+
+/// Writes the places, four a word.
+fn write_places(index: &[u16], words: &mut [u64])
+    requires { 4 * length words.old ≤ length index.now }
+    ensures { words.new ≡ packed (length words.old) index.now }
+{
+    for i in 0..words.len() {
+        words[i] = packed_places(index, i);
+    }
+}
+
+/// Writes the tables of a frozen set into the front of a buffer that has room for all of them, and
+/// answers how many words they take.
+fn write_tables(index: &[u16], words: &[u64], buffer: &mut [u64]) -> usize
+    requires blocks { length index.now ≡ 4352 }
+    requires most { length words.now ≤ 8 + 4 * 4352 }
+    ensures count { result ≡ 1088 + length words.now }
+    ensures buffer { buffer.new
+        ≡ written_whole (packed 1088 index.now ++ words.now) buffer.old }
+{
+    let size = PLACE_WORDS + words.len();
+    if size <= buffer.len() {
+        let (places, rest) = buffer.split_at_mut(PLACE_WORDS);
+        write_places(index, places);
+        rest[..words.len()].copy_from_slice(words);
+    }
+    size
+}
+
+/// The set of these ends, frozen.
+fn frozen_of(alloc: Global, ends: &[u32]) -> Result<FrozenCodePointSet, MemoryError>
+    requires { IsValid ends.now }
+    ensures { IfOk result (λ set. set ≡ ends.now) }
+{
+    let set = CodePointInversionList::from_valid_slice(alloc, ends)?;
+    FrozenCodePointSet::freeze(alloc, &set)
+}
+
+/// Freezes the set of these ends (`uset_freeze`): how many words it takes, and the words in the
+/// buffer where there is room for all of them.
+///
+/// # Errors
+/// -1 where memory was refused; -2 where the ends are those of no set. The buffer is then
+/// unchanged.
+#[unsafe(no_mangle)]
+pub extern "C" fn bks_set_freeze(alloc: Global, ends: &[u32], table: &mut [u64]) -> i64
+    ensures { AnswersFrozen ends.now table.old table.new result }
+{
+    if !bks_set_test(ends) {
+        return -2;
+    }
+    match frozen_of(alloc, ends) {
+        Ok(set) => {
+            let tables = set.tables();
+            write_tables(tables.index, tables.words, table) as i64
+        }
+        Err(_) => -1,
+    }
+}
+
+/// Whether the frozen set with which the words begin holds the code point. No number above 0x10FFFF
+/// is held. Any words are answered: what is behind them counts as 0.
+#[unsafe(no_mangle)]
+pub extern "C" fn bks_frozen_contains(table: &[u64], c: u32) -> bool
+    ensures exact { result ≡ is_held table.now c }
+    ensures set { (ends words rest : List ℕ) → IsFrozenOf ends words → table.now ≡ words ++ rest
+        → result ≡ holds ends c }
+{
+    contains(table, c)
+}
+
+/// The length in bytes of the longest front of a text whose characters are all held, or, for `held`
+/// false, all not held.
+fn span(table: &[u64], text: &str, held: bool) -> usize
+    ensures place { result
+        ≡ length (encode_utf8_all
+        (take_while (λ c. beq (is_held table.now c) held) (chars text.now))) }
+    ensures boundary { IsCharBoundary text.now result }
+{
+    let mut length = 0;
+    for c in text.chars() {
+        if contains(table, u32::from(c)) != held {
+            return length;
+        }
+        length += c.len_utf8();
+    }
+    length
+}
+
+/// How many bytes the longest front of a UTF-8 text has whose characters the frozen set with which
+/// the words begin holds, or, for `held` false, does not hold (`uset_spanUTF8`). A character ends
+/// there. Any words are answered, as by [`bks_frozen_contains`].
+///
+/// # Errors
+/// -3 where the text is no UTF-8.
+#[unsafe(no_mangle)]
+pub extern "C" fn bks_frozen_span(table: &[u64], text: &[u8], held: bool) -> i64
+    ensures exact { AnswersPlace (IsUtf8 text.now)
+        (length (encode_utf8_all
+        (take_while (λ c. beq (is_held table.now c) held) (chars text.now))))
+        (IsCharBoundary text.now) result }
+    ensures set { (ends words rest : List ℕ) → IsFrozenOf ends words → table.now ≡ words ++ rest
+        → AnswersPlace (IsUtf8 text.now)
+        (length (encode_utf8_all
+        (take_while (λ c. beq (holds ends c) held) (chars text.now))))
+        (IsCharBoundary text.now) result }
+{
+    match str::from_utf8(text) {
+        Ok(text) => span(table, text, held) as i64,
+        Err(_) => -3,
+    }
+}

@@ -1,0 +1,140 @@
+/* Frozen sets, compared with tables of a flag for each code point, and with ICU4C where it is at hand
+   (WITH_ICU); buffers of all kinds, and words that nobody froze. Usage: frozen SETS DAMAGES */
+#include "set_tables.h"
+#ifdef WITH_ICU
+#include <unicode/uset.h>
+#endif
+
+static set_table a;
+static uint64_t room[BKS_FROZEN_MOST + 8];
+
+/* What the header says of any words, read one by one. */
+static bool said(const uint64_t *table, size_t count, uint32_t c) {
+    size_t block = c / 256, place = block / 4 < count ? table[block / 4] >> 16 * (block % 4) & 0xFFFF : 0;
+    size_t at = 1088 + place + c / 64 % 4;
+    return c < CODE_POINTS && at < count && (table[at] >> c % 64 & 1) != 0;
+}
+
+/* Freezes the set into as much as it needs, before a closed page; a buffer that is too short stays,
+   and so does what is behind the words in a longer one. */
+static uint64_t *frozen(const uint32_t *ends, size_t count, int64_t *size) {
+    *size = bks_set_freeze(ends, count, room, 0);
+    CHECK(*size > 1088 && *size <= BKS_FROZEN_MOST);
+    size_t bytes = 8 * (size_t)*size;
+    uint64_t *table = (uint64_t *)before_closed_page(bytes);
+    CHECK(bks_set_freeze(ends, count, table, (size_t)*size) == *size);
+    for (size_t less = 1; less <= (size_t)*size; less += less < 3 ? 1 : 509) {
+        uint64_t *shorter = (uint64_t *)before_closed_page(bytes - 8 * less);
+        memset(shorter, 0x77, bytes - 8 * less);
+        CHECK(bks_set_freeze(ends, count, shorter, (size_t)*size - less) == *size);
+        for (size_t i = 0; i < (size_t)*size - less; i++) CHECK(shorter[i] == 0x7777777777777777);
+        released(shorter, bytes - 8 * less);
+    }
+    memset(room, 0x77, sizeof room);
+    CHECK(bks_set_freeze(ends, count, room, (size_t)*size + 8) == *size);
+    CHECK(memcmp(room, table, bytes) == 0);
+    for (size_t i = 0; i < 8; i++) CHECK(room[(size_t)*size + i] == 0x7777777777777777);
+    return table;
+}
+
+/* All code points, as they are held: the words alone, and with others behind them. */
+static void asks(const set_table *s, const uint64_t *table, size_t size) {
+    for (uint32_t c = 0; c < CODE_POINTS; c++) {
+        CHECK(bks_frozen_contains(table, size, c) == s->held[c]);
+        CHECK(bks_frozen_has(table, c) == s->held[c]);
+        CHECK(bks_frozen_contains(room, size + 8, c) == s->held[c]);
+    }
+    for (uint64_t c = CODE_POINTS; c <= UINT32_MAX; c += c < CODE_POINTS + 300 ? 1 : 0xFFFF)
+        CHECK(!bks_frozen_contains(table, size, (uint32_t)c) && !bks_frozen_has(table, (uint32_t)c));
+    CHECK(!bks_frozen_contains(table, size, UINT32_MAX) && !bks_frozen_has(table, UINT32_MAX));
+}
+
+/* Texts, and ICU's frozen set of the same ranges. */
+static void spans(const set_table *s, const uint64_t *table, size_t size) {
+    size_t bytes, front[2];
+    char *text = text_about(s, &bytes, front);
+    for (int held = 0; held < 2; held++) {
+        CHECK(bks_frozen_span(table, size, text, bytes, held) == (int64_t)front[held]);
+        CHECK(bks_set_span(s->ends, s->count, text, bytes, held) == (int64_t)front[held]);
+    }
+#ifdef WITH_ICU
+    USet *icu = uset_openEmpty();
+    for (size_t i = 0; i < s->count; i += 2)
+        uset_addRange(icu, (UChar32)s->ends[i], (UChar32)s->ends[i + 1] - 1);
+    uset_freeze(icu);
+    for (uint32_t c = 0; c < CODE_POINTS; c++)
+        CHECK(bks_frozen_has(table, c) == (bool)uset_contains(icu, (UChar32)c));
+    CHECK((size_t)uset_spanUTF8(icu, text, (int32_t)bytes, USET_SPAN_SIMPLE) == front[1]);
+    CHECK((size_t)uset_spanUTF8(icu, text, (int32_t)bytes, USET_SPAN_NOT_CONTAINED) == front[0]);
+    uset_close(icu);
+#endif
+    released(text, bytes);
+}
+
+/* Every second code point, so that each block has words of its own; nothing; and everything. */
+static void extremes(void) {
+    static uint32_t ends[CODE_POINTS];
+    const uint32_t all[] = {0, CODE_POINTS};
+    int64_t size;
+    for (uint32_t c = 0; c < CODE_POINTS; c++) ends[c] = c;
+    uint64_t *table = frozen(ends, CODE_POINTS, &size);
+    CHECK(size == BKS_FROZEN_MOST);
+    for (uint32_t c = 0; c < CODE_POINTS; c++) CHECK(bks_frozen_has(table, c) == (c % 2 == 0));
+    table = frozen(ends, 0, &size);
+    for (uint32_t c = 0; c < CODE_POINTS; c++) CHECK(!bks_frozen_has(table, c));
+    table = frozen(all, 2, &size);
+    for (uint32_t c = 0; c < CODE_POINTS; c++) CHECK(bks_frozen_has(table, c));
+}
+
+/* Ends of no set, and bytes that are no text. */
+static void refused(void) {
+    static const uint32_t lists[][4] = {
+        {1, 2, 3, 3}, {1, 2, 2, 3}, {2, 1, 3, 4}, {1, 2, 3, 0x110001}, {1, 1, 3, 4}, {0, 9, 8, 9}};
+    static const char *const texts[] = {"\x80", "a\xFF", "\xED\xA0\x80", "\xC0\x80", "\xF4\x90\x80\x80", "\xE4\xB8"};
+    memset(room, 0x77, sizeof room);
+    for (size_t i = 0; i < sizeof lists / sizeof lists[0]; i++)
+        CHECK(bks_set_freeze(lists[i], 4, room, BKS_FROZEN_MOST) == BKS_NO_SET);
+    CHECK(bks_set_freeze(lists[0], 3, room, BKS_FROZEN_MOST) == BKS_NO_SET);
+    for (size_t i = 0; i < BKS_FROZEN_MOST; i++) CHECK(room[i] == 0x7777777777777777);
+    for (size_t i = 0; i < sizeof texts / sizeof texts[0]; i++)
+        CHECK(bks_frozen_span(room, BKS_FROZEN_MOST, texts[i], strlen(texts[i]), true) == BKS_NO_TEXT);
+    CHECK(bks_frozen_span(room, 0, "", 0, true) == 0);
+}
+
+/* A few words of the table are others, or it is cut off: the answers are what the words say. */
+static void damaged(const uint64_t *table, size_t size) {
+    static const char text[] = "a\xC3\xA9\xE4\xB8\x96\xF0\x9F\x98\x80 Stra\xC3\x9F" "e";
+    static const uint32_t characters[] = {'a', 0xE9, 0x4E16, 0x1F600, ' ', 'S', 't', 'r', 'a', 0xDF, 'e'};
+    size_t count = below(3) ? size : below((uint32_t)size + 1);
+    uint64_t *copy = (uint64_t *)before_closed_page(8 * count);
+    memcpy(copy, table, 8 * count);
+    for (uint32_t n = below(40); n > 0 && count > 0; n--)
+        copy[below(2) ? below((uint32_t)count) : below(count < 320 ? (uint32_t)count : 320)] = next_number();
+    for (uint32_t c = below(64); c < CODE_POINTS + 999; c += 1 + below(199))
+        CHECK(bks_frozen_contains(copy, count, c) == said(copy, count, c));
+    for (int held = 0; held < 2; held++) {
+        char part[8];
+        int64_t front = 0;
+        for (size_t i = 0; i < 11 && said(copy, count, characters[i]) == held; i++)
+            front += (int64_t)write_utf8(characters[i], part);
+        CHECK(bks_frozen_span(copy, count, text, sizeof text - 1, held) == front);
+    }
+    released(copy, 8 * count);
+}
+
+int main(int count, char **words) {
+    CHECK(count == 3);
+    for (int i = atoi(words[1]); i > 0; i--) {
+        int64_t size;
+        make(&a);
+        uint64_t *table = frozen(a.ends, a.count, &size);
+        asks(&a, table, (size_t)size);
+        spans(&a, table, (size_t)size);
+        for (int n = atoi(words[2]); n > 0; n--) damaged(table, (size_t)size);
+        released(table, 8 * (size_t)size);
+    }
+    extremes();
+    refused();
+    printf("%s frozen sets, each damaged %s times\n", words[1], words[2]);
+    return 0;
+}
