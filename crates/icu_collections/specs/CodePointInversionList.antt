@@ -1,5 +1,5 @@
 -- The words of sets of code points: inversion lists, what they hold, their ranges, and operations
--- on them; the spans of a text by a frozen set.
+-- on them; the spans of a text by a frozen set, and its tables.
 pub use Rattle.icu_zerovec.specs.CodePoints.{code_point_limit}
 pub use Rattle.icu_invlist.specs.InversionList.{IsValid, holds, is_odd}
 unfoldable pub use Rattle.icu_invlist.specs.InversionList.{ends_up_to, members, members_below}
@@ -9,5 +9,6 @@ pub use Rattle.icu_invlist.specs.InversionList.{AreApart, IsOfCodePoints, Starts
 pub use Rattle.icu_invlist.specs.InversionList.{characters, complement_of, toggle_back, toggle_front}
 pub use Rattle.icu_invlist.specs.NamedCodePoints.{IsUnionOf, adds, end_of_included, end_of_inclusive, is_used_up, open_end, open_start, range_of_numbers}
 pub use Rattle.icu_invlist.specs.Refusals.{IsRefusedList, IsRefusedRange, IsRefusedSlice}
+pub use Rattle.icu_frozen_sets.specs.CodePointBits.{AreTablesOf, BitTables, has_bit, word_with}
 pub use Rattle.icu_frozen_sets.specs.Spans.{AreAlternating, AreSpans, GivesSpan, IsFirstSpan, IsOfOneKind, TextToCut, front_of}
 pub use Rattle.icu_frozen_sets.specs.TextFronts.{IsTextUpTo}

@@ -6,7 +6,7 @@
 //! [`FrozenCodePointSet::spans`] cuts a text into what is held and what is not. [`serialized`] has
 //! sets in ICU's serialized form, written and read.
 
-pub use icu_frozen_sets::frozen::FrozenCodePointSet;
+pub use icu_frozen_sets::frozen::{FrozenCodePointSet, FrozenTables};
 pub use icu_frozen_sets::spans::{Span, Spans};
 pub use icu_frozen_sets::text_sets::FrozenCodePointSetAndStrings;
 pub use icu_invlist::codepointinvlist::{

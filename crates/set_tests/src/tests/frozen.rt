@@ -1,6 +1,6 @@
 //! Frozen sets: that they are made, and answer as the set does; want of memory.
 use super::*;
-use icu_frozen_sets::frozen::FrozenCodePointSet;
+use icu_frozen_sets::frozen::{FrozenCodePointSet, FrozenTables};
 use icu_frozen_sets::spans::Spans;
 use icu_zerovec::MemoryError;
 
@@ -291,4 +291,28 @@ fn frozen_pieces_quiet(rt: HostRuntime) {
     expect_same(&rt, pieces, [true, true, false], "two spans");
     expect_same(&rt, bytes, [2, 2], "bytes");
     expect(&rt, !holds_range, "all from A on");
+}
+
+/// The letters are bits 1 to 26 of each half of the second word of the first block, and all blocks
+/// behind it hold nothing.
+///
+/// Calls: `FrozenCodePointSet::tables`.
+#[test]
+fn frozen_tables_quiet(rt: HostRuntime) {
+    let Some(frozen) = frozen_of(rt.alloc(), SETS[2]) else {
+        return;
+    };
+    say(&rt, "call");
+    let FrozenTables { index, words } = frozen.tables();
+    let letters = words.get(usize::from(index[0]) + 1).copied();
+    let empty = [
+        words[usize::from(index[1])],
+        words[usize::from(index[4351])],
+    ];
+    let shared = index[1..].iter().all(|place| *place == index[1]);
+    say(&rt, "done");
+    expect_same(&rt, index.len(), 4352, "blocks");
+    expect_same(&rt, letters, Some(0x07FF_FFFE_07FF_FFFE), "the word");
+    expect_same(&rt, empty, [0, 0], "words of empty blocks");
+    expect(&rt, shared, "empty blocks share their words");
 }
