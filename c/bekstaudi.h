@@ -66,7 +66,10 @@ enum bks_refusal {
     BKS_NO_KEY = -4,     /* a text that no key of a unit trie begins */
     BKS_NO_FORM = -5,    /* a type or a width that tries don't have */
     BKS_WIDE_VALUE = -6, /* a value with more bits than the width */
-    BKS_TOO_LARGE = -7   /* a map that makes too large a trie */
+    BKS_TOO_LARGE = -7,  /* a map that makes too large a trie, or a listing without a number */
+    BKS_NO_ENTRIES = -8, /* another number of values than of keys, or too few units for the keys */
+    BKS_LONG_KEY = -9,   /* a key of more than 65,535 units */
+    BKS_SAME_KEY = -10   /* two entries with one key */
 };
 
 /* A trie, by value: yours to copy and to forget. Its cells stay in the bytes that it was opened
@@ -126,6 +129,13 @@ typedef struct bks_cursor {
                                          many are left, 1 to 256; above 256 after no match */
 } bks_cursor;
 
+/* An entry of a unit trie: where its text stands among the bytes of all texts, and its value. */
+typedef struct bks_word {
+    size_t start;
+    size_t size;
+    int32_t value;
+} bks_word;
+
 /* ---- Tries ----------------------------------------------------------------------------------- */
 
 /* Opens the trie that the bytes begin with: ucptrie_openFromBinary, with either type and any width.
@@ -157,6 +167,17 @@ int64_t bks_trie16_get_utf8(const bks_trie *trie, const char *text, size_t size,
                             size_t room);
 int64_t bks_trie32_get_utf8(const bks_trie *trie, const char *text, size_t size, uint32_t *values,
                             size_t room);
+
+/* The values of the code points of 16-bit units, in order: a loop over U16_NEXT and ucptrie_get. A
+ * high surrogate and the low one after it are one code point, and each other unit is one by itself,
+ * a surrogate without a partner too. Answers how many code points there are, and writes as many
+ * values as there is room for, which `count` always is. */
+size_t bks_trie8_get_utf16(const bks_trie *trie, const uint16_t *text, size_t count,
+                           uint8_t *values, size_t room);
+size_t bks_trie16_get_utf16(const bks_trie *trie, const uint16_t *text, size_t count,
+                            uint16_t *values, size_t room);
+size_t bks_trie32_get_utf16(const bks_trie *trie, const uint16_t *text, size_t count,
+                            uint32_t *values, size_t room);
 
 /* Whether what the trie's header says of the high value and of null blocks is so, as in every trie
  * that ICU built. Look-ups don't care. Ranges trust the header: in a coherent trie they are the
@@ -268,6 +289,33 @@ uint32_t bks_units_step(const void *units, size_t size, bks_cursor *cursor, uint
 /* The value where the cursor stands: UCharsTrie::getValue. True, and it is in *value; false where
  * no key ends, and *value stays. */
 bool bks_units_value(const void *units, size_t size, const bks_cursor *cursor, int32_t *value);
+
+/* [m] The entries of a unit trie in unit order: UCharsTrie::Iterator. Answers how many there are, and
+ * in *texts_size how many bytes their texts take, where a text is a key in UTF-8 with a lone
+ * surrogate as U+FFFD. `words` has the first of them, as many as there is room for in `words` and
+ * for their texts in `texts`: the text of a word w is w.size bytes at texts + w.start. Ask with no
+ * room first, or again with more. BKS_NO_MEMORY, or BKS_TOO_LARGE of 2^63 entries or bytes; then
+ * nothing is written.
+ *
+ * List what you trust: 4 k units of a stranger can have 2^k entries. Of units that are no trie the
+ * entries are what their nodes say, as far as they go. */
+int64_t bks_units_list(const void *units, size_t size, bks_word *words, size_t words_room,
+                       char *texts, size_t texts_room, size_t *texts_size);
+
+/* [m] Builds a unit trie of entries, in any order: UCharsTrieBuilder::add of each, and
+ * buildUnicodeString. Entry i has the next lengths[i] units of `keys` as its key, which may be none,
+ * and values[i]. With U units in the keys of E entries it takes at most 4 U + 32 E bytes, and none
+ * where there is no entry.
+ *
+ * Answers how many bytes the units take. They are in `units` where there is room for all of them,
+ * and else `units` is unchanged: ask with no room first, or again with more. Where none is built,
+ * the first of these that there is cause for: BKS_NO_ENTRIES, where lengths_count is not
+ * values_count, or the lengths are more units than keys_count; BKS_LONG_KEY; BKS_SAME_KEY;
+ * BKS_TOO_LARGE, where 2 U + 16 E is above 0x7FFFFFFF; or BKS_NO_MEMORY, which may come before the
+ * last two. */
+int64_t bks_units_build(const uint16_t *keys, size_t keys_count, const size_t *lengths,
+                        size_t lengths_count, const int32_t *values, size_t values_count,
+                        void *units, size_t room);
 
 /* ---- In line --------------------------------------------------------------------------------- */
 /* These are C, and are tested, not proved. */

@@ -4,7 +4,11 @@ mod BuildingLemmas
 mod CellLemmas
 mod CoherenceLemmas
 mod FrozenLemmas
+mod ListingLemmas
 mod OpeningLemmas
+mod RunLemmas
 mod SetLemmas
 mod SpanLemmas
 mod UnitLemmas
+mod UnitBuildingLemmas
+mod Utf16Lemmas

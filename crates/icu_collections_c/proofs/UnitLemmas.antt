@@ -1,11 +1,14 @@
 -- Units in bytes, and the steps of a cursor over them.
-use Rattle.std.proofs.Common.{◌≡◌, ℕ, zero, suc, ◌+◌, ◌*◌, ◌/◌, List, [], ◌∷◌, ◌++◌, length, take, drop, slice_get, Option, option_to_list, refl, ap, ◌∙◌, subst, arith, inl, inr}
+use Rattle.std.proofs.Common.{◌≡◌, ℕ, zero, suc, ◌+◌, ◌*◌, ◌/◌, ◌%◌, List, [], ◌∷◌, ◌++◌, length, take, drop, slice_get, Option, Some, option_to_list, refl, ap, ◌∙◌, subst, arith, inl, inr}
 use Rattle.std.proofs.lemmas.List.{drop-take, length-take-le, take-take}
 use Rattle.icu_zerovec.specs.Cells.{values_from, values_of}
+use Rattle.icu_zerovec.specs.PackedBytes.{number_of}
 use Rattle.icu_char16trie.specs.Grammar.{IsTrieOf, node, empty}
 use Rattle.icu_char16trie.specs.Steps.{StepsAlong, StepsTo}
 use Rattle.icu_char16trie.specs.UnitMap.{UnitMap, after_all}
 use Rattle.icu_char16trie.specs.UnitPlaces.{Stands}
+use Rattle.icu_collections_c.proofs.CellLemmas.{length-values_of}
+use Rattle.icu_collections_c.specs.UnitTries.{units_of}
 use Rattle.icu_char16trie.specs.declared.place.Place.{Place}
 use Rattle.icu_char16trie.specs.declared.place.Place.TheVariants.{Node}
 
@@ -26,6 +29,10 @@ module _ {T : Type 0} (f : List ℕ → Option T) where
       let long : length (take (length b / 2 * 2) b) ≡ length b / 2 * 2 = length-take-le (length b / 2 * 2) b (omega arith) in
       let cells : length (take (length b / 2 * 2) b) / 2 ≡ length b / 2 = omega arith in
       ap (values_from f 2 (take (length b / 2 * 2) b)) cells ∙ values_from-take (length b / 2) b
+
+-- whole units
+pub whole_units : (b : List ℕ) → length b % 2 ≡ 0 → length b ≡ 2 * length (units_of b)
+whole_units b even = let cells = length-values_of (λ cell. Some (number_of 2 cell)) 2 (λ _. refl) b in omega (arith, cells, even)
 
 -- ---- steps
 -- one more unit

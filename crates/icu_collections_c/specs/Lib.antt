@@ -4,6 +4,8 @@ pub mod Building
 pub mod BytesTrie
 pub mod Frozen
 pub mod Inside
+pub mod Listing
 pub mod Opening
 pub mod Ranges
+pub mod UnitBuilding
 pub mod UnitTries

@@ -171,7 +171,7 @@ fn built(
 }
 
 /// Writes the bytes into the front of a buffer that has room for all of them.
-fn write_whole(bytes: &[u8], buffer: &mut [u8])
+pub(crate) fn write_whole(bytes: &[u8], buffer: &mut [u8])
     ensures { buffer.new ≡ written_whole bytes.now buffer.old }
 {
     if bytes.len() <= buffer.len() {

@@ -1,13 +1,15 @@
-//! Tries over bytes: the values of a text's characters.
+//! Tries over bytes: the values of a text's characters, and of the code points of 16-bit units.
 ghost use Rattle.std.specs.Prelude.{◌≡◌, ◌<◌, ◌≤◌, length, map, slice_set, unwrap_or};
 ghost use Rattle.std.specs.Str.{IsUtf8, chars};
 ghost use Rattle.icu_trie.specs.Parts.{trie_value};
+ghost use Rattle.icu_trie_text.specs.Utf16.{code_points_of};
 ghost use Rattle.icu_collections_c.specs.Answers.{AnswersText};
 ghost use Rattle.icu_collections_c.specs.Buffers.{written};
 ghost use Rattle.icu_collections_c.specs.BytesTrie.{parts_in, value_at};
 
 use crate::cells::UnsignedValue;
 use crate::tries::{Trie, header_of, value_of};
+use crate::utf16::first_code_point;
 
 /// Writes the value at place `i`, if there is one.
 #[inline(always)]
@@ -37,6 +39,29 @@ fn write_text<T: UnsignedValue>(trie: &Trie<'_>, text: &str, values: &mut [T], n
         let value = value_of(&header, index, cells, u32::from(c)).unwrap_or(none);
         put(values, count, value);
         count += 1;
+    }
+    count
+}
+
+/// Writes the values of the code points of 16-bit units into the front of a buffer, as many as it
+/// has room for, and `none` where the trie has no cell; answers how many code points there are.
+#[inline(always)]
+fn write_units<T: UnsignedValue>(trie: &Trie<'_>, units: &[u16], values: &mut [T], none: T) -> usize
+    ensures count { result ≡ length (code_points_of units.now) }
+    ensures bound { result ≤ length units.now }
+    ensures values { values.new
+        ≡ written
+        (map (λ c. unwrap_or (trie_value (parts_in T.unpack T.WIDTH trie.now) c) none)
+        (code_points_of units.now)) values.old }
+{
+    let (header, index, cells) = (header_of(trie), trie.index, trie.values);
+    let mut rest = units;
+    let mut count = 0;
+    while let Some((c, after)) = first_code_point(rest) {
+        let found = value_of(&header, index, cells, c).unwrap_or(none);
+        put(values, count, found);
+        count += 1;
+        rest = after;
     }
     count
 }
@@ -79,4 +104,40 @@ pub extern "C" fn bks_trie32_get_utf8(trie: &Trie<'_>, text: &[u8], values: &mut
         Ok(text) => write_text(trie, text, values, 0) as i64,
         Err(_) => -3,
     }
+}
+
+/// The values of the code points of 16-bit units in a trie of 8 bits, in order (U16_NEXT): how many
+/// code points there are, and as many values in the buffer as there is room for. A high surrogate
+/// and the low surrogate after it are one code point, and each other unit is one by itself, a
+/// surrogate without a partner too.
+#[unsafe(no_mangle)]
+pub extern "C" fn bks_trie8_get_utf16(trie: &Trie<'_>, text: &[u16], values: &mut [u8]) -> usize
+    ensures count { result ≡ length (code_points_of text.now) }
+    ensures bound { result ≤ length text.now }
+    ensures values { values.new
+        ≡ written (map (value_at 1 trie.now) (code_points_of text.now)) values.old }
+{
+    write_units(trie, text, values, 0)
+}
+
+/// The same of 16 bits.
+#[unsafe(no_mangle)]
+pub extern "C" fn bks_trie16_get_utf16(trie: &Trie<'_>, text: &[u16], values: &mut [u16]) -> usize
+    ensures count { result ≡ length (code_points_of text.now) }
+    ensures bound { result ≤ length text.now }
+    ensures values { values.new
+        ≡ written (map (value_at 2 trie.now) (code_points_of text.now)) values.old }
+{
+    write_units(trie, text, values, 0)
+}
+
+/// The same of 32 bits.
+#[unsafe(no_mangle)]
+pub extern "C" fn bks_trie32_get_utf16(trie: &Trie<'_>, text: &[u16], values: &mut [u32]) -> usize
+    ensures count { result ≡ length (code_points_of text.now) }
+    ensures bound { result ≤ length text.now }
+    ensures values { values.new
+        ≡ written (map (value_at 4 trie.now) (code_points_of text.now)) values.old }
+{
+    write_units(trie, text, values, 0)
 }

@@ -1,0 +1,43 @@
+-- Entries in a row, and the map that they make one after another.
+use Rattle.std.proofs.Common.{◌≡◌, ◌∙◌, refl, sym, ap, subst, ℕ, ℤ, pos, ◌+◌, ◌<◌, List, [], ◌∷◌, length, take, drop, get_or, arith}
+use Rattle.std.specs.Prelude.{sum, IsNone, IsSome, Option, Some, None}
+use Rattle.std.proofs.lemmas.List.{drop_more}
+use Rattle.std.proofs.lemmas.List.Sums.{sum_by-drop_more}
+use Rattle.icu_char16trie.specs.UnitMap.{UnitMap, value_of}
+use Rattle.icu_char16trie_builder.specs.Entries.{with_entry}
+use Rattle.icu_collections_c.specs.UnitBuilding.{AreAllNew, entries_of, with_entries}
+
+pub sum_drop_more : (ns : List ℕ) (i : ℕ) → i < length ns → sum (drop i ns) ≡ get_or ns i 0 + sum (drop (i + 1) ns)
+sum_drop_more ns i l = sum_by-drop_more (λ n. n) ns i 0 l
+
+-- the next entry of those that are left
+pub entries_next : (rest ns : List ℕ) (vs : List ℤ) (i : ℕ) → i < length ns → length ns ≡ length vs
+    → entries_of rest (drop i ns) (drop i vs)
+    ≡ (take (get_or ns i 0) rest, get_or vs i (pos 0)) ∷ entries_of (drop (get_or ns i 0) rest) (drop (i + 1) ns) (drop (i + 1) vs)
+entries_next rest ns vs i l same = rw (drop_more ns i 0 l, drop_more vs i (pos 0) (omega (arith, l, same))) refl
+
+-- the entries that are left make the same of what there is as all made of what there was
+pub record Along (all : List (List ℕ × ℤ)) (first : UnitMap) (left : List (List ℕ × ℤ)) (m : UnitMap) : Type 0 where
+  pub map : with_entries left m ≡ with_entries all first
+  pub new : AreAllNew left m → AreAllNew all first
+  pub still : AreAllNew all first → AreAllNew left m
+
+absent_and_there : (o : Option ℤ) → IsNone o → IsSome o → ⊥
+absent_and_there None h k = absurd (cc)
+absent_and_there (Some v) h k = absurd (cc)
+
+module _ (all : List (List ℕ × ℤ)) (first : UnitMap) (key : List ℕ) (v : ℤ) (left rest : List (List ℕ × ℤ)) (m : UnitMap)
+    (along : Along all first left m) (is : left ≡ (key, v) ∷ rest) where
+  here : Along all first ((key, v) ∷ rest) m
+  here = subst (λ es. Along all first es m) is along
+
+  pub Along-next : (after : UnitMap) → IsNone (value_of m key) → after ≡ with_entry key v m → Along all first rest after
+  Along-next after fresh e =
+      subst (λ z. Along all first rest z) (sym e) (record {
+        map = here.map;
+        new = λ h. here.new (fresh, h);
+        still = λ h. (here.still h).1;
+      })
+
+  pub Along-twice : IsSome (value_of m key) → AreAllNew all first → ⊥
+  Along-twice there h = absent_and_there (value_of m key) (here.still h).0 there

@@ -1,0 +1,59 @@
+-- The code points of 16-bit units, one by one.
+use Rattle.std.proofs.Common.{◌≡◌, refl, ap, ℕ, zero, suc, ◌+◌, ◌<◌, ◌≤◌, drop, get_or, add-one, List, [], ◌∷◌, length, Bool, true, false, ◌&&◌, arith}
+use Rattle.std.specs.Char.Utf16.{is_high_surrogate, is_low_surrogate, surrogate_pair_char}
+use Rattle.icu_trie_text.specs.Utf16.{code_points_of}
+
+pub code_points-nil : code_points_of [] ≡ []
+unfolding code_points_of
+code_points-nil = refl
+
+-- a unit that is no high surrogate is one by itself
+pub code_points_alone : (u : ℕ) (us : List ℕ) → is_high_surrogate u ≡ false → code_points_of (u ∷ us) ≡ u ∷ code_points_of us
+unfolding code_points_of
+code_points_alone u [] e = refl
+code_points_alone u (v ∷ us) e = rw e refl
+
+-- and so is the last one
+pub code_points_last : (u : ℕ) → code_points_of (u ∷ []) ≡ u ∷ code_points_of []
+unfolding code_points_of
+code_points_last u = refl
+
+-- and one before a unit that is no low surrogate
+pub code_points_before : (u v : ℕ) (us : List ℕ) → is_high_surrogate u ≡ true → is_low_surrogate v ≡ false
+    → code_points_of (u ∷ v ∷ us) ≡ u ∷ code_points_of (v ∷ us)
+unfolding code_points_of
+code_points_before u v us e f = rw (e, f) refl
+
+pub code_points_pair : (u v : ℕ) (us : List ℕ) → is_high_surrogate u ≡ true → is_low_surrogate v ≡ true
+    → code_points_of (u ∷ v ∷ us) ≡ surrogate_pair_char u v ∷ code_points_of us
+unfolding code_points_of
+code_points_pair u v us e f = rw (e, f) refl
+
+-- there are no more code points than units
+length_by_pair : (u v : ℕ) (us : List ℕ) (b : Bool) → (is_high_surrogate u && is_low_surrogate v) ≡ b → length (code_points_of us) ≤ length us
+    → length (code_points_of (v ∷ us)) ≤ length (v ∷ us) → length (code_points_of (u ∷ v ∷ us)) ≤ length (u ∷ v ∷ us)
+unfolding code_points_of
+length_by_pair u v us true e after rest = rw e (omega arith)
+length_by_pair u v us false e after rest = rw e (omega arith)
+
+pub length-code_points : (us : List ℕ) → length (code_points_of us) ≤ length us
+unfolding code_points_of
+length-code_points [] = omega arith
+length-code_points (u ∷ []) = omega arith
+length-code_points (u ∷ v ∷ us) = length_by_pair u v us (is_high_surrogate u && is_low_surrogate v) refl (length-code_points us) (length-code_points (v ∷ us))
+
+-- ---- what is left behind those that were gone through
+next_of : (pts : List ℕ) (n c : ℕ) (after : List ℕ) → drop n pts ≡ c ∷ after → (n < length pts) × ((d : ℕ) → get_or pts n d ≡ c) × (drop (suc n) pts ≡ after)
+next_of [] zero c after e = absurd (cc)
+next_of [] (suc n) c after e = absurd (cc)
+next_of (x ∷ pts) zero c after e = (omega arith, λ d. cc, cc)
+next_of (x ∷ pts) (suc n) c after e = let more = next_of pts n c after e in (omega (arith, more.0), more.1, more.2)
+
+pub next-drop : (pts : List ℕ) (n c : ℕ) (after : List ℕ) → drop n pts ≡ c ∷ after → (n < length pts) × ((d : ℕ) → get_or pts n d ≡ c) × (drop (n + 1) pts ≡ after)
+next-drop pts n c after e = rw add-one (next_of pts n c after e)
+
+-- where nothing is left, all were gone through
+pub all-drop : (pts : List ℕ) (n : ℕ) → n ≤ length pts → drop n pts ≡ [] → n ≡ length pts
+all-drop [] n l e = omega arith
+all-drop (x ∷ pts) zero l e = absurd (cc)
+all-drop (x ∷ pts) (suc n) l e = ap suc (all-drop pts n (omega arith) e)

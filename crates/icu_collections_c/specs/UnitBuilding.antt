@@ -1,0 +1,100 @@
+-- Unit tries that are built of entries, and what C is told of them.
+use Rattle.std.specs.Prelude.{◌≡◌, ◌⊎◌, ◌*◌, ◌<◌, ◌≤◌, ℕ, ℤ, pos, negsuc, List, [], ◌∷◌, length, take, drop, sum, All, IsNone}
+use Rattle.icu_char16trie.specs.Grammar.{IsTrieOf}
+use Rattle.icu_char16trie.specs.UnitMap.{UnitMap, value_of}
+use Rattle.icu_char16trie_builder.specs.Entries.{most_units, with_entry}
+use Rattle.icu_char16trie_builder.specs.declared.error.AddError.{AddError}
+use Rattle.icu_char16trie_builder.specs.declared.error.AddError.TheVariants as add
+use Rattle.icu_char16trie_builder.specs.declared.error.BuildError.{BuildError}
+use Rattle.icu_char16trie_builder.specs.declared.error.BuildError.TheVariants as build
+use Rattle.icu_collections_c.specs.Building.{HasBytes}
+use Rattle.icu_collections_c.specs.UnitTries.{units_of}
+use Rattle.icu_collections_c.specs.declared.unit_building.Refusal.{Refusal}
+use Rattle.icu_collections_c.specs.declared.unit_building.Refusal.TheVariants.{Entries, LongKey, SameKey, TooLarge, Memory}
+
+-- ---- what is given
+-- there is a value for each length, and there are the units of all keys
+abbrev pub HasEntries : List ℕ → List ℕ → List ℤ → Type 0
+HasEntries keys lengths values =
+    (length lengths ≡ length values) × (sum lengths ≤ length keys)
+
+-- the entries in their order: each has the next so many units as its key, and the next value
+abbrev pub entries_of : List ℕ → List ℕ → List ℤ → List (List ℕ × ℤ)
+entries_of keys [] values = []
+entries_of keys (n ∷ ns) [] = []
+entries_of keys (n ∷ ns) (v ∷ values) = (take n keys, v) ∷ entries_of (drop n keys) ns values
+
+-- a map with more entries, one after another
+abbrev pub with_entries : List (List ℕ × ℤ) → UnitMap → UnitMap
+with_entries [] m = m
+with_entries (e ∷ es) m = with_entries es (with_entry e.0 e.1 m)
+
+-- the map of entries, in any order
+abbrev pub map_of : List (List ℕ × ℤ) → UnitMap
+map_of es = with_entries es []
+
+-- each entry is new when it is added: its key is not in the map, nor that of an earlier entry
+abbrev pub AreAllNew : List (List ℕ × ℤ) → UnitMap → Type 0
+AreAllNew [] m = Unit {0}
+AreAllNew (e ∷ es) m = IsNone (value_of m e.0) × AreAllNew es (with_entry e.0 e.1 m)
+
+-- ---- what is answered
+-- the bytes are whole units, those of a trie of the map, and no more than are stated
+pub record AreUnitsOf (m : UnitMap) (bytes : List ℕ) : Type 0 where
+  pub trie : IsTrieOf (units_of bytes) m
+  pub whole : length bytes ≡ 2 * length (units_of bytes)
+  pub bound : length bytes ≤ 2 * most_units m
+
+-- why there is no trie
+abbrev pub of_add : AddError → Refusal
+of_add add.KeyTooLong = LongKey
+of_add add.Duplicate = SameKey
+of_add add.Memory = Memory
+
+abbrev pub of_build : BuildError → Refusal
+of_build build.TooLarge = TooLarge
+of_build (build.Entry e) = of_add e
+of_build build.Memory = Memory
+
+-- an entry is refused where it is not new, or memory is refused
+abbrev pub IsWhyNotAdded : Type 0 → Refusal → Type 0
+IsWhyNotAdded fresh SameKey = ¬ fresh
+IsWhyNotAdded fresh Memory = Unit {0}
+IsWhyNotAdded fresh _ = ⊥
+
+abbrev pub IsWhyNotBuilt : List ℕ → List ℕ → List ℤ → Refusal → Type 0
+IsWhyNotBuilt keys lengths values Entries = ¬ (HasEntries keys lengths values)
+IsWhyNotBuilt keys lengths values LongKey =
+    HasEntries keys lengths values × ¬ (All (λ n. n ≤ 65535) lengths)
+IsWhyNotBuilt keys lengths values SameKey =
+    HasEntries keys lengths values × All (λ n. n ≤ 65535) lengths
+    × ¬ (AreAllNew (entries_of keys lengths values) [])
+IsWhyNotBuilt keys lengths values TooLarge =
+    HasEntries keys lengths values × All (λ n. n ≤ 65535) lengths
+    × AreAllNew (entries_of keys lengths values) []
+    × (0x7FFF_FFFF < most_units (map_of (entries_of keys lengths values)))
+IsWhyNotBuilt keys lengths values Memory =
+    HasEntries keys lengths values × All (λ n. n ≤ 65535) lengths
+
+-- the numbers of the refusals, as bekstaudi.h names them
+abbrev pub number_of : Refusal → ℤ
+number_of Memory = negsuc 0
+number_of TooLarge = negsuc 6
+number_of Entries = negsuc 7
+number_of LongKey = negsuc 8
+number_of SameKey = negsuc 9
+
+-- how many bytes the units of a trie of the entries take, and they are in the buffer if it has the
+-- room; or the number of the first refusal that there is cause for, and the buffer stays
+pub record HasUnits (keys lengths : List ℕ) (values : List ℤ) (old new : List ℕ) (n : ℕ)
+    : Type 0 where
+  pub given : HasEntries keys lengths values
+  pub short : All (λ n. n ≤ 65535) lengths
+  pub fresh : AreAllNew (entries_of keys lengths values) []
+  pub bytes : HasBytes (AreUnitsOf (map_of (entries_of keys lengths values))) old new n
+
+abbrev pub AnswersUnits : List ℕ → List ℕ → List ℤ → List ℕ → List ℕ → ℤ → Type 0
+AnswersUnits keys lengths values old new told =
+    ((n : ℕ) × (told ≡ pos n) × HasUnits keys lengths values old new n)
+    ⊎ ((why : Refusal) × (told ≡ number_of why) × IsWhyNotBuilt keys lengths values why
+    × (new ≡ old))

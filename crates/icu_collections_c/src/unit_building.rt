@@ -1,0 +1,167 @@
+//! Unit tries that are built of entries.
+ghost use Rattle.std.specs.Prelude.{◌≡◌, ◌↔◌, ◌≤◌, IsTrue, IfOk, IfErr, OnOk, All, [], length, sum};
+ghost use Rattle.icu_char16trie.specs.Grammar.{IsTrieOf};
+ghost use Rattle.icu_char16trie_builder.specs.Entries.{most_units};
+ghost use Rattle.icu_collections_c.specs.UnitBuilding.{AnswersUnits, AreAllNew, HasEntries, IsWhyNotAdded, IsWhyNotBuilt, entries_of, map_of, with_entries};
+
+use crate::building::write_whole;
+use icu_char16trie::char16trie::Char16Trie;
+use icu_char16trie_builder::builder::Char16TrieBuilder;
+use icu_char16trie_builder::error::{AddError, BuildError};
+use std::alloc::Global;
+
+/// The most units that a key may have.
+const LONGEST_KEY: usize = 65_535;
+
+/// Why no unit trie is built.
+#[derive(Clone, Copy)]
+pub(crate) enum Refusal {
+    /// There is another number of values than of keys, or the keys have more units than there are.
+    Entries,
+    /// A key has too many units.
+    LongKey,
+    /// Two entries have one key.
+    SameKey,
+    /// The entries may take too many units.
+    TooLarge,
+    /// Memory was refused.
+    Memory,
+}
+
+impl From<AddError> for Refusal {
+    ghost use Rattle.icu_collections_c.specs.UnitBuilding.{of_add};
+
+    ghost from_gives = { λ x e. e ≡ of_add x };
+
+    fn from(error: AddError) -> Refusal {
+        match error {
+            AddError::KeyTooLong => Refusal::LongKey,
+            AddError::Duplicate => Refusal::SameKey,
+            AddError::Memory => Refusal::Memory,
+        }
+    }
+}
+
+impl From<BuildError> for Refusal {
+    ghost use Rattle.icu_collections_c.specs.UnitBuilding.{of_build};
+
+    ghost from_gives = { λ x e. e ≡ of_build x };
+
+    fn from(error: BuildError) -> Refusal {
+        match error {
+            BuildError::TooLarge => Refusal::TooLarge,
+            BuildError::Entry(error) => Refusal::from(error),
+            BuildError::Memory => Refusal::Memory,
+        }
+    }
+}
+
+/// Whether so many units are enough for keys of these lengths.
+#[tactic(auto, using(crate::proofs::UnitBuildingLemmas::sum_drop_more))]
+fn has_units(count: usize, lengths: &[usize]) -> bool
+    ensures { IsTrue result ↔ (sum lengths.now ≤ count) }
+{
+    let mut left = count;
+    for length in lengths {
+        if *length > left {
+            return false;
+        }
+        left -= *length;
+    }
+    true
+}
+
+/// Whether no key is too long.
+fn are_short(lengths: &[usize]) -> bool
+    ensures { IsTrue result ↔ All (λ n. n ≤ 65535) lengths.now }
+{
+    lengths.iter().all(|length| *length <= LONGEST_KEY)
+}
+
+/// Adds the entries, the first one first: the next so many units are the key of each.
+fn add_entries(
+    builder: &mut Char16TrieBuilder,
+    keys: &[u16],
+    lengths: &[usize],
+    values: &[i32],
+) -> Result<(), Refusal>
+    requires given { HasEntries keys.now lengths.now values.now }
+    requires short { All (λ n. n ≤ 65535) lengths.now }
+    ensures added { OnOk result (builder.new
+        ≡ with_entries (entries_of keys.now lengths.now values.now) builder.old) }
+    ensures fresh { OnOk result (AreAllNew (entries_of keys.now lengths.now values.now)
+        builder.old) }
+    ensures err { IfErr result
+        (IsWhyNotAdded (AreAllNew (entries_of keys.now lengths.now values.now) builder.old)) }
+{
+    let mut rest = keys;
+    for (i, length) in lengths.iter().enumerate() {
+        let (key, after) = rest.split_at(*length);
+        builder.add(key, values[i])?;
+        rest = after;
+    }
+    Ok(())
+}
+
+/// A trie of the entries.
+fn built(
+    alloc: Global,
+    keys: &[u16],
+    lengths: &[usize],
+    values: &[i32],
+) -> Result<Char16Trie<'static>, Refusal>
+    ensures given { IfOk result (λ _. HasEntries keys.now lengths.now values.now) }
+    ensures short { IfOk result (λ _. All (λ n. n ≤ 65535) lengths.now) }
+    ensures fresh { IfOk result (λ _. AreAllNew (entries_of keys.now lengths.now values.now) []) }
+    ensures trie { IfOk result
+        (λ trie. IsTrieOf trie (map_of (entries_of keys.now lengths.now values.now))) }
+    ensures bound { IfOk result
+        (λ trie. length trie ≤ most_units (map_of (entries_of keys.now lengths.now values.now))) }
+    ensures room { IfOk result (λ trie. length trie ≤ 0x7FFF_FFFF) }
+    ensures err { IfErr result (IsWhyNotBuilt keys.now lengths.now values.now) }
+{
+    if lengths.len() != values.len() || !has_units(keys.len(), lengths) {
+        return Err(Refusal::Entries);
+    }
+    if !are_short(lengths) {
+        return Err(Refusal::LongKey);
+    }
+    let mut builder = Char16TrieBuilder::new(alloc);
+    add_entries(&mut builder, keys, lengths, values)?;
+    Ok(builder.build()?)
+}
+
+/// Builds a unit trie of entries, in any order (UCharsTrieBuilder: add and buildUnicodeString): how
+/// many bytes its units take, two a unit, and these bytes in the buffer where there is room for all
+/// of them. Entry `i` has the next `lengths[i]` units of `keys` as its key, which may be none, and
+/// `values[i]`. With U units in the keys of E entries it takes at most 4 U + 32 E bytes, and none
+/// where there is no entry.
+///
+/// # Errors
+/// -8 where there is another number of values than of lengths, or the keys have more units than
+/// there are in `keys`; else -9 where a key has more than 65,535 units; else -10 where two entries
+/// have one key; else -7 where 2 U + 16 E is above 0x7FFFFFFF; -1 where memory was refused, which
+/// may come before -10 and -7. The buffer is then unchanged.
+#[unsafe(no_mangle)]
+pub extern "C" fn bks_units_build(
+    alloc: Global,
+    keys: &[u16],
+    lengths: &[usize],
+    values: &[i32],
+    bytes: &mut [u8],
+) -> i64
+    ensures { AnswersUnits keys.now lengths.now values.now bytes.old bytes.new result }
+{
+    match built(alloc, keys, lengths, values) {
+        Ok(trie) => {
+            let units = trie.data.as_bytes();
+            write_whole(units, bytes);
+            units.len() as i64
+        }
+        Err(Refusal::Memory) => -1,
+        Err(Refusal::TooLarge) => -7,
+        Err(Refusal::Entries) => -8,
+        Err(Refusal::LongKey) => -9,
+        Err(Refusal::SameKey) => -10,
+    }
+}
