@@ -15,10 +15,14 @@
 #include <new>
 #include <optional>
 #include <stdexcept>
+#include <string>
 #include <string_view>
 #include <type_traits>
 #include <utility>
 #include <vector>
+#if __cplusplus >= 202002L
+#include <ranges>
+#endif
 
 namespace bekstaudi {
 
@@ -60,6 +64,25 @@ private:
 };
 
 namespace detail {
+
+// Whether what an object shows stays where it is when the object is gone, as it does for a view and
+// not for a container: so tries are made over temporaries of views alone.
+#ifdef __cpp_lib_ranges
+template <class C>
+inline constexpr bool outlived = std::ranges::enable_borrowed_range<C>;
+#else
+template <class C>
+inline constexpr bool outlived = false;
+template <class Unit, class Traits>
+inline constexpr bool outlived<std::basic_string_view<Unit, Traits>> = true;
+#endif
+template <class T>
+inline constexpr bool outlived<view<T>> = true;
+
+// A temporary container.
+template <class C>
+using if_temporary =
+    std::enable_if_t<!outlived<C>, decltype(std::data(std::declval<const C &>()))>;
 
 // What a call answers, or the error that it tells.
 inline std::size_t answered(std::int64_t answer, const char *refused) {
@@ -217,6 +240,8 @@ public:
               class = std::enable_if_t<!std::is_same_v<C, trie>>>
     explicit trie(const C &bytes)
         : trie(std::data(bytes), std::size(bytes) * sizeof *std::data(bytes)) {}
+    template <class C, class = detail::if_temporary<C>>
+    explicit trie(const C &&bytes) = delete;
 
     // The trie as C has it, and how many of the bytes it takes.
     const bks_trie &as_c() const noexcept { return trie_; }
@@ -319,6 +344,18 @@ std::vector<std::uint8_t> build(view<bks_row> rows, std::uint32_t default_value 
     }
 }
 
+// The entries make no unit trie.
+class entries_refused : public std::invalid_argument {
+public:
+    explicit entries_refused(bks_refusal refusal)
+        : std::invalid_argument("bekstaudi: no unit trie of these entries"), refusal_(refusal) {}
+    // BKS_LONG_KEY; BKS_SAME_KEY: two entries have one key; BKS_TOO_LARGE.
+    bks_refusal refusal() const noexcept { return refusal_; }
+
+private:
+    bks_refusal refusal_;
+};
+
 // A map from keys of 16-bit units to numbers (ICU: UCharsTrie). The units, two bytes each, have to
 // stay where they are, unchanged, while it or a copy of it is used. Any bytes are answered.
 class unit_trie {
@@ -335,6 +372,59 @@ public:
               class = std::enable_if_t<!std::is_same_v<C, unit_trie>>>
     explicit unit_trie(const C &units) noexcept
         : unit_trie(std::data(units), std::size(units) * sizeof *std::data(units)) {}
+    template <class C, class = detail::if_temporary<C>>
+    explicit unit_trie(const C &&units) = delete;
+
+    // The units of a trie of entries in any order, as bks_units_build has them: of a map, or of any
+    // other range of pairs of a key, in UTF-16, and a value. Throws entries_refused.
+    template <class Entries>
+    static std::vector<std::uint8_t> build(const Entries &entries) {
+        std::u16string keys;
+        std::vector<std::size_t> lengths;
+        std::vector<std::int32_t> values;
+        for (const auto &[key, value] : entries) {
+            std::u16string_view units(key);
+            keys.append(units);
+            lengths.push_back(units.size());
+            values.push_back(value);
+        }
+        view<std::size_t> sizes(lengths);
+        view<std::int32_t> numbers(values);
+        std::vector<std::uint8_t> bytes(4 * keys.size() + 32 * lengths.size() + 1);
+        std::int64_t size =
+            bks_units_build(units_of(keys).data(), keys.size(), sizes.data(), sizes.size(),
+                            numbers.data(), numbers.size(), bytes.data(), bytes.size());
+        if (size == BKS_NO_MEMORY) throw std::bad_alloc();
+        if (size < 0) throw entries_refused(static_cast<bks_refusal>(size));
+        bytes.resize(static_cast<std::size_t>(size));
+        return bytes;
+    }
+
+    // All entries in unit order, each key as UTF-8, with a lone surrogate as U+FFFD. List what you
+    // trust: few units of a stranger can have very many entries.
+    std::vector<std::pair<std::string, std::int32_t>> entries() const {
+        std::vector<bks_word> words(1);
+        std::string texts(1, '\0');
+        for (;;) {
+            std::size_t size = 0;
+            std::int64_t answer =
+                bks_units_list(units_.data(), units_.size(), words.data(), words.size(),
+                               texts.data(), texts.size(), &size);
+            if (answer < 0) throw std::bad_alloc();
+            std::size_t count = static_cast<std::size_t>(answer);
+            if (count <= words.size() && size <= texts.size()) {
+                words.resize(count);
+                break;
+            }
+            words.resize(count ? count : 1);
+            texts.resize(size ? size : 1);
+        }
+        std::vector<std::pair<std::string, std::int32_t>> all;
+        all.reserve(words.size());
+        for (const bks_word &word : words)
+            all.emplace_back(texts.substr(word.start, word.size), word.value);
+        return all;
+    }
 
     // The value of a key; none where it is not there.
     std::optional<std::int32_t> operator[](std::u16string_view key) const noexcept {

@@ -5,7 +5,7 @@
     10
     >>> CodePointSet([0x41, 0x5B]) | CodePointSet([0x61, 0x7B])
     CodePointSet([0x41, 0x5b, 0x61, 0x7b])
-    >>> UnitTrie(open("words.units", "rb").read()).longest("category")
+    >>> UnitTrie.build({"cat": 3, "car": 2}).longest("category")
     ('cat', 3)
 
 A code point is an int, or a str of one character. The library is looked for where the variable
@@ -17,7 +17,7 @@ import ctypes.util
 import os
 
 __all__ = ["BekstaudiError", "CodePointSet", "NoMemory", "NoSet", "NoTrie", "Trie", "TrieRefused"]
-__all__ += ["NoForm", "TooLarge", "UnitTrie", "WideValue"]
+__all__ += ["LongKey", "NoForm", "SameKey", "TooLarge", "UnitTrie", "WideValue"]
 
 
 class BekstaudiError(Exception):
@@ -61,6 +61,14 @@ class TooLarge(BekstaudiError, ValueError):
     """The map makes too large a trie."""
 
 
+class LongKey(BekstaudiError, ValueError):
+    """A key has more than 65,535 units."""
+
+
+class SameKey(BekstaudiError, ValueError):
+    """Two entries have one key."""
+
+
 class _Trie(ctypes.Structure):
     """bks_trie of bekstaudi.h."""
 
@@ -101,6 +109,12 @@ class _Row(ctypes.Structure):
     ]
 
 
+class _Word(ctypes.Structure):
+    """bks_word of bekstaudi.h."""
+
+    _fields_ = [("start", ctypes.c_size_t), ("size", ctypes.c_size_t), ("value", ctypes.c_int32)]
+
+
 _NUMBERS = {1: ctypes.c_uint8, 2: ctypes.c_uint16, 4: ctypes.c_uint32}
 _LIST = [ctypes.POINTER(ctypes.c_uint32), ctypes.c_size_t]
 _TEXT = [ctypes.c_char_p, ctypes.c_size_t]
@@ -133,6 +147,11 @@ def _library():
     key, value = [ctypes.POINTER(ctypes.c_uint16), ctypes.c_size_t], ctypes.POINTER(ctypes.c_int32)
     calls["bks_units_get"] = (ctypes.c_bool, [*units, *key, value])
     calls["bks_units_longest_utf8"] = (ctypes.c_int64, [*units, *_TEXT, value])
+    room = ctypes.POINTER(ctypes.c_size_t)
+    words = [ctypes.POINTER(_Word), ctypes.c_size_t]
+    calls["bks_units_list"] = (ctypes.c_int64, [*units, *words, *_BYTES, room])
+    sizes, values = [room, ctypes.c_size_t], [value, ctypes.c_size_t]
+    calls["bks_units_build"] = (ctypes.c_int64, [*key, *sizes, *values, *_BYTES])
     for name in ("union", "intersection", "difference", "symmetric_difference"):
         calls[f"bks_set_{name}"] = (ctypes.c_int64, [*_LIST, *_LIST, *_LIST])
     for name, (answer, words) in calls.items():
@@ -155,6 +174,13 @@ def _point(code_point):
 def _array(numbers):
     """The numbers in memory of C's, which is never NULL, and how many they are."""
     return (ctypes.c_uint32 * max(len(numbers), 1))(*numbers), len(numbers)
+
+
+def _units(key):
+    """The units of a key, two bytes each: those of a str in UTF-16, or the items of a list."""
+    if isinstance(key, str):
+        return key.encode("utf-16-le", "surrogatepass")
+    return b"".join(unit.to_bytes(2, "little") for unit in key)
 
 
 def _count(answer, refusals):
@@ -357,19 +383,63 @@ class UnitTrie:
     two a unit, the lowest first. They are not tested: all bytes are answered.
 
     `trie[key]` is the value of a key, or a `KeyError`; `key in trie` asks whether it is there. A
-    key is a str, as its units in UTF-16, or a list of units.
+    key is a str, as its units in UTF-16, or a list of units. Iteration gives the keys, as str, in
+    the order of their units.
     """
+
+    _REFUSALS = {-1: NoMemory, -7: TooLarge, -9: LongKey, -10: SameKey}
 
     def __init__(self, units):
         self._bytes = bytes(units)
         self._units = ctypes.cast(ctypes.c_char_p(self._bytes), ctypes.c_void_p), len(self._bytes)
 
+    @classmethod
+    def build(cls, entries):
+        """The trie of a dict, or of pairs of a key and a value, in any order. A value is a number of
+        32 bits with a sign. `bks_units_build` says more."""
+        pairs = entries.items() if hasattr(entries, "items") else entries
+        pairs = [(_units(key), value) for key, value in pairs]
+        if any(not -(1 << 31) <= value < 1 << 31 for _, value in pairs):
+            raise WideValue()
+        packed, count = b"".join(units for units, _ in pairs), len(pairs)
+        keys = (ctypes.c_uint16 * max(len(packed) // 2, 1)).from_buffer_copy(packed or bytes(2))
+        lengths = (ctypes.c_size_t * max(count, 1))(*(len(units) // 2 for units, _ in pairs))
+        values = (ctypes.c_int32 * max(count, 1))(*(value for _, value in pairs))
+        room = 2 * len(packed) + 32 * count
+        data = ctypes.create_string_buffer(max(room, 1))
+        asked = (keys, len(packed) // 2, lengths, count, values, count, data, room)
+        size = _count(_lib.bks_units_build(*asked), cls._REFUSALS)
+        return cls(data.raw[:size])
+
+    @property
+    def data(self):
+        """The units of the trie, two bytes each."""
+        return self._bytes
+
+    def items(self):
+        """The keys and the values, in the order of the keys' units: a list of pairs. A lone surrogate
+        of a key is shown as U+FFFD. List what you trust: few units of a stranger can have very many
+        entries."""
+        count, size = 0, ctypes.c_size_t(0)
+        while True:
+            words, texts = (_Word * (count + 1))(), ctypes.create_string_buffer(size.value + 1)
+            rooms = words, count, texts, size.value
+            found = _count(_lib.bks_units_list(*self._units, *rooms, size), self._REFUSALS)
+            if found <= count and size.value <= rooms[3]:
+                break
+            count = found
+        shown = texts.raw
+        return [
+            (shown[it.start : it.start + it.size].decode("utf-8"), it.value)
+            for it in words[:found]
+        ]
+
+    def __iter__(self):
+        return (key for key, _ in self.items())
+
     def get(self, key, default=None):
         """The value of a key, or `default`."""
-        if isinstance(key, str):
-            packed = key.encode("utf-16-le", "surrogatepass")
-        else:
-            packed = b"".join(unit.to_bytes(2, "little") for unit in key)
+        packed = _units(key)
         count, value = len(packed) // 2, ctypes.c_int32()
         units = (ctypes.c_uint16 * max(count, 1)).from_buffer_copy(packed or bytes(2))
         return value.value if _lib.bks_units_get(*self._units, units, count, value) else default
