@@ -2,6 +2,7 @@
    Usage: classes TRIE RUNS ERROR, where ERROR is the trie's error value. */
 #include "bekstaudi.hpp"
 #include "parts.h"
+#include <map>
 #include <set>
 #include <string>
 #include <vector>
@@ -59,7 +60,7 @@ static void refused(const bekstaudi::view<uint8_t> &bytes, size_t width) {
         return BKS_OK;
     };
     CHECK(status_of([&] { bekstaudi::trie8(bytes.data(), 3); }) == BKS_SHORT);
-    CHECK(status_of([&] { bekstaudi::trie8(std::string(16, 'x')); }) == BKS_SIGNATURE);
+    CHECK(status_of([&] { bekstaudi::trie8(std::string_view("xxxxxxxxxxxxxxxx")); }) == BKS_SIGNATURE);
     CHECK(status_of([&] { bekstaudi::trie8 trie(bytes); }) == (width == 1 ? BKS_OK : BKS_OTHER_WIDTH));
     CHECK(status_of([&] { bekstaudi::trie16 trie(bytes); }) == (width == 2 ? BKS_OK : BKS_OTHER_WIDTH));
     CHECK(status_of([&] { bekstaudi::trie32 trie(bytes); }) == (width == 4 ? BKS_OK : BKS_OTHER_WIDTH));
@@ -150,6 +151,47 @@ static void unit_tries() {
     CHECK(cursor.step(u'b') == BKS_NO_MATCH && !cursor.value());
 }
 
+/* Tries are made over what stays: containers that have a name, and views. */
+template <class Trie, class From>
+inline constexpr bool made_over = std::is_constructible_v<Trie, From>;
+static_assert(!made_over<bekstaudi::trie8, std::vector<uint8_t>>);
+static_assert(!made_over<bekstaudi::trie16, const std::vector<uint8_t>>);
+static_assert(!made_over<bekstaudi::trie32, std::string>);
+static_assert(!made_over<bekstaudi::unit_trie, std::u16string>);
+static_assert(made_over<bekstaudi::trie8, std::vector<uint8_t> &>);
+static_assert(made_over<bekstaudi::trie8, const std::vector<uint8_t> &>);
+static_assert(made_over<bekstaudi::trie8, std::string_view>);
+static_assert(made_over<bekstaudi::trie8, bekstaudi::view<uint8_t>>);
+static_assert(made_over<bekstaudi::unit_trie, std::u16string_view>);
+static_assert(std::is_move_constructible_v<bekstaudi::trie8>);
+
+/* Unit tries of maps, listed, and entries that are refused. */
+static void unit_tries_built() {
+    typedef std::vector<std::pair<std::string, int32_t>> entries;
+    const std::map<std::u16string, int32_t> words = {
+        {u"ab", 2}, {u"a", 1}, {u"", -7}, {u"\xD83D", 3}, {u"\U0001F600", INT32_MIN}};
+    const std::vector<uint8_t> bytes = bekstaudi::unit_trie::build(words);
+    const bekstaudi::unit_trie trie(bytes);
+    for (const auto &word : words) CHECK(trie[word.first] == word.second);
+    CHECK(!trie[u"b"] && trie.longest(u"abc")->value == 2);
+    const entries wanted = {
+        {"", -7}, {"a", 1}, {"ab", 2}, {"\uFFFD", 3}, {"\U0001F600", INT32_MIN}};
+    CHECK(trie.entries() == wanted);
+    CHECK(bekstaudi::unit_trie::build(std::map<std::u16string, int32_t>()).empty());
+    CHECK(bekstaudi::unit_trie(nullptr, 0).entries().empty());
+    auto refusal_of = [](std::u16string_view key) {
+        const std::vector<std::pair<std::u16string_view, int>> twice = {{u"a", 1}, {key, 2}};
+        try {
+            bekstaudi::unit_trie::build(twice);
+        } catch (const bekstaudi::entries_refused &fault) {
+            return static_cast<int>(fault.refusal());
+        }
+        return 0;
+    };
+    CHECK(refusal_of(u"a") == BKS_SAME_KEY && refusal_of(u"b") == 0);
+    CHECK(refusal_of(std::u16string(65536, u'a')) == BKS_LONG_KEY);
+}
+
 /* Tries of the runs of a table, and of rows that are refused. */
 template <class Value>
 static void built(size_t count, uint32_t error) {
@@ -181,7 +223,8 @@ static void rows_refused() {
     const bks_row large[] = {{0x41, 0x41, 0x100}};
     CHECK(refusal_of([&] { bekstaudi::build<uint8_t>(large); }) == BKS_WIDE_VALUE);
     CHECK(refusal_of([&] { bekstaudi::build<uint16_t>(large); }) == 0);
-    CHECK(bekstaudi::trie8(bekstaudi::build<uint8_t>(std::vector<bks_row>(), 3))[0x41] == 3);
+    const std::vector<uint8_t> bytes = bekstaudi::build<uint8_t>(std::vector<bks_row>(), 3);
+    CHECK(bekstaudi::trie8(bytes)[0x41] == 3);
 }
 
 int main(int argc, char **argv) {
@@ -202,6 +245,7 @@ int main(int argc, char **argv) {
     rows_refused();
     unit_tries();
     frozen_sets();
+    unit_tries_built();
     operations();
     spans();
     puts("all as expected");

@@ -37,7 +37,7 @@ void __wrap_free(void *block) {
 
 static const uint32_t a[] = {0, 9, 20, 30, 40, 0x110000}, b[] = {5, 25, 0x4E00, 0x5000};
 static bks_trie trie;
-static _Alignas(8) uint32_t ends[4096];
+static _Alignas(16) uint32_t ends[4096];
 
 typedef int64_t (*call)(void);
 static int64_t set_of(void) { return bks_trie_set(&trie, called(&trie, 0x41), ends, 4096); }
@@ -52,6 +52,20 @@ static int64_t frozen(void) { return bks_set_freeze(a, 6, (uint64_t *)(void *)en
 static int64_t built(void) {
     static const bks_row rows[] = {{0x41, 0x5A, 1}, {0x4E00, 0x9FFF, 2}, {0x61, 0x20000, 3}};
     return bks_trie_build(rows, 3, 0, 9, BKS_SMALL, 2, ends, sizeof ends);
+}
+static int64_t units_built(void) {
+    static const uint16_t keys[] = {'a', 'b', 'a', 0xD83D, 0xDE00};
+    static const size_t lengths[] = {2, 1, 0, 2};
+    static const int32_t values[] = {2, 1, 0, -1};
+    return bks_units_build(keys, 5, lengths, 4, values, 4, ends, sizeof ends);
+}
+static int64_t listed(void) {
+    static const uint8_t units[] = {0x30, 0, 0x61, 0, 0xB0, 0, 0x62, 0, 2, 0x80};
+    size_t size = 0x77777777;
+    int64_t count = bks_units_list(units, sizeof units, (bks_word *)ends, 4, (char *)(ends + 64), 64,
+                                   &size);
+    CHECK(size == (count < 0 ? 0x77777777 : 3));
+    return count;
 }
 
 /* How many requests the call makes, each of which was refused once. */
@@ -74,7 +88,7 @@ static long refused_in_turn(call tried) {
 
 int main(int count, char **words) {
     static const call calls[] = {set_of, set_of_none, size, span, both, either, without, one_of,
-                                 frozen, built};
+                                 frozen,      built,       units_built, listed};
     long made = 0;
     for (int i = 1; i < count; i++) {
         size_t bytes;

@@ -101,6 +101,14 @@ static inline int64_t of_text(const bks_trie *trie, const char *text, size_t siz
                : bks_trie32_get_utf8(trie, text, size, (uint32_t *)values, room);
 }
 
+static inline size_t of_units(const bks_trie *trie, const uint16_t *text, size_t count, void *values,
+                              size_t room) {
+    return trie->width == 1 ? bks_trie8_get_utf16(trie, text, count, (uint8_t *)values, room)
+           : trie->width == 2
+               ? bks_trie16_get_utf16(trie, text, count, (uint16_t *)values, room)
+               : bks_trie32_get_utf16(trie, text, count, (uint32_t *)values, room);
+}
+
 /* Writes a code point in UTF-8, and answers its size. */
 static inline size_t write_utf8(uint32_t c, char *text) {
     size_t more = c < 0x80 ? 0 : c < 0x800 ? 1 : c < 0x10000 ? 2 : 3, size = more + 1;

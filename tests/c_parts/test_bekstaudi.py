@@ -7,7 +7,7 @@ import sys
 import unittest
 
 from bekstaudi import (
-    CodePointSet, NoForm, NoSet, TooLarge, Trie, TrieRefused, UnitTrie, WideValue
+    CodePointSet, LongKey, NoForm, NoSet, SameKey, TooLarge, Trie, TrieRefused, UnitTrie, WideValue
 )
 
 FOLDER = os.environ["TRIES"]
@@ -202,6 +202,28 @@ class UnitTries(unittest.TestCase):
         for units in (b"", b"\x30", b"\x30\0"):
             self.assertNotIn("0", UnitTrie(units))
             self.assertIsNone(UnitTrie(units).longest("0"))
+
+    def test_built(self):
+        words = {"ab": 2, "a": 1, "": -7, "\ud83d": 3, "\U0001f600": -(1 << 31)}
+        trie = UnitTrie.build(words)
+        self.assertEqual({it: trie[it] for it in words}, words)
+        shown = [("", -7), ("a", 1), ("ab", 2), ("\ufffd", 3), ("\U0001f600", -(1 << 31))]
+        self.assertEqual(trie.items(), shown)
+        self.assertEqual(list(trie), [key for key, _ in shown])
+        self.assertEqual(UnitTrie.build([([0x61], 1), ("ab", 2)]).data.hex(), "30006100b00062000280")
+        self.assertEqual((UnitTrie.build({}).data, UnitTrie.build({}).items()), (b"", []))
+        many = {f"{it:x}": it for it in range(5000)}
+        self.assertEqual(UnitTrie.build(many).items(), sorted(many.items()))
+
+    def test_entries_refused(self):
+        for entries, why in (
+            ([("a", 1), ([0x61], 2)], SameKey),
+            ({"a" * 65536: 1}, LongKey),
+            ({"a": 1 << 31}, WideValue),
+            ({"a": -(1 << 31) - 1}, WideValue),
+        ):
+            with self.assertRaises(why):
+                UnitTrie.build(entries)
 
     def test_names(self):
         if not os.path.exists(f"{FOLDER}/names.units"):

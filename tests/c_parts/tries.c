@@ -5,6 +5,7 @@
 #ifdef WITH_ICU
 #include <unicode/ucptrie.h>
 #include <unicode/uset.h>
+#include <unicode/utf16.h>
 #endif
 
 static bks_range runs[1 << 17];
@@ -41,6 +42,58 @@ static void texts(const bks_trie *trie) {
     CHECK(of_text(trie, text, 0, values, 3) == 0);
     CHECK(of_text(trie, "ab\xFF", 3, values, 3) == BKS_NO_TEXT);
     CHECK(of_text(trie, "\xED\xB0\x80", 3, values, 3) == BKS_NO_TEXT);
+}
+
+/* The next code point of 16-bit units: ICU's where it is at hand. */
+static uint32_t next_point(const uint16_t *units, size_t count, size_t *i) {
+#ifdef WITH_ICU
+    UChar32 c;
+    U16_NEXT(units, *i, count, c);
+    return (uint32_t)c;
+#else
+    uint32_t c = units[(*i)++];
+    if (c >> 10 == 0x36 && *i < count && units[*i] >> 10 == 0x37)
+        c = 0x10000 + ((c & 0x3FF) << 10 | (units[(*i)++] & 0x3FF));
+    return c;
+#endif
+}
+
+/* So many units, with room for all values, for a few, and for none. */
+static void of_these_units(const bks_trie *trie, const uint16_t *units, size_t n) {
+    size_t count = 0;
+    for (size_t i = 0; i < n; count++) points[count] = next_point(units, n, &i);
+    memset(values, 0x55, sizeof values);
+    CHECK(of_units(trie, units, n, values, count) == count);
+    for (size_t i = 0; i < count; i++) CHECK(value_in(trie, values, i) == expected[points[i]]);
+    CHECK(((uint8_t *)values)[count * trie->width] == 0x55);
+    memset(values, 0x55, sizeof values);
+    CHECK(of_units(trie, units, n, values, count / 2) == count);
+    for (size_t i = 0; i < count / 2; i++) CHECK(value_in(trie, values, i) == expected[points[i]]);
+    CHECK(((uint8_t *)values)[count / 2 * trie->width] == 0x55);
+    CHECK(of_units(trie, units, n, values, 0) == count);
+}
+
+/* All units one after another, all pairs of surrogates, and surrogates in any order; the last one
+   before a closed page. */
+static void units(const bks_trie *trie) {
+    enum { MOST = 0x200000 };
+    static const uint16_t some[] = {0x41, 0xD800, 0xDBFF, 0xDC00, 0xDFFF, 0xFFFF};
+    uint16_t *text = (uint16_t *)before_closed_page(MOST * sizeof *text);
+    uint32_t state = 1;
+    for (uint32_t c = 0; c < 0x10000; c++) text[c] = (uint16_t)c;
+    of_these_units(trie, text, 0x10000);
+    for (uint32_t c = 0; c < 0x100000; c++) {
+        text[2 * c] = (uint16_t)(0xD800 | c >> 10);
+        text[2 * c + 1] = (uint16_t)(0xDC00 | (c & 0x3FF));
+    }
+    of_these_units(trie, text, MOST);
+    for (size_t i = 0; i < 0x10000; i++) {
+        state = state * 1664525 + 1013904223;
+        text[MOST - 0x10000 + i] = some[(state >> 16) % 6];
+    }
+    text[MOST - 1] = 0xD83D;
+    for (size_t n = 0; n < 0x10000; n = 3 * n + 1) of_these_units(trie, text + MOST - n, n);
+    released(text, MOST * sizeof *text);
 }
 
 /* All ranges from 0 on, and the one from the midst of each. */
@@ -111,6 +164,7 @@ int main(int count, char **words) {
     for (uint32_t c = CODE_POINTS; c < CODE_POINTS + 16; c++) expected[c] = error;
     look_ups(&trie, error);
     texts(&trie);
+    units(&trie);
     ranges(&trie, many_runs);
     for (size_t i = 0; i < many_runs && i < 64; i++) set_of(&trie, runs[i].value, many_runs);
     set_of(&trie, 0xFFFFFFFE, many_runs);

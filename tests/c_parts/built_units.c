@@ -1,0 +1,146 @@
+/* Unit tries that are built and listed: worked ones, refused ones, buffers of all sizes before a
+   closed page, and units of a stranger. Usage: built_units */
+#include "parts.h"
+
+enum { STAYS = 77, MOST = 64 };
+
+/* Entries, and the units of their trie in hexadecimal, as the format's description has them. */
+typedef struct row {
+    const char *texts[4]; /* of ASCII */
+    int32_t values[4];
+    const char *units;
+} row;
+
+static const row rows[] = {
+    {{"a", "ab"}, {1, 2}, "30 61 B0 62 8002"},
+    {{"ab", "a"}, {2, 1}, "30 61 B0 62 8002"},
+    {{""}, {7}, "8007"},
+    {{"ab"}, {-2}, "31 61 62 FFFF FFFF FFFE"},
+    {{0}, {0}, ""},
+};
+
+static uint16_t keys[MOST];
+static size_t lengths[4];
+
+/* The keys of a row, and how many there are. */
+static size_t keys_of(const row *r, size_t *units) {
+    size_t count = 0;
+    *units = 0;
+    for (; count < 4 && r->texts[count]; count++) {
+        lengths[count] = strlen(r->texts[count]);
+        for (size_t i = 0; i < lengths[count]; i++)
+            keys[(*units)++] = (uint8_t)r->texts[count][i];
+    }
+    return count;
+}
+
+static size_t read_units(const char *said, uint8_t *units) {
+    size_t count = 0;
+    for (char *next; *said; said = next, count++) {
+        unsigned long unit = strtoul(said, &next, 16);
+        units[2 * count] = (uint8_t)unit;
+        units[2 * count + 1] = (uint8_t)(unit >> 8);
+    }
+    return 2 * count;
+}
+
+/* A row into buffers of all sizes: the units are there where they have room. */
+static void is_row(const row *r) {
+    size_t units, count = keys_of(r, &units);
+    uint8_t wanted[MOST];
+    size_t size = read_units(r->units, wanted);
+    for (size_t room = 0; room < MOST; room++) {
+        uint8_t *bytes = before_closed_page(room);
+        memset(bytes, STAYS, room);
+        CHECK(bks_units_build(keys, units, lengths, count, r->values, count, bytes, room)
+              == (int64_t)size);
+        size_t kept = size <= room ? size : 0;
+        CHECK(memcmp(bytes, wanted, kept) == 0);
+        for (size_t i = kept; i < room; i++) CHECK(bytes[i] == STAYS);
+        released(bytes, room);
+    }
+}
+
+/* What is refused, the first cause of several. */
+static void refused(void) {
+    static uint16_t many[70000];
+    static const size_t two[] = {1, 1}, three[] = {1, 1, 1}, huge[] = {65536, 1, SIZE_MAX};
+    static const size_t longest[] = {65535, 1};
+    static const int32_t values[] = {1, 2, 3};
+    uint8_t bytes[MOST];
+    memset(bytes, STAYS, MOST);
+    many[0] = 'a', many[1] = 'b', many[2] = 'a';
+    struct {
+        size_t units;
+        const size_t *lengths;
+        size_t count, values;
+        int64_t answer;
+    } rows[] = {
+        {3, two, 2, 3, BKS_NO_ENTRIES},     {3, three, 3, 2, BKS_NO_ENTRIES},
+        {2, three, 3, 3, BKS_NO_ENTRIES},   {70000, huge, 3, 3, BKS_NO_ENTRIES},
+        {65535, huge, 1, 1, BKS_NO_ENTRIES}, {3, huge + 2, 1, 1, BKS_NO_ENTRIES},
+        {3, three, 3, 3, BKS_SAME_KEY},     {70000, huge, 1, 1, BKS_LONG_KEY},
+        {70000, huge, 2, 2, BKS_LONG_KEY},
+    };
+    for (size_t i = 0; i < sizeof rows / sizeof rows[0]; i++)
+        CHECK(bks_units_build(many, rows[i].units, rows[i].lengths, rows[i].count, values,
+                              rows[i].values, bytes, MOST) == rows[i].answer);
+    CHECK(bks_units_build(many, 70000, longest, 2, values, 2, bytes, MOST) > MOST);
+    for (size_t i = 0; i < MOST; i++) CHECK(bytes[i] == STAYS);
+}
+
+/* A listing: how many entries, and the texts one after another. */
+static int64_t listed(const char *said, bks_word *words, size_t room, char *texts, size_t *size) {
+    uint8_t units[MOST * 4];
+    size_t n = read_units(said, units);
+    uint8_t *moved = before_closed_page(n + 1);
+    memcpy(moved, units, n);
+    moved[n] = 0x61; /* an odd last byte is no unit */
+    int64_t count = bks_units_list(moved, n + 1, words, room, texts, MOST, size);
+    released(moved, n + 1);
+    return count;
+}
+
+static void listings(void) {
+    bks_word words[4] = {{0, 0, 0}};
+    char texts[MOST] = {0};
+    size_t size = STAYS;
+    CHECK(listed("30 61 B0 62 8002", words, 4, texts, &size) == 2 && size == 3);
+    CHECK(memcmp(texts, "aab", 4) == 0 && words[0].start == 0 && words[0].size == 1);
+    CHECK(words[0].value == 1 && words[1].start == 1 && words[1].size == 2 && words[1].value == 2);
+    CHECK(listed("8007", words, 4, texts, &size) == 1 && size == 0 && words[0].size == 0);
+    CHECK(listed("", words, 4, texts, &size) == 0 && size == 0);
+    /* a lone surrogate is U+FFFD, a pair its character */
+    CHECK(listed("30 D83D B0 DE00 8002", words, 4, texts, &size) == 2 && size == 7);
+    CHECK(memcmp(texts, "\xEF\xBF\xBD\xF0\x9F\x98\x80", 7) == 0 && words[1].start == 3);
+    /* no tries: a lead without its units, and a value that is cut off */
+    CHECK(listed("30", words, 4, texts, &size) == 0 && size == 0);
+    CHECK(listed("30 61 FFFF", words, 4, texts, &size) == 1 && words[0].value == 0);
+}
+
+/* Four units a level, of which both arms lead to the next one: 2^12 entries. */
+static void doubled(void) {
+    enum { LEVELS = 12 };
+    uint16_t units[4 * LEVELS + 1];
+    static bks_word words[1 << LEVELS];
+    static char texts[LEVELS << LEVELS];
+    size_t size;
+    for (size_t k = 0; k < LEVELS; k++) {
+        static const uint16_t level[] = {1, 'a', 1, 'b'};
+        memcpy(units + 4 * k, level, sizeof level);
+    }
+    units[4 * LEVELS] = 0x8005;
+    CHECK(bks_units_list(units, sizeof units, words, 1 << LEVELS, texts, sizeof texts, &size)
+          == 1 << LEVELS);
+    CHECK(size == sizeof texts && words[1].start == LEVELS && words[1].value == 5);
+    CHECK(memcmp(texts + LEVELS, "aaaaaaaaaaab", LEVELS) == 0);
+}
+
+int main(void) {
+    for (size_t i = 0; i < sizeof rows / sizeof rows[0]; i++) is_row(rows + i);
+    refused();
+    listings();
+    doubled();
+    printf("%zu rows\n", sizeof rows / sizeof rows[0]);
+    return 0;
+}
