@@ -3,7 +3,7 @@ use crate::names::{by_bytes, by_unit_json};
 use crate::outcome::Outcome;
 use crate::stored::value_of;
 use icu_char16trie::char16trie::{Char16Trie, TrieResult};
-use icu_zerovec::ZeroVec;
+use icu_zerovec::{MemoryError, ZeroVec};
 use std::alloc::{AllocError, Global};
 
 /// How many entries are asked for at most: nodes may be shared, so that a few units can have more
@@ -24,14 +24,25 @@ fn stays_lost(trie: &Char16Trie<'_>, text: &str) -> bool {
     true
 }
 
-/// Whether the entries could be taken from a trie, to the last of them or as many as are asked for.
-fn gives_entries(alloc: Global, trie: &Char16Trie<'_>) -> bool {
+/// How many entries a listing gives: all of them, or as many as are asked for.
+fn entries_given(alloc: Global, trie: &Char16Trie<'_>) -> Result<u64, MemoryError> {
+    let mut given = 0u64;
     for entry in trie.iter2(alloc).take(MOST) {
-        if entry.is_err() {
-            return false;
-        }
+        let _entry = entry?;
+        given = given.saturating_add(1);
     }
-    true
+    Ok(given)
+}
+
+/// Whether the units are told to be a trie exactly where their entries are counted, and as many are
+/// given as were counted.
+fn counts_agree(alloc: Global, trie: &Char16Trie<'_>) -> Result<bool, MemoryError> {
+    let given = entries_given(alloc, trie)?;
+    let is_trie = trie.is_trie(alloc)?;
+    match trie.count_entries(alloc)? {
+        Some(count) => Ok(is_trie && given == count.min(MOST as u64)),
+        None => Ok(!is_trie),
+    }
 }
 
 /// Asks a trie for all that it answers.
@@ -39,10 +50,11 @@ fn asked(alloc: Global, trie: &Char16Trie<'_>) -> Outcome {
     if !stays_lost(trie, "az\u{1F600}d") || !stays_lost(trie, "ezz") {
         return Outcome::Wrong("a match after none");
     }
-    if !gives_entries(alloc, trie) {
-        return Outcome::Wrong("memory was refused");
+    match counts_agree(alloc, trie) {
+        Ok(true) => Outcome::Taken,
+        Ok(false) => Outcome::Wrong("other entries than are counted"),
+        Err(MemoryError) => Outcome::Wrong("memory was refused"),
     }
-    Outcome::Taken
 }
 
 /// What becomes of bytes as the units of a trie.
