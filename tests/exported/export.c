@@ -1,7 +1,9 @@
 /* Writes a table of rows HEX..HEX;N or HEX;N from standard input as a trie in TOML, in the form of
    ICU's icuexportdata: ICU4C builds the trie, and its arrays and header are printed as they stand.
-   With a FILE it compares that trie with the one which ICU4C opens from the file's binary form.
-   Usage: export fast|small 8|16|32 [FILE] <TABLE */
+   With a FILE it compares that trie with the one which ICU4C opens from the file's binary form; and
+   with a TEXT and VALUES besides, the values along the text, which may be ill-formed UTF-8, with
+   those in the file, of four bytes each: those of a fast trie of 32 bits by ICU's own macro.
+   Usage: export fast|small 8|16|32 [FILE [TEXT VALUES]] <TABLE */
 #include <stdbool.h>
 #include <stdio.h>
 #include <stdlib.h>
@@ -54,14 +56,34 @@ static void compare(const UCPTrie *trie, const char *path) {
         fail("other bytes than ICU's");
 }
 
+// The values along the text are those in the file: as many, each the same.
+static void compare_values(const UCPTrie *trie, const char *text_path, const char *values_path) {
+    static uint8_t text[1 << 23];
+    FILE *texts = fopen(text_path, "rb"), *values = fopen(values_path, "rb");
+    if (!texts || !values) fail("no text, or no values");
+    const uint8_t *at = text, *end = text + fread(text, 1, sizeof text, texts);
+    long parts = 0, refused = 0;
+    for (; at < end; parts++) {
+        uint32_t wanted, found;
+        UCPTRIE_FAST_U8_NEXT(trie, UCPTRIE_32, at, end, wanted);
+        if (fread(&found, sizeof found, 1, values) != 1) fail("fewer values than ICU's");
+        if (found != wanted) fail("another value than ICU's");
+        refused += wanted == ucptrie_get(trie, 0x110000);
+    }
+    if (fgetc(values) != EOF) fail("more values than ICU's");
+    printf("%ld values along damaged UTF-8 are ICU's, %ld of them of ill-formed parts\n", parts, refused);
+}
+
 int main(int count, char **words) {
-    if (count < 3 || count > 4) fail("usage: export fast|small 8|16|32 [FILE]");
+    if (count < 3 || count > 6 || count == 5) fail("usage: export fast|small 8|16|32 [FILE [TEXT VALUES]]");
     int bits = atoi(words[2]);
     UCPTrieValueWidth width = bits == 8    ? UCPTRIE_VALUE_BITS_8
                               : bits == 16 ? UCPTRIE_VALUE_BITS_16
                                            : UCPTRIE_VALUE_BITS_32;
     UCPTrie *trie = build(!strcmp(words[1], "fast"), width);
-    if (count == 4) return compare(trie, words[3]), 0;
+    if (count >= 4) compare(trie, words[3]);
+    if (count == 6) compare_values(trie, words[4], words[5]);
+    if (count >= 4) return 0;
     printf("[[enum_property]]\nlong_name = \"Table\"\nshort_name = \"table\"\n\n"
            "[enum_property.code_point_trie]\nindex = [\n");
     for (int i = 0; i < trie->indexLength; i++) printf("%u%s", trie->index[i], after(i));

@@ -1,12 +1,15 @@
 //! Prints the ranges of the first trie of the file `trie.toml` where it runs, as ICU's
 //! icuexportdata writes it, and writes the trie in ICU's binary form into `trie.bin` beside it,
-//! with values of 32 bits, for `tests/exported/run.sh`. Where there is no such trie, as in the
-//! gate, it prints and writes nothing, and the status is 1.
+//! with values of 32 bits, for `tests/exported/run.sh`. Where there is a file `text` too, whose bytes
+//! may be ill-formed UTF-8, it writes the values along them into `values`, one of four bytes a part,
+//! the lowest first. Where there is no such trie, as in the gate, it prints and writes nothing, and
+//! the status is 1.
 #![tactic(auto)]
 
 use icu_trie::cptrie::CodePointTrie;
 use icu_trie_binary::binary::to_binary;
 use icu_trie_formats::trie_toml::CodePointTrieToml;
+use icu_trie_text::text::values_of_utf8;
 use std::fs;
 use std::process::ExitCode;
 use toml::{Table, Value};
@@ -31,6 +34,19 @@ fn write_form(rt: &HostRuntime, trie: &CodePointTrie<'static, u32>) -> Option<()
     fs::write(rt, "trie.bin", bytes).ok()
 }
 
+/// Writes the values along the bytes of the file `text`, if there is one, into `values`. `None` where
+/// that fails.
+fn write_values(rt: &HostRuntime, trie: &CodePointTrie<'static, u32>) -> Option<()> {
+    let Ok(text) = fs::read(rt, "text") else {
+        return Some(());
+    };
+    let mut values = Vec::new(rt.alloc());
+    for (_, value) in values_of_utf8(trie, &text) {
+        values.extend_from_slice(&value.to_le_bytes()).ok()?;
+    }
+    fs::write(rt, "values", values).ok()
+}
+
 fn main(rt: HostRuntime) -> ExitCode {
     let Some(trie) = trie_of(&rt) else {
         return ExitCode::from(1);
@@ -46,7 +62,7 @@ fn main(rt: HostRuntime) -> ExitCode {
             return ExitCode::from(2);
         }
     }
-    if write_form(&rt, &trie).is_none() {
+    if write_form(&rt, &trie).is_none() || write_values(&rt, &trie).is_none() {
         return ExitCode::from(3);
     }
     ExitCode::from(0)
