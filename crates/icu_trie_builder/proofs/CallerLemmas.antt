@@ -19,6 +19,8 @@ use Rattle.icu_trie_builder.specs.Writes.{answer_after, value_after}
 use Rattle.icu_trie_builder.specs.declared.writes.Write.{Write}
 -- The writes of two lists, one after the other
 pub use Rattle.icu_trie_builder.proofs.AfterLemmas.{IsAfter-append, value_after-append}
+-- How many different blocks of one length few writes leave
+pub use Rattle.icu_trie_builder.proofs.FewWrites.{count_different-few}
 -- What a look-up and a walk over the cells of a trie of a map give
 pub use Rattle.icu_trie_builder.proofs.RangesOfMap.{answer-of-map, longest_of_map, no_answer-of-map}
 

@@ -160,7 +160,7 @@ module _ {T : Type 0} (number : T → ℕ) (d : T) where
     ]
 
     -- n accepted writes leave at most 3 n + 1 different blocks of any one length
-    count_different-few : (k first count : ℕ) → 0 < k → count_different (block_of k (λ c. number (value_after ws d c))) first count ≤ 3 * count_by (is_accepted) ws + 1
+    pub count_different-few : (k first count : ℕ) → 0 < k → count_different (block_of k (λ c. number (value_after ws d c))) first count ≤ 3 * count_by (is_accepted) ws + 1
     unfolding count_different
     count_different-few k first count pos =
         let b : ℕ → List ℕ = block_of k (λ c. number (value_after ws d c)) in
