@@ -45,13 +45,17 @@ children_count : (units counts : List ℕ) {arms : Arms} {m : UnitMap} → Child
 children_count units counts (none arms m a e) h = rw (a, e) refl
 children_count units counts (more u q rest arms m others all a node c e) h =
     let h' : AllCounted units counts (q ∷ places_of rest) = rw a at h in
-    let both : length all ≡ length m + length others = ap length e ∙ length-append (under (u ∷ []) m) others ∙ ap (λ z. z + length others) (length_under (u ∷ []) m) in
-    rw (a, both) (cap_two (get_or counts q 0) (sum_at counts (places_of rest)) (length m) (length others) _ (h'.0 m node) (children_count units counts c h'.1))
+    let both : length all ≡ length m + length others =
+    ap length e ∙ length-append (under (u ∷ []) m) others ∙ ap (λ z. z + length others) (length_under (u ∷ []) m) in
+    rw (a, both)
+    (cap_two (get_or counts q 0) (sum_at counts (places_of rest)) (length m) (length others) _ (h'.0 m node)
+    (children_count units counts c h'.1))
 
 one_count : (c n most : ℕ) → c ≡ min n most → min (c + 0) most ≡ min n most
 one_count c n most e = omega arith
 
-matches_count : (units counts : List ℕ) {p low : ℕ} {m : UnitMap} {kids : List ℕ} → Matches units p low m → MatchKids units p low kids → AllCounted units counts kids
+matches_count : (units counts : List ℕ) {p low : ℕ} {m : UnitMap} {kids : List ℕ} → Matches units p low m → MatchKids units p low kids
+    → AllCounted units counts kids
     → capped (sum_at counts kids) ≡ capped (length m)
 matches_count units counts (run p low m rest big small within h e) (after_run _ _ kids _ k) all =
     let all' : AllCounted units counts ((p + (low - 0x2f)) ∷ []) = rw k at all in
@@ -65,17 +69,24 @@ matches_count units counts (branch p low n arms m small len some part up c) (of_
     let is : kids ≡ places_of arms = k ∙ ap places_of arms_same in
     rw is (children_count units counts c (rw is at all))
 
-pub node_count : (units counts : List ℕ) {p own : ℕ} {m : UnitMap} {kids : List ℕ} → Holds units p m → NodeKids units p own kids → AllCounted units counts kids
+pub node_count : (units counts : List ℕ) {p own : ℕ} {m : UnitMap} {kids : List ℕ} → Holds units p m → NodeKids units p own kids
+    → AllCounted units counts kids
     → capped (own + sum_at counts kids) ≡ capped (length m)
 node_count units counts (final p lead n m g big s e) (no_kids _ lead' own kids g' big' one k) all = rw (one, k, e) refl
-node_count units counts (final p lead n m g big s e) (of_plain _ lead' own kids g' small' one k) all = let same : lead' ≡ lead = cc in absurd (omega arith)
-node_count units counts (final p lead n m g big s e) (of_valued _ lead' own kids g' big' small' one k) all = let same : lead' ≡ lead = cc in absurd (omega arith)
-node_count units counts (plain p lead m g small h) (no_kids _ lead' own kids g' big' one k) all = let same : lead' ≡ lead = cc in absurd (omega arith)
+node_count units counts (final p lead n m g big s e) (of_plain _ lead' own kids g' small' one k) all =
+    let same : lead' ≡ lead = cc in absurd (omega arith)
+node_count units counts (final p lead n m g big s e) (of_valued _ lead' own kids g' big' small' one k) all =
+    let same : lead' ≡ lead = cc in absurd (omega arith)
+node_count units counts (plain p lead m g small h) (no_kids _ lead' own kids g' big' one k) all =
+    let same : lead' ≡ lead = cc in absurd (omega arith)
 node_count units counts (plain p lead m g small h) (of_plain _ lead' own kids g' small' zero' k) all =
     let same : lead' ≡ lead = cc in rw (zero', zero_plus (sum_at counts kids)) (matches_count units counts h (rw same at k) all)
-node_count units counts (plain p lead m g small h) (of_valued _ lead' own kids g' big' small' one k) all = let same : lead' ≡ lead = cc in absurd (omega arith)
-node_count units counts (valued p lead n m rest g big small s h e) (no_kids _ lead' own kids g' big' one k) all = let same : lead' ≡ lead = cc in absurd (omega arith)
-node_count units counts (valued p lead n m rest g big small s h e) (of_plain _ lead' own kids g' small' one k) all = let same : lead' ≡ lead = cc in absurd (omega arith)
+node_count units counts (plain p lead m g small h) (of_valued _ lead' own kids g' big' small' one k) all =
+    let same : lead' ≡ lead = cc in absurd (omega arith)
+node_count units counts (valued p lead n m rest g big small s h e) (no_kids _ lead' own kids g' big' one k) all =
+    let same : lead' ≡ lead = cc in absurd (omega arith)
+node_count units counts (valued p lead n m rest g big small s h e) (of_plain _ lead' own kids g' small' one k) all =
+    let same : lead' ≡ lead = cc in absurd (omega arith)
 node_count units counts (valued p lead n m rest g big small s h e) (of_valued _ lead' own kids g' big' small' one k) all =
     let same : lead' ≡ lead = cc in
     let k' : MatchKids units (node_end (p + 1) lead) (lead % 64) kids = rw same at k in
@@ -90,7 +101,8 @@ all_counted : (units counts kids : List ℕ) (wanted : List Bool) (p n : ℕ) �
 all_counted units counts [] wanted p n b a h = tt
 all_counted units counts (q ∷ kids) wanted p n b a h = (h q (omega (arith, b.0)) a.0, all_counted units counts kids wanted p n b.2 a.1 h)
 
-pub count_here : (units counts : List ℕ) (wanted : List Bool) (p v : ℕ) → IsClosed units wanted (length units) → p < length units → p < length counts → IsWanted wanted p
+pub count_here : (units counts : List ℕ) (wanted : List Bool) (p v : ℕ) → IsClosed units wanted (length units) → p < length units
+    → p < length counts → IsWanted wanted p
     → ((own : ℕ) (kids : List ℕ) → NodeKids units p own kids → v ≡ capped (own + sum_at counts kids))
     → ((q : ℕ) → p + 1 ≤ q → IsWanted wanted q → IsCounted units counts q)
     → (q : ℕ) → p ≤ q → IsWanted wanted q → IsCounted units (set counts p v) q
@@ -116,7 +128,8 @@ CountsPart units counts p n r = (arms : Arms) → Part units p n arms → r ≡ 
 abbrev pub CountsFrom : List ℕ → List ℕ → ℕ → ℕ → ℕ → Option ℕ → Type 0
 CountsFrom units counts total p n r = (arms : Arms) → Part units p n arms → r ≡ Some (capped (total + sum_at counts (places_of arms)))
 
-pub no_second : (units counts : List ℕ) (total p n : ℕ) (r : Option ℕ) → 1 < n → slice_get units (p + 1) ≡ None → CountsFrom units counts total p n r
+pub no_second : (units counts : List ℕ) (total p n : ℕ) (r : Option ℕ) → 1 < n → slice_get units (p + 1) ≡ None
+    → CountsFrom units counts total p n r
 no_second units counts total p n r many g arms part = absurd (part_goes_on units part many g)
 
 pub no_first : (units counts : List ℕ) (total p n : ℕ) (r : Option ℕ) → slice_get units p ≡ None → CountsFrom units counts total p n r
@@ -125,38 +138,45 @@ no_first units counts total p n r g arms part = absurd (part_begins units part g
 no_option : {x : ℕ} → ◌≡◌ {A = Option ℕ} (Some x) None → ⊥
 no_option h = cc
 
-pub no_jump : (units counts : List ℕ) (total p n u v : ℕ) (r : Option ℕ) → 1 < n → n ≤ 5 → slice_get units p ≡ Some u → slice_get units (p + 1) ≡ Some v
+pub no_jump : (units counts : List ℕ) (total p n u v : ℕ) (r : Option ℕ) → 1 < n → n ≤ 5 → slice_get units p ≡ Some u
+    → slice_get units (p + 1) ≡ Some v
     → entry_child units (p + 2) v ≡ None → CountsFrom units counts total p n r
 no_jump units counts total p n u v r many few g g' c arms part =
     let e = entry_found units part many few u v g g' in absurd (no_option (sym e.at ∙ c))
 
-pub next_counted : (units counts : List ℕ) (total p n u v child q total' : ℕ) (r : Option ℕ) → 1 < n → n ≤ 5 → slice_get units p ≡ Some u → slice_get units (p + 1) ≡ Some v
+pub next_counted : (units counts : List ℕ) (total p n u v child q total' : ℕ) (r : Option ℕ) → 1 < n → n ≤ 5 → slice_get units p ≡ Some u
+    → slice_get units (p + 1) ≡ Some v
     → entry_child units (p + 2) v ≡ Some child → q ≡ short_end (p + 2) (v % 0x8000) → total' ≡ capped (total + get_or counts child 0)
     → CountsFrom units counts total' q (n - 1) r → CountsFrom units counts total p n r
 next_counted units counts total p n u v child q total' r many few g g' c at t h arms part =
     let e = entry_found units part many few u v g g' in
     let same : e.child ≡ child = same_Some e.child child (sym e.at ∙ c) in
     let rest : r ≡ Some (capped (total' + sum_at counts (places_of e.rest))) = h e.rest (rw at e.others) in
-    let counted : capped (total' + sum_at counts (places_of e.rest)) ≡ capped (total + (get_or counts child 0 + sum_at counts (places_of e.rest))) =
+    let counted : capped (total' + sum_at counts (places_of e.rest))
+    ≡ capped (total + (get_or counts child 0 + sum_at counts (places_of e.rest))) =
     rw t (cap_step total (get_or counts child 0) (sum_at counts (places_of e.rest)) _ _ refl) in
     rw (e.is, same) (rest ∙ ap Some counted)
 
-pub last_counted : (units counts : List ℕ) (total p n u : ℕ) (r : Option ℕ) → n ≤ 1 → slice_get units p ≡ Some u → r ≡ Some (capped (total + get_or counts (p + 1) 0))
+pub last_counted : (units counts : List ℕ) (total p n u : ℕ) (r : Option ℕ) → n ≤ 1 → slice_get units p ≡ Some u
+    → r ≡ Some (capped (total + get_or counts (p + 1) 0))
     → CountsFrom units counts total p n r
 last_counted units counts total p n u r few g h arms part =
     let is = last_is units part few u g in
     rw is (h ∙ ap (λ z. Some (capped (total + z))) (omega arith))
 
-pub both_counted : (units counts : List ℕ) (p n s d low high x y : ℕ) → 5 < n → slice_get units p ≡ Some s → slice_get units (p + 1) ≡ Some d
+pub both_counted : (units counts : List ℕ) (p n s d low high x y : ℕ) → 5 < n → slice_get units p ≡ Some s
+    → slice_get units (p + 1) ≡ Some d
     → lower_part units (p + 2) d ≡ Some low → high ≡ delta_end (p + 2) d
-    → CountsPart units counts low (n / 2) (Some x) → CountsPart units counts high (n - n / 2) (Some y) → CountsPart units counts p n (Some (capped (x + y)))
+    → CountsPart units counts low (n / 2) (Some x) → CountsPart units counts high (n - n / 2) (Some y)
+    → CountsPart units counts p n (Some (capped (x + y)))
 both_counted units counts p n s d low high x y many g g' c at l h arms part =
     let e = split_found units part many s d g g' in
     let same : e.low ≡ low = same_Some e.low low (sym e.at ∙ c) in
     let xs : x ≡ capped (sum_at counts (places_of e.lower)) = same_Some _ _ (l e.lower (rw same at e.below)) in
     let ys : y ≡ capped (sum_at counts (places_of e.upper)) = same_Some _ _ (h e.upper (rw at e.above)) in
     let sum : sum_at counts (places_of arms) ≡ sum_at counts (places_of e.lower) + sum_at counts (places_of e.upper) =
-    ap (λ z. sum_at counts (places_of z)) e.is ∙ ap (sum_at counts) (places_append e.lower e.upper) ∙ sum_append counts (places_of e.lower) (places_of e.upper) in
+    ap (λ z. sum_at counts (places_of z)) e.is ∙ ap (sum_at counts) (places_append e.lower e.upper)
+    ∙ sum_append counts (places_of e.lower) (places_of e.upper) in
     rw sum (ap Some (cap_sum x y (sum_at counts (places_of e.lower)) (sum_at counts (places_of e.upper)) _ xs ys))
 
 -- ---- the whole trie

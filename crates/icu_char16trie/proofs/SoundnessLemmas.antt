@@ -36,7 +36,8 @@ from_lower : (s : ℕ) (lower upper : Arms) → UnitsFrom s (lower ++ upper) →
 from_lower s [] upper f = tt
 from_lower s (a ∷ lower) upper f = (f.0, from_lower s lower upper f.1)
 
-ascending_append : (s : ℕ) (lower upper : Arms) → IsAscending lower → IsAscending upper → UnitsBelow s lower → UnitsFrom s upper → IsAscending (lower ++ upper)
+ascending_append : (s : ℕ) (lower upper : Arms) → IsAscending lower → IsAscending upper → UnitsBelow s lower → UnitsFrom s upper
+    → IsAscending (lower ++ upper)
 ascending_append s [] upper a b c d = b
 ascending_append s (x ∷ lower) upper a b c d =
     (from_append (x.0 + 1) lower upper a.0 (from_more (x.0 + 1) s upper (omega (arith, c.0)) d), ascending_append s lower upper a.1 b c.1 d)
@@ -130,7 +131,8 @@ nothing_past : (units : List ℕ) (q : ℕ) → length units ≤ q → HasMap un
 nothing_past units q h has = holds_within units has.1 (slice_get_past units q h)
 
 -- what follows in both cases of what was answered
-pub on_both : {X A A' : Type 0} {B B' : X → Type 0} (r : Option X) → (A → A') → ((x : X) → B x → B' x) → MatchOption r A B → MatchOption r A' B'
+pub on_both : {X A A' : Type 0} {B B' : X → Type 0} (r : Option X) → (A → A') → ((x : X) → B x → B' x) → MatchOption r A B
+    → MatchOption r A' B'
 on_both None f g h = f h
 on_both (Some x) f g h = g x h
 
@@ -154,7 +156,8 @@ last_walked units p n u from old one g le within = record {
   wanted = refl;
 }
 
-pub entry_walked : (units : List ℕ) (p n u v child q from next : ℕ) (old new : List Bool) → 1 < n → n ≤ 5 → slice_get units p ≡ Some u → slice_get units (p + 1) ≡ Some v
+pub entry_walked : (units : List ℕ) (p n u v child q from next : ℕ) (old new : List Bool) → 1 < n → n ≤ 5 → slice_get units p ≡ Some u
+    → slice_get units (p + 1) ≡ Some v
     → entry_child units (p + 2) v ≡ Some child → q ≡ short_end (p + 2) (v % 0x8000) → from ≤ u → p < child → child < length units → p ≤ q
     → PartWalked units q (n - 1) (u + 1) next (set old child true) new
     → PartWalked units p n from next old new
@@ -170,21 +173,24 @@ entry_walked units p n u v child q from next old new many few g g' c e le after 
   wanted = w.wanted;
 }
 
-pub split_walked : (units : List ℕ) (p n s d low high from mid next : ℕ) (old between new : List Bool) → 5 < n → slice_get units p ≡ Some s → slice_get units (p + 1) ≡ Some d
+pub split_walked : (units : List ℕ) (p n s d low high from mid next : ℕ) (old between new : List Bool) → 5 < n
+    → slice_get units p ≡ Some s → slice_get units (p + 1) ≡ Some d
     → lower_part units (p + 2) d ≡ Some low → high ≡ delta_end (p + 2) d → p ≤ low → p ≤ high → mid ≤ s
     → PartWalked units low (n / 2) from mid old between
     → PartWalked units high (n - n / 2) s next between new
     → PartWalked units p n from next old new
 split_walked units p n s d low high from mid next old between new many g g' c e on on' le l w = record {
   arms = l.arms ++ w.arms;
-  part = split p n s d low l.arms w.arms (l.arms ++ w.arms) many g g' c l.part (rw e at w.part) (units_below_more mid s l.arms le l.below) w.above refl;
+  part = split p n s d low l.arms w.arms (l.arms ++ w.arms) many g g' c l.part (rw e at w.part)
+      (units_below_more mid s l.arms le l.below) w.above refl;
   ascending = ascending_append s l.arms w.arms l.ascending w.ascending (units_below_more mid s l.arms le l.below) w.above;
   above = from_append from l.arms w.arms l.above (from_more from s w.arms (omega (arith, l.some)) w.above);
   below = below_append next l.arms w.arms (units_below_more mid next l.arms (omega (arith, w.some)) l.below) w.below;
   least = λ t b. w.least t (below_front t l.arms w.arms b);
   some = omega (arith, l.some, w.some);
   ahead = rw (places_append l.arms w.arms)
-      (between_append p (length units) (places_of l.arms) (places_of w.arms) (between_more p low (length units) (places_of l.arms) on l.ahead)
+      (between_append p (length units) (places_of l.arms) (places_of w.arms)
+      (between_more p low (length units) (places_of l.arms) on l.ahead)
       (between_more p high (length units) (places_of w.arms) on' w.ahead));
   wanted = rw (places_append l.arms w.arms, want_append (places_of l.arms) (places_of w.arms) old) (rw l.wanted at w.wanted);
 }
@@ -213,7 +219,8 @@ no_rest units p n u v q from many few g g' at never arms part up f have =
     let h : AllHaveMaps units (places_of ((u, e.child) ∷ e.rest)) = rw e.is at have in
     never e.rest (rw at e.others) up'.1 up'.0 h.1
 
-pub no_lower : (units : List ℕ) (p n s d low from : ℕ) → 5 < n → slice_get units p ≡ Some s → slice_get units (p + 1) ≡ Some d → lower_part units (p + 2) d ≡ Some low
+pub no_lower : (units : List ℕ) (p n s d low from : ℕ) → 5 < n → slice_get units p ≡ Some s → slice_get units (p + 1) ≡ Some d
+    → lower_part units (p + 2) d ≡ Some low
     → IsNoPart units low (n / 2) from → IsNoPart units p n from
 no_lower units p n s d low from many g g' c never arms part up f have =
     let e = split_found units part many s d g g' in
@@ -221,18 +228,22 @@ no_lower units p n s d low from many g g' c never arms part up f have =
     let up' : IsAscending (e.lower ++ e.upper) = rw e.is at up in
     let f' : UnitsFrom from (e.lower ++ e.upper) = rw e.is at f in
     let h : AllHaveMaps units (places_of e.lower ++ places_of e.upper) = rw (e.is, places_append e.lower e.upper) at have in
-    never e.lower (rw same at e.below) (ascending_lower e.lower e.upper up') (from_lower from e.lower e.upper f') (have_lower units (places_of e.lower) (places_of e.upper) h)
+    never e.lower (rw same at e.below) (ascending_lower e.lower e.upper up') (from_lower from e.lower e.upper f')
+    (have_lower units (places_of e.lower) (places_of e.upper) h)
 
-pub no_upper : (units : List ℕ) (p n s d high from : ℕ) → 5 < n → slice_get units p ≡ Some s → slice_get units (p + 1) ≡ Some d → high ≡ delta_end (p + 2) d
+pub no_upper : (units : List ℕ) (p n s d high from : ℕ) → 5 < n → slice_get units p ≡ Some s → slice_get units (p + 1) ≡ Some d
+    → high ≡ delta_end (p + 2) d
     → IsNoPart units high (n - n / 2) s → IsNoPart units p n from
 no_upper units p n s d high from many g g' at never arms part up f have =
     let e = split_found units part many s d g g' in
     let up' : IsAscending (e.lower ++ e.upper) = rw e.is at up in
     let h : AllHaveMaps units (places_of e.lower ++ places_of e.upper) = rw (e.is, places_append e.lower e.upper) at have in
-    never e.upper (rw at e.above) (ascending_upper e.lower e.upper up') e.right_of_split (have_upper units (places_of e.lower) (places_of e.upper) h)
+    never e.upper (rw at e.above) (ascending_upper e.lower e.upper up') e.right_of_split
+    (have_upper units (places_of e.lower) (places_of e.upper) h)
 
 -- a unit of the lower part is not below the split unit
-pub no_side : (units : List ℕ) (p n s d low from mid : ℕ) (old new : List Bool) → 5 < n → slice_get units p ≡ Some s → slice_get units (p + 1) ≡ Some d
+pub no_side : (units : List ℕ) (p n s d low from mid : ℕ) (old new : List Bool) → 5 < n → slice_get units p ≡ Some s
+    → slice_get units (p + 1) ≡ Some d
     → lower_part units (p + 2) d ≡ Some low → PartWalked units low (n / 2) from mid old new → s < mid → IsNoPart units p n from
 no_side units p n s d low from mid old new many g g' c w lt arms part up f have =
     let e = split_found units part many s d g g' in
@@ -258,7 +269,8 @@ pub no_run : (units : List ℕ) (p low q : ℕ) → 0x30 ≤ low → q ≡ p + (
 no_run units p low q big e past h =
     let r = matches_run units h.1 big in nothing_past units q past (r.rest, rw e r.node)
 
-pub branch_rests : (units : List ℕ) (p low n start next : ℕ) (old new : List Bool) → low < 0x30 → branch_len units p low ≡ Some n → 1 ≤ n → start ≡ branch_start p low → p ≤ start
+pub branch_rests : (units : List ℕ) (p low n start next : ℕ) (old new : List Bool) → low < 0x30 → branch_len units p low ≡ Some n → 1 ≤ n
+    → start ≡ branch_start p low → p ≤ start
     → PartWalked units start (n + 1) 0 next old new → RestsOnWanted units p (HasMatch units p low) (MatchKids units p low) old new
 branch_rests units p low n start next old new small len some e on w = record {
   places = places_of w.arms;
@@ -294,7 +306,8 @@ long_len units p low n zero' g = let same : nat_eq low 0 ≡ true = eq-eqb low 0
 pub long_start : (p low : ℕ) → low ≤ 0 → p + 1 ≡ branch_start p low
 long_start p low zero' = let same : nat_eq low 0 ≡ true = eq-eqb low 0 (omega arith) in rw same refl
 
-pub final_rests : (units : List ℕ) (p lead n : ℕ) (old : List Bool) → slice_get units p ≡ Some lead → 0x8000 ≤ lead → short_number units (p + 1) (lead - 0x8000) ≡ Some n
+pub final_rests : (units : List ℕ) (p lead n : ℕ) (old : List Bool) → slice_get units p ≡ Some lead → 0x8000 ≤ lead
+    → short_number units (p + 1) (lead - 0x8000) ≡ Some n
     → RestsOnWanted units p (HasMap units p) (NodeLeadsTo units p) old old
 final_rests units p lead n old g big s = record {
   places = [];
@@ -306,7 +319,8 @@ final_rests units p lead n old g big s = record {
 }
 
 pub plain_rests : (units : List ℕ) (p lead : ℕ) (old new : List Bool) → slice_get units p ≡ Some lead → lead < 0x40
-    → RestsOnWanted units (p + 1) (HasMatch units (p + 1) lead) (MatchKids units (p + 1) lead) old new → RestsOnWanted units p (HasMap units p) (NodeLeadsTo units p) old new
+    → RestsOnWanted units (p + 1) (HasMatch units (p + 1) lead) (MatchKids units (p + 1) lead) old new
+    → RestsOnWanted units p (HasMap units p) (NodeLeadsTo units p) old new
 plain_rests units p lead old new g small r = record {
   places = r.places;
   leads = (0, of_plain p lead 0 r.places g small refl r.leads);
@@ -316,11 +330,14 @@ plain_rests units p lead old new g small r = record {
   gives = λ h. r.gives (h.0, holds_plain units h.1 lead g small);
 }
 
-pub no_plain : (units : List ℕ) (p lead : ℕ) → slice_get units p ≡ Some lead → lead < 0x40 → (HasMatch units (p + 1) lead → ⊥) → HasMap units p → ⊥
+pub no_plain : (units : List ℕ) (p lead : ℕ) → slice_get units p ≡ Some lead → lead < 0x40 → (HasMatch units (p + 1) lead → ⊥)
+    → HasMap units p → ⊥
 no_plain units p lead g small never h = never (h.0, holds_plain units h.1 lead g small)
 
-pub valued_rests : (units : List ℕ) (p lead n q : ℕ) (old new : List Bool) → slice_get units p ≡ Some lead → 0x40 ≤ lead → lead < 0x8000 → node_number units (p + 1) lead ≡ Some n
-    → q ≡ node_end (p + 1) lead → p ≤ q → RestsOnWanted units q (HasMatch units q (lead % 64)) (MatchKids units q (lead % 64)) old new → RestsOnWanted units p (HasMap units p) (NodeLeadsTo units p) old new
+pub valued_rests : (units : List ℕ) (p lead n q : ℕ) (old new : List Bool) → slice_get units p ≡ Some lead → 0x40 ≤ lead → lead < 0x8000
+    → node_number units (p + 1) lead ≡ Some n
+    → q ≡ node_end (p + 1) lead → p ≤ q → RestsOnWanted units q (HasMatch units q (lead % 64)) (MatchKids units q (lead % 64)) old new
+    → RestsOnWanted units p (HasMap units p) (NodeLeadsTo units p) old new
 valued_rests units p lead n q old new g big small s e on r = record {
   places = r.places;
   leads = (1, of_valued p lead 1 r.places g big small refl (rw e at r.leads));
@@ -336,20 +353,25 @@ no_valued units p lead q g big small e never h = let v = holds_valued units h.1 
 
 -- ---- all places
 
-pub back_sound : (units : List ℕ) (p : ℕ) (old new : List Bool) → length units ≡ length old → RestsOnWanted units p (HasMap units p) (NodeLeadsTo units p) old new
+pub back_sound : (units : List ℕ) (p : ℕ) (old new : List Bool) → length units ≡ length old
+    → RestsOnWanted units p (HasMap units p) (NodeLeadsTo units p) old new
     → AllWantedHave units new (p + 1) → AllWantedHave units old p
 back_sound units p old new len r all q le w = by (nat_eq q p) refl
   where
     by : (b : Bool) → nat_eq q p ≡ b → HasMap units q
-    by true e = subst (HasMap units) (sym (eqb-true q p e)) (r.makes (want_made units r.places old p (length units) len r.ahead (rw r.wanted at all)))
+    by true e =
+        subst (HasMap units) (sym (eqb-true q p e))
+        (r.makes (want_made units r.places old p (length units) len r.ahead (rw r.wanted at all)))
     by false e = all q (omega (arith, eqb-false q p e)) (rw r.wanted (want_keeps r.places old q w))
 
-pub forth_sound : (units : List ℕ) (p : ℕ) (old new : List Bool) → IsWanted old p → RestsOnWanted units p (HasMap units p) (NodeLeadsTo units p) old new
+pub forth_sound : (units : List ℕ) (p : ℕ) (old new : List Bool) → IsWanted old p
+    → RestsOnWanted units p (HasMap units p) (NodeLeadsTo units p) old new
     → AllWantedHave units old p → AllWantedHave units new (p + 1)
 forth_sound units p old new here r all q le w =
     want_only units r.places old q (r.gives (all p (omega arith) here)) (all q (omega arith)) (rw r.wanted at w)
 
-pub back_unwanted : (units : List ℕ) (p : ℕ) (wanted : List Bool) → get_or wanted p false ≡ false → AllWantedHave units wanted (p + 1) → AllWantedHave units wanted p
+pub back_unwanted : (units : List ℕ) (p : ℕ) (wanted : List Bool) → get_or wanted p false ≡ false → AllWantedHave units wanted (p + 1)
+    → AllWantedHave units wanted p
 back_unwanted units p wanted never all q le w = by (nat_eq q p) refl
   where
     by : (b : Bool) → nat_eq q p ≡ b → HasMap units q
@@ -361,12 +383,14 @@ forth_unwanted units p wanted all q le w = all q (omega arith) w
 
 -- ---- what the nodes lead to is wanted
 
-want_back : (places : List ℕ) (wanted : List Bool) (q p n : ℕ) → q ≤ p → AllBetween p n places → IsWanted (want_all places wanted) q → IsWanted wanted q
+want_back : (places : List ℕ) (wanted : List Bool) (q p n : ℕ) → q ≤ p → AllBetween p n places → IsWanted (want_all places wanted) q
+    → IsWanted wanted q
 want_back [] wanted q p n le b w = w
 want_back (r ∷ places) wanted q p n le b w =
     elim (set_only wanted r q (want_back places (set wanted r true) q p n le b.2 w)) [ inl e ↦ absurd (omega (arith, b.0, e)) | inr k ↦ k ]
 
-all_wanted : (places : List ℕ) (wanted : List Bool) (p n : ℕ) → n ≡ length wanted → AllBetween p n places → AllWanted (want_all places wanted) places
+all_wanted : (places : List ℕ) (wanted : List Bool) (p n : ℕ) → n ≡ length wanted → AllBetween p n places
+    → AllWanted (want_all places wanted) places
 all_wanted [] wanted p n e b = tt
 all_wanted (q ∷ places) wanted p n e b = (
   want_keeps places (set wanted q true) q (set_here wanted q (omega (arith, b.1))),
@@ -377,7 +401,8 @@ keeps_all : (kids places : List ℕ) (wanted : List Bool) → AllWanted wanted k
 keeps_all [] places wanted a = tt
 keeps_all (q ∷ kids) places wanted a = (want_keeps places wanted q a.0, keeps_all kids places wanted a.1)
 
-pub closed_next : (units : List ℕ) (p : ℕ) (old new : List Bool) → length units ≡ length old → RestsOnWanted units p (HasMap units p) (NodeLeadsTo units p) old new
+pub closed_next : (units : List ℕ) (p : ℕ) (old new : List Bool) → length units ≡ length old
+    → RestsOnWanted units p (HasMap units p) (NodeLeadsTo units p) old new
     → IsClosed units old p → IsClosed units new (p + 1)
 closed_next units p old new len r closed q lt w = by (nat_eq q p) refl
   where
@@ -394,11 +419,15 @@ closed_next units p old new len r closed q lt w = by (nat_eq q p) refl
         let l = closed q (omega (arith, eqb-false q p e)) w' in
         record { own = l.own; kids = l.kids; node = l.node; ahead = l.ahead; all = rw r.wanted (keeps_all l.kids r.places old l.all) }
 
-pub closed_unwanted : (units : List ℕ) (p : ℕ) (wanted : List Bool) → get_or wanted p false ≡ false → IsClosed units wanted p → IsClosed units wanted (p + 1)
+pub closed_unwanted : (units : List ℕ) (p : ℕ) (wanted : List Bool) → get_or wanted p false ≡ false → IsClosed units wanted p
+    → IsClosed units wanted (p + 1)
 closed_unwanted units p wanted never closed q lt w = by (nat_eq q p) refl
   where
     by : (b : Bool) → nat_eq q p ≡ b → LeadsToWanted units wanted q
-    by true e = let same : q ≡ p = eqb-true q p e in let w' : get_or wanted p false ≡ true = rw same at w in absurd (false≢true (sym never ∙ w'))
+    by true e =
+        let same : q ≡ p = eqb-true q p e in
+        let w' : get_or wanted p false ≡ true = rw same at w in
+        absurd (false≢true (sym never ∙ w'))
     by false e = closed q (omega (arith, eqb-false q p e)) w
 
 pub kept_wanted : (units : List ℕ) (p : ℕ) (old new : List Bool) → RestsOnWanted units p (HasMap units p) (NodeLeadsTo units p) old new

@@ -11,12 +11,14 @@ pub returns-in_err-child : goal.returns-in_err-child
 returns-in_err-child c =
     let two = c.in_ok-_unit.ensures.two in
     c.loop-left.invariant.counts _
-    (no_jump _ _ _ _ _ c.in_ok-_unit._unit c.in_ok-_unit.value _ c.loop-left-test.true c.loop-left.invariant.short two.0 two.1 (sym c.in_err-child.ensures.child))
+    (no_jump _ _ _ _ _ c.in_ok-_unit._unit c.in_ok-_unit.value _ c.loop-left-test.true c.loop-left.invariant.short two.0 two.1
+    (sym c.in_err-child.ensures.child))
 
 pub loop-left-preserved : goal.loop-left-preserved
 loop-left-preserved c =
     let two = c.in_ok-_unit.ensures.two in
-    let behind : c.short_end-place.result ≡ short_end (c.loop-left.place + 2) (c.in_ok-_unit.value % 0x8000) = c.short_end-place.ensures.end ∙ ap (short_end (c.loop-left.place + 2)) (and_mask c.in_ok-_unit.value 15) in
+    let behind : c.short_end-place.result ≡ short_end (c.loop-left.place + 2) (c.in_ok-_unit.value % 0x8000) =
+    c.short_end-place.ensures.end ∙ ap (short_end (c.loop-left.place + 2)) (and_mask c.in_ok-_unit.value 15) in
     record {
       near = omega (arith, c.short_end-place.ensures.near, c.in_ok-_unit.ensures.within);
       short = omega arith;
@@ -31,4 +33,5 @@ returns-in_err-_last c = c.loop-left.invariant.counts _ (no_first _ _ _ _ _ _ (s
 pub returns : goal.returns
 returns c =
     c.loop-left.invariant.counts _
-    (last_counted _ _ _ _ _ c.in_ok-_last._last _ (omega (arith, c.loop-left-test.false)) (sym c.in_ok-_last.ensures.unit) (ap Some (rw c.count_at-2.ensures at c.both_counts.ensures)))
+    (last_counted _ _ _ _ _ c.in_ok-_last._last _ (omega (arith, c.loop-left-test.false)) (sym c.in_ok-_last.ensures.unit)
+    (ap Some (rw c.count_at-2.ensures at c.both_counts.ensures)))

@@ -8,7 +8,8 @@ abbrev pub invariant-loop-left : goal.invariant-loop-left
 invariant-loop-left l = record {
   near : l.place < 2 ^ 63;
   short : l.left ≤ 5;
-  counts : (r : Option ℕ) → CountsFrom (slice_values l.units) l.counts l.total l.place l.left r → CountsPart (slice_values l.units) l.counts l.row l.count r;
+  counts : (r : Option ℕ) → CountsFrom (slice_values l.units) l.counts l.total l.place l.left r
+      → CountsPart (slice_values l.units) l.counts l.row l.count r;
 }
 
 abbrev pub decreases-loop-left : goal.decreases-loop-left

@@ -14,22 +14,29 @@ returns-then-low-ge48 c =
 pub returns-in_err-check_part : goal.returns-in_err-check_part
 returns-in_err-check_part c =
     rw c.from_residual.ensures
-    (no_branch _ c.args.place c.args.low c.args.low _ c.if-low-ge48.false (short_len (slice_values c.args.units) c.args.place c.args.low c.if-low-gt0.true) (short_start c.args.place c.args.low c.if-low-gt0.true)
+    (no_branch _ c.args.place c.args.low c.args.low _ c.if-low-ge48.false
+    (short_len (slice_values c.args.units) c.args.place c.args.low c.if-low-gt0.true)
+    (short_start c.args.place c.args.low c.if-low-gt0.true)
     (rw c.from-then-low-gt0.ensures at c.in_err-check_part.ensures))
 
 pub returns-then-low-gt0 : goal.returns-then-low-gt0
 returns-then-low-gt0 c =
-    branch_rests _ c.args.place c.args.low c.args.low _ _ _ _ c.if-low-ge48.false (short_len (slice_values c.args.units) c.args.place c.args.low c.if-low-gt0.true) c.if-low-gt0.true (short_start c.args.place c.args.low c.if-low-gt0.true) (omega arith)
+    branch_rests _ c.args.place c.args.low c.args.low _ _ _ _ c.if-low-ge48.false
+    (short_len (slice_values c.args.units) c.args.place c.args.low c.if-low-gt0.true) c.if-low-gt0.true
+    (short_start c.args.place c.args.low c.if-low-gt0.true) (omega arith)
     (rw c.from-then-low-gt0.ensures at c.in_ok-check_part.ensures)
 
 pub returns-in_err-check_part-2 : goal.returns-in_err-check_part-2
 returns-in_err-check_part-2 c =
     rw c.from_residual-in_err-check_part-2.ensures
-    (no_branch _ c.args.place c.args.low c.in_ok-length.length _ c.if-low-ge48.false (long_len (slice_values c.args.units) c.args.place c.args.low _ c.if-low-gt0.false (sym c.in_ok-length.ensures.unit)) (long_start c.args.place c.args.low c.if-low-gt0.false)
+    (no_branch _ c.args.place c.args.low c.in_ok-length.length _ c.if-low-ge48.false
+    (long_len (slice_values c.args.units) c.args.place c.args.low _ c.if-low-gt0.false (sym c.in_ok-length.ensures.unit))
+    (long_start c.args.place c.args.low c.if-low-gt0.false)
     (rw c.from-2.ensures at c.in_err-check_part-2.ensures))
 
 pub returns : goal.returns
 returns c =
-    branch_rests _ c.args.place c.args.low c.in_ok-length.length _ _ _ _ c.if-low-ge48.false (long_len (slice_values c.args.units) c.args.place c.args.low _ c.if-low-gt0.false (sym c.in_ok-length.ensures.unit)) (omega arith)
+    branch_rests _ c.args.place c.args.low c.in_ok-length.length _ _ _ _ c.if-low-ge48.false
+    (long_len (slice_values c.args.units) c.args.place c.args.low _ c.if-low-gt0.false (sym c.in_ok-length.ensures.unit)) (omega arith)
     (long_start c.args.place c.args.low c.if-low-gt0.false) (omega arith)
     (rw c.from-2.ensures at c.in_ok-check_part-2.ensures)

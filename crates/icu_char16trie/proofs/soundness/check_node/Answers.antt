@@ -3,7 +3,8 @@ use Rattle.icu_char16trie.proofs.SoundnessLemmas.{final_rests, no_plain, no_valu
 use Rattle.icu_char16trie.proofs.soundness.check_node.Goals as goal
 
 pub returns-then-lead-ge32768 : goal.returns-then-lead-ge32768
-returns-then-lead-ge32768 c = final_rests _ _ c.in_ok-lead.lead _ _ (sym c.in_ok-lead.ensures.unit) c.if-lead-ge32768.true (sym c.in_ok-short_number.ensures)
+returns-then-lead-ge32768 c =
+    final_rests _ _ c.in_ok-lead.lead _ _ (sym c.in_ok-lead.ensures.unit) c.if-lead-ge32768.true (sym c.in_ok-short_number.ensures)
 
 pub returns-then-lead-lt64 : goal.returns-then-lead-lt64
 returns-then-lead-lt64 c =
@@ -19,6 +20,7 @@ returns c =
     on_both c.check_match-2.result
     (no_valued _ _ c.in_ok-lead.lead _ lead c.if-lead-lt64.false c.if-lead-ge32768.false c.node_end-end.ensures.end)
     (λ _ r.
-    valued_rests _ _ c.in_ok-lead.lead _ _ _ _ lead c.if-lead-lt64.false c.if-lead-ge32768.false (sym c.in_ok-node_number.ensures) c.node_end-end.ensures.end
+    valued_rests _ _ c.in_ok-lead.lead _ _ _ _ lead c.if-lead-lt64.false c.if-lead-ge32768.false
+    (sym c.in_ok-node_number.ensures) c.node_end-end.ensures.end
     (omega (arith, c.node_end-end.ensures.above)) r)
     c.check_match-2.ensures

@@ -14,7 +14,8 @@ returns-in_err-want c =
 pub loop-left-preserved : goal.loop-left-preserved
 loop-left-preserved c =
     let two = c.in_ok-unit.ensures.two in
-    let behind : c.short_end-place.result ≡ short_end (c.loop-left.place + 2) (c.in_ok-unit.value % 0x8000) = c.short_end-place.ensures.end ∙ ap (short_end (c.loop-left.place + 2)) (and_mask c.in_ok-unit.value 15) in
+    let behind : c.short_end-place.result ≡ short_end (c.loop-left.place + 2) (c.in_ok-unit.value % 0x8000) =
+    c.short_end-place.ensures.end ∙ ap (short_end (c.loop-left.place + 2)) (and_mask c.in_ok-unit.value 15) in
     record {
       near = omega (arith, c.short_end-place.ensures.near, c.in_ok-unit.ensures.within);
       some = omega arith;
@@ -22,7 +23,8 @@ loop-left-preserved c =
       walked = λ next new w. c.loop-left.invariant.walked next new
           (entry_walked _ c.loop-left.place c.loop-left.left c.in_ok-unit.unit c.in_ok-unit.value c.in_ok-child.child _ _ next c.loop-left.wanted new
           c.loop-left-test.true c.loop-left.invariant.short two.0 two.1 (sym c.in_ok-child.ensures.child) behind
-          (omega (arith, c.from.ensures)) (omega (arith, c.in_ok-child.ensures.above)) (omega (arith, c.in_ok-want.ensures.0)) (omega (arith, c.short_end-place.ensures.above))
+          (omega (arith, c.from.ensures)) (omega (arith, c.in_ok-child.ensures.above)) (omega (arith, c.in_ok-want.ensures.0))
+          (omega (arith, c.short_end-place.ensures.above))
           (rw (c.from-least.ensures, c.in_ok-want.ensures.1) at w));
       refused = λ w. c.loop-left.invariant.refused
           (no_rest _ c.loop-left.place c.loop-left.left c.in_ok-unit.unit c.in_ok-unit.value _ _ c.loop-left-test.true c.loop-left.invariant.short two.0 two.1 behind
@@ -33,10 +35,12 @@ pub returns-in_err-want-2 : goal.returns-in_err-want-2
 returns-in_err-want-2 c =
     rw c.from_residual-in_err-want-2.ensures
     (c.loop-left.invariant.refused
-    (no_last_child _ _ _ c.in_ok-last.last _ (omega (arith, c.loop-left-test.false)) (sym c.in_ok-last.ensures.unit) (omega (arith, c.in_err-want-2.ensures))))
+    (no_last_child _ _ _ c.in_ok-last.last _ (omega (arith, c.loop-left-test.false)) (sym c.in_ok-last.ensures.unit)
+    (omega (arith, c.in_err-want-2.ensures))))
 
 pub returns : goal.returns
 returns c =
     rw (c.from-3.ensures, c.in_ok-want-2.ensures.1)
     (c.loop-left.invariant.walked _ _
-    (last_walked _ _ _ c.in_ok-last.last _ c.loop-left.wanted (omega (arith, c.loop-left-test.false)) (sym c.in_ok-last.ensures.unit) (omega (arith, c.from-2.ensures)) (omega (arith, c.in_ok-want-2.ensures.0))))
+    (last_walked _ _ _ c.in_ok-last.last _ c.loop-left.wanted (omega (arith, c.loop-left-test.false)) (sym c.in_ok-last.ensures.unit)
+    (omega (arith, c.from-2.ensures)) (omega (arith, c.in_ok-want-2.ensures.0))))
