@@ -56,6 +56,18 @@ impl CodePointBits {
         Ok(CodePointBits { index, words })
     }
 
+    /// The place of each block's first word.
+    #[inline]
+    pub(crate) fn index(&self) -> &[u16] {
+        &self.index
+    }
+
+    /// The bits of 64 code points each, that of the first one lowest.
+    #[inline]
+    pub(crate) fn words(&self) -> &[u64] {
+        &self.words
+    }
+
     /// The bit of the code point, whose block is there.
     #[inline(always)]
     pub(crate) fn contains32(&self, c: u32) -> bool {

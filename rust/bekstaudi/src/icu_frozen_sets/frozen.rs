@@ -27,6 +27,18 @@ pub struct FrozenCodePointSet {
     bits: CodePointBits,
 }
 
+/// The tables of a frozen set, lent: of code point `c`, bit `c % 64` of the word at
+/// `index[c / 256] + c / 64 % 4`, bit 0 being the lowest, says whether the set holds it.
+#[derive(Clone, Copy, Debug)]
+pub struct FrozenTables<'a> {
+    /// The place of the first of its four words for each block of 256 code points, of which there
+    /// are 4,352. Blocks may share their words.
+    pub index: &'a [u16],
+    /// The bits of 64 code points each, that of the first one lowest: four words a block at most,
+    /// and eight.
+    pub words: &'a [u64],
+}
+
 /// How a set is frozen.
 impl FrozenCodePointSet {
     /// The set with a bit for each code point (ICU: `UnicodeSet::freeze`). The given set stays as
@@ -74,6 +86,20 @@ impl FrozenCodePointSet {
     #[inline]
     pub fn as_set(&self) -> &CodePointInversionList<'static> {
         &self.set
+    }
+
+    /// The bits of all code points, as they are kept: to be stored, or to be asked elsewhere.
+    ///
+    /// ```ignore
+    /// let FrozenTables { index, words } = letters.tables();
+    /// // words[index[0] as usize + 1] >> 1 & 1 says whether letters.contains('A')
+    /// ```
+    #[inline]
+    pub fn tables(&self) -> FrozenTables<'_> {
+        FrozenTables {
+            index: self.bits.index(),
+            words: self.bits.words(),
+        }
     }
 
     /// Whether the set holds the code point. No number above 0x10FFFF is held.
