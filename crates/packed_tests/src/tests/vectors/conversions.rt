@@ -1,4 +1,5 @@
 //! The same bytes as values of another type of the same width.
+use super::equality::are_same;
 use crate::tests::support::{expect, expect_bytes, expect_same};
 use icu_zerovec::ule::{AsULE, UleError};
 use icu_zerovec::{PotentialCodePoint, ZeroVec};
@@ -12,7 +13,7 @@ fn expect_list<T: AsULE>(
     values: &[T],
 ) -> Result<(), Fail> {
     let made = ZeroVec::alloc_from_slice(rt.alloc(), values)?;
-    expect(rt, vector == made, "the values");
+    expect(rt, are_same(&vector, &made), "the values");
     Ok(())
 }
 

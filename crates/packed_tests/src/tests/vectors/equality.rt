@@ -1,16 +1,33 @@
 //! Vectors are equal, and hash alike, by their lists of values, whoever owns the bytes.
 use crate::tests::support::{expect, expect_bytes, expect_same, hash_of};
 use icu_zerovec::ule::{AsULE, UleError};
-use icu_zerovec::{ZeroSlice, ZeroVec};
+use icu_zerovec::{MemoryError, ZeroSlice, ZeroVec};
 use std::fmt::Debug;
 use std::process::Abort;
-use std::test::Fail;
+
+/// The vector that borrows these bytes, which are values.
+pub fn lent_of<'a, T: AsULE>(rt: &impl Abort, bytes: &'a [u8]) -> ZeroVec<'a, T> {
+    match ZeroVec::<T>::parse_bytes(bytes) {
+        Ok(vector) => vector,
+        Err(_) => rt.panic("refused"),
+    }
+}
+
+/// Whether two vectors are equal.
+pub fn are_same<T: AsULE>(one: &ZeroVec<'_, T>, other: &ZeroVec<'_, T>) -> bool {
+    *one == *other
+}
+
+/// Whether two views are equal.
+pub fn are_same_views<T: AsULE>(one: ZeroSlice<'_, T>, other: ZeroSlice<'_, T>) -> bool {
+    one == other
+}
 
 /// A vector and its view are equal to another vector, and hash as that one does.
 fn expect_equal<T: AsULE>(rt: &impl Abort, vector: &ZeroVec<'_, T>, lent: &ZeroVec<'_, T>) {
     let view = vector.as_slice();
-    expect(rt, *vector == *lent, "an equal vector");
-    expect(rt, view == lent.as_slice(), "an equal view");
+    expect(rt, are_same(vector, lent), "an equal vector");
+    expect(rt, are_same_views(view, lent.as_slice()), "an equal view");
     let hashes = (hash_of(vector), hash_of(&view));
     let hash = hash_of(lent);
     expect_same(
@@ -22,28 +39,25 @@ fn expect_equal<T: AsULE>(rt: &impl Abort, vector: &ZeroVec<'_, T>, lent: &ZeroV
 }
 
 /// A vector has these bytes, and is equal to the one that borrows them.
-fn expect_like_lent<T: AsULE>(
-    rt: &impl Abort,
-    vector: ZeroVec<'_, T>,
-    bytes: &[u8],
-) -> Result<(), Fail> {
+fn expect_like_lent<T: AsULE>(rt: &impl Abort, vector: ZeroVec<'_, T>, bytes: &[u8]) {
     expect_bytes(rt, vector.as_bytes(), bytes);
-    let lent = ZeroVec::<T>::parse_bytes(bytes)?;
-    expect_equal(rt, &vector, &lent);
-    Ok(())
+    expect_equal(rt, &vector, &lent_of(rt, bytes));
+}
+
+/// Whether a copy of a view, and the vector that it gives, are equal to what it views.
+fn are_copies<T: AsULE>(view: ZeroSlice<'_, T>, lent: &ZeroVec<'_, T>) -> Option<[bool; 2]> {
+    let copy = view;
+    let cloned = view.clone().ok()?;
+    Some([
+        are_same_views(copy, cloned),
+        are_same(&copy.as_zerovec(), lent),
+    ])
 }
 
 /// A copy of a view, and the vector that it gives, are equal to what it views.
-fn expect_copies<T: AsULE>(
-    rt: &impl Abort,
-    view: ZeroSlice<'_, T>,
-    bytes: &[u8],
-) -> Result<(), Fail> {
-    let copy = view;
-    expect(rt, copy == view.clone()?, "a cloned view");
-    let lent = ZeroVec::<T>::parse_bytes(bytes)?;
-    expect(rt, copy.as_zerovec() == lent, "the vector of a view");
-    Ok(())
+fn expect_copies<T: AsULE>(rt: &impl Abort, view: ZeroSlice<'_, T>, bytes: &[u8]) {
+    let found = are_copies(view, &lent_of(rt, bytes));
+    expect_same(rt, found, Some([true, true]), "a clone, and its vector");
 }
 
 /// Values that own their bytes have these bytes, and are equal to those that borrow them.
@@ -51,14 +65,15 @@ pub fn expect_owned<T: AsULE + Debug>(
     rt: &(impl Abort + AllocGlobal),
     bytes: &[u8],
     values: &[T],
-) -> Result<(), Fail> {
+) -> Result<(), MemoryError> {
     let packed = ZeroVec::alloc_from_slice(rt.alloc(), values)?;
-    expect_copies(rt, packed.as_slice(), bytes)?;
-    expect_like_lent(rt, packed, bytes)?;
-    let cloned = ZeroVec::<T>::parse_bytes(bytes)?.try_clone(rt.alloc())?;
-    expect_like_lent(rt, cloned, bytes)?;
-    let owned = ZeroVec::<T>::parse_bytes(bytes)?.into_owned(rt.alloc())?;
-    expect_like_lent(rt, owned, bytes)
+    expect_copies(rt, packed.as_slice(), bytes);
+    expect_like_lent(rt, packed, bytes);
+    let cloned = lent_of::<T>(rt, bytes).try_clone(rt.alloc())?;
+    expect_like_lent(rt, cloned, bytes);
+    let owned = lent_of::<T>(rt, bytes).into_owned(rt.alloc())?;
+    expect_like_lent(rt, owned, bytes);
+    Ok(())
 }
 
 /// Whether vectors of these bytes, their views, and their hashes are unequal.

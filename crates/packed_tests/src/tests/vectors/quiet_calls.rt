@@ -2,6 +2,7 @@
 //! bytes already, also once it was converted. The script `tests/refused_memory` sees that a test
 //! whose name ends in `_quiet` asks for nothing between the lines `call` and `done`.
 use super::conversions::signed_of;
+use super::equality::{are_same, are_same_views};
 use crate::tests::support::{expect, expect_same, hash_of, say};
 use icu_zerovec::ule::{AsULE, UleError};
 use icu_zerovec::{PotentialCodePoint, ZeroVec};
@@ -78,7 +79,8 @@ fn searches_quiet(rt: HostRuntime) {
 fn is_like_its_owner(owner: &ZeroVec<'_, u32>) -> Result<bool, UleError> {
     let lent = ZeroVec::<u32>::parse_bytes(owner.as_bytes())?;
     let view = lent.as_slice();
-    let same = (lent == *owner) & (view == owner.as_slice()) & (view.as_zerovec() == lent);
+    let same = are_same(&lent, owner) & are_same_views(view, owner.as_slice());
+    let same = same & are_same(&view.as_zerovec(), &lent);
     let hashes = hash_of(&lent) == hash_of(&owner.as_slice());
     Ok(same & hashes & (lent.as_bytes() == view.as_bytes()))
 }
