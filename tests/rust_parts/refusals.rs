@@ -6,6 +6,10 @@ use std::cell::Cell;
 
 std::thread_local! {
     static IS_SAID: Cell<bool> = const { Cell::new(false) };
+    /// How many requests were made before the last `call`.
+    static BEFORE: Cell<usize> = const { Cell::new(0) };
+    /// Whether nothing was asked for between a `call` and the next `done`.
+    static IS_IDLE: Cell<bool> = const { Cell::new(false) };
 }
 
 /// How a test ends.
@@ -26,8 +30,14 @@ impl Ending for Result<(), Fail> {
 /// Hears what a test says of its calls.
 pub(crate) fn hear(line: &str) {
     match line {
-        "call" => refusing::count(true),
-        "done" => refusing::count(false),
+        "call" => {
+            BEFORE.set(refusing::asked());
+            refusing::count(true);
+        }
+        "done" => {
+            refusing::count(false);
+            IS_IDLE.set(IS_IDLE.get() || refusing::asked() == BEFORE.get());
+        }
         "refused" => IS_SAID.set(true),
         _ => {}
     }
@@ -36,6 +46,7 @@ pub(crate) fn hear(line: &str) {
 /// Runs the test with its request at this place refused. Answers how many it made.
 fn asked_in<E: Ending>(test: fn(HostRuntime) -> E, refused: usize) -> usize {
     IS_SAID.set(false);
+    IS_IDLE.set(false);
     refusing::begin(refused);
     test(HostRuntime).expect_well();
     refusing::count(false);
@@ -48,7 +59,7 @@ pub(crate) fn each_refused<E: Ending>(test: fn(HostRuntime) -> E) {
         let is_refused = asked_in(test, place) > place;
         assert_eq!(IS_SAID.get(), is_refused, "what is said of request {place}");
         if !is_refused {
-            assert!(place > 0, "the call asks for nothing");
+            assert!(place > 0 && !IS_IDLE.get(), "a call asks for nothing");
             return;
         }
     }
