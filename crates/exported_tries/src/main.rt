@@ -1,7 +1,7 @@
 //! Prints the ranges of the first trie of the file `trie.toml` where it runs, as ICU's
 //! icuexportdata writes it, and writes the trie in ICU's binary form into `trie.bin` beside it,
-//! with values of 32 bits, for `tests/exported/run.sh`. Where there is a file `text` too, whose bytes
-//! may be ill-formed UTF-8, it writes the values along them into `values`, one of four bytes a part,
+//! with values of 32 bits, for `tests/exported/run.sh`. Where there is a file `text` too, whose
+//! bytes may be ill-formed UTF-8, it writes the values along them into `values`, four bytes a part,
 //! the lowest first. Where there is no such trie, as in the gate, it prints and writes nothing, and
 //! the status is 1.
 #![tactic(auto)]
@@ -34,8 +34,8 @@ fn write_form(rt: &HostRuntime, trie: &CodePointTrie<'static, u32>) -> Option<()
     fs::write(rt, "trie.bin", bytes).ok()
 }
 
-/// Writes the values along the bytes of the file `text`, if there is one, into `values`. `None` where
-/// that fails.
+/// Writes the values along the bytes of the file `text`, if there is one, into `values`. `None`
+/// where that fails.
 fn write_values(rt: &HostRuntime, trie: &CodePointTrie<'static, u32>) -> Option<()> {
     let Ok(text) = fs::read(rt, "text") else {
         return Some(());
