@@ -17,6 +17,14 @@ fn set_of(alloc: Global, ends: &[u32]) -> Result<CodePointInversionList<'static>
     CodePointInversionList::try_from_u32_inversion_list_slice(alloc, ends)
 }
 
+/// The set with these ends, for which there has to be memory.
+fn made_set(rt: &(impl Abort + AllocGlobal), ends: &[u32]) -> CodePointInversionList<'static> {
+    match set_of(rt.alloc(), ends) {
+        Ok(set) => set,
+        Err(_) => rt.panic("no set"),
+    }
+}
+
 /// What is said holds.
 fn expect(rt: &impl Abort, holds: bool, what: &'static str) {
     if !holds {
@@ -39,15 +47,12 @@ fn expect_ends(rt: &impl Abort, ends: Vec<u32>, want: &[u32]) {
     expect_same(rt, ends.as_slice(), want, "the ends");
 }
 
-/// The set has these ends.
-fn expect_set(
-    rt: &(impl Abort + AllocGlobal),
-    set: CodePointInversionList<'_>,
-    want: &[u32],
-) -> Result<(), Fail> {
-    let ends = set.get_inversion_list_vec(rt.alloc())?;
-    expect_ends(rt, ends, want);
-    Ok(())
+/// The set has these ends, for whose list there has to be memory.
+fn expect_set(rt: &(impl Abort + AllocGlobal), set: CodePointInversionList<'_>, want: &[u32]) {
+    match set.get_inversion_list_vec(rt.alloc()) {
+        Ok(ends) => expect_ends(rt, ends, want),
+        Err(_) => rt.panic("no memory"),
+    }
 }
 
 /// The set has these ends, where there is memory to list them.

@@ -1,17 +1,24 @@
 //! What the builder's calls leave, by the examples of UnicodeSet and of the Rust crate.
 use super::changes::{Addition, Change, Keeping, Operation, Removal, Turn, builder_of};
 use super::*;
-use crate::tests::{expect, expect_set, set_of};
-use icu_invlist::codepointinvlist::{CodePointInversionListBuilder, SetError};
+use crate::tests::{expect, expect_same, expect_set, set_of};
+use icu_invlist::codepointinvlist::CodePointInversionListBuilder;
+
+/// The set that the builder has so far. `None` where memory was refused.
+fn set_so_far(builder: &CodePointInversionListBuilder) -> Option<CodePointInversionList<'static>> {
+    builder.try_clone().ok()?.build().ok()
+}
 
 /// The builder's set has these ends so far.
 fn expect_so_far(
     rt: &(impl Abort + AllocGlobal),
     builder: &CodePointInversionListBuilder,
     ends: &[u32],
-) -> Result<(), Fail> {
-    let built = builder.try_clone()?.build()?;
-    expect_set(rt, built, ends)
+) {
+    match set_so_far(builder) {
+        Some(set) => expect_set(rt, set, ends),
+        None => rt.panic("no memory"),
+    }
 }
 
 /// The set with the ends `own`, changed by that with the ends `other`.
@@ -20,10 +27,24 @@ fn changed_by(
     own: &[u32],
     operation: Operation,
     other: &[u32],
-) -> Result<CodePointInversionListBuilder, SetError> {
-    let mut builder = builder_of(alloc, own)?;
-    operation.apply(&mut builder, &set_of(alloc, other)?)?;
-    Ok(builder)
+) -> Option<CodePointInversionListBuilder> {
+    let mut builder = builder_of(alloc, own).ok()?;
+    operation
+        .apply(&mut builder, &set_of(alloc, other).ok()?)
+        .ok()?;
+    Some(builder)
+}
+
+/// The builder, for which there has to be memory, has these ends so far.
+fn expect_changed(
+    rt: &(impl Abort + AllocGlobal),
+    builder: Option<CodePointInversionListBuilder>,
+    ends: &[u32],
+) {
+    match builder {
+        Some(builder) => expect_so_far(rt, &builder, ends),
+        None => rt.panic("no memory"),
+    }
 }
 
 /// Sets, what changes them by which other sets, and what they are then.
@@ -55,34 +76,32 @@ const CHANGED: [(&[u32], Operation, &[u32], &[u32]); 4] = [
 ];
 
 #[test]
-fn sets_changed_by_sets(rt: HostRuntime) -> Result<(), Fail> {
+fn sets_changed_by_sets(rt: HostRuntime) {
     for (own, operation, other, want) in CHANGED {
-        let builder = changed_by(rt.alloc(), own, operation, other)?;
-        expect_so_far(&rt, &builder, want)?;
+        expect_changed(&rt, changed_by(rt.alloc(), own, operation, other), want);
     }
-    Ok(())
 }
 
-/// The set with the ends `first` has after each change, one after another, the ends beside it.
+/// The builder's set has after each change, one after another, the ends beside it.
 fn expect_changes(
     rt: &(impl Abort + AllocGlobal),
-    first: &[u32],
+    mut builder: CodePointInversionListBuilder,
     changes: &[(Change, &[u32])],
-) -> Result<(), Fail> {
-    let mut builder = builder_of(rt.alloc(), first)?;
+) {
     for (change, ends) in changes {
-        change.apply(&mut builder)?;
-        expect_so_far(rt, &builder, ends)?;
+        expect(rt, change.apply(&mut builder).is_ok(), "changed");
+        expect_so_far(rt, &builder, ends);
     }
-    Ok(())
 }
+
+/// The ends of a set, and changes of it one after another, each with the ends of the set then.
+type Turns = (&'static [u32], &'static [(Change, &'static [u32])]);
 
 /// What lies past the end of the code space is ignored by additions, and cut off by all other
 /// calls.
-#[test]
-fn far_additions(rt: HostRuntime) -> Result<(), Fail> {
-    expect_changes(
-        &rt,
+const IN_TURN: [Turns; 14] = [
+    // Additions past the end of the code space.
+    (
         &[0x41, 0x5B],
         &[
             (Change::Add(Addition::Number(0x11_0000)), &[0x41, 0x5B]),
@@ -93,44 +112,33 @@ fn far_additions(rt: HostRuntime) -> Result<(), Fail> {
             (Change::Add(Addition::Numbers(0, u32::MAX)), &[0x41, 0x5B]),
             (Change::Add(Addition::All), &[0, 0x11_0000]),
         ],
-    )?;
-    expect_changes(
-        &rt,
+    ),
+    (
         &[],
         &[
             (Change::Add(Addition::Numbers(0, u32::MAX)), &[]),
             (Change::Add(Addition::All), &[0, 0x11_0000]),
         ],
-    )
-}
-
-/// Changes at no number, and past the end of the code space.
-#[test]
-fn empty_and_far_changes(rt: HostRuntime) -> Result<(), Fail> {
-    expect_changes(
-        &rt,
+    ),
+    // Changes at no number, and past the end of the code space.
+    (
         &[0xA, 0x14],
         &[
             (Change::Turn(Turn::NumbersBelow(5, 5)), &[0xA, 0x14]),
             (Change::Turn(Turn::Number(0x11_0000)), &[0xA, 0x14]),
             (Change::Remove(Removal::Number(u32::MAX)), &[0xA, 0x14]),
         ],
-    )?;
-    expect_changes(
-        &rt,
+    ),
+    (
         &[0x41, 0x5B],
         &[
             (Change::Turn(Turn::NumbersBelow(5, 5)), &[0x41, 0x5B]),
             (Change::Turn(Turn::Number(0x11_0000)), &[0x41, 0x5B]),
             (Change::Remove(Removal::Number(u32::MAX)), &[0x41, 0x5B]),
         ],
-    )
-}
-
-#[test]
-fn far_removals(rt: HostRuntime) -> Result<(), Fail> {
-    expect_changes(
-        &rt,
+    ),
+    // Removals to past the end.
+    (
         &[0x41, 0x5B],
         &[
             (
@@ -143,18 +151,13 @@ fn far_removals(rt: HostRuntime) -> Result<(), Fail> {
                 &[0x10_FFFE, 0x11_0000],
             ),
         ],
-    )?;
-    expect_changes(
-        &rt,
+    ),
+    (
         &[0x41, 0x5B],
         &[(Change::Remove(Removal::Numbers(0, u32::MAX)), &[])],
-    )
-}
-
-#[test]
-fn kept_numbers(rt: HostRuntime) -> Result<(), Fail> {
-    expect_changes(
-        &rt,
+    ),
+    // Numbers that are kept.
+    (
         &[0x41, 0x5B],
         &[
             (
@@ -164,36 +167,26 @@ fn kept_numbers(rt: HostRuntime) -> Result<(), Fail> {
             (Change::Keep(Keeping::Number(0x51)), &[0x51, 0x52]),
             (Change::Keep(Keeping::Number(u32::MAX)), &[]),
         ],
-    )?;
-    expect_changes(
-        &rt,
+    ),
+    (
         &[0x41, 0x5B],
         &[(Change::Keep(Keeping::Number(u32::MAX)), &[])],
-    )
-}
-
-#[test]
-fn kept_ranges(rt: HostRuntime) -> Result<(), Fail> {
-    expect_changes(
-        &rt,
+    ),
+    // Ranges that are kept.
+    (
         &[0x41, 0x5A],
         &[
             (Change::Keep(Keeping::CharsBelow('C', 'F')), &[0x43, 0x46]),
             (Change::Keep(Keeping::Char('D')), &[0x44, 0x45]),
             (Change::Keep(Keeping::NumbersBelow(9, 3)), &[]),
         ],
-    )?;
-    expect_changes(
-        &rt,
+    ),
+    (
         &[0x41, 0x46],
         &[(Change::Keep(Keeping::NumbersBelow(9, 3)), &[])],
-    )
-}
-
-#[test]
-fn characters_added_and_removed(rt: HostRuntime) -> Result<(), Fail> {
-    expect_changes(
-        &rt,
+    ),
+    // Characters added and removed.
+    (
         &[],
         &[
             (Change::Add(Addition::Char('A')), &[0x41, 0x42]),
@@ -206,9 +199,8 @@ fn characters_added_and_removed(rt: HostRuntime) -> Result<(), Fail> {
                 &[0x41, 0x42, 0x43, 0x44, 0x45, 0x48],
             ),
         ],
-    )?;
-    expect_changes(
-        &rt,
+    ),
+    (
         &[0x41, 0x42, 0x43, 0x44, 0x45, 0x5B],
         &[
             (
@@ -224,13 +216,9 @@ fn characters_added_and_removed(rt: HostRuntime) -> Result<(), Fail> {
                 &[0x41, 0x42, 0x45, 0x46, 0x47, 0x48],
             ),
         ],
-    )
-}
-
-#[test]
-fn sets_turned_round(rt: HostRuntime) -> Result<(), Fail> {
-    expect_changes(
-        &rt,
+    ),
+    // Sets turned round.
+    (
         &[0x41, 0x42, 0x45, 0x46, 0x47, 0x48],
         &[
             (Change::Turn(Turn::Char('A')), &[0x45, 0x46, 0x47, 0x48]),
@@ -244,23 +232,34 @@ fn sets_turned_round(rt: HostRuntime) -> Result<(), Fail> {
                 &[0, 0x44, 0x45, 0x46, 0x48, 0x11_0000],
             ),
         ],
-    )?;
-    expect_changes(
-        &rt,
+    ),
+    (
         &[0xA, 0x14, 0x28, 0x32],
         &[(
             Change::Turn(Turn::All),
             &[0, 0xA, 0x14, 0x28, 0x32, 0x11_0000],
         )],
-    )
+    ),
+];
+
+#[test]
+fn changes_one_after_another(rt: HostRuntime) {
+    for (first, changes) in IN_TURN {
+        match builder_of(rt.alloc(), first) {
+            Ok(builder) => expect_changes(&rt, builder, changes),
+            Err(_) => rt.panic("no builder"),
+        }
+    }
 }
 
 /// A builder is empty until something is added.
 #[test]
-fn empty_until_added(rt: HostRuntime) -> Result<(), Fail> {
+fn empty_until_added(rt: HostRuntime) {
     let mut builder = CodePointInversionListBuilder::new(rt.alloc());
-    expect(&rt, builder.is_empty(), "empty");
-    builder.add_char('A')?;
-    expect(&rt, !builder.is_empty(), "not empty");
-    Ok(())
+    let found = (
+        builder.is_empty(),
+        builder.add_char('A').is_ok(),
+        builder.is_empty(),
+    );
+    expect_same(&rt, found, (true, true, false), "empty, added, empty");
 }

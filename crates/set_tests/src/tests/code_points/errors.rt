@@ -74,25 +74,22 @@ fn empty_and_reversed_ranges(rt: HostRuntime) {
 }
 
 /// The error is told so.
-fn expect_told<E: Display + Drop>(
-    rt: &(impl Abort + AllocGlobal),
-    error: E,
-    want: &str,
-) -> Result<(), Fail> {
-    let text = error.to_string(rt.alloc())?;
-    expect_text(rt, text, want);
-    Ok(())
+fn expect_told<E: Display>(rt: &(impl Abort + AllocGlobal), error: &E, want: &str) {
+    match error.to_string(rt.alloc()) {
+        Ok(text) => expect_text(rt, text, want),
+        Err(_) => rt.panic("no text"),
+    }
 }
 
 #[test]
-fn texts_of_errors(rt: HostRuntime) -> Result<(), Fail> {
-    expect_told(&rt, InvalidSetError(Vec::new(rt.alloc())), "Invalid set")?;
+fn texts_of_errors(rt: HostRuntime) {
+    expect_told(&rt, &InvalidSetError(Vec::new(rt.alloc())), "Invalid set");
     let invalid = SetError::Invalid(InvalidSetError(Vec::new(rt.alloc())));
-    expect_told(&rt, invalid, "Invalid set")?;
-    expect_told(&rt, SetError::Memory, "no memory")?;
+    expect_told(&rt, &invalid, "Invalid set");
+    expect_told(&rt, &SetError::Memory, "no memory");
     let range = RangeError(65, 60);
-    expect_told(&rt, range, "Invalid range: 65..60")?;
-    expect_told(&rt, TryRangeError::from(range), "Invalid range: 65..60")?;
-    expect_told(&rt, TryRangeError::Memory, "no memory")?;
-    expect_told(&rt, SetJsonError::Memory, "no memory")
+    expect_told(&rt, &range, "Invalid range: 65..60");
+    expect_told(&rt, &TryRangeError::from(range), "Invalid range: 65..60");
+    expect_told(&rt, &TryRangeError::Memory, "no memory");
+    expect_told(&rt, &SetJsonError::Memory, "no memory");
 }

@@ -1,6 +1,6 @@
 //! The ranges, the gaps and the characters of sets.
 use super::*;
-use crate::tests::{expect_same, set_of};
+use crate::tests::{expect_same, made_set};
 
 /// The range is the one that begins at this place of the list.
 fn expect_range(rt: &impl Abort, range: RangeInclusive<u32>, ends: &[u32], place: usize) {
@@ -30,32 +30,37 @@ fn expect_gaps(rt: &impl Abort, set: &CodePointInversionList<'_>, ends: &[u32]) 
     expect_same(rt, given, ends.len(), "ends of gaps");
 }
 
+/// The set's ranges are those of the list, and its gaps those of the other one.
+fn expect_both(rt: &impl Abort, set: CodePointInversionList<'_>, ends: &[u32], gaps: &[u32]) {
+    expect_ranges(rt, &set, ends);
+    expect_gaps(rt, &set, gaps);
+    expect_same(rt, set.iter_ranges().len(), ends.len() / 2, "ranges");
+}
+
+/// Sets by their ends, and the ends of their gaps.
+static GAPS: [(&[u32], &[u32]); 3] = [
+    (
+        &[0xA, 0x14, 0x28, 0x32],
+        &[0, 0xA, 0x14, 0x28, 0x32, 0x11_0000],
+    ),
+    (&[0, 0xA, 0x14, 0x11_0000], &[0xA, 0x14]),
+    (&[], &[0, 0x11_0000]),
+];
+
 #[test]
-fn ranges_and_gaps(rt: HostRuntime) -> Result<(), Fail> {
-    for (ends, gaps) in [
-        (
-            [0xA, 0x14, 0x28, 0x32].as_slice(),
-            [0, 0xA, 0x14, 0x28, 0x32, 0x11_0000].as_slice(),
-        ),
-        ([0, 0xA, 0x14, 0x11_0000].as_slice(), [0xA, 0x14].as_slice()),
-        ([].as_slice(), [0, 0x11_0000].as_slice()),
-    ] {
-        let set = set_of(rt.alloc(), ends)?;
-        expect_ranges(&rt, &set, ends);
-        expect_gaps(&rt, &set, gaps);
-        expect_same(&rt, set.iter_ranges().len(), ends.len() / 2, "ranges");
+fn ranges_and_gaps(rt: HostRuntime) {
+    for (ends, gaps) in GAPS.iter() {
+        expect_both(&rt, made_set(&rt, ends), ends, gaps);
     }
     expect_gaps(&rt, &CodePointInversionList::all(), &[]);
-    Ok(())
 }
 
 /// The surrogate is no character.
 #[test]
-fn characters(rt: HostRuntime) -> Result<(), Fail> {
-    let set = set_of(rt.alloc(), &[0x41, 0x44, 0x45, 0x46, 0xD800, 0xD801])?;
+fn characters(rt: HostRuntime) {
+    let set = made_set(&rt, &[0x41, 0x44, 0x45, 0x46, 0xD800, 0xD801]);
     let mut chars = set.iter_chars();
     for want in [Some('A'), Some('B'), Some('C'), Some('E'), None] {
         expect_same(&rt, chars.next(), want, "a character");
     }
-    Ok(())
 }

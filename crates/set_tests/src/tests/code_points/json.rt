@@ -11,7 +11,8 @@ fn expect_read(
     want: &[u32],
 ) -> Result<(), Fail> {
     let set = CodePointInversionList::from_json(rt.alloc(), &value?)?;
-    expect_set(rt, set, want)
+    expect_set(rt, set, want);
+    Ok(())
 }
 
 /// The value of a text.

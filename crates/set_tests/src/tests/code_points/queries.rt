@@ -1,37 +1,36 @@
 //! What sets answer.
 use super::*;
-use crate::tests::{expect_same, set_of};
-use icu_invlist::codepointinvlist::SetError;
+use crate::tests::{expect_same, made_set, set_of};
 
 /// Whether the set with the ends `whole` holds the other.
-fn is_subset(alloc: Global, whole: &[u32], part: &[u32]) -> Result<bool, SetError> {
-    let whole = set_of(alloc, whole)?;
-    Ok(whole.contains_set(&set_of(alloc, part)?))
+fn is_subset(alloc: Global, whole: &[u32], part: &[u32]) -> Option<bool> {
+    let whole = set_of(alloc, whole).ok()?;
+    let part = set_of(alloc, part).ok()?;
+    Some(whole.contains_set(&part))
 }
 
+const GREATER: [u32; 8] = [0xA, 0x14, 0x28, 0x32, 0x46, 0x50, 0x64, 0x6E];
+
+const SMALLER: [u32; 8] = [0xF, 0x14, 0x2C, 0x31, 0x46, 0x50, 0x64, 0x6D];
+
+/// Two sets, whether the first holds the second, and what they are.
+static SUBSETS: [(&[u32], &[u32], bool, &str); 4] = [
+    (&[0x41, 0x44], &[0x42, 0x45], false, "overlapping"),
+    (&[0x41, 0x44], &[], true, "empty"),
+    (&GREATER, &SMALLER, true, "the smaller in the greater"),
+    (&SMALLER, &GREATER, false, "the greater in the smaller"),
+];
+
 #[test]
-fn subsets(rt: HostRuntime) -> Result<(), Fail> {
-    let greater = [0xA, 0x14, 0x28, 0x32, 0x46, 0x50, 0x64, 0x6E].as_slice();
-    let smaller = [0xF, 0x14, 0x2C, 0x31, 0x46, 0x50, 0x64, 0x6D].as_slice();
-    for (whole, part, want, what) in [
-        (
-            [0x41, 0x44].as_slice(),
-            [0x42, 0x45].as_slice(),
-            false,
-            "overlapping",
-        ),
-        ([0x41, 0x44].as_slice(), [].as_slice(), true, "empty"),
-        (greater, smaller, true, "the smaller in the greater"),
-        (smaller, greater, false, "the greater in the smaller"),
-    ] {
-        expect_same(&rt, is_subset(rt.alloc(), whole, part)?, want, what);
+fn subsets(rt: HostRuntime) {
+    for (whole, part, want, what) in SUBSETS.iter() {
+        expect_same(&rt, is_subset(rt.alloc(), whole, part), Some(*want), what);
     }
-    Ok(())
 }
 
 #[test]
-fn ranges_held(rt: HostRuntime) -> Result<(), Fail> {
-    let letters = set_of(rt.alloc(), &[0x41, 0x44])?;
+fn ranges_held(rt: HostRuntime) {
+    let letters = made_set(&rt, &[0x41, 0x44]);
     let found = [
         letters.contains_range('A'..='C'),
         letters.contains_range('A'..='D'),
@@ -46,89 +45,95 @@ fn ranges_held(rt: HostRuntime) -> Result<(), Fail> {
         want,
         "A to C, A to D, no character, C, all in all",
     );
-    Ok(())
 }
 
-/// The set of A to C, E and a surrogate.
-fn letters_and_surrogate(alloc: Global) -> Result<CodePointInversionList<'static>, SetError> {
-    set_of(alloc, &[0x41, 0x44, 0x45, 0x46, 0xD800, 0xD801])
+/// The set has these ranges, by their places.
+fn expect_nth(
+    rt: &impl Abort,
+    set: &CodePointInversionList<'_>,
+    rows: &[(usize, Option<(u32, u32)>)],
+) {
+    for (index, want) in rows {
+        let found = nth_of(set, *index);
+        expect_same(rt, (*index, found), (*index, *want), "a range");
+    }
 }
+
+/// So many of the set's numbers stand below each, where the set holds it.
+fn expect_positions(
+    rt: &impl Abort,
+    set: &CodePointInversionList<'_>,
+    rows: &[(u32, Option<usize>)],
+) {
+    for (c, want) in rows {
+        expect_same(rt, (*c, set.position32(*c)), (*c, *want), "a place");
+    }
+}
+
+/// The ranges of A to C, of E, and of a surrogate.
+static NTH: [(usize, Option<(u32, u32)>); 5] = [
+    (0, Some((0x41, 0x43))),
+    (1, Some((0x45, 0x45))),
+    (2, Some((0xD800, 0xD800))),
+    (3, None),
+    (usize::MAX, None),
+];
+
+/// The places of numbers among them.
+static POSITIONS: [(u32, Option<usize>); 5] = [
+    (0x43, Some(2)),
+    (0x44, None),
+    (0x45, Some(3)),
+    (0xD800, Some(4)),
+    (u32::MAX, None),
+];
 
 #[test]
-fn nth_ranges(rt: HostRuntime) -> Result<(), Fail> {
-    let set = letters_and_surrogate(rt.alloc())?;
-    for (index, want) in [
-        (0, Some((0x41, 0x43))),
-        (1, Some((0x45, 0x45))),
-        (2, Some((0xD800, 0xD800))),
-        (3, None),
-        (usize::MAX, None),
-    ] {
-        expect_same(
-            &rt,
-            (index, ends_of(set.get_nth_range(index))),
-            (index, want),
-            "a range",
-        );
-    }
-    expect_same(
-        &rt,
-        (set.get_range_count(), set.size()),
-        (3, 5),
-        "ranges and size",
-    );
-    Ok(())
-}
-
-/// How many of the set's numbers stand below each, where the set holds it.
-#[test]
-fn positions(rt: HostRuntime) -> Result<(), Fail> {
-    let set = letters_and_surrogate(rt.alloc())?;
-    for (c, want) in [
-        (0x43, Some(2)),
-        (0x44, None),
-        (0x45, Some(3)),
-        (0xD800, Some(4)),
-        (u32::MAX, None),
-    ] {
-        expect_same(&rt, (c, set.position32(c)), (c, want), "a place");
-    }
+fn ranges_and_positions(rt: HostRuntime) {
+    let set = made_set(&rt, &[0x41, 0x44, 0x45, 0x46, 0xD800, 0xD801]);
+    expect_nth(&rt, &set, &NTH);
+    expect_positions(&rt, &set, &POSITIONS);
+    expect_same(&rt, counts_of(&set), [5, 3], "size and ranges");
     expect_same(&rt, set.position('E'), Some(3), "the place of E");
-    Ok(())
 }
 
 /// Nor has the set of A to Z the greatest number, or a range of the greatest index.
 #[test]
-fn places_of_the_greatest_number(rt: HostRuntime) -> Result<(), Fail> {
-    let letters = set_of(rt.alloc(), &[0x41, 0x5B])?;
-    expect_same(
-        &rt,
-        letters.position32(u32::MAX),
-        None,
-        "the greatest number",
-    );
-    let range = ends_of(letters.get_nth_range(usize::MAX));
-    expect_same(&rt, range, None, "the greatest index");
-    Ok(())
+fn places_of_the_greatest_number(rt: HostRuntime) {
+    let letters = made_set(&rt, &[0x41, 0x5B]);
+    expect_positions(&rt, &letters, &[(u32::MAX, None)]);
+    expect_nth(&rt, &letters, &[(usize::MAX, None)]);
+}
+
+/// A text, and how far it lies in a set and beside it, by the front and by the tail.
+type TextSpans = (&'static str, [usize; 4]);
+
+/// Sets by their ends, and texts.
+static SPANS: [(&[u32], &[TextSpans]); 2] = [
+    (
+        &[0xE9, 0xEA],
+        &[
+            ("ééa", [4, 0, 5, 4]),
+            ("aéé", [0, 1, 1, 5]),
+            ("", [0, 0, 0, 0]),
+        ],
+    ),
+    (
+        &[0x41, 0x44, 0x46, 0x4B],
+        &[("XYZABFH", [0, 3, 3, 7]), ("ABCXYZ", [3, 0, 6, 3])],
+    ),
+];
+
+/// The texts lie so far in the set.
+fn expect_text_spans(rt: &impl Abort, set: CodePointInversionList<'_>, rows: &[TextSpans]) {
+    for (text, want) in rows {
+        expect_same(rt, spans_of(&set, text), *want, text);
+    }
 }
 
 #[test]
-fn spans(rt: HostRuntime) -> Result<(), Fail> {
-    let accented = set_of(rt.alloc(), &[0xE9, 0xEA])?;
-    let found = [
-        accented.span("ééa", true),
-        accented.span_back("aéé", true),
-        accented.span("", true),
-    ];
-    expect_same(&rt, found, [4, 1, 0], "ééa, aéé, no text");
-    let letters = set_of(rt.alloc(), &[0x41, 0x44, 0x46, 0x4B])?;
-    let found = [
-        letters.span("XYZABFH", false),
-        letters.span_back("XYZABFH", true),
-        letters.span_back("ABCXYZ", true),
-        letters.span_back("ABCXYZ", false),
-    ];
-    let what = "front not held, back held, no back held, back not held";
-    expect_same(&rt, found, [3, 3, 6, 3], what);
-    Ok(())
+fn spans(rt: HostRuntime) {
+    for (ends, rows) in SPANS.iter() {
+        expect_text_spans(&rt, made_set(&rt, ends), rows);
+    }
 }

@@ -73,7 +73,8 @@ fn expect_read(
 ) -> Result<(), Fail> {
     let (set, found) = from_serialized(rt.alloc(), units)?;
     expect_same(rt, found, len, "units");
-    expect_set(rt, set, ends)
+    expect_set(rt, set, ends);
+    Ok(())
 }
 
 #[test]

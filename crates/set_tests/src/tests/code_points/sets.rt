@@ -1,32 +1,57 @@
 //! Sets: how they are made, and what they hold.
 use super::*;
-use crate::tests::{expect, expect_same, expect_set, hash_of, set_of};
+use crate::tests::{expect, expect_same, expect_set, hash_of, made_set};
 use icu_invlist::codepointinvlist::deconstruct_range;
 use icu_zerovec::{PotentialCodePoint, ZeroVec};
 use std::ops::{Range, RangeFull};
 
-#[test]
-fn sets_of_ranges(rt: HostRuntime) -> Result<(), Fail> {
-    let letters = CodePointInversionList::try_from(rt.alloc(), 'A'..='Z')?;
-    expect_set(&rt, letters, &[0x41, 0x5B])?;
-    let from_a = CodePointInversionList::try_from(rt.alloc(), 'A'..)?;
-    expect_set(&rt, from_a, &[0x41, 0x11_0000])?;
-    let to_z = CodePointInversionList::try_from(rt.alloc(), ..='Z')?;
-    expect_set(&rt, to_z, &[0, 0x5B])?;
-    let joined = CodePointInversionList::from_iter(
-        rt.alloc(),
-        [0..=0x3FFF, 0x4000..=0x7FFF].into_iter(),
-    )?;
-    expect_set(&rt, joined, &[0, 0x8000])
+/// What a set is made of.
+#[derive(Clone, Copy)]
+enum Source {
+    Letters,
+    FromA,
+    ToZ,
+    Joined,
+    All,
+    Basic,
+    Whole,
 }
 
+/// The set that is made of it. `None` where memory was refused.
+fn set_from(source: Source, alloc: Global) -> Option<CodePointInversionList<'static>> {
+    match source {
+        Source::Letters => CodePointInversionList::try_from(alloc, 'A'..='Z').ok(),
+        Source::FromA => CodePointInversionList::try_from(alloc, 'A'..).ok(),
+        Source::ToZ => CodePointInversionList::try_from(alloc, ..='Z').ok(),
+        Source::Joined => {
+            let ranges = [0..=0x3FFF, 0x4000..=0x7FFF];
+            CodePointInversionList::from_iter(alloc, ranges.into_iter()).ok()
+        }
+        Source::All => CodePointInversionList::try_from(alloc, ..).ok(),
+        Source::Basic => Some(CodePointInversionList::bmp()),
+        Source::Whole => Some(CodePointInversionList::all()),
+    }
+}
+
+/// Sources, and the ends of their sets.
+const SOURCES: [(Source, [u32; 2]); 7] = [
+    (Source::Letters, [0x41, 0x5B]),
+    (Source::FromA, [0x41, 0x11_0000]),
+    (Source::ToZ, [0, 0x5B]),
+    (Source::Joined, [0, 0x8000]),
+    (Source::All, [0, 0x11_0000]),
+    (Source::Basic, [0, 0x1_0000]),
+    (Source::Whole, [0, 0x11_0000]),
+];
+
 #[test]
-fn sets_that_lie_ready(rt: HostRuntime) -> Result<(), Fail> {
-    expect_set(&rt, CodePointInversionList::bmp(), &[0, 0x1_0000])?;
-    expect_set(&rt, CodePointInversionList::all(), &[0, 0x11_0000])?;
-    let all = CodePointInversionList::try_from(rt.alloc(), ..)?;
-    expect(&rt, all == CodePointInversionList::all(), "all");
-    Ok(())
+fn sets_of_ranges(rt: HostRuntime) {
+    for (source, ends) in SOURCES {
+        match set_from(source, rt.alloc()) {
+            Some(set) => expect_set(&rt, set, &ends),
+            None => rt.panic("no set"),
+        }
+    }
 }
 
 /// What each type of range over numbers names, and one that its one number was taken from.
@@ -86,9 +111,19 @@ fn ends_of_ranges_of_characters(rt: HostRuntime) {
 }
 
 /// The set of A to Z over borrowed bytes.
-fn lent_letters(alloc: Global) -> Result<CodePointInversionList<'static>, Fail> {
-    let list = ZeroVec::<PotentialCodePoint>::parse_bytes(&[0x41, 0, 0, 0x5B, 0, 0])?;
-    Ok(CodePointInversionList::try_from_inversion_list(alloc, list)?)
+fn lent_letters(alloc: Global) -> Option<CodePointInversionList<'static>> {
+    let list = ZeroVec::<PotentialCodePoint>::parse_bytes(&[0x41, 0, 0, 0x5B, 0, 0]).ok()?;
+    CodePointInversionList::try_from_inversion_list(alloc, list).ok()
+}
+
+/// A copy of it.
+fn cloned_letters(alloc: Global) -> Option<CodePointInversionList<'static>> {
+    lent_letters(alloc)?.try_clone(alloc).ok()
+}
+
+/// The same that owns its bytes.
+fn owned_letters(alloc: Global) -> Option<CodePointInversionList<'static>> {
+    lent_letters(alloc)?.into_owned(alloc).ok()
 }
 
 /// The sets are equal, and so are their hashes. They are another one than the basic plane.
@@ -98,24 +133,30 @@ fn expect_alike(rt: &impl Abort, a: CodePointInversionList<'_>, b: CodePointInve
     expect(rt, a != CodePointInversionList::bmp(), "another set");
 }
 
-#[test]
-fn cloned(rt: HostRuntime) -> Result<(), Fail> {
-    let cloned = lent_letters(rt.alloc())?.try_clone(rt.alloc())?;
-    expect_alike(&rt, lent_letters(rt.alloc())?, cloned);
-    Ok(())
+/// There was memory for both sets, and they are alike.
+fn expect_both(
+    rt: &impl Abort,
+    a: Option<CodePointInversionList<'_>>,
+    b: Option<CodePointInversionList<'_>>,
+) {
+    match (a, b) {
+        (Some(a), Some(b)) => expect_alike(rt, a, b),
+        _ => rt.panic("no memory"),
+    }
 }
 
 #[test]
-fn lent_and_owned(rt: HostRuntime) -> Result<(), Fail> {
-    let owned = lent_letters(rt.alloc())?.into_owned(rt.alloc())?;
-    expect_alike(&rt, lent_letters(rt.alloc())?, owned);
-    Ok(())
+fn lent_cloned_and_owned(rt: HostRuntime) {
+    let alloc = rt.alloc();
+    expect_both(&rt, lent_letters(alloc), cloned_letters(alloc));
+    expect_both(&rt, lent_letters(alloc), owned_letters(alloc));
+    let all = set_from(Source::All, alloc);
+    let is_all = all.is_some_and(|all| all == CodePointInversionList::all());
+    expect(&rt, is_all, "all");
 }
 
-/// Whether the set of A to Z holds the numbers beside its ends, and the greatest.
-#[test]
-fn held_and_listed(rt: HostRuntime) -> Result<(), Fail> {
-    let letters = set_of(rt.alloc(), &[0x41, 0x5B])?;
+/// The set of A to Z is asked for the numbers beside its ends, and for the greatest.
+fn expect_held(rt: &impl Abort, letters: &CodePointInversionList<'_>) {
     for (c, want) in [
         (0x40, false),
         (0x41, true),
@@ -123,8 +164,14 @@ fn held_and_listed(rt: HostRuntime) -> Result<(), Fail> {
         (0x5B, false),
         (u32::MAX, false),
     ] {
-        expect_same(&rt, (c, letters.contains32(c)), (c, want), "held");
+        expect_same(rt, (c, letters.contains32(c)), (c, want), "held");
     }
-    expect(&rt, !letters.is_empty(), "not empty");
-    expect_set(&rt, letters, &[0x41, 0x5B])
+    expect(rt, !letters.is_empty(), "not empty");
+}
+
+#[test]
+fn held_and_listed(rt: HostRuntime) {
+    let letters = made_set(&rt, &[0x41, 0x5B]);
+    expect_held(&rt, &letters);
+    expect_set(&rt, letters, &[0x41, 0x5B]);
 }

@@ -46,12 +46,48 @@ fn try_clone_of_builder_refused(rt: HostRuntime) {
     }
 }
 
-/// Calls: `CodePointInversionList::try_from_u32_inversion_list_slice`.
+/// Ways to make a set.
+#[derive(Clone, Copy)]
+enum Way {
+    Ends,
+    Range,
+    Ranges,
+    Owned,
+}
+
+/// The set that is made so. `None` where memory was refused.
+fn made_by(way: Way, alloc: Global) -> Option<CodePointInversionList<'static>> {
+    match way {
+        Way::Ends => {
+            CodePointInversionList::try_from_u32_inversion_list_slice(alloc, &LETTERS).ok()
+        }
+        Way::Range => CodePointInversionList::try_from(alloc, 'A'..='Z').ok(),
+        Way::Ranges => {
+            let ranges = [0x41..=0x50, 0x51..=0x5A];
+            CodePointInversionList::from_iter(alloc, ranges.into_iter()).ok()
+        }
+        Way::Owned => CodePointInversionList::bmp().into_owned(alloc).ok(),
+    }
+}
+
+/// Each way, and the ends of the set.
+const WAYS: [(Way, [u32; 2]); 4] = [
+    (Way::Ends, LETTERS),
+    (Way::Range, LETTERS),
+    (Way::Ranges, LETTERS),
+    (Way::Owned, [0, 0x1_0000]),
+];
+
+/// Calls: `CodePointInversionList::try_from_u32_inversion_list_slice`,
+/// `CodePointInversionList::try_from`, `CodePointInversionList::from_iter`,
+/// `CodePointInversionList::into_owned`.
 #[test]
-fn try_from_u32_inversion_list_slice_refused(rt: HostRuntime) {
-    say(&rt, "call");
-    let made = CodePointInversionList::try_from_u32_inversion_list_slice(rt.alloc(), &LETTERS);
-    expect_made(&rt, made.ok(), &LETTERS);
+fn made_refused(rt: HostRuntime) {
+    for (way, ends) in WAYS {
+        say(&rt, "call");
+        let made = made_by(way, rt.alloc());
+        expect_made(&rt, made, &ends);
+    }
 }
 
 /// Calls: `CodePointInversionList::from_valid_slice`.
@@ -65,33 +101,6 @@ fn from_valid_slice_refused(rt: HostRuntime) {
     say(&rt, "call");
     let made = CodePointInversionList::from_valid_slice(rt.alloc(), &ends);
     expect_made(&rt, made.ok(), &[0, 0x11_0000]);
-}
-
-/// Calls: `CodePointInversionList::try_from`.
-#[test]
-fn try_from_range_refused(rt: HostRuntime) {
-    say(&rt, "call");
-    let made = CodePointInversionList::try_from(rt.alloc(), 'A'..='Z');
-    expect_made(&rt, made.ok(), &LETTERS);
-}
-
-/// Calls: `CodePointInversionList::from_iter`.
-#[test]
-fn from_iter_refused(rt: HostRuntime) {
-    say(&rt, "call");
-    let made = CodePointInversionList::from_iter(
-        rt.alloc(),
-        [0x41..=0x50, 0x51..=0x5A].into_iter(),
-    );
-    expect_made(&rt, made.ok(), &LETTERS);
-}
-
-/// Calls: `CodePointInversionList::into_owned`.
-#[test]
-fn into_owned_refused(rt: HostRuntime) {
-    say(&rt, "call");
-    let made = CodePointInversionList::bmp().into_owned(rt.alloc());
-    expect_made(&rt, made.ok(), &[0, 0x1_0000]);
 }
 
 /// Calls: `CodePointInversionList::try_clone`.

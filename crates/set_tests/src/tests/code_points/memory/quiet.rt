@@ -65,6 +65,18 @@ const CHANGING_NOTHING: [Operation; 3] = [
     Operation::SymmetricDifference,
 ];
 
+/// Whether a set of nothing changes the builder's set without an error.
+fn is_changed_by(
+    builder: &mut CodePointInversionListBuilder,
+    nothing: &CodePointInversionList<'_>,
+) -> bool {
+    let mut answered = true;
+    for operation in CHANGING_NOTHING {
+        answered = operation.apply(builder, nothing).is_ok() && answered;
+    }
+    answered
+}
+
 /// Sets of nothing, which change nothing.
 ///
 /// Calls: `CodePointInversionListBuilder::add_set`, `CodePointInversionListBuilder::remove_set`,
@@ -77,14 +89,25 @@ fn sets_of_nothing_quiet(rt: HostRuntime) {
     let Ok(mut builder) = full_builder_of(rt.alloc(), &LETTERS) else {
         return;
     };
-    let mut answered = true;
     say(&rt, "call");
-    for operation in CHANGING_NOTHING {
-        answered = operation.apply(&mut builder, &nothing).is_ok() && answered;
-    }
+    let answered = is_changed_by(&mut builder, &nothing);
     say(&rt, "done");
     expect(&rt, answered, "not refused");
     expect_left(&rt, builder, &LETTERS);
+}
+
+/// What the basic plane is asked: of code points, and beside all of them.
+fn membership() -> [bool; 6] {
+    let all = CodePointInversionList::all();
+    let bmp = CodePointInversionList::bmp();
+    [
+        bmp.contains('A'),
+        bmp.contains32(0x1_0000),
+        bmp.contains_range('A'..),
+        all.contains_set(&bmp),
+        bmp == all,
+        bmp.is_empty(),
+    ]
 }
 
 /// A set and its copy have one hash.
@@ -96,56 +119,84 @@ fn sets_of_nothing_quiet(rt: HostRuntime) {
 #[test]
 fn membership_quiet(rt: HostRuntime) {
     say(&rt, "call");
-    let all = CodePointInversionList::all();
-    let bmp = CodePointInversionList::bmp();
-    let points = [
-        bmp.contains('A'),
-        bmp.contains32(0x1_0000),
-        bmp.contains_range('A'..),
-    ];
-    let sets = [all.contains_set(&bmp), bmp == all, bmp.is_empty()];
-    let hashes = [hash_of(&bmp), hash_of(&CodePointInversionList::bmp())];
+    let found = membership();
+    let hash = hash_of(&CodePointInversionList::bmp());
+    let again = hash_of(&CodePointInversionList::bmp());
     say(&rt, "done");
-    expect_same(&rt, points, [true, false, false], "code points");
-    expect_same(&rt, sets, [true, false, false], "sets");
-    expect_same(&rt, hashes[0], hashes[1], "hashes");
+    let want = [true, false, false, true, false, false];
+    expect_same(&rt, found, want, "code points and sets");
+    expect_same(&rt, hash, again, "hashes");
+}
+
+/// Size and ranges, places of A and of a number past the basic plane, spans of a text, the first
+/// range and the second.
+type Counts = (
+    [usize; 2],
+    [Option<usize>; 2],
+    [usize; 4],
+    [Option<(u32, u32)>; 2],
+);
+
+/// What the set counts.
+fn counted(set: &CodePointInversionList<'_>) -> Counts {
+    (
+        counts_of(set),
+        [set.position('A'), set.position32(0x1_0000)],
+        spans_of(set, "ab"),
+        [nth_of(set, 0), nth_of(set, 1)],
+    )
 }
 
 /// Calls: `CodePointInversionList::size`, `CodePointInversionList::get_range_count`,
 /// `CodePointInversionList::position`, `CodePointInversionList::position32`,
-/// `CodePointInversionList::span`, `CodePointInversionList::span_back`.
+/// `CodePointInversionList::span`, `CodePointInversionList::span_back`,
+/// `CodePointInversionList::get_nth_range`.
 #[test]
 fn counts_quiet(rt: HostRuntime) {
     say(&rt, "call");
-    let bmp = CodePointInversionList::bmp();
-    let counts = [bmp.size(), bmp.get_range_count()];
-    let places = [bmp.position('A'), bmp.position32(0x1_0000)];
-    let spans = [bmp.span("ab", true), bmp.span_back("ab", true)];
+    let found = counted(&CodePointInversionList::bmp());
     say(&rt, "done");
-    expect_same(&rt, counts, [0x1_0000, 1], "size and ranges");
-    expect_same(
-        &rt,
-        places,
+    let want = (
+        [0x1_0000, 1],
         [Some(0x41), None],
-        "places of A and of a number not held",
+        [2, 0, 0, 2],
+        [Some((0, 0xFFFF)), None],
     );
-    expect_same(&rt, spans, [2, 0], "front and back");
+    expect_same(&rt, found, want, "counts, places, spans and ranges");
 }
 
-/// Calls: `CodePointInversionList::iter_ranges`,
+/// How many ranges are to come, the first one, the first gap, and the first character.
+type Firsts = (
+    [usize; 2],
+    Option<(u32, u32)>,
+    Option<(u32, u32)>,
+    Option<char>,
+);
+
+/// What the set's iterators give first.
+fn firsts_of(set: &CodePointInversionList<'_>) -> Firsts {
+    let mut ranges = set.iter_ranges();
+    let counts = [ranges.len(), ranges.size_hint().0];
+    let gap = ends_of(set.iter_ranges_complemented().next());
+    let character = set.iter_chars().next();
+    (counts, ends_of(ranges.next()), gap, character)
+}
+
+/// Calls: `CodePointInversionList::iter_ranges`, `IterRanges::len`, `IterRanges::size_hint`,
 /// `CodePointInversionList::iter_ranges_complemented`, `CodePointInversionList::iter_chars`,
 /// `IterRanges::next`, `IterRangesComplemented::next`, `IterChars::next`.
 #[test]
 fn iterators_quiet(rt: HostRuntime) {
     say(&rt, "call");
-    let bmp = CodePointInversionList::bmp();
-    let range = ends_of(bmp.iter_ranges().next());
-    let gap = ends_of(bmp.iter_ranges_complemented().next());
-    let first = bmp.iter_chars().next();
+    let found = firsts_of(&CodePointInversionList::bmp());
     say(&rt, "done");
-    expect_same(&rt, range, Some((0, 0xFFFF)), "the range");
-    expect_same(&rt, gap, Some((0x1_0000, 0x10_FFFF)), "the gap");
-    expect_same(&rt, first, Some('\0'), "the first character");
+    let want = (
+        [1, 1],
+        Some((0, 0xFFFF)),
+        Some((0x1_0000, 0x10_FFFF)),
+        Some('\0'),
+    );
+    expect_same(&rt, found, want, "ranges, a range, a gap, a character");
 }
 
 /// Calls: `CodePointInversionListBuilder::new`, `CodePointInversionListBuilder::is_empty`.
@@ -175,17 +226,23 @@ fn lists_and_ranges_quiet(rt: HostRuntime) -> Result<(), Fail> {
     Ok(())
 }
 
-/// A set of the ends that a set lends is equal to it.
-///
+/// Whether a set of the ends that a set lends is equal to it.
+fn is_same_by_its_ends(alloc: Global, set: &CodePointInversionList<'_>) -> bool {
+    let ends = set.as_inversion_list().as_zerovec();
+    match CodePointInversionList::try_from_inversion_list(alloc, ends) {
+        Ok(same) => same == *set,
+        Err(_) => false,
+    }
+}
+
 /// Calls: `CodePointInversionList::as_inversion_list`,
 /// `CodePointInversionList::try_from_inversion_list`.
 #[test]
 fn lent_ends_quiet(rt: HostRuntime) {
     let bmp = CodePointInversionList::bmp();
     say(&rt, "call");
+    let is_same = is_same_by_its_ends(rt.alloc(), &bmp);
     let ends = bmp.as_inversion_list();
-    let same = CodePointInversionList::try_from_inversion_list(rt.alloc(), ends.as_zerovec());
-    let is_same = same.is_ok_and(|set| set == bmp);
     say(&rt, "done");
     expect_same(&rt, ends.as_bytes(), &[0, 0, 0, 0, 0, 1], "packed ends");
     expect(&rt, is_same, "an equal set");
@@ -200,22 +257,4 @@ fn points_quiet(rt: HostRuntime) {
     say(&rt, "done");
     expect_same(&rt, numbers, [0x41, 7], "the numbers of points");
     expect_same(&rt, used_up, [false, false], "ranges not gone through");
-}
-
-/// Calls: `CodePointInversionList::get_nth_range`, `IterRanges::len`, `IterRanges::size_hint`.
-#[test]
-fn counted_ranges_quiet(rt: HostRuntime) {
-    say(&rt, "call");
-    let bmp = CodePointInversionList::bmp();
-    let found = [ends_of(bmp.get_nth_range(0)), ends_of(bmp.get_nth_range(1))];
-    let ranges = bmp.iter_ranges();
-    let counts = [ranges.len(), ranges.size_hint().0];
-    say(&rt, "done");
-    expect_same(
-        &rt,
-        found,
-        [Some((0, 0xFFFF)), None],
-        "the first range and no second",
-    );
-    expect_same(&rt, counts, [1, 1], "the counts");
 }
