@@ -28,26 +28,33 @@ fn differences(set: &CodePointInversionList<'_>, frozen: &FrozenCodePointSet) ->
     count
 }
 
-/// The set of these ends answers alike when it is frozen.
-fn answers_alike(alloc: Global, ends: &[u32]) -> Result<bool, Fail> {
-    let set = set_of(alloc, ends)?;
-    let frozen = FrozenCodePointSet::freeze(alloc, &set)?;
-    Ok(differences(&set, &frozen) == 0)
+/// How many numbers the set of these ends answers otherwise when it is frozen.
+fn differences_of(alloc: Global, ends: &[u32]) -> Option<u32> {
+    let set = set_of(alloc, ends).ok()?;
+    let frozen = FrozenCodePointSet::freeze(alloc, &set).ok()?;
+    Some(differences(&set, &frozen))
 }
 
 #[test]
-fn frozen_sets_answer_alike(rt: HostRuntime) -> Result<(), Fail> {
+fn frozen_sets_answer_alike(rt: HostRuntime) {
     for ends in SETS {
-        let alike = answers_alike(rt.alloc(), ends)?;
-        expect(&rt, alike, "a number is answered otherwise");
+        let found = differences_of(rt.alloc(), ends);
+        expect_same(&rt, found, Some(0), "numbers answered otherwise");
     }
-    Ok(())
 }
 
 /// The set of these ends, frozen. `None` where memory was refused.
 fn frozen_of(alloc: Global, ends: &[u32]) -> Option<FrozenCodePointSet> {
     let set = set_of(alloc, ends).ok()?;
     FrozenCodePointSet::freeze(alloc, &set).ok()
+}
+
+/// The set of these ends, frozen, for which there has to be memory.
+fn made_frozen(rt: &(impl Abort + AllocGlobal), ends: &[u32]) -> FrozenCodePointSet {
+    match frozen_of(rt.alloc(), ends) {
+        Some(frozen) => frozen,
+        None => rt.panic("no memory"),
+    }
 }
 
 /// What the two calls for spans answer for a text, of what is held and of what is not.
@@ -60,49 +67,52 @@ fn spans_of(frozen: &FrozenCodePointSet, text: &str) -> [usize; 4] {
     ]
 }
 
-/// Texts, and how far they lie in the letters of ASCII and the block of Han: by the front and by
-/// the tail.
-#[test]
-fn spans_of_frozen_sets(rt: HostRuntime) -> Result<(), Fail> {
-    let rows: [(&str, [usize; 4]); 6] = [
-        ("", [0, 0, 0, 0]),
-        ("abcXYZ1", [6, 0, 7, 6]),
-        ("1abcXYZ", [0, 1, 1, 7]),
-        ("漢字", [6, 0, 0, 6]),
-        ("a漢é字", [4, 0, 6, 9]),
-        ("é𠀀 ", [0, 7, 7, 0]),
-    ];
-    let Some(frozen) = frozen_of(rt.alloc(), &[0x41, 0x5B, 0x61, 0x7B, 0x4E00, 0xA000]) else {
-        return Err("no memory".into());
-    };
+/// A text, and how far it lies in a set and beside it, by the front and by the tail.
+type TextSpans = (&'static str, [usize; 4]);
+
+/// Sets by their ends, and texts.
+static SPANS: [(&[u32], &[TextSpans]); 2] = [
+    // The letters of ASCII and the block of Han.
+    (
+        &[0x41, 0x5B, 0x61, 0x7B, 0x4E00, 0xA000],
+        &[
+            ("", [0, 0, 0, 0]),
+            ("abcXYZ1", [6, 0, 7, 6]),
+            ("1abcXYZ", [0, 1, 1, 7]),
+            ("漢字", [6, 0, 0, 6]),
+            ("a漢é字", [4, 0, 6, 9]),
+            ("é𠀀 ", [0, 7, 7, 0]),
+        ],
+    ),
+    // Code points on both sides of where a character takes a byte more, and of where its lead byte
+    // is another one.
+    (
+        &[0x7F, 0x81, 0xBF, 0xC1, 0x7BF, 0x7C1, 0x7FF, 0x801],
+        &[
+            ("~\u{7F}\u{80}", [0, 1, 1, 4]),
+            ("\u{7F}\u{80}\u{81}", [3, 0, 5, 3]),
+            ("\u{BE}\u{BF}\u{C0}", [0, 2, 2, 6]),
+            ("\u{BF}\u{C0}\u{C1}", [4, 0, 6, 4]),
+            ("\u{7BE}\u{7BF}\u{7C0}", [0, 2, 2, 6]),
+            ("\u{7BF}\u{7C0}\u{7C1}", [4, 0, 6, 4]),
+            ("\u{7FE}\u{7FF}\u{800}", [0, 2, 2, 7]),
+            ("\u{7FF}\u{800}\u{801}", [5, 0, 8, 5]),
+        ],
+    ),
+];
+
+/// The texts lie so far in the frozen set.
+fn expect_text_spans(rt: &impl Abort, frozen: &FrozenCodePointSet, rows: &[TextSpans]) {
     for (text, want) in rows {
-        expect_same(&rt, spans_of(&frozen, text), want, text);
+        expect_same(rt, spans_of(frozen, text), *want, text);
     }
-    Ok(())
 }
 
-/// Texts, and how far they lie in a set of code points on both sides of where a character takes a
-/// byte more, and of where its lead byte is another one: by the front and by the tail.
 #[test]
-fn spans_where_bytes_change(rt: HostRuntime) -> Result<(), Fail> {
-    const ENDS: [u32; 8] = [0x7F, 0x81, 0xBF, 0xC1, 0x7BF, 0x7C1, 0x7FF, 0x801];
-    const ROWS: [(&str, [usize; 4]); 8] = [
-        ("~\u{7F}\u{80}", [0, 1, 1, 4]),
-        ("\u{7F}\u{80}\u{81}", [3, 0, 5, 3]),
-        ("\u{BE}\u{BF}\u{C0}", [0, 2, 2, 6]),
-        ("\u{BF}\u{C0}\u{C1}", [4, 0, 6, 4]),
-        ("\u{7BE}\u{7BF}\u{7C0}", [0, 2, 2, 6]),
-        ("\u{7BF}\u{7C0}\u{7C1}", [4, 0, 6, 4]),
-        ("\u{7FE}\u{7FF}\u{800}", [0, 2, 2, 7]),
-        ("\u{7FF}\u{800}\u{801}", [5, 0, 8, 5]),
-    ];
-    let Some(frozen) = frozen_of(rt.alloc(), &ENDS) else {
-        return Err("no memory".into());
-    };
-    for (text, want) in ROWS {
-        expect_same(&rt, spans_of(&frozen, text), want, text);
+fn spans_of_frozen_sets(rt: HostRuntime) {
+    for (ends, rows) in SPANS.iter() {
+        expect_text_spans(&rt, &made_frozen(&rt, ends), rows);
     }
-    Ok(())
 }
 
 /// The spans that are left are these, and no more.
@@ -120,7 +130,7 @@ fn expect_spans(rt: &impl Abort, mut spans: Spans<'_, '_>, want: &[(&str, bool)]
 /// Texts, and their spans by the block of Han, by U+D7FF to U+E000, between which there are
 /// surrogates alone, and by U+FFFF and U+10000: characters of one to four bytes.
 #[test]
-fn texts_cut_into_spans(rt: HostRuntime) -> Result<(), Fail> {
+fn texts_cut_into_spans(rt: HostRuntime) {
     let rows: [(&str, &[(&str, bool)]); 7] = [
         ("", &[]),
         ("漢字", &[("漢字", true)]),
@@ -143,19 +153,16 @@ fn texts_cut_into_spans(rt: HostRuntime) -> Result<(), Fail> {
             &[("\u{FFFF}\u{10000}", true), ("\u{10001}z", false)],
         ),
     ];
-    let Some(frozen) = frozen_of(rt.alloc(), SETS[6]) else {
-        return Err("no memory".into());
-    };
+    let frozen = made_frozen(&rt, SETS[6]);
     for (text, want) in rows {
         expect_spans(&rt, frozen.spans(text), want, text);
     }
-    Ok(())
 }
 
 /// How far bytes lie in the letters of ASCII, and how far in what is no such letter: an ill-formed
 /// sequence ends both.
 #[test]
-fn spans_of_bytes(rt: HostRuntime) -> Result<(), Fail> {
+fn spans_of_bytes(rt: HostRuntime) {
     let rows: [(&[u8], [usize; 2]); 10] = [
         (b"", [0, 0]),
         (b"ab1", [2, 0]),
@@ -168,9 +175,7 @@ fn spans_of_bytes(rt: HostRuntime) -> Result<(), Fail> {
         (b"a\xED\xA0\x80", [1, 0]),
         (b"\xC0\x80", [0, 0]),
     ];
-    let Some(frozen) = frozen_of(rt.alloc(), SETS[2]) else {
-        return Err("no memory".into());
-    };
+    let frozen = made_frozen(&rt, SETS[2]);
     for (bytes, want) in rows {
         let found = [
             frozen.span_utf8(bytes, true),
@@ -178,15 +183,12 @@ fn spans_of_bytes(rt: HostRuntime) -> Result<(), Fail> {
         ];
         expect_same(&rt, found, want, "held, and not held");
     }
-    Ok(())
 }
 
 /// Ranges in the letters of ASCII, and one that names no character.
 #[test]
-fn ranges_in_frozen_sets(rt: HostRuntime) -> Result<(), Fail> {
-    let Some(frozen) = frozen_of(rt.alloc(), SETS[2]) else {
-        return Err("no memory".into());
-    };
+fn ranges_in_frozen_sets(rt: HostRuntime) {
+    let frozen = made_frozen(&rt, SETS[2]);
     let found = [
         frozen.contains_range('A'..='Z'),
         frozen.contains_range('A'..'['),
@@ -195,21 +197,19 @@ fn ranges_in_frozen_sets(rt: HostRuntime) -> Result<(), Fail> {
         frozen.contains_range(..),
     ];
     expect_same(&rt, found, [true, true, false, false, false], "ranges");
-    Ok(())
+}
+
+/// Whether a frozen set is equal to a copy and to another one, and whether it holds A.
+fn equalities(alloc: Global, first: &FrozenCodePointSet, ends: &[u32]) -> Option<[bool; 3]> {
+    let copy = first.try_clone(alloc).ok()?;
+    let other = frozen_of(alloc, ends)?;
+    Some([*first == copy, *first == other, first.contains('A')])
 }
 
 #[test]
-fn equal_frozen_sets(rt: HostRuntime) -> Result<(), Fail> {
-    let (Some(first), Some(second)) = (
-        frozen_of(rt.alloc(), SETS[2]),
-        frozen_of(rt.alloc(), SETS[3]),
-    ) else {
-        return Err("no memory".into());
-    };
-    let copy = first.try_clone(rt.alloc())?;
-    let found = [first == copy, first == second, first.contains('A')];
-    expect_same(&rt, found, [true, false, true], "the copy alone");
-    Ok(())
+fn equal_frozen_sets(rt: HostRuntime) {
+    let found = equalities(rt.alloc(), &made_frozen(&rt, SETS[2]), SETS[3]);
+    expect_same(&rt, found, Some([true, false, true]), "the copy alone");
 }
 
 /// The call is over: the set answers as it has to, where it was frozen.

@@ -21,24 +21,23 @@ fn frozen_all(alloc: Global) -> Option<FrozenCodePointSetAndStrings> {
     FrozenCodePointSetAndStrings::freeze(alloc, &set).ok()
 }
 
-#[test]
-fn texts_in_frozen_sets(rt: HostRuntime) -> Result<(), Fail> {
-    let rows = [
-        ("", true),
-        ("a", true),
-        ("1", false),
-        ("漢", false),
-        ("漢字", true),
-        ("abc", true),
-        ("ab", false),
-        ("abcd", false),
-        ("\u{10000}", false),
-    ];
-    let Some(frozen) = frozen_words(rt.alloc()) else {
-        return Err("no memory".into());
-    };
-    for (text, want) in rows {
-        expect_same(&rt, frozen.contains_str(text), want, text);
+/// Texts, and whether the set of the words holds them.
+static TEXTS: [(&str, bool); 9] = [
+    ("", true),
+    ("a", true),
+    ("1", false),
+    ("漢", false),
+    ("漢字", true),
+    ("abc", true),
+    ("ab", false),
+    ("abcd", false),
+    ("\u{10000}", false),
+];
+
+/// The frozen set holds these texts, and these code points.
+fn expect_texts(rt: &impl Abort, frozen: &FrozenCodePointSetAndStrings) {
+    for (text, want) in TEXTS.iter() {
+        expect_same(rt, frozen.contains_str(text), *want, text);
     }
     let points = [
         frozen.contains('Z'),
@@ -46,19 +45,28 @@ fn texts_in_frozen_sets(rt: HostRuntime) -> Result<(), Fail> {
         frozen.contains32(0x7A),
         frozen.contains32(0x11_0041),
     ];
-    expect_same(&rt, points, [true, false, true, false], "code points");
-    Ok(())
+    expect_same(rt, points, [true, false, true, false], "code points");
 }
 
 #[test]
-fn equal_frozen_sets_with_strings(rt: HostRuntime) -> Result<(), Fail> {
-    let (Some(first), Some(second)) = (frozen_words(rt.alloc()), frozen_all(rt.alloc())) else {
-        return Err("no memory".into());
-    };
-    let copy = first.try_clone(rt.alloc())?;
-    let found = [first == copy, first == second];
-    expect_same(&rt, found, [true, false], "the copy alone");
-    Ok(())
+fn texts_in_frozen_sets(rt: HostRuntime) {
+    match frozen_words(rt.alloc()) {
+        Some(frozen) => expect_texts(&rt, &frozen),
+        None => rt.panic("no memory"),
+    }
+}
+
+/// Whether the frozen words are equal to a copy, and to another frozen set.
+fn equalities(alloc: Global) -> Option<[bool; 2]> {
+    let first = frozen_words(alloc)?;
+    let copy = first.try_clone(alloc).ok()?;
+    Some([first == copy, first == frozen_all(alloc)?])
+}
+
+#[test]
+fn equal_frozen_sets_with_strings(rt: HostRuntime) {
+    let found = equalities(rt.alloc());
+    expect_same(&rt, found, Some([true, false]), "the copy alone");
 }
 
 /// The call is over: the set answers as it has to, where it was frozen.
