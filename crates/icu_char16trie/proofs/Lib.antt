@@ -9,6 +9,7 @@ pub mod WorkLemmas
 pub mod SpellingLemmas
 pub mod OpeningLemmas
 pub mod NextLemmas
+pub mod WalkLemmas
 pub mod OneMap
 pub mod SoundnessLemmas
 pub mod CountLemmas

@@ -13,6 +13,7 @@ use Rattle.icu_char16trie.specs.UnitMap.{UnitMap, under}
 use Rattle.icu_char16trie.specs.UnitPlaces.{Stands, value_by}
 use Rattle.icu_char16trie.specs.Pending.{Spells, ArmsHold, PartsGive, IsPending, IsOver, Gives, TakesFirst, IsNodeValue, weight, node_work, parts_work, work_left}
 use Rattle.icu_char16trie.specs.Inside.Cuts.{AreCuts, IsCut}
+use Rattle.icu_char16trie.specs.Inside.Walking.{own}
 use Rattle.icu_char16trie.specs.Inside.Opening.{bytes_of, IsItemBy, Opens, OpensNode, Keeps, Finds}
 use Rattle.icu_char16trie.specs.declared.pending.BranchPart.{BranchPart}
 use Rattle.icu_char16trie.specs.declared.pending.Pending.{Pending}
@@ -22,17 +23,12 @@ use Rattle.icu_char16trie.proofs.NodeLemmas.{holds_within}
 use Rattle.icu_char16trie.proofs.OpeningLemmas.{one_pushed}
 use Rattle.icu_char16trie.proofs.WorkLemmas.{weight_some, weight_le, work_push}
 
--- the entry of a node's own value
-abbrev own : Option ℤ → UnitMap
-own None = []
-own (Some v) = ([], v) ∷ []
-
 -- what the lead unit says of a node's entries: its own, and those of the match node
-record ByLead (units : List ℕ) (p lead : ℕ) (entries : UnitMap) : Type 0 where
-  rest : UnitMap
-  is : entries ≡ own (value_by units (p + 1) lead) ++ rest
-  last : 0x8000 ≤ lead → rest ≡ []
-  node : lead < 0x8000 → Matches units (node_end (p + 1) lead) (lead % 64) rest
+pub record ByLead (units : List ℕ) (p lead : ℕ) (entries : UnitMap) : Type 0 where
+  pub rest : UnitMap
+  pub is : entries ≡ own (value_by units (p + 1) lead) ++ rest
+  pub last : 0x8000 ≤ lead → rest ≡ []
+  pub node : lead < 0x8000 → Matches units (node_end (p + 1) lead) (lead % 64) rest
 
 plain_end : (p lead : ℕ) → lead < 0x40 → node_end p lead ≡ p
 unfolding end_by
@@ -67,11 +63,11 @@ holds_by units (valued p lead' n m rest g big small s node e) lead h =
       node = λ _. rw (← same) node;
     }
 
-stands_by : (units : List ℕ) (p lead : ℕ) (entries : UnitMap) → Stands units (Node p) entries → slice_get units p ≡ Some lead → ByLead units p lead entries
+pub stands_by : (units : List ℕ) (p lead : ℕ) (entries : UnitMap) → Stands units (Node p) entries → slice_get units p ≡ Some lead → ByLead units p lead entries
 stands_by units p lead entries (inl h) g = holds_by units h lead g
 stands_by units p lead entries (inr h) g = absurd (none-some _ (sym h.0 ∙ g))
 
-stands_absent : (units : List ℕ) (p : ℕ) (entries : UnitMap) → Stands units (Node p) entries → slice_get units p ≡ None → entries ≡ []
+pub stands_absent : (units : List ℕ) (p : ℕ) (entries : UnitMap) → Stands units (Node p) entries → slice_get units p ≡ None → entries ≡ []
 stands_absent units p entries (inl h) g = absurd (holds_within units h g)
 stands_absent units p entries (inr h) g = h.1
 
@@ -100,7 +96,7 @@ pub record IsWithout (old new : Pending) : Type 0 where
   pub parts : new.parts.items ≡ old.parts.items
   pub node : new.node ≡ None
 
-without_entries : (old new : Pending) (key : List ℕ) (others : UnitMap) → IsWithout old new → Spells (bytes_of old.spelling) old.spelling.held key
+pub without_entries : (old new : Pending) (key : List ℕ) (others : UnitMap) → IsWithout old new → Spells (bytes_of old.spelling) old.spelling.held key
     → PartsGive (slice_values old.units) (bytes_of old.spelling) (reverse old.parts.items) others → IsPending new others
 without_entries old new key others w s p = record {
   key = key;
@@ -112,13 +108,13 @@ without_entries old new key others w s p = record {
   is = refl;
 }
 
-without_cuts : (old new : Pending) → IsWithout old new → IsCut old → IsCut new
+pub without_cuts : (old new : Pending) → IsWithout old new → IsCut old → IsCut new
 without_cuts old new w c = rw (w.spelling, w.parts) c
 
-without_work : (old new : Pending) (p : ℕ) → IsWithout old new → old.node ≡ Some p → work_left old ≡ weight (length (slice_values old.units)) p + work_left new
+pub without_work : (old new : Pending) (p : ℕ) → IsWithout old new → old.node ≡ Some p → work_left old ≡ weight (length (slice_values old.units)) p + work_left new
 without_work old new p w n = rw (w.units, w.parts, w.node, n) (omega arith)
 
-not_both : ◌≡◌ {A = Bool} false true → ⊥
+pub not_both : ◌≡◌ {A = Bool} false true → ⊥
 not_both h = cc
 
 pub absent_opens : (old new : Pending) (p : ℕ) → IsWithout old new → old.node ≡ Some p → slice_get (slice_values old.units) p ≡ None → OpensNode old None new
@@ -215,7 +211,7 @@ not_empty rest part e = omega (arith, ap length e, length-append rest (part ∷ 
 
 -- ---- the next item
 
-over_gives : (s : Pending) (m : UnitMap) → IsOver s → IsPending s m → m ≡ []
+pub over_gives : (s : Pending) (m : UnitMap) → IsOver s → IsPending s m → m ≡ []
 over_gives s m o h =
     let no_first : h.first ≡ [] = rw o.0 at h.node in
     let no_others : h.others ≡ [] = rw o.1 at h.parts in

@@ -5,3 +5,4 @@ pub mod Going
 pub mod Opening
 pub mod Soundness
 pub mod Counts
+pub mod Walking

@@ -10,5 +10,7 @@ pub mod MatchesLeft
 pub mod LossyText
 pub mod Pending
 pub mod Entries
+pub mod Walk
+pub mod Listing
 pub mod Char16Json
 pub mod Inside

@@ -1,8 +1,9 @@
 //! A cursor over the units of a trie.
-ghost use Rattle.std.specs.Prelude.{◌≡◌, ℕ, ℤ, List, [], ◌∷◌, ◌++◌, ◌<◌, ◌≤◌, not};
+ghost use Rattle.std.specs.Prelude.{◌≡◌, ℕ, ℤ, pos, List, [], ◌∷◌, ◌++◌, ◌<◌, ◌≤◌, not};
 ghost use Rattle.icu_zerovec.specs.Slice.{slice_values};
 ghost use Rattle.icu_char16trie.specs.Grammar.{IsTrieOf};
-ghost use Rattle.icu_char16trie.specs.UnitMap.{UnitMap, value_of, goes_on};
+ghost use Rattle.icu_char16trie.specs.UnitMap.{UnitMap, after_all, value_of, goes_on};
+ghost use Rattle.icu_char16trie.specs.Listing.{AreToCome, entry_text, entry_value};
 ghost use Rattle.icu_char16trie.specs.CursorPlaces.{place_of};
 ghost use Rattle.icu_char16trie.specs.UnitPlaces.{IsAfter, value_at, is_empty_at};
 ghost use Rattle.icu_char16trie.specs.Steps.{StepsTo, StepsAlong};
@@ -11,9 +12,11 @@ ghost use Rattle.std.specs.Char.Escape.{encode_utf16};
 ghost use Rattle.icu_char16trie.specs.declared.place.Place.{Place};
 ghost use Rattle.icu_char16trie.specs.declared.place.Place.TheVariants.{Nowhere, Node};
 
+use crate::listing::Entries;
 use crate::place::{CursorPlace, Place, numbers_of, place_of};
 use crate::step::{is_empty_at, step, value_at};
 use icu_zerovec::ZeroSlice;
+use std::alloc::Global;
 use std::marker::Model;
 
 /// A cursor into the units of a trie, for look-up unit by unit.
@@ -146,5 +149,27 @@ impl<'a> Char16TrieCursor<'a> {
         ensures exact { result ≡ is_empty_at self.now.units self.now.place }
     {
         is_empty_at(self.units, self.place)
+    }
+
+    /// The entries whose keys go on from here, in unit order, each without the units so far: how a
+    /// dictionary completes what was typed (ICU: `UCharsTrie::Iterator` of a trie that is not at
+    /// its root). Where the units so far are a key, the first entry is that of the empty text. The
+    /// cursor may stand within a linear match, whose rest comes first; after no match there is no
+    /// entry.
+    ///
+    /// ```
+    /// // of the map of "a" to 1, "ab" to 2 and "b" to 3
+    /// let mut cursor = trie.cursor();
+    /// cursor.step('a');
+    /// let mut entries = cursor.entries(alloc); // "" and 1, then "b" and 2
+    /// ```
+    #[inline]
+    pub fn entries(&self, alloc: Global) -> Entries<'a>
+        ensures to_come { (m : UnitMap) (w : List ℕ) → IsAfter self.now m w
+            → AreToCome result (after_all w m) }
+        ensures text { entry_text result ≡ [] }
+        ensures value { entry_value result ≡ pos 0 }
+    {
+        Entries::new(alloc, self.units, self.place)
     }
 }

@@ -23,6 +23,8 @@
 //! - `soundness`: whether units are a trie; `counted`: how many entries they have
 //! - `entries`: [`Iter2`](char16trie::Iter2), the entries in unit order; `pending`: what they have
 //!   still to go through; `spelling`: the key as text while it grows
+//! - `listing`: [`Entries`](char16trie::Entries), the entries by one buffer, from the root or from
+//!   a cursor on; `walk`: how it goes from one entry to the next; `front`: what comes next
 //! - `json`: a trie from and to JSON
 //! - `place`, `step`, `branch`, `encoded`: where a cursor stands, where a unit leads from there,
 //!   and how numbers stand in units
@@ -35,8 +37,10 @@ mod cursor;
 mod dictionary;
 mod encoded;
 mod entries;
+mod front;
 mod iterator;
 mod json;
+mod listing;
 mod matches;
 mod pending;
 mod place;
@@ -44,4 +48,5 @@ mod soundness;
 mod spelling;
 mod step;
 mod trie;
+mod walk;
 mod write;

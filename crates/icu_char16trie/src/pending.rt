@@ -120,10 +120,10 @@ impl<'a> Pending<'a> {
 
     /// Goes to the node after a linear match.
     #[inline(always)]
-    fn pass_run(&mut self, place: usize, count: usize) -> Result<(), AllocError>
+    pub(crate) fn pass_run(&mut self, place: usize, count: usize) -> Result<(), AllocError>
         requires node { self.old.node ≡ None }
         requires place { place < 2 ^ 63 }
-        requires short { count < 0x20 }
+        requires short { count ≤ 0x100 }
         requires some { 0 < count }
         ensures { let all = slice_values self.old.units in
             OnOk result (Opens self.old place (InRun all place count) self.new) }
@@ -138,7 +138,7 @@ impl<'a> Pending<'a> {
 
     /// Goes to the first node after a match node, by its low six bits; `place` is after its lead
     /// and its value.
-    fn open_match(&mut self, place: usize, low: u16) -> Result<(), AllocError>
+    pub(crate) fn open_match(&mut self, place: usize, low: u16) -> Result<(), AllocError>
         requires node { self.old.node ≡ None }
         requires place { place < 2 ^ 63 }
         requires low { low < 0x40 }
@@ -197,7 +197,7 @@ impl<'a> Pending<'a> {
     }
 
     /// Goes to the next node, if there is one.
-    fn go_to_node(&mut self) -> Result<bool, AllocError>
+    pub(crate) fn go_to_node(&mut self) -> Result<bool, AllocError>
         requires { IsCut self.old }
         ensures done { IsOver self.old → result ≡ Ok false }
         ensures keeps { OnOk result (Keeps self.old self.new) }

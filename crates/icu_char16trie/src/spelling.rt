@@ -129,7 +129,7 @@ impl Spelling {
         count: usize,
     ) -> Result<(), AllocError>
         requires far { place < 2 ^ 63 }
-        requires short { count < 0x20 }
+        requires short { count ≤ 0x100 }
         requires within { place + count ≤ length (slice_values units) }
         ensures { OnOk result
             (SpellsOn self.old (take count (drop place (slice_values units.entry))) self.new) }

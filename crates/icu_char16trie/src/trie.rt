@@ -1,5 +1,5 @@
 //! The trie over a packed vector of units.
-ghost use Rattle.std.specs.Prelude.{◌≡◌, ◌↔◌, ◌⊎◌, ℕ, ℤ, List, [], Result, IfOk, IsTrue, String};
+ghost use Rattle.std.specs.Prelude.{◌≡◌, ◌↔◌, ◌⊎◌, ℕ, ℤ, pos, List, [], Result, IfOk, IsTrue, String};
 ghost use Rattle.std.specs.Iterator.{Drains};
 ghost use Rattle.std.specs.Global.{Global};
 ghost use Rattle.std.specs.Cmp.{on_equiv, on_per, partial_equiv_from_equiv};
@@ -10,12 +10,14 @@ ghost use Rattle.icu_zerovec.specs.Cells.{same_bytes};
 ghost use Rattle.icu_char16trie.specs.Grammar.{IsTrieOf};
 ghost use Rattle.icu_char16trie.specs.UnitMap.{UnitMap, IsAscendingKeys};
 ghost use Rattle.icu_char16trie.specs.Entries.{IsLeft, GivesNext, AreEntries, AreCutShort};
+ghost use Rattle.icu_char16trie.specs.Listing.{AreToCome, entry_text, entry_value};
 ghost use Rattle.icu_char16trie.specs.UnitPlaces.{IsAfter};
 ghost use Rattle.icu_char16trie.specs.declared.place.Place.TheVariants.{Node};
 
 use crate::cursor::Char16TrieCursor;
 use crate::entries::Iter2;
 use crate::iterator::Char16TrieIterator;
+use crate::listing::Entries;
 use icu_zerovec::{MemoryError, ZeroVec};
 use std::alloc::Global;
 use std::marker::Model;
@@ -119,6 +121,29 @@ impl<'data> Char16Trie<'data> {
             → Drains GivesNext result xs → AreEntries xs m ⊎ AreCutShort xs m }
     {
         Iter2::new(alloc, self.data.as_slice())
+    }
+
+    /// The entries, in unit order, by one buffer for the text of their keys: for a listing that
+    /// keeps no keys, where [`iter2`](Self::iter2) gives each as a text of its own.
+    ///
+    /// It takes no memory before the first entry.
+    ///
+    /// ```
+    /// // of the map of "a" to 1 and "ab" to 2
+    /// let mut entries = trie.entries(alloc);
+    /// // entries.advance()? is true: entries.key() is "a" and entries.value() is 1
+    /// // entries.advance()? is true: entries.key() is "ab" and entries.value() is 2
+    /// // entries.advance()? is false
+    /// ```
+    #[inline]
+    pub fn entries(&self, alloc: Global) -> Entries<'_>
+        ensures to_come { (m : UnitMap) → IsTrieOf self.now m → AreToCome result m }
+        ensures map { (m : UnitMap) → IsTrieOf self.now m → IsAscendingKeys m }
+        ensures one { (m m' : UnitMap) → IsTrieOf self.now m → IsTrieOf self.now m' → m ≡ m' }
+        ensures text { entry_text result ≡ [] }
+        ensures value { entry_value result ≡ pos 0 }
+    {
+        self.cursor().entries(alloc)
     }
 
     /// An equal trie that owns its units.

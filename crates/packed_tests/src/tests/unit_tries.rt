@@ -1,5 +1,6 @@
 //! Unit tries. The units and what they say are those of the format's description.
 
+mod completions;
 mod cursors;
 mod dictionaries;
 mod json;

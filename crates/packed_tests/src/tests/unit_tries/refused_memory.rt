@@ -5,7 +5,7 @@
 use super::support::{SIX, last_result, trie_of};
 use crate::tests::support::{expect, expect_same, say, say_refused};
 use icu_char16trie::char16trie::{
-    Char16JsonError, Char16Trie, Char16TrieCursor, Char16TrieIterator, Iter2, TrieResult,
+    Char16JsonError, Char16Trie, Char16TrieCursor, Char16TrieIterator, Entries, Iter2, TrieResult,
 };
 use icu_zerovec::{MemoryError, ZeroSlice, ZeroVec};
 use serde_json::Value;
@@ -126,6 +126,92 @@ fn count_entries_refused(rt: HostRuntime) {
     expect_six_entries(&rt, count);
     let result = last_result(&trie, "a");
     expect_same(&rt, result, TrieResult::FinalValue(1), "the trie itself");
+}
+
+/// The value of the last entry that a listing goes to, of at most 99.
+fn last_listed(entries: &mut Entries<'_>) -> Result<i32, MemoryError> {
+    let mut last = 0;
+    for _ in 0..99 {
+        if !entries.advance()? {
+            return Ok(last);
+        }
+        last = entries.value();
+    }
+    Ok(last)
+}
+
+/// The last value is 6, or memory was refused.
+fn expect_last(rt: &(impl Abort + Print), last: Result<i32, MemoryError>) {
+    match last {
+        Ok(value) => expect_same(rt, value, 6, "the last value"),
+        Err(error) => say_refused(rt, error),
+    }
+}
+
+/// No entry is left, and none is told.
+fn expect_no_more(rt: &impl Abort, entries: &mut Entries<'_>) {
+    expect_same(rt, entries.advance().ok(), Some(false), "no entry");
+    expect_same(rt, (entries.key().len(), entries.value()), (0, 0), "told");
+}
+
+/// The entries of these units by one buffer end with the value 6, and after want of memory none is
+/// left.
+fn ask_listing(rt: &(impl Abort + AllocGlobal + Print), units: &[u16]) {
+    let Ok(trie) = trie_of(rt.alloc(), units) else {
+        return;
+    };
+    let mut entries = trie.entries(rt.alloc());
+    say(rt, "call");
+    let last = last_listed(&mut entries);
+    say(rt, "done");
+    expect_last(rt, last);
+    expect_no_more(rt, &mut entries);
+}
+
+/// Calls: `Entries::advance`.
+#[test]
+fn entries_refused(rt: HostRuntime) {
+    ask_listing(&rt, &SIX);
+}
+
+/// The same where a key ends with a lead surrogate, and another one has its trail too.
+///
+/// Calls: `Entries::advance`.
+#[test]
+fn entries_of_surrogates_refused(rt: HostRuntime) {
+    ask_listing(&rt, &[0x30, 0xD83D, 0xB0, 0xDE00, 0x8006]);
+}
+
+/// A listing takes no memory before its first entry.
+///
+/// Calls: `Char16Trie::entries`, `Char16TrieCursor::entries`, `Entries::key`, `Entries::value`.
+#[test]
+fn entries_quiet(rt: HostRuntime) {
+    let Ok(trie) = trie_of(rt.alloc(), &SIX) else {
+        return;
+    };
+    say(&rt, "call");
+    let entries = trie.entries(rt.alloc());
+    let completions = trie.cursor().entries(rt.alloc());
+    let told = (entries.key().len(), completions.value());
+    say(&rt, "done");
+    expect_same(&rt, told, (0, 0), "told");
+}
+
+/// After the first of six keys of one unit, the buffers have room for the others.
+///
+/// Calls: `Entries::advance`.
+#[test]
+fn entries_of_one_length_quiet(rt: HostRuntime) {
+    let Ok(trie) = trie_of(rt.alloc(), &SIX) else {
+        return;
+    };
+    let mut entries = trie.entries(rt.alloc());
+    let first = entries.advance().ok();
+    say(&rt, "call");
+    let last = last_listed(&mut entries).ok();
+    say(&rt, "done");
+    expect_same(&rt, (first, last), (Some(true), Some(6)), "the values");
 }
 
 /// A JSON value has the key of the units, or memory was refused.

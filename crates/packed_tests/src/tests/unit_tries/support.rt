@@ -1,5 +1,5 @@
 //! The tries that are asked.
-use icu_char16trie::char16trie::{Char16Trie, TrieResult};
+use icu_char16trie::char16trie::{Char16Trie, Entries, TrieResult};
 use icu_zerovec::{MemoryError, ZeroVec};
 use std::alloc::Global;
 
@@ -21,4 +21,24 @@ pub fn last_result(trie: &Char16Trie<'_>, text: &str) -> TrieResult {
         result = iterator.next(c);
     }
     result
+}
+
+/// The entry that a listing reached last, as `text=value;`.
+fn line_of(alloc: Global, entries: &Entries<'_>) -> Result<String, MemoryError> {
+    let text = entries.key();
+    let value = entries.value();
+    Ok(format!(in alloc; "{text}={value};")?)
+}
+
+/// The entries that a listing has left, one after another, of at most 99.
+pub fn listed(alloc: Global, entries: &mut Entries<'_>) -> Result<String, MemoryError> {
+    let mut said = String::new(alloc);
+    for _ in 0..99 {
+        if !entries.advance()? {
+            return Ok(said);
+        }
+        let line = line_of(alloc, entries)?;
+        said.push_str(line.as_str())?;
+    }
+    Ok(said)
 }

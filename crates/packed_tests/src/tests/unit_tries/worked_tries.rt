@@ -1,6 +1,6 @@
 //! Tries whose entries and results are known from the format's description, and units that are no
 //! trie.
-use super::support::{SIX, last_result, trie_of};
+use super::support::{SIX, last_result, listed, trie_of};
 use crate::tests::support::expect_same;
 use icu_char16trie::char16trie::{Char16Trie, TrieResult};
 use icu_zerovec::MemoryError;
@@ -54,6 +54,8 @@ fn expect_trie(
     let trie = trie_of(rt.alloc(), units)?;
     expect_result(rt, last_result(&trie, text), want, text, units);
     expect_entries(rt, entries_of(rt.alloc(), &trie)?, entries, units);
+    let streamed = listed(rt.alloc(), &mut trie.entries(rt.alloc()))?;
+    expect_entries(rt, streamed, entries, units);
     Ok(())
 }
 

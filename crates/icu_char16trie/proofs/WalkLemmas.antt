@@ -1,0 +1,182 @@
+-- How a walk goes from one entry to the next.
+use Rattle.icu_zerovec.specs.Slice.{slice_values}
+use Rattle.std.proofs.Common.{◌≡◌, ℕ, ℤ, ◌+◌, ◌-◌, ◌/◌, ◌%◌, ◌<◌, ◌≤◌, List, [], ◌∷◌, ◌++◌, Option, Some, None, Bool, true, false, refl, sym, ap, subst, ◌∙◌, arith, length, slice_get, append-nil, reverse, string_bytes, encode_utf8}
+use Rattle.std.specs.Prelude.{IsSome, IfSome, nat_le, nat_lt}
+use Rattle.std.proofs.lemmas.Bool.Decides.{nat_tests}
+use Rattle.std.proofs.lemmas.Option.{slice_get_within}
+use Rattle.icu_char16trie.specs.Grammar.{Matches}
+use Rattle.icu_char16trie.specs.Numbers.{node_end, end_by}
+use Rattle.icu_char16trie.specs.UnitMap.{UnitMap, under}
+use Rattle.icu_char16trie.specs.UnitPlaces.{Stands, value_by}
+use Rattle.icu_char16trie.specs.Pending.{Spells, PartsGive, IsPending, IsOver, IsNodeValue, weight, work_left}
+use Rattle.icu_char16trie.specs.Walk.{FrontGives, GivesFrom, IsWalked, front_work, work_from}
+use Rattle.icu_char16trie.specs.Inside.Opening.{bytes_of, Keeps}
+use Rattle.icu_char16trie.specs.Inside.Walking.{IsNearFront, IsSound, below, own, EndsKey, FindsEntry, IsOpened, OpensFront, ReadsNode, TellsNode}
+use Rattle.icu_char16trie.specs.declared.front.Front.{Front}
+use Rattle.icu_char16trie.specs.declared.front.Front.TheVariants.{At}
+use Rattle.icu_char16trie.specs.declared.pending.Pending.{Pending}
+use Rattle.icu_char16trie.specs.declared.place.Place.{Place}
+use Rattle.icu_char16trie.specs.declared.place.Place.TheVariants.{Nowhere}
+use Rattle.icu_char16trie.specs.declared.spelling.LeadSurrogate.{LeadSurrogate}
+use Rattle.icu_char16trie.specs.declared.walk.Walk.{Walk}
+use Rattle.icu_char16trie.proofs.NextLemmas.{IsWithout, not_both, over_gives, stands_absent, stands_by, without_cuts}
+use Rattle.icu_char16trie.proofs.NodeLemmas.{under_nil}
+use Rattle.icu_char16trie.proofs.SpellingLemmas.{spelled_none, spelled_held, spells_nothing}
+use Rattle.icu_char16trie.proofs.WorkLemmas.{weight_one, weight_some}
+
+-- ---- a node is read
+
+-- nothing stands at the node
+pub nothing_read : (old new : Pending) → IsWithout old new → ((m : UnitMap) (h : IsPending old m) → h.first ≡ []) → (IsSome old.node → work_from new (At Nowhere) < work_left old)
+    → ReadsNode old (At Nowhere) None new
+nothing_read old new w none less = record {
+  units = w.units;
+  entries = λ m h. record {
+    key = h.key;
+    first = [];
+    others = h.others;
+    spelled = rw w.spelling h.spelled;
+    next = refl;
+    parts = rw (w.units, w.spelling, w.parts) h.parts;
+    is = h.is ∙ ap (λ z. z ++ h.others) (none m h);
+  };
+  some_value = tt;
+  cuts = without_cuts old new w;
+  near = tt;
+  work = less;
+}
+
+less_nowhere : (old new : Pending) (p : ℕ) → IsWithout old new → old.node ≡ Some p → work_from new (At Nowhere) < work_left old
+less_nowhere old new p w n = rw (w.units, w.parts, n) (omega (arith, weight_some (length (slice_values old.units)) p))
+
+pub absent_read : (old new : Pending) (p : ℕ) → IsWithout old new → old.node ≡ Some p → slice_get (slice_values old.units) p ≡ None → ReadsNode old (At Nowhere) None new
+absent_read old new p w n g =
+    nothing_read old new w
+    (λ m h. let at = rw n at h.node in at.2 ∙ ap (under h.key) (stands_absent (slice_values old.units) p at.0 at.1 g))
+    (λ s. less_nowhere old new p w n)
+
+below_gives : (units : List ℕ) (p lead : ℕ) (rest : UnitMap) → (0x8000 ≤ lead → rest ≡ []) → (lead < 0x8000 → Matches units (node_end p lead) (lead % 64) rest) → FrontGives units (below p lead) rest
+below_gives units p lead rest last match = by (nat_le 0x8000 lead) refl
+  where
+    by : (b : Bool) → nat_le 0x8000 lead ≡ b → FrontGives units (below p lead) rest
+    by true e = rw e (last (grind (arith, nat_tests)))
+    by false e = rw e (match (grind (arith, nat_tests)))
+
+below_work : (len p q lead : ℕ) → p < len → p < node_end q lead → front_work len (below q lead) < weight len p
+below_work len p q lead within behind = by (nat_le 0x8000 lead) refl
+  where
+    by : (b : Bool) → nat_le 0x8000 lead ≡ b → front_work len (below q lead) < weight len p
+    by true e = rw e (weight_some len p)
+    by false e = rw e (weight_one len p (node_end q lead) within behind)
+
+-- the units of a value stand behind its lead
+pub node_behind : (p lead : ℕ) → p < node_end (p + 1) lead
+unfolding end_by
+node_behind p lead = by (nat_lt (lead / 64 - 1) 0x100) (nat_lt (lead / 64 - 1) 0x1fe) refl refl
+  where
+    by : (a b : Bool) → nat_lt (lead / 64 - 1) 0x100 ≡ a → nat_lt (lead / 64 - 1) 0x1fe ≡ b → p < node_end (p + 1) lead
+    by true b e f = rw e (omega arith)
+    by false true e f = rw (e, f) (omega arith)
+    by false false e f = rw (e, f) (omega arith)
+
+-- what a node with or without a value tells
+node_tells : (value : Option ℤ) (key : List ℕ) (rest others m : UnitMap) (front : Front) (new : Pending) → m ≡ under key (own value ++ rest) ++ others
+    → Spells (bytes_of new.spelling) new.spelling.held key → FrontGives (slice_values new.units) front rest → PartsGive (slice_values new.units) (bytes_of new.spelling) (reverse new.parts.items) others
+    → TellsNode m value front new
+node_tells None key rest others m front new e s f p = record { key = key; first = rest; others = others; spelled = s; next = f; parts = p; is = e }
+node_tells (Some v) key rest others m front new e s f p = (
+  key,
+  under key rest ++ others,
+  e ∙ ap (λ z. (z, v) ∷ (under key rest ++ others)) (append-nil key),
+  s,
+  record { key = key; first = rest; others = others; spelled = s; next = f; parts = p; is = refl },
+)
+
+node_has : (units : List ℕ) (p lead : ℕ) (value : Option ℤ) → slice_get units p ≡ Some lead → value ≡ value_by units (p + 1) lead → IfSome value (IsNodeValue units)
+node_has units p lead None g e = tt
+node_has units p lead (Some v) g e = (p, rw g (sym e))
+
+pub lead_read : (old new : Pending) (p lead : ℕ) (front : Front) (value : Option ℤ) → IsWithout old new → old.node ≡ Some p → slice_get (slice_values old.units) p ≡ Some lead
+    → front ≡ below (p + 1) lead → IsNearFront front → value ≡ value_by (slice_values old.units) (p + 1) lead → p < node_end (p + 1) lead → ReadsNode old front value new
+lead_read old new p lead front value w n g at near is behind = record {
+  units = w.units;
+  entries = λ m h.
+      let here = rw n at h.node in
+      let b = stands_by (slice_values old.units) p lead here.0 here.1 g in
+      let whole : m ≡ under h.key (own value ++ b.rest) ++ h.others = h.is ∙ ap (λ z. z ++ h.others) (here.2 ∙ ap (under h.key) (b.is ∙ ap (λ z. own z ++ b.rest) (sym is))) in
+      let next : FrontGives (slice_values old.units) front b.rest = rw at (below_gives (slice_values old.units) (p + 1) lead b.rest b.last b.node) in
+      node_tells value h.key b.rest h.others m front new whole (rw w.spelling h.spelled) (rw w.units next) (rw (w.units, w.spelling, w.parts) h.parts);
+  some_value = node_has (slice_values old.units) p lead value g is;
+  cuts = without_cuts old new w;
+  near = near;
+  work = λ s.
+      let less = below_work (length (slice_values old.units)) p (p + 1) lead (slice_get_within (slice_values old.units) p lead g) behind in
+      rw (w.units, w.parts, n, at) (omega (arith, less));
+}
+
+-- ---- the text of a key
+
+pub plain_ends : (s : Walk) → s.pending.spelling.held ≡ None → EndsKey s s
+plain_ends s h = record {
+  pending = refl;
+  front = refl;
+  value = refl;
+  text = λ key sp. rw h (spelled_none (bytes_of s.pending.spelling) key (rw h at sp));
+}
+
+pub held_ends : (old new : Walk) (lead : LeadSurrogate) → new.pending ≡ old.pending → new.front ≡ old.front → new.value ≡ old.value → old.pending.spelling.held ≡ Some lead
+    → string_bytes new.ended ≡ bytes_of old.pending.spelling ++ encode_utf8 0xFFFD → EndsKey old new
+held_ends old new lead p f v h e = record {
+  pending = p;
+  front = f;
+  value = v;
+  text = λ key sp. rw (p, h) (e ∙ spelled_held (bytes_of old.pending.spelling) key lead (rw h at sp));
+}
+
+-- ---- from one entry to the next
+
+-- a node without a value is read, and what is below it is opened
+pub more_opened : (first : Walk) (old mid read new : Pending) (front : Front) → IsOpened first old → Keeps old mid → IsSome mid.node → ReadsNode mid front None read → OpensFront read front new
+    → (IsWalked first → ⊥) → IsOpened first new
+more_opened first old mid read new front i k s r o more = record {
+  units = o.units ∙ r.units ∙ k.units ∙ i.units;
+  entries = λ m g. o.entries m (r.entries m (k.entries m (i.entries m g)));
+  cuts = o.cuts (r.cuts k.cuts);
+  work = omega (arith, o.work, r.work s, k.work, i.work);
+  over = λ d. absurd (more d);
+}
+
+-- a node with a value is reached
+pub entry_found : (first new : Walk) (old mid : Pending) (v : ℤ) (told : Walk) → IsOpened first old → Keeps old mid → IsSome mid.node → ReadsNode mid told.front (Some v) told.pending → told.value ≡ v
+    → EndsKey told new → FindsEntry first true new
+entry_found first new old mid v told i k s r tv e = record {
+  units = ap (λ z. z.units) e.pending ∙ r.units ∙ k.units ∙ i.units;
+  entries = λ m g.
+      let t = r.entries m (k.entries m (i.entries m g)) in
+      let is : m ≡ (t.0, new.value) ∷ t.1 = t.2 ∙ ap (λ z. (t.0, z) ∷ t.1) (sym (e.value ∙ tv)) in
+      (t.0, t.1, is, e.text t.0 t.3, rw (e.pending, e.front) t.4);
+  value = λ _. rw (e.pending, e.value, tv) (subst (λ z. IsNodeValue (slice_values z) v) (sym r.units) r.some_value);
+  sound = λ _. rw (e.pending, e.front) (r.cuts k.cuts, r.near);
+  work = λ _. rw (e.pending, e.front) (omega (arith, r.work s, k.work, i.work));
+}
+
+pub none_found : (first new : Walk) (old : Pending) → IsOpened first old → Keeps old new.pending → IsOver new.pending → FindsEntry first false new
+none_found first new old i k o = record {
+  units = k.units ∙ i.units;
+  entries = λ m g. over_gives new.pending m o (k.entries m (i.entries m g));
+  value = λ e. absurd (not_both e);
+  sound = λ e. absurd (not_both e);
+  work = λ e. absurd (not_both e);
+}
+
+-- what stands at a place is still to come, under the empty key
+pub place_gives : (s : Pending) (place : Place) (m : UnitMap) → bytes_of s.spelling ≡ [] → s.spelling.held ≡ None → s.parts.items ≡ [] → Stands (slice_values s.units) place m → GivesFrom s (At place) m
+place_gives s place m t h p stood = record {
+  key = [];
+  first = m;
+  others = [];
+  spelled = rw (t, h) spells_nothing;
+  next = stood;
+  parts = rw p refl;
+  is = sym (append-nil (under [] m) ∙ under_nil m);
+}

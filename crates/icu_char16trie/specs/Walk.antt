@@ -1,0 +1,93 @@
+-- What a walk over the entries of a trie has reached, and what is still to come.
+use Rattle.std.specs.Prelude.{◌≡◌, ℕ, ◌+◌, pos, List, [], ◌∷◌, ◌++◌, Option, Some, None, Bool, true, false, Result, Ok, Err, length, reverse, string_bytes}
+use Rattle.icu_zerovec.specs.declared.memory.MemoryError.{MemoryError}
+use Rattle.icu_zerovec.specs.Slice.{slice_values}
+use Rattle.icu_char16trie.specs.Grammar.{Matches}
+use Rattle.icu_char16trie.specs.LossyText.{key_text}
+use Rattle.icu_char16trie.specs.UnitMap.{UnitMap, under}
+use Rattle.icu_char16trie.specs.UnitPlaces.{Stands}
+use Rattle.icu_char16trie.specs.Pending.{Spells, PartsGive, IsNodeValue, weight, parts_work}
+use Rattle.icu_char16trie.specs.declared.front.Front.{Front}
+use Rattle.icu_char16trie.specs.declared.front.Front.TheVariants.{At, Match}
+use Rattle.icu_char16trie.specs.declared.pending.Pending.{Pending}
+use Rattle.icu_char16trie.specs.declared.place.Place.TheVariants.{Nowhere, Node, Run}
+use Rattle.icu_char16trie.specs.declared.spelling.LeadSurrogate.{LeadSurrogate}
+use Rattle.icu_char16trie.specs.declared.walk.Walk.{Walk}
+
+-- what comes next gives the entries m: what stands at a place, or a match node
+abbrev pub FrontGives : List ℕ → Front → UnitMap → Type 0
+FrontGives units (At place) m = Stands units place m
+FrontGives units (Match p low) m = Matches units p low m
+
+-- the entries m are still to come: those of the front, under the key that is spelled, and then
+-- those of the parts that were put off
+pub record GivesFrom (s : Pending) (front : Front) (m : UnitMap) : Type 0 where
+  pub key : List ℕ
+  pub first : UnitMap
+  pub others : UnitMap
+  pub spelled : Spells (string_bytes s.spelling.text) s.spelling.held key
+  pub next : FrontGives (slice_values s.units) front first
+  pub parts : PartsGive (slice_values s.units) (string_bytes s.spelling.text)
+      (reverse s.parts.items) others
+  pub is : m ≡ under key first ++ others
+
+abbrev pub WalkGives : Walk → UnitMap → Type 0
+WalkGives s m = GivesFrom s.pending s.front m
+
+-- the text of the entry that was reached last: of a key that ends in a lead surrogate it stands
+-- apart
+abbrev pub text_by : Option LeadSurrogate → List ℕ → List ℕ → List ℕ
+text_by None text ended = text
+text_by (Some lead) text ended = ended
+
+abbrev pub walk_text : Walk → List ℕ
+walk_text s =
+    text_by s.pending.spelling.held (string_bytes s.pending.spelling.text) (string_bytes s.ended)
+
+-- nothing is to come, whatever the units are
+abbrev pub IsWalked : Walk → Type 0
+IsWalked s = (s.front ≡ At Nowhere) × (s.pending.parts.items ≡ [])
+
+-- the first of the entries m was reached, and the others are still to come
+abbrev pub Reaches : UnitMap → Walk → Type 0
+Reaches m t =
+    (key : List ℕ) × (rest : UnitMap) × (m ≡ (key, t.value) ∷ rest) × (walk_text t ≡ key_text key)
+    × WalkGives t rest
+
+-- the answer says of the entries m whether one was left, which was then reached; after want of
+-- memory it says nothing
+abbrev pub TellsNext : UnitMap → Result Bool MemoryError → Walk → Type 0
+TellsNext m (Ok true) t = Reaches m t
+TellsNext m (Ok false) t = m ≡ []
+TellsNext m (Err e) t = Unit {0}
+
+-- nothing is to come, and no entry is told: the empty text and 0
+pub record IsEnd (s : Walk) : Type 0 where
+  pub walked : IsWalked s
+  pub text : walk_text s ≡ []
+  pub value : s.value ≡ pos 0
+
+-- after any answer but that an entry was reached it is the end
+abbrev pub AnswersEnd : Result Bool MemoryError → Walk → Type 0
+AnswersEnd (Ok true) t = Unit {0}
+AnswersEnd (Ok false) t = IsEnd t
+AnswersEnd (Err e) t = IsEnd t
+
+-- the value is that of some node of the units
+abbrev pub IsValueOfNode : Walk → Type 0
+IsValueOfNode s = IsNodeValue (slice_values s.pending.units) s.value
+
+-- how much work is left at most
+abbrev pub front_work : ℕ → Front → ℕ
+front_work len (At Nowhere) = 0
+front_work len (At (Node p)) = weight len p
+front_work len (At (Run p left)) = weight len p
+front_work len (Match p low) = weight len p
+
+abbrev pub work_from : Pending → Front → ℕ
+work_from s front =
+    front_work (length (slice_values s.units)) front
+    + parts_work (length (slice_values s.units)) s.parts.items
+
+abbrev pub walk_work : Walk → ℕ
+walk_work s = work_from s.pending s.front

@@ -1,0 +1,69 @@
+//! What comes next in a walk over the entries of a trie.
+ghost use Rattle.std.specs.Prelude.{◌≡◌, ◌^◌, ◌≤◌, IsOk, OnOk};
+ghost use Rattle.icu_char16trie.specs.declared.front.Front.TheVariants.{At};
+ghost use Rattle.icu_char16trie.specs.declared.place.Place.TheVariants.{Nowhere};
+ghost use Rattle.icu_char16trie.specs.Inside.Walking.{IsNearFront, below};
+
+use crate::encoded::{node_end, unit_at};
+use crate::pending::Pending;
+use crate::place::Place;
+use crate::step::value_by;
+use std::alloc::AllocError;
+
+/// What comes next, under the key that is spelled.
+#[derive(Clone, Copy, Debug)]
+pub(crate) enum Front {
+    /// What stands at a place.
+    At(Place),
+    /// A match node: the place after its lead and its value, and its low six bits.
+    Match(usize, u16),
+}
+
+/// What comes after the value of a node, by its lead unit before `place`.
+#[inline(always)]
+pub(crate) fn below(place: usize, lead: u16) -> Front
+    requires { place ≤ 2 ^ 62 }
+    ensures is { result ≡ below place lead }
+    ensures near { IsNearFront result }
+{
+    if lead >= 0x8000 {
+        Front::At(Place::Nowhere)
+    } else {
+        Front::Match(node_end(place, lead), lead % 64)
+    }
+}
+
+impl<'a> Pending<'a> {
+    ghost use Rattle.icu_char16trie.specs.Inside.Walking.{OpensFront, ReadsNode};
+
+    /// Goes to the first node of what comes next. A node that was gone to is left.
+    pub(crate) fn open_front(&mut self, front: Front) -> Result<(), AllocError>
+        requires { IsNearFront front }
+        ensures opens { OnOk result (OpensFront self.old front self.new) }
+        ensures nowhere { front ≡ At Nowhere → IsOk result }
+    {
+        self.node = None;
+        match front {
+            Front::At(Place::Nowhere) => {}
+            Front::At(Place::Node(place)) => self.node = Some(place),
+            Front::At(Place::Run(place, left)) => self.pass_run(place, usize::from(left) + 1)?,
+            Front::Match(place, low) => self.open_match(place, low)?,
+        }
+        Ok(())
+    }
+
+    /// Leaves the node that was gone to: what comes after its value, and the value, if it has one.
+    #[inline(always)]
+    pub(crate) fn read_node(&mut self) -> (Front, Option<i32>)
+        ensures { ReadsNode self.old result.0 result.1 self.new }
+    {
+        let Some(place) = self.node.take() else {
+            return (Front::At(Place::Nowhere), None);
+        };
+        let Some(lead) = unit_at(self.units, place) else {
+            return (Front::At(Place::Nowhere), None);
+        };
+        let value = value_by(self.units, place + 1, lead);
+        (below(place + 1, lead), value)
+    }
+}
