@@ -10,6 +10,7 @@ pub mod SpellingLemmas
 pub mod OpeningLemmas
 pub mod NextLemmas
 pub mod WalkLemmas
+pub mod NextUnitLemmas
 pub mod OneMap
 pub mod SoundnessLemmas
 pub mod CountLemmas

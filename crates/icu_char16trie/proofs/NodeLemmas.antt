@@ -57,7 +57,7 @@ under_nil [] = refl
 under_nil (e ∷ m) = ap (λ t. e ∷ t) (under_nil m)
 
 -- the keys of a run, after its first unit
-run_keys : (units : List ℕ) (p k x : ℕ) (m rest : List (List ℕ × ℤ)) → m ≡ under (take (k + 1) (drop p units)) rest → slice_get units p ≡ Some x
+pub run_keys : (units : List ℕ) (p k x : ℕ) (m rest : List (List ℕ × ℤ)) → m ≡ under (take (k + 1) (drop p units)) rest → slice_get units p ≡ Some x
     → m ≡ under (x ∷ []) (under (take k (drop (p + 1) units)) rest)
 run_keys units p k x m rest e g =
     e ∙ ap (λ front. under front rest) (take_first units p k x g) ∙ under_cons x (take k (drop (p + 1) units)) rest
@@ -175,7 +175,7 @@ part_has units (entry p n u v child rest arms many le5 g g' c r a) = ((u, child)
 part_has units (split p n s d low lower upper arms many g g' c l r b f a) =
     let h = part_has units l in (h.0, h.1 ++ upper, a ∙ ap (λ z. z ++ upper) h.2)
 
-under_has : (front : List ℕ) (m others all : List (List ℕ × ℤ)) → all ≡ under front m ++ others → HasEntry m → HasEntry all
+pub under_has : (front : List ℕ) (m others all : List (List ℕ × ℤ)) → all ≡ under front m ++ others → HasEntry m → HasEntry all
 under_has front m others all e t = ((front ++ t.0.0, t.0.1), under front t.1 ++ others, e ∙ ap (λ z. under front z ++ others) t.2)
 
 mutual

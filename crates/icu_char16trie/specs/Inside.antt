@@ -1,4 +1,5 @@
 -- Words that the functions inside the crate and their proofs need. No public contract cites them.
+pub mod Adding
 pub mod Cuts
 pub mod Fronts
 pub mod Going

@@ -10,6 +10,7 @@ pub mod MatchesLeft
 pub mod LossyText
 pub mod Pending
 pub mod Entries
+pub mod NextUnits
 pub mod Walk
 pub mod Listing
 pub mod Char16Json

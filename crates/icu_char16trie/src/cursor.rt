@@ -1,11 +1,12 @@
 //! A cursor over the units of a trie.
-ghost use Rattle.std.specs.Prelude.{◌≡◌, ℕ, ℤ, pos, List, [], ◌∷◌, ◌++◌, ◌<◌, ◌≤◌, not};
+ghost use Rattle.std.specs.Prelude.{◌≡◌, ℕ, ℤ, pos, List, [], ◌∷◌, ◌++◌, ◌<◌, ◌≤◌, IfOk, not};
 ghost use Rattle.icu_zerovec.specs.Slice.{slice_values};
 ghost use Rattle.icu_char16trie.specs.Grammar.{IsTrieOf};
 ghost use Rattle.icu_char16trie.specs.UnitMap.{UnitMap, after_all, value_of, goes_on};
 ghost use Rattle.icu_char16trie.specs.Listing.{AreToCome, entry_text, entry_value};
 ghost use Rattle.icu_char16trie.specs.CursorPlaces.{place_of};
 ghost use Rattle.icu_char16trie.specs.UnitPlaces.{IsAfter, value_at, is_empty_at};
+ghost use Rattle.icu_char16trie.specs.NextUnits.{GoesOnWith, first_units};
 ghost use Rattle.icu_char16trie.specs.Steps.{StepsTo, StepsAlong};
 ghost use Rattle.icu_char16trie.specs.Passed.{Passes};
 ghost use Rattle.std.specs.Char.Escape.{encode_utf16};
@@ -13,9 +14,10 @@ ghost use Rattle.icu_char16trie.specs.declared.place.Place.{Place};
 ghost use Rattle.icu_char16trie.specs.declared.place.Place.TheVariants.{Nowhere, Node};
 
 use crate::listing::Entries;
+use crate::next_units::add_units;
 use crate::place::{CursorPlace, Place, numbers_of, place_of};
 use crate::step::{is_empty_at, step, value_at};
-use icu_zerovec::ZeroSlice;
+use icu_zerovec::{MemoryError, ZeroSlice};
 use std::alloc::Global;
 use std::marker::Model;
 
@@ -171,5 +173,28 @@ impl<'a> Char16TrieCursor<'a> {
         ensures value { entry_value result ≡ pos 0 }
     {
         Entries::new(alloc, self.units, self.place)
+    }
+
+    /// The units with which some key goes on from here, ascending, each once: none where
+    /// [`is_empty`](Self::is_empty) holds (ICU: `getNextUChars`).
+    ///
+    /// # Errors
+    /// `MemoryError` where memory was refused.
+    ///
+    /// ```
+    /// // of the map of "a" to 1, "ab" to 2 and "b" to 3
+    /// let units = trie.cursor().next_units(alloc)?; // 0x61 and 0x62: "a" and "b"
+    /// ```
+    pub fn next_units(&self, alloc: Global) -> Result<Vec<u16>, MemoryError>
+        ensures units { IfOk result (λ list. (m : UnitMap) (w : List ℕ) → IsAfter self.now m w
+            → list.items ≡ first_units (after_all w m)) }
+
+        // On all units: what the entries of the branch say, as far as they are there.
+        ensures exact { IfOk result
+            (λ list. GoesOnWith self.now.units self.now.place list.items) }
+    {
+        let mut list = Vec::new(alloc);
+        add_units(&mut list, self.units, self.place)?;
+        Ok(list)
     }
 }

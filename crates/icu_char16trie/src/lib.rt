@@ -25,6 +25,7 @@
 //!   still to go through; `spelling`: the key as text while it grows
 //! - `listing`: [`Entries`](char16trie::Entries), the entries by one buffer, from the root or from
 //!   a cursor on; `walk`: how it goes from one entry to the next; `front`: what comes next
+//! - `next_units`: the units with which keys go on from a cursor
 //! - `json`: a trie from and to JSON
 //! - `place`, `step`, `branch`, `encoded`: where a cursor stands, where a unit leads from there,
 //!   and how numbers stand in units
@@ -42,6 +43,7 @@ mod iterator;
 mod json;
 mod listing;
 mod matches;
+mod next_units;
 mod pending;
 mod place;
 mod soundness;

@@ -14,6 +14,8 @@ pub use Rattle.icu_char16trie.specs.Matches.{match_at, matches_from, matches_of}
 pub use Rattle.icu_char16trie.specs.MatchesLeft.{AreLeft, AreLeftAt, GivesMatch, fronts_by, fronts_left}
 pub use Rattle.icu_char16trie.specs.Entries.{AreCutShort, AreEntries, GivesNext, IsDone, IsLeft}
 pub use Rattle.icu_char16trie.specs.Listing.{AreToCome, Advances, EndsUnlessReached, IsAtEnd, IsSomeValue, entries_work, entry_text, entry_value, listed_units}
+pub use Rattle.icu_char16trie.specs.NextUnits.{GoesOnWith, unit_list, without_first}
+unfoldable pub use Rattle.icu_char16trie.specs.NextUnits.{first_units}
 pub use Rattle.icu_char16trie.specs.LossyText.{key_text}
 unfoldable pub use Rattle.icu_char16trie_builder.specs.Entries.{most_units, with_entry}
 pub use Rattle.icu_char16trie_builder.specs.Errors.{entry_refusal}
@@ -23,3 +25,4 @@ pub use Rattle.icu_char16trie.specs.Grammar
 pub use Rattle.icu_char16trie.specs.Steps
 pub use Rattle.icu_char16trie.specs.Pending
 pub use Rattle.icu_char16trie.specs.Walk
+pub use Rattle.icu_char16trie.specs.NextUnits

@@ -67,6 +67,44 @@ fn completions(rt: HostRuntime) -> Result<(), Fail> {
     Ok(())
 }
 
+/// Units of a trie, units that are passed, and the units with which keys go on from there.
+type NextRow = (&'static [u16], &'static [u16], &'static [u16]);
+
+static NEXT: [NextRow; 15] = [
+    (&A_AB, &[], &[0x61]),
+    (&A_AB, &[0x61], &[0x62]),
+    (&A_AB, &[0x61, 0x62], &[]),
+    (&A_AB, &[0x62], &[]),
+    (&RUN, &[0x61], &[0x62]),
+    (&RUN, &[0x61, 0x62, 0x63], &[0x64]),
+    (&SIX, &[], &[0x61, 0x62, 0x63, 0x64, 0x65, 0x66]),
+    (&SIX, &[0x61], &[]),
+    (&LEAD_PAIR, &[0xD83D], &[0xDE00]),
+    (&[0x8007], &[], &[]),
+    (&[], &[], &[]),
+    // A branch whose length stands in a unit of its own.
+    (&[0, 1, 0x61, 0x8001, 0x62, 0x8002], &[], &[0x61, 0x62]),
+    // Units that are no trie: what is not there does not go on.
+    (&[0], &[], &[]),
+    (&[2, 0x61, 0x8001, 0x62], &[], &[0x61]),
+    (&[0x31], &[], &[]),
+];
+
+/// Keys go on with these units.
+fn expect_next(rt: &impl Abort, found: Vec<u16>, want: &[u16], units: &[u16]) {
+    expect_same(rt, (units, found.as_slice()), (units, want), "next units");
+}
+
+#[test]
+fn next_units(rt: HostRuntime) -> Result<(), Fail> {
+    for (units, passed, want) in NEXT.iter() {
+        let trie = trie_of(rt.alloc(), units)?;
+        let found = cursor_after(&trie, passed).next_units(rt.alloc())?;
+        expect_next(&rt, found, want, units);
+    }
+    Ok(())
+}
+
 /// The entries from a place of strangers.
 fn entries_from<'a>(
     rt: &impl AllocGlobal,

@@ -214,6 +214,26 @@ fn entries_of_one_length_quiet(rt: HostRuntime) {
     expect_same(&rt, (first, last), (Some(true), Some(6)), "the values");
 }
 
+/// There are six units, or memory was refused.
+fn expect_six_units(rt: &(impl Abort + Print), found: Result<Vec<u16>, MemoryError>) {
+    match found {
+        Ok(list) => expect_same(rt, list.len(), 6, "the units"),
+        Err(error) => say_refused(rt, error),
+    }
+}
+
+/// Calls: `Char16TrieCursor::next_units`.
+#[test]
+fn next_units_refused(rt: HostRuntime) {
+    let Ok(trie) = trie_of(rt.alloc(), &SIX) else {
+        return;
+    };
+    say(&rt, "call");
+    let found = trie.cursor().next_units(rt.alloc());
+    say(&rt, "done");
+    expect_six_units(&rt, found);
+}
+
 /// A JSON value has the key of the units, or memory was refused.
 fn expect_json(rt: &(impl Abort + Print), written: Result<Value, MemoryError>) {
     match written {
