@@ -2,9 +2,11 @@
 
 #[allow(unused_imports)]
 use crate::support::prelude::*;
+use crate::icu_char16trie::listing::Entries;
+use crate::icu_char16trie::next_units::add_units;
 use crate::icu_char16trie::place::{CursorPlace, Place, numbers_of, place_of};
 use crate::icu_char16trie::step::{is_empty_at, step, value_at};
-use crate::icu_zerovec::ZeroSlice;
+use crate::icu_zerovec::{MemoryError, ZeroSlice};
 
 /// A cursor into the units of a trie, for look-up unit by unit.
 ///
@@ -87,5 +89,39 @@ impl<'a> Char16TrieCursor<'a> {
     #[inline]
     pub fn is_empty(&self) -> bool {
         is_empty_at(self.units, self.place)
+    }
+
+    /// The entries whose keys go on from here, in unit order, each without the units so far: how a
+    /// dictionary completes what was typed (ICU: `UCharsTrie::Iterator` of a trie that is not at
+    /// its root). Where the units so far are a key, the first entry is that of the empty text. The
+    /// cursor may stand within a linear match, whose rest comes first; after no match there is no
+    /// entry.
+    ///
+    /// ```text
+    /// // of the map of "a" to 1, "ab" to 2 and "b" to 3
+    /// let mut cursor = trie.cursor();
+    /// cursor.step('a');
+    /// let mut entries = cursor.entries(); // "" and 1, then "b" and 2
+    /// ```
+    #[inline]
+    pub fn entries(&self) -> Entries<'a> {
+        Entries::new(self.units, self.place)
+    }
+
+    /// The units with which some key goes on from here, ascending, each once: none where
+    /// [`is_empty`](Self::is_empty) holds (ICU: `getNextUChars`).
+    ///
+    /// # Errors
+    /// `MemoryError` where memory was refused.
+    ///
+    /// ```text
+    /// // of the map of "a" to 1, "ab" to 2 and "b" to 3
+    /// let units = trie.cursor().next_units()?; // 0x61 and 0x62: "a" and "b"
+    /// ```
+    #[inline]
+    pub fn next_units(&self) -> Result<Vec<u16>, MemoryError> {
+        let mut list = Vec::new();
+        add_units(&mut list, self.units, self.place)?;
+        Ok(list)
     }
 }

@@ -23,6 +23,9 @@
 //! - `soundness`: whether units are a trie; `counted`: how many entries they have
 //! - `entries`: [`Iter2`](char16trie::Iter2), the entries in unit order; `pending`: what they have
 //!   still to go through; `spelling`: the key as text while it grows
+//! - `listing`: [`Entries`](char16trie::Entries), the entries by one buffer, from the root or from
+//!   a cursor on; `walk`: how it goes from one entry to the next; `front`: what comes next
+//! - `next_units`: the units with which keys go on from a cursor
 //! - `json`: a trie from and to JSON
 //! - `place`, `step`, `branch`, `encoded`: where a cursor stands, where a unit leads from there,
 //!   and how numbers stand in units
@@ -34,14 +37,18 @@ mod cursor;
 mod dictionary;
 mod encoded;
 mod entries;
+mod front;
 mod iterator;
 #[cfg(feature = "json")]
 mod json;
+mod listing;
 mod matches;
+mod next_units;
 mod pending;
 mod place;
 mod soundness;
 mod spelling;
 mod step;
 mod trie;
+mod walk;
 mod write;

@@ -97,7 +97,7 @@ impl<'a> Pending<'a> {
 
     /// Goes to the node after a linear match.
     #[inline(always)]
-    fn pass_run(&mut self, place: usize, count: usize) -> Result<(), AllocError> {
+    pub(crate) fn pass_run(&mut self, place: usize, count: usize) -> Result<(), AllocError> {
         if self.units.len() < place + count {
             return Ok(());
         }
@@ -108,7 +108,7 @@ impl<'a> Pending<'a> {
 
     /// Goes to the first node after a match node, by its low six bits; `place` is after its lead
     /// and its value.
-    fn open_match(&mut self, place: usize, low: u16) -> Result<(), AllocError> {
+    pub(crate) fn open_match(&mut self, place: usize, low: u16) -> Result<(), AllocError> {
         if low >= 0x30 {
             self.pass_run(place, low as usize - 0x2f)?;
             return Ok(());
@@ -156,7 +156,7 @@ impl<'a> Pending<'a> {
 
     /// Goes to the next node, if there is one.
     #[inline]
-    fn go_to_node(&mut self) -> Result<bool, AllocError> {
+    pub(crate) fn go_to_node(&mut self) -> Result<bool, AllocError> {
         while self.node.is_none() {
             let Some(part) = self.parts.pop() else {
                 return Ok(false);

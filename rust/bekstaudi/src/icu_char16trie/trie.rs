@@ -5,6 +5,7 @@ use crate::support::prelude::*;
 use crate::icu_char16trie::cursor::Char16TrieCursor;
 use crate::icu_char16trie::entries::Iter2;
 use crate::icu_char16trie::iterator::Char16TrieIterator;
+use crate::icu_char16trie::listing::Entries;
 use crate::icu_zerovec::{MemoryError, ZeroVec};
 
 /// A map from lists of 16-bit units, mostly texts in UTF-16, to numbers of 32 bits with sign, in
@@ -78,6 +79,23 @@ impl<'data> Char16Trie<'data> {
     #[inline]
     pub fn try_iter2(&self) -> Iter2<'_> {
         Iter2::new(self.data.as_slice())
+    }
+
+    /// The entries, in unit order, by one buffer for the text of their keys: for a listing that
+    /// keeps no keys, where [`iter2`](Self::iter2) gives each as a text of its own.
+    ///
+    /// It takes no memory before the first entry.
+    ///
+    /// ```text
+    /// // of the map of "a" to 1 and "ab" to 2
+    /// let mut entries = trie.entries();
+    /// // entries.advance()? is true: entries.key() is "a" and entries.value() is 1
+    /// // entries.advance()? is true: entries.key() is "ab" and entries.value() is 2
+    /// // entries.advance()? is false
+    /// ```
+    #[inline]
+    pub fn entries(&self) -> Entries<'_> {
+        self.cursor().entries()
     }
 
     /// An equal trie that owns its units.

@@ -1,0 +1,54 @@
+//! What comes next in a walk over the entries of a trie.
+
+use crate::icu_char16trie::encoded::{node_end, unit_at};
+use crate::icu_char16trie::pending::Pending;
+use crate::icu_char16trie::place::Place;
+use crate::icu_char16trie::step::value_by;
+use crate::support::AllocError;
+
+/// What comes next, under the key that is spelled.
+#[derive(Clone, Copy, Debug)]
+pub(crate) enum Front {
+    /// What stands at a place.
+    At(Place),
+    /// A match node: the place after its lead and its value, and its low six bits.
+    Match(usize, u16),
+}
+
+/// What comes after the value of a node, by its lead unit before `place`.
+#[inline(always)]
+pub(crate) fn below(place: usize, lead: u16) -> Front {
+    if lead >= 0x8000 {
+        Front::At(Place::Nowhere)
+    } else {
+        Front::Match(node_end(place, lead), lead % 64)
+    }
+}
+
+impl<'a> Pending<'a> {
+    /// Goes to the first node of what comes next. A node that was gone to is left.
+    #[inline]
+    pub(crate) fn open_front(&mut self, front: Front) -> Result<(), AllocError> {
+        self.node = None;
+        match front {
+            Front::At(Place::Nowhere) => {}
+            Front::At(Place::Node(place)) => self.node = Some(place),
+            Front::At(Place::Run(place, left)) => self.pass_run(place, usize::from(left) + 1)?,
+            Front::Match(place, low) => self.open_match(place, low)?,
+        }
+        Ok(())
+    }
+
+    /// Leaves the node that was gone to: what comes after its value, and the value, if it has one.
+    #[inline(always)]
+    pub(crate) fn read_node(&mut self) -> (Front, Option<i32>) {
+        let Some(place) = self.node.take() else {
+            return (Front::At(Place::Nowhere), None);
+        };
+        let Some(lead) = unit_at(self.units, place) else {
+            return (Front::At(Place::Nowhere), None);
+        };
+        let value = value_by(self.units, place + 1, lead);
+        (below(place + 1, lead), value)
+    }
+}

@@ -1,0 +1,105 @@
+//! The walk of a listing from one entry of a trie to the next.
+
+#[allow(unused_imports)]
+use crate::support::prelude::*;
+use crate::icu_char16trie::front::Front;
+use crate::icu_char16trie::pending::Pending;
+use crate::icu_char16trie::place::Place;
+use crate::icu_char16trie::spelling::Spelling;
+use crate::icu_zerovec::{MemoryError, ZeroSlice};
+use crate::support::{AllocError};
+
+/// A walk over the entries of a trie: the entry that it reached last, and what is still to come.
+#[derive(Debug)]
+pub(crate) struct Walk<'a> {
+    /// The key of the entry as it is spelled, and the parts that were put off.
+    pub pending: Pending<'a>,
+    /// What comes next under that key, before the parts.
+    pub front: Front,
+    /// The value of the entry.
+    pub value: i32,
+    /// The text of the key, where it ends in a lead surrogate.
+    pub ended: String,
+}
+
+impl<'a> Walk<'a> {
+    /// The walk over what stands at a place.
+    pub(crate) fn new(units: ZeroSlice<'a, u16>, place: Place) -> Self {
+        let pending = Pending {
+            units,
+            spelling: Spelling::new(),
+            node: None,
+            parts: Vec::new(),
+        };
+        Walk {
+            pending,
+            front: Front::At(place),
+            value: 0,
+            ended: String::new(),
+        }
+    }
+
+    /// The text of the key.
+    #[inline]
+    pub(crate) fn text(&self) -> &str {
+        match self.pending.spelling.held {
+            None => &self.pending.spelling.text,
+            Some(_lead) => &self.ended,
+        }
+    }
+
+    /// Writes the text of the key, where it ends in a lead surrogate: with U+FFFD for that.
+    #[inline(always)]
+    fn end_key(&mut self) -> Result<(), AllocError> {
+        let Some(_lead) = self.pending.spelling.held else {
+            return Ok(());
+        };
+        self.ended.clear();
+        self.ended.push_str(&self.pending.spelling.text)?;
+        self.ended.try_push(char::REPLACEMENT_CHARACTER)?;
+        Ok(())
+    }
+
+    /// Goes to the next entry, if there is one.
+    fn find_entry(&mut self) -> Result<bool, AllocError> {
+        let front = self.front;
+        self.pending.open_front(front)?;
+        while self.pending.go_to_node()? {
+            let (front, value) = self.pending.read_node();
+            if let Some(value) = value {
+                self.front = front;
+                self.value = value;
+                self.end_key()?;
+                return Ok(true);
+            }
+            self.pending.open_front(front)?;
+        }
+        Ok(false)
+    }
+
+    /// Nothing is left, and no entry is told.
+    #[inline]
+    fn end(&mut self) {
+        self.pending.parts.clear();
+        self.pending.spelling.text.clear();
+        self.pending.spelling.held = None;
+        self.front = Front::At(Place::Nowhere);
+        self.value = 0;
+    }
+
+    /// Goes to the next entry, if there is one. After anything else nothing is left.
+    #[inline]
+    pub(crate) fn next_entry(&mut self) -> Result<bool, MemoryError> {
+        match self.find_entry() {
+            Ok(true) => Ok(true),
+            Ok(false) => {
+                self.end();
+                Ok(false)
+            }
+            Err(_refused) => {
+                self.end();
+                Err(MemoryError)
+            }
+        }
+    }
+}
