@@ -1,7 +1,7 @@
 /* Tries that are built of rows: each code point has the value of the last row that covers it, in the
    trie that is opened of the bytes, and where ICU4C is at hand (WITH_ICU) in the one that it opens
-   of them, as in the one that it builds of the same rows. Buffers that are too short stay, and each
-   refusal is told. Usage: building TURNS RUNS.. */
+   of them, as in the one that it builds of the same rows. Buffers that are too short stay, no trie is
+   larger than its bound, and each refusal is told. Usage: building TURNS RUNS.. */
 #include "parts.h"
 #ifdef WITH_ICU
 #include <unicode/ucptrie.h>
@@ -84,6 +84,7 @@ static uint8_t *built(size_t count, uint32_t type, uint32_t width, size_t *size)
     uint8_t none = 0x55;
     int64_t n = bks_trie_build(rows, count, NONE, WRONG, type, width, &none, 0);
     CHECK(n > 0 && none == 0x55);
+    CHECK((uint64_t)n <= bks_trie_bound(count, type, width));
     uint8_t *bytes = before_closed_page((size_t)n), *more = (uint8_t *)malloc((size_t)n + 9);
     memset(bytes, 0x55, (size_t)n);
     memset(more, 0x55, (size_t)n + 9);
@@ -133,6 +134,34 @@ static size_t random_rows(uint32_t largest) {
     return count;
 }
 
+/* The bound of sizes by hand: without a row, with few, and what all blocks of the code space take,
+   however many rows there are; never less for more rows; and 0 of no form. */
+static void bounds(void) {
+    const uint64_t none[2][3] = {{6730, 6970, 7450}, {6730, 6970, 7450}};
+    const uint64_t most[2][3] = {{1268146, 2382418, 4610962}, {1276786, 2391058, 4619602}};
+    for (uint32_t type = BKS_FAST; type <= BKS_SMALL; type++)
+        for (size_t i = 0; i < 3; i++) {
+            uint64_t before = 0;
+            for (size_t count = 0; count < 30000; count++) {
+                uint64_t bound = bks_trie_bound(count, type, widths[i]);
+                CHECK(before <= bound && bound <= most[type][i]);
+                before = bound;
+            }
+            CHECK(bks_trie_bound(0, type, widths[i]) == none[type][i]);
+            CHECK(before == most[type][i]);
+            CHECK(bks_trie_bound(SIZE_MAX, type, widths[i]) == before);
+            CHECK(bks_trie_bound(SIZE_MAX / 3 + 1, type, widths[i]) == before);
+        }
+    CHECK(bks_trie_bound(1, BKS_FAST, 1) == 16 + 2 * 3345 + 64 * 4 + 16 * 4 + 160);
+    CHECK(bks_trie_bound(100, BKS_SMALL, 4) == 16 + 2 * 14037 + 4 * (64 * 64 + 16 * 301 + 160));
+    for (uint32_t width = 0; width < 9; width++)
+        for (uint32_t type = 0; type < 4; type++) {
+            bool known = type < 2 && (width == 1 || width == 2 || width == 4);
+            CHECK((bks_trie_bound(3, type, width) != 0) == known);
+        }
+    CHECK(bks_trie_bound(3, BKS_FAST, UINT32_MAX) == 0 && bks_trie_bound(3, UINT32_MAX, 1) == 0);
+}
+
 /* Each refusal, the first one that there is cause for. */
 static void refusals(void) {
     uint8_t bytes[64];
@@ -166,6 +195,7 @@ static void refusals(void) {
 int main(int count, char **words) {
     CHECK(count >= 3);
     refusals();
+    bounds();
     each_form(0, 0);
     for (int turn = 0; turn < atoi(words[1]); turn++) {
         uint32_t largest = turn % 3 == 0 ? 0xFF : turn % 3 == 1 ? 0xFFFF : 0xFFFFFFFE;

@@ -26,7 +26,7 @@ use Rattle.icu_trie_builder.specs.MapAnswers.{AnswersMap}
 use Rattle.icu_trie_builder.specs.Writes.{covers as write_covers, first_of, is_accepted, last_of, last_written, value_after, value_of}
 use Rattle.icu_trie_builder.specs.declared.writes.Write.{Write}
 use Rattle.icu_trie_builder.proofs.CallerLemmas.{answer-of-map, error-of-map}
-use Rattle.icu_collections_c.specs.Building.{AreFitting, IsBuilt, IsForm, IsTooLargeFor, IsTrieOf, IsWhyNotBuilt, covers, last_row, row_answer, row_value}
+use Rattle.icu_collections_c.specs.Building.{AreFitting, IsBuilt, IsForm, IsTooLargeFor, IsTrieOf, IsWhyNotBuilt, covers, last_row, most_bytes, row_answer, row_value}
 use Rattle.icu_collections_c.specs.BytesTrie.{value_width}
 use Rattle.icu_collections_c.specs.Inside.BuiltValues.{AreWritesOf, IsBuiltOf, IsTooLargeOf, IsTrieOfNumbers, of_build, of_write, row_of}
 use Rattle.icu_collections_c.specs.declared.building.Refusal.{Refusal}
@@ -178,7 +178,13 @@ module _ (width : ℕ) (rows : List Row) (default error : ℕ) (kind : TrieType)
 
   built-numbers : (bytes : List ℕ) → IsBuiltOf (λ x. x) (λ cell. Some (number_of width cell)) width (fitting (2 ^ (8 * width))) rows default error kind bytes
       → IsBuilt rows default error n width bytes
-  built-numbers bytes b = record { trie = b.trie; stored = b.stored; of_rows = trie-numbers b.trie b.of_rows; coherent = b.coherent }
+  built-numbers bytes b = record {
+    trie = b.trie;
+    stored = b.stored;
+    of_rows = trie-numbers b.trie b.of_rows;
+    coherent = b.coherent;
+    size = subst (λ x. length bytes ≤ most_bytes (length rows) x width) (sym n-is) b.size;
+  }
 
   pub if_ok-numbers : {V : Type 0} (items : V → List ℕ) (r : Result V Refusal)
       → IfOk r (λ v. IsBuiltOf (λ x. x) (λ cell. Some (number_of width cell)) width (fitting (2 ^ (8 * width))) rows default error kind (items v))

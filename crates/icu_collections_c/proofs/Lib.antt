@@ -1,4 +1,5 @@
 mod AnswerLemmas
+mod BoundLemmas
 mod BufferLemmas
 mod BuildingLemmas
 mod CellLemmas

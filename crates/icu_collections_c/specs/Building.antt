@@ -1,5 +1,5 @@
 -- Tries that are built of rows, and the bytes that they are written as.
-use Rattle.std.specs.Prelude.{◌≡◌, ℕ, zero, suc, ℤ, pos, negsuc, ◌<◌, ◌⊎◌, ◌&&◌, nat_le, Bool, List, [], ◌∷◌, ◌++◌, length, drop, All, Option, Some, None, IsSome, unwrap_or, if◌then◌else◌}
+use Rattle.std.specs.Prelude.{◌≡◌, ℕ, zero, suc, ◌+◌, ◌-◌, ◌*◌, ◌/◌, ℤ, pos, negsuc, ◌<◌, ◌≤◌, min, ◌⊎◌, ◌&&◌, nat_eq, nat_le, Bool, List, [], ◌∷◌, ◌++◌, length, drop, All, Option, Some, None, IsSome, unwrap_or, if◌then◌else◌}
 use Rattle.std.specs.Option.{option_or}
 use Rattle.icu_trie.specs.Parts.{Parts, trie_value}
 use Rattle.icu_trie.specs.Ranges.{IsCoherentTrie}
@@ -45,6 +45,32 @@ pub record AreFitting {T : Type 0} (of_number : ℕ → Option T) (rows : List R
   pub of_default : IsSome (of_number default)
   pub of_error : IsSome (of_number error)
 
+-- ---- how large a trie of rows gets
+-- how many different ones there can be among so many aligned blocks: a row leaves one of its value
+-- alone, and one at each of its two ends; and one has the default alone
+abbrev pub most_blocks : ℕ → ℕ → ℕ
+most_blocks count blocks = min (3 * count + 1) blocks
+
+-- the fast limit of a type, by its number
+abbrev pub fast_end : ℕ → ℕ
+fast_end kind = if nat_eq kind 0 then 0x10000 else 0x1000
+
+-- the most cells of data that so many rows take: the different blocks of 64 below the fast limit,
+-- those of 16 from there on, and what each trie has
+abbrev pub most_data : ℕ → ℕ → ℕ
+most_data count limit =
+    64 * most_blocks count (limit / 64) + 16 * most_blocks count ((0x110000 - limit) / 16) + 160
+
+-- the most cells of index, by the different blocks of 512 from the fast limit on
+abbrev pub most_index : ℕ → ℕ → ℕ
+most_index count limit = 36 * most_blocks count ((0x110000 - limit) / 512) + 3200
+
+-- the most bytes in ICU's binary form: those of the header, two for each cell of the index, of
+-- which one more may stand in front of the data, and `width` for each cell of the data
+abbrev pub most_bytes : ℕ → ℕ → ℕ → ℕ
+most_bytes count kind width =
+    16 + 2 * (most_index count (fast_end kind) + 1) + width * most_data count (fast_end kind)
+
 -- ---- what is answered
 -- the trie is of the type, and answers every number as the rows ask
 pub record IsTrieOf (rows : List Row) (default error kind : ℕ) (t : Parts ℕ) : Type 0 where
@@ -52,13 +78,15 @@ pub record IsTrieOf (rows : List Row) (default error kind : ℕ) (t : Parts ℕ)
   pub answers : (u : ℕ) → trie_value t u ≡ Some (row_answer rows default error u)
 
 -- the bytes are, whole, such a trie in ICU's binary form, with values of so many bytes, and a
--- coherent one, so that its ranges are the longest runs
+-- coherent one, so that its ranges are the longest runs; and they are no more than the number of
+-- rows lets expect
 pub record IsBuilt (rows : List Row) (default error kind width : ℕ) (bytes : List ℕ)
     : Type 0 where
   pub trie : Parts ℕ
   pub stored : IsUnsignedStored width bytes trie (length bytes)
   pub of_rows : IsTrieOf rows default error kind trie
   pub coherent : IsCoherentTrie (fitting_in width) trie
+  pub size : length bytes ≤ most_bytes (length rows) kind width
 
 -- the rows make a map that a builder may refuse for its size, which at most 256 rows never do; or
 -- the binary form has no room for such a trie, though it is well built

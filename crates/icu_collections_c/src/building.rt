@@ -1,7 +1,7 @@
 //! Tries that are built of rows, in ICU's binary form.
-ghost use Rattle.std.specs.Prelude.{◌≡◌, ◌<◌, ◌↔◌, IsTrue, IsSome, IfNone, IfOk, IfErr, IfSome, length, All};
+ghost use Rattle.std.specs.Prelude.{◌≡◌, ◌<◌, ◌≤◌, ◌^◌, ◌↔◌, IsTrue, IsSome, IfNone, IfOk, IfErr, IfSome, length, All};
 ghost use Rattle.icu_trie_core.specs.ValueNumbers.{type_number};
-ghost use Rattle.icu_collections_c.specs.Building.{AnswersBytes, AreFitting, IsBuilt, IsForm, IsTooLargeFor, IsWhyNotBuilt, written_whole};
+ghost use Rattle.icu_collections_c.specs.Building.{AnswersBytes, AreFitting, IsBuilt, IsForm, IsTooLargeFor, IsWhyNotBuilt, fast_end, most_blocks, most_bytes, most_data, most_index, written_whole};
 ghost use Rattle.icu_collections_c.specs.BytesTrie.{fitting_in};
 ghost use Rattle.icu_collections_c.specs.Inside.BuiltValues.{AreWritesOf, IsBuiltOf, IsTooLargeOf};
 
@@ -168,6 +168,52 @@ fn built(
         4 => built_in::<u32>(alloc, rows, default, error, trie_type),
         _ => Err(Refusal::Form),
     }
+}
+
+/// How many different ones so many rows leave among so many aligned blocks.
+fn most_blocks(count: usize, blocks: u64) -> u64
+    requires { blocks < 2 ^ 32 }
+    ensures { result ≡ most_blocks count blocks }
+{
+    // More rows than there are blocks make no difference.
+    (3 * (count as u64).min(blocks) + 1).min(blocks)
+}
+
+/// How many cells of data so many rows take below and above a fast limit.
+fn most_data(count: usize, limit: u64) -> u64
+    requires { limit ≤ 0x10000 }
+    ensures { result ≡ most_data count limit }
+{
+    let fast = most_blocks(count, limit / 64);
+    let small = most_blocks(count, (0x110000 - limit) / 16);
+    64 * fast + 16 * small + 160
+}
+
+/// How many cells of index so many rows take above a fast limit.
+fn most_index(count: usize, limit: u64) -> u64
+    requires { limit ≤ 0x10000 }
+    ensures { result ≡ most_index count limit }
+{
+    36 * most_blocks(count, (0x110000 - limit) / 512) + 3200
+}
+
+/// A number of bytes that a trie of so many rows never exceeds, as [`bks_trie_build`] builds it of
+/// this type and this width: a buffer of so many is always large enough. 0 where there is no such
+/// type or no such width.
+///
+/// Most tries are much smaller. From about 23,000 rows on the bound stays what all blocks of the
+/// code space take, below five million bytes.
+#[unsafe(no_mangle)]
+pub extern "C" fn bks_trie_bound(count: usize, trie_type: u32, width: u32) -> u64
+    ensures known { IsForm trie_type width → result ≡ most_bytes count trie_type width }
+    ensures none { ¬ IsForm trie_type width → result ≡ 0 }
+{
+    if trie_type > 1 || !matches!(width, 1 | 2 | 4) {
+        return 0;
+    }
+    let limit = if trie_type == 0 { 0x10000 } else { 0x1000 };
+    let cells = most_index(count, limit) + 1;
+    16 + 2 * cells + u64::from(width) * most_data(count, limit)
 }
 
 /// Writes the bytes into the front of a buffer that has room for all of them.

@@ -1,7 +1,8 @@
 -- Tries that are built of rows, over values of any type by their numbers.
-use Rattle.std.specs.Prelude.{◌≡◌, ℕ, ◌<◌, ◌⊎◌, List, length, map, Option, Some, option_map}
+use Rattle.std.specs.Prelude.{◌≡◌, ℕ, ◌<◌, ◌≤◌, ◌⊎◌, List, length, map, Option, Some, option_map}
 use Rattle.icu_trie.specs.Parts.{Parts, trie_value}
 use Rattle.icu_trie.specs.Ranges.{IsCoherentTrie}
+use Rattle.icu_trie_core.specs.ValueNumbers.{type_number}
 use Rattle.icu_trie_core.specs.declared.header.TrieType.{TrieType}
 use Rattle.icu_trie_binary.specs.BinaryTrie.{IsStored}
 use Rattle.icu_trie_binary.specs.WrittenTrie.{why_not_written}
@@ -13,7 +14,7 @@ use Rattle.icu_trie_builder.specs.Bounds.{IsTooLarge}
 use Rattle.icu_trie_builder.specs.Built.{IsWellBuilt}
 use Rattle.icu_trie_builder.specs.Writes.{first_of, last_of, value_of}
 use Rattle.icu_trie_builder.specs.declared.writes.Write.{Write}
-use Rattle.icu_collections_c.specs.Building.{row_answer, row_value}
+use Rattle.icu_collections_c.specs.Building.{most_bytes, row_answer, row_value}
 use Rattle.icu_collections_c.specs.declared.building.Row.{Row}
 use Rattle.icu_collections_c.specs.declared.building.Refusal.{Refusal}
 use Rattle.icu_collections_c.specs.declared.building.Refusal.TheVariants as Refused
@@ -43,13 +44,14 @@ module _ {T : Type 0} (number : T → ℕ) where
     pub answers : (u : ℕ)
         → option_map number (trie_value t u) ≡ Some (row_answer rows default error u)
 
-  -- the bytes are, whole, such a trie, which is coherent
+  -- the bytes are, whole, such a trie, which is coherent, and no more than such rows take
   pub record IsBuiltOf (unpack : List ℕ → Option T) (width : ℕ) (of_number : ℕ → Option T)
       (rows : List Row) (default error : ℕ) (kind : TrieType) (bytes : List ℕ) : Type 0 where
     pub trie : Parts T
     pub stored : IsStored unpack width number of_number bytes trie (length bytes)
     pub of_rows : IsTrieOfNumbers rows default error kind trie
     pub coherent : IsCoherentTrie of_number trie
+    pub size : length bytes ≤ most_bytes (length rows) (type_number kind) width
 
   -- the map is too large for a trie, or such a trie for the form
   abbrev pub IsTooLargeOf : (ℕ → Option T) → ℕ → List Row → ℕ → ℕ → TrieType → Type 0

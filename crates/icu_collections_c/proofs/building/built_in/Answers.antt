@@ -3,6 +3,7 @@ use Rattle.std.proofs.Common.{◌≡◌, ◌∙◌, Err, ap, rules}
 use Rattle.std.proofs.lemmas.Result.{err_from_is_err_and}
 use Rattle.icu_trie_binary.specs.WrittenTrie.{stored_form}
 use Rattle.icu_trie_builder.specs.Writes.{value_after}
+use Rattle.icu_collections_c.proofs.BoundLemmas.{size-of_rows}
 use Rattle.icu_collections_c.proofs.CoherenceLemmas.{coherent-stored_form}
 use Rattle.icu_collections_c.proofs.BuildingLemmas.{AreFitting-from, stored-of_rows, too_large-of_rows, trie-of_rows, well-of_rows, why-build, why-write}
 use Rattle.icu_collections_c.specs.Inside.BuiltValues.{AreWritesOf, of_build, of_write}
@@ -76,4 +77,6 @@ returns-clause-built g c =
           c.in_ok-trie.trie c.in_ok-trie.ensures.answers c.args.trie_type c.in_ok-trie.ensures.trie_type width;
       coherent = coherent-stored_form g.T.TrieValue.of_number number width (value_after c.deref.result.now d) e
           c.in_ok-trie.trie c.in_ok-trie.ensures.answers c.in_ok-trie.ensures.built c.in_ok-to_binary.ensures.room c.parts.ensures.whole;
+      size = size-of_rows number d c.deref.result.now rows is g.T.TrieValue.of_number c.in_ok-trie.trie c.args.trie_type
+          c.in_ok-trie.ensures.trie_type c.in_ok-trie.ensures.built width _ c.in_ok-to_binary.ensures.len;
     }
