@@ -61,7 +61,7 @@ enum bks_status {
 enum bks_refusal {
     BKS_NO_MEMORY = -1,  /* malloc refused */
     BKS_NO_SET = -2,     /* a list that bks_set_test refuses */
-    BKS_NO_TRIE = -2,    /* a trie that bks_trie_open has not made */
+    BKS_NO_TRIE = -2,    /* a trie that bks_trie_open has not made; units that are no trie */
     BKS_NO_TEXT = -3,    /* bytes that are no UTF-8 */
     BKS_NO_KEY = -4,     /* a text that no key of a unit trie begins */
     BKS_NO_FORM = -5,    /* a type or a width that tries don't have */
@@ -295,6 +295,11 @@ uint32_t bks_units_step(const void *units, size_t size, bks_cursor *cursor, uint
  * no key ends, and *value stays. */
 bool bks_units_value(const void *units, size_t size, const bks_cursor *cursor, int32_t *value);
 
+/* [m] How many entries a unit trie has, at most 2^63 - 1. Its nodes are gone through twice, however
+ * many entries they have, so this also tells in time whether units of a stranger are a trie at all.
+ * BKS_NO_MEMORY or BKS_NO_TRIE. */
+int64_t bks_units_count(const void *units, size_t size);
+
 /* [m] The entries of a unit trie in unit order: UCharsTrie::Iterator. Answers how many there are, and
  * in *texts_size how many bytes their texts take, where a text is a key in UTF-8 with a lone
  * surrogate as U+FFFD. `words` has the first of them, as many as there is room for in `words` and
@@ -302,8 +307,8 @@ bool bks_units_value(const void *units, size_t size, const bks_cursor *cursor, i
  * room first, or again with more. BKS_NO_MEMORY, or BKS_TOO_LARGE of 2^63 entries or bytes; then
  * nothing is written.
  *
- * List what you trust: 4 k units of a stranger can have 2^k entries. Of units that are no trie the
- * entries are what their nodes say, as far as they go. */
+ * 4 k units of a stranger can have 2^k entries: ask bks_units_count first. Of units that are no trie
+ * the entries are what their nodes say, as far as they go. */
 int64_t bks_units_list(const void *units, size_t size, bks_word *words, size_t words_room,
                        char *texts, size_t texts_room, size_t *texts_size);
 

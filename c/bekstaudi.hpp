@@ -400,8 +400,16 @@ public:
         return bytes;
     }
 
-    // All entries in unit order, each key as UTF-8, with a lone surrogate as U+FFFD. List what you
-    // trust: few units of a stranger can have very many entries.
+    // How many entries there are, at most 2^63 - 1; none where the units are no trie.
+    std::optional<std::uint64_t> count() const {
+        std::int64_t answer = bks_units_count(units_.data(), units_.size());
+        if (answer == BKS_NO_MEMORY) throw std::bad_alloc();
+        return answer < 0 ? std::nullopt
+                          : std::optional<std::uint64_t>(static_cast<std::uint64_t>(answer));
+    }
+
+    // All entries in unit order, each key as UTF-8, with a lone surrogate as U+FFFD. Few units of a
+    // stranger can have very many entries: ask count() first.
     std::vector<std::pair<std::string, std::int32_t>> entries() const {
         std::vector<bks_word> words(1);
         std::string texts(1, '\0');

@@ -149,6 +149,7 @@ def _library():
     calls["bks_units_longest_utf8"] = (ctypes.c_int64, [*units, *_TEXT, value])
     room = ctypes.POINTER(ctypes.c_size_t)
     words = [ctypes.POINTER(_Word), ctypes.c_size_t]
+    calls["bks_units_count"] = (ctypes.c_int64, [*units])
     calls["bks_units_list"] = (ctypes.c_int64, [*units, *words, *_BYTES, room])
     sizes, values = [room, ctypes.c_size_t], [value, ctypes.c_size_t]
     calls["bks_units_build"] = (ctypes.c_int64, [*key, *sizes, *values, *_BYTES])
@@ -418,8 +419,8 @@ class UnitTrie:
 
     def items(self):
         """The keys and the values, in the order of the keys' units: a list of pairs. A lone surrogate
-        of a key is shown as U+FFFD. List what you trust: few units of a stranger can have very many
-        entries."""
+        of a key is shown as U+FFFD. Few units of a stranger can have very many entries: ask `count`
+        first."""
         count, size = 0, ctypes.c_size_t(0)
         while True:
             words, texts = (_Word * (count + 1))(), ctypes.create_string_buffer(size.value + 1)
@@ -433,6 +434,11 @@ class UnitTrie:
             (shown[it.start : it.start + it.size].decode("utf-8"), it.value)
             for it in words[:found]
         ]
+
+    def count(self):
+        """How many entries there are, at most 2 ** 63 - 1; None where the units are no trie."""
+        found = _lib.bks_units_count(*self._units)
+        return None if found == -2 else _count(found, self._REFUSALS)
 
     def __iter__(self):
         return (key for key, _ in self.items())

@@ -97,6 +97,8 @@ static int64_t listed(const char *said, bks_word *words, size_t room, char *text
     memcpy(moved, units, n);
     moved[n] = 0x61; /* an odd last byte is no unit */
     int64_t count = bks_units_list(moved, n + 1, words, room, texts, MOST, size);
+    int64_t counted = bks_units_count(moved, n + 1);
+    CHECK(counted == count || counted == BKS_NO_TRIE);
     released(moved, n + 1);
     return count;
 }
@@ -118,6 +120,28 @@ static void listings(void) {
     CHECK(listed("30 61 FFFF", words, 4, texts, &size) == 1 && words[0].value == 0);
 }
 
+/* How many entries units have. */
+static int64_t counted(const char *said) {
+    uint8_t units[MOST * 4];
+    return bks_units_count(units, read_units(said, units));
+}
+
+static void counts(void) {
+    CHECK(counted("") == 0 && counted("8007") == 1 && counted("30 61 B0 62 8002") == 2);
+    CHECK(counted("30") == BKS_NO_TRIE && counted("30 61") == BKS_NO_TRIE);
+    CHECK(counted("30 61 FFFF") == BKS_NO_TRIE && counted("1 62 8001 61 8002") == BKS_NO_TRIE);
+    CHECK(counted("1 61 8001 62 8002") == 2);
+}
+
+/* So many levels of four units, of which both arms lead to the next one, and a value or none. */
+static int64_t levels(size_t levels, bool has_value) {
+    static const uint16_t level[] = {1, 'a', 1, 'b'};
+    uint16_t units[4 * 80 + 1];
+    for (size_t k = 0; k < levels; k++) memcpy(units + 4 * k, level, sizeof level);
+    units[4 * levels] = 0x8005;
+    return bks_units_count(units, 8 * levels + (has_value ? 2 : 0));
+}
+
 /* Four units a level, of which both arms lead to the next one: 2^12 entries. */
 static void doubled(void) {
     enum { LEVELS = 12 };
@@ -134,12 +158,17 @@ static void doubled(void) {
           == 1 << LEVELS);
     CHECK(size == sizeof texts && words[1].start == LEVELS && words[1].value == 5);
     CHECK(memcmp(texts + LEVELS, "aaaaaaaaaaab", LEVELS) == 0);
+    CHECK(bks_units_count(units, sizeof units) == 1 << LEVELS);
+    CHECK(levels(40, true) == (int64_t)1 << 40 && levels(40, false) == BKS_NO_TRIE);
+    CHECK(levels(62, true) == (int64_t)1 << 62 && levels(63, true) == INT64_MAX);
+    CHECK(levels(80, true) == INT64_MAX && levels(80, false) == BKS_NO_TRIE);
 }
 
 int main(void) {
     for (size_t i = 0; i < sizeof rows / sizeof rows[0]; i++) is_row(rows + i);
     refused();
     listings();
+    counts();
     doubled();
     printf("%zu rows\n", sizeof rows / sizeof rows[0]);
     return 0;

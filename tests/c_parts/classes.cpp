@@ -176,7 +176,8 @@ static void unit_tries_built() {
     CHECK(!trie[u"b"] && trie.longest(u"abc")->value == 2);
     const entries wanted = {
         {"", -7}, {"a", 1}, {"ab", 2}, {"\uFFFD", 3}, {"\U0001F600", INT32_MIN}};
-    CHECK(trie.entries() == wanted);
+    CHECK(trie.entries() == wanted && trie.count() == 5u);
+    CHECK(!bekstaudi::unit_trie("0", 2).count());
     CHECK(bekstaudi::unit_trie::build(std::map<std::u16string, int32_t>()).empty());
     CHECK(bekstaudi::unit_trie(nullptr, 0).entries().empty());
     auto refusal_of = [](std::u16string_view key) {

@@ -59,8 +59,9 @@ static int64_t units_built(void) {
     static const int32_t values[] = {2, 1, 0, -1};
     return bks_units_build(keys, 5, lengths, 4, values, 4, ends, sizeof ends);
 }
+static const uint8_t units[] = {0x30, 0, 0x61, 0, 0xB0, 0, 0x62, 0, 2, 0x80};
+static int64_t counted(void) { return bks_units_count(units, sizeof units); }
 static int64_t listed(void) {
-    static const uint8_t units[] = {0x30, 0, 0x61, 0, 0xB0, 0, 0x62, 0, 2, 0x80};
     size_t size = 0x77777777;
     int64_t count = bks_units_list(units, sizeof units, (bks_word *)ends, 4, (char *)(ends + 64), 64,
                                    &size);
@@ -88,7 +89,7 @@ static long refused_in_turn(call tried) {
 
 int main(int count, char **words) {
     static const call calls[] = {set_of, set_of_none, size, span, both, either, without, one_of,
-                                 frozen,      built,       units_built, listed};
+                                 frozen, built,       units_built, counted, listed};
     long made = 0;
     for (int i = 1; i < count; i++) {
         size_t bytes;

@@ -210,6 +210,7 @@ class UnitTries(unittest.TestCase):
         shown = [("", -7), ("a", 1), ("ab", 2), ("\ufffd", 3), ("\U0001f600", -(1 << 31))]
         self.assertEqual(trie.items(), shown)
         self.assertEqual(list(trie), [key for key, _ in shown])
+        self.assertEqual((trie.count(), UnitTrie(b"").count(), UnitTrie(b"\x30\0").count()), (5, 0, None))
         self.assertEqual(UnitTrie.build([([0x61], 1), ("ab", 2)]).data.hex(), "30006100b00062000280")
         self.assertEqual((UnitTrie.build({}).data, UnitTrie.build({}).items()), (b"", []))
         many = {f"{it:x}": it for it in range(5000)}

@@ -1,5 +1,5 @@
--- The entries of a unit trie that C is given.
-use Rattle.std.specs.Prelude.{◌≡◌, ◌⊎◌, ◌+◌, ◌-◌, ◌^◌, ◌≤◌, ◌&&◌, nat_lt, nat_le, ℕ, ℤ, pos, negsuc, List, [], ◌∷◌, length, map, All, if◌then◌else◌}
+-- The entries of a unit trie that C is given, and of how many it is.
+use Rattle.std.specs.Prelude.{◌≡◌, ◌⊎◌, ◌+◌, ◌-◌, ◌^◌, ◌≤◌, ◌&&◌, nat_lt, nat_le, min, ℕ, zero, suc, ℤ, pos, negsuc, List, [], ◌∷◌, length, map, All, if◌then◌else◌}
 use Rattle.std.specs.List.{flat_map}
 use Rattle.std.specs.Str.{IsUtf8}
 use Rattle.icu_char16trie.specs.Grammar.{IsTrieOf}
@@ -58,3 +58,17 @@ AnswersListing units words words' texts texts' size size' told =
     ⊎ ((told ≡ negsuc 6) × AreTooMany items
     × (words' ≡ words) × (texts' ≡ texts) × (size' ≡ size))))
     ⊎ ((told ≡ negsuc 0) × (words' ≡ words) × (texts' ≡ texts) × (size' ≡ size))
+
+-- the units are a trie of no map
+abbrev pub AreNoTrie : List ℕ → Type 0
+AreNoTrie units = (m : UnitMap) → IsTrieOf units m → ⊥
+
+-- how many entries the map has of which the units are a trie, and 2^63 - 1 where they are more; or
+-- -1 where memory was refused; -2 where they are no trie
+abbrev pub AnswersCount : List ℕ → ℤ → Type 0
+AnswersCount units (pos n) =
+    ¬ (AreNoTrie units)
+    × ((m : UnitMap) → IsTrieOf units m → n ≡ min (length m) (2 ^ 63 - 1))
+AnswersCount units (negsuc zero) = Unit {0}
+AnswersCount units (negsuc (suc zero)) = AreNoTrie units
+AnswersCount units (negsuc (suc (suc n))) = ⊥

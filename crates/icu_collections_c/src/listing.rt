@@ -1,7 +1,9 @@
-//! The entries of unit tries.
-ghost use Rattle.std.specs.Prelude.{◌≡◌, ◌<◌, ◌≤◌, ◌^◌, ◌⊎◌, ℕ, ℤ, List, [], ◌∷◌, ◌++◌, IfOk, OnOk};
+//! The entries of unit tries, and how many there are.
+ghost use Rattle.std.specs.Prelude.{◌≡◌, ◌↔◌, ◌<◌, ◌≤◌, ◌-◌, ◌^◌, ◌⊎◌, Some, None, length, min, ℕ, ℤ, List, [], ◌∷◌, ◌++◌, IfOk, OnOk};
+ghost use Rattle.icu_char16trie.specs.Grammar.{IsTrieOf};
+ghost use Rattle.icu_char16trie.specs.UnitMap.{UnitMap};
 ghost use Rattle.icu_collections_c.specs.Inside.Listed.{HasSameRoom, IsKept, IsKeptOut, IsListed, IsListingOf};
-ghost use Rattle.icu_collections_c.specs.Listing.{AnswersListing};
+ghost use Rattle.icu_collections_c.specs.Listing.{AnswersCount, AnswersListing, AreNoTrie};
 ghost use Rattle.icu_collections_c.specs.UnitTries.{units_of};
 
 use crate::buffers::write;
@@ -107,13 +109,39 @@ fn listed(
     Ok(listing)
 }
 
+/// How many entries there are, by the library's own count.
+fn counted(alloc: Global, units: &[u8]) -> Result<Option<u64>, MemoryError>
+    ensures some { IfOk result (λ told. (m : UnitMap) → IsTrieOf (units_of units.now) m
+        → told ≡ Some (min (length m) (2 ^ 64 - 1))) }
+    ensures none { IfOk result (λ told. told ≡ None ↔ AreNoTrie (units_of units.now)) }
+{
+    trie_in(units).count_entries(alloc)
+}
+
+/// How many entries a unit trie has, and 2 ^ 63 - 1 where it has more. It goes through each node
+/// twice, however many entries there are: so who has units from a stranger asks this before they
+/// are listed.
+///
+/// # Errors
+/// -1 where memory was refused; -2 where the units are no trie.
+#[unsafe(no_mangle)]
+pub extern "C" fn bks_units_count(alloc: Global, units: &[u8]) -> i64
+    ensures { AnswersCount (units_of units.now) result }
+{
+    match counted(alloc, units) {
+        Ok(Some(count)) => count.min(MOST as u64) as i64,
+        Ok(None) => -2,
+        Err(_) => -1,
+    }
+}
+
 /// The entries of a unit trie in unit order (UCharsTrie::Iterator): how many there are, and in
 /// `texts_size` how many bytes their texts take. The text of an entry is its key in UTF-8, a lone
 /// surrogate as U+FFFD. `words` has the first entries, as many as it has room for and as `texts`
 /// has room for their texts: that of word `w` is `texts[w.start..w.start + w.size]`.
 ///
-/// Units of a stranger may have 2 ^ k entries in 4 k units: list what you trust. On units that are
-/// no trie the entries are what their nodes say as far as they go.
+/// Units of a stranger may have 2 ^ k entries in 4 k units: ask [`bks_units_count`] first. On units
+/// that are no trie the entries are what their nodes say as far as they go.
 ///
 /// # Errors
 /// -1 where memory was refused; -7 of 2 ^ 63 entries or bytes, or more. Nothing is then written.
