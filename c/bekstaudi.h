@@ -202,9 +202,10 @@ int64_t bks_trie_set(const bks_trie *trie, uint32_t value, uint32_t *ends, size_
  *
  * Answers how many bytes the trie takes. They are in `bytes` where there is room for all of them,
  * and else `bytes` is unchanged: give it bks_trie_bound bytes, or ask with no room first, or again
- * with more. bks_open opens them, as a coherent trie. Where none is built, the first of these that there is cause for: BKS_NO_FORM;
- * BKS_WIDE_VALUE, of a row, of the default or of the error value; BKS_TOO_LARGE, for its number of
- * blocks only above 256 rows; or BKS_NO_MEMORY, which may come before BKS_TOO_LARGE. */
+ * with more. bks_open opens them, as a coherent trie. Where none is built, the first of these that
+ * there is cause for: BKS_NO_FORM; BKS_WIDE_VALUE, of a row, of the default or of the error value;
+ * BKS_TOO_LARGE, for its number of blocks only above 256 rows; or BKS_NO_MEMORY, which may come
+ * before BKS_TOO_LARGE. */
 int64_t bks_trie_build(const bks_row *rows, size_t count, uint32_t default_value,
                        uint32_t error_value, uint32_t type, uint32_t width, void *bytes,
                        size_t room);
