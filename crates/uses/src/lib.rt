@@ -4,6 +4,7 @@
 //! - `tables`: properties of characters in tries that are built, stored and read
 //! - `sets`: sets of code points
 //! - `words`: word lists in unit tries
+//! - `texts`: a quick check of a text, as a normalizer makes it
 //! - `own_cells`: a look-up over cells of the caller's own, which counts its reads
 //! - `categories`: an enum of the caller's own as the value of a trie
 //! - `built`: what is known of a built trie beside its answers
@@ -20,4 +21,5 @@ pub mod sets;
 pub mod stored;
 pub mod strangers;
 pub mod tables;
+pub mod texts;
 pub mod words;

@@ -1,0 +1,23 @@
+//! What a normalizer asks of a text before it copies it.
+ghost use Rattle.std.specs.Prelude.{◌≡◌, ◌↔◌, IsTrue, Some};
+ghost use Rattle.std.specs.List.{All};
+ghost use Rattle.std.specs.Str.{chars};
+ghost use Rattle.icu_collections.specs.CodePointTrie.{trie_value};
+
+use icu_collections::codepointtrie::CodePointTrie;
+use icu_collections::codepointtrie::text::find_value;
+
+/// The value of the characters that no step of normalization changes.
+const YES: u8 = 1;
+
+/// Whether each character of the text has the value 1 in the table, as those have that are normal
+/// wherever they stand. A text of such characters alone is normal as it is.
+///
+/// ```
+/// // is_surely_normal(&table, "ab") is true where 'a' and 'b' have 1
+/// ```
+pub fn is_surely_normal(table: &CodePointTrie<'_, u8>, text: &str) -> bool
+    ensures { IsTrue result ↔ All (λ c. trie_value table.now c ≡ Some 1) (chars text.now) }
+{
+    find_value(table, text, |value| value != YES).is_none()
+}
