@@ -3,7 +3,7 @@ ghost use Rattle.std.specs.Prelude.{◌≡◌, List, [], ◌∷◌, IfSome, Ok, 
 ghost use Rattle.std.specs.Char.Escape.{encode_utf16};
 ghost use Rattle.std.specs.List.{flat_map};
 ghost use Rattle.std.specs.Str.{chars};
-ghost use Rattle.icu_collections.specs.Char16Trie.{AreEntries, IsLongestMatch, IsTrieOf, UnitMap, goes_on, result_of, value_of};
+ghost use Rattle.icu_collections.specs.Char16Trie.{AreEntries, IsLongestMatch, IsTrieOf, UnitMap, after_all, goes_on, result_of, value_of};
 ghost use Rattle.uses.specs.Listing.{bytes_and_number};
 
 use icu_collections::char16trie::{Char16Trie, Char16TrieBuilder, TrieResult};
@@ -39,6 +39,24 @@ pub fn list_of(alloc: Global, trie: &Char16Trie<'_>) -> Option<Vec<(String, i32)
     let mut list = Vec::new(alloc);
     for item in trie.iter2(alloc) {
         list.push(item.ok()?).ok()?;
+    }
+    Some(list)
+}
+
+/// The words of a trie that go on from a prefix, each without it, in unit order, with their
+/// numbers. `None` where memory is refused.
+pub fn completions(alloc: Global, trie: &Char16Trie<'_>, prefix: &str) -> Option<Vec<(String, i32)>>
+    ensures { IfSome result (λ list. (m : UnitMap) → IsTrieOf trie.now m
+        → AreEntries (map Ok list.items)
+        (after_all (flat_map encode_utf16 (chars prefix.now)) m)) }
+{
+    let mut cursor = trie.cursor();
+    let _ = cursor.write_str(prefix);
+    let mut entries = cursor.entries(alloc);
+    let mut list = Vec::new(alloc);
+    while entries.advance().ok()? {
+        let text = String::from_str(alloc, entries.key()).ok()?;
+        list.push((text, entries.value())).ok()?;
     }
     Some(list)
 }
