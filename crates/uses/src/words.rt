@@ -1,10 +1,11 @@
 //! Word lists in unit tries.
-ghost use Rattle.std.specs.Prelude.{◌≡◌, List, [], ◌∷◌, IfSome, Ok, codes, map, not, pos};
+ghost use Rattle.std.specs.Prelude.{◌≡◌, ◌<◌, ◌≤◌, List, [], ◌∷◌, IfSome, Ok, codes, length, map, not, pos};
 ghost use Rattle.std.specs.Char.Escape.{encode_utf16};
 ghost use Rattle.std.specs.List.{flat_map};
 ghost use Rattle.std.specs.Str.{chars};
 ghost use Rattle.icu_collections.specs.Char16Trie.{AreEntries, IsLongestMatch, IsTrieOf, UnitMap, after_all, goes_on, result_of, value_of};
 ghost use Rattle.uses.specs.Listing.{bytes_and_number};
+ghost use Rattle.uses.specs.Pieces.{AreWords, IsFirstWord};
 
 use icu_collections::char16trie::{Char16Trie, Char16TrieBuilder, TrieResult};
 use std::alloc::Global;
@@ -79,4 +80,43 @@ pub fn longest_word(trie: &Char16Trie<'_>, text: &[u16]) -> Option<(usize, i32)>
     ensures { (m : UnitMap) → IsTrieOf trie.now m → IsLongestMatch m text.now result }
 {
     trie.longest_match(text)
+}
+
+/// How many units the first word of a text has: those of the longest key of the dictionary that
+/// begins it, or one, where no key but the empty one does.
+fn first_word(dictionary: &Char16Trie<'_>, text: &[u16]) -> usize
+    requires { 0 < length text.now }
+    ensures word { (m : UnitMap) → IsTrieOf dictionary.now m → IsFirstWord m text.now result }
+    ensures some { 0 < result }
+    ensures within { result ≤ length text.now }
+{
+    match dictionary.longest_match(text) {
+        Some((units, _)) if units > 0 => units,
+        _ => 1,
+    }
+}
+
+/// A text cut into words: how many units each one has, in their order. At each place the word is
+/// the longest key of the dictionary that stands there, or one unit, where no key but the empty one
+/// does. `None` where memory is refused.
+///
+/// ```
+/// // of "abxa" by the words "a" and "ab" it is 2, 1, 1
+/// ```
+pub fn cut_into_words(
+    alloc: Global,
+    dictionary: &Char16Trie<'_>,
+    text: &[u16],
+) -> Option<Vec<usize>>
+    ensures { IfSome result (λ lengths. (m : UnitMap) → IsTrieOf dictionary.now m
+        → AreWords m text.now lengths.items) }
+{
+    let mut lengths = Vec::new(alloc);
+    let mut rest = text;
+    while !rest.is_empty() {
+        let length = first_word(dictionary, rest);
+        lengths.push(length).ok()?;
+        rest = &rest[length..];
+    }
+    Some(lengths)
 }
