@@ -15,7 +15,7 @@ use icu_collections::zerovec::{MemoryError, ZeroVec};
 use std::alloc::Global;
 use std::process::Abort;
 use uses::categories::Category;
-use uses::{built, categories, own_cells, sets, strangers, tables, words};
+use uses::{built, categories, own_cells, sets, strangers, tables, texts, words};
 
 /// The set of these ends.
 fn set_of(rt: &(impl Abort + AllocGlobal), ends: &[u32]) -> CodePointInversionList<'static> {
@@ -196,6 +196,60 @@ fn words_that_are_listed(rt: HostRuntime) {
         rt.panic("listed");
     };
     expect(&rt, are_two_words(list), "a and ab");
+}
+
+/// Whether the list is what goes on from "a": nothing more, and "b".
+fn are_behind_a(list: Vec<(String, i32)>) -> bool {
+    if let [(none, one), (rest, two)] = list.as_slice() {
+        return none.as_str() == "" && *one == 1 && rest.as_str() == "b" && *two == 2;
+    }
+    false
+}
+
+#[test]
+fn words_that_go_on(rt: HostRuntime) {
+    let Ok(trie) = word_trie(rt.alloc()) else {
+        rt.panic("trie");
+    };
+    let Some(list) = words::completions(rt.alloc(), &trie, "a") else {
+        rt.panic("completions");
+    };
+    expect(&rt, are_behind_a(list), "nothing more, and b");
+}
+
+/// The text is cut into words of so many units.
+fn expect_cut(
+    rt: &(impl Abort + AllocGlobal),
+    trie: &Char16Trie<'_>,
+    text: &[u16],
+    wanted: &[usize],
+) {
+    let same = match words::cut_into_words(rt.alloc(), trie, text) {
+        Some(lengths) => lengths.as_slice() == wanted,
+        None => false,
+    };
+    expect(rt, same, "the lengths");
+}
+
+#[test]
+fn texts_cut_into_words(rt: HostRuntime) {
+    let Ok(trie) = word_trie(rt.alloc()) else {
+        rt.panic("trie");
+    };
+    expect_cut(&rt, &trie, &[0x61, 0x62, 0x78, 0x61], &[2, 1, 1]);
+    expect_cut(&rt, &trie, &[0x62, 0x61, 0x61, 0x62], &[1, 1, 2]);
+    expect_cut(&rt, &trie, &[], &[]);
+}
+
+#[test]
+fn texts_that_are_normal(rt: HostRuntime) {
+    let Ok(trie) = build_from_writes(rt.alloc(), 0u8, 9, TrieType::Small, &rows()) else {
+        rt.panic("built");
+    };
+    expect(&rt, texts::is_surely_normal(&trie, ""), "empty");
+    expect(&rt, texts::is_surely_normal(&trie, "ABY"), "of 1 alone");
+    expect(&rt, !texts::is_surely_normal(&trie, "ABZ"), "Z has 2");
+    expect(&rt, !texts::is_surely_normal(&trie, "A1"), "1 has 0");
 }
 
 #[test]
