@@ -207,11 +207,13 @@ fn entries_of_one_length_quiet(rt: HostRuntime) {
         return;
     };
     let mut entries = trie.entries(rt.alloc());
-    let first = entries.advance().ok();
+    let Ok(first) = entries.advance() else {
+        return;
+    };
     say(&rt, "call");
     let last = last_listed(&mut entries).ok();
     say(&rt, "done");
-    expect_same(&rt, (first, last), (Some(true), Some(6)), "the values");
+    expect_same(&rt, (first, last), (true, Some(6)), "the values");
 }
 
 /// There are six units, or memory was refused.
