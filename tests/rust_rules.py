@@ -32,7 +32,7 @@ TEST_RULES = [
     (r"\b(assert|assert_eq|assert_ne|panic)!\(&?rt;\s*", r"\1!("),
     (r"\.expect\(&?rt, ", ".expect("),
     (r"\(impl Abort \+ AllocGlobal\)", "impl Abort"),
-    (r"impl Abort \+ AllocGlobal\b", "impl Abort"),
+    (r"impl (?:Abort \+ )?AllocGlobal\b", "impl Abort"),
     (r"\.clone\(\)(?:\.ok\(\))?\?", ".clone()"),
     (r"\.collect(?:::<Vec<_>>)?\((rt\.alloc\(\)|alloc)\)", ".listed()"),
     (r"\.sort\((?:rt\.alloc\(\)|alloc)?\)\?", ".sort()"),

@@ -158,6 +158,9 @@ pub(crate) trait TryString: Sized {
 
     /// Adds a character.
     fn try_push(&mut self, c: char) -> Result<(), AllocError>;
+
+    /// Adds a text.
+    fn try_push_str(&mut self, text: &str) -> Result<(), AllocError>;
 }
 
 impl TryString for String {
@@ -176,6 +179,12 @@ impl TryString for String {
     fn try_push(&mut self, c: char) -> Result<(), AllocError> {
         self.try_reserve(c.len_utf8()).map_err(|_| AllocError)?;
         self.push(c);
+        Ok(())
+    }
+
+    fn try_push_str(&mut self, text: &str) -> Result<(), AllocError> {
+        self.try_reserve(text.len()).map_err(|_| AllocError)?;
+        self.push_str(text);
         Ok(())
     }
 }

@@ -35,16 +35,11 @@ impl Print for HostRuntime {}
 /// A text that grows, where there is memory for it.
 pub(crate) trait Text {
     fn write_fmt(&mut self, arguments: fmt::Arguments<'_>) -> Result<(), AllocError>;
-    fn try_push_str(&mut self, text: &str) -> Result<(), AllocError>;
 }
 
 impl Text for String {
     fn write_fmt(&mut self, arguments: fmt::Arguments<'_>) -> Result<(), AllocError> {
         fmt::write(&mut Growing(self), arguments).map_err(|_| AllocError)
-    }
-
-    fn try_push_str(&mut self, text: &str) -> Result<(), AllocError> {
-        fmt::Write::write_str(&mut Growing(self), text).map_err(|_| AllocError)
     }
 }
 

@@ -2,7 +2,7 @@
 //!
 //! [`Char16TrieBuilder`] makes a trie, [`Char16Trie::cursor`] and [`Char16Trie::iter`] look up in
 //! it unit by unit, [`Char16Trie::longest_match`] and [`Char16Trie::matches`] find the keys that
-//! begin a text, and [`Char16Trie::iter2`] lists its entries.
+//! begin a text, and [`Char16Trie::iter2`] and [`Char16Trie::entries`] list its entries.
 //!
 //! ```
 //! use bekstaudi::char16trie::{Char16TrieBuilder, Char16TrieCursor};
@@ -22,11 +22,15 @@
 //! let text: Vec<u16> = "hello!".encode_utf16().collect();
 //! assert_eq!(trie.longest_match(&text), Some((5, 7)));
 //! assert_eq!(trie.matches(&text).collect::<Vec<_>>(), [(2, 2), (5, 7)]);
+//! assert_eq!(trie.count_entries(), Some(2));
+//! let mut entries = trie.entries();
+//! assert!(entries.advance() && entries.key() == "he" && entries.value() == 2);
 //! # Ok::<(), Box<dyn std::error::Error>>(())
 //! ```
 
 pub use crate::icu_char16trie::char16trie::{
-    Char16Trie, Char16TrieCursor, Char16TrieIterator, CursorPlace, Iter2, Matches, TrieResult,
+    Char16Trie, Char16TrieCursor, Char16TrieIterator, CursorPlace, Entries, Iter2, Matches,
+    TrieResult,
 };
 #[cfg(feature = "json")]
 pub use crate::icu_char16trie::char16trie::Char16JsonError;
@@ -35,6 +39,7 @@ pub use crate::icu_char16trie_builder::error::{AddError, BuildError};
 
 use crate::plain::{plain, plain_clone};
 use alloc::string::String;
+use alloc::vec::Vec;
 
 plain_clone! {
     impl<'data> Clone for Char16Trie<'data>;
@@ -48,6 +53,46 @@ impl Char16Trie<'_> {
     /// The iterator panics where memory was refused.
     pub fn iter2(&self) -> impl Iterator<Item = (String, i32)> + '_ {
         self.try_iter2().map(plain)
+    }
+
+    /// Whether the units are a trie of some map, as [`try_is_trie`](Self::try_is_trie) tells, which
+    /// answers want of memory.
+    ///
+    /// # Panics
+    /// Where memory was refused.
+    pub fn is_trie(&self) -> bool {
+        plain(self.try_is_trie())
+    }
+
+    /// How many entries there are, `u64::MAX` where they are more, and `None` where the units are
+    /// no trie. [`try_count_entries`](Self::try_count_entries) answers want of memory.
+    ///
+    /// # Panics
+    /// Where memory was refused.
+    pub fn count_entries(&self) -> Option<u64> {
+        plain(self.try_count_entries())
+    }
+}
+
+impl Char16TrieCursor<'_> {
+    /// The units with which some key goes on from here, ascending.
+    /// [`try_next_units`](Self::try_next_units) answers want of memory.
+    ///
+    /// # Panics
+    /// Where memory was refused.
+    pub fn next_units(&self) -> Vec<u16> {
+        plain(self.try_next_units())
+    }
+}
+
+impl Entries<'_> {
+    /// Goes to the next entry: whether there is one. [`try_advance`](Self::try_advance) answers
+    /// want of memory.
+    ///
+    /// # Panics
+    /// Where memory was refused.
+    pub fn advance(&mut self) -> bool {
+        plain(self.try_advance())
     }
 }
 

@@ -62,6 +62,19 @@ fn unit_tries() {
     refused_in_turn("Char16Trie::try_clone", || whole.try_clone().ok());
     refused_in_turn("Iter2::next", || whole.try_iter2().all(|it| it.is_ok()).then_some(()));
     assert_eq!(whole.iter2().count(), 400);
+    refused_in_turn("Char16Trie::try_is_trie", || whole.try_is_trie().ok().filter(|it| *it));
+    refused_in_turn("Char16Trie::try_count_entries", || whole.try_count_entries().ok());
+    refused_in_turn("Char16TrieCursor::try_next_units", || whole.cursor().try_next_units().ok());
+    refused_in_turn("Entries::try_advance", || {
+        let mut entries = whole.entries();
+        let mut count = 0;
+        while entries.try_advance().ok()? {
+            count += 1;
+        }
+        (count == 400).then_some(())
+    });
+    assert_eq!((whole.is_trie(), whole.count_entries()), (true, Some(400)));
+    assert_eq!(whole.cursor().next_units()[..2], [0x61, 0x62]);
 }
 
 #[test]

@@ -114,14 +114,14 @@ impl<'data> Char16Trie<'data> {
     /// It goes through each node twice, whatever the number is, and takes nine bytes for each unit.
     ///
     /// ```text
-    /// // of the map of "a" to 1 and "ab" to 2: trie.count_entries()? is Some(2)
+    /// // of the map of "a" to 1 and "ab" to 2: trie.try_count_entries()? is Some(2)
     /// // of 40 times [1, 0x61, 1, 0x62] and 0x8001: it is Some(1 << 40)
     /// ```
     ///
     /// # Errors
     /// `MemoryError` where memory was refused.
     #[inline]
-    pub fn count_entries(&self) -> Result<Option<u64>, MemoryError> {
+    pub fn try_count_entries(&self) -> Result<Option<u64>, MemoryError> {
         let units = self.data.as_slice();
         if units.is_empty() {
             return Ok(Some(0));

@@ -116,10 +116,10 @@ impl<'a> Char16TrieCursor<'a> {
     ///
     /// ```text
     /// // of the map of "a" to 1, "ab" to 2 and "b" to 3
-    /// let units = trie.cursor().next_units()?; // 0x61 and 0x62: "a" and "b"
+    /// let units = trie.cursor().try_next_units()?; // 0x61 and 0x62: "a" and "b"
     /// ```
     #[inline]
-    pub fn next_units(&self) -> Result<Vec<u16>, MemoryError> {
+    pub fn try_next_units(&self) -> Result<Vec<u16>, MemoryError> {
         let mut list = Vec::new();
         add_units(&mut list, self.units, self.place)?;
         Ok(list)

@@ -1,5 +1,7 @@
 //! The entries of a trie by one buffer.
 
+#[allow(unused_imports)]
+use crate::support::prelude::*;
 use crate::icu_char16trie::place::Place;
 use crate::icu_char16trie::walk::Walk;
 use crate::icu_zerovec::{MemoryError, ZeroSlice};
@@ -39,12 +41,12 @@ impl<'a> Entries<'a> {
     /// ```text
     /// // of the map of "a" to 1 and "ab" to 2
     /// let mut entries = trie.entries();
-    /// while entries.advance()? {
+    /// while entries.try_advance()? {
     ///     // entries.key() and entries.value() are "a" and 1, then "ab" and 2
     /// }
     /// ```
     #[inline]
-    pub fn advance(&mut self) -> Result<bool, MemoryError> {
+    pub fn try_advance(&mut self) -> Result<bool, MemoryError> {
         self.walk.next_entry()
     }
 

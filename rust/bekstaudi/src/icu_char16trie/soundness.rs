@@ -134,7 +134,7 @@ impl<'data> Char16Trie<'data> {
     /// share it; a branch has at most 65,536 entries. It takes one byte for each unit.
     ///
     /// ```text
-    /// // of [0x31, 0x61, 0x62, 0x8003], the map of "ab" to 3: trie.is_trie()? is true
+    /// // of [0x31, 0x61, 0x62, 0x8003], the map of "ab" to 3: trie.try_is_trie()? is true
     /// // of [0x31, 0x61, 0x62], where no node stands behind the linear match, it is false
     /// // of [1, 0x62, 0x8001, 0x61, 0x8002], whose units descend, it is false
     /// ```
@@ -142,7 +142,7 @@ impl<'data> Char16Trie<'data> {
     /// # Errors
     /// `MemoryError` where memory was refused.
     #[inline]
-    pub fn is_trie(&self) -> Result<bool, MemoryError> {
+    pub fn try_is_trie(&self) -> Result<bool, MemoryError> {
         let units = self.data.as_slice();
         if units.is_empty() {
             return Ok(true);

@@ -89,9 +89,9 @@ impl<'data> Char16Trie<'data> {
     /// ```text
     /// // of the map of "a" to 1 and "ab" to 2
     /// let mut entries = trie.entries();
-    /// // entries.advance()? is true: entries.key() is "a" and entries.value() is 1
-    /// // entries.advance()? is true: entries.key() is "ab" and entries.value() is 2
-    /// // entries.advance()? is false
+    /// // entries.try_advance()? is true: entries.key() is "a" and entries.value() is 1
+    /// // entries.try_advance()? is true: entries.key() is "ab" and entries.value() is 2
+    /// // entries.try_advance()? is false
     /// ```
     #[inline]
     pub fn entries(&self) -> Entries<'_> {

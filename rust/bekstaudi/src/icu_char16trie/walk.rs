@@ -55,7 +55,7 @@ impl<'a> Walk<'a> {
             return Ok(());
         };
         self.ended.clear();
-        self.ended.push_str(&self.pending.spelling.text)?;
+        self.ended.try_push_str(&self.pending.spelling.text)?;
         self.ended.try_push(char::REPLACEMENT_CHARACTER)?;
         Ok(())
     }
