@@ -39,8 +39,8 @@ PointsCall ours_typed_8, ours_typed_16, ours_typed_32, rust_typed_8, rust_typed_
 AnswersCall ours_answers_8, ours_answers_16, ours_answers_32, rust_answers_8, rust_answers_16,
     rust_answers_32;
 TextCall ours_text_8, ours_values_8, ours_bytes_8, rust_text_8;
-RangesCall ours_ranges_8, ours_ranges_16, ours_ranges_32, rust_ranges_8, rust_ranges_16,
-    rust_ranges_32;
+RangesCall ours_ranges_8, ours_ranges_16, ours_ranges_32, ours_range_8, rust_ranges_8,
+    rust_ranges_16, rust_ranges_32;
 BuildCall ours_build_8, ours_build_16, ours_build_32;
 uint64_t ours_open_8(const uint8_t *, size_t, size_t turns);
 uint64_t ours_try_new_8(const TrieParts *, size_t turns), rust_try_new_8(const TrieParts *, size_t turns);

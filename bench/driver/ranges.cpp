@@ -51,7 +51,8 @@ static void all_ranges(const std::string &kernel, const Table &table, bool is_fa
     const TrieParts parts = parts_of(trie, bytes, is_fast);
     row(
         kernel, name_of(table, is_fast), TURNS * count(trie.get()),
-        [&] { return ours(&parts, TURNS); }, [&] { return rust(&parts, TURNS); },
+        [&] { return ours(&parts, TURNS); },
+        rust ? Call([&] { return rust(&parts, TURNS); }) : Call(),
         [&] { return over_turns([&](uint64_t sum) { return icu_ranges(trie.get(), sum); }); });
 }
 
@@ -80,6 +81,9 @@ void ranges() {
             if (wanted("ranges_u32"))
                 all_ranges("ranges_u32", table, is_fast, UCPTRIE_VALUE_BITS_32, 4, ours_ranges_32,
                            rust_ranges_32);
+            if (table.greatest <= 0xFF && wanted("range_u8"))
+                all_ranges("range_u8", table, is_fast, UCPTRIE_VALUE_BITS_8, 1, ours_range_8,
+                           nullptr);
             if (table.greatest <= 0xFF && wanted("setfor_u8")) sets_of_values(table, is_fast);
         }
     }

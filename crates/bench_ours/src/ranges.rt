@@ -32,6 +32,39 @@ fn ranges_of<T: TrieValue>(parts: &Parts<'_>, turns: usize) -> u64 {
     }
 }
 
+/// What `sum` becomes when all ranges of a trie are mixed into it, each found by a call of its own.
+#[inline(never)]
+fn mixed_by_calls(trie: &CodePointTrie<'_, u8>, sum: u64) -> u64 {
+    let mut sum = sum;
+    let mut start = 0u32;
+    for _ in 0..0x11_0000u32 {
+        let Some(range) = trie.get_range(start) else {
+            return sum;
+        };
+        let last = *range.range.end();
+        sum = mixed(sum, last ^ u32::from(range.value));
+        start = last.wrapping_add(1);
+    }
+    sum
+}
+
+fn mixed_by_calls_often(trie: &CodePointTrie<'_, u8>, turns: usize) -> u64 {
+    let mut sum = 0u64;
+    for _ in 0..turns {
+        sum = mixed_by_calls(trie, sum);
+    }
+    sum
+}
+
+/// All ranges of a trie of 8 bits by `get_range`, so many times.
+#[unsafe(no_mangle)]
+pub extern "C" fn ours_range_8(parts: &Parts<'_>, turns: usize) -> u64 {
+    match trie_of::<u8>(parts) {
+        Some(trie) => mixed_by_calls_often(&trie, turns),
+        None => u64::MAX,
+    }
+}
+
 /// The ranges of a set, all of them, as one number.
 pub fn mixed_set(set: &CodePointInversionList<'_>) -> u64 {
     let mut sum = 0u64;
