@@ -22,6 +22,8 @@ HOLE = """use Rattle.{crate}.proofs.{path}.Statement.{{statement}}
 pub {name}_spec : {{M : Type 1}} → statement M
 {name}_spec = ?
 """
+# The files whose functions are of the crate itself.
+ROOTS = ("lib", "main")
 # What only says that a loop has no proof yet.
 LOOP = re.compile(r"^(?:invariant|decreases)-|expected (?:a measure|an invariant)")
 
@@ -51,14 +53,14 @@ def last_function(path, text):
     """The last function that a text of a file names, by its type, or its module, and its name."""
     name = re.findall(r"\bfn (\w+)", text)[-1:]
     owned = "".join(owner_of(text)) or os.path.basename(path)[: -len(".rt")]
-    return "::".join([owned, *name])
+    return "::".join([*([] if owned in ROOTS else [owned]), *name])
 
 
 def function_at(crate, texts, path, line):
     """The function of which something is said at this line of a file of the crate, in which these
     texts stand in place of the crate's own."""
     if not path.startswith("src/"):
-        return "::".join(path.split("/")[-3:-1])
+        return "::".join(path.split("/")[1:-1][-2:])
     text = texts.get(path) or open(f"{crate.folder}/{path}", encoding="utf-8").read()
     # What is said at an item is said at its attributes.
     before = re.match(rf"(?:.*\n){{{line - 1}}}(?:\s*(?:#|//).*\n)*.*", text)
