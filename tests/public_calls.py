@@ -4,10 +4,8 @@ import glob
 import os
 import re
 
-# The crate through which the library is called, and the programs' engines. Of the first one's
-# modules the program calls none.
-SHOWN = "icu_collections"
-ENGINES = {"ucptab_table": "", "ucptrie_tables": r"^pub mod (\w+);"}
+from shown_items import ENGINES, SHOWN, engines, plain, shown, sources, without_generics
+
 # What answers a want of memory, beside each enum with a variant `Memory`, or one for such an enum.
 ANSWERS = {"MemoryError", "AllocError", "ApplyRefused"}
 WANTS = re.compile(r"\bMemory\b|\bTableError\b")
@@ -29,54 +27,6 @@ ITEM = re.compile(
     r"(?=\n? *(?:requires|ensures|decreases)\b|[{;])",
     re.M,
 )
-
-
-def sources(crate):
-    return sorted(glob.glob(f"crates/{crate}/src/**/*.rt", recursive=True))
-
-
-def plain(text):
-    """The source without its comments."""
-    return re.sub(r"//[^\n]*", "", text)
-
-
-def without_generics(text):
-    """The words of an item's head without what stands in angle brackets."""
-    while re.search(r"<[^<>]*>", text.replace("->", "  ")):
-        text = re.sub(r"<[^<>]*>", "", text.replace("->", "  "))
-    return text
-
-
-def shown():
-    """Each type, trait and function that icu_collections shows by its name, with the module that it
-    stands in there; and each module that it shows whole, by its folder or file."""
-    names, modules = {}, {}
-    for path in sources(SHOWN):
-        module = os.path.basename(path)[:-3].replace("lib", SHOWN)
-        for crate, within, last in re.findall(
-            r"pub use (\w+)((?:::\w+)*?)(?:::(\w+|\{[^}]*\}))?(?: as \w+)?;",
-            plain(open(path).read()),
-        ):
-            for name in re.findall(r"\w+", last or crate):
-                folder = f"crates/{crate}/src{within.replace('::', '/')}"
-                if not last:
-                    modules[folder] = name
-                elif os.path.isdir(f"{folder}/{name}") or os.path.isfile(f"{folder}/{name}.rt"):
-                    modules[f"{folder}/{name}"] = name
-                else:
-                    names[name] = module
-    return names, modules
-
-
-def engines():
-    """The sources of the engines that have their programs' calls, each with its module."""
-    found = {}
-    for engine, shown_modules in ENGINES.items():
-        head = f"crates/{engine}/src/lib.rt"
-        found[head] = engine
-        for name in re.findall(shown_modules or r"(?!)", open(head).read(), re.M):
-            found[f"crates/{engine}/src/{name}.rt"] = f"{engine}::{name}"
-    return found
 
 
 def calls_of(path, names, traits, module, answers):
