@@ -1,0 +1,56 @@
+"""The comments of the edition: its own names, and nothing of clauses."""
+import itertools
+import re
+import textwrap
+
+from rules import TRIED
+
+# What docs say of clauses, which nobody sees here.
+CLAUSES = [
+    r"(?:^| )(?:A clause|The clauses) .*?\.(?= |$)( That they .*? is in no clause\.)?",
+    r",? and a clause .*?(?=\.(?: |$))",
+    r": contracts name it .*?(?=\.(?: |$))",
+]
+WHOLE = {"break_long_words": False, "break_on_hyphens": False}
+DOC_RULES = [
+    (r"\((?:alloc|Global)(?:, |(?=\)))", "("),
+    (r"\b(vec!\[)in alloc; ", r"\1"),
+    (r", whose changes take their memory from `alloc`", ""),
+    (r": `alloc` is kept for", "; that is left to"),
+    (r"\[(`walk`)\]\(icu_trie_core::walk::walk\)", r"\1"),
+    (r"`stored_form`, which answers", "which answers"),
+]
+
+
+def doc(crate, text):
+    """A comment, in which names are those of this edition."""
+    if not text.startswith("//"):
+        return text
+    for pattern, put in DOC_RULES:
+        text = re.sub(pattern, put, text)
+    text = re.sub(r"(?<=\()crate::", f"crate::{crate}::", text)
+    text = re.sub(r"(?<=\]\()(?=icu_\w+::)", "crate::", text)
+    return re.sub(rf"(\.|::|`)({'|'.join(TRIED[:-4])})(?=\()", r"\1try_\2", text)
+
+
+def fences(text):
+    """Examples of the proved crates are told, not run: those of rust/face are run."""
+    kinds = itertools.cycle(["ignore", ""])
+    text = re.sub(r"(?m)^(\s*//[/!] ```)$", lambda found: found[1] + next(kinds), text)
+    return re.sub(r"```ignore(?=\s+//[/!] //)", "```text", text)
+
+
+def without_clauses(code):
+    """Takes out of docs what they say of clauses, and fills the lines anew."""
+
+    def told(found):
+        words = found[0].replace("///", " ")
+        if not re.search("clause|contracts", words):
+            return found[0]
+        words = re.sub("|".join(CLAUSES), "", " ".join(words.split())).strip()
+        head = found[1] + "/// "
+        return "".join(f"{head}{line}\n" for line in textwrap.wrap(words, 100 - len(head), **WHOLE))
+
+    code = re.sub(r"(?m)^( *)///(?= \S).*\n(?:\1/// \S.*\n)*", told, code)
+    code = re.sub(r"(?m)^( *///\n)\1+", r"\1", code)
+    return re.sub(r"(?m)(?:^ *///\n)+(?= *[^ /])", "", code)

@@ -1,0 +1,52 @@
+"""The errors of the edition: what `derive(Error)` stands for."""
+import re
+
+
+def shown(name, text, fields):
+    """The arm that shows an error: its pattern, and what is written."""
+    if fields.startswith("("):
+        name += f"({', '.join(f'_{i}' for i in range(len(re.findall('[^,() ][^,]*', fields))))})"
+    elif fields:
+        told = [it for it in re.findall(r"(\w+):", fields) if "{" + it in text]
+        name += f" {{ {', '.join(told)}, .. }}"
+    if text == "transparent":
+        return f"{name} => core::fmt::Display::fmt(_0, f),"
+    return name + " => write!(f, " + re.sub(r"\{(\d)", r"{_\1", text) + "),"
+
+
+DISPLAY = """
+impl core::fmt::Display for %s {
+    fn fmt(&self, f: &mut core::fmt::Formatter<'_>) -> core::fmt::Result {
+        match self {
+            %s
+        }
+    }
+}
+
+impl core::error::Error for %s {}
+"""
+FROM = """
+impl From<%s> for %s {
+    fn from(error: %s) -> %s {
+        %s::%s(error)
+    }
+}
+"""
+
+
+def errors(code, held):
+    """Writes out what `derive(Error)` gives: Display, Error, and From where `from` asks for it."""
+    made = ""
+    said = r"#\[error\((?:(transparent)|\x02(\d+)\x03)\)\]\s*"
+    item = rf"Error\)\]\s*(?:{said})?pub (?:struct|enum) (\w+)(\([^;]*)?(.*?)(?:;|^\}})"
+    case = rf"{said}(\w+)\s*(\((?:[^()]|\([^()]*\))*\)|\{{[^{{}}]*\}})?"
+    for _, message, name, fields, body in re.findall(item, code, re.S | re.M):
+        arms = [shown(name, held[int(message)], fields)] if message else []
+        for clear, text, variant, payload in re.findall(case, body):
+            payload = re.sub(r"#\[from\] ?", "", payload)
+            arms.append(shown(f"{name}::{variant}", clear or held[int(text)], payload))
+        made += DISPLAY % (name, "\n            ".join(arms), name)
+        for variant, source in re.findall(r"(\w+)\(#\[from\] (\w+)\)", body):
+            made += FROM % (source, name, source, name, name, variant)
+    code = re.sub(r"(#\[derive\([^)]*), Error\)\]", r"\1)]", code)
+    return re.sub(rf"{said}|#\[from\] ", "", code) + made

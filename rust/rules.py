@@ -1,0 +1,119 @@
+"""The rules of rust/make: what differs from Rust's own, and what takes its place."""
+
+# Modules that stand on another crate, and so on a feature of its name.
+FEATURES = {
+    "icu_invlist/codepointinvlist/json": "json",
+    "icu_invlist/spelling": "json",
+    "icu_char16trie/json": "json",
+    "icu_text_sets/codepointinvliststringlist/json": "json",
+    "icu_trie_formats/json": "json",
+    "icu_trie_formats/trie_toml": "toml",
+}
+# Modules that stay behind.
+LEFT_OUT = []
+# Calls that may want memory, of which rust/face has others that answer plainly, under these names.
+TRIED = (
+    "add_char add32 add_range add_range32 add_set remove_char remove32 remove_range remove_range32"
+    " remove_set retain_set complement complement_char complement32 complement_range"
+    " complement_range32 complement_set build set_value set_range_value get_set_for_value"
+    " into_owned get_inversion_list_vec from_iter from_trie freeze iter2 is_trie count_entries"
+    " next_units advance"
+    # Those of vectors and texts, in rust/support.
+    " push push_str insert extend_from_slice resize"
+).split()
+RENAMED = {
+    r"\.reserve\(": ".try_room(",
+    r"\.reserve_exact\(": ".try_exact_room(",
+    r"\b(Vec|String)::with_capacity\(": r"\1::with_room(",
+    r"\bVec::push\b": "Vec::try_push",
+    r"\.push_reserved\(": ".push(",
+    r"\bvec!\[in alloc; ": "try_vec![",
+    r"\bCodePointInversionList::try_from\(": "CodePointInversionList::try_from_range(",
+    r"\bjson!\(in alloc; ": "crate::support::try_json!(",
+    r"\buse toml::": "use toml::value::",
+}
+# What asks of its callers what only a proof can know. It is kept inside;
+INSIDE = (
+    "PotentialCodePoint::from_u24 ZeroSlice::at ZeroVec::try_into_converted"
+    " CodePointInversionList::from_valid_slice Steps::new look_up_far look_up_fast look_up_high"
+    " look_up_small look_up_whole NumberMap::set_range NumberMap::repeats NumberMap::copy_block"
+    " NumberMap::get NumberMap::find_other place_block build_index WindowTable::enter_all"
+    " WindowTable::for_cells WindowTable::new"
+).split()
+# or nothing is wrong where it doesn't hold: an iterator without an end goes on until memory is
+# refused, and a closure that gives no answer gives none here;
+HARMLESS = (
+    "ZeroVec::alloc_from_iter CodePointInversionList::from_iter CodePointTrie::iter_ranges_mapped"
+    " CodePointInversionListAndStringList::from_iter CodePointTrie::try_alloc_map_value"
+    " find_value span_of_values"
+).split()
+# or it panics, as these words say in its docs.
+PANICS = {
+    "trait AsULE::from_unaligned": "Where there are fewer than `WIDTH` bytes.",
+    "trait Cells::data_at": "Where there is no such cell.",
+    "trait Cells::index_at": "Where there is no such cell.",
+}
+# Rattle's std, by the modules of it that are Rust's own.
+OWN = "cmp error fmt hash iter marker ops"
+RULES = [
+    (r"use thiserror::Error;\n", ""),
+    (r"use std::marker::Model;\n", ""),
+    (r"use std::marker::\{Model, (\w+)\};", r"use std::marker::\1;"),
+    (r"use std::alloc::Global;\n", ""),
+    (r"(use std::alloc::\{[^}]*), Global\}", r"\1}"),
+    (r"\bstd::(alloc|collections|sync::ledger)::", "crate::support::"),
+    (r"\bstd::marker::Brand\b", "crate::support::Brand"),
+    (rf"\bstd::({'|'.join(OWN.split())})\b", r"core::\1"),
+    # Drop is a marker of Rattle's, that a value may be dropped.
+    (r"#\[derive\(Drop\)\]\n\s*", ""),
+    (r"(#\[derive\([^)]*), Drop\b", r"\1"),
+    (r" \+ Drop\b", ""),
+    (r": Drop \+ ", ": "),
+    (r": Drop\b", ""),
+    # A clone of a view answers plainly, and a text is shown by Rust's own formatter.
+    (r"(fn clone\(&self\) -> )Result<([^{]*), AllocError>( \{\s*)Ok\(\*self\)", r"\1\2\3*self"),
+    (r"fn fmt<W: fmt::Write>(\(&self, f: &mut fmt::Formatter)<W>", r"fn fmt\1<'_>"),
+    (r"\bfinal (?=fn\b)", ""),
+    (r"\bR: RangeOf<", "R: core::ops::RangeBounds<"),
+    # The allocator goes: as a parameter, as an argument and as a field.
+    (r"\balloc: (?:self\.alloc|_),\s*", ""),
+    (r"(?:\n +\x01\d+\x03)*\n +(?:pub\(crate\) )?_?(?:\w+\.)*alloc(?:\(\)|: Global)?,(?=\n)", ""),
+    (r"\b(?:pub\(crate\) )?_?alloc: Global(,\s*|(?=\s*[)}]))", ""),
+    (r"([(,{]\s*)(?:\w+\.)*alloc(?:\(\))?,\s*", r"\1"),
+    (r"(\(|,)\s*(?:\w+\.)*alloc(?:\(\))?\s*(?=\))", lambda found: found[1].strip(",")),
+    (r"(\(&?self), \)", r"\1)"),
+    # What tells a proof something has a body already, which does nothing.
+    (r"fn shown\((&?self)\);", r"fn shown(\1) {}"),
+    # No clause stands before the body, nor what was said of one.
+    (r"(?<=[^,;{}\s\x03])(?:\n *\x01\d+\x03|\n)*\n *\{\n", " {\n"),
+]
+# What one source has in another form here, and how often.
+EDITS = {
+    # Reads of cells, in the forms of rust/support/cells.
+    "icu_zerovec/cells": [
+        (r"let start = i \* T::WIDTH;\n.*", "T::from_unaligned(cell(bytes, T::WIDTH, i)?)", 1),
+        (r"match read\(bytes, i\) \{", "match T::from_unaligned(proved_cell(bytes, T::WIDTH, i)) {", 1),
+        (r"bytes\.split_at\(T::WIDTH\);", "bytes.split_at_checked(T::WIDTH)?;", 1),
+        (r"(?=use crate::ule)", "use crate::support::cells::{cell, proved_cell};\n", 1),
+    ],
+    # Of two types of which Rust takes one for the other each may have a width of its own: so no
+    # vector of the one is taken for one of the other.
+    **dict.fromkeys(
+        ["icu_zerovec/vec", "icu_zerovec/slice", "icu_zerovec/iter"],
+        [(r"\bof: PhantomData<T>", "of: PhantomData<fn(T) -> T>", 1)],
+    ),
+    # 2 to the power of 63 is no place either where places are numbers of 32 bits.
+    "icu_char16trie/place": [(r"position >= 1 << 63", "position > isize::MAX as usize", 1)],
+    # That there are as many cells as before is proved of lawful types alone, and asked of all.
+    "icu_trie/map_value": [
+        (r"(\n +)(?=let index = self\.index)", r"\1assert_eq!(data.len(), self.data.len());\1", 1),
+    ],
+    # So is that ends are even in number, of the values of a type that says what is equal.
+    "icu_invlist/codepointinvlist/cpinvlist": [
+        (r"(\n +)(?=let bytes = pack)", r"\1assert_eq!(ends.len() % 2, 0);\1", 1)
+    ],
+    # TryFrom answers without want of memory, in rust/face.
+    "icu_invlist/codepointinvlist/conversions": [(r"fn try_from(?=<R)", "fn try_from_range", 1)],
+    # All that is a range for Rust is one: rust/face/src/codepointinvlist.rs says what it names.
+    "icu_invlist/codepointinvlist/utils": [(r"(?ms)^impl<X: RangePoint> RangeOf.*?^\}\n", "", 6)],
+}
