@@ -65,7 +65,7 @@ FORM_RULES = [
     ),
     (r"\b\w+JsonError, |, \w+JsonError\b|use serde_json::Value;\n", ""),
 ]
-# Calls that have other names in the edition than TRIED in rust/make says.
+# Calls that have other names in the edition than TRIED in rust/rules.py says.
 OTHER_NAMES = {"CodePointInversionList::try_from": "CodePointInversionList::try_from_range"}
 # Calls whose requests are not refused one by one: those of the program, one that is inside, and
 # those that write JSON.
