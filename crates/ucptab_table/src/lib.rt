@@ -57,6 +57,29 @@ fn answer_text(
     }
 }
 
+/// Reads the table to its end, and answers the lines of the asked numbers, or where none is asked
+/// those of all ranges of equal values.
+fn table_text<S: Source>(
+    alloc: Global,
+    trie_type: TrieType,
+    default: u32,
+    error: u32,
+    asked: &[u32],
+    reader: &mut S,
+) -> Result<String, TableError>
+    ensures text { IfOk result (λ text. IfSome (S.remaining reader.old) (λ input.
+        IsTableText input default error asked.now (string_bytes text))) }
+    ensures end { IfOk result (λ _. IsAtEnd (S.remaining reader.new)) }
+    ensures counted { IfOk result (λ _. S.failures reader.new ≡ S.failures reader.old) }
+    ensures cause { IfErr result (HasCause default (S.remaining reader.old) (S.remaining reader.new)
+        (S.failures reader.old) (S.failures reader.new)) }
+    ensures no_write { IfErr result (λ e. e ≢ WriteFault) }
+{
+    let input = read_all(alloc, reader)?;
+    let writes = read_rows(alloc, &input)?;
+    answer_text(alloc, trie_type, default, error, &writes, asked)
+}
+
 /// Reads the table to its end, and writes the lines of the asked numbers by one call, or where none
 /// is asked those of all ranges of equal values. Every fault but that of the write comes before a
 /// byte is written.
@@ -82,9 +105,7 @@ pub fn run<S: Source, W: Sink>(
         (λ e. e ≡ WriteFault → W.failures writer.old < W.failures writer.new) }
     ensures before { IfErr result (λ e. e ≢ WriteFault → writer.new ≡ writer.old) }
 {
-    let input = read_all(alloc, reader)?;
-    let writes = read_rows(alloc, &input)?;
-    let text = answer_text(alloc, trie_type, default, error, &writes, asked)?;
+    let text = table_text(alloc, trie_type, default, error, asked, reader)?;
     match writer.write(text.as_bytes()) {
         Ok(()) => Ok(()),
         Err(Failed) => Err(TableError::Write),
