@@ -56,6 +56,20 @@ fn count_of<T: UnsignedValue>(bytes: &[u8]) -> usize
     bytes.len() / T::WIDTH
 }
 
+/// The value of the cell at place `i`, which is there. No test is left in machine code: all bytes
+/// of a cell are a value.
+#[inline(always)]
+fn value_there<T: UnsignedValue>(bytes: &[u8], i: usize) -> T
+    requires { i < length bytes.now / T.WIDTH }
+    ensures { slice_get (values_of T.unpack T.WIDTH bytes.now) i ≡ Some result }
+{
+    let start = i * T::WIDTH;
+    match T::from_unaligned(&bytes[start..start + T::WIDTH]) {
+        Some(value) => value,
+        None => unreachable!(),
+    }
+}
+
 /// The value of the cell at place `i`. `None` past the last whole cell.
 #[inline(always)]
 fn value_at<T: UnsignedValue>(bytes: &[u8], i: usize) -> Option<T>
@@ -64,8 +78,7 @@ fn value_at<T: UnsignedValue>(bytes: &[u8], i: usize) -> Option<T>
     if i >= bytes.len() / T::WIDTH {
         return None;
     }
-    let start = i * T::WIDTH;
-    T::from_unaligned(&bytes[start..start + T::WIDTH])
+    Some(value_there(bytes, i))
 }
 
 /// The value of the last whole cell. `None` where there is none.
@@ -79,10 +92,10 @@ pub(crate) fn last_value<T: UnsignedValue>(bytes: &[u8]) -> Option<T>
 /// Index and data of a trie, where they stand in bytes.
 #[derive(Drop)]
 pub(crate) struct ByteCells<'a, T: UnsignedValue, L: Ledger> {
-    index: &'a [u8],
-    values: &'a [u8],
-    of: PhantomData<T>,
-    reads: Steps<L>,
+    pub(crate) index: &'a [u8],
+    pub(crate) values: &'a [u8],
+    pub(crate) of: PhantomData<T>,
+    pub(crate) reads: Steps<L>,
 }
 
 impl<'a, T: UnsignedValue, L: Ledger> Cells<T> for ByteCells<'a, T, L> {
@@ -112,6 +125,18 @@ impl<'a, T: UnsignedValue, L: Ledger> Cells<T> for ByteCells<'a, T, L> {
     fn data_cell(&mut self, i: usize) -> Option<T> {
         self.reads.tick();
         value_at(self.values, i)
+    }
+
+    #[inline(always)]
+    fn index_at(&mut self, i: usize) -> u16 {
+        self.reads.tick();
+        value_there(self.index, i)
+    }
+
+    #[inline(always)]
+    fn data_at(&mut self, i: usize) -> T {
+        self.reads.tick();
+        value_there(self.values, i)
     }
 }
 
