@@ -190,6 +190,14 @@ bool bks_trie_is_coherent(const bks_trie *trie);
  */
 bks_range bks_trie_range(const bks_trie *trie, uint32_t c);
 
+/* Many ranges from c on, one after another: bks_trie_range again and again, in less time for each.
+ * Answers how many there are, as far as there is room for them; where that is less than `room`, there
+ * is none after the last. All ranges of a trie, with `bks_range ranges[256]`:
+ *     for (uint32_t c = 0, n; (n = bks_trie_ranges(&t, c, ranges, 256)) > 0;
+ *          c = ranges[n - 1].last + 1) ..
+ */
+size_t bks_trie_ranges(const bks_trie *trie, uint32_t c, bks_range *ranges, size_t room);
+
 /* [m] The set of the code points in ranges of this value. Answers how many ends it has, and writes
  * them into `ends`, as many as there is room for; BKS_NO_MEMORY or BKS_NO_TRIE. */
 int64_t bks_trie_set(const bks_trie *trie, uint32_t value, uint32_t *ends, size_t room);

@@ -13,10 +13,11 @@ static uint32_t below(uint32_t limit) {
 
 static void is_no_trie(const bks_trie *trie) {
     static uint32_t ends[4];
+    bks_range ranges[4];
     CHECK(trie->fast_limit == 0 && trie->index_size == 0 && trie->values_size == 0);
     for (uint32_t c = 0; c <= CODE_POINTS; c += 0x1000) {
         CHECK(bks_get8(trie, c) == 0 && bks_get16(trie, c) == 0 && bks_get32(trie, c) == 0);
-        CHECK(!bks_trie_range(trie, c).found);
+        CHECK(!bks_trie_range(trie, c).found && bks_trie_ranges(trie, c, ranges, 4) == 0);
     }
     CHECK(!bks_trie_is_coherent(trie) && bks_trie_set(trie, 0, ends, 4) == BKS_NO_TRIE);
 }
@@ -30,9 +31,28 @@ static void odd_addresses(const uint8_t *bytes, size_t size, const bks_trie *tri
         CHECK(bks_open(&moved, room + at, size) == BKS_OK && moved.size == trie->size);
         for (uint32_t c = 0; c <= CODE_POINTS; c += 13)
             CHECK(called(&moved, c) == called(trie, c) && in_line(&moved, c) == called(trie, c));
-        CHECK(bks_trie_range(&moved, 0x3000).last == bks_trie_range(trie, 0x3000).last);
+        bks_range range, same = bks_trie_range(trie, 0x3000);
+        CHECK(bks_trie_range(&moved, 0x3000).last == same.last);
+        CHECK(bks_trie_ranges(&moved, 0x3000, &range, 1) == 1 && same_range(&range, &same));
     }
     free(room);
+}
+
+/* The ranges from c on, one by one and by many, with so much room. */
+static void many_ranges(const bks_trie *trie, uint32_t c, size_t room) {
+    size_t size = room * sizeof(bks_range), n, i = 0;
+    bks_range *ranges = (bks_range *)before_closed_page(size);
+    memset(ranges, 0x55, size);
+    n = bks_trie_ranges(trie, c, ranges, room);
+    CHECK(n <= room);
+    bks_range r = bks_trie_range(trie, c);
+    for (; i < n; i++) {
+        CHECK(same_range(&ranges[i], &r) && r.found);
+        r = bks_trie_range(trie, r.last + 1);
+    }
+    CHECK(n == room || !r.found);
+    for (i = n * sizeof *ranges; i < size; i++) CHECK(((uint8_t *)ranges)[i] == 0x55);
+    released(ranges, size);
 }
 
 /* Buffers of every length up to what is needed: what fits is written, and nothing else. */
@@ -49,6 +69,8 @@ static void short_buffers(const bks_trie *trie) {
         CHECK(memcmp(ends, all, 4 * (size_t)room) == 0);
     }
     for (size_t room = 0; room <= POINTS + 2; room++) {
+        many_ranges(trie, (uint32_t)room, room);
+        many_ranges(trie, CODE_POINTS - (uint32_t)room, room);
         uint8_t *values = before_closed_page(trie->width * room);
         uint32_t *points = (uint32_t *)before_closed_page(4 * POINTS);
         for (size_t i = 0; i < POINTS; i++) points[i] = (uint32_t)i * 0x7531;
@@ -91,6 +113,8 @@ static void ask(const bks_trie *trie) {
         next = r.last + 1;
         r = bks_trie_range(trie, next);
     }
+    many_ranges(trie, 0, turns);
+    many_ranges(trie, next, 3);
     if (bks_trie_is_coherent(trie)) CHECK(turns == 2000 || next == CODE_POINTS);
     CHECK(bks_trie_set(trie, 0, ends, 16) >= 0);
 }

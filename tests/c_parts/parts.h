@@ -73,6 +73,11 @@ static inline size_t read_runs(const char *path, bks_range *runs, size_t room) {
     return count;
 }
 
+static inline bool same_range(const bks_range *a, const bks_range *b) {
+    return a->found == b->found && a->first == b->first && a->last == b->last &&
+           a->value == b->value;
+}
+
 static inline uint32_t called(const bks_trie *trie, uint32_t c) {
     return trie->width == 1   ? bks_trie8_get(trie, c)
            : trie->width == 2 ? bks_trie16_get(trie, c)

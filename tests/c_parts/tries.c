@@ -8,7 +8,7 @@
 #include <unicode/utf16.h>
 #endif
 
-static bks_range runs[1 << 17];
+static bks_range runs[1 << 17], found[1 << 17];
 static uint32_t expected[CODE_POINTS + 16], points[CODE_POINTS + 16], ends[1 << 17];
 static uint32_t values[CODE_POINTS + 16];
 static char text[4 * CODE_POINTS];
@@ -105,10 +105,32 @@ static void ranges(const bks_trie *trie, size_t count) {
         uint32_t midst = r.first + (r.last - r.first) / 2;
         bks_range half = bks_trie_range(trie, midst);
         CHECK(half.found && half.first == midst && half.last == r.last && half.value == r.value);
+        bks_range both[2];
+        CHECK(bks_trie_ranges(trie, midst, both, 2) == (i + 1 < count ? 2 : 1));
+        CHECK(same_range(&both[0], &half) && (i + 1 == count || same_range(&both[1], &runs[i + 1])));
         r = bks_trie_range(trie, r.last + 1);
     }
     CHECK(!r.found && r.first == 0 && r.last == 0 && r.value == 0);
     CHECK(!bks_trie_range(trie, UINT32_MAX).found);
+}
+
+/* All ranges, so many a call, into memory before a closed page. What lies behind them stays. */
+static void many_ranges(const bks_trie *trie, size_t count, size_t room) {
+    size_t i = 0, n = room, size = room * sizeof(bks_range);
+    bks_range *buffer = (bks_range *)before_closed_page(size);
+    for (uint32_t c = 0; n == room; i += n) {
+        memset(buffer, 0x55, size);
+        n = bks_trie_ranges(trie, c, buffer, room);
+        CHECK(n == (count - i < room ? count - i : room));
+        for (size_t k = 0; k < n; k++) CHECK(same_range(&buffer[k], &runs[i + k]));
+        for (size_t k = n * sizeof *buffer; k < size; k++) CHECK(((uint8_t *)buffer)[k] == 0x55);
+        if (n > 0) c = buffer[n - 1].last + 1;
+    }
+    CHECK(i == count);
+    CHECK(bks_trie_ranges(trie, CODE_POINTS, buffer, room) == 0);
+    CHECK(bks_trie_ranges(trie, UINT32_MAX, buffer, room) == 0);
+    CHECK(bks_trie_ranges(trie, 0, buffer + room, 0) == 0);
+    released(buffer, size);
 }
 
 /* The set of a value: its ends are those of the runs with the value. */
@@ -140,12 +162,15 @@ static void as_icu(const bks_trie *trie, uint8_t *bytes, size_t size) {
     CHECK((ucptrie_getType(icu) == UCPTRIE_TYPE_FAST) == (trie->fast_limit == 0x10000));
     for (uint32_t c = 0; c < CODE_POINTS + 16; c++)
         CHECK(called(trie, c) == ucptrie_get(icu, (UChar32)c));
+    size_t n = bks_trie_ranges(trie, 0, found, sizeof found / sizeof found[0]), i = 0;
     for (UChar32 c = 0, last; c < CODE_POINTS; c = last + 1) {
         uint32_t value;
         last = ucptrie_getRange(icu, c, UCPMAP_RANGE_NORMAL, 0, NULL, NULL, &value);
         bks_range r = bks_trie_range(trie, (uint32_t)c);
         CHECK(r.found && r.last == (uint32_t)last && r.value == value);
+        CHECK(i < n && same_range(&found[i++], &r));
     }
+    CHECK(i == n);
     ucptrie_close(icu);
     free(aligned);
 }
@@ -166,6 +191,10 @@ int main(int count, char **words) {
     texts(&trie);
     units(&trie);
     ranges(&trie, many_runs);
+    many_ranges(&trie, many_runs, 1);
+    many_ranges(&trie, many_runs, 7);
+    many_ranges(&trie, many_runs, many_runs);
+    many_ranges(&trie, many_runs, many_runs + 1);
     for (size_t i = 0; i < many_runs && i < 64; i++) set_of(&trie, runs[i].value, many_runs);
     set_of(&trie, 0xFFFFFFFE, many_runs);
 #ifdef WITH_ICU

@@ -7,6 +7,7 @@ mod CoherenceLemmas
 mod FrozenLemmas
 mod ListingLemmas
 mod OpeningLemmas
+mod RangeLemmas
 mod RunLemmas
 mod SetLemmas
 mod SpanLemmas

@@ -1,11 +1,12 @@
 -- The ranges that C is given of a trie.
-use Rattle.std.specs.Prelude.{◌≡◌, ℕ, ◌<◌, ◌≤◌, ◌↔◌, true, false, List, [], Option, Some, None, MatchOption}
+use Rattle.std.specs.Prelude.{◌≡◌, ℕ, ◌+◌, ◌<◌, ◌≤◌, ◌↔◌, true, false, List, [], ◌∷◌, Option, Some, None, MatchOption, length, map, All}
 use Rattle.icu_invlist.specs.InversionList.{holds}
 use Rattle.icu_trie_core.specs.declared.range.CodePointMapRange.{CodePointMapRange}
 use Rattle.icu_trie_core.specs.Range.{GivesWalk, first_of, last_of}
 use Rattle.icu_trie_core.specs.Runs.{LongestRun}
 use Rattle.icu_trie.specs.Parts.{Parts}
 use Rattle.icu_trie.specs.Ranges.{AreRangesFrom, IsCoherentTrie, IsInRangeOf, answers}
+use Rattle.icu_collections_c.specs.Buffers.{written}
 use Rattle.icu_collections_c.specs.declared.ranges.Range.{Range}
 
 -- the range of a walk, its value by its number; nothing but 0 where there is none
@@ -23,6 +24,30 @@ pub record GivesRange {A : Type 0} (of_number : ℕ → Option A) (number : A �
   pub longest : IsCoherentTrie of_number t → MatchOption walk (0x110000 ≤ c)
       (λ r. LongestRun (answers t) c (last_of r) (Some r.value))
   pub range : given ≡ range_of number walk
+
+-- ranges that a trie gives one after another from c on, and the code point from which the next one
+-- would be asked
+abbrev pub AreRangesTo : {A : Type 0} → (ℕ → Option A) → Parts A → ℕ → List (CodePointMapRange A)
+    → ℕ → Type 0
+AreRangesTo of_number t c [] next = c ≡ next
+AreRangesTo of_number t c (r ∷ rs) next =
+    GivesWalk of_number t.header t.index t.values c (Some r)
+    × AreRangesTo of_number t (last_of r + 1) rs next
+
+-- many ranges from c on, over any trie: one after another, as many as fit; where there is room
+-- left, there is none after the last. Over a coherent trie each is the longest run of its value
+pub record GivesRanges {A : Type 0} (of_number : ℕ → Option A) (number : A → ℕ) (t : Parts A)
+    (c : ℕ) (before after : List Range) (count : ℕ) : Type 0 where
+  pub ranges : List (CodePointMapRange A)
+  pub next : ℕ
+  pub given : AreRangesTo of_number t c ranges next
+  pub longest : IsCoherentTrie of_number t
+      → All (λ r. LongestRun (answers t) (first_of r) (last_of r) (Some r.value)) ranges
+  pub count_is : count ≡ length ranges
+  pub fits : length ranges ≤ length before
+  pub ended : length ranges < length before
+      → GivesWalk of_number t.header t.index t.values next None
+  pub written : after ≡ written (map (λ r. range_of number (Some r)) ranges) before
 
 -- the code points in ranges of the value, and over a coherent trie those that have it
 pub record IsSetOfValue {A : Type 0} (of_number : ℕ → Option A) (t : Parts A) (value : A)

@@ -1,11 +1,16 @@
 //! Tries over bytes: ranges of one value, and whether they can be trusted.
-ghost use Rattle.std.specs.Prelude.{◌≡◌, ◌↔◌, IsTrue};
+ghost use Rattle.std.specs.Prelude.{◌≡◌, ◌<◌, ◌↔◌, IsTrue, Some};
 ghost use Rattle.icu_trie.specs.Ranges.{IsCoherentTrie};
 ghost use Rattle.icu_collections_c.specs.BytesTrie.{parts_in, parts_of, value_width, fitting_in};
-ghost use Rattle.icu_collections_c.specs.Ranges.{GivesRange};
+ghost use Rattle.icu_collections_c.specs.Ranges.{GivesRange, GivesRanges, range_of};
 
-use crate::cells::{UnsignedValue, is_coherent_in, walk_in};
+use crate::cells::{ByteCells, UnsignedValue, is_coherent_in, walk_in};
 use crate::tries::{Trie, header_of};
+use icu_trie_core::cells::Steps;
+use icu_trie_core::range::CodePointMapRange;
+use icu_trie_core::walk::walk;
+use std::marker::{Brand, PhantomData};
+use std::sync::ledger::{Blank, Ledger};
 
 /// Code points from `first` to `last`, both included, and their value.
 #[repr(C)]
@@ -21,18 +26,26 @@ pub struct Range {
     pub found: bool,
 }
 
+/// The range as C has it.
+#[inline(always)]
+fn told<T: UnsignedValue>(range: &CodePointMapRange<T>) -> Range
+    ensures { result ≡ range_of T.number (Some range.now) }
+{
+    Range {
+        first: *range.range.start(),
+        last: *range.range.end(),
+        value: range.value.to_u32(),
+        found: true,
+    }
+}
+
 /// The range from `c` on in a trie of such values.
 #[inline(always)]
 fn range_in<T: UnsignedValue>(trie: &Trie<'_>, c: u32) -> Range
     ensures { GivesRange T.of_number T.number (parts_in T.unpack T.WIDTH trie.now) c result }
 {
     match walk_in::<T>(&header_of(trie), trie.index, trie.values, c) {
-        Some(range) => Range {
-            first: *range.range.start(),
-            last: *range.range.end(),
-            value: range.value.to_u32(),
-            found: true,
-        },
+        Some(range) => told(&range),
         None => Range {
             first: 0,
             last: 0,
@@ -40,6 +53,49 @@ fn range_in<T: UnsignedValue>(trie: &Trie<'_>, c: u32) -> Range
             found: false,
         },
     }
+}
+
+/// `write_ranges`, with a count in the ledger of `blank`. Header and cells are made once for all
+/// ranges.
+#[inline(always)]
+fn write_ranges_counted<T: UnsignedValue, L: Ledger>(
+    trie: &Trie<'_>,
+    c: u32,
+    ranges: &mut [Range],
+    blank: Blank,
+) -> usize
+    requires name { blank.name ≡ L.name }
+    requires parts { blank.parts ≡ L.parts }
+    requires some { 0 < blank.parts }
+    ensures { GivesRanges T.of_number T.number (parts_in T.unpack T.WIDTH trie.now) c ranges.old
+        ranges.new result }
+{
+    let header = header_of(trie);
+    let mut cells = ByteCells::<T, L> {
+        index: trie.index,
+        values: trie.values,
+        of: PhantomData,
+        reads: Steps::new(blank),
+    };
+    let mut next = c;
+    for i in 0..ranges.len() {
+        let Some(range) = walk(&header, &mut cells, next) else {
+            return i;
+        };
+        ranges[i] = told(&range);
+        next = *range.range.end() + 1;
+    }
+    ranges.len()
+}
+
+/// Writes the ranges from `c` on in a trie of such values into the front of a buffer, as many as
+/// there are and as it has room for; answers how many.
+#[inline(always)]
+fn write_ranges<T: UnsignedValue>(trie: &Trie<'_>, c: u32, ranges: &mut [Range]) -> usize
+    ensures { GivesRanges T.of_number T.number (parts_in T.unpack T.WIDTH trie.now) c ranges.old
+        ranges.new result }
+{
+    write_ranges_counted::<T, Brand>(trie, c, ranges, Blank::new(1))
 }
 
 /// The range of one value from the code point `c` on, as far as it goes (`ucptrie_getRange`). Over
@@ -54,6 +110,23 @@ pub extern "C" fn bks_trie_range(trie: &Trie<'_>, c: u32) -> Range
         1 => range_in::<u8>(trie, c),
         2 => range_in::<u16>(trie, c),
         _ => range_in::<u32>(trie, c),
+    }
+}
+
+/// The ranges of one value from the code point `c` on, one after another, as many as there is room
+/// for (`ucptrie_getRange` again and again): how many were written. Where that is less than there
+/// is room for, there is none after the last; else go on from its last code point + 1. What follows
+/// them in `ranges` is unchanged.
+#[unsafe(no_mangle)]
+pub extern "C" fn bks_trie_ranges(trie: &Trie<'_>, c: u32, ranges: &mut [Range]) -> usize
+    ensures { let width = value_width trie.now.width in
+        GivesRanges (fitting_in width) (λ n. n) (parts_of width trie.now) c ranges.old ranges.new
+        result }
+{
+    match trie.width {
+        1 => write_ranges::<u8>(trie, c, ranges),
+        2 => write_ranges::<u16>(trie, c, ranges),
+        _ => write_ranges::<u32>(trie, c, ranges),
     }
 }
 
