@@ -277,11 +277,11 @@ public:
         using reference = const bks_range &;
 
         iterator() = default;
-        explicit iterator(const bks_trie *of) noexcept : trie_(of), range_(bks_trie_range(of, 0)) {}
-        reference operator*() const noexcept { return range_; }
-        pointer operator->() const noexcept { return &range_; }
+        explicit iterator(const bks_trie *of) noexcept : trie_(of) { ask(0); }
+        reference operator*() const noexcept { return ranges_[at_]; }
+        pointer operator->() const noexcept { return &ranges_[at_]; }
         iterator &operator++() noexcept {
-            range_ = bks_trie_range(trie_, range_.last + 1);
+            if (++at_ == room) ask(ranges_[room - 1].last + 1);
             return *this;
         }
         iterator operator++(int) noexcept {
@@ -291,13 +291,24 @@ public:
         }
         // Two that are at their end are equal, and others where they stand at the same range.
         friend bool operator==(const iterator &a, const iterator &b) noexcept {
-            return a.range_.found == b.range_.found && a.range_.first == b.range_.first;
+            if (a.is_at_end() || b.is_at_end()) return a.is_at_end() == b.is_at_end();
+            return a->first == b->first;
         }
         friend bool operator!=(const iterator &a, const iterator &b) noexcept { return !(a == b); }
 
     private:
+        // How many ranges are asked for at once.
+        static constexpr std::size_t room = 32;
+
+        void ask(std::uint32_t c) noexcept {
+            count_ = bks_trie_ranges(trie_, c, ranges_, room);
+            at_ = 0;
+        }
+        bool is_at_end() const noexcept { return at_ == count_; }
+
         const bks_trie *trie_ = nullptr;
-        bks_range range_ = {};
+        std::size_t at_ = 0, count_ = 0;
+        bks_range ranges_[room] = {};
     };
     iterator begin() const noexcept { return iterator(&trie_); }
     iterator end() const noexcept { return iterator(); }

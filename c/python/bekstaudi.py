@@ -119,6 +119,7 @@ _NUMBERS = {1: ctypes.c_uint8, 2: ctypes.c_uint16, 4: ctypes.c_uint32}
 _LIST = [ctypes.POINTER(ctypes.c_uint32), ctypes.c_size_t]
 _TEXT = [ctypes.c_char_p, ctypes.c_size_t]
 _ROWS = [ctypes.POINTER(_Row), ctypes.c_size_t]
+_RANGES = [ctypes.POINTER(_Range), ctypes.c_size_t]
 _BYTES = [ctypes.c_void_p, ctypes.c_size_t]
 
 
@@ -131,7 +132,7 @@ def _library():
     calls = {
         "bks_trie_open": (ctypes.c_uint32, [ctypes.c_void_p, ctypes.c_size_t, trie]),
         "bks_trie_is_coherent": (ctypes.c_bool, [trie]),
-        "bks_trie_range": (_Range, [trie, point]),
+        "bks_trie_ranges": (ctypes.c_size_t, [trie, point, *_RANGES]),
         "bks_trie_set": (ctypes.c_int64, [trie, ctypes.c_uint32, *_LIST]),
         "bks_trie_build": (ctypes.c_int64, [*_ROWS, *[ctypes.c_uint32] * 4, *_BYTES]),
         "bks_set_test": (ctypes.c_bool, _LIST),
@@ -287,10 +288,11 @@ class Trie:
 
     def ranges(self):
         """The ranges of one value, in order: their first and last code points and their values."""
-        found = _lib.bks_trie_range(self._trie, 0)
-        while found.found:
-            yield found.first, found.last, found.value
-            found = _lib.bks_trie_range(self._trie, found.last + 1)
+        ranges, start = (_Range * 256)(), 0
+        while count := _lib.bks_trie_ranges(self._trie, start, ranges, len(ranges)):
+            for it in ranges[:count]:
+                yield it.first, it.last, it.value
+            start = ranges[count - 1].last + 1
 
     def set_of(self, value):
         """The set of the code points in ranges of this value."""
