@@ -9,7 +9,7 @@
 using std::string;
 using std::vector;
 
-enum { POINTS = 4096, TURNS = 12, CHARACTERS = 4096, ROOM = 1 << 20 };
+enum { POINTS = 4096, TURNS = 12, CHARACTERS = 4096, RANGES = 256, ROOM = 1 << 20 };
 
 // A trie that ICU built, in its binary form, and opened for C.
 struct Opened {
@@ -73,28 +73,42 @@ static void text(const string &name, const Opened &ours, const UCPTrie *icu, con
         nullptr, [&] { return icu_values(icu, one.bytes, values); });
 }
 
-static void ranges(const string &name, const Opened &ours, const UCPTrie *icu) {
-    uint32_t value, count = 0;
+static uint64_t icu_ranges(const UCPTrie *trie) {
+    uint64_t sum = 0;
+    uint32_t value;
+    for (UChar32 c = 0, end; (end = ucptrie_getRange(trie, c, UCPMAP_RANGE_NORMAL, 0, nullptr,
+                                                     nullptr, &value)) >= 0;
+         c = end + 1)
+        sum = mixed(sum, end ^ value);
+    return sum;
+}
+
+static uint64_t ranges_one_by_one(const bks_trie &trie) {
+    uint64_t sum = 0;
+    for (bks_range r = bks_trie_range(&trie, 0); r.found; r = bks_trie_range(&trie, r.last + 1))
+        sum = mixed(sum, r.last ^ r.value);
+    return sum;
+}
+
+static uint64_t ranges_by_many(const bks_trie &trie) {
+    bks_range ranges[RANGES];
+    uint64_t sum = 0;
+    size_t n;
+    for (uint32_t c = 0; (n = bks_trie_ranges(&trie, c, ranges, RANGES)) > 0;
+         c = ranges[n - 1].last + 1)
+        for (size_t i = 0; i < n; i++) sum = mixed(sum, ranges[i].last ^ ranges[i].value);
+    return sum;
+}
+
+// All ranges of a trie: one a call, or many.
+static void ranges(const string &kernel, const string &name, const Opened &ours, const UCPTrie *icu,
+                   uint64_t (*all)(const bks_trie &)) {
+    uint32_t count = 0;
     for (bks_range r = bks_trie_range(&ours.trie, 0); r.found; count++)
         r = bks_trie_range(&ours.trie, r.last + 1);
     row(
-        "c_ranges_u8", name, count,
-        [&] {
-            uint64_t sum = 0;
-            for (bks_range r = bks_trie_range(&ours.trie, 0); r.found;
-                 r = bks_trie_range(&ours.trie, r.last + 1))
-                sum = mixed(sum, r.last ^ r.value);
-            return sum;
-        },
-        nullptr,
-        [&] {
-            uint64_t sum = 0;
-            for (UChar32 c = 0, end; (end = ucptrie_getRange(icu, c, UCPMAP_RANGE_NORMAL, 0,
-                                                             nullptr, nullptr, &value)) >= 0;
-                 c = end + 1)
-                sum = mixed(sum, end ^ value);
-            return sum;
-        });
+        kernel, name, count, [&] { return all(ours.trie); }, nullptr,
+        [&] { return icu_ranges(icu); });
 }
 
 // The set of a value, by how many ends it has.
@@ -148,7 +162,8 @@ void c_calls() {
         }
         if (wanted("c_text_u8"))
             for (const Text &one : texts(CHARACTERS)) text(name, ours, icu.get(), one);
-        if (wanted("c_ranges_u8")) ranges(name, ours, icu.get());
+        if (wanted("c_range_u8")) ranges("c_range_u8", name, ours, icu.get(), ranges_one_by_one);
+        if (wanted("c_ranges_u8")) ranges("c_ranges_u8", name, ours, icu.get(), ranges_by_many);
         if (wanted("c_setfor_u8"))
             for (uint32_t value : {1u, 3u, 8u}) set_of(name, ours, icu.get(), value);
         if (wanted("c_build_u8"))
