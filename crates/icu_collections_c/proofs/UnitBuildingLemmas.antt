@@ -1,5 +1,5 @@
 -- Entries in a row, and the map that they make one after another.
-use Rattle.std.proofs.Common.{◌≡◌, ◌∙◌, refl, sym, ap, subst, ℕ, ℤ, pos, ◌+◌, ◌<◌, List, [], ◌∷◌, length, take, drop, get_or, arith}
+use Rattle.std.proofs.Common.{◌≡◌, refl, sym, subst, ℕ, ℤ, pos, ◌+◌, ◌<◌, List, ◌∷◌, length, take, drop, get_or, arith}
 use Rattle.std.specs.Prelude.{sum, IsNone, IsSome, Option, Some, None}
 use Rattle.std.proofs.lemmas.List.{drop_more}
 use Rattle.std.proofs.lemmas.List.Sums.{sum_by-drop_more}

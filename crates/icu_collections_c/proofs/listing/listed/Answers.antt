@@ -1,11 +1,11 @@
 -- The items are the entries, since none of them was a want of memory.
-use Rattle.std.proofs.Common.{◌≡◌, ◌∙◌, sym, subst, refl, to_z, of_z, w32, rules, Ok, map}
+use Rattle.std.proofs.Common.{sym, subst, w32, rules, map}
 use Rattle.std.specs.Iterator.{Yields, Drains}
 use Rattle.std.proofs.lemmas.Int.{to_z-of_z}
 use Rattle.icu_char16trie.specs.Grammar.{IsTrieOf}
 use Rattle.icu_char16trie.specs.Entries.{GivesNext}
 use Rattle.icu_char16trie_builder.proofs.CallerLemmas.{AreEntries-of_run, shown, texts_of_entries}
-use Rattle.icu_collections_c.proofs.RunLemmas.{HasGone, HasGone-more, texts-shown}
+use Rattle.icu_collections_c.proofs.RunLemmas.{HasGone-more, texts-shown}
 use Rattle.icu_collections_c.proofs.listing.listed.Goals as goal
 
 pub add-requires : goal.add-requires

@@ -1,5 +1,5 @@
 -- The code points are gone through in order, and the values written as far as there is room.
-use Rattle.std.proofs.Common.{◌≡◌, ◌∙◌, ◌≤◌, ap, sym, arith, length, get_or, ℕ}
+use Rattle.std.proofs.Common.{◌≡◌, ◌∙◌, ap, sym, arith, length, get_or, ℕ}
 use Rattle.std.specs.Prelude.{min, unwrap_or}
 use Rattle.icu_trie.specs.Parts.{trie_value}
 use Rattle.icu_trie_text.specs.Utf16.{code_points_of}
