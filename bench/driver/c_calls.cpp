@@ -73,20 +73,22 @@ static void text(const string &name, const Opened &ours, const UCPTrie *icu, con
         nullptr, [&] { return icu_values(icu, one.bytes, values); });
 }
 
+// Each range is mixed by itself: in a chain each would wait for the one before, which is seen only
+// where ranges come from a buffer.
 static uint64_t icu_ranges(const UCPTrie *trie) {
     uint64_t sum = 0;
     uint32_t value;
     for (UChar32 c = 0, end; (end = ucptrie_getRange(trie, c, UCPMAP_RANGE_NORMAL, 0, nullptr,
                                                      nullptr, &value)) >= 0;
          c = end + 1)
-        sum = mixed(sum, end ^ value);
+        sum += mixed(c, end ^ value);
     return sum;
 }
 
 static uint64_t ranges_one_by_one(const bks_trie &trie) {
     uint64_t sum = 0;
     for (bks_range r = bks_trie_range(&trie, 0); r.found; r = bks_trie_range(&trie, r.last + 1))
-        sum = mixed(sum, r.last ^ r.value);
+        sum += mixed(r.first, r.last ^ r.value);
     return sum;
 }
 
@@ -96,7 +98,8 @@ static uint64_t ranges_by_many(const bks_trie &trie) {
     size_t n;
     for (uint32_t c = 0; (n = bks_trie_ranges(&trie, c, ranges, RANGES)) > 0;
          c = ranges[n - 1].last + 1)
-        for (size_t i = 0; i < n; i++) sum = mixed(sum, ranges[i].last ^ ranges[i].value);
+        for (size_t i = 0; i < n; i++)
+            sum += mixed(ranges[i].first, ranges[i].last ^ ranges[i].value);
     return sum;
 }
 
