@@ -21,6 +21,14 @@ pub fn expect_bytes(rt: &impl Abort, found: &[u8], want: &[u8]) {
     expect_same(rt, found, want, "the bytes");
 }
 
+/// What a call gave, which has to be no error.
+pub fn given<T, E: Drop>(rt: &impl Abort, answer: Result<T, E>) -> T {
+    match answer {
+        Ok(found) => found,
+        Err(_) => rt.panic("an error"),
+    }
+}
+
 /// The text is the other one, where there was memory for it.
 pub fn expect_text<E>(rt: &impl Abort, text: Result<String, E>, want: &str) {
     match text {
@@ -45,6 +53,19 @@ pub fn say(rt: &(impl Abort + Print), line: &str) {
 pub fn say_refused(rt: &(impl Abort + Print), error: MemoryError) {
     expect_same(rt, error, MemoryError, "the error");
     say(rt, "refused");
+}
+
+/// What was found is what is wanted, or memory was refused.
+pub fn expect_answer<T: Copy + Debug + PartialEq>(
+    rt: &(impl Abort + Print),
+    answer: Result<T, MemoryError>,
+    want: T,
+    what: &str,
+) {
+    match answer {
+        Ok(found) => expect_same(rt, found, want, what),
+        Err(error) => say_refused(rt, error),
+    }
 }
 
 /// The hash of a value by the standard hasher.

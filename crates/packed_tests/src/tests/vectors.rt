@@ -9,4 +9,5 @@ mod quiet_calls;
 mod refused_bytes;
 mod refused_memory;
 mod searches;
+pub mod support;
 mod written;

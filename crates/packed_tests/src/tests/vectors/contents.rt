@@ -1,24 +1,15 @@
 //! What bytes hold, whichever call reads them.
-use super::equality::{expect_owned, lent_of};
-use crate::tests::support::{expect_bytes, expect_same};
+use super::equality::expect_owned;
+use super::support::{
+    Ends, at_place, bytes_of, bytes_of_view, ends_of, ends_of_view, items_of, items_of_view,
+    lent_of, next_of, view_of,
+};
+use crate::tests::support::{expect_bytes, expect_same, given};
 use icu_zerovec::iter::Iter;
 use icu_zerovec::ule::AsULE;
 use icu_zerovec::{PotentialCodePoint, ZeroVec};
 use std::fmt::Debug;
 use std::process::Abort;
-use std::test::Fail;
-
-/// The value at a place of a vector and of its view, and that of the view where the place is known
-/// to be one of its.
-fn at_place<T: AsULE>(vector: &ZeroVec<'_, T>, place: usize) -> (Option<T>, Option<T>, Option<T>) {
-    let view = vector.as_slice();
-    let known = if place < view.len() {
-        Some(view.at(place))
-    } else {
-        None
-    };
-    (vector.get(place), view.get(place), known)
-}
 
 /// The values stand at their places, and none after them.
 fn expect_places<T: AsULE + Debug + PartialEq>(
@@ -32,31 +23,16 @@ fn expect_places<T: AsULE + Debug + PartialEq>(
     }
 }
 
-/// How many values there are, whether there are none, and the first and the last one.
-type Ends<T> = (usize, bool, Option<T>, Option<T>);
-
 /// The first and the last value, and how many there are.
 fn expect_ends<T: AsULE + Debug + PartialEq>(
     rt: &impl Abort,
     vector: &ZeroVec<'_, T>,
     values: &[T],
 ) {
-    let view = vector.as_slice();
-    let want: Ends<T> = (
-        values.len(),
-        values.is_empty(),
-        values.first().copied(),
-        values.last().copied(),
-    );
-    let found = (
-        vector.len(),
-        vector.is_empty(),
-        vector.first(),
-        vector.last(),
-    );
-    expect_same(rt, found, want, "a vector");
-    let found = (view.len(), view.is_empty(), view.first(), view.last());
-    expect_same(rt, found, want, "a view");
+    let (first, last) = (values.first().copied(), values.last().copied());
+    let want: Ends<T> = (values.len(), values.is_empty(), first, last);
+    expect_same(rt, ends_of(vector), want, "a vector");
+    expect_same(rt, ends_of_view(view_of(vector)), want, "a view");
 }
 
 /// The values, one after another.
@@ -65,21 +41,21 @@ fn expect_items<T: AsULE + Debug + PartialEq>(
     mut items: Iter<'_, T>,
     values: &[T],
 ) {
-    expect_same(rt, items.len(), values.len(), "values to come");
-    for want in values {
-        expect_same(rt, items.next(), Some(*want), "a value");
+    for place in 0..=values.len() {
+        let want = (values.len() - place, values.get(place).copied());
+        expect_same(rt, next_of(&mut items), want, "values to come");
     }
 }
 
 /// These bytes are these values, whichever call reads them.
 fn expect_values<T: AsULE + Debug + PartialEq>(rt: &impl Abort, bytes: &[u8], values: &[T]) {
     let vector = lent_of::<T>(rt, bytes);
-    expect_bytes(rt, vector.as_bytes(), bytes);
-    expect_bytes(rt, vector.as_slice().as_bytes(), bytes);
+    expect_bytes(rt, bytes_of(&vector), bytes);
+    expect_bytes(rt, bytes_of_view(view_of(&vector)), bytes);
     expect_places(rt, &vector, values);
     expect_ends(rt, &vector, values);
-    expect_items(rt, vector.iter(), values);
-    expect_items(rt, vector.as_slice().iter(), values);
+    expect_items(rt, items_of(&vector), values);
+    expect_items(rt, items_of_view(view_of(&vector)), values);
 }
 
 /// These bytes are these values, and none are none, borrowed and owned.
@@ -90,9 +66,7 @@ fn expect_type<T: AsULE + Debug + PartialEq>(
 ) {
     expect_values(rt, bytes, values);
     expect_values::<T>(rt, &[], &[]);
-    if expect_owned(rt, bytes, values).is_err() {
-        rt.panic("no memory");
-    }
+    expect_owned(rt, bytes, values);
 }
 
 #[test]
@@ -144,8 +118,8 @@ fn code_points_in_three_bytes(rt: HostRuntime) {
 }
 
 #[test]
-fn values_of_an_iterator(rt: HostRuntime) -> Result<(), Fail> {
-    let codes = ZeroVec::<u32>::alloc_from_iter(rt.alloc(), "AZ".chars().map(|c| u32::from(c)))?;
-    expect_bytes(&rt, codes.as_bytes(), &[0x41, 0, 0, 0, 0x5a, 0, 0, 0]);
-    Ok(())
+fn values_of_an_iterator(rt: HostRuntime) {
+    let codes = ZeroVec::<u32>::alloc_from_iter(rt.alloc(), "AZ".chars().map(|c| u32::from(c)));
+    let want = [0x41, 0, 0, 0, 0x5a, 0, 0, 0];
+    expect_bytes(&rt, bytes_of(&given(&rt, codes)), &want);
 }

@@ -1,41 +1,36 @@
 //! No call that has no allocator takes memory, nor does `into_owned` where the vector owns its
 //! bytes already, also once it was converted. The script `tests/refused_memory` sees that a test
 //! whose name ends in `_quiet` asks for nothing between the lines `call` and `done`.
-use super::conversions::signed_of;
-use super::equality::{are_same, are_same_views};
-use crate::tests::support::{expect, expect_same, hash_of, say};
+use super::conversions::{converted, signed_of};
+use super::equality::are_alike;
+use super::support::{
+    Ends, Found, are_same, at_place, bytes_of, bytes_of_view, ends_of, ends_of_view, items_of_view,
+    known_at, last_of, lent_of, next_of, owned_of, packed_of, parsed, places_of, vector_of,
+    view_of,
+};
+use crate::tests::support::{expect, expect_same, given, say};
 use icu_zerovec::ule::{AsULE, UleError};
-use icu_zerovec::{PotentialCodePoint, ZeroVec};
-use std::test::Fail;
+use icu_zerovec::{MemoryError, PotentialCodePoint, ZeroVec};
+use std::process::Abort;
 
 /// Two numbers.
 const TWO: [u8; 8] = [0x41, 0, 0, 0, 0x42, 0, 0, 0];
 
-/// How many values there are, whether there is none, the second, the first and the last one, and
-/// how many come one after another.
-type Reads = (usize, bool, Option<u32>, Option<u32>, Option<u32>, usize);
+/// How many values of a vector come one after another, and of its view.
+fn counts_of(vector: &ZeroVec<'_, u32>) -> [usize; 2] {
+    let view = view_of(vector);
+    [vector.iter().count(), view.iter().count()]
+}
 
-/// What a vector of these bytes reads, and what its view does.
-fn reads_of(bytes: &[u8]) -> Result<(Reads, Reads), UleError> {
-    let lent = ZeroVec::<u32>::parse_bytes(bytes)?;
-    let view = lent.as_slice();
-    let reads = (
-        lent.len(),
-        lent.is_empty(),
-        lent.get(1),
-        lent.first(),
-        lent.last(),
-        lent.iter().count(),
-    );
-    let reads_of_view = (
-        view.len(),
-        view.is_empty(),
-        view.get(1),
-        view.first(),
-        view.last(),
-        view.iter().count(),
-    );
-    Ok((reads, reads_of_view))
+/// The ends of a vector and of its view, and how many values come one after another.
+type Reads = ([Ends<u32>; 2], [usize; 2]);
+
+/// What a vector of these bytes reads, and what its view does, and both at the second place.
+fn reads_of(rt: &impl Abort, bytes: &[u8]) -> (Reads, Found<u32>) {
+    let lent = lent_of(rt, bytes);
+    let view = view_of(&lent);
+    let ends = [ends_of(&lent), ends_of_view(view)];
+    ((ends, counts_of(&lent)), at_place(&lent, 1))
 }
 
 /// Calls: `ZeroVec::parse_bytes`, `ZeroVec::len`, `ZeroVec::is_empty`, `ZeroVec::get`,
@@ -45,63 +40,58 @@ fn reads_of(bytes: &[u8]) -> Result<(Reads, Reads), UleError> {
 #[test]
 fn reads_quiet(rt: HostRuntime) {
     say(&rt, "call");
-    let reads = reads_of(&TWO);
+    let (reads, second) = reads_of(&rt, &TWO);
+    let same = bytes_of(&lent_of::<u32>(&rt, &TWO)) == TWO.as_slice();
     say(&rt, "done");
-    let want = (2, false, Some(0x42), Some(0x41), Some(0x42), 2);
-    expect_same(
-        &rt,
-        reads,
-        Ok((want, want)),
-        "reads of a vector and of its view",
-    );
+    let ends = (2, false, Some(0x41), Some(0x42));
+    expect_same(&rt, reads, ([ends; 2], [2; 2]), "a vector and its view");
+    let want = (Some(0x42), Some(0x42), Some(0x42));
+    expect_same(&rt, second, want, "the second value");
+    expect(&rt, same, "the bytes");
 }
 
-/// The place of one number in a vector of these bytes, and that of another in its view.
-fn places_of(bytes: &[u8]) -> Result<(Result<usize, usize>, Result<usize, usize>), UleError> {
-    let lent = ZeroVec::<u32>::parse_bytes(bytes)?;
-    Ok((
-        lent.binary_search(&0x42),
-        lent.as_slice().binary_search(&0x43),
-    ))
+/// The places of one number and of another, each in a vector of these bytes and in its view.
+fn places(rt: &impl Abort, bytes: &[u8]) -> [[Result<usize, usize>; 2]; 2] {
+    let lent = lent_of::<u32>(rt, bytes);
+    [places_of(&lent, 0x42), places_of(&lent, 0x43)]
 }
 
 /// Calls: `ZeroVec::binary_search`, `ZeroSlice::binary_search`.
 #[test]
 fn searches_quiet(rt: HostRuntime) {
     say(&rt, "call");
-    let places = places_of(&TWO);
+    let found = places(&rt, &TWO);
     say(&rt, "done");
-    expect_same(&rt, places, Ok((Ok(1), Err(2))), "places");
+    expect_same(&rt, found, [[Ok(1); 2], [Err(2); 2]], "places");
 }
 
-/// Whether a vector that borrows the bytes of another is equal to it and hashes as its view does,
-/// and whether the two views, and what they give, are the same.
-fn is_like_its_owner(owner: &ZeroVec<'_, u32>) -> Result<bool, UleError> {
-    let lent = ZeroVec::<u32>::parse_bytes(owner.as_bytes())?;
-    let view = lent.as_slice();
-    let same = are_same(&lent, owner) & are_same_views(view, owner.as_slice());
-    let same = same & are_same(&view.as_zerovec(), &lent);
-    let hashes = hash_of(&lent) == hash_of(&owner.as_slice());
-    Ok(same & hashes & (lent.as_bytes() == view.as_bytes()))
+/// Whether a vector that borrows the bytes of another is like it, and so what its view gives, and
+/// whether both have the same bytes.
+fn is_like_its_owner(rt: &impl Abort, owner: &ZeroVec<'_, u32>) -> ([bool; 4], [bool; 2]) {
+    let lent = lent_of(rt, bytes_of(owner));
+    let view = view_of(&lent);
+    let same_bytes = bytes_of(&lent) == bytes_of_view(view);
+    let same = are_same(&vector_of(view), &lent);
+    (are_alike(owner, &lent), [same, same_bytes])
 }
 
 /// Calls: `ZeroVec::as_slice`, `ZeroSlice::as_zerovec`, `ZeroVec::as_bytes`, `ZeroSlice::as_bytes`.
 #[test]
 fn comparisons_quiet(rt: HostRuntime) {
-    let Ok(owner) = ZeroVec::alloc_from_slice(rt.alloc(), &[0x41_u32, 0x42]) else {
+    let Ok(owner) = packed_of(rt.alloc(), &[0x41_u32, 0x42]) else {
         return;
     };
     say(&rt, "call");
-    let alike = is_like_its_owner(&owner);
+    let alike = is_like_its_owner(&rt, &owner);
     say(&rt, "done");
-    expect_same(&rt, alike, Ok(true), "a vector and its owner");
+    expect_same(&rt, alike, ([true; 4], [true; 2]), "a vector and its owner");
 }
 
 /// Calls: `ZeroVec::parse_bytes`, `PotentialCodePoint::from_u24`, `PotentialCodePoint::try_from`.
 #[test]
 fn single_values_quiet(rt: HostRuntime) {
     say(&rt, "call");
-    let refused = ZeroVec::<char>::parse_bytes(&[0, 0xd8, 0]).err();
+    let refused = parsed::<char>(&[0, 0xd8, 0]).err();
     let low = PotentialCodePoint::from_u24(7);
     let high = PotentialCodePoint::try_from(0x100_0000);
     say(&rt, "done");
@@ -112,54 +102,54 @@ fn single_values_quiet(rt: HostRuntime) {
 
 /// Calls: `ZeroVec::parse_owned`.
 #[test]
-fn owned_bytes_quiet(rt: HostRuntime) -> Result<(), Fail> {
+fn owned_bytes_quiet(rt: HostRuntime) {
     let Ok(bytes) = Vec::from_slice(rt.alloc(), &[0x41, 0, 0x42, 0]) else {
-        return Ok(());
+        return;
     };
     say(&rt, "call");
-    let vector = ZeroVec::<u16>::parse_owned(bytes)?;
+    let vector = ZeroVec::<u16>::parse_owned(bytes);
     say(&rt, "done");
-    expect_same(&rt, vector.last(), Some(0x42), "last");
-    Ok(())
+    let last = last_of(&given(&rt, vector));
+    expect_same(&rt, last, Some(0x42), "last");
 }
 
-/// The last value of these bytes as numbers with sign.
-fn last_converted(bytes: &[u8]) -> Result<Option<i32>, UleError> {
-    Ok(signed_of(bytes)?.last())
+/// The ends of a vector.
+fn ends_of_owned(rt: &impl Abort, vector: Result<ZeroVec<'_, i32>, MemoryError>) -> Ends<i32> {
+    ends_of(&given(rt, vector))
 }
 
 /// Calls: `ZeroVec::try_into_converted`, `ZeroVec::into_owned`.
 #[test]
-fn conversions_quiet(rt: HostRuntime) -> Result<(), Fail> {
-    let Ok(owner) = ZeroVec::alloc_from_slice(rt.alloc(), &[0x41_u32, 0x42]) else {
-        return Ok(());
+fn conversions_quiet(rt: HostRuntime) {
+    let Ok(owner) = packed_of(rt.alloc(), &[0x41_u32, 0x42]) else {
+        return;
     };
     say(&rt, "call");
-    let last = last_converted(owner.as_bytes());
-    let owned = owner.try_into_converted::<i32>()?.into_owned(rt.alloc())?;
+    let last = last_of(&signed_of(&rt, bytes_of(&owner)));
+    let owned = owned_of(rt.alloc(), given(&rt, converted::<u32, i32>(owner)));
     say(&rt, "done");
-    expect_same(&rt, owned.first(), Some(0x41), "first");
-    expect_same(&rt, last, Ok(Some(0x42)), "last");
-    Ok(())
+    let want = (2, false, Some(0x41), Some(0x42));
+    expect_same(&rt, ends_of_owned(&rt, owned), want, "ends");
+    expect_same(&rt, last, Some(0x42), "last");
 }
 
 /// The second value of a view, and how many are left after its first one, counted in two ways.
-fn left_after_first(bytes: &[u8]) -> Result<(u32, usize, usize), UleError> {
-    let lent = ZeroVec::<u32>::parse_bytes(bytes)?;
-    let view = lent.as_slice();
-    let second = if 1 < view.len() { view.at(1) } else { 0 };
-    let mut values = view.iter();
-    let _ = values.next();
-    Ok((second, values.len(), values.size_hint().0))
+fn left_after_first(rt: &impl Abort, bytes: &[u8]) -> (Option<u32>, usize, usize) {
+    let lent = lent_of::<u32>(rt, bytes);
+    let mut values = items_of_view(view_of(&lent));
+    let _ = next_of(&mut values);
+    let lowest = values.size_hint().0;
+    let (left, _) = next_of(&mut values);
+    (known_at(view_of(&lent), 1), left, lowest)
 }
 
 /// Calls: `ZeroSlice::at`, `Iter::next`, `Iter::len`, `Iter::size_hint`.
 #[test]
 fn places_quiet(rt: HostRuntime) {
     say(&rt, "call");
-    let found = left_after_first(&TWO);
+    let found = left_after_first(&rt, &TWO);
     say(&rt, "done");
-    expect_same(&rt, found, Ok((0x42, 1, 1)), "after the first");
+    expect_same(&rt, found, (Some(0x42), 1, 1), "after the first");
 }
 
 /// The packed bytes of a value of any type.

@@ -1,12 +1,13 @@
 //! Bytes that are no values.
+use super::support::parsed;
 use crate::tests::support::expect_same;
+use icu_zerovec::PotentialCodePoint;
 use icu_zerovec::ule::{AsULE, UleError};
-use icu_zerovec::{PotentialCodePoint, ZeroVec};
 use std::process::Abort;
 
 /// These bytes are refused so.
 fn expect_refused<T: AsULE>(rt: &impl Abort, bytes: &[u8], want: UleError) {
-    let refused = ZeroVec::<T>::parse_bytes(bytes).err();
+    let refused = parsed::<T>(bytes).err();
     expect_same(rt, (bytes, refused), (bytes, Some(want)), "refused");
 }
 

@@ -3,12 +3,12 @@
 //! refuses nothing: a refusal between the lines `call` and `done` has to be answered by the line
 //! `refused`.
 use super::conversions::points_of;
-use crate::tests::support::{expect, expect_bytes, expect_same, say, say_refused};
+use super::support::{are_same, bytes_of, clone_of, lent_of, owned_of, packed_of};
+use crate::tests::support::{expect_answer, expect_bytes, expect_same, say, say_refused};
 use icu_zerovec::ule::AsULE;
 use icu_zerovec::{MemoryError, ZeroVec};
 use std::alloc::Global;
 use std::process::Abort;
-use std::test::Fail;
 
 /// The call made a vector of these bytes, or says that memory was refused.
 fn expect_made<T: AsULE>(
@@ -17,7 +17,7 @@ fn expect_made<T: AsULE>(
     bytes: &[u8],
 ) {
     match made {
-        Ok(vector) => expect_bytes(rt, vector.as_bytes(), bytes),
+        Ok(vector) => expect_bytes(rt, bytes_of(&vector), bytes),
         Err(error) => say_refused(rt, error),
     }
 }
@@ -27,7 +27,7 @@ fn expect_made<T: AsULE>(
 fn alloc_from_slice_refused(rt: HostRuntime) {
     let values = [0x1234_u16, 255];
     say(&rt, "call");
-    let made = ZeroVec::alloc_from_slice(rt.alloc(), &values);
+    let made = packed_of(rt.alloc(), &values);
     say(&rt, "done");
     expect_made(&rt, made, &[0x34, 0x12, 255, 0]);
     expect_same(&rt, values, [0x1234, 255], "the values");
@@ -79,55 +79,52 @@ fn push_refused(rt: HostRuntime) {
     expect_numbers(&rt, made, &[7]);
 }
 
-/// The clone is equal to the vector, which has its bytes still, or memory was refused.
-fn expect_clone(
-    rt: &(impl Abort + Print),
-    vector: &ZeroVec<'_, u16>,
-    cloned: Result<ZeroVec<'_, u16>, MemoryError>,
-) {
-    match cloned {
-        Ok(other) => expect(rt, other == *vector, "an equal vector"),
-        Err(error) => say_refused(rt, error),
-    }
-    expect_bytes(rt, vector.as_bytes(), &[0x34, 0x12, 255, 0]);
+/// Whether a clone is equal to the vector.
+fn is_cloned(alloc: Global, vector: &ZeroVec<'_, u16>) -> Result<bool, MemoryError> {
+    let cloned = clone_of(alloc, vector)?;
+    Ok(are_same(vector, &cloned))
+}
+
+/// The vector has its bytes still.
+fn expect_kept(rt: &impl Abort, vector: &ZeroVec<'_, u16>) {
+    expect_bytes(rt, bytes_of(vector), &[0x34, 0x12, 255, 0]);
 }
 
 /// Calls: `ZeroVec::try_clone`.
 #[test]
 fn try_clone_refused(rt: HostRuntime) {
-    let Ok(vector) = ZeroVec::alloc_from_slice(rt.alloc(), &[0x1234_u16, 255]) else {
+    let Ok(vector) = packed_of(rt.alloc(), &[0x1234_u16, 255]) else {
         return;
     };
     say(&rt, "call");
-    let cloned = vector.try_clone(rt.alloc());
+    let cloned = is_cloned(rt.alloc(), &vector);
     say(&rt, "done");
-    expect_clone(&rt, &vector, cloned);
+    expect_answer(&rt, cloned, true, "an equal vector");
+    expect_kept(&rt, &vector);
 }
 
 /// Calls: `ZeroVec::into_owned`.
 #[test]
-fn into_owned_refused(rt: HostRuntime) -> Result<(), Fail> {
+fn into_owned_refused(rt: HostRuntime) {
     let bytes = [0x34, 0x12, 255, 0];
-    let vector = ZeroVec::<u16>::parse_bytes(&bytes)?;
+    let vector = lent_of::<u16>(&rt, &bytes);
     say(&rt, "call");
-    let owned = vector.into_owned(rt.alloc());
+    let owned = owned_of(rt.alloc(), vector);
     say(&rt, "done");
     expect_made(&rt, owned, &bytes);
     expect_bytes(&rt, &bytes, &[0x34, 0x12, 255, 0]);
-    Ok(())
 }
 
 /// A vector that borrows still does once it is converted, so its own bytes take memory.
 ///
 /// Calls: `ZeroVec::into_owned`.
 #[test]
-fn converted_into_owned_refused(rt: HostRuntime) -> Result<(), Fail> {
+fn converted_into_owned_refused(rt: HostRuntime) {
     let bytes = [0x41, 0, 0, 0x42, 0, 0];
-    let points = points_of(&bytes)?;
+    let points = points_of(&rt, &bytes);
     say(&rt, "call");
-    let owned = points.into_owned(rt.alloc());
+    let owned = owned_of(rt.alloc(), points);
     say(&rt, "done");
     expect_made(&rt, owned, &bytes);
     expect_bytes(&rt, &bytes, &[0x41, 0, 0, 0x42, 0, 0]);
-    Ok(())
 }

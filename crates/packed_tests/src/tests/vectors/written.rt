@@ -1,4 +1,5 @@
 //! Printed texts of vectors and of errors.
+use super::support::{items_of, lent_of, next_of, view_of};
 use crate::tests::support::{expect_same, expect_text, expect_told};
 use icu_zerovec::ule::UleError;
 use icu_zerovec::{MemoryError, ZeroVec};
@@ -13,18 +14,16 @@ fn expect_shown<T: Debug>(rt: &(impl Abort + AllocGlobal), shown: &T, want: &str
 /// A vector of two numbers, its view, and what is left of its values after the first are shown so.
 fn expect_list_shown(rt: &(impl Abort + AllocGlobal), vector: &ZeroVec<'_, u16>) {
     expect_shown(rt, vector, "[4660, 255]");
-    expect_shown(rt, &vector.as_slice(), "[4660, 255]");
-    let mut rest = vector.iter();
-    expect_same(rt, rest.next(), Some(0x1234), "the first value");
+    expect_shown(rt, &view_of(vector), "[4660, 255]");
+    let mut rest = items_of(vector);
+    let first = next_of(&mut rest);
+    expect_same(rt, first, (2, Some(0x1234)), "the first value");
     expect_shown(rt, &rest, "[255]");
 }
 
 #[test]
 fn shown_as_lists(rt: HostRuntime) {
-    match ZeroVec::<u16>::parse_bytes(&[0x34, 0x12, 255, 0]) {
-        Ok(vector) => expect_list_shown(&rt, &vector),
-        Err(_) => rt.panic("no vector"),
-    }
+    expect_list_shown(&rt, &lent_of(&rt, &[0x34, 0x12, 255, 0]));
 }
 
 #[test]
