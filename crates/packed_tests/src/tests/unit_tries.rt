@@ -6,6 +6,7 @@ mod dictionaries;
 mod json;
 mod refused_memory;
 mod soundness;
-mod support;
+mod steps;
+pub mod support;
 mod worked_tries;
 mod written;

@@ -1,19 +1,17 @@
 //! The entries that go on from a cursor, and what a listing tells before and after them.
-use super::support::{SIX, listed, trie_of};
-use crate::tests::support::expect_same;
+use super::steps::{resumed_at, units_of};
+use super::support::{
+    A_AB, LEAD_PAIR, SIX, advanced, cursor_after, entries_from, entries_of, listed, made_trie,
+    next_units_of, told,
+};
+use crate::tests::support::{expect_same, given};
 use icu_char16trie::char16trie::{Char16Trie, Char16TrieCursor, CursorPlace, Entries};
-use icu_zerovec::{MemoryError, ZeroSlice};
+use icu_zerovec::MemoryError;
+use std::alloc::Global;
 use std::process::Abort;
-use std::test::Fail;
-
-/// The units of "a" to 1 and "ab" to 2.
-const A_AB: [u16; 5] = [0x30, 0x61, 0xB0, 0x62, 0x8002];
 
 /// The units of "abc" to 3 and "abcd" to 4.
 const RUN: [u16; 7] = [0x32, 0x61, 0x62, 0x63, 0x130, 0x64, 0x8004];
-
-/// The units of a lead surrogate to 1 and the character that it begins to 2.
-const LEAD_PAIR: [u16; 5] = [0x30, 0xD83D, 0xB0, 0xDE00, 0x8002];
 
 /// Units of a trie, units that are passed, and the entries that go on from there.
 type Row = (&'static [u16], &'static [u16], &'static str);
@@ -43,28 +41,28 @@ static COMPLETED: [Row; 18] = [
     (&[0x33, 0x61, 0x62], &[0x61], ""),
 ];
 
-/// The cursor after some units.
-fn cursor_after<'a>(trie: &'a Char16Trie<'_>, passed: &[u16]) -> Char16TrieCursor<'a> {
-    let mut cursor = trie.cursor();
-    for unit in passed.iter() {
-        cursor.step16(*unit);
-    }
-    cursor
+/// The entries that go on from a cursor, one after another.
+fn listed_from(alloc: Global, cursor: &Char16TrieCursor<'_>) -> Result<String, MemoryError> {
+    listed(alloc, &mut entries_from(alloc, cursor))
 }
 
-/// These entries go on from there.
-fn expect_completed(rt: &impl Abort, said: String, entries: &str, units: &[u16]) {
+/// These entries go on from a cursor.
+fn expect_completed(
+    rt: &(impl Abort + AllocGlobal),
+    cursor: &Char16TrieCursor<'_>,
+    entries: &str,
+    units: &[u16],
+) {
+    let said = given(rt, listed_from(rt.alloc(), cursor));
     expect_same(rt, (units, said.as_str()), (units, entries), "entries");
 }
 
 #[test]
-fn completions(rt: HostRuntime) -> Result<(), Fail> {
+fn completions(rt: HostRuntime) {
     for (units, passed, entries) in COMPLETED.iter() {
-        let trie = trie_of(rt.alloc(), units)?;
-        let mut left = cursor_after(&trie, passed).entries(rt.alloc());
-        expect_completed(&rt, listed(rt.alloc(), &mut left)?, entries, units);
+        let trie = made_trie(&rt, units);
+        expect_completed(&rt, &cursor_after(&trie, passed), entries, units);
     }
-    Ok(())
 }
 
 /// Units of a trie, units that are passed, and the units with which keys go on from there.
@@ -90,29 +88,23 @@ static NEXT: [NextRow; 15] = [
     (&[0x31], &[], &[]),
 ];
 
-/// Keys go on with these units.
-fn expect_next(rt: &impl Abort, found: Vec<u16>, want: &[u16], units: &[u16]) {
+/// Keys go on from a cursor with these units.
+fn expect_next(
+    rt: &(impl Abort + AllocGlobal),
+    cursor: &Char16TrieCursor<'_>,
+    want: &[u16],
+    units: &[u16],
+) {
+    let found = given(rt, next_units_of(rt.alloc(), cursor));
     expect_same(rt, (units, found.as_slice()), (units, want), "next units");
 }
 
 #[test]
-fn next_units(rt: HostRuntime) -> Result<(), Fail> {
+fn next_units(rt: HostRuntime) {
     for (units, passed, want) in NEXT.iter() {
-        let trie = trie_of(rt.alloc(), units)?;
-        let found = cursor_after(&trie, passed).next_units(rt.alloc())?;
-        expect_next(&rt, found, want, units);
+        let trie = made_trie(&rt, units);
+        expect_next(&rt, &cursor_after(&trie, passed), want, units);
     }
-    Ok(())
-}
-
-/// The entries from a place of strangers.
-fn entries_from<'a>(
-    rt: &impl AllocGlobal,
-    units: ZeroSlice<'a, u16>,
-    position: usize,
-    left: u16,
-) -> Entries<'a> {
-    Char16TrieCursor::resume(units, CursorPlace { position, left }).entries(rt.alloc())
 }
 
 /// Places in the units of "abc" and "abcd", and the entries from there. The third of them read as a
@@ -127,34 +119,37 @@ static PLACES: [(usize, u16, &str); 7] = [
     ((1 << 63) - 1, 256, ""),
 ];
 
+/// The cursor at a place of strangers.
+fn cursor_at<'a>(trie: &'a Char16Trie<'_>, position: usize, left: u16) -> Char16TrieCursor<'a> {
+    resumed_at(units_of(trie), CursorPlace { position, left })
+}
+
 #[test]
-fn completions_from_places(rt: HostRuntime) -> Result<(), Fail> {
+fn completions_from_places(rt: HostRuntime) {
+    let trie = made_trie(&rt, &RUN);
     for (position, left, want) in PLACES.iter() {
-        let trie = trie_of(rt.alloc(), &RUN)?;
-        let mut entries = entries_from(&rt, trie.data.as_slice(), *position, *left);
-        expect_completed(&rt, listed(rt.alloc(), &mut entries)?, want, &RUN);
+        expect_completed(&rt, &cursor_at(&trie, *position, *left), want, &RUN);
     }
-    Ok(())
 }
 
 /// The length of the key's text, and the value.
-fn told(entries: &Entries<'_>) -> (usize, i32) {
-    (entries.key().len(), entries.value())
+fn len_told(entries: &Entries<'_>) -> (usize, i32) {
+    let (text, value) = told(entries);
+    (text.len(), value)
 }
 
 /// What is told before the first entry, at it, and after it was found that none is left.
 fn told_around(entries: &mut Entries<'_>) -> Result<[(usize, i32); 3], MemoryError> {
-    let before = told(entries);
-    let _ = entries.advance()?;
-    let at = told(entries);
-    let _ = entries.advance()?;
-    Ok([before, at, told(entries)])
+    let before = len_told(entries);
+    let _ = advanced(entries)?;
+    let at = len_told(entries);
+    let _ = advanced(entries)?;
+    Ok([before, at, len_told(entries)])
 }
 
 #[test]
-fn told_before_and_after(rt: HostRuntime) -> Result<(), Fail> {
-    let trie = trie_of(rt.alloc(), &[0x31, 0x61, 0x62, 0x8003])?;
-    let found = told_around(&mut trie.entries(rt.alloc()))?;
-    expect_same(&rt, found, [(0, 0), (2, 3), (0, 0)], "ab");
-    Ok(())
+fn told_before_and_after(rt: HostRuntime) {
+    let trie = made_trie(&rt, &[0x31, 0x61, 0x62, 0x8003]);
+    let found = told_around(&mut entries_of(rt.alloc(), &trie)).ok();
+    expect_same(&rt, found, Some([(0, 0), (2, 3), (0, 0)]), "ab");
 }

@@ -1,38 +1,29 @@
 //! Steps of cursors and of iterators.
-use super::support::trie_of;
-use crate::tests::support::expect_same;
-use icu_char16trie::char16trie::{
-    Char16Trie, Char16TrieCursor, Char16TrieIterator, CursorPlace, TrieResult,
+use super::steps::{
+    clone_of, is_character_written, is_written, iterator_clone, iterator_of, pass_character,
+    pass_number, place_of, result_of_number, result_of_unit, resumed_at, root_of, told_at,
+    units_of,
 };
+use super::support::{cursor_after, cursor_of, iter_of, made_trie, value_at};
+use crate::tests::support::expect_same;
+use icu_char16trie::char16trie::{Char16Trie, Char16TrieCursor, CursorPlace, TrieResult};
 use icu_zerovec::ZeroSlice;
-use std::alloc::AllocError;
 use std::fmt::Write;
 use std::process::Abort;
-use std::test::Fail;
 
-/// The value after a number as one step of a cursor, whether no key goes on beyond it, and what an
-/// iterator tells of it.
-fn told_of(trie: &Char16Trie<'_>, number: u32) -> (Option<i32>, bool, TrieResult) {
-    let mut cursor = trie.cursor();
-    cursor.step32(number);
-    (
-        cursor.value(),
-        cursor.is_empty(),
-        trie.iter().next32(number),
-    )
+/// The value after a number as one step of a cursor, and whether no key goes on beyond it.
+fn told_of(mut cursor: Char16TrieCursor<'_>, number: u32) -> (Option<i32>, bool) {
+    pass_number(&mut cursor, number);
+    told_at(&cursor)
 }
 
-/// The numbers match nothing in the trie of these units.
-fn expect_no_match(rt: &impl Abort, trie: Char16Trie<'_>, units: &[u16]) {
+/// The numbers match nothing in the trie of these units, by a cursor and by an iterator.
+fn expect_no_match(rt: &impl Abort, trie: &Char16Trie<'_>, units: &[u16]) {
     for number in [0x11_0000, 0x12_0000, 0xFFFF_FFFF] {
-        let found = told_of(&trie, number);
-        let want = (None, true, TrieResult::NoMatch);
-        expect_same(
-            rt,
-            (units, number, found),
-            (units, number, want),
-            "no match",
-        );
+        let told = told_of(cursor_of(trie), number);
+        let result = result_of_number(&mut iter_of(trie), number);
+        let want = (units, number, (None, true), TrieResult::NoMatch);
+        expect_same(rt, (units, number, told, result), want, "no match");
     }
 }
 
@@ -46,102 +37,98 @@ static TAKEN_FOR_KEYS: [&[u16]; 4] = [
 
 /// A number above the code points is not cut to units that are keys.
 #[test]
-fn numbers_above_the_code_points(rt: HostRuntime) -> Result<(), Fail> {
+fn numbers_above_the_code_points(rt: HostRuntime) {
     for units in TAKEN_FOR_KEYS.iter() {
-        expect_no_match(&rt, trie_of(rt.alloc(), units)?, units);
+        expect_no_match(&rt, &made_trie(&rt, units), units);
     }
-    Ok(())
 }
 
 /// Whether the text can be written, the value that it leads to, and whether no key goes on beyond
 /// it.
-fn written(mut cursor: Char16TrieCursor<'_>, text: &str) -> (bool, Option<i32>, bool) {
-    let written = cursor.write_str(text).is_ok();
-    (written, cursor.value(), cursor.is_empty())
+fn written(mut cursor: Char16TrieCursor<'_>, text: &str) -> (bool, (Option<i32>, bool)) {
+    let written = is_written(&mut cursor, text);
+    (written, told_at(&cursor))
 }
 
-/// Whether no key goes on beyond the root, beyond a character that matches nothing, and beyond a
-/// further one, and the value there.
-fn nowhere(units: ZeroSlice<'_, u16>) -> (bool, bool, bool, Option<i32>) {
-    let mut cursor = Char16TrieCursor::new(units);
-    let at_root = cursor.is_empty();
-    cursor.step('x');
-    let beyond = cursor.is_empty();
-    cursor.step('a');
-    (at_root, beyond, cursor.is_empty(), cursor.value())
+/// What is told at the root, beyond a character that matches nothing, and beyond a further one.
+fn nowhere(units: ZeroSlice<'_, u16>) -> [(Option<i32>, bool); 3] {
+    let mut cursor = root_of(units);
+    let at_root = told_at(&cursor);
+    pass_character(&mut cursor, 'x');
+    let beyond = told_at(&cursor);
+    pass_character(&mut cursor, 'a');
+    [at_root, beyond, told_at(&cursor)]
 }
 
 /// Whether `b` can be written to a clone of a cursor after `a`, and the values of both.
-fn steps_of_a_clone(trie: &Char16Trie<'_>) -> Result<(bool, Option<i32>, Option<i32>), AllocError> {
-    let mut first = trie.cursor();
-    first.step16(0x61);
-    let mut second = first.clone()?;
-    let written = second.write_char('b').is_ok();
-    Ok((written, first.value(), second.value()))
+fn steps_of_a_clone(trie: &Char16Trie<'_>) -> Option<(bool, [Option<i32>; 2])> {
+    let first = cursor_after(trie, &[0x61]);
+    let mut second = clone_of(&first)?;
+    let written = is_character_written(&mut second, 'b');
+    Some((written, [value_at(&first), value_at(&second)]))
 }
 
+/// The units of "ab" to 3.
+const AB: [u16; 4] = [0x31, 0x61, 0x62, 0x8003];
+
 #[test]
-fn steps_of_a_cursor(rt: HostRuntime) -> Result<(), Fail> {
-    let trie = trie_of(rt.alloc(), &[0x31, 0x61, 0x62, 0x8003])?;
-    let found = written(trie.cursor(), "ab");
-    expect_same(&rt, found, (true, Some(3), true), "ab");
-    let found = nowhere(trie.data.as_slice());
-    expect_same(&rt, found, (false, true, true, None), "x, then a");
-    let found = steps_of_a_clone(&trie).ok();
-    expect_same(&rt, found, Some((true, None, Some(3))), "a, then b");
-    Ok(())
+fn steps_of_a_cursor(rt: HostRuntime) {
+    let trie = made_trie(&rt, &AB);
+    let found = written(cursor_of(&trie), "ab");
+    expect_same(&rt, found, (true, (Some(3), true)), "ab");
+    let want = [(None, false), (None, true), (None, true)];
+    expect_same(&rt, nowhere(units_of(&trie)), want, "x, then a");
+    let found = steps_of_a_clone(&trie);
+    expect_same(&rt, found, Some((true, [None, Some(3)])), "a, then b");
 }
 
 /// The value that a character leads to, where it can be written by a format.
 fn formatted(mut cursor: Char16TrieCursor<'_>, c: char) -> Option<i32> {
     match write!(&mut cursor, "{c}") {
-        Ok(()) => cursor.value(),
+        Ok(()) => value_at(&cursor),
         Err(_) => None,
     }
 }
 
 /// What the first unit of a character gives, then a wrong second one to a clone, and then the right
 /// one.
-fn results_by_units(
-    units: ZeroSlice<'_, u16>,
-) -> Result<(TrieResult, TrieResult, TrieResult), AllocError> {
-    let mut by_units = Char16TrieIterator::new(units);
-    let first = by_units.next16(0xD83D);
-    let wrong = by_units.clone()?.next16(0xDE01);
-    Ok((first, wrong, by_units.next32(0xDE00)))
+fn results_by_units(units: ZeroSlice<'_, u16>) -> Option<[TrieResult; 3]> {
+    let mut by_units = iterator_of(units);
+    let first = result_of_unit(&mut by_units, 0xD83D);
+    let wrong = result_of_unit(&mut iterator_clone(&by_units)?, 0xDE01);
+    let right = result_of_number(&mut by_units, 0xDE00);
+    Some([first, wrong, right])
 }
 
 #[test]
-fn units_of_a_character(rt: HostRuntime) -> Result<(), Fail> {
-    let smile = trie_of(rt.alloc(), &[0x31, 0xD83D, 0xDE00, 0x8001])?;
-    let found = formatted(smile.cursor(), '\u{1f600}');
+fn units_of_a_character(rt: HostRuntime) {
+    let smile = made_trie(&rt, &[0x31, 0xD83D, 0xDE00, 0x8001]);
+    let found = formatted(cursor_of(&smile), '\u{1f600}');
     expect_same(&rt, found, Some(1), "a format");
-    let found = results_by_units(smile.data.as_slice()).ok();
-    let want = (
+    let found = results_by_units(units_of(&smile));
+    let want = [
         TrieResult::NoValue,
         TrieResult::NoMatch,
         TrieResult::FinalValue(1),
-    );
+    ];
     expect_same(&rt, found, Some(want), "the units of a character");
-    Ok(())
+}
+
+/// The value after a character from a place, and where the cursor stands then.
+fn step_from(units: ZeroSlice<'_, u16>, place: CursorPlace, c: char) -> (Option<i32>, CursorPlace) {
+    let mut cursor = resumed_at(units, place);
+    pass_character(&mut cursor, c);
+    (value_at(&cursor), place_of(&cursor))
 }
 
 /// The values after `b` by a cursor that is resumed where one stands after `a`, and after `a` again.
-fn resumed(trie: &Char16Trie<'_>) -> (Option<i32>, Option<i32>) {
-    let units = trie.data.as_slice();
-    let mut first = trie.cursor();
-    first.step('a');
-    let mut second = Char16TrieCursor::resume(units, first.place());
-    second.step('b');
-    let mut third = Char16TrieCursor::resume(units, second.place());
-    third.step('a');
-    (second.value(), third.value())
-}
-
-/// The value at a place, and whether no key goes on there.
-fn at_place(units: ZeroSlice<'_, u16>, position: usize, left: u16) -> (Option<i32>, bool) {
-    let cursor = Char16TrieCursor::resume(units, CursorPlace { position, left });
-    (cursor.value(), cursor.is_empty())
+fn resumed(trie: &Char16Trie<'_>) -> [Option<i32>; 2] {
+    let units = units_of(trie);
+    let mut first = cursor_of(trie);
+    pass_character(&mut first, 'a');
+    let (value, place) = step_from(units, place_of(&first), 'b');
+    let (again, _) = step_from(units, place, 'a');
+    [value, again]
 }
 
 /// Places, the first in a linear match, and those of strangers: what stands there is told, or no
@@ -155,13 +142,20 @@ static PLACES: [(usize, u16, (Option<i32>, bool)); 6] = [
     (usize::MAX, 0, (None, true)),
 ];
 
-#[test]
-fn places_of_a_cursor(rt: HostRuntime) -> Result<(), Fail> {
-    let trie = trie_of(rt.alloc(), &[0x31, 0x61, 0x62, 0x8003])?;
-    expect_same(&rt, resumed(&trie), (Some(3), None), "a, b, a");
+/// What is told at each of the places.
+fn expect_places(rt: &impl Abort, units: ZeroSlice<'_, u16>) {
     for (position, left, want) in PLACES.iter() {
-        let found = at_place(trie.data.as_slice(), *position, *left);
-        expect_same(&rt, found, *want, "a place");
+        let (position, left) = (*position, *left);
+        let found = told_at(&resumed_at(units, CursorPlace { position, left }));
+        let want = (position, left, *want);
+        expect_same(rt, (position, left, found), want, "a place");
     }
-    Ok(())
+}
+
+#[test]
+fn places_of_a_cursor(rt: HostRuntime) {
+    let trie = made_trie(&rt, &AB);
+    let found = resumed(&trie);
+    expect_same(&rt, found, [Some(3), None], "a, b, a");
+    expect_places(&rt, units_of(&trie));
 }

@@ -1,19 +1,11 @@
 //! The keys that begin a text: the longest one, and all of them.
-use super::support::{SIX, trie_of};
+use super::support::{A_AB, LEAD_PAIR, SIX, made_trie};
 use crate::tests::support::expect_same;
 use icu_char16trie::char16trie::Char16Trie;
-use icu_zerovec::MemoryError;
 use std::process::Abort;
-use std::test::Fail;
-
-/// The units of "a" to 1 and "ab" to 2.
-const A_AB: [u16; 5] = [0x30, 0x61, 0xB0, 0x62, 0x8002];
 
 /// The units of the empty key to 7 and "a" to 1.
 const EMPTY_A: [u16; 3] = [0x230, 0x61, 0x8001];
-
-/// The units of a lead surrogate to 1 and the character that it begins to 2.
-const LEAD_PAIR: [u16; 5] = [0x30, 0xD83D, 0xB0, 0xDE00, 0x8002];
 
 /// Units of a trie, a text, and the longest key that begins it.
 type Row = (&'static [u16], &'static [u16], Option<(usize, i32)>);
@@ -90,19 +82,32 @@ static ALL: [AllRow; 7] = [
     (&[], &[0x61], [None; 3]),
 ];
 
+/// The longest key that begins some units.
+pub fn longest_of(trie: &Char16Trie<'_>, text: &[u16]) -> Option<(usize, i32)> {
+    trie.longest_match(text)
+}
+
+/// The longest key that begins a text of characters.
+pub fn longest_in_text(trie: &Char16Trie<'_>, text: &str) -> Option<(usize, i32)> {
+    trie.longest_match_str(text)
+}
+
 /// The first three items: all matches of a text, where it has at most two.
-fn three_matches(trie: &Char16Trie<'_>, text: &[u16]) -> [Option<(usize, i32)>; 3] {
+pub fn three_matches(trie: &Char16Trie<'_>, text: &[u16]) -> [Option<(usize, i32)>; 3] {
+    let mut found = [None; 3];
     let mut matches = trie.matches(text);
-    [matches.next(), matches.next(), matches.next()]
+    for i in 0..3 {
+        found[i] = matches.next();
+    }
+    found
 }
 
 #[test]
-fn all_matches(rt: HostRuntime) -> Result<(), Fail> {
+fn all_matches(rt: HostRuntime) {
     for (units, text, want) in ALL.iter() {
-        let found = three_matches(&trie_of(rt.alloc(), units)?, text);
+        let found = three_matches(&made_trie(&rt, units), text);
         expect_same(&rt, (*units, found), (*units, *want), "all matches");
     }
-    Ok(())
 }
 
 /// What was found is what is wanted.
@@ -115,42 +120,25 @@ fn expect_found(
     expect_same(rt, (units, found), (units, want), "the longest match");
 }
 
-/// The longest key that begins each text.
-fn expect_longest(rt: &(impl Abort + AllocGlobal), rows: &[Row]) -> Result<(), MemoryError> {
-    for (units, text, want) in rows.iter() {
-        let found = trie_of(rt.alloc(), units)?.longest_match(text);
-        expect_found(rt, found, *want, units);
-    }
-    Ok(())
-}
-
 /// The longest key that begins each text of characters.
-fn expect_longest_in_texts(
-    rt: &(impl Abort + AllocGlobal),
-    rows: &[TextRow],
-) -> Result<(), MemoryError> {
-    for (units, text, want) in rows.iter() {
-        let found = trie_of(rt.alloc(), units)?.longest_match_str(text);
+fn expect_longest_in_texts(rt: &(impl Abort + AllocGlobal)) {
+    for (units, text, want) in LONGEST_IN_TEXTS.iter() {
+        let found = longest_in_text(&made_trie(rt, units), text);
         expect_found(rt, found, *want, units);
     }
-    Ok(())
 }
 
 #[test]
-fn longest_matches(rt: HostRuntime) -> Result<(), Fail> {
-    expect_longest(&rt, &LONGEST)?;
-    expect_longest_in_texts(&rt, &LONGEST_IN_TEXTS)?;
-    Ok(())
-}
-
-/// The longest key that begins a long text of one unit.
-fn longest_of_many(trie: &Char16Trie<'_>) -> Option<(usize, i32)> {
-    trie.longest_match(&[0x61; 10_000])
+fn longest_matches(rt: HostRuntime) {
+    for (units, text, want) in LONGEST.iter() {
+        let found = longest_of(&made_trie(&rt, units), text);
+        expect_found(&rt, found, *want, units);
+    }
+    expect_longest_in_texts(&rt);
 }
 
 #[test]
-fn the_longest_match_of_a_long_text(rt: HostRuntime) -> Result<(), Fail> {
-    let trie = trie_of(rt.alloc(), &A_AB)?;
-    expect_found(&rt, longest_of_many(&trie), Some((1, 1)), &A_AB);
-    Ok(())
+fn the_longest_match_of_a_long_text(rt: HostRuntime) {
+    let found = longest_of(&made_trie(&rt, &A_AB), &[0x61; 10_000]);
+    expect_found(&rt, found, Some((1, 1)), &A_AB);
 }

@@ -1,36 +1,49 @@
 //! Tries from and to JSON.
-use super::support::trie_of;
-use crate::tests::support::{expect_same, expect_text};
+use super::support::{are_same, made_trie, trie_of, value_of};
+use crate::tests::support::{expect, expect_answer, expect_same, expect_text, given, say};
 use icu_char16trie::char16trie::{Char16JsonError, Char16Trie};
+use icu_zerovec::MemoryError;
 use serde_json::Value;
 use std::alloc::Global;
 use std::process::Abort;
-use std::test::Fail;
+
+/// The value that a JSON text says.
+fn value_of_text(alloc: Global, text: &str) -> Option<Value> {
+    Value::from_str(alloc, text).ok()
+}
+
+/// The trie that a JSON value says.
+fn read(alloc: Global, value: &Value) -> Result<Char16Trie<'static>, Char16JsonError> {
+    Char16Trie::from_json(alloc, value)
+}
+
+/// The JSON value of a trie.
+fn written(alloc: Global, trie: &Char16Trie<'_>) -> Result<Value, MemoryError> {
+    trie.to_json(alloc)
+}
 
 /// The trie that a JSON text says.
-fn trie_of_text(alloc: Global, text: &str) -> Result<Char16Trie<'static>, Fail> {
-    let value = Value::from_str(alloc, text)?;
-    Ok(Char16Trie::from_json(alloc, &value)?)
+fn trie_of_text(
+    rt: &(impl Abort + AllocGlobal),
+    text: &str,
+) -> Result<Char16Trie<'static>, Char16JsonError> {
+    match value_of_text(rt.alloc(), text) {
+        Some(value) => read(rt.alloc(), &value),
+        None => rt.panic("no JSON"),
+    }
 }
 
 /// The JSON text says these units.
-fn expect_units(rt: &(impl Abort + AllocGlobal), text: &str, units: &[u16]) -> Result<(), Fail> {
-    let want = trie_of(rt.alloc(), units)?;
-    let read = trie_of_text(rt.alloc(), text)?;
-    expect_same(rt, read == want, true, text);
-    Ok(())
+fn expect_units(rt: &(impl Abort + AllocGlobal), text: &str, units: &[u16]) {
+    let read = given(rt, trie_of_text(rt, text));
+    let same = are_same(&read, &made_trie(rt, units));
+    expect_same(rt, same, true, text);
 }
 
 /// The JSON text has this fault.
-fn expect_fault(
-    rt: &(impl Abort + AllocGlobal),
-    text: &str,
-    want: Char16JsonError,
-) -> Result<(), Fail> {
-    let value = Value::from_str(rt.alloc(), text)?;
-    let fault = Char16Trie::from_json(rt.alloc(), &value).err();
+fn expect_fault(rt: &(impl Abort + AllocGlobal), text: &str, want: Char16JsonError) {
+    let fault = trie_of_text(rt, text).err();
     expect_same(rt, fault, Some(want), text);
-    Ok(())
 }
 
 static TEXTS: [(&str, &[u16]); 4] = [
@@ -41,19 +54,18 @@ static TEXTS: [(&str, &[u16]); 4] = [
 ];
 
 #[test]
-fn json_texts(rt: HostRuntime) -> Result<(), Fail> {
+fn json_texts(rt: HostRuntime) {
     for (text, units) in TEXTS.iter() {
-        expect_units(&rt, text, units)?;
+        expect_units(&rt, text, units);
     }
-    Ok(())
 }
 
 #[test]
-fn written_to_json(rt: HostRuntime) -> Result<(), Fail> {
-    let value = trie_of(rt.alloc(), &[0x31, 0x61, 0x62, 0x8003])?.to_json(rt.alloc())?;
+fn written_to_json(rt: HostRuntime) {
+    let trie = made_trie(&rt, &[0x31, 0x61, 0x62, 0x8003]);
+    let value = given(&rt, written(rt.alloc(), &trie));
     let text = value.to_string(rt.alloc());
     expect_text(&rt, text, r#"{"data":[49,97,98,32771]}"#);
-    Ok(())
 }
 
 static FAULTS: [(&str, Char16JsonError); 10] = [
@@ -71,9 +83,59 @@ static FAULTS: [(&str, Char16JsonError); 10] = [
 
 /// Texts that are refused by their shape, or by a number.
 #[test]
-fn refused_json_texts(rt: HostRuntime) -> Result<(), Fail> {
+fn refused_json_texts(rt: HostRuntime) {
     for (text, fault) in FAULTS.iter() {
-        expect_fault(&rt, text, *fault)?;
+        expect_fault(&rt, text, *fault);
     }
-    Ok(())
+}
+
+/// Whether a JSON value has the key of the units.
+fn has_units(alloc: Global, trie: &Char16Trie<'_>) -> Result<bool, MemoryError> {
+    let value = written(alloc, trie)?;
+    Ok(value.get("data").is_some())
+}
+
+/// Calls: `Char16Trie::to_json`.
+#[test]
+fn to_json_refused(rt: HostRuntime) {
+    let Ok(trie) = trie_of(rt.alloc(), &[0x8007]) else {
+        return;
+    };
+    say(&rt, "call");
+    let written = has_units(rt.alloc(), &trie);
+    say(&rt, "done");
+    expect_answer(&rt, written, true, "the key `data`");
+    let root = value_of(&trie, &[]);
+    expect_same(&rt, root, Some(7), "the trie itself");
+}
+
+/// The trie has the value 7 at its root, or memory was refused.
+fn expect_seven(rt: &(impl Abort + Print), read: Result<Char16Trie<'_>, Char16JsonError>) {
+    match read {
+        Ok(trie) => expect_same(rt, value_of(&trie, &[]), Some(7), "the value"),
+        Err(error) => {
+            expect_same(rt, error, Char16JsonError::Memory, "the error");
+            say(rt, "refused");
+        }
+    }
+}
+
+/// A value and its copy, where there was memory for them.
+fn two_values(alloc: Global) -> Option<(Value, Value)> {
+    let text = r#"{"data":[32775]}"#;
+    let value = value_of_text(alloc, text)?;
+    Some((value, value_of_text(alloc, text)?))
+}
+
+/// Calls: `Char16Trie::from_json`.
+#[test]
+fn from_json_refused(rt: HostRuntime) {
+    let Some((value, copy)) = two_values(rt.alloc()) else {
+        return;
+    };
+    say(&rt, "call");
+    let read = read(rt.alloc(), &value);
+    say(&rt, "done");
+    expect_seven(&rt, read);
+    expect(&rt, value == copy, "the value itself");
 }

@@ -1,34 +1,25 @@
 //! Which units are a trie, and of how many entries, by the format's description.
-use super::support::{SIX, trie_of};
-use crate::tests::support::expect_same;
-use icu_zerovec::MemoryError;
-use std::alloc::Global;
+use super::support::{SIX, count_of, is_trie, made_trie};
+use crate::tests::support::{expect_same, given};
+use std::alloc::{AllocError, Global};
 use std::process::Abort;
-use std::test::Fail;
 
 /// Whether these units are a trie.
-fn told_of(alloc: Global, units: &[u16]) -> Result<bool, MemoryError> {
-    let trie = trie_of(alloc, units)?;
-    trie.is_trie(alloc)
+fn told_of(rt: &(impl Abort + AllocGlobal), units: &[u16]) -> bool {
+    given(rt, is_trie(rt.alloc(), &made_trie(rt, units)))
 }
 
 /// How many entries these units have.
-fn count_of(alloc: Global, units: &[u16]) -> Result<Option<u64>, MemoryError> {
-    let trie = trie_of(alloc, units)?;
-    trie.count_entries(alloc)
+fn counted(rt: &(impl Abort + AllocGlobal), units: &[u16]) -> Option<u64> {
+    given(rt, count_of(rt.alloc(), &made_trie(rt, units)))
 }
 
 /// The units of each row are a trie, or those of none are.
-fn expect_all(
-    rt: &(impl Abort + AllocGlobal),
-    rows: &[&'static [u16]],
-    want: bool,
-) -> Result<(), MemoryError> {
+fn expect_all(rt: &(impl Abort + AllocGlobal), rows: &[&'static [u16]], want: bool) {
     for units in rows.iter() {
-        let told = told_of(rt.alloc(), units)?;
+        let told = told_of(rt, units);
         expect_same(rt, (*units, told), (*units, want), "a trie");
     }
-    Ok(())
 }
 
 static TRIES: [&[u16]; 14] = [
@@ -95,20 +86,18 @@ static BROKEN: [&[u16]; 17] = [
 ];
 
 #[test]
-fn units_that_are_a_trie(rt: HostRuntime) -> Result<(), Fail> {
-    expect_all(&rt, &TRIES, true)?;
-    Ok(())
+fn units_that_are_a_trie(rt: HostRuntime) {
+    expect_all(&rt, &TRIES, true);
 }
 
 #[test]
-fn units_that_are_none(rt: HostRuntime) -> Result<(), Fail> {
-    expect_all(&rt, &BROKEN, false)?;
-    Ok(())
+fn units_that_are_none(rt: HostRuntime) {
+    expect_all(&rt, &BROKEN, false);
 }
 
 /// So many branches one after another, whose two entries lead to the next one, and these units
 /// behind them.
-fn branches(alloc: Global, count: usize, behind: &[u16]) -> Result<Vec<u16>, MemoryError> {
+fn branches(alloc: Global, count: usize, behind: &[u16]) -> Result<Vec<u16>, AllocError> {
     let mut units = Vec::new(alloc);
     for _ in 0..count {
         units.extend_from_slice(&[1, 0x61, 1, 0x62])?;
@@ -118,19 +107,18 @@ fn branches(alloc: Global, count: usize, behind: &[u16]) -> Result<Vec<u16>, Mem
 }
 
 /// Whether so many branches with these units behind them are a trie.
-fn told_of_branches(alloc: Global, count: usize, behind: &[u16]) -> Result<bool, MemoryError> {
-    let units = branches(alloc, count, behind)?;
-    told_of(alloc, units.as_slice())
+fn told_of_branches(rt: &(impl Abort + AllocGlobal), count: usize, behind: &[u16]) -> bool {
+    let units = given(rt, branches(rt.alloc(), count, behind));
+    told_of(rt, units.as_slice())
 }
 
 /// Branches over which a list of the entries would take 2^40 steps.
 #[test]
-fn branches_that_share_nodes(rt: HostRuntime) -> Result<(), Fail> {
-    let told = told_of_branches(rt.alloc(), 40, &[])?;
+fn branches_that_share_nodes(rt: HostRuntime) {
+    let told = told_of_branches(&rt, 40, &[]);
     expect_same(&rt, told, false, "with no node behind them");
-    let told = told_of_branches(rt.alloc(), 40, &[0x8001])?;
+    let told = told_of_branches(&rt, 40, &[0x8001]);
     expect_same(&rt, told, true, "with a value behind them");
-    Ok(())
 }
 
 /// Units and how many entries they have.
@@ -149,38 +137,34 @@ static COUNTED: [Counted; 9] = [
 ];
 
 #[test]
-fn entries_that_are_counted(rt: HostRuntime) -> Result<(), Fail> {
+fn entries_that_are_counted(rt: HostRuntime) {
     for (units, want) in COUNTED.iter() {
-        let count = count_of(rt.alloc(), units)?;
+        let count = counted(&rt, units);
         expect_same(&rt, (*units, count), (*units, *want), "entries");
     }
-    Ok(())
 }
 
 /// How many entries so many branches have with these units behind them.
-fn count_of_branches(
-    alloc: Global,
-    count: usize,
-    behind: &[u16],
-) -> Result<Option<u64>, MemoryError> {
-    let units = branches(alloc, count, behind)?;
-    count_of(alloc, units.as_slice())
+fn count_of_branches(rt: &(impl Abort + AllocGlobal), count: usize, behind: &[u16]) -> Option<u64> {
+    let units = given(rt, branches(rt.alloc(), count, behind));
+    counted(rt, units.as_slice())
 }
+
+/// Numbers of branches, the units behind them, and how many entries there are.
+static BRANCHES: [(usize, &[u16], Option<u64>); 5] = [
+    (40, &[0x8001], Some(1 << 40)),
+    (63, &[0x8001], Some(1 << 63)),
+    (64, &[0x8001], Some(u64::MAX)),
+    (70, &[0x8001], Some(u64::MAX)),
+    // With no node behind them.
+    (70, &[], None),
+];
 
 /// Twice as many for each branch more, up to the greatest number.
 #[test]
-fn entries_of_branches(rt: HostRuntime) -> Result<(), Fail> {
-    let rows = [
-        (40, Some(1 << 40)),
-        (63, Some(1 << 63)),
-        (64, Some(u64::MAX)),
-        (70, Some(u64::MAX)),
-    ];
-    for (branches, want) in rows {
-        let count = count_of_branches(rt.alloc(), branches, &[0x8001])?;
-        expect_same(&rt, count, want, "entries");
+fn entries_of_branches(rt: HostRuntime) {
+    for (branches, behind, want) in BRANCHES.iter() {
+        let count = count_of_branches(&rt, *branches, behind);
+        expect_same(&rt, (*branches, count), (*branches, *want), "entries");
     }
-    let count = count_of_branches(rt.alloc(), 70, &[])?;
-    expect_same(&rt, count, None, "with no node behind them");
-    Ok(())
 }

@@ -1,44 +1,178 @@
-//! The tries that are asked.
-use icu_char16trie::char16trie::{Char16Trie, Entries, TrieResult};
+//! The tries that are asked, and their calls that several tests make, each in one helper.
+use crate::tests::support::given;
+use crate::tests::vectors::support::packed_of;
+use icu_char16trie::char16trie::{
+    Char16Trie, Char16TrieCursor, Char16TrieIterator, Entries, Iter2, TrieResult,
+};
 use icu_zerovec::{MemoryError, ZeroVec};
 use std::alloc::Global;
+use std::process::Abort;
 
 /// The units of six letters with the values from 1 to 6.
 pub const SIX: [u16; 15] = [
     5, 0x64, 6, 0x64, 0x8004, 0x65, 0x8005, 0x66, 0x8006, 0x61, 0x8001, 0x62, 0x8002, 0x63, 0x8003,
 ];
 
+/// The units of "a" to 1 and "ab" to 2.
+pub const A_AB: [u16; 5] = [0x30, 0x61, 0xB0, 0x62, 0x8002];
+
+/// The units of a lead surrogate to 1 and the character that it begins to 2.
+pub const LEAD_PAIR: [u16; 5] = [0x30, 0xD83D, 0xB0, 0xDE00, 0x8002];
+
+/// The trie that these packed units are.
+pub fn of_data(data: ZeroVec<'_, u16>) -> Char16Trie<'_> {
+    Char16Trie::new(data)
+}
+
 /// The trie of these units.
 pub fn trie_of(alloc: Global, units: &[u16]) -> Result<Char16Trie<'static>, MemoryError> {
-    Ok(Char16Trie::new(ZeroVec::alloc_from_slice(alloc, units)?))
+    Ok(of_data(packed_of(alloc, units)?))
+}
+
+/// The trie of these units, for which there has to be memory.
+pub fn made_trie(rt: &(impl Abort + AllocGlobal), units: &[u16]) -> Char16Trie<'static> {
+    given(rt, trie_of(rt.alloc(), units))
+}
+
+/// Whether two tries are equal.
+pub fn are_same(one: &Char16Trie<'_>, other: &Char16Trie<'_>) -> bool {
+    *one == *other
+}
+
+/// The cursor at the root.
+pub fn cursor_of<'a>(trie: &'a Char16Trie<'_>) -> Char16TrieCursor<'a> {
+    trie.cursor()
+}
+
+/// One more unit.
+pub fn pass(cursor: &mut Char16TrieCursor<'_>, unit: u16) {
+    cursor.step16(unit);
+}
+
+/// The cursor after some units.
+pub fn cursor_after<'a>(trie: &'a Char16Trie<'_>, passed: &[u16]) -> Char16TrieCursor<'a> {
+    let mut cursor = cursor_of(trie);
+    for unit in passed.iter() {
+        pass(&mut cursor, *unit);
+    }
+    cursor
+}
+
+/// The value where a cursor stands.
+pub fn value_at(cursor: &Char16TrieCursor<'_>) -> Option<i32> {
+    cursor.value()
+}
+
+/// The value of a key, looked up unit by unit.
+pub fn value_of(trie: &Char16Trie<'_>, key: &[u16]) -> Option<i32> {
+    value_at(&cursor_after(trie, key))
+}
+
+/// The iterator at the root.
+pub fn iter_of<'a>(trie: &'a Char16Trie<'_>) -> Char16TrieIterator<'a> {
+    trie.iter()
+}
+
+/// What an iterator tells of one more character.
+pub fn next_result(iterator: &mut Char16TrieIterator<'_>, c: char) -> TrieResult {
+    iterator.next(c)
 }
 
 /// What the last of these characters gives. `NoValue` before the first.
 pub fn last_result(trie: &Char16Trie<'_>, text: &str) -> TrieResult {
-    let mut iterator = trie.iter();
+    let mut iterator = iter_of(trie);
     let mut result = TrieResult::NoValue;
     for c in text.chars() {
-        result = iterator.next(c);
+        result = next_result(&mut iterator, c);
     }
     result
 }
 
-/// The entry that a listing reached last, as `text=value;`.
-fn line_of(alloc: Global, entries: &Entries<'_>) -> Result<String, MemoryError> {
-    let text = entries.key();
-    let value = entries.value();
+/// An entry as `text=value;`.
+fn line_of(alloc: Global, text: &str, value: i32) -> Result<String, MemoryError> {
     Ok(format!(in alloc; "{text}={value};")?)
+}
+
+/// The entries of a trie, each as a text of its own.
+pub fn items_of<'a>(alloc: Global, trie: &'a Char16Trie<'_>) -> Iter2<'a> {
+    trie.iter2(alloc)
+}
+
+/// The next of these entries, if one is left.
+pub fn next_item(items: &mut Iter2<'_>) -> Result<Option<(String, i32)>, MemoryError> {
+    match items.next() {
+        Some(Ok(item)) => Ok(Some(item)),
+        Some(Err(error)) => Err(error),
+        None => Ok(None),
+    }
+}
+
+/// Whether none of these entries is left.
+pub fn is_over(items: &mut Iter2<'_>) -> bool {
+    matches!(next_item(items), Ok(None))
+}
+
+/// These entries one after another, of at most 99.
+pub fn items_listed(alloc: Global, items: &mut Iter2<'_>) -> Result<String, MemoryError> {
+    let mut said = String::new(alloc);
+    for _ in 0..99 {
+        let Some((text, value)) = next_item(items)? else {
+            return Ok(said);
+        };
+        let line = line_of(alloc, text.as_str(), value)?;
+        said.push_str(line.as_str())?;
+    }
+    Ok(said)
+}
+
+/// The entries of a trie by one buffer.
+pub fn entries_of<'a>(alloc: Global, trie: &'a Char16Trie<'_>) -> Entries<'a> {
+    trie.entries(alloc)
+}
+
+/// The entries that go on from a cursor.
+pub fn entries_from<'a>(alloc: Global, cursor: &Char16TrieCursor<'a>) -> Entries<'a> {
+    cursor.entries(alloc)
+}
+
+/// Goes to the next entry: whether there is one.
+pub fn advanced(entries: &mut Entries<'_>) -> Result<bool, MemoryError> {
+    entries.advance()
+}
+
+/// The entry that a listing reached last.
+pub fn told<'a>(entries: &'a Entries<'_>) -> (&'a str, i32) {
+    (entries.key(), entries.value())
 }
 
 /// The entries that a listing has left, one after another, of at most 99.
 pub fn listed(alloc: Global, entries: &mut Entries<'_>) -> Result<String, MemoryError> {
     let mut said = String::new(alloc);
     for _ in 0..99 {
-        if !entries.advance()? {
+        if !advanced(entries)? {
             return Ok(said);
         }
-        let line = line_of(alloc, entries)?;
+        let (text, value) = told(entries);
+        let line = line_of(alloc, text, value)?;
         said.push_str(line.as_str())?;
     }
     Ok(said)
+}
+
+/// Whether the units of a trie are one.
+pub fn is_trie(alloc: Global, trie: &Char16Trie<'_>) -> Result<bool, MemoryError> {
+    trie.is_trie(alloc)
+}
+
+/// How many entries a trie has.
+pub fn count_of(alloc: Global, trie: &Char16Trie<'_>) -> Result<Option<u64>, MemoryError> {
+    trie.count_entries(alloc)
+}
+
+/// The units with which keys go on from a cursor.
+pub fn next_units_of(
+    alloc: Global,
+    cursor: &Char16TrieCursor<'_>,
+) -> Result<Vec<u16>, MemoryError> {
+    cursor.next_units(alloc)
 }

@@ -1,8 +1,8 @@
 //! Printed texts of errors and of tries.
-use super::support::trie_of;
+use super::support::{last_result, made_trie};
 use crate::tests::support::{expect_text, expect_told};
-use icu_char16trie::char16trie::Char16JsonError;
-use std::test::Fail;
+use icu_char16trie::char16trie::{Char16JsonError, Char16Trie};
+use std::alloc::{AllocError, Global};
 
 static ERRORS: [(Char16JsonError, &str); 3] = [
     (
@@ -23,11 +23,15 @@ fn texts_of_errors(rt: HostRuntime) {
     }
 }
 
+/// A trie as it is shown, and what it tells of `a`.
+fn shown(alloc: Global, trie: &Char16Trie<'_>) -> Result<String, AllocError> {
+    let result = last_result(trie, "a");
+    format!(in alloc; "{trie:?} {result:?}")
+}
+
 #[test]
-fn trie_and_result_shown(rt: HostRuntime) -> Result<(), Fail> {
-    let trie = trie_of(rt.alloc(), &[0x8007])?;
-    let result = trie.iter().next('a');
-    let shown = format!(in rt.alloc(); "{trie:?} {result:?}");
-    expect_text(&rt, shown, "Char16Trie { data: [32775] } NoMatch");
-    Ok(())
+fn trie_and_result_shown(rt: HostRuntime) {
+    let trie = made_trie(&rt, &[0x8007]);
+    let text = shown(rt.alloc(), &trie);
+    expect_text(&rt, text, "Char16Trie { data: [32775] } NoMatch");
 }
