@@ -1,15 +1,14 @@
 //! Maps made at random: added in random order, built, and read back; compared with a `BTreeMap`.
 use super::random::{Kind, Random};
-use super::support::gives;
-use crate::tests::support::expect;
-use icu_char16trie::char16trie::Char16Trie;
+use super::support::{add, build, gives, new_builder};
+use crate::tests::support::{expect, given};
+use crate::tests::unit_tries::support::{cursor_of, is_over, items_of, pass, value_at};
+use icu_char16trie::char16trie::{Char16Trie, Iter2};
 use icu_char16trie_builder::builder::Char16TrieBuilder;
 use icu_char16trie_builder::error::AddError;
-use icu_zerovec::MemoryError;
 use std::alloc::{AllocError, Global};
 use std::collections::BTreeMap;
 use std::process::Abort;
-use std::test::Fail;
 
 /// The kinds of keys, in turn.
 const KINDS: [Kind; 6] = [
@@ -24,6 +23,11 @@ const KINDS: [Kind; 6] = [
 /// A map of keys to values.
 type Map = BTreeMap<Vec<u16>, i32>;
 
+/// The value that a key has in the map.
+fn mapped(map: &Map, key: &[u16]) -> Option<i32> {
+    map.get(key).copied()
+}
+
 /// Adds an entry to the builder and to the map; whether the builder answers as it has to.
 fn add_to_both(
     builder: &mut Char16TrieBuilder,
@@ -31,9 +35,8 @@ fn add_to_both(
     key: Vec<u16>,
     value: i32,
 ) -> Result<bool, AllocError> {
-    let known = map.contains_key(key.as_slice());
-    let answer = builder.add(key.as_slice(), value);
-    if known {
+    let answer = add(builder, key.as_slice(), value);
+    if mapped(map, key.as_slice()).is_some() {
         return Ok(answer == Err(AddError::Duplicate));
     }
     map.insert(key, value)?;
@@ -61,73 +64,72 @@ fn add_random(
 /// Whether each front of the key, the whole key too, has in the trie the value that it has in the
 /// map.
 fn fronts_agree(trie: &Char16Trie<'_>, map: &Map, key: &[u16]) -> bool {
-    let mut cursor = trie.cursor();
+    let mut cursor = cursor_of(trie);
     for i in 0..key.len() {
-        if cursor.value() != map.get(key.split_at(i).0).copied() {
+        if value_at(&cursor) != mapped(map, key.split_at(i).0) {
             return false;
         }
-        cursor.step16(key[i]);
+        pass(&mut cursor, key[i]);
     }
-    cursor.value() == map.get(key).copied()
+    value_at(&cursor) == mapped(map, key)
 }
 
 /// Whether keys made at random, most of which are not there, have the same answer in both.
 fn others_agree(
-    alloc: Global,
+    rt: &(impl Abort + AllocGlobal),
     random: &mut Random,
     trie: &Char16Trie<'_>,
     map: &Map,
-) -> Result<bool, AllocError> {
-    for kind in KINDS {
-        let key = random.key(alloc, kind)?;
-        if !fronts_agree(trie, map, key.as_slice()) {
-            return Ok(false);
-        }
-    }
-    Ok(true)
-}
-
-/// Whether each front of each short key has the same answer in both.
-fn short_keys_agree(trie: &Char16Trie<'_>, map: &Map) -> bool {
+) -> bool {
     let mut right = true;
-    for (key, _) in map {
-        if key.len() <= 8 {
-            right &= fronts_agree(trie, map, key.as_slice());
-        }
+    for kind in KINDS {
+        let key = given(rt, random.key(rt.alloc(), kind));
+        right &= fronts_agree(trie, map, key.as_slice());
     }
     right
 }
 
+/// Whether an entry of the map is in the trie and its next item, and each front of a short key has
+/// the same answer in both.
+fn agrees(
+    rt: &(impl Abort + AllocGlobal),
+    trie: &Char16Trie<'_>,
+    items: &mut Iter2<'_>,
+    map: &Map,
+    key: &[u16],
+    value: i32,
+) -> bool {
+    gives(rt, trie, items, key, value) && (key.len() > 8 || fronts_agree(trie, map, key))
+}
+
 /// Whether each entry of the map is an entry of the trie, in the map's order, and no other one is.
-fn lists(alloc: Global, trie: &Char16Trie<'_>, map: &Map) -> Result<bool, MemoryError> {
-    let mut items = trie.iter2(alloc);
+fn lists(rt: &(impl Abort + AllocGlobal), trie: &Char16Trie<'_>, map: &Map) -> bool {
+    let mut items = items_of(rt.alloc(), trie);
     let mut right = true;
     for (key, value) in map {
-        right &= gives(alloc, trie, &mut items, key.as_slice(), *value)?;
+        right &= agrees(rt, trie, &mut items, map, key.as_slice(), *value);
     }
-    Ok(right & items.next().is_none())
+    right & is_over(&mut items)
 }
 
 /// Whether the map of a seed is built as it has to be.
-fn is_right(alloc: Global, seed: u64) -> Result<bool, Fail> {
+fn is_right(rt: &(impl Abort + AllocGlobal), seed: u64) -> bool {
     let mut random = Random::new(seed);
-    let mut builder = Char16TrieBuilder::new(alloc);
-    let mut map = BTreeMap::new(alloc);
-    let first = KINDS[(seed % 6) as usize];
-    let second = KINDS[(seed / 6 % 6) as usize];
-    let right = add_random(alloc, &mut random, first, &mut builder, &mut map)?
-        && add_random(alloc, &mut random, second, &mut builder, &mut map)?;
-    let trie = builder.build()?;
-    let listed = lists(alloc, &trie, &map)? & short_keys_agree(&trie, &map);
-    Ok(right & listed & others_agree(alloc, &mut random, &trie, &map)?)
+    let mut builder = new_builder(rt.alloc());
+    let mut map = BTreeMap::new(rt.alloc());
+    let mut right = true;
+    for kind in [KINDS[(seed % 6) as usize], KINDS[(seed / 6 % 6) as usize]] {
+        let added = add_random(rt.alloc(), &mut random, kind, &mut builder, &mut map);
+        right &= given(rt, added);
+    }
+    let trie = given(rt, build(builder));
+    right & lists(rt, &trie, &map) & others_agree(rt, &mut random, &trie, &map)
 }
 
 /// Each kind of keys alone and beside each other kind.
 #[test]
-fn random_maps(rt: HostRuntime) -> Result<(), Fail> {
+fn random_maps(rt: HostRuntime) {
     for seed in 0..360 {
-        let right = is_right(rt.alloc(), seed)?;
-        expect(&rt, right, "a map made at random");
+        expect(&rt, is_right(&rt, seed), "a map made at random");
     }
-    Ok(())
 }

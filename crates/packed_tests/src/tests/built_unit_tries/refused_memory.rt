@@ -2,8 +2,9 @@
 //! test whose name ends in `_refused` with its first, second, .. request refused, until a run
 //! refuses nothing: a refusal between the lines `call` and `done` has to be answered by the line
 //! `refused`. In a test whose name ends in `_quiet` nothing is asked for between the two.
-use super::support::value_of;
+use super::support::{add, add_text, build, counted, new_builder};
 use crate::tests::support::{expect, expect_same, say};
+use crate::tests::unit_tries::support::{are_same, value_of};
 use icu_char16trie::char16trie::Char16Trie;
 use icu_char16trie_builder::builder::Char16TrieBuilder;
 use icu_char16trie_builder::error::{AddError, BuildError};
@@ -19,9 +20,9 @@ fn add_keys(builder: &mut Char16TrieBuilder, count: u16) -> (u16, Result<(), Add
     for k in 0..count {
         let unit = k % 40;
         let added = if k == unit {
-            builder.add(&[unit], i32::from(k))
+            add(builder, &[unit], i32::from(k))
         } else {
-            builder.add(&[unit, k], i32::from(k))
+            add(builder, &[unit, k], i32::from(k))
         };
         if added.is_err() {
             return (k, added);
@@ -32,7 +33,7 @@ fn add_keys(builder: &mut Char16TrieBuilder, count: u16) -> (u16, Result<(), Add
 
 /// A builder to which so many keys were added, and no more were tried.
 fn with_keys(alloc: Global, count: u16) -> Option<Char16TrieBuilder> {
-    let mut builder = Char16TrieBuilder::new(alloc);
+    let mut builder = new_builder(alloc);
     let (_, added) = add_keys(&mut builder, count);
     added.ok()?;
     Some(builder)
@@ -40,8 +41,9 @@ fn with_keys(alloc: Global, count: u16) -> Option<Char16TrieBuilder> {
 
 /// Both builders build the same trie, if they find memory.
 fn expect_same_built(rt: &impl Abort, found: Char16TrieBuilder, want: Char16TrieBuilder) {
-    if let (Ok(found), Ok(want)) = (found.build(), want.build()) {
-        expect(rt, found == want, "the entries before the refused one");
+    if let (Ok(found), Ok(want)) = (build(found), build(want)) {
+        let same = are_same(&found, &want);
+        expect(rt, same, "the entries before the refused one");
     }
 }
 
@@ -59,7 +61,7 @@ fn expect_memory(rt: &(impl Abort + Print), refusal: Result<(), AddError>) {
 /// Calls: `Char16TrieBuilder::add`.
 #[test]
 fn add_refused(rt: HostRuntime) {
-    let mut builder = Char16TrieBuilder::new(rt.alloc());
+    let mut builder = new_builder(rt.alloc());
     say(&rt, "call");
     let (count, refusal) = add_keys(&mut builder, MANY);
     say(&rt, "done");
@@ -88,7 +90,7 @@ static TEXTS: [&str; 12] = [
 /// Adds the texts as keys up to the first that is refused: how many were added, and the refusal.
 fn add_texts(builder: &mut Char16TrieBuilder) -> (u16, Result<(), AddError>) {
     for k in 0..12u16 {
-        let added = builder.add_str(TEXTS[usize::from(k)], i32::from(k));
+        let added = add_text(builder, TEXTS[usize::from(k)], i32::from(k));
         if added.is_err() {
             return (k, added);
         }
@@ -101,14 +103,16 @@ fn add_texts(builder: &mut Char16TrieBuilder) -> (u16, Result<(), AddError>) {
 /// Calls: `Char16TrieBuilder::add_str`.
 #[test]
 fn add_str_refused(rt: HostRuntime) {
-    let mut builder = Char16TrieBuilder::new(rt.alloc());
+    let mut builder = new_builder(rt.alloc());
     say(&rt, "call");
     let (count, refusal) = add_texts(&mut builder);
     say(&rt, "done");
     expect_memory(&rt, refusal);
-    expect(
+    let (len, _) = counted(&builder);
+    expect_same(
         &rt,
-        builder.len() == usize::from(count),
+        len,
+        usize::from(count),
         "the entries before the refused one",
     );
 }
@@ -131,7 +135,7 @@ fn build_refused(rt: HostRuntime) {
         return;
     };
     say(&rt, "call");
-    let built = builder.build();
+    let built = build(builder);
     say(&rt, "done");
     expect_built(&rt, built);
 }
@@ -142,8 +146,8 @@ fn build_refused(rt: HostRuntime) {
 #[test]
 fn new_quiet(rt: HostRuntime) {
     say(&rt, "call");
-    let builder = Char16TrieBuilder::new(rt.alloc());
-    let counted = (builder.len(), builder.is_empty());
+    let builder = new_builder(rt.alloc());
+    let found = counted(&builder);
     say(&rt, "done");
-    expect_same(&rt, counted, (0, true), "no entries");
+    expect_same(&rt, found, (0, true), "no entries");
 }

@@ -1,10 +1,10 @@
 //! Equal nodes of a trie are written once where they are jumped to.
-use super::support::value_of;
-use crate::tests::support::{expect, expect_same};
+use super::support::{build, expect_added, len_of, new_builder};
+use crate::tests::support::{expect, expect_same, given};
+use crate::tests::unit_tries::support::value_of;
 use icu_char16trie::char16trie::Char16Trie;
-use icu_char16trie_builder::builder::Char16TrieBuilder;
 use std::alloc::{AllocError, Global};
-use std::test::Fail;
+use std::process::Abort;
 
 /// A key of a letter and forty units 7.
 fn key_of(alloc: Global, letter: u16) -> Result<Vec<u16>, AllocError> {
@@ -20,39 +20,37 @@ fn value_for(letter: u16, alike: bool) -> i32 {
 }
 
 /// A trie of the keys of four letters.
-fn trie_of_four(alloc: Global, alike: bool) -> Result<Char16Trie<'static>, Fail> {
-    let mut builder = Char16TrieBuilder::new(alloc);
+fn trie_of_four(rt: &(impl Abort + AllocGlobal), alike: bool) -> Char16Trie<'static> {
+    let mut builder = new_builder(rt.alloc());
     for letter in 1..5 {
-        let value = value_for(letter, alike);
-        builder.add(key_of(alloc, letter)?.as_slice(), value)?;
+        let key = given(rt, key_of(rt.alloc(), letter));
+        expect_added(rt, &mut builder, key.as_slice(), value_for(letter, alike));
     }
-    Ok(builder.build()?)
+    given(rt, build(builder))
 }
 
 /// Whether the key of each letter has its value.
-fn has_four(alloc: Global, trie: &Char16Trie<'_>, alike: bool) -> Result<bool, AllocError> {
+fn has_four(rt: &(impl Abort + AllocGlobal), trie: &Char16Trie<'_>, alike: bool) -> bool {
     let mut all = true;
     for letter in 1..5 {
-        let found = value_of(trie, key_of(alloc, letter)?.as_slice());
-        all &= found == Some(value_for(letter, alike));
+        let key = given(rt, key_of(rt.alloc(), letter));
+        all &= value_of(trie, key.as_slice()) == Some(value_for(letter, alike));
     }
-    Ok(all)
+    all
 }
 
 /// How many units a trie of four keys has, and whether it has the keys.
-fn four(alloc: Global, alike: bool) -> Result<(usize, bool), Fail> {
-    let trie = trie_of_four(alloc, alike)?;
-    let all = has_four(alloc, &trie, alike)?;
-    Ok((trie.data.len(), all))
+fn four(rt: &(impl Abort + AllocGlobal), alike: bool) -> (usize, bool) {
+    let trie = trie_of_four(rt, alike);
+    (len_of(&trie), has_four(rt, &trie, alike))
 }
 
 /// Forty units take 43 with their leads, and a value 1. The last of four nodes stands in the row
 /// itself, so of four equal ones two are written.
 #[test]
-fn equal_nodes(rt: HostRuntime) -> Result<(), Fail> {
-    let (apart, all_apart) = four(rt.alloc(), false)?;
-    let (shared, all_shared) = four(rt.alloc(), true)?;
+fn equal_nodes(rt: HostRuntime) {
+    let (apart, all_apart) = four(&rt, false);
+    let (shared, all_shared) = four(&rt, true);
     expect(&rt, all_apart && all_shared, "the values");
     expect_same(&rt, apart, shared.saturating_add(88), "two nodes less");
-    Ok(())
 }

@@ -1,102 +1,100 @@
 //! Branches of many units, jumps and deltas of two units, long linear matches.
-use super::support::{gives, value_of};
-use crate::tests::support::{expect, expect_same};
+use super::support::{build, copies_of, expect_added, gives, new_builder};
+use crate::tests::support::{expect, expect_same, given};
+use crate::tests::unit_tries::support::{is_over, items_of, next_item, value_of};
 use icu_char16trie::char16trie::{Char16Trie, Iter2};
-use icu_char16trie_builder::builder::Char16TrieBuilder;
-use icu_zerovec::MemoryError;
-use std::alloc::{AllocError, Global};
 use std::process::Abort;
-use std::test::Fail;
 
 /// A trie of keys of one unit, those below `count`, each with its unit as value.
-fn trie_of_units(alloc: Global, count: u16) -> Result<Char16Trie<'static>, Fail> {
-    let mut builder = Char16TrieBuilder::new(alloc);
+fn trie_of_units(rt: &(impl Abort + AllocGlobal), count: u16) -> Char16Trie<'static> {
+    let mut builder = new_builder(rt.alloc());
     for unit in 0..count {
-        builder.add(&[unit], i32::from(unit))?;
+        expect_added(rt, &mut builder, &[unit], i32::from(unit));
     }
-    Ok(builder.build()?)
+    given(rt, build(builder))
+}
+
+/// Whether the next item has this value.
+fn is_next_value(items: &mut Iter2<'_>, value: i32) -> bool {
+    match next_item(items) {
+        Ok(Some((_, found))) => found == value,
+        _ => false,
+    }
 }
 
 /// Whether the values are 0, 1, .. up to before `count`.
-fn counts_up(items: &mut Iter2<'_>, count: u16) -> Result<bool, MemoryError> {
+fn counts_up(items: &mut Iter2<'_>, count: u16) -> bool {
     for wanted in 0..count {
-        let Some(item) = items.next() else {
-            return Ok(false);
-        };
-        let (_, value) = item?;
-        if value != i32::from(wanted) {
-            return Ok(false);
+        if !is_next_value(items, i32::from(wanted)) {
+            return false;
         }
     }
-    Ok(items.next().is_none())
+    is_over(items)
 }
 
 /// The trie has the units below `count` as keys, each with its unit as value, and no other one.
-fn expect_units(
-    rt: &(impl Abort + AllocGlobal),
-    trie: Char16Trie<'_>,
-    count: u16,
-) -> Result<(), MemoryError> {
+fn expect_units(rt: &(impl Abort + AllocGlobal), trie: &Char16Trie<'_>, count: u16) {
     for unit in 0..0xFFFF {
         let want = (unit < count).then_some(i32::from(unit));
-        expect_same(rt, value_of(&trie, &[unit]), want, "a key of one unit");
+        expect_same(rt, value_of(trie, &[unit]), want, "a key of one unit");
     }
-    let listed = counts_up(&mut trie.iter2(rt.alloc()), count)?;
+    let listed = counts_up(&mut items_of(rt.alloc(), trie), count);
     expect(rt, listed, "the entries in order");
-    Ok(())
 }
 
 #[test]
-fn branches_of_many_units(rt: HostRuntime) -> Result<(), Fail> {
+fn branches_of_many_units(rt: HostRuntime) {
     for count in [1, 2, 5, 6, 0x30, 0x31, 300] {
-        expect_units(&rt, trie_of_units(rt.alloc(), count)?, count)?;
+        expect_units(&rt, &trie_of_units(&rt, count), count);
     }
-    Ok(())
 }
 
 #[test]
-fn branch_of_all_units(rt: HostRuntime) -> Result<(), Fail> {
-    expect_units(&rt, trie_of_units(rt.alloc(), 0xFFFF)?, 0xFFFF)?;
-    Ok(())
-}
-
-/// Many times the same unit.
-fn copies_of(alloc: Global, unit: u16, count: usize) -> Result<Vec<u16>, AllocError> {
-    vec![in alloc; unit; count]
+fn branch_of_all_units(rt: HostRuntime) {
+    expect_units(&rt, &trie_of_units(&rt, 0xFFFF), 0xFFFF);
 }
 
 /// A trie of ten keys, the key k being 20,000 units k.
-fn trie_of_ten(alloc: Global) -> Result<Char16Trie<'static>, Fail> {
-    let mut builder = Char16TrieBuilder::new(alloc);
+fn trie_of_ten(rt: &(impl Abort + AllocGlobal)) -> Char16Trie<'static> {
+    let mut builder = new_builder(rt.alloc());
     for k in 1..11 {
-        builder.add(copies_of(alloc, k, 20_000)?.as_slice(), i32::from(k))?;
+        let key = given(rt, copies_of(rt.alloc(), k, 20_000));
+        expect_added(rt, &mut builder, key.as_slice(), i32::from(k));
     }
-    Ok(builder.build()?)
+    given(rt, build(builder))
+}
+
+/// Whether a key has this value and is the next item, and has no value without its last unit.
+fn has_key(
+    rt: &(impl Abort + AllocGlobal),
+    trie: &Char16Trie<'_>,
+    items: &mut Iter2<'_>,
+    key: &[u16],
+    value: i32,
+) -> bool {
+    match key.split_last() {
+        Some((_, shorter)) => {
+            value_of(trie, shorter).is_none() && gives(rt, trie, items, key, value)
+        }
+        None => false,
+    }
 }
 
 /// Whether each of the ten keys has its value, is the next item, and has none without its last
 /// unit, and no other item comes.
-fn has_ten(alloc: Global, trie: &Char16Trie<'_>) -> Result<bool, MemoryError> {
-    let mut items = trie.iter2(alloc);
+fn has_ten(rt: &(impl Abort + AllocGlobal), trie: &Char16Trie<'_>) -> bool {
+    let mut items = items_of(rt.alloc(), trie);
+    let mut right = true;
     for k in 1..11 {
-        let key = copies_of(alloc, k, 20_000)?;
-        let Some(shorter) = key.as_slice().get(..19_999) else {
-            return Ok(false);
-        };
-        if value_of(trie, shorter).is_some()
-            || !gives(alloc, trie, &mut items, key.as_slice(), i32::from(k))?
-        {
-            return Ok(false);
-        }
+        let key = given(rt, copies_of(rt.alloc(), k, 20_000));
+        right &= has_key(rt, trie, &mut items, key.as_slice(), i32::from(k));
     }
-    Ok(items.next().is_none())
+    right & is_over(&mut items)
 }
 
 /// A delta passes 0xFBFF, and needs two units.
 #[test]
-fn ten_keys_of_20_000_units(rt: HostRuntime) -> Result<(), Fail> {
-    let trie = trie_of_ten(rt.alloc())?;
-    let whole = has_ten(rt.alloc(), &trie)?;
+fn ten_keys_of_20_000_units(rt: HostRuntime) {
+    let whole = has_ten(&rt, &trie_of_ten(&rt));
     expect(&rt, whole, "ten keys of 20,000 units");
-    Ok(())
 }

@@ -1,7 +1,6 @@
 //! Values at the ends of each of their lengths.
-use super::support::{Entry, built, expect_entries};
+use super::support::{Entry, built, expect_entries, len_of};
 use crate::tests::support::expect_same;
-use std::test::Fail;
 
 /// The ends of the lengths of final and of intermediate values.
 static VALUES: [i32; 15] = [
@@ -24,15 +23,14 @@ static VALUES: [i32; 15] = [
 
 /// A value at the end of a key alone, in a row, and of a key that goes on.
 #[test]
-fn values_of_all_lengths(rt: HostRuntime) -> Result<(), Fail> {
+fn values_of_all_lengths(rt: HostRuntime) {
     for value in VALUES.iter() {
         let a: Entry = (&[0x61], *value, "a");
         let ab: Entry = (&[0x61, 0x62], *value, "ab");
         let ac: Entry = (&[0x61, 0x63], *value, "ac");
-        expect_entries(&rt, &[a], None)?;
-        expect_entries(&rt, &[a, ab, ac], None)?;
+        expect_entries(&rt, &[a], None);
+        expect_entries(&rt, &[a, ab, ac], None);
     }
-    Ok(())
 }
 
 /// Six keys of one letter, each with a longer key.
@@ -52,9 +50,8 @@ static TWELVE: [Entry; 12] = [
 ];
 
 #[test]
-fn values_of_twelve_keys(rt: HostRuntime) -> Result<(), Fail> {
-    expect_entries(&rt, &TWELVE, None)?;
-    let units = built(rt.alloc(), &TWELVE, false)?.data.len();
+fn values_of_twelve_keys(rt: HostRuntime) {
+    expect_entries(&rt, &TWELVE, None);
+    let units = len_of(&built(&rt, &TWELVE, false));
     expect_same(&rt, units, 45, "as many units as ICU's");
-    Ok(())
 }

@@ -1,6 +1,5 @@
 //! Tries whose entries are those of the format's description, and what is in a trie of no entries.
 use super::support::{Entry, expect_entries};
-use std::test::Fail;
 
 /// Entries in unit order, and the units that ICU's builder writes for them, where they are told. It
 /// writes the same ones where it is asked for a fast trie.
@@ -42,9 +41,8 @@ static ROWS: [Row; 12] = [
 ];
 
 #[test]
-fn worked_tries(rt: HostRuntime) -> Result<(), Fail> {
+fn worked_tries(rt: HostRuntime) {
     for (entries, units) in ROWS.iter() {
-        expect_entries(&rt, entries, *units)?;
+        expect_entries(&rt, entries, *units);
     }
-    Ok(())
 }
