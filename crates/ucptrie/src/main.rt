@@ -4,7 +4,7 @@
 
 mod words;
 
-use anyhow::{Context, Result, bail};
+use anyhow::{Context, Error, Result, anyhow};
 use clap::ArgMatches;
 use icu_trie_core::header::TrieType;
 use std::io::{Read, Write};
@@ -38,11 +38,17 @@ fn width(matches: &ArgMatches<'_>) -> ValueWidth {
     }
 }
 
+/// A word is not what it is to be.
+fn refused(word: &str, why: &str) -> Error {
+    anyhow!("{word}: {why}")
+}
+
 /// The form that the words name.
 fn form<'a>(matches: &ArgMatches<'a>) -> Result<Form<'a>> {
     let name = matches.get_str("name").unwrap_or("table");
     if !is_name(name) {
-        bail!("{name}: no name of letters, digits and _ that begins with no digit");
+        let why = "no name of letters, digits and _ that begins with no digit";
+        return Err(refused(name, why));
     }
     Ok(match matches.get_str("as") {
         Some("icu") => Form::Icu,
@@ -64,14 +70,12 @@ fn options(matches: &ArgMatches<'_>) -> TableOptions {
     }
 }
 
-/// Writes a table of the rows on standard input to standard output.
-fn build(rt: &HostRuntime, matches: &ArgMatches<'_>) -> Result<()> {
+/// A table of the rows on standard input, in the form that the words name.
+fn build(rt: &HostRuntime, matches: &ArgMatches<'_>) -> Result<Vec<u8>> {
     let form = form(matches)?;
     let mut rows = Vec::new(rt.alloc());
     rt.stdin().read_to_end(&mut rows)?;
-    let bytes = built(rt.alloc(), &rows, options(matches), form)?;
-    rt.stdout().write_all(&bytes)?;
-    Ok(())
+    Ok(built(rt.alloc(), &rows, options(matches), form)?)
 }
 
 /// The table of the file that the words name.
@@ -82,42 +86,53 @@ fn table_at(rt: &HostRuntime, matches: &ArgMatches<'_>, id: &str) -> Result<Tabl
     Ok(table)
 }
 
-/// Prints what a table is.
-fn show(rt: &HostRuntime, matches: &ArgMatches<'_>) -> Result<()> {
+/// What a table is.
+fn show(rt: &HostRuntime, matches: &ArgMatches<'_>) -> Result<String> {
     let table = table_at(rt, matches, "file")?;
-    let text = shown(rt.alloc(), &table)?;
-    rt.stdout().write_all(text.as_bytes())?;
-    Ok(())
+    Ok(shown(rt.alloc(), &table)?)
+}
+
+/// The number that a word asks for.
+fn number_of(word: &str) -> Result<u32> {
+    match hexadecimal(word.as_bytes()) {
+        Some(number) => Ok(number),
+        None => Err(refused(word, "not 1 to 8 hexadecimal digits")),
+    }
 }
 
 /// The numbers that the words ask for.
 fn asked(rt: &HostRuntime, matches: &ArgMatches<'_>) -> Result<Vec<u32>> {
     let mut asked = Vec::new(rt.alloc());
     for word in matches.get_strs("asked").unwrap_or(&[]) {
-        match hexadecimal(word.as_bytes()) {
-            Some(number) => asked.push(number)?,
-            None => bail!("{word}: not 1 to 8 hexadecimal digits"),
-        }
+        asked.push(number_of(word)?)?;
     }
     Ok(asked)
 }
 
-/// Prints what a table answers.
-fn get(rt: &HostRuntime, matches: &ArgMatches<'_>) -> Result<()> {
+/// What a table answers.
+fn get(rt: &HostRuntime, matches: &ArgMatches<'_>) -> Result<String> {
     let asked = asked(rt, matches)?;
     let table = table_at(rt, matches, "file")?;
-    let text = answered(rt.alloc(), &table, &asked)?;
-    rt.stdout().write_all(text.as_bytes())?;
-    Ok(())
+    Ok(answered(rt.alloc(), &table, &asked)?)
 }
 
-/// Prints where two tables differ.
-fn diff(rt: &HostRuntime, matches: &ArgMatches<'_>) -> Result<()> {
+/// Where two tables differ.
+fn diff(rt: &HostRuntime, matches: &ArgMatches<'_>) -> Result<String> {
     let first = table_at(rt, matches, "first")?;
     let second = table_at(rt, matches, "second")?;
-    let text = differences_text(rt.alloc(), &first.trie, &second.trie)?;
-    rt.stdout().write_all(text.as_bytes())?;
-    Ok(())
+    Ok(differences_text(rt.alloc(), &first.trie, &second.trie)?)
+}
+
+/// What a command writes to standard output.
+fn written_by(rt: &HostRuntime, name: &str, matches: &ArgMatches<'_>) -> Result<Vec<u8>> {
+    let text = match name {
+        "build" => return build(rt, matches),
+        "show" => show(rt, matches)?,
+        "get" => get(rt, matches)?,
+        "diff" => diff(rt, matches)?,
+        _ => return Err(Error::msg("no command")),
+    };
+    Ok(text.into_bytes())
 }
 
 /// Does what the words ask for, and answers the status.
@@ -131,13 +146,9 @@ fn run(rt: &HostRuntime) -> Result<ExitCode> {
             return Ok(ExitCode::from(error.exit_code() as u8));
         }
     };
-    match matches.subcommand() {
-        Some(("build", matches)) => build(rt, matches)?,
-        Some(("show", matches)) => show(rt, matches)?,
-        Some(("get", matches)) => get(rt, matches)?,
-        Some(("diff", matches)) => diff(rt, matches)?,
-        _ => bail!("no command"),
-    }
+    let (name, matches) = matches.subcommand().context("no command")?;
+    let bytes = written_by(rt, name, matches)?;
+    rt.stdout().write_all(&bytes)?;
     Ok(ExitCode::SUCCESS)
 }
 

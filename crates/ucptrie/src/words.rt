@@ -1,88 +1,176 @@
 //! The words that the program takes.
-use clap::{Arg, ArgAction, Command, value_parser};
+use clap::builder::ValueParser;
+use clap::{Arg, Command};
 use std::alloc::{AllocError, Global};
 
-/// An option that takes one value.
-fn option<'a>(alloc: Global, name: &'a str) -> Arg<'a> {
-    Arg::new(alloc, name).long(name).action(ArgAction::Set)
+/// Where an argument stands.
+#[derive(Clone, Copy)]
+enum Place {
+    /// `--id VALUE`, anywhere.
+    Option,
+    /// One word, by its place.
+    Word,
+    /// This word and all that follow.
+    Words,
 }
+
+/// What a command takes: one argument.
+#[derive(Clone, Copy)]
+struct Argument {
+    id: &'static str,
+    place: Place,
+    required: bool,
+    /// What help calls the value: nothing for the id itself.
+    value_name: &'static [&'static str],
+    /// What a value has to be.
+    values: ValueParser<'static>,
+    /// The value where the argument is left out, if it has one.
+    default: &'static [&'static str],
+    help: &'static str,
+}
+
+/// An option that takes any value, and may be left out.
+const OPTION: Argument = Argument {
+    id: "",
+    place: Place::Option,
+    required: false,
+    value_name: &[],
+    values: ValueParser::String,
+    default: &[],
+    help: "",
+};
+
+/// An option that takes a value of 32 bits, and is 0 where it is left out.
+const NUMBER: Argument = Argument {
+    value_name: &["N"],
+    values: ValueParser::Unsigned(0, 0xffffffff),
+    default: &["0"],
+    ..OPTION
+};
 
 /// The name of a file.
-fn file<'a>(alloc: Global, id: &'a str) -> Arg<'a> {
-    Arg::new(alloc, id)
-        .value_name("FILE")
-        .required(true)
-        .action(ArgAction::Set)
+const FILE: Argument = Argument {
+    id: "file",
+    place: Place::Word,
+    required: true,
+    value_name: &["FILE"],
+    ..OPTION
+};
+
+/// What rows become.
+const BUILD: [Argument; 6] = [
+    Argument {
+        id: "type",
+        values: ValueParser::Names(&["fast", "small"]),
+        default: &["fast"],
+        ..OPTION
+    },
+    Argument {
+        id: "width",
+        values: ValueParser::Names(&["8", "16", "32"]),
+        default: &["32"],
+        ..OPTION
+    },
+    Argument {
+        id: "default",
+        ..NUMBER
+    },
+    Argument {
+        id: "error",
+        ..NUMBER
+    },
+    Argument {
+        id: "as",
+        values: ValueParser::Names(&["icu", "toml", "json", "c", "rust", "rows"]),
+        required: true,
+        ..OPTION
+    },
+    Argument {
+        id: "name",
+        default: &["table"],
+        help: "The name in C and Rust",
+        ..OPTION
+    },
+];
+
+/// A table, and the numbers that it is asked.
+const GET: [Argument; 2] = [
+    FILE,
+    Argument {
+        id: "asked",
+        place: Place::Words,
+        value_name: &["HEX"],
+        ..FILE
+    },
+];
+
+/// Two tables.
+const DIFF: [Argument; 2] = [
+    Argument {
+        id: "first",
+        ..FILE
+    },
+    Argument {
+        id: "second",
+        ..FILE
+    },
+];
+
+/// The commands: the name of each, what it does, and what it takes.
+const COMMANDS: [(&str, &str, &[Argument]); 4] = [
+    (
+        "build",
+        "Writes the table of the rows on standard input to standard output",
+        &BUILD,
+    ),
+    (
+        "show",
+        "Prints the header of a table, its sizes and its ranges",
+        &[FILE],
+    ),
+    ("get", "Prints the value of each number in a table", &GET),
+    (
+        "diff",
+        "Prints the ranges in which two tables differ, with the value of each",
+        &DIFF,
+    ),
+];
+
+/// The argument, as clap takes it.
+fn arg_of<'a>(alloc: Global, row: &Argument) -> Arg<'a> {
+    let argument = Arg::new(alloc, row.id)
+        .required(row.required)
+        .value_names(row.value_name)
+        .value_parser(row.values)
+        .default_values(row.default)
+        .help(row.help);
+    match row.place {
+        Place::Option => argument.long(row.id),
+        Place::Word => argument,
+        Place::Words => argument.num_args(1..),
+    }
 }
 
-/// `build`: rows to a table.
-fn build_words<'a>(alloc: Global) -> Result<Command<'a>, AllocError> {
-    let kind = option(alloc, "type")
-        .value_parser(["fast", "small"].as_slice())
-        .default_value("fast");
-    let width = option(alloc, "width")
-        .value_parser(["8", "16", "32"].as_slice())
-        .default_value("32");
-    let default = option(alloc, "default")
-        .value_name("N")
-        .value_parser(value_parser!(u32))
-        .default_value("0");
-    let error = option(alloc, "error")
-        .value_name("N")
-        .value_parser(value_parser!(u32))
-        .default_value("0");
-    let form = option(alloc, "as")
-        .value_parser(["icu", "toml", "json", "c", "rust", "rows"].as_slice())
-        .required(true);
-    let name = option(alloc, "name")
-        .help("The name in C and Rust")
-        .default_value("table");
-    let about = "Writes the table of the rows on standard input to standard output";
-    Command::new(alloc, "build")
-        .about(about)
-        .arg(kind)?
-        .arg(width)?
-        .arg(default)?
-        .arg(error)?
-        .arg(form)?
-        .arg(name)
-}
-
-/// `show`: what a table is.
-fn show_words<'a>(alloc: Global) -> Result<Command<'a>, AllocError> {
-    Command::new(alloc, "show")
-        .about("Prints the header of a table, its sizes and its ranges")
-        .arg(file(alloc, "file"))
-}
-
-/// `get`: what a table answers.
-fn get_words<'a>(alloc: Global) -> Result<Command<'a>, AllocError> {
-    let asked = Arg::new(alloc, "asked")
-        .value_name("HEX")
-        .required(true)
-        .num_args(1..)
-        .action(ArgAction::Append);
-    Command::new(alloc, "get")
-        .about("Prints the value of each number in a table")
-        .arg(file(alloc, "file"))?
-        .arg(asked)
-}
-
-/// `diff`: where two tables differ.
-fn diff_words<'a>(alloc: Global) -> Result<Command<'a>, AllocError> {
-    Command::new(alloc, "diff")
-        .about("Prints the ranges in which two tables differ, with the value of each")
-        .arg(file(alloc, "first"))?
-        .arg(file(alloc, "second"))
+/// A command that takes these arguments.
+fn command_of<'a>(
+    alloc: Global,
+    name: &'a str,
+    about: &'a str,
+    arguments: &[Argument],
+) -> Result<Command<'a>, AllocError> {
+    let mut command = Command::new(alloc, name).about(about);
+    for row in arguments {
+        command = command.arg(arg_of(alloc, row))?;
+    }
+    Ok(command)
 }
 
 /// The program's words.
 pub fn program_words<'a>(alloc: Global) -> Result<Command<'a>, AllocError> {
-    Command::new(alloc, "ucptrie")
-        .about("Makes code point tries of tables of rows, and reads them")
-        .subcommand_required(true)
-        .subcommand(build_words(alloc)?)?
-        .subcommand(show_words(alloc)?)?
-        .subcommand(get_words(alloc)?)?
-        .subcommand(diff_words(alloc)?)
+    let about = "Makes code point tries of tables of rows, and reads them";
+    let mut program = command_of(alloc, "ucptrie", about, &[])?.subcommand_required(true);
+    for (name, about, arguments) in COMMANDS {
+        program = program.subcommand(command_of(alloc, name, about, arguments)?)?;
+    }
+    Ok(program)
 }
