@@ -11,8 +11,8 @@ import sys
 
 import public_calls
 from rust_rules import (
-    FORM_MODULES, FORM_RULES, FORMS, LEFT_OUT, NOT_RUN, NOT_SWEPT, OTHER_NAMES, TEST_NAMES,
-    TEST_RULES, TESTS, UNKNOWN
+    FORM_MODULES, FORM_RULES, FORMS, LEFT_OUT, NOT_SWEPT, OTHER_NAMES, TEST_NAMES, TEST_RULES, TESTS,
+    UNKNOWN
 )
 
 TOP = os.path.dirname(os.path.dirname(os.path.realpath(__file__)))
@@ -75,13 +75,12 @@ def is_as_made(made, folder):
 
 
 def runs_all():
-    """Whether each of our crates that has tests is one of those that run, or that stay behind."""
+    """Whether each of our crates that has tests is one of those that run."""
     paths = glob.glob(f"{TOP}/crates/*/src/**/*.rt", recursive=True)
     tested = {os.path.relpath(it, TOP).split("/")[1] for it in paths if "#[test]" in read(it)}
-    named = {*TESTS, *NOT_RUN}
-    for crate in sorted(tested - named):
+    for crate in sorted(tested - {*TESTS}):
         print(f"crates/{crate} has tests, and is not in TESTS of tests/rust_rules.py")
-    return tested <= named
+    return tested <= {*TESTS}
 
 
 def sweeps_all(made):

@@ -4,13 +4,18 @@ they need that the code doesn't, and forms that rust/make has to refuse."""
 # Our crates of tests, and what they test beside the library.
 TESTS = (
     "packed_tests set_tests trie_tests built_trie_tests trie_format_tests ucptab_table"
-    " ucptab_tests uses damaged_forms"
+    " ucptrie_tests uses damaged_forms"
 ).split()
-# That of ucptrie stays behind: its engine asks errors of JSON and TOML for what the kit's crates tell
+# A program's own file, for which tests/rust_parts has another; and the tests of ucptrie's tables, of
+# which those of ucptab's stay: its engine asks errors of JSON and TOML for what the kit's crates tell
 # of them, and Debian's do not, as the line of a fault.
-NOT_RUN = ["ucptrie_tests"]
-# A program's own file, for which tests/rust_parts has another.
-LEFT_OUT = ["damaged_forms/main"]
+LEFT_OUT = [
+    "damaged_forms/main",
+    *(
+        f"ucptrie_tests/tests/{it}"
+        for it in "diff faults icu_tables memory names read rows support texts".split()
+    ),
+]
 # What needs JSON or TOML: crates, and modules of others.
 FORMS = ["damaged_forms"]
 FORM_MODULES = (

@@ -1,4 +1,4 @@
-//! Tests of the tables of `ucptrie` by their public calls.
+//! Tests of the tables of `ucptrie` and `ucptab` by their public calls.
 #![tactic(auto)]
 
 #[cfg(test)]

@@ -1,6 +1,7 @@
 //! Tries that ICU wrote, read and shown; rows built; the texts of each form and of each fault; memory
-//! that is refused.
+//! that is refused; and in `ucptab` the table of that program.
 mod diff;
+mod expect;
 mod faults;
 mod icu_tables;
 mod memory;
@@ -9,3 +10,4 @@ mod read;
 mod rows;
 mod support;
 mod texts;
+mod ucptab;

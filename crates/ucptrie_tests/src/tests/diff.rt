@@ -1,21 +1,26 @@
 //! The ranges in which rows differ from a trie that ICU wrote.
 use super::icu_tables::SMALL_32;
-use super::support::{SMALL, expect_text};
-use std::alloc::Global;
-use std::test::Fail;
-use ucptrie_tables::diff::differences_text;
-use ucptrie_tables::read::read_table;
-use ucptrie_tables::table::{Table, TableOptions, table_of_rows};
+use super::support::{Question, SMALL, expect_answer, rows_table, table_of};
+use std::process::Abort;
+use ucptrie_tables::table::{Table, TableOptions};
 
-/// Where a table differs from rows over the default 1, with an error value.
-fn differences(alloc: Global, first: &Table, rows: &str, error: u32) -> Result<String, Fail> {
+/// Where a table differs from rows over the default 1, with an error value, is printed so.
+fn expect_differences(
+    rt: &(impl Abort + AllocGlobal),
+    first: &Table,
+    rows: &str,
+    error: u32,
+    want: &str,
+) {
     let options = TableOptions {
         default: 1,
         error,
         ..SMALL
     };
-    let second = table_of_rows(alloc, rows.as_bytes(), options)?;
-    Ok(differences_text(alloc, &first.trie, &second.trie)?)
+    match rows_table(rt.alloc(), rows, options) {
+        Ok(second) => expect_answer(rt, Question::Differences(first, &second), want, rows),
+        Err(_) => rt.panic("the rows have no table"),
+    }
 }
 
 /// Rows beside those of `SMALL_32`, the error value, and what is printed.
@@ -29,11 +34,9 @@ const ROWS: [(&str, u32, &str); 2] = [
 ];
 
 #[test]
-fn rows_beside_a_trie_of_icu(rt: HostRuntime) -> Result<(), Fail> {
-    let icu = read_table(rt.alloc(), &SMALL_32)?;
+fn rows_beside_a_trie_of_icu(rt: HostRuntime) {
+    let icu = table_of(&rt, &SMALL_32);
     for (rows, error, want) in ROWS {
-        let text = differences(rt.alloc(), &icu, rows, error)?;
-        expect_text(&rt, text, want, rows);
+        expect_differences(&rt, &icu, rows, error, want);
     }
-    Ok(())
 }

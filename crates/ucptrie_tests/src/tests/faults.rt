@@ -1,21 +1,21 @@
 //! The faults, each in one line.
+use super::expect::{expect_same, expect_text};
 use super::icu_tables::{SMALL_8, SMALL_32, SWAPPED_FRONT_8};
-use super::support::{expect_same, expect_text};
+use super::support::{joined, read, table_of, told, written_of};
 use super::texts::TOML;
-use std::alloc::Global;
-use std::test::Fail;
+use std::alloc::{AllocError, Global};
+use std::process::Abort;
 use ucptab_table::fault::{RowFault, TableError};
 use ucptrie_tables::fault::{BuildFault, ReadFault};
-use ucptrie_tables::read::read_table;
 use ucptrie_tables::table::Table;
 use ucptrie_tables::width::ValueWidth;
-use ucptrie_tables::written::{Form, written};
+use ucptrie_tables::written::Form;
 
 /// Why a file has no table, and `none` where it has one.
-fn fault_of(alloc: Global, file: &[u8]) -> Result<String, Fail> {
-    match read_table(alloc, file) {
-        Ok(_) => Ok(String::from_str(alloc, "none")?),
-        Err(fault) => Ok(fault.to_string(alloc)?),
+fn fault_of(alloc: Global, file: &[u8]) -> Result<String, AllocError> {
+    match read(alloc, file) {
+        Ok(_) => String::from_str(alloc, "none"),
+        Err(fault) => fault.to_string(alloc),
     }
 }
 
@@ -61,11 +61,10 @@ const NO_DATA: &[u8] = b"\
 \"null_value\":0,\"shifted12_high_start\":0,\"trie_type\":\"Small\"},\"index\":[]}";
 
 #[test]
-fn files_without_a_table(rt: HostRuntime) -> Result<(), Fail> {
+fn files_without_a_table(rt: HostRuntime) {
     for (file, want) in FILES {
-        expect_text(&rt, fault_of(rt.alloc(), file)?, want, want);
+        expect_text(&rt, fault_of(rt.alloc(), file), want, want);
     }
-    Ok(())
 }
 
 /// What is wrong with `SMALL_8` where a byte of its header is another one. Bits 0 to 2 of byte 4
@@ -85,27 +84,26 @@ const HEADERS: [(usize, u8, &str); 6] = [
 ];
 
 #[test]
-fn headers_of_no_trie(rt: HostRuntime) -> Result<(), Fail> {
+fn headers_of_no_trie(rt: HostRuntime) {
     for (place, byte, want) in HEADERS {
         let mut file = SMALL_8;
         if place < file.len() {
             file[place] = byte;
         }
-        expect_text(&rt, fault_of(rt.alloc(), &file)?, want, want);
+        expect_text(&rt, fault_of(rt.alloc(), &file), want, want);
     }
-    Ok(())
 }
 
 /// The line of a text that is no TOML is told, in one line.
 #[test]
-fn line_of_a_fault_in_toml(rt: HostRuntime) -> Result<(), Fail> {
-    let told = fault_of(rt.alloc(), b"index = []\n\ndata_8 = [1,\n")?;
-    let found = (
-        told.as_str().starts_with("line 4: "),
-        told.as_str().contains('\n'),
-    );
-    expect_same(&rt, found, (true, false), "the fault of TOML");
-    Ok(())
+fn line_of_a_fault_in_toml(rt: HostRuntime) {
+    match fault_of(rt.alloc(), b"index = []\n\ndata_8 = [1,\n") {
+        Ok(told) => {
+            let found = (told.starts_with("line 4: "), told.contains('\n'));
+            expect_same(&rt, found, (true, false), "the fault of TOML");
+        }
+        Err(_) => rt.panic("no memory"),
+    }
 }
 
 /// The faults that need more than a file: rows without end, and no memory.
@@ -115,26 +113,29 @@ const OTHERS: [(TableError, &str); 2] = [
 ];
 
 #[test]
-fn faults_without_a_file(rt: HostRuntime) -> Result<(), Fail> {
+fn faults_without_a_file(rt: HostRuntime) {
     for (fault, want) in OTHERS {
-        let told = BuildFault::Table(fault).to_string(rt.alloc())?;
-        expect_text(&rt, told, want, want);
+        let text = told(rt.alloc(), BuildFault::Table(fault));
+        expect_text(&rt, text, want, want);
     }
-    let told = ReadFault::Memory.to_string(rt.alloc())?;
-    expect_text(&rt, told, "no memory", "reading");
-    Ok(())
+    let text = ReadFault::Memory.to_string(rt.alloc());
+    expect_text(&rt, text, "no memory", "reading");
 }
 
 /// Why a file's table is not written in ICU's binary form with values of a width, and `none` where
 /// it is.
-fn unwritten(alloc: Global, file: &[u8], width: ValueWidth) -> Result<String, Fail> {
+fn unwritten(
+    rt: &(impl Abort + AllocGlobal),
+    file: &[u8],
+    width: ValueWidth,
+) -> Result<String, AllocError> {
     let table = Table {
-        trie: read_table(alloc, file)?.trie,
+        trie: table_of(rt, file).trie,
         width,
     };
-    match written(alloc, &table, Form::Icu) {
-        Ok(_) => Ok(String::from_str(alloc, "none")?),
-        Err(fault) => Ok(fault.to_string(alloc)?),
+    match written_of(rt.alloc(), &table, Form::Icu) {
+        Ok(_) => String::from_str(rt.alloc(), "none"),
+        Err(fault) => told(rt.alloc(), fault),
     }
 }
 
@@ -155,11 +156,10 @@ const WIDTHS: [(&[u8], ValueWidth, &str); 4] = [
 ];
 
 #[test]
-fn tables_of_another_width(rt: HostRuntime) -> Result<(), Fail> {
+fn tables_of_another_width(rt: HostRuntime) {
     for (file, width, want) in WIDTHS {
-        expect_text(&rt, unwritten(rt.alloc(), file, width)?, want, want);
+        expect_text(&rt, unwritten(&rt, file, width), want, want);
     }
-    Ok(())
 }
 
 /// The last two lines of `TOML`, and others: the first cell of the data is 3.
@@ -169,12 +169,10 @@ const LAST: (&[u8], &[u8]) = (
 );
 
 #[test]
-fn table_without_a_binary_form(rt: HostRuntime) -> Result<(), Fail> {
+fn table_without_a_binary_form(rt: HostRuntime) {
     let (front, _) = TOML.split_at(TOML.len().saturating_sub(LAST.0.len()));
-    let mut file = Vec::from_slice(rt.alloc(), front)?;
-    file.extend_from_slice(LAST.1)?;
-    let told = unwritten(rt.alloc(), &file, ValueWidth::Bits8)?;
+    let file = joined(&rt, front, LAST.1);
+    let told = unwritten(&rt, &file, ValueWidth::Bits8);
     let want = "the null value is not that of the data null block";
     expect_text(&rt, told, want, want);
-    Ok(())
 }

@@ -1,17 +1,16 @@
 //! Calls whose requests of memory the script `tests/refused_memory` refuses in turn.
+use super::expect::{expect_same, say};
 use super::icu_tables::{SMALL_8, SMALL_32, SWAPPED_FRONT_8};
-use super::support::{SMALL, expect_same, say};
+use super::support::{Question, SMALL, answer_of, built_of, read, rows_table, written_of};
 use super::texts::{JSON, TOML};
+use std::alloc::Global;
 use std::process::Abort;
 use ucptab_table::fault::TableError;
-use ucptrie_tables::built;
-use ucptrie_tables::diff::{differences, differences_text};
+use ucptrie_tables::diff::differences;
 use ucptrie_tables::fault::{BuildFault, ReadFault};
-use ucptrie_tables::read::read_table;
-use ucptrie_tables::shown::{answered, shown};
 use ucptrie_tables::sizes::{Bounds, bounds_of};
-use ucptrie_tables::table::table_of_rows;
-use ucptrie_tables::written::{Form, written};
+use ucptrie_tables::table::Table;
+use ucptrie_tables::written::Form;
 
 /// Says so where memory was refused, and nothing else is wrong.
 fn say_fault(rt: &(impl Abort + Print), fault: Option<BuildFault>) {
@@ -36,7 +35,7 @@ const FORMS: [Form<'static>; 6] = [
 fn built_refused(rt: HostRuntime) {
     for form in FORMS {
         say(&rt, "call");
-        let answer = built(rt.alloc(), b"41;1", SMALL, form);
+        let answer = built_of(rt.alloc(), "41;1", SMALL, form);
         say(&rt, "done");
         say_fault(&rt, answer.err());
     }
@@ -46,7 +45,7 @@ fn built_refused(rt: HostRuntime) {
 #[test]
 fn table_of_rows_refused(rt: HostRuntime) {
     say(&rt, "call");
-    let answer = table_of_rows(rt.alloc(), b"41;1", SMALL);
+    let answer = rows_table(rt.alloc(), "41;1", SMALL);
     say(&rt, "done");
     say_fault(&rt, answer.err());
 }
@@ -54,12 +53,12 @@ fn table_of_rows_refused(rt: HostRuntime) {
 /// Calls: `ucptrie_tables::written::written`.
 #[test]
 fn written_refused(rt: HostRuntime) {
-    let Ok(table) = read_table(rt.alloc(), &SMALL_8) else {
+    let Ok(table) = read(rt.alloc(), &SMALL_8) else {
         return;
     };
     for form in FORMS {
         say(&rt, "call");
-        let answer = written(rt.alloc(), &table, form);
+        let answer = written_of(rt.alloc(), &table, form);
         say(&rt, "done");
         say_fault(&rt, answer.err());
     }
@@ -68,7 +67,7 @@ fn written_refused(rt: HostRuntime) {
 /// The file is read, or that memory was refused is said.
 fn expect_read(rt: &(impl Abort + AllocGlobal + Print), file: &[u8]) {
     say(rt, "call");
-    let answer = read_table(rt.alloc(), file);
+    let answer = read(rt.alloc(), file);
     say(rt, "done");
     if let Err(fault) = answer {
         let is_memory = matches!(fault, ReadFault::Memory);
@@ -88,9 +87,12 @@ fn read_table_refused(rt: HostRuntime) {
     expect_read(&rt, TOML);
 }
 
-/// Says so where memory was refused.
-fn say_refused(rt: &(impl Abort + Print), is_refused: bool) {
-    if is_refused {
+/// The question is answered, or that memory was refused is said.
+fn expect_answered(rt: &(impl Abort + AllocGlobal + Print), question: Question<'_>) {
+    say(rt, "call");
+    let answer = answer_of(rt.alloc(), question);
+    say(rt, "done");
+    if answer.is_err() {
         say(rt, "refused");
     }
 }
@@ -98,22 +100,16 @@ fn say_refused(rt: &(impl Abort + Print), is_refused: bool) {
 /// Calls: `ucptrie_tables::shown::shown`.
 #[test]
 fn shown_refused(rt: HostRuntime) {
-    if let Ok(table) = read_table(rt.alloc(), &SMALL_32) {
-        say(&rt, "call");
-        let answer = shown(rt.alloc(), &table);
-        say(&rt, "done");
-        say_refused(&rt, answer.is_err());
+    if let Ok(table) = read(rt.alloc(), &SMALL_32) {
+        expect_answered(&rt, Question::Shown(&table));
     }
 }
 
 /// Calls: `ucptrie_tables::shown::answered`.
 #[test]
 fn answered_refused(rt: HostRuntime) {
-    if let Ok(table) = read_table(rt.alloc(), &SMALL_32) {
-        say(&rt, "call");
-        let answer = answered(rt.alloc(), &table, &[0x41, 0x1F600]);
-        say(&rt, "done");
-        say_refused(&rt, answer.is_err());
+    if let Ok(table) = read(rt.alloc(), &SMALL_32) {
+        expect_answered(&rt, Question::Answered(&table, &[0x41, 0x1F600]));
     }
 }
 
@@ -127,7 +123,7 @@ const BOUNDS: Bounds = Bounds {
 /// Calls: `ucptrie_tables::sizes::bounds_of`.
 #[test]
 fn bounds_of_refused(rt: HostRuntime) {
-    if let Ok(table) = read_table(rt.alloc(), &SMALL_32) {
+    if let Ok(table) = read(rt.alloc(), &SMALL_32) {
         say(&rt, "call");
         let answer = bounds_of(rt.alloc(), &table.trie);
         say(&rt, "done");
@@ -138,32 +134,30 @@ fn bounds_of_refused(rt: HostRuntime) {
     }
 }
 
+/// The two tries of ICU, where there is memory for both.
+fn both(alloc: Global) -> Option<(Table, Table)> {
+    let first = read(alloc, &SMALL_8).ok()?;
+    let second = read(alloc, &SMALL_32).ok()?;
+    Some((first, second))
+}
+
 /// Calls: `ucptrie_tables::diff::differences`.
 #[test]
 fn differences_refused(rt: HostRuntime) {
-    let (first, second) = (
-        read_table(rt.alloc(), &SMALL_8),
-        read_table(rt.alloc(), &SMALL_32),
-    );
-    if let (Ok(first), Ok(second)) = (first, second) {
+    if let Some((first, second)) = both(rt.alloc()) {
         say(&rt, "call");
         let answer = differences(rt.alloc(), &first.trie, &second.trie);
         say(&rt, "done");
-        say_refused(&rt, answer.is_err());
+        if answer.is_err() {
+            say(&rt, "refused");
+        }
     }
 }
 
 /// Calls: `ucptrie_tables::diff::differences_text`.
 #[test]
 fn differences_text_refused(rt: HostRuntime) {
-    let (first, second) = (
-        read_table(rt.alloc(), &SMALL_8),
-        read_table(rt.alloc(), &SMALL_32),
-    );
-    if let (Ok(first), Ok(second)) = (first, second) {
-        say(&rt, "call");
-        let answer = differences_text(rt.alloc(), &first.trie, &second.trie);
-        say(&rt, "done");
-        say_refused(&rt, answer.is_err());
+    if let Some((first, second)) = both(rt.alloc()) {
+        expect_answered(&rt, Question::Differences(&first, &second));
     }
 }

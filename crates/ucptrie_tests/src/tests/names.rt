@@ -1,5 +1,5 @@
 //! Names in the languages, and widths: what asks for no memory.
-use super::support::{expect_same, say};
+use super::expect::{expect_same, say};
 use ucptrie_tables::source::is_name;
 use ucptrie_tables::width::ValueWidth;
 

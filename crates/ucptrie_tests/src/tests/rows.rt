@@ -1,7 +1,6 @@
 //! Rows built into the forms, and the faults of rows.
 use super::support::{SMALL, built_or_told, converted, expect_bytes};
 use icu_trie_core::header::TrieType;
-use std::test::Fail;
 use ucptrie_tables::table::TableOptions;
 use ucptrie_tables::width::ValueWidth;
 use ucptrie_tables::written::Form;
@@ -13,7 +12,7 @@ const LETTERS: (&str, &[u8]) = (
 );
 
 #[test]
-fn each_form_reads_back_as_the_rows(rt: HostRuntime) -> Result<(), Fail> {
+fn each_form_reads_back_as_the_rows(rt: HostRuntime) {
     for trie_type in [TrieType::Fast, TrieType::Small] {
         for width in [ValueWidth::Bits8, ValueWidth::Bits16, ValueWidth::Bits32] {
             let options = TableOptions {
@@ -22,15 +21,14 @@ fn each_form_reads_back_as_the_rows(rt: HostRuntime) -> Result<(), Fail> {
                 ..SMALL
             };
             for form in [Form::Icu, Form::Toml, Form::Json] {
-                let file = built_or_told(rt.alloc(), LETTERS.0, options, form)?;
-                let rows = converted(rt.alloc(), &file, Form::Rows)?;
+                let file = built_or_told(&rt, LETTERS.0, options, form);
+                let rows = converted(&rt, &file, Form::Rows);
                 expect_bytes(&rt, rows, LETTERS.1, "the rows of the file");
             }
-            let rows = built_or_told(rt.alloc(), LETTERS.0, options, Form::Rows)?;
+            let rows = built_or_told(&rt, LETTERS.0, options, Form::Rows);
             expect_bytes(&rt, rows, LETTERS.1, "the rows");
         }
     }
-    Ok(())
 }
 
 /// Rows, their default, the width, and what is printed of them.
@@ -89,15 +87,14 @@ const FAULTS: [(&str, u32, ValueWidth, &[u8]); 11] = [
 ];
 
 #[test]
-fn values_of_a_width_and_faults_of_rows(rt: HostRuntime) -> Result<(), Fail> {
+fn values_of_a_width_and_faults_of_rows(rt: HostRuntime) {
     for (rows, default, width, want) in FAULTS {
         let options = TableOptions {
             width,
             default,
             ..SMALL
         };
-        let found = built_or_told(rt.alloc(), rows, options, Form::Rows)?;
+        let found = built_or_told(&rt, rows, options, Form::Rows);
         expect_bytes(&rt, found, want, rows);
     }
-    Ok(())
 }

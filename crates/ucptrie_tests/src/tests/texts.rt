@@ -1,10 +1,10 @@
 //! `SMALL_8`, as ICU's tools write it where they have opened it, and as JSON has it.
+use super::expect::expect_same;
 use super::icu_tables::SMALL_8;
-use super::support::{SMALL, built_or_told, converted, expect_bytes, expect_same};
+use super::support::{SMALL, built_or_told, converted, expect_bytes, joined};
 use icu_trie_core::header::TrieType;
 use std::process::Abort;
 use std::str;
-use std::test::Fail;
 use ucptrie_tables::table::TableOptions;
 use ucptrie_tables::width::ValueWidth;
 use ucptrie_tables::written::Form;
@@ -51,12 +51,11 @@ pub const JSON: &[u8] = b"\
 0,0,0,0,0,0,0,0,0,0,0,0,0,0,0,0,0,0,0,0,0,0,0,0,0,0,0,0,0,0,0,0]}\n";
 
 #[test]
-fn toml_and_json(rt: HostRuntime) -> Result<(), Fail> {
+fn toml_and_json(rt: HostRuntime) {
     for (form, want) in [(Form::Toml, TOML), (Form::Json, JSON)] {
-        let text = converted(rt.alloc(), &SMALL_8, form)?;
+        let text = converted(&rt, &SMALL_8, form);
         expect_bytes(&rt, text, want, "SMALL_8");
     }
-    Ok(())
 }
 
 /// What ICU's icuexportdata has in front of a trie, and nothing.
@@ -69,16 +68,14 @@ const FRONTS: [&str; 3] = [
 /// The text in TOML reads back as the bytes of ICU, and that in JSON, which says no width, as
 /// itself.
 #[test]
-fn toml_and_json_read_back(rt: HostRuntime) -> Result<(), Fail> {
+fn toml_and_json_read_back(rt: HostRuntime) {
     for front in FRONTS {
-        let mut file = Vec::from_slice(rt.alloc(), front.as_bytes())?;
-        file.extend_from_slice(TOML)?;
-        let again = converted(rt.alloc(), &file, Form::Icu)?;
+        let file = joined(&rt, front.as_bytes(), TOML);
+        let again = converted(&rt, &file, Form::Icu);
         expect_bytes(&rt, again, &SMALL_8, front);
     }
-    let again = converted(rt.alloc(), JSON, Form::Json)?;
+    let again = converted(&rt, JSON, Form::Json);
     expect_bytes(&rt, again, JSON, "JSON");
-    Ok(())
 }
 
 /// The text has this part.
@@ -170,11 +167,10 @@ const SOURCES: [(Form<'static>, &str); 12] = [
 
 /// `tests/sources` compiles whole files.
 #[test]
-fn source_in_c_and_rust(rt: HostRuntime) -> Result<(), Fail> {
+fn source_in_c_and_rust(rt: HostRuntime) {
     for (form, part) in SOURCES {
-        expect_part(&rt, converted(rt.alloc(), &SMALL_8, form)?, part);
+        expect_part(&rt, converted(&rt, &SMALL_8, form), part);
     }
-    Ok(())
 }
 
 /// What the type and the width change: ICU's numbers for them, the type of a value, and the places
@@ -225,14 +221,13 @@ const OPTIONS: [(TrieType, ValueWidth, Form<'static>, &str); 7] = [
 ];
 
 #[test]
-fn texts_by_type_and_width(rt: HostRuntime) -> Result<(), Fail> {
+fn texts_by_type_and_width(rt: HostRuntime) {
     for (trie_type, width, form, part) in OPTIONS {
         let options = TableOptions {
             trie_type,
             width,
             ..SMALL
         };
-        expect_part(&rt, built_or_told(rt.alloc(), "41;1", options, form)?, part);
+        expect_part(&rt, built_or_told(&rt, "41;1", options, form), part);
     }
-    Ok(())
 }

@@ -1,19 +1,17 @@
 //! What a row says.
-use super::support::expect_text;
+use super::super::expect::expect_text;
 use std::process::Abort;
-use std::test::Fail;
 use ucptab_table::rows::row_of;
 
 /// The row says this.
-fn expect_row(rt: &(impl Abort + AllocGlobal), line: &str, want: &str) -> Result<(), Fail> {
+fn expect_row(rt: &(impl Abort + AllocGlobal), line: &str, want: &str) {
     let said = row_of(line.as_bytes());
-    let text = format!(in rt.alloc(); "{said:?}")?;
+    let text = format!(in rt.alloc(); "{said:?}");
     expect_text(rt, text, want, line);
-    Ok(())
 }
 
 #[test]
-fn rows_and_lines_without_one(rt: HostRuntime) -> Result<(), Fail> {
+fn rows_and_lines_without_one(rt: HostRuntime) {
     let rows = [
         ("0041;1", "Ok(Some(One(65, 1)))"),
         ("\t 41 ;\t7 ", "Ok(Some(One(65, 7)))"),
@@ -36,13 +34,12 @@ fn rows_and_lines_without_one(rt: HostRuntime) -> Result<(), Fail> {
         ("41;4294967296", "Err(Value)"),
     ];
     for (line, want) in rows {
-        expect_row(&rt, line, want)?;
+        expect_row(&rt, line, want);
     }
-    Ok(())
 }
 
 #[test]
-fn lines_of_no_row(rt: HostRuntime) -> Result<(), Fail> {
+fn lines_of_no_row(rt: HostRuntime) {
     let lines = [
         "0041;1\r",
         "0041",
@@ -66,7 +63,6 @@ fn lines_of_no_row(rt: HostRuntime) -> Result<(), Fail> {
         "110000;x",
     ];
     for line in lines {
-        expect_row(&rt, line, "Err(NotARow)")?;
+        expect_row(&rt, line, "Err(NotARow)");
     }
-    Ok(())
 }

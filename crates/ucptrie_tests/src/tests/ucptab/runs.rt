@@ -1,10 +1,8 @@
 //! Whole runs: words, table, status, and what is printed.
 use super::support::{USAGE, expect_run, sound};
-use std::process::Abort;
-use std::test::Fail;
 
 #[test]
-fn asked_numbers_are_answered(rt: HostRuntime) -> Result<(), Fail> {
+fn asked_numbers_are_answered(rt: HostRuntime) {
     let runs: [(&str, &[u8], &[u8]); 4] = [
         (
             "fast 4294967295 9 41 0 00000041 fffe 10ffff 110000 FfFfFfFf 1f600",
@@ -24,13 +22,12 @@ fn asked_numbers_are_answered(rt: HostRuntime) -> Result<(), Fail> {
         ),
     ];
     for (words, table, lines) in runs {
-        expect_run(&rt, sound(words, table), 0, lines)?;
+        expect_run(&rt, sound(words, table), 0, lines);
     }
-    Ok(())
 }
 
 #[test]
-fn faults_end_a_run(rt: HostRuntime) -> Result<(), Fail> {
+fn faults_end_a_run(rt: HostRuntime) {
     let runs: [(&str, &[u8], &[u8]); 6] = [
         ("small 0 9", b"110000;1", b"line 1: code point too large\n"),
         ("fast 0 9 0", b"0;4294967296", b"line 1: value too large\n"),
@@ -52,13 +49,13 @@ fn faults_end_a_run(rt: HostRuntime) -> Result<(), Fail> {
         ),
     ];
     for (words, table, line) in runs {
-        expect_run(&rt, sound(words, table), 1, line)?;
+        expect_run(&rt, sound(words, table), 1, line);
     }
-    expect_run(&rt, sound("fast 0", b""), 2, USAGE)
+    expect_run(&rt, sound("fast 0", b""), 2, USAGE);
 }
 
 #[test]
-fn ranges_are_printed(rt: HostRuntime) -> Result<(), Fail> {
+fn ranges_are_printed(rt: HostRuntime) {
     let runs: [(&str, &[u8], &[u8]); 5] = [
         (
             "fast 0 9",
@@ -79,9 +76,8 @@ fn ranges_are_printed(rt: HostRuntime) -> Result<(), Fail> {
         ("fast 7 9", b"0041;7", b"0000..10FFFF;7\n"),
     ];
     for (words, table, ranges) in runs {
-        expect_run(&rt, sound(words, table), 0, ranges)?;
+        expect_run(&rt, sound(words, table), 0, ranges);
     }
-    Ok(())
 }
 
 /// Rows of Unicode 15.0's general categories, in the order of the table: Cn 3, Lu 10, Ll 6, Cf 2,
@@ -89,28 +85,26 @@ fn ranges_are_printed(rt: HostRuntime) -> Result<(), Fail> {
 const CATEGORIES: &[u8] =
     b"10FFFE..10FFFF;3\n0041..005A;10\n0061..007A;6\n00AD;2\n0000..001F;1\nD800..DFFF;5\n0030..0039;14\n1F400..1F6D7;27\n0020;30\n4E00..A014;8\n";
 
-/// A trie of either type over the categories prints these lines where these words are asked.
-fn expect_categories(
-    rt: &(impl Abort + AllocGlobal + Print),
-    asked: &str,
-    lines: &[u8],
-) -> Result<(), Fail> {
-    for kind in ["fast", "small"] {
-        let words = format!(in rt.alloc(); "{kind} 255 254{asked}")?;
-        expect_run(rt, sound(words.as_str(), CATEGORIES), 0, lines)?;
-    }
-    Ok(())
-}
-
-/// An excerpt of a real table, asked at numbers and as ranges: what no row names has the default,
-/// and touching rows of one value are one range.
+/// An excerpt of a real table, asked at numbers and as ranges, of a trie of either type: what no row
+/// names has the default, and touching rows of one value are one range.
 #[test]
-fn general_categories(rt: HostRuntime) -> Result<(), Fail> {
-    let asked = " 41 1F600 10FFFF 5B A014 A015 DFFF AD 20 1F 1F6D8 110000";
-    let answers =
+fn general_categories(rt: HostRuntime) {
+    let answers: &[u8] =
         b"0041;10\n1F600;27\n10FFFF;3\n005B;255\nA014;8\nA015;255\nDFFF;5\n00AD;2\n0020;30\n001F;1\n1F6D8;255\n110000;254\n";
-    expect_categories(&rt, asked, answers)?;
-    let ranges =
+    let ranges: &[u8] =
         b"0000..001F;1\n0020;30\n0021..002F;255\n0030..0039;14\n003A..0040;255\n0041..005A;10\n005B..0060;255\n0061..007A;6\n007B..00AC;255\n00AD;2\n00AE..4DFF;255\n4E00..A014;8\nA015..D7FF;255\nD800..DFFF;5\nE000..1F3FF;255\n1F400..1F6D7;27\n1F6D8..10FFFD;255\n10FFFE..10FFFF;3\n";
-    expect_categories(&rt, "", ranges)
+    for (words, lines) in [
+        (
+            "fast 255 254 41 1F600 10FFFF 5B A014 A015 DFFF AD 20 1F 1F6D8 110000",
+            answers,
+        ),
+        (
+            "small 255 254 41 1F600 10FFFF 5B A014 A015 DFFF AD 20 1F 1F6D8 110000",
+            answers,
+        ),
+        ("fast 255 254", ranges),
+        ("small 255 254", ranges),
+    ] {
+        expect_run(&rt, sound(words, CATEGORIES), 0, lines);
+    }
 }

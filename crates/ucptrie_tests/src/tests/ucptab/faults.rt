@@ -1,11 +1,10 @@
 //! The faults of a table: which line is told, and in which words.
-use super::support::{Run, expect_run, expect_text, sound};
-use std::process::Abort;
-use std::test::Fail;
+use super::super::expect::expect_text;
+use super::support::{Run, expect_run, sound};
 use ucptab_table::fault::{RowFault, TableError};
 
 #[test]
-fn faults_are_counted(rt: HostRuntime) -> Result<(), Fail> {
+fn faults_are_counted(rt: HostRuntime) {
     let tables: [(&[u8], u8, &[u8]); 9] = [
         (b"0041;1\r\n0042;2\r\n", 0, b"0041;1\n"),
         (b"", 0, b"0041;3\n"),
@@ -23,24 +22,13 @@ fn faults_are_counted(rt: HostRuntime) -> Result<(), Fail> {
                 most,
                 ..sound("small 3 9 41", input)
             };
-            expect_run(&rt, run, status, want)?;
+            expect_run(&rt, run, status, want);
         }
     }
-    Ok(())
-}
-
-/// The fault is shown so.
-fn expect_shown(
-    rt: &(impl Abort + AllocGlobal),
-    fault: TableError,
-    want: &str,
-) -> Result<(), Fail> {
-    expect_text(rt, fault.to_string(rt.alloc())?, want, "a fault");
-    Ok(())
 }
 
 #[test]
-fn faults_are_shown(rt: HostRuntime) -> Result<(), Fail> {
+fn faults_are_shown(rt: HostRuntime) {
     let faults = [
         (TableError::Row(1, RowFault::NotARow), "line 1: not a row"),
         (
@@ -61,7 +49,7 @@ fn faults_are_shown(rt: HostRuntime) -> Result<(), Fail> {
         (TableError::Write, "write fault"),
     ];
     for (fault, want) in faults {
-        expect_shown(&rt, fault, want)?;
+        let text = fault.to_string(rt.alloc());
+        expect_text(&rt, text, want, "a fault");
     }
-    Ok(())
 }

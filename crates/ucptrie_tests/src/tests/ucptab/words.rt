@@ -1,9 +1,8 @@
 //! The words of the program that are answered by the usage line.
 use super::support::{USAGE, expect_run, sound};
-use std::test::Fail;
 
 #[test]
-fn words_are_tested(rt: HostRuntime) -> Result<(), Fail> {
+fn words_are_tested(rt: HostRuntime) {
     let refused = [
         "",
         "fast",
@@ -25,7 +24,6 @@ fn words_are_tested(rt: HostRuntime) -> Result<(), Fail> {
         "small 0 9 41..42",
     ];
     for line in refused {
-        expect_run(&rt, sound(line, b"x"), 2, USAGE)?;
+        expect_run(&rt, sound(line, b"x"), 2, USAGE);
     }
-    Ok(())
 }
