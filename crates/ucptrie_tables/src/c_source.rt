@@ -1,5 +1,7 @@
 //! A table as source in C.
 use crate::cells::push_cells;
+use crate::pattern::Number::{Decimal, Hexadecimal};
+use crate::pattern::{push_named, push_pattern};
 use crate::source::{index1_offset, push_sizes, type_code};
 use crate::table::Table;
 use std::alloc::{AllocError, Global};
@@ -27,76 +29,76 @@ static inline uint32_t @_get(uint32_t c) {
 /// Appends the two arrays.
 fn push_arrays(text: &mut String, table: &Table, name: &str) -> Result<(), AllocError> {
     let (_, index, values) = table.trie.parts();
-    let (bits, cells) = (table.width.bits(), values.len());
-    writeln!(
+    let size = [Decimal(index.len())];
+    push_pattern(
         text,
-        "static const uint16_t {name}_trieIndex[{}]={{",
-        index.len()
+        "static const uint16_t @_trieIndex[%]={\n",
+        name,
+        &size,
     )?;
     push_cells(text, index, "")?;
-    text.push_str("\n};\n\n")?;
-    writeln!(
-        text,
-        "static const uint{bits}_t {name}_trieData[{cells}]={{"
-    )?;
+    let sizes = [Decimal(table.width.bits() as usize), Decimal(values.len())];
+    let front = "\n};\n\nstatic const uint%_t @_trieData[%]={\n";
+    push_pattern(text, front, name, &sizes)?;
     push_cells(text, values, "")?;
     text.push_str("\n};\n\n")
 }
 
+/// The numbers that the look-up needs.
+const NUMBERS: &str = "\
+enum {
+    @_fastLimit = %,
+    @_highStart = %,
+    @_index1 = %,
+    @_dataLength = %
+};
+
+";
+
 /// Appends the numbers that the look-up needs.
 fn push_numbers(text: &mut String, table: &Table, name: &str) -> Result<(), AllocError> {
     let (header, _, values) = table.trie.parts();
-    text.push_str("enum {\n")?;
-    writeln!(
-        text,
-        "    {name}_fastLimit = {:#x},",
-        header.trie_type.fast_limit()
-    )?;
-    writeln!(text, "    {name}_highStart = {:#x},", header.high_start)?;
-    writeln!(
-        text,
-        "    {name}_index1 = {},",
-        index1_offset(header.trie_type)
-    )?;
-    writeln!(text, "    {name}_dataLength = {}", values.len())?;
-    text.push_str("};\n\n")
+    let numbers = [
+        Hexadecimal(header.trie_type.fast_limit()),
+        Hexadecimal(header.high_start),
+        Decimal(index1_offset(header.trie_type) as usize),
+        Decimal(values.len()),
+    ];
+    push_pattern(text, NUMBERS, name, &numbers)
 }
 
-/// Appends a text in which each `@` stands for the name.
-fn push_named(text: &mut String, pattern: &str, name: &str) -> Result<(), AllocError> {
-    for (i, piece) in pattern.split('@').enumerate() {
-        if i > 0 {
-            text.push_str(name)?;
-        }
-        text.push_str(piece)?;
-    }
-    Ok(())
-}
+/// The trie for ICU's functions and macros (usrc_writeUCPTrie).
+const STRUCT: &str = "
+// The trie for ICU, where <unicode/ucptrie.h> is included before.
+#ifdef UCPTRIE_FAST_GET
+static const UCPTrie @_trie={
+    @_trieIndex,
+    { @_trieData },
+    %, %,
+    %, %,
+    %, %,
+    0, 0,
+    %, %,
+    %,
+};
+#endif
+";
 
-/// Appends the trie for ICU's functions and macros (usrc_writeUCPTrie).
+/// Appends the trie for ICU.
 fn push_struct(text: &mut String, table: &Table, name: &str) -> Result<(), AllocError> {
     let (header, index, values) = table.trie.parts();
-    let (kind, width) = (type_code(header.trie_type), table.width.code());
-    text.push_str("\n// The trie for ICU, where <unicode/ucptrie.h> is included before.\n")?;
-    text.push_str("#ifdef UCPTRIE_FAST_GET\n")?;
-    writeln!(text, "static const UCPTrie {name}_trie={{")?;
-    writeln!(text, "    {name}_trieIndex,")?;
-    writeln!(text, "    {{ {name}_trieData }},")?;
-    writeln!(text, "    {}, {},", index.len(), values.len())?;
-    writeln!(
-        text,
-        "    {:#x}, {:#x},",
-        header.high_start, header.shifted12_high_start
-    )?;
-    writeln!(text, "    {kind}, {width},")?;
-    writeln!(text, "    0, 0,")?;
-    writeln!(
-        text,
-        "    {:#x}, {:#x},",
-        header.index3_null_offset, header.data_null_offset
-    )?;
-    writeln!(text, "    {:#x},", header.null_value)?;
-    text.push_str("};\n#endif\n")
+    let numbers = [
+        Decimal(index.len()),
+        Decimal(values.len()),
+        Hexadecimal(header.high_start),
+        Hexadecimal(header.shifted12_high_start as u32),
+        Decimal(type_code(header.trie_type) as usize),
+        Decimal(table.width.code() as usize),
+        Hexadecimal(header.index3_null_offset as u32),
+        Hexadecimal(header.data_null_offset),
+        Hexadecimal(header.null_value),
+    ];
+    push_pattern(text, STRUCT, name, &numbers)
 }
 
 /// The table in C: the two arrays, a look-up over them that needs no ICU, and the trie for ICU

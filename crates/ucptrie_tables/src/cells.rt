@@ -1,4 +1,5 @@
 //! The cells of a trie as numbers in a text.
+use crate::pattern::{Number, push_number};
 use icu_trie::value::TrieValue;
 use icu_zerovec::ZeroSlice;
 use std::alloc::AllocError;
@@ -6,13 +7,12 @@ use std::alloc::AllocError;
 /// How many cells stand in a line.
 const CELLS_IN_LINE: usize = 16;
 
-/// Appends a number as ICU's tools write it: in decimal digits up to 9, and else in hexadecimal
-/// ones.
-fn push_number(text: &mut String, number: u32) -> Result<(), AllocError> {
-    if number <= 9 {
-        write!(text, "{number}")
+/// A number as ICU's tools write it: in decimal digits up to 9, and else in hexadecimal ones.
+fn number_of(cell: u32) -> Number {
+    if cell <= 9 {
+        Number::Decimal(cell as usize)
     } else {
-        write!(text, "{number:#x}")
+        Number::Hexadecimal(cell)
     }
 }
 
@@ -30,7 +30,7 @@ pub(crate) fn push_cells<T: TrieValue>(
             text.push_str(",\n")?;
             text.push_str(indent)?;
         }
-        push_number(text, cell.to_u32())?;
+        push_number(text, number_of(cell.to_u32()))?;
     }
     Ok(())
 }

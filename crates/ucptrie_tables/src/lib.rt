@@ -24,6 +24,7 @@ mod c_source;
 mod cells;
 pub mod diff;
 pub mod fault;
+mod pattern;
 pub mod read;
 mod rust_source;
 pub mod shown;

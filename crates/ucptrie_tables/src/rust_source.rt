@@ -1,5 +1,7 @@
 //! A table as source in Rust.
 use crate::cells::push_cells;
+use crate::pattern::Number::{Decimal, Hexadecimal};
+use crate::pattern::push_pattern;
 use crate::source::{index1_offset, push_sizes, type_code};
 use crate::table::Table;
 use std::alloc::{AllocError, Global};
@@ -34,52 +36,47 @@ const LOOK_UP: &str = "
 }
 ";
 
-/// Appends the header, field by field.
-fn push_header(text: &mut String, table: &Table) -> Result<(), AllocError> {
+/// The head of the module, with the header field by field.
+const HEAD: &str = "\
+pub mod @ {
+    pub type Value = u%;
+
+    pub const TRIE_TYPE: u8 = %;
+    pub const HIGH_START: u32 = %;
+    pub const SHIFTED12_HIGH_START: u16 = %;
+    pub const INDEX3_NULL_OFFSET: u16 = %;
+    pub const DATA_NULL_OFFSET: u32 = %;
+    pub const NULL_VALUE: u32 = %;
+    const FAST_LIMIT: u32 = %;
+    const INDEX1: u32 = %;
+
+";
+
+/// Appends the head of the module.
+fn push_head(text: &mut String, table: &Table, name: &str) -> Result<(), AllocError> {
     let (header, _, _) = table.trie.parts();
-    let (kind, limit) = (type_code(header.trie_type), header.trie_type.fast_limit());
-    writeln!(text, "    pub const TRIE_TYPE: u8 = {kind};")?;
-    writeln!(
-        text,
-        "    pub const HIGH_START: u32 = {:#x};",
-        header.high_start
-    )?;
-    writeln!(
-        text,
-        "    pub const SHIFTED12_HIGH_START: u16 = {:#x};",
-        header.shifted12_high_start
-    )?;
-    writeln!(
-        text,
-        "    pub const INDEX3_NULL_OFFSET: u16 = {:#x};",
-        header.index3_null_offset
-    )?;
-    writeln!(
-        text,
-        "    pub const DATA_NULL_OFFSET: u32 = {:#x};",
-        header.data_null_offset
-    )?;
-    writeln!(
-        text,
-        "    pub const NULL_VALUE: u32 = {:#x};",
-        header.null_value
-    )?;
-    writeln!(text, "    const FAST_LIMIT: u32 = {limit:#x};")?;
-    writeln!(
-        text,
-        "    const INDEX1: u32 = {};\n",
-        index1_offset(header.trie_type)
-    )
+    let numbers = [
+        Decimal(table.width.bits() as usize),
+        Decimal(type_code(header.trie_type) as usize),
+        Hexadecimal(header.high_start),
+        Hexadecimal(header.shifted12_high_start as u32),
+        Hexadecimal(header.index3_null_offset as u32),
+        Hexadecimal(header.data_null_offset),
+        Hexadecimal(header.null_value),
+        Hexadecimal(header.trie_type.fast_limit()),
+        Decimal(index1_offset(header.trie_type) as usize),
+    ];
+    push_pattern(text, HEAD, name, &numbers)
 }
 
 /// Appends the two arrays.
 fn push_arrays(text: &mut String, table: &Table) -> Result<(), AllocError> {
     let (_, index, values) = table.trie.parts();
-    text.push_str("    #[rustfmt::skip]\n")?;
-    writeln!(text, "    pub static INDEX: [u16; {}] = [", index.len())?;
+    let front = "    #[rustfmt::skip]\n    pub static INDEX: [u16; %] = [\n";
+    push_pattern(text, front, "", &[Decimal(index.len())])?;
     push_cells(text, index, "")?;
-    text.push_str("\n    ];\n\n    #[rustfmt::skip]\n")?;
-    writeln!(text, "    pub static DATA: [Value; {}] = [", values.len())?;
+    let front = "\n    ];\n\n    #[rustfmt::skip]\n    pub static DATA: [Value; %] = [\n";
+    push_pattern(text, front, "", &[Decimal(values.len())])?;
     push_cells(text, values, "")?;
     text.push_str("\n    ];\n")
 }
@@ -88,9 +85,7 @@ fn push_arrays(text: &mut String, table: &Table) -> Result<(), AllocError> {
 pub(crate) fn rust_text(alloc: Global, table: &Table, name: &str) -> Result<String, AllocError> {
     let mut text = String::new(alloc);
     push_sizes(&mut text, table)?;
-    writeln!(text, "pub mod {name} {{")?;
-    writeln!(text, "    pub type Value = u{};\n", table.width.bits())?;
-    push_header(&mut text, table)?;
+    push_head(&mut text, table, name)?;
     push_arrays(&mut text, table)?;
     text.push_str(LOOK_UP)?;
     Ok(text)

@@ -7,32 +7,47 @@ ghost use Rattle.icu_trie.specs.Parts.{trie_value};
 ghost use Rattle.icu_trie.specs.Ranges.{answers, IsCoherentTrie};
 ghost use Rattle.ucptab_table.specs.TableText.{answers_text, runs_text};
 
+use crate::pattern::Number::{Decimal, Hexadecimal};
+use crate::pattern::push_pattern;
 use crate::sizes::bounds_of;
 use crate::source::type_name;
 use crate::table::Table;
 use std::alloc::{AllocError, Global};
 use ucptab_table::text::{answers_text, ranges_text};
 
+/// What the header says.
+const HEADER: &str = "\
+# type: @
+# value width: % bits
+# high start: %
+# shifted12 high start: %
+# index3 null offset: %
+# data null offset: %
+# null value: %
+# error value: %
+";
+
 /// Appends what the header says.
 fn push_header(text: &mut String, table: &Table) -> Result<(), AllocError> {
     let (header, _, _) = table.trie.parts();
-    writeln!(text, "# type: {}", type_name(header.trie_type))?;
-    writeln!(text, "# value width: {} bits", table.width.bits())?;
-    writeln!(text, "# high start: {:#x}", header.high_start)?;
-    writeln!(
-        text,
-        "# shifted12 high start: {:#x}",
-        header.shifted12_high_start
-    )?;
-    writeln!(
-        text,
-        "# index3 null offset: {:#x}",
-        header.index3_null_offset
-    )?;
-    writeln!(text, "# data null offset: {:#x}", header.data_null_offset)?;
-    writeln!(text, "# null value: {}", header.null_value)?;
-    writeln!(text, "# error value: {}", table.trie.error_value())
+    let numbers = [
+        Decimal(table.width.bits() as usize),
+        Hexadecimal(header.high_start),
+        Hexadecimal(header.shifted12_high_start as u32),
+        Hexadecimal(header.index3_null_offset as u32),
+        Hexadecimal(header.data_null_offset),
+        Decimal(header.null_value as usize),
+        Decimal(table.trie.error_value() as usize),
+    ];
+    push_pattern(text, HEADER, type_name(header.trie_type), &numbers)
 }
+
+/// How many cells there are, and whether the header can be trusted.
+const CELLS: &str = "\
+# index cells: %, bound %
+# data cells: %, bound %
+# coherent: @
+";
 
 /// Appends how many cells the table has, each count with the bound on it, and whether the header
 /// can be trusted.
@@ -44,19 +59,13 @@ fn push_cells(alloc: Global, text: &mut String, table: &Table) -> Result<(), All
     } else {
         "no"
     };
-    writeln!(
-        text,
-        "# index cells: {}, bound {}",
-        index.len(),
-        bounds.index
-    )?;
-    writeln!(
-        text,
-        "# data cells: {}, bound {}",
-        values.len(),
-        bounds.data
-    )?;
-    writeln!(text, "# coherent: {coherent}")
+    let numbers = [
+        Decimal(index.len()),
+        Decimal(bounds.index),
+        Decimal(values.len()),
+        Decimal(bounds.data),
+    ];
+    push_pattern(text, CELLS, coherent, &numbers)
 }
 
 /// What the table is: the fields of its header, how many cells it has beside the bounds that a

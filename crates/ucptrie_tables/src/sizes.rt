@@ -24,14 +24,6 @@ fn values_of(alloc: Global, trie: &CodePointTrie<'_, u32>) -> Result<Vec<u32>, A
     Ok(values)
 }
 
-/// How many of the aligned blocks of so many values are different.
-fn count_different(alloc: Global, values: &[u32], size: usize) -> Result<usize, AllocError>
-    requires { 0 < size }
-{
-    let blocks: BTreeSet<&[u32]> = values.chunks(size).collect(alloc)?;
-    Ok(blocks.len())
-}
-
 /// The lists of 16 neighbours in an aligned block of 64.
 fn windows_of(alloc: Global, values: &[u32]) -> Result<BTreeSet<&[u32]>, AllocError> {
     let mut windows = BTreeSet::new(alloc);
@@ -43,15 +35,22 @@ fn windows_of(alloc: Global, values: &[u32]) -> Result<BTreeSet<&[u32]>, AllocEr
     Ok(windows)
 }
 
-/// How many different blocks of 16 there are that stand nowhere in an aligned block of 64 of the
-/// others.
-fn count_lone(alloc: Global, small: &[u32], fast: &[u32]) -> Result<usize, AllocError> {
-    let windows = windows_of(alloc, fast)?;
-    let lone: BTreeSet<&[u32]> = small
-        .chunks(16)
-        .filter(|block| !windows.contains(*block))
-        .collect(alloc)?;
-    Ok(lone.len())
+/// How many different aligned blocks of so many values there are beside those that are known.
+fn count_different(
+    alloc: Global,
+    values: &[u32],
+    size: usize,
+    known: &BTreeSet<&[u32]>,
+) -> Result<usize, AllocError>
+    requires { 0 < size }
+{
+    let mut blocks = BTreeSet::new(alloc);
+    for block in values.chunks(size) {
+        if !known.contains(block) {
+            blocks.insert(block)?;
+        }
+    }
+    Ok(blocks.len())
 }
 
 /// The bounds on the cells of a trie that is built of the values of this one, of its type, which
@@ -63,11 +62,12 @@ pub fn bounds_of(alloc: Global, trie: &CodePointTrie<'_, u32>) -> Result<Bounds,
     let (header, _, _) = trie.parts();
     let values = values_of(alloc, trie)?;
     let (fast, small) = values.split_at(header.trie_type.fast_limit() as usize);
-    let fast_cells = count_different(alloc, fast, 64)?.saturating_mul(64);
-    let small_cells = count_lone(alloc, small, fast)?.saturating_mul(16);
+    let (none, windows) = (BTreeSet::new(alloc), windows_of(alloc, fast)?);
+    let fast_cells = count_different(alloc, fast, 64, &none)?.saturating_mul(64);
+    let small_cells = count_different(alloc, small, 16, &windows)?.saturating_mul(16);
     let data = fast_cells.saturating_add(small_cells).saturating_add(160);
     let cells = if data <= 0x10000 { 32 } else { 36 };
-    let index = count_different(alloc, small, 512)?.saturating_mul(cells);
+    let index = count_different(alloc, small, 512, &none)?.saturating_mul(cells);
     Ok(Bounds {
         index: index.saturating_add(3200),
         data,

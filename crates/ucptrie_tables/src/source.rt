@@ -1,4 +1,6 @@
 //! What source in C and in Rust have in common.
+use crate::pattern::Number::Decimal;
+use crate::pattern::push_pattern;
 use crate::table::Table;
 use icu_trie::header::TrieType;
 use std::alloc::AllocError;
@@ -40,20 +42,21 @@ pub(crate) fn index1_offset(trie_type: TrieType) -> u32 {
     }
 }
 
+/// What the trie is, and its sizes.
+const SIZES: &str = "\
+// Made by ucptrie: a @ code point trie, with values of % bits.
+// Index: % cells, % bytes. Data: % cells, % bytes.
+";
+
 /// Appends a comment that says what the trie is, and its sizes.
 pub(crate) fn push_sizes(text: &mut String, table: &Table) -> Result<(), AllocError> {
     let (header, index, values) = table.trie.parts();
-    let (cells, bits) = (values.len(), table.width.bits());
-    let bytes = cells.saturating_mul(table.width.bytes());
-    let kind = type_name(header.trie_type);
-    writeln!(
-        text,
-        "// Made by ucptrie: a {kind} code point trie, with values of {bits} bits."
-    )?;
-    writeln!(
-        text,
-        "// Index: {} cells, {} bytes. Data: {cells} cells, {bytes} bytes.",
-        index.len(),
-        index.as_bytes().len()
-    )
+    let numbers = [
+        Decimal(table.width.bits() as usize),
+        Decimal(index.len()),
+        Decimal(index.as_bytes().len()),
+        Decimal(values.len()),
+        Decimal(values.len().saturating_mul(table.width.bytes())),
+    ];
+    push_pattern(text, SIZES, type_name(header.trie_type), &numbers)
 }
