@@ -17,7 +17,7 @@ TRIED = (
     " remove_set retain_set complement complement_char complement32 complement_range"
     " complement_range32 complement_set build set_value set_range_value get_set_for_value"
     " into_owned get_inversion_list_vec from_iter from_trie freeze iter2 is_trie count_entries"
-    " next_units advance"
+    " next_units unique_value advance"
     # Those of vectors and texts, in rust/support.
     " push push_str insert extend_from_slice resize"
 ).split()

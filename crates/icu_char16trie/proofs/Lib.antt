@@ -14,6 +14,7 @@ pub mod NextUnitLemmas
 pub mod OneMap
 pub mod SoundnessLemmas
 pub mod CountLemmas
+pub mod ValueLemmas
 pub mod Runs
 pub mod PassedLemmas
 pub mod FrontLemmas

@@ -23,7 +23,7 @@ part_one units (split p n s d low lower upper arms many g g' c l r b f a) y =
     a ∙ ap (λ z. z ++ upper) (part_one units l (rw same at e.below)) ∙ ap (λ z. e.lower ++ z) (part_one units r e.above) ∙ sym e.is
 
 mutual
-  holds_one : (units : List ℕ) {p : ℕ} {m m' : List (List ℕ × ℤ)} → Holds units p m → Holds units p m' → m ≡ m'
+  pub holds_one : (units : List ℕ) {p : ℕ} {m m' : List (List ℕ × ℤ)} → Holds units p m → Holds units p m' → m ≡ m'
   holds_one units (final p lead n m g big s e) y =
       let f = holds_final units y lead g big in
       let same : n ≡ f.0 = same_Some n f.0 (sym s ∙ f.1) in

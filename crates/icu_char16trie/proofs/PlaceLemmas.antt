@@ -19,7 +19,7 @@ from_no a b h = grind (arith, nat_tests)
 from_yes : (a b : ℕ) → a ≤ b → nat_le a b ≡ true
 from_yes a b h = grind (arith, nat_tests)
 
-value_holds : (units : List ℕ) {p : ℕ} {m : List (List ℕ × ℤ)} → Holds units p m → value_at units (Node p) ≡ value_of m []
+pub value_holds : (units : List ℕ) {p : ℕ} {m : List (List ℕ × ℤ)} → Holds units p m → value_at units (Node p) ≡ value_of m []
 unfolding value_of same_key
 value_holds units (final p lead n m g le s e) =
     rw (g, le-ltb lead 0x40 (omega arith), le-ltb lead 0x8000 le, s, e) refl

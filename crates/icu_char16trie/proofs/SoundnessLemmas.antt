@@ -8,7 +8,7 @@ use Rattle.std.proofs.lemmas.Bool.{eq-eqb, eqb-false, eqb-true, false≢true, ne
 use Rattle.icu_char16trie.specs.Numbers.{entry_child, short_end, lower_part, delta_end, short_number, node_number, node_end}
 use Rattle.icu_char16trie.specs.Grammar.{Arms, Part, last, entry, split, UnitsBelow, UnitsFrom, IsAscending, branch_len, branch_start, final, plain, valued, run, branch, Children, none, more}
 use Rattle.icu_char16trie.specs.UnitMap.{UnitMap, under}
-use Rattle.icu_char16trie.specs.Inside.Soundness.{HasMap, HasMatch, AllHaveMaps, AllBetween, places_of, IsWanted, want_all, AllWantedHave, PartWalked, IsNoPart, RestsOnWanted}
+use Rattle.icu_char16trie.specs.Inside.Soundness.{HasMap, HasMatch, AllHold, AllHaveMaps, AllBetween, places_of, IsWanted, want_all, AllWantedHold, AllWantedHave, PartWalked, IsNoPart, RestsOnWanted}
 use Rattle.icu_char16trie.specs.Inside.Counts.{MatchKids, after_run, of_arms, no_kids, of_plain, of_valued, NodeLeadsTo, AllWanted, LeadsToWanted, IsClosed}
 use Rattle.icu_char16trie.proofs.PartLemmas.{last_is, entry_found, split_found}
 use Rattle.icu_char16trie.proofs.NodeLemmas.{matches_run, matches_branch, holds_plain, holds_valued, holds_within}
@@ -99,21 +99,21 @@ want_keeps : (places : List ℕ) (wanted : List Bool) (q : ℕ) → IsWanted wan
 want_keeps [] wanted q h = h
 want_keeps (p ∷ places) wanted q h = want_keeps places (set wanted p true) q (set_wants wanted p q h)
 
--- nodes stand at the places that are wanted last, where they stand at all that are wanted
-want_made : (units places : List ℕ) (wanted : List Bool) (p n : ℕ) → n ≡ length wanted → AllBetween p n places
-    → AllWantedHave units (want_all places wanted) (p + 1) → AllHaveMaps units places
-want_made units [] wanted p n e b all = tt
-want_made units (q ∷ places) wanted p n e b all = (
+-- what is so at all that are wanted is so at the places that are wanted last
+pub want_made : (P : ℕ → Type 0) (places : List ℕ) (wanted : List Bool) (p n : ℕ) → n ≡ length wanted → AllBetween p n places
+    → AllWantedHold P (want_all places wanted) (p + 1) → AllHold P places
+want_made P [] wanted p n e b all = tt
+want_made P (q ∷ places) wanted p n e b all = (
   all q (omega (arith, b.0)) (want_keeps places (set wanted q true) q (set_here wanted q (omega (arith, b.1)))),
-  want_made units places (set wanted q true) p n (e ∙ sym (length-set wanted q true)) b.2 all,
+  want_made P places (set wanted q true) p n (e ∙ sym (length-set wanted q true)) b.2 all,
 )
 
-want_only : (units places : List ℕ) (wanted : List Bool) (q : ℕ) → AllHaveMaps units places → (IsWanted wanted q → HasMap units q)
-    → IsWanted (want_all places wanted) q → HasMap units q
-want_only units [] wanted q have other h = other h
-want_only units (p ∷ places) wanted q have other h =
-    want_only units places (set wanted p true) q have.1
-    (λ w. elim (set_only wanted p q w) [ inl e ↦ subst (HasMap units) (sym e) have.0 | inr k ↦ other k ]) h
+want_only : (P : ℕ → Type 0) (places : List ℕ) (wanted : List Bool) (q : ℕ) → AllHold P places → (IsWanted wanted q → P q)
+    → IsWanted (want_all places wanted) q → P q
+want_only P [] wanted q have other h = other h
+want_only P (p ∷ places) wanted q have other h =
+    want_only P places (set wanted p true) q have.1
+    (λ w. elim (set_only wanted p q w) [ inl e ↦ subst P (sym e) have.0 | inr k ↦ other k ]) h
 
 -- ---- nodes and branches
 
@@ -353,33 +353,43 @@ no_valued units p lead q g big small e never h = let v = holds_valued units h.1 
 
 -- ---- all places
 
+-- where it is so at p exactly if it is at the places that are wanted there
+pub back_places : (P : ℕ → Type 0) (places : List ℕ) (p n : ℕ) (old new : List Bool) → n ≡ length old → AllBetween p n places
+    → new ≡ want_all places old → (AllHold P places → P p) → AllWantedHold P new (p + 1) → AllWantedHold P old p
+back_places P places p n old new len ahead e makes all q le w = by (nat_eq q p) refl
+  where
+    by : (b : Bool) → nat_eq q p ≡ b → P q
+    by true same = subst P (sym (eqb-true q p same)) (makes (want_made P places old p n len ahead (rw e at all)))
+    by false other = all q (omega (arith, eqb-false q p other)) (rw e (want_keeps places old q w))
+
+pub forth_places : (P : ℕ → Type 0) (places : List ℕ) (p : ℕ) (old new : List Bool) → new ≡ want_all places old → AllHold P places
+    → AllWantedHold P old p → AllWantedHold P new (p + 1)
+forth_places P places p old new e have all q le w = want_only P places old q have (all q (omega arith)) (rw e at w)
+
 pub back_sound : (units : List ℕ) (p : ℕ) (old new : List Bool) → length units ≡ length old
     → RestsOnWanted units p (HasMap units p) (NodeLeadsTo units p) old new
     → AllWantedHave units new (p + 1) → AllWantedHave units old p
-back_sound units p old new len r all q le w = by (nat_eq q p) refl
-  where
-    by : (b : Bool) → nat_eq q p ≡ b → HasMap units q
-    by true e =
-        subst (HasMap units) (sym (eqb-true q p e))
-        (r.makes (want_made units r.places old p (length units) len r.ahead (rw r.wanted at all)))
-    by false e = all q (omega (arith, eqb-false q p e)) (rw r.wanted (want_keeps r.places old q w))
+back_sound units p old new len r = back_places (HasMap units) r.places p (length units) old new len r.ahead r.wanted r.makes
 
 pub forth_sound : (units : List ℕ) (p : ℕ) (old new : List Bool) → IsWanted old p
     → RestsOnWanted units p (HasMap units p) (NodeLeadsTo units p) old new
     → AllWantedHave units old p → AllWantedHave units new (p + 1)
-forth_sound units p old new here r all q le w =
-    want_only units r.places old q (r.gives (all p (omega arith) here)) (all q (omega arith)) (rw r.wanted at w)
+forth_sound units p old new here r all =
+    forth_places (HasMap units) r.places p old new r.wanted (r.gives (all p (omega arith) here)) all
 
-pub back_unwanted : (units : List ℕ) (p : ℕ) (wanted : List Bool) → get_or wanted p false ≡ false → AllWantedHave units wanted (p + 1)
-    → AllWantedHave units wanted p
-back_unwanted units p wanted never all q le w = by (nat_eq q p) refl
+pub back_unwanted : (P : ℕ → Type 0) (p : ℕ) (wanted : List Bool) → get_or wanted p false ≡ false → AllWantedHold P wanted (p + 1)
+    → AllWantedHold P wanted p
+back_unwanted P p wanted never all q le w = by (nat_eq q p) refl
   where
-    by : (b : Bool) → nat_eq q p ≡ b → HasMap units q
-    by true e = let same : q ≡ p = eqb-true q p e in let w' : get_or wanted p false ≡ true = rw same at w in cc
+    by : (b : Bool) → nat_eq q p ≡ b → P q
+    by true e =
+        let same : q ≡ p = eqb-true q p e in
+        let w' : get_or wanted p false ≡ true = rw same at w in
+        absurd (false≢true (sym never ∙ w'))
     by false e = all q (omega (arith, eqb-false q p e)) w
 
-pub forth_unwanted : (units : List ℕ) (p : ℕ) (wanted : List Bool) → AllWantedHave units wanted p → AllWantedHave units wanted (p + 1)
-forth_unwanted units p wanted all q le w = all q (omega arith) w
+pub forth_unwanted : (P : ℕ → Type 0) (p : ℕ) (wanted : List Bool) → AllWantedHold P wanted p → AllWantedHold P wanted (p + 1)
+forth_unwanted P p wanted all q le w = all q (omega arith) w
 
 -- ---- what the nodes lead to is wanted
 

@@ -6,4 +6,5 @@ pub mod Going
 pub mod Opening
 pub mod Soundness
 pub mod Counts
+pub mod Values
 pub mod Walking

@@ -11,6 +11,7 @@ pub mod LossyText
 pub mod Pending
 pub mod Entries
 pub mod NextUnits
+pub mod OneValue
 pub mod Walk
 pub mod Listing
 pub mod Char16Json

@@ -1,5 +1,5 @@
 //! A cursor over the units of a trie.
-ghost use Rattle.std.specs.Prelude.{◌≡◌, ℕ, ℤ, pos, List, [], ◌∷◌, ◌++◌, ◌<◌, ◌≤◌, IfOk, not};
+ghost use Rattle.std.specs.Prelude.{◌≡◌, ◌↔◌, ℕ, ℤ, pos, List, [], ◌∷◌, ◌++◌, ◌<◌, ◌≤◌, Some, IfOk, not};
 ghost use Rattle.icu_zerovec.specs.Slice.{slice_values};
 ghost use Rattle.icu_char16trie.specs.Grammar.{IsTrieOf};
 ghost use Rattle.icu_char16trie.specs.UnitMap.{UnitMap, after_all, value_of, goes_on};
@@ -7,6 +7,7 @@ ghost use Rattle.icu_char16trie.specs.Listing.{AreToCome, entry_text, entry_valu
 ghost use Rattle.icu_char16trie.specs.CursorPlaces.{place_of};
 ghost use Rattle.icu_char16trie.specs.UnitPlaces.{IsAfter, value_at, is_empty_at};
 ghost use Rattle.icu_char16trie.specs.NextUnits.{GoesOnWith, first_units};
+ghost use Rattle.icu_char16trie.specs.OneValue.{HaveOneValue, StandsForOneValue};
 ghost use Rattle.icu_char16trie.specs.Steps.{StepsTo, StepsAlong};
 ghost use Rattle.icu_char16trie.specs.Passed.{Passes};
 ghost use Rattle.std.specs.Char.Escape.{encode_utf16};
@@ -17,6 +18,7 @@ use crate::listing::Entries;
 use crate::next_units::add_units;
 use crate::place::{CursorPlace, Place, numbers_of, place_of};
 use crate::step::{is_empty_at, step, value_at};
+use crate::unique::unique_value_at;
 use icu_zerovec::{MemoryError, ZeroSlice};
 use std::alloc::Global;
 use std::marker::Model;
@@ -196,5 +198,33 @@ impl<'a> Char16TrieCursor<'a> {
         let mut list = Vec::new(alloc);
         add_units(&mut list, self.units, self.place)?;
         Ok(list)
+    }
+
+    /// The value that all keys going on from here have, the units so far among them where they are
+    /// a key. `None` where they have different values, and where no key goes on (ICU:
+    /// `hasUniqueValue`). A program that completes what was typed asks it whether the rest still
+    /// matters.
+    ///
+    /// On units that are no trie from here on it is `None`. Each node that is ahead is gone through
+    /// once, by ICU as often as others lead to it, and the second value ends it. It takes one byte
+    /// for each unit of the trie.
+    ///
+    /// # Errors
+    /// `MemoryError` where memory was refused.
+    ///
+    /// ```
+    /// // of the map of "a" to 1, "ab" to 1 and "b" to 3
+    /// let mut cursor = trie.cursor(); // cursor.unique_value(alloc)? is None
+    /// cursor.step('a'); // cursor.unique_value(alloc)? is Some(1)
+    /// ```
+    pub fn unique_value(&self, alloc: Global) -> Result<Option<i32>, MemoryError>
+        ensures value { IfOk result (λ told. (m : UnitMap) (w : List ℕ) (v : ℤ)
+            → IsAfter self.now m w → (told ≡ Some v) ↔ HaveOneValue (after_all w m) v) }
+
+        // On all units: only where a node stands at each place that is led to.
+        ensures exact { IfOk result (λ told. (v : ℤ) → (told ≡ Some v)
+            ↔ StandsForOneValue self.now.units self.now.place v) }
+    {
+        unique_value_at(alloc, self.units, self.place)
     }
 }

@@ -122,7 +122,7 @@ fn check_match(units: ZeroSlice<'_, u16>, wanted: &mut [bool], place: usize, low
 }
 
 /// Whether a node is sound as far as its own units say. The nodes that it leads to are wanted.
-fn check_node(units: ZeroSlice<'_, u16>, wanted: &mut [bool], place: usize) -> Option<()>
+pub(crate) fn check_node(units: ZeroSlice<'_, u16>, wanted: &mut [bool], place: usize) -> Option<()>
     requires wanted { length wanted.old ≡ length (slice_values units) }
     ensures { let all = slice_values units.entry in
         MatchOption result (HasMap all place → ⊥)

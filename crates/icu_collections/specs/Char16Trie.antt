@@ -16,6 +16,7 @@ pub use Rattle.icu_char16trie.specs.Entries.{AreCutShort, AreEntries, GivesNext,
 pub use Rattle.icu_char16trie.specs.Listing.{AreToCome, Advances, EndsUnlessReached, IsAtEnd, IsSomeValue, entries_work, entry_text, entry_value, listed_units}
 pub use Rattle.icu_char16trie.specs.NextUnits.{GoesOnWith, unit_list, without_first}
 unfoldable pub use Rattle.icu_char16trie.specs.NextUnits.{first_units}
+pub use Rattle.icu_char16trie.specs.OneValue.{AllHaveValue, HaveOneValue, StandsForOneValue}
 pub use Rattle.icu_char16trie.specs.LossyText.{key_text}
 unfoldable pub use Rattle.icu_char16trie_builder.specs.Entries.{most_units, with_entry}
 pub use Rattle.icu_char16trie_builder.specs.Errors.{entry_refusal}

@@ -83,6 +83,16 @@ impl Char16TrieCursor<'_> {
     pub fn next_units(&self) -> Vec<u16> {
         plain(self.try_next_units())
     }
+
+    /// The value that all keys going on from here have, the units so far among them where they are
+    /// a key. `None` where they have different values, and where no key goes on.
+    /// [`try_unique_value`](Self::try_unique_value) answers want of memory.
+    ///
+    /// # Panics
+    /// Where memory was refused.
+    pub fn unique_value(&self) -> Option<i32> {
+        plain(self.try_unique_value())
+    }
 }
 
 impl Entries<'_> {

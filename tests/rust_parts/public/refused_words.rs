@@ -65,6 +65,9 @@ fn unit_tries() {
     refused_in_turn("Char16Trie::try_is_trie", || whole.try_is_trie().ok().filter(|it| *it));
     refused_in_turn("Char16Trie::try_count_entries", || whole.try_count_entries().ok());
     refused_in_turn("Char16TrieCursor::try_next_units", || whole.cursor().try_next_units().ok());
+    refused_in_turn("Char16TrieCursor::try_unique_value", || {
+        whole.cursor().try_unique_value().ok()
+    });
     refused_in_turn("Entries::try_advance", || {
         let mut entries = whole.entries();
         let mut count = 0;
@@ -75,6 +78,7 @@ fn unit_tries() {
     });
     assert_eq!((whole.is_trie(), whole.count_entries()), (true, Some(400)));
     assert_eq!(whole.cursor().next_units()[..2], [0x61, 0x62]);
+    assert_eq!(whole.cursor().unique_value(), None);
 }
 
 #[test]

@@ -11,10 +11,14 @@ HasMap units p = (m : UnitMap) × Holds units p m
 abbrev pub HasMatch : List ℕ → ℕ → ℕ → Type 0
 HasMatch units p low = (m : UnitMap) × Matches units p low m
 
+-- so it is at each of these places
+abbrev pub AllHold : (ℕ → Type 0) → List ℕ → Type 0
+AllHold P [] = ⊤
+AllHold P (q ∷ places) = P q × AllHold P places
+
 -- a node stands at each of these places
 abbrev pub AllHaveMaps : List ℕ → List ℕ → Type 0
-AllHaveMaps units [] = ⊤
-AllHaveMaps units (q ∷ places) = HasMap units q × AllHaveMaps units places
+AllHaveMaps units places = AllHold (HasMap units) places
 
 -- the places are after p and below n
 abbrev pub AllBetween : ℕ → ℕ → List ℕ → Type 0
@@ -39,9 +43,13 @@ abbrev pub want_all : List ℕ → List Bool → List Bool
 want_all [] wanted = wanted
 want_all (q ∷ places) wanted = want_all places (slice_set wanted q true)
 
+-- so it is at each place from p on where a node is wanted
+abbrev pub AllWantedHold : (ℕ → Type 0) → List Bool → ℕ → Type 0
+AllWantedHold P wanted p = (q : ℕ) → p ≤ q → IsWanted wanted q → P q
+
 -- a node stands at each place from p on where one is wanted
 abbrev pub AllWantedHave : List ℕ → List Bool → ℕ → Type 0
-AllWantedHave units wanted p = (q : ℕ) → p ≤ q → IsWanted wanted q → HasMap units q
+AllWantedHave units wanted p = AllWantedHold (HasMap units) wanted p
 
 -- the part with n entries at p is a sound one whose units are not below `from`, and below `next`,
 -- which is the least number above all; the nodes of its entries are wanted now

@@ -6,6 +6,7 @@ use crate::icu_char16trie::listing::Entries;
 use crate::icu_char16trie::next_units::add_units;
 use crate::icu_char16trie::place::{CursorPlace, Place, numbers_of, place_of};
 use crate::icu_char16trie::step::{is_empty_at, step, value_at};
+use crate::icu_char16trie::unique::unique_value_at;
 use crate::icu_zerovec::{MemoryError, ZeroSlice};
 
 /// A cursor into the units of a trie, for look-up unit by unit.
@@ -123,5 +124,27 @@ impl<'a> Char16TrieCursor<'a> {
         let mut list = Vec::new();
         add_units(&mut list, self.units, self.place)?;
         Ok(list)
+    }
+
+    /// The value that all keys going on from here have, the units so far among them where they are
+    /// a key. `None` where they have different values, and where no key goes on (ICU:
+    /// `hasUniqueValue`). A program that completes what was typed asks it whether the rest still
+    /// matters.
+    ///
+    /// On units that are no trie from here on it is `None`. Each node that is ahead is gone through
+    /// once, by ICU as often as others lead to it, and the second value ends it. It takes one byte
+    /// for each unit of the trie.
+    ///
+    /// # Errors
+    /// `MemoryError` where memory was refused.
+    ///
+    /// ```text
+    /// // of the map of "a" to 1, "ab" to 1 and "b" to 3
+    /// let mut cursor = trie.cursor(); // cursor.try_unique_value()? is None
+    /// cursor.step('a'); // cursor.try_unique_value()? is Some(1)
+    /// ```
+    #[inline]
+    pub fn try_unique_value(&self) -> Result<Option<i32>, MemoryError> {
+        unique_value_at(self.units, self.place)
     }
 }

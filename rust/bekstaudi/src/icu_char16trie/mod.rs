@@ -26,6 +26,7 @@
 //! - `listing`: [`Entries`](char16trie::Entries), the entries by one buffer, from the root or from
 //!   a cursor on; `walk`: how it goes from one entry to the next; `front`: what comes next
 //! - `next_units`: the units with which keys go on from a cursor
+//! - `unique`: the value that all keys going on from a cursor have
 //! - `json`: a trie from and to JSON
 //! - `place`, `step`, `branch`, `encoded`: where a cursor stands, where a unit leads from there,
 //!   and how numbers stand in units
@@ -50,5 +51,6 @@ mod soundness;
 mod spelling;
 mod step;
 mod trie;
+mod unique;
 mod walk;
 mod write;

@@ -95,7 +95,7 @@ fn check_match(units: ZeroSlice<'_, u16>, wanted: &mut [bool], place: usize, low
 
 /// Whether a node is sound as far as its own units say. The nodes that it leads to are wanted.
 #[inline]
-fn check_node(units: ZeroSlice<'_, u16>, wanted: &mut [bool], place: usize) -> Option<()> {
+pub(crate) fn check_node(units: ZeroSlice<'_, u16>, wanted: &mut [bool], place: usize) -> Option<()> {
     let lead = unit_at(units, place)?;
     if lead >= 0x8000 {
         short_number(units, place + 1, lead - 0x8000)?;

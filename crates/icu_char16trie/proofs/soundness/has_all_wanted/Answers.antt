@@ -24,8 +24,8 @@ loop-place-preserved c =
       | else-wanted-place-via-else-wanted-place w ↦
           rw w.wanted-is (record {
             told = (
-              λ all. c.loop-place.invariant.told.0 (back_unwanted _ _ _ w.if-wanted-place.false all),
-              λ all. forth_unwanted _ _ _ (c.loop-place.invariant.told.1 all),
+              λ all. c.loop-place.invariant.told.0 (back_unwanted (HasMap (slice_values c.args.units)) _ _ w.if-wanted-place.false all),
+              λ all. forth_unwanted (HasMap (slice_values c.args.units)) _ _ (c.loop-place.invariant.told.1 all),
             );
             kept = c.loop-place.invariant.kept;
             closed = closed_unwanted _ _ _ w.if-wanted-place.false c.loop-place.invariant.closed;

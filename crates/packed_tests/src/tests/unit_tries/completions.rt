@@ -2,7 +2,7 @@
 use super::steps::{resumed_at, units_of};
 use super::support::{
     A_AB, LEAD_PAIR, SIX, advanced, cursor_after, entries_from, entries_of, listed, made_trie,
-    next_units_of, told,
+    next_units_of, told, unique_value_of,
 };
 use crate::tests::support::{expect_same, given};
 use icu_char16trie::char16trie::{Char16Trie, Char16TrieCursor, CursorPlace, Entries};
@@ -104,6 +104,62 @@ fn next_units(rt: HostRuntime) {
     for (units, passed, want) in NEXT.iter() {
         let trie = made_trie(&rt, units);
         expect_next(&rt, &cursor_after(&trie, passed), want, units);
+    }
+}
+
+/// The units of "a" to 1, "ab" to 1 and "b" to 3.
+const ALIKE: [u16; 8] = [1, 0x61, 2, 0x62, 0x8003, 0xB0, 0x62, 0x8001];
+
+/// Units of a trie, units that are passed, and the value of all keys that go on from there.
+type ValueRow = (&'static [u16], &'static [u16], Option<i32>);
+
+static ONE_VALUE: [ValueRow; 23] = [
+    (&A_AB, &[], None),
+    (&A_AB, &[0x61], None),
+    (&A_AB, &[0x61, 0x62], Some(2)),
+    (&A_AB, &[0x62], None),
+    (&ALIKE, &[], None),
+    (&ALIKE, &[0x61], Some(1)),
+    (&ALIKE, &[0x61, 0x62], Some(1)),
+    (&ALIKE, &[0x62], Some(3)),
+    (&SIX, &[], None),
+    (&SIX, &[0x66], Some(6)),
+    (&RUN, &[0x61], None),
+    (&RUN, &[0x61, 0x62, 0x63, 0x64], Some(4)),
+    // Within a linear match.
+    (&[0x32, 0x61, 0x62, 0x63, 0x8005], &[0x61], Some(5)),
+    (&[0x8007], &[], Some(7)),
+    (&[0xFFFF, 0xFFFF, 0xFFFF], &[], Some(-1)),
+    (&[], &[], None),
+    // A node to which both units of a branch lead.
+    (&[1, 0x61, 1, 0x62, 0x8001], &[], Some(1)),
+    // Units that are no trie: a value, a linear match and a branch that are cut off, units that
+    // descend, and a jump past the end.
+    (&[0x30, 0x61, 0xFFFF], &[0x61], None),
+    (&[0x33, 0x61, 0x62], &[0x61], None),
+    (&[1, 0x61, 0x8001], &[], None),
+    (&[1, 0x62, 0x8001, 0x61, 0x8001], &[], None),
+    (&[1, 0x61, 3, 0x62, 0x8001, 0x8001], &[], None),
+    // Of which a part is one.
+    (&[1, 0x62, 0x8001, 0x61, 0x8001], &[0x61], Some(1)),
+];
+
+/// All keys that go on from a cursor have this value.
+fn expect_one_value(
+    rt: &(impl Abort + AllocGlobal),
+    cursor: &Char16TrieCursor<'_>,
+    want: Option<i32>,
+    units: &[u16],
+) {
+    let found = given(rt, unique_value_of(rt.alloc(), cursor));
+    expect_same(rt, (units, found), (units, want), "the one value");
+}
+
+#[test]
+fn values_of_all_keys(rt: HostRuntime) {
+    for (units, passed, want) in ONE_VALUE.iter() {
+        let trie = made_trie(&rt, units);
+        expect_one_value(&rt, &cursor_after(&trie, passed), *want, units);
     }
 }
 

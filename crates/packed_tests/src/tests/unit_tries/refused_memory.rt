@@ -11,7 +11,7 @@ use super::steps::{
 use super::support::{
     SIX, advanced, are_same, count_of, cursor_of, entries_from, entries_of, is_over, is_trie,
     items_of, iter_of, last_result, next_item, next_result, next_units_of, of_data, pass, told,
-    trie_of, value_at,
+    trie_of, unique_value_of, value_at,
 };
 use crate::tests::support::{expect, expect_answer, expect_same, say};
 use icu_char16trie::char16trie::{Char16Trie, Entries, Iter2, TrieResult};
@@ -216,6 +216,18 @@ fn next_units_refused(rt: HostRuntime) {
     let found = count_of_units(rt.alloc(), &trie);
     say(&rt, "done");
     expect_answer(&rt, found, 6, "the units");
+}
+
+/// Calls: `Char16TrieCursor::unique_value`.
+#[test]
+fn unique_value_refused(rt: HostRuntime) {
+    let Some(trie) = some_trie(&rt, &SIX) else {
+        return;
+    };
+    say(&rt, "call");
+    let found = unique_value_of(rt.alloc(), &cursor_of(&trie));
+    say(&rt, "done");
+    expect_answer(&rt, found, None, "the one value");
 }
 
 /// Whether `c` can be written to a cursor, its value, whether no key goes on beyond it, and what an

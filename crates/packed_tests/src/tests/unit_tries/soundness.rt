@@ -121,6 +121,27 @@ fn branches_that_share_nodes(rt: HostRuntime) {
     expect_same(&rt, told, true, "with a value behind them");
 }
 
+/// The value of all keys of so many branches with these units behind them.
+fn value_of_branches(
+    alloc: Global,
+    count: usize,
+    behind: &[u16],
+) -> Result<Option<i32>, MemoryError> {
+    let units = branches(alloc, count, behind)?;
+    let trie = trie_of(alloc, units.as_slice())?;
+    trie.cursor().unique_value(alloc)
+}
+
+/// The value of 2^40 keys.
+#[test]
+fn value_of_keys_that_share_nodes(rt: HostRuntime) -> Result<(), Fail> {
+    let value = value_of_branches(rt.alloc(), 40, &[0x8009])?;
+    expect_same(&rt, value, Some(9), "one value");
+    let value = value_of_branches(rt.alloc(), 40, &[1, 0x61, 0x8009, 0x62, 0x8008])?;
+    expect_same(&rt, value, None, "two values");
+    Ok(())
+}
+
 /// Units and how many entries they have.
 type Counted = (&'static [u16], Option<u64>);
 

@@ -176,3 +176,11 @@ pub fn next_units_of(
 ) -> Result<Vec<u16>, MemoryError> {
     cursor.next_units(alloc)
 }
+
+/// The value of all keys that go on from a cursor, where they have one.
+pub fn unique_value_of(
+    alloc: Global,
+    cursor: &Char16TrieCursor<'_>,
+) -> Result<Option<i32>, MemoryError> {
+    cursor.unique_value(alloc)
+}
