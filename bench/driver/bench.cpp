@@ -21,11 +21,11 @@ static const char *const kernels[] = {"get_u8",              "get_u16",        "
                                       "set_retain",          "set_complement", "set_contains_set",
                                       "set_ranges",          "set_span",       "frozen_contains",
                                       "frozen_text",         "frozen_span",    "freeze",
-                                      "frozen_contains_set", "c16_iter",       "c16_look",
-                                      "c16_longest",         "c16_build",      "packed_read",
-                                      "packed_search",       "c_get_u8",       "c_text_u8",
-                                      "c_range_u8",          "c_ranges_u8",    "c_setfor_u8",
-                                      "c_build_u8",          "range_u8"};
+                                      "frozen_contains_set", "c16_iter",       "c16_entries",
+                                      "c16_look",            "c16_longest",    "c16_build",
+                                      "packed_read",         "packed_search",  "c_get_u8",
+                                      "c_text_u8",           "c_range_u8",     "c_ranges_u8",
+                                      "c_setfor_u8",         "c_build_u8",     "range_u8"};
 
 enum { LEAST_ROUNDS = 5, MOST_ROUNDS = 400 };
 // A row takes about so many seconds.

@@ -78,6 +78,7 @@ uint64_t ours_frozen_text(const uint8_t *, size_t, const uint8_t *text, size_t, 
 uint64_t ours_span(const uint8_t *, size_t, const uint8_t *text, size_t, size_t turns);
 uint64_t ours_frozen_span(const uint8_t *, size_t, const uint8_t *text, size_t, size_t turns);
 uint64_t ours_freeze(const uint8_t *, size_t, size_t turns);
+uint64_t ours_c16_entries(const uint8_t *, size_t);
 uint64_t ours_c16_longest(const uint8_t *, size_t, const uint16_t *text, size_t);
 size_t ours_c16_build(const uint16_t *keys, size_t, const uint32_t *ends, size_t,
                       const int32_t *values, size_t, uint16_t *units, size_t);

@@ -200,6 +200,11 @@ static void read(const List &list) {
             "c16_iter", list.name, list.keys.size(), [&] { return ours_c16_iter(PARTS(bytes)); },
             [&] { return rust_c16_iter(PARTS(bytes)); }, [&] { return icu_iter(units); });
     }
+    if (wanted("c16_entries"))
+        row(
+            "c16_entries", list.name, list.keys.size(),
+            [&] { return ours_c16_entries(PARTS(bytes)); }, nullptr,
+            [&] { return icu_iter(units); });
     if (wanted("c16_longest")) {
         const vector<uint16_t> text = text_of(list);
         row(
@@ -242,7 +247,7 @@ static void build(const List &list) {
 }
 
 void unit_tries() {
-    if (wanted("c16_iter") || wanted("c16_look") || wanted("c16_longest"))
+    if (wanted("c16_iter") || wanted("c16_entries") || wanted("c16_look") || wanted("c16_longest"))
         for (const List &list : {list_of("words", 10000, name), list_of("locales", 4000, locale),
                                  list_of("emoji", 3000, emoji), list_of("han", 20000, han)})
             read(list);

@@ -150,6 +150,27 @@ pub extern "C" fn ours_c16_iter(alloc: Global, units: &[u8]) -> u64 {
     }
 }
 
+fn mixed_listing(alloc: Global, trie: &Char16Trie<'_>) -> u64 {
+    let mut sum = 0u64;
+    let mut entries = trie.entries(alloc);
+    loop {
+        match entries.advance() {
+            Ok(true) => sum = mixed(sum, entries.value().cast_unsigned()),
+            Ok(false) => return sum,
+            Err(_) => return u64::MAX,
+        }
+    }
+}
+
+/// The values of all entries, in unit order, of which each is reached with the text of its key.
+#[unsafe(no_mangle)]
+pub extern "C" fn ours_c16_entries(alloc: Global, units: &[u8]) -> u64 {
+    match ZeroVec::parse_bytes(units) {
+        Ok(units) => mixed_listing(alloc, &Char16Trie::new(units)),
+        Err(_) => u64::MAX,
+    }
+}
+
 fn add_line(all: &mut String, key: &str) -> Option<()> {
     all.push_str(key).ok()?;
     all.push('\n').ok()
