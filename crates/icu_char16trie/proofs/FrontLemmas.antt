@@ -13,7 +13,7 @@ use Rattle.icu_char16trie.specs.declared.place.Place.TheVariants.{Nowhere, Node,
 use Rattle.icu_char16trie.proofs.CallerLemmas.{none_beyond}
 use Rattle.icu_char16trie.proofs.PassedLemmas.{along_then}
 
-within_or_above : (k i : ℕ) → (k ≤ i) ⊎ (i < k)
+pub within_or_above : (k i : ℕ) → (k ≤ i) ⊎ (i < k)
 within_or_above zero i = inl (omega arith)
 within_or_above (suc k) zero = inr (omega arith)
 within_or_above (suc k) (suc i) = step (within_or_above k i)
@@ -107,7 +107,7 @@ ends_nowhere units (Node p) u e = by (slice_get units p) refl e
     by (Some lead) g h = at_final p lead Nowhere g (from lead h) refl
 ends_nowhere units (Run p left) u e = cc
 
-stays_nowhere : (units w : List ℕ) → StepsAlong units Nowhere w Nowhere
+pub stays_nowhere : (units w : List ℕ) → StepsAlong units Nowhere w Nowhere
 stays_nowhere units [] = refl
 stays_nowhere units (u ∷ w) = (Nowhere, refl, stays_nowhere units w)
 

@@ -18,6 +18,9 @@ pub mod ValueLemmas
 pub mod Runs
 pub mod PassedLemmas
 pub mod FrontLemmas
+pub mod RunLemmas
+pub mod StandsLemmas
+pub mod LongestLemmas
 pub mod CharFronts
 pub mod MatchLemmas
 pub mod JsonLemmas

@@ -1,10 +1,11 @@
 -- What the units at the front of a part say of its arms.
-use Rattle.std.proofs.Common.{◌≡◌, ℕ, ◌+◌, ◌-◌, ◌/◌, ◌%◌, ◌<◌, ◌≤◌, List, [], ◌∷◌, ◌++◌, Option, Some, None, Bool, true, false, cond, nat_eq, slice_get, refl, sym, ap, ◌∙◌, arith}
+use Rattle.std.proofs.Common.{◌≡◌, ℕ, ◌+◌, ◌-◌, ◌/◌, ◌%◌, ◌^◌, ◌<◌, ◌≤◌, nat_lt, List, [], ◌∷◌, ◌++◌, Option, Some, None, Bool, true, false, cond, nat_eq, slice_get, refl, sym, ap, ◌∙◌, arith}
 use Rattle.std.specs.Bool.{then_some}
-use Rattle.std.proofs.lemmas.Bool.{ne_eqb, eq-eqb}
+use Rattle.std.proofs.lemmas.Bool.{ne_eqb, eq-eqb, lt-ltb}
 use Rattle.icu_char16trie.specs.Grammar.{Part, last, entry, split, UnitsBelow, UnitsFrom}
-use Rattle.icu_char16trie.specs.Numbers.{entry_child, short_end, lower_part, delta_end}
+use Rattle.icu_char16trie.specs.Numbers.{entry_child, short_end, lower_part, delta_end, number_by, end_by}
 use Rattle.icu_char16trie.specs.UnitMap.{arm_of}
+use Rattle.icu_char16trie.specs.Inside.Fronts.{LeadsAs}
 use Rattle.icu_char16trie.specs.Steps.{InRow, gone, last as last_here, cut, here, on, InPart, row, no_split, no_delta, cut_delta, lower as below_split, upper as above_split}
 
 then_some_is : (b : Bool) (x : ℕ) → cond b (Some x) None ≡ then_some b x
@@ -158,3 +159,29 @@ part_finds units {u} (below_split p n s d q r more g lt g' to rest) part =
 part_finds units {u} (above_split p n s d r more g le g' rest) part =
     let e = split_found units part more s d g g' in
     part_finds units rest e.above ∙ sym (e.in_upper u le)
+
+-- ---- the half of a part
+
+pub near_lower : (units : List ℕ) (p d : ℕ) → d < 0xfc00 → lower_part units p d ≡ Some (p + d)
+unfolding lower_part number_by end_by
+near_lower units p d h = let few : nat_lt d 0xfc00 ≡ true = lt-ltb d 0xfc00 h in rw few refl
+
+pub near_end : (p d : ℕ) → d < 0xfc00 → p ≡ delta_end p d
+unfolding end_by
+near_end p d h = let few : nat_lt d 0xfc00 ≡ true = lt-ltb d 0xfc00 h in rw few refl
+
+pub lower_leads : (units : List ℕ) (u p n s d q : ℕ) → 5 < n → slice_get units p ≡ Some s → slice_get units (p + 1) ≡ Some d → u < s
+    → lower_part units (p + 2) d ≡ Some q → q < 2 ^ 63 → LeadsAs units u p n q (n / 2)
+lower_leads units u p n s d q many g g' lt at near = record {
+  near = near;
+  fewer = omega arith;
+  leads = λ r rest. below_split p n s d q r many g lt g' at rest;
+}
+
+pub upper_leads : (units : List ℕ) (u p n s d q : ℕ) → 5 < n → slice_get units p ≡ Some s → slice_get units (p + 1) ≡ Some d → s ≤ u
+    → q ≡ delta_end (p + 2) d → q < 2 ^ 63 → LeadsAs units u p n q (n - n / 2)
+upper_leads units u p n s d q many g g' le at near = record {
+  near = near;
+  fewer = omega arith;
+  leads = λ r rest. above_split p n s d r many g le g' (rw at at rest);
+}

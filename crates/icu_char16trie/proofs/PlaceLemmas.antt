@@ -16,7 +16,7 @@ use Rattle.icu_char16trie.proofs.NodeLemmas.{matches_no_root, matches_on, run_ke
 from_no : (a b : ℕ) → b < a → nat_le a b ≡ false
 from_no a b h = grind (arith, nat_tests)
 
-from_yes : (a b : ℕ) → a ≤ b → nat_le a b ≡ true
+pub from_yes : (a b : ℕ) → a ≤ b → nat_le a b ≡ true
 from_yes a b h = grind (arith, nat_tests)
 
 pub value_holds : (units : List ℕ) {p : ℕ} {m : List (List ℕ × ℤ)} → Holds units p m → value_at units (Node p) ≡ value_of m []

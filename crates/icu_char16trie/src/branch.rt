@@ -1,7 +1,8 @@
 //! The search in a branch.
 ghost use Rattle.icu_zerovec.specs.Slice.{slice_values};
-ghost use Rattle.std.specs.Prelude.{◌≡◌, ℕ, ◌+◌, ◌*◌, ◌^◌, ◌<◌, ◌≤◌, length, IfSome};
-ghost use Rattle.icu_char16trie.specs.Steps.{InRow, InPart};
+ghost use Rattle.std.specs.Prelude.{◌≡◌, ℕ, ◌+◌, ◌*◌, ◌^◌, ◌<◌, ◌≤◌, Option, None, length, IfSome, MatchOption};
+ghost use Rattle.icu_char16trie.specs.Steps.{InRow, InPart, child_place, InMatch};
+ghost use Rattle.icu_char16trie.specs.Inside.Fronts.{LeadsAs};
 
 use crate::encoded::{delta_end, entry_child, lower_part, short_end, two_at, unit_at};
 use icu_zerovec::ZeroSlice;
@@ -27,6 +28,41 @@ fn child_in_row(units: ZeroSlice<'_, u16>, row: usize, length: usize, unit: u16)
     (last == unit).then_some(place + 1)
 }
 
+/// The half of a part of more than five entries that has the entry with this unit, if one has it:
+/// where it stands, and how many entries it has.
+#[inline(always)]
+fn half_of_part(
+    units: ZeroSlice<'_, u16>,
+    part: usize,
+    length: usize,
+    unit: u16,
+) -> Option<(usize, usize)>
+    requires near { part < 2 ^ 63 }
+    requires many { 5 < length }
+    ensures { let all = slice_values units.entry in
+        MatchOption result (InPart all unit part length None)
+        (λ half. LeadsAs all unit part length half.0 half.1) }
+{
+    let (split, delta) = two_at(units, part)?;
+    let half = length >> 1;
+    if delta < 0xfc00 {
+        // Nearly all deltas are themselves the number. Which half it is can't be foretold, and so
+        // no jump of the processor hangs on it.
+        let (low, left) = if unit < split {
+            (usize::from(delta), half)
+        } else {
+            (0, length - half)
+        };
+        return Some((part + 2 + low, left));
+    }
+    if unit < split {
+        let low = lower_part(units, part + 2, delta)?;
+        Some((low, half))
+    } else {
+        Some((delta_end(part + 2, delta), length - half))
+    }
+}
+
 /// The place of the node of the entry with this unit, in a part of a branch.
 #[inline(always)]
 pub(crate) fn child_in_part(
@@ -42,15 +78,31 @@ pub(crate) fn child_in_part(
     let mut left = length;
     let mut place = part;
     while left > 5 {
-        let (split, delta) = two_at(units, place)?;
-        let half = left >> 1;
-        if unit < split {
-            place = lower_part(units, place + 2, delta)?;
-            left = half;
-        } else {
-            place = delta_end(place + 2, delta);
-            left -= half;
-        }
+        let (half, count) = half_of_part(units, place, left, unit)?;
+        place = half;
+        left = count;
     }
     child_in_row(units, place, left, unit)
+}
+
+/// The place of the node of the entry with this unit, in the branch of a match node with these low
+/// six bits; `place` is after its lead and its value.
+#[inline(always)]
+pub(crate) fn child_in_branch(
+    units: ZeroSlice<'_, u16>,
+    place: usize,
+    low: u16,
+    unit: u16,
+) -> Option<usize>
+    requires near { place < 2 ^ 63 }
+    requires low { low < 0x30 }
+    ensures exact { InMatch (slice_values units.entry) unit place low (child_place result) }
+    ensures near { IfSome result (λ child. child < 2 ^ 63) }
+{
+    let (part, length) = if low > 0 {
+        (place, low)
+    } else {
+        (place + 1, unit_at(units, place)?)
+    };
+    child_in_part(units, part, usize::from(length) + 1, unit)
 }

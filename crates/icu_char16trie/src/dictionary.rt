@@ -1,15 +1,20 @@
 //! The keys that begin a text, as a dictionary is asked for its words.
-ghost use Rattle.std.specs.Prelude.{◌≡◌, ℕ, ℤ, List, IfSome};
+ghost use Rattle.icu_zerovec.specs.Slice.{slice_values};
+ghost use Rattle.std.specs.Prelude.{◌≡◌, ◌↔◌, ℕ, ℤ, ◌^◌, ◌<◌, List, IfSome, IsTrue};
 ghost use Rattle.std.specs.Iterator.{Drains};
 ghost use Rattle.std.specs.Str.{IsCharBoundary};
 ghost use Rattle.icu_char16trie.specs.Grammar.{IsTrieOf};
 ghost use Rattle.icu_char16trie.specs.UnitMap.{UnitMap};
 ghost use Rattle.icu_char16trie.specs.Matches.{IsLongestInText, IsLongestMatch, IsLongestStepped, IsLongestSteppedInText, matches_of};
 ghost use Rattle.icu_char16trie.specs.MatchesLeft.{AreLeft, GivesMatch};
-ghost use Rattle.icu_char16trie.specs.Inside.Fronts.{longer};
+ghost use Rattle.icu_char16trie.specs.Inside.Fronts.{BeginsRun, PassesMatch, longer};
 
+use crate::branch::child_in_branch;
+use crate::encoded::{node_end, unit_at};
 use crate::matches::Matches;
+use crate::step::value_by;
 use crate::trie::Char16Trie;
+use icu_zerovec::ZeroSlice;
 
 /// The match of the first `n` units, if they have a value, or else what was found before them.
 #[inline(always)]
@@ -20,6 +25,50 @@ fn longer_match(n: usize, value: Option<i32>, found: Option<(usize, i32)>) -> Op
         Some(v) => Some((n, v)),
         None => found,
     }
+}
+
+/// Whether a text begins with the `count` units at a place.
+#[inline(always)]
+fn begins_run(units: ZeroSlice<'_, u16>, place: usize, count: usize, text: &[u16]) -> bool
+    requires { place < 2 ^ 63 }
+    ensures { IsTrue result ↔ BeginsRun (slice_values units.entry) place count text.now }
+{
+    if text.len() < count {
+        return false;
+    }
+    for i in 0..count {
+        if unit_at(units, place + i) != Some(text[i]) {
+            return false;
+        }
+    }
+    true
+}
+
+/// Goes on with a text at a match node, by its low six bits, to the next node: its place, and how
+/// many units were passed. `place` is after the match node's lead and its value.
+#[inline(always)]
+fn pass_match(
+    units: ZeroSlice<'_, u16>,
+    place: usize,
+    low: u16,
+    text: &[u16],
+) -> Option<(usize, usize)>
+    requires near { place < 2 ^ 63 }
+    requires low { low < 0x40 }
+    ensures { PassesMatch (slice_values units.entry) text.now place low result }
+{
+    if low >= 0x30 {
+        let count = usize::from(low) - 0x2f;
+        if !begins_run(units, place, count, text) {
+            return None;
+        }
+        return Some((place + count, count));
+    }
+    if text.is_empty() {
+        return None;
+    }
+    let child = child_in_branch(units, place, low, text[0])?;
+    Some((child, 1))
 }
 
 impl<'data> Char16Trie<'data> {
@@ -41,16 +90,21 @@ impl<'data> Char16Trie<'data> {
         // On all units: what the steps of the units lead to.
         ensures exact { IsLongestStepped self.now text.now result }
     {
-        let mut cursor = self.cursor();
-        let empty = cursor.value();
-        let mut found = longer_match(0, empty, None);
-        for i in 0..text.len() {
-            if cursor.is_empty() {
+        let units = self.data.as_slice();
+        let mut node = 0;
+        let mut passed = 0;
+        let mut found = None;
+        while let Some(lead) = unit_at(units, node) {
+            found = longer_match(passed, value_by(units, node + 1, lead), found);
+            if lead >= 0x8000 {
                 return found;
             }
-            cursor.step16(text[i]);
-            let value = cursor.value();
-            found = longer_match(i + 1, value, found);
+            let place = node_end(node + 1, lead);
+            let Some((next, count)) = pass_match(units, place, lead % 64, &text[passed..]) else {
+                return found;
+            };
+            node = next;
+            passed += count;
         }
         found
     }

@@ -20,6 +20,35 @@ fn child_in_row(units: ZeroSlice<'_, u16>, row: usize, length: usize, unit: u16)
     (last == unit).then_some(place + 1)
 }
 
+/// The half of a part of more than five entries that has the entry with this unit, if one has it:
+/// where it stands, and how many entries it has.
+#[inline(always)]
+fn half_of_part(
+    units: ZeroSlice<'_, u16>,
+    part: usize,
+    length: usize,
+    unit: u16,
+) -> Option<(usize, usize)> {
+    let (split, delta) = two_at(units, part)?;
+    let half = length >> 1;
+    if delta < 0xfc00 {
+        // Nearly all deltas are themselves the number. Which half it is can't be foretold, and so
+        // no jump of the processor hangs on it.
+        let (low, left) = if unit < split {
+            (usize::from(delta), half)
+        } else {
+            (0, length - half)
+        };
+        return Some((part + 2 + low, left));
+    }
+    if unit < split {
+        let low = lower_part(units, part + 2, delta)?;
+        Some((low, half))
+    } else {
+        Some((delta_end(part + 2, delta), length - half))
+    }
+}
+
 /// The place of the node of the entry with this unit, in a part of a branch.
 #[inline(always)]
 pub(crate) fn child_in_part(
@@ -31,15 +60,26 @@ pub(crate) fn child_in_part(
     let mut left = length;
     let mut place = part;
     while left > 5 {
-        let (split, delta) = two_at(units, place)?;
-        let half = left >> 1;
-        if unit < split {
-            place = lower_part(units, place + 2, delta)?;
-            left = half;
-        } else {
-            place = delta_end(place + 2, delta);
-            left -= half;
-        }
+        let (half, count) = half_of_part(units, place, left, unit)?;
+        place = half;
+        left = count;
     }
     child_in_row(units, place, left, unit)
+}
+
+/// The place of the node of the entry with this unit, in the branch of a match node with these low
+/// six bits; `place` is after its lead and its value.
+#[inline(always)]
+pub(crate) fn child_in_branch(
+    units: ZeroSlice<'_, u16>,
+    place: usize,
+    low: u16,
+    unit: u16,
+) -> Option<usize> {
+    let (part, length) = if low > 0 {
+        (place, low)
+    } else {
+        (place + 1, unit_at(units, place)?)
+    };
+    child_in_part(units, part, usize::from(length) + 1, unit)
 }

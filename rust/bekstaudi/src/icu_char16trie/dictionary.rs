@@ -1,7 +1,11 @@
 //! The keys that begin a text, as a dictionary is asked for its words.
 
+use crate::icu_char16trie::branch::child_in_branch;
+use crate::icu_char16trie::encoded::{node_end, unit_at};
 use crate::icu_char16trie::matches::Matches;
+use crate::icu_char16trie::step::value_by;
 use crate::icu_char16trie::trie::Char16Trie;
+use crate::icu_zerovec::ZeroSlice;
 
 /// The match of the first `n` units, if they have a value, or else what was found before them.
 #[inline(always)]
@@ -10,6 +14,43 @@ fn longer_match(n: usize, value: Option<i32>, found: Option<(usize, i32)>) -> Op
         Some(v) => Some((n, v)),
         None => found,
     }
+}
+
+/// Whether a text begins with the `count` units at a place.
+#[inline(always)]
+fn begins_run(units: ZeroSlice<'_, u16>, place: usize, count: usize, text: &[u16]) -> bool {
+    if text.len() < count {
+        return false;
+    }
+    for i in 0..count {
+        if unit_at(units, place + i) != Some(text[i]) {
+            return false;
+        }
+    }
+    true
+}
+
+/// Goes on with a text at a match node, by its low six bits, to the next node: its place, and how
+/// many units were passed. `place` is after the match node's lead and its value.
+#[inline(always)]
+fn pass_match(
+    units: ZeroSlice<'_, u16>,
+    place: usize,
+    low: u16,
+    text: &[u16],
+) -> Option<(usize, usize)> {
+    if low >= 0x30 {
+        let count = usize::from(low) - 0x2f;
+        if !begins_run(units, place, count, text) {
+            return None;
+        }
+        return Some((place + count, count));
+    }
+    if text.is_empty() {
+        return None;
+    }
+    let child = child_in_branch(units, place, low, text[0])?;
+    Some((child, 1))
 }
 
 impl<'data> Char16Trie<'data> {
@@ -26,16 +67,21 @@ impl<'data> Char16Trie<'data> {
     /// // trie.longest_match(&[0x62]) is None
     /// ```
     pub fn longest_match(&self, text: &[u16]) -> Option<(usize, i32)> {
-        let mut cursor = self.cursor();
-        let empty = cursor.value();
-        let mut found = longer_match(0, empty, None);
-        for i in 0..text.len() {
-            if cursor.is_empty() {
+        let units = self.data.as_slice();
+        let mut node = 0;
+        let mut passed = 0;
+        let mut found = None;
+        while let Some(lead) = unit_at(units, node) {
+            found = longer_match(passed, value_by(units, node + 1, lead), found);
+            if lead >= 0x8000 {
                 return found;
             }
-            cursor.step16(text[i]);
-            let value = cursor.value();
-            found = longer_match(i + 1, value, found);
+            let place = node_end(node + 1, lead);
+            let Some((next, count)) = pass_match(units, place, lead % 64, &text[passed..]) else {
+                return found;
+            };
+            node = next;
+            passed += count;
         }
         found
     }

@@ -1,74 +1,73 @@
-use Rattle.std.proofs.Common.{◌≡◌, ◌+◌, Bool, true, false, not, [], ◌∷◌, get_or, take, refl, sym, ap, subst, ◌∙◌, arith}
-use Rattle.icu_char16trie.specs.UnitMap.{goes_on, value_of}
-use Rattle.icu_char16trie.specs.UnitPlaces.{IsAfter, value_at, is_empty_at}
-use Rattle.icu_char16trie.specs.Steps.{StepsAlong, StepsTo}
-use Rattle.icu_char16trie.specs.Matches.{HasFrontValue, HasFrontStepped, LongestWithin}
+use Rattle.icu_zerovec.specs.Slice.{slice_values}
+use Rattle.std.proofs.Common.{◌≡◌, ◌+◌, ◌≤◌, ◌∙◌, sym, arith, length, drop}
+use Rattle.icu_char16trie.specs.Inside.Fronts.{LeadsToNode}
 use Rattle.icu_char16trie.specs.declared.place.Place.TheVariants.{Node}
-use Rattle.icu_char16trie.proofs.FrontLemmas.{LongestWithin-zero, LongestWithin-suc, LongestWithin-more, no_longer_front, no_longer_step, take_next}
-use Rattle.icu_char16trie.proofs.PassedLemmas.{along_then}
+use Rattle.icu_char16trie.proofs.LongestLemmas.{at_next_node, at_root, ends_before, ends_here, ends_within, goes_to, rest_is, within_text}
+use Rattle.icu_char16trie.proofs.StandsLemmas.{stepped_is_longest}
 use Rattle.icu_char16trie.proofs.trie.Char16Trie.longest_match.Goals as goal
 
-pub loop-i-init : goal.loop-i-init
-loop-i-init c =
-    let at = c.cursor-cursor.ensures in
-    let first = c.value-empty.ensures in
-    let stepped : HasFrontStepped c.args.self.now c.args.text.now 0 c.value-empty.result =
-    (c.cursor-cursor.result.place, at.place, rw (← at.units) (sym first.exact)) in
-    record {
-      units = at.units;
-      steps = at.place;
-      stepped = rw c.longer_match-found.ensures (LongestWithin-zero (HasFrontStepped c.args.self.now c.args.text.now) _ stepped);
-      after = at.root;
-      longest = λ m h. rw c.longer_match-found.ensures (LongestWithin-zero (HasFrontValue m c.args.text.now) _ (sym (first.value m [] (at.root m h))));
-    }
+pub loop-lead-init : goal.loop-lead-init
+loop-lead-init c = at_root c.args.self.now c.args.text.now
 
-nothing : (b : Bool) → not b ≡ true → b ≡ false
-nothing true e = cc
-nothing false e = refl
+pub returns-clause-exact : goal.returns-clause-exact
+returns-clause-exact c =
+    let same : slice_values c.as_slice-units.result ≡ c.args.self.now = c.as_slice-units.ensures ∙ c.self.view_is in
+    rw (← same)
+    (ends_before (slice_values c.as_slice-units.result) c.args.text.now c.loop-lead.passed c.loop-lead.node c.loop-lead.found
+    (rw (← same) at c.loop-lead.invariant) (sym c.in_default.ensures.unit))
 
-pub returns-then-is_empty : goal.returns-then-is_empty
-returns-then-is_empty c =
-    let so_far = c.loop-i.invariant in
-    let ends : is_empty_at c.args.self.now c.loop-i.cursor.place ≡ true = rw (← so_far.units) (sym c.is_empty.ensures.exact ∙ c.if-is_empty.true) in
-    record {
-      longest = λ m h.
-          let none : goes_on m (take c.loop-i.i c.args.text.now) ≡ false =
-          nothing _ (sym (c.is_empty.ensures.empty m _ (so_far.after m h)) ∙ c.if-is_empty.true) in
-          LongestWithin-more (HasFrontValue m c.args.text.now) c.loop-i.i _ _ (omega (arith, c.loop-i-test.true))
-          (λ k above within. no_longer_front m c.args.text.now c.loop-i.i k none above within) (so_far.longest m h);
-      exact =
-          LongestWithin-more (HasFrontStepped c.args.self.now c.args.text.now) c.loop-i.i _ _ (omega (arith, c.loop-i-test.true))
-          (λ k above within. no_longer_step c.args.self.now c.args.text.now c.loop-i.cursor.place c.loop-i.i k so_far.steps ends above within) so_far.stepped;
-    }
+pub returns-then-lead-ge32768-clause-exact : goal.returns-then-lead-ge32768-clause-exact
+returns-then-lead-ge32768-clause-exact c =
+    let same : slice_values c.as_slice-units.result ≡ c.args.self.now = c.as_slice-units.ensures ∙ c.self.view_is in
+    rw (← same)
+    (ends_here (slice_values c.as_slice-units.result) c.args.text.now c.loop-lead.passed c.loop-lead.node c.in-Some.lead c.loop-lead.found _
+    (rw (← same) at c.loop-lead.invariant) (sym c.in-Some.ensures.unit) (rw c.value_by.ensures at c.longer_match-found.ensures)
+    c.if-lead-ge32768.true)
 
-pub loop-i-preserved : goal.loop-i-preserved
-loop-i-preserved c =
-    let so_far = c.loop-i.invariant in
-    let units : c.step16.new.self.units ≡ c.args.self.now = c.step16.ensures.units ∙ so_far.units in
-    let unit = take_next c.args.text.now c.loop-i.i (c.loop-i.i + 1) refl c.loop-i-test.true in
-    let step = subst (λ z. StepsTo z c.loop-i.cursor.place (get_or c.args.text.now c.loop-i.i 0) c.step16.new.self.place) so_far.units c.step16.ensures.exact in
-    let steps : StepsAlong c.args.self.now (Node 0) (take (c.loop-i.i + 1) c.args.text.now) c.step16.new.self.place =
-    rw unit at (along_then c.args.self.now (Node 0) c.loop-i.cursor.place c.step16.new.self.place (take c.loop-i.i c.args.text.now) (get_or c.args.text.now c.loop-i.i 0 ∷ []) so_far.steps
-    (c.step16.new.self.place, step, refl)) in
-    let stepped : HasFrontStepped c.args.self.now c.args.text.now (c.loop-i.i + 1) c.value-value.result =
-    (c.step16.new.self.place, steps, rw (← units) (sym c.value-value.ensures.exact)) in
-    record {
-      units = units;
-      steps = steps;
-      stepped = rw c.longer_match-found-in-loop-i.ensures (LongestWithin-suc (HasFrontStepped c.args.self.now c.args.text.now) c.loop-i.i _ _ stepped so_far.stepped);
-      after = λ m h. rw unit at (c.step16.ensures.after m _ (so_far.after m h));
-      longest = λ m h.
-          let passed : IsAfter c.step16.new.self m (take (c.loop-i.i + 1) c.args.text.now) = rw unit at (c.step16.ensures.after m _ (so_far.after m h)) in
-          rw c.longer_match-found-in-loop-i.ensures
-          (LongestWithin-suc (HasFrontValue m c.args.text.now) c.loop-i.i _ _ (sym (c.value-value.ensures.value m _ passed)) (so_far.longest m h));
-    }
+pub returns-in_default-pass_match-clause-exact : goal.returns-in_default-pass_match-clause-exact
+returns-in_default-pass_match-clause-exact c =
+    let same : slice_values c.as_slice-units.result ≡ c.args.self.now = c.as_slice-units.ensures ∙ c.self.view_is in
+    rw (← same)
+    (ends_within (slice_values c.as_slice-units.result) c.args.text.now c.loop-lead.passed c.loop-lead.node c.in-Some.lead
+    c.node_end-place.result c.loop-lead.found _
+    (rw (← same) at c.loop-lead.invariant) (sym c.in-Some.ensures.unit) (rw c.value_by.ensures at c.longer_match-found.ensures)
+    c.if-lead-ge32768.false c.node_end-place.ensures.end
+    (rw (rest_is c.args.text.now c.loop-lead.passed) at c.in_default-pass_match.ensures))
 
-pub returns : goal.returns
-returns c = record {
-  longest = λ m h.
-      LongestWithin-more (HasFrontValue m c.args.text.now) c.loop-i.i _ _ (omega (arith, c.loop-i.auto.i-end, c.loop-i-test.false))
-      (λ k above within. absurd (omega (arith, above, within, c.loop-i-test.false))) (c.loop-i.invariant.longest m h);
-  exact =
-      LongestWithin-more (HasFrontStepped c.args.self.now c.args.text.now) c.loop-i.i _ _ (omega (arith, c.loop-i.auto.i-end, c.loop-i-test.false))
-      (λ k above within. absurd (omega (arith, above, within, c.loop-i-test.false))) c.loop-i.invariant.stepped;
-}
+pub returns-clause-longest : goal.returns-clause-longest
+returns-clause-longest c = λ m trie. stepped_is_longest c.args.self.now m c.args.text.now _ _ trie (returns-clause-exact c)
+
+pub returns-then-lead-ge32768-clause-longest : goal.returns-then-lead-ge32768-clause-longest
+returns-then-lead-ge32768-clause-longest c =
+    λ m trie. stepped_is_longest c.args.self.now m c.args.text.now _ _ trie (returns-then-lead-ge32768-clause-exact c)
+
+pub returns-in_default-pass_match-clause-longest : goal.returns-in_default-pass_match-clause-longest
+returns-in_default-pass_match-clause-longest c =
+    λ m trie. stepped_is_longest c.args.self.now m c.args.text.now _ _ trie (returns-in_default-pass_match-clause-exact c)
+
+-- the text goes on to the next node
+leads_on : (c : goal.In-Some-pass_match)
+    → LeadsToNode (slice_values c.as_slice-units.result) (Node c.loop-lead.node) (drop c.loop-lead.passed c.args.text.now)
+    c.in-Some-pass_match.next c.in-Some-pass_match.count
+leads_on c =
+    goes_to (slice_values c.as_slice-units.result) c.args.text.now c.loop-lead.passed c.loop-lead.node c.in-Some.lead c.node_end-place.result
+    c.in-Some-pass_match.next c.in-Some-pass_match.count (sym c.in-Some.ensures.unit) c.if-lead-ge32768.false c.node_end-place.ensures.end
+    (rw (rest_is c.args.text.now c.loop-lead.passed) at c.in-Some-pass_match.ensures)
+
+stays_within : (c : goal.In-Some-pass_match) → c.loop-lead.passed + c.in-Some-pass_match.count ≤ length c.args.text.now
+stays_within c = within_text (slice_values c.as_slice-units.result) c.args.text.now c.loop-lead.passed _ _ _ c.loop-lead.invariant.within (leads_on c)
+
+pub overflow_add-passed : goal.overflow_add-passed
+overflow_add-passed c = omega (arith, stays_within c)
+
+pub loop-lead-smaller : goal.loop-lead-smaller
+loop-lead-smaller c = let on = leads_on c in omega (arith, stays_within c, on.some)
+
+pub loop-lead-preserved : goal.loop-lead-preserved
+loop-lead-preserved c =
+    let same : slice_values c.as_slice-units.result ≡ c.args.self.now = c.as_slice-units.ensures ∙ c.self.view_is in
+    rw (← same)
+    (at_next_node (slice_values c.as_slice-units.result) c.args.text.now c.loop-lead.passed c.loop-lead.node c.in-Some.lead
+    c.in-Some-pass_match.count c.in-Some-pass_match.next c.loop-lead.found _
+    (rw (← same) at c.loop-lead.invariant) (sym c.in-Some.ensures.unit) (rw c.value_by.ensures at c.longer_match-found.ensures)
+    (leads_on c))
