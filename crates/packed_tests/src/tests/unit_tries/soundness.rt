@@ -1,5 +1,5 @@
 //! Which units are a trie, and of how many entries, by the format's description.
-use super::support::{SIX, count_of, is_trie, made_trie};
+use super::support::{SIX, count_of, cursor_of, is_trie, made_trie, unique_value_of};
 use crate::tests::support::{expect_same, given};
 use std::alloc::{AllocError, Global};
 use std::process::Abort;
@@ -122,24 +122,19 @@ fn branches_that_share_nodes(rt: HostRuntime) {
 }
 
 /// The value of all keys of so many branches with these units behind them.
-fn value_of_branches(
-    alloc: Global,
-    count: usize,
-    behind: &[u16],
-) -> Result<Option<i32>, MemoryError> {
-    let units = branches(alloc, count, behind)?;
-    let trie = trie_of(alloc, units.as_slice())?;
-    trie.cursor().unique_value(alloc)
+fn value_of_branches(rt: &(impl Abort + AllocGlobal), count: usize, behind: &[u16]) -> Option<i32> {
+    let units = given(rt, branches(rt.alloc(), count, behind));
+    let trie = made_trie(rt, units.as_slice());
+    given(rt, unique_value_of(rt.alloc(), &cursor_of(&trie)))
 }
 
 /// The value of 2^40 keys.
 #[test]
-fn value_of_keys_that_share_nodes(rt: HostRuntime) -> Result<(), Fail> {
-    let value = value_of_branches(rt.alloc(), 40, &[0x8009])?;
+fn value_of_keys_that_share_nodes(rt: HostRuntime) {
+    let value = value_of_branches(&rt, 40, &[0x8009]);
     expect_same(&rt, value, Some(9), "one value");
-    let value = value_of_branches(rt.alloc(), 40, &[1, 0x61, 0x8009, 0x62, 0x8008])?;
+    let value = value_of_branches(&rt, 40, &[1, 0x61, 0x8009, 0x62, 0x8008]);
     expect_same(&rt, value, None, "two values");
-    Ok(())
 }
 
 /// Units and how many entries they have.
