@@ -1,12 +1,15 @@
 //! Frozen sets: that they are made, and answer as the set does; want of memory.
-use super::*;
+use super::points::{counts_of, expect_listed, holds, made_set, set_of};
+use super::{expect, expect_same, say, tell};
 use icu_frozen_sets::frozen::{FrozenCodePointSet, FrozenTables};
 use icu_frozen_sets::spans::Spans;
-use icu_zerovec::MemoryError;
+use icu_invlist::codepointinvlist::{CodePointInversionList, RangeOf};
+use std::alloc::Global;
+use std::process::Abort;
 
 /// Sets whose borders lie at those of words and blocks, beside and between them; all code points
 /// and none.
-const SETS: [&[u32]; 8] = [
+static SETS: [&[u32]; 8] = [
     &[],
     &[0, 0x11_0000],
     &[0x41, 0x5B, 0x61, 0x7B],
@@ -17,36 +20,14 @@ const SETS: [&[u32]; 8] = [
     &[0x10_FEFF, 0x10_FF01, 0x10_FFFF, 0x11_0000],
 ];
 
-/// How many numbers the two answer otherwise.
-fn differences(set: &CodePointInversionList<'_>, frozen: &FrozenCodePointSet) -> u32 {
-    let mut count = 0u32;
-    for c in 0..0x11_0100 {
-        if frozen.contains32(c) != set.contains32(c) {
-            count = count.saturating_add(1);
-        }
-    }
-    count
-}
-
-/// How many numbers the set of these ends answers otherwise when it is frozen.
-fn differences_of(alloc: Global, ends: &[u32]) -> Option<u32> {
-    let set = set_of(alloc, ends).ok()?;
-    let frozen = FrozenCodePointSet::freeze(alloc, &set).ok()?;
-    Some(differences(&set, &frozen))
-}
-
-#[test]
-fn frozen_sets_answer_alike(rt: HostRuntime) {
-    for ends in SETS {
-        let found = differences_of(rt.alloc(), ends);
-        expect_same(&rt, found, Some(0), "numbers answered otherwise");
-    }
+/// The set, frozen. `None` where memory was refused.
+fn frozen(alloc: Global, set: &CodePointInversionList<'_>) -> Option<FrozenCodePointSet> {
+    FrozenCodePointSet::freeze(alloc, set).ok()
 }
 
 /// The set of these ends, frozen. `None` where memory was refused.
 fn frozen_of(alloc: Global, ends: &[u32]) -> Option<FrozenCodePointSet> {
-    let set = set_of(alloc, ends).ok()?;
-    FrozenCodePointSet::freeze(alloc, &set).ok()
+    frozen(alloc, &set_of(alloc, ends)?)
 }
 
 /// The set of these ends, frozen, for which there has to be memory.
@@ -54,6 +35,50 @@ fn made_frozen(rt: &(impl Abort + AllocGlobal), ends: &[u32]) -> FrozenCodePoint
     match frozen_of(rt.alloc(), ends) {
         Some(frozen) => frozen,
         None => rt.panic("no memory"),
+    }
+}
+
+/// A copy of the frozen set. `None` where memory was refused.
+fn copy_of(alloc: Global, set: &FrozenCodePointSet) -> Option<FrozenCodePointSet> {
+    set.try_clone(alloc).ok()
+}
+
+/// Whether the two frozen sets are equal.
+fn are_equal(a: &FrozenCodePointSet, b: &FrozenCodePointSet) -> bool {
+    *a == *b
+}
+
+/// Whether the frozen set holds the number.
+fn has_number(frozen: &FrozenCodePointSet, c: u32) -> bool {
+    frozen.contains32(c)
+}
+
+/// Whether the frozen set holds the character.
+fn has_char(frozen: &FrozenCodePointSet, c: char) -> bool {
+    frozen.contains(c)
+}
+
+/// Whether the frozen set holds what the range of characters names.
+fn has_range<R: RangeOf<char>>(frozen: &FrozenCodePointSet, range: R) -> bool {
+    frozen.contains_range(range)
+}
+
+/// How many numbers the two answer otherwise.
+fn differences(set: &CodePointInversionList<'_>, frozen: &FrozenCodePointSet) -> u32 {
+    let mut count = 0u32;
+    for c in 0..0x11_0100 {
+        if has_number(frozen, c) != holds(set, c) {
+            count = count.saturating_add(1);
+        }
+    }
+    count
+}
+
+#[test]
+fn frozen_sets_answer_alike(rt: HostRuntime) {
+    for ends in SETS.iter() {
+        let found = differences(&made_set(&rt, ends), &made_frozen(&rt, ends));
+        expect_same(&rt, found, 0, "numbers answered otherwise");
     }
 }
 
@@ -115,73 +140,85 @@ fn spans_of_frozen_sets(rt: HostRuntime) {
     }
 }
 
+/// The next span: its text, and whether it is held.
+fn next_span<'t>(spans: &mut Spans<'_, 't>) -> Option<(&'t str, bool)> {
+    let span = spans.next()?;
+    Some((span.text, span.is_held))
+}
+
 /// The spans that are left are these, and no more.
 fn expect_spans(rt: &impl Abort, mut spans: Spans<'_, '_>, want: &[(&str, bool)], text: &str) {
-    for (piece, is_held) in want {
-        let Some(span) = spans.next() else {
-            rt.panic("a span is missing");
-        };
-        expect_same(rt, span.text, *piece, text);
-        expect_same(rt, span.is_held, *is_held, *piece);
+    for piece in want {
+        expect_same(rt, next_span(&mut spans), Some(*piece), text);
     }
-    expect(rt, spans.next().is_none(), "a span too many");
+    expect_same(rt, next_span(&mut spans), None, text);
 }
+
+/// A text, and its spans, each with whether it is held.
+type TextPieces = (&'static str, &'static [(&'static str, bool)]);
 
 /// Texts, and their spans by the block of Han, by U+D7FF to U+E000, between which there are
 /// surrogates alone, and by U+FFFF and U+10000: characters of one to four bytes.
+static PIECES: [TextPieces; 7] = [
+    ("", &[]),
+    ("漢字", &[("漢字", true)]),
+    ("a é", &[("a é", false)]),
+    (
+        "a漢é字",
+        &[("a", false), ("漢", true), ("é", false), ("字", true)],
+    ),
+    ("zé漢\u{10000}", &[("zé", false), ("漢\u{10000}", true)]),
+    (
+        "\u{D7FE}\u{D7FF}\u{E000}\u{E001}",
+        &[
+            ("\u{D7FE}", false),
+            ("\u{D7FF}\u{E000}", true),
+            ("\u{E001}", false),
+        ],
+    ),
+    (
+        "\u{FFFF}\u{10000}\u{10001}z",
+        &[("\u{FFFF}\u{10000}", true), ("\u{10001}z", false)],
+    ),
+];
+
 #[test]
 fn texts_cut_into_spans(rt: HostRuntime) {
-    let rows: [(&str, &[(&str, bool)]); 7] = [
-        ("", &[]),
-        ("漢字", &[("漢字", true)]),
-        ("a é", &[("a é", false)]),
-        (
-            "a漢é字",
-            &[("a", false), ("漢", true), ("é", false), ("字", true)],
-        ),
-        ("zé漢\u{10000}", &[("zé", false), ("漢\u{10000}", true)]),
-        (
-            "\u{D7FE}\u{D7FF}\u{E000}\u{E001}",
-            &[
-                ("\u{D7FE}", false),
-                ("\u{D7FF}\u{E000}", true),
-                ("\u{E001}", false),
-            ],
-        ),
-        (
-            "\u{FFFF}\u{10000}\u{10001}z",
-            &[("\u{FFFF}\u{10000}", true), ("\u{10001}z", false)],
-        ),
-    ];
     let frozen = made_frozen(&rt, SETS[6]);
-    for (text, want) in rows {
+    for (text, want) in PIECES.iter() {
         expect_spans(&rt, frozen.spans(text), want, text);
     }
 }
 
+/// How far the bytes lie in what the frozen set holds, or in what it does not.
+fn span_of_bytes(frozen: &FrozenCodePointSet, bytes: &[u8], held: bool) -> usize {
+    frozen.span_utf8(bytes, held)
+}
+
 /// How far bytes lie in the letters of ASCII, and how far in what is no such letter: an ill-formed
 /// sequence ends both.
+static BYTES: [(&[u8], [usize; 2]); 10] = [
+    (b"", [0, 0]),
+    (b"ab1", [2, 0]),
+    (b"1ab", [0, 1]),
+    (b"abc", [3, 0]),
+    (b"ab\xFFc", [2, 0]),
+    (b"\xFFab", [0, 0]),
+    (b"12\xC3", [0, 2]),
+    (b"\xC3\xA9\xE6\xBC", [0, 2]),
+    (b"a\xED\xA0\x80", [1, 0]),
+    (b"\xC0\x80", [0, 0]),
+];
+
 #[test]
 fn spans_of_bytes(rt: HostRuntime) {
-    let rows: [(&[u8], [usize; 2]); 10] = [
-        (b"", [0, 0]),
-        (b"ab1", [2, 0]),
-        (b"1ab", [0, 1]),
-        (b"abc", [3, 0]),
-        (b"ab\xFFc", [2, 0]),
-        (b"\xFFab", [0, 0]),
-        (b"12\xC3", [0, 2]),
-        (b"\xC3\xA9\xE6\xBC", [0, 2]),
-        (b"a\xED\xA0\x80", [1, 0]),
-        (b"\xC0\x80", [0, 0]),
-    ];
     let frozen = made_frozen(&rt, SETS[2]);
-    for (bytes, want) in rows {
+    for (bytes, want) in BYTES.iter() {
         let found = [
-            frozen.span_utf8(bytes, true),
-            frozen.span_utf8(bytes, false),
+            span_of_bytes(&frozen, bytes, true),
+            span_of_bytes(&frozen, bytes, false),
         ];
-        expect_same(&rt, found, want, "held, and not held");
+        expect_same(&rt, found, *want, "held, and not held");
     }
 }
 
@@ -190,20 +227,20 @@ fn spans_of_bytes(rt: HostRuntime) {
 fn ranges_in_frozen_sets(rt: HostRuntime) {
     let frozen = made_frozen(&rt, SETS[2]);
     let found = [
-        frozen.contains_range('A'..='Z'),
-        frozen.contains_range('A'..'['),
-        frozen.contains_range('A'..='['),
-        frozen.contains_range('B'..'B'),
-        frozen.contains_range(..),
+        has_range(&frozen, 'A'..='Z'),
+        has_range(&frozen, 'A'..'['),
+        has_range(&frozen, 'A'..='['),
+        has_range(&frozen, 'B'..'B'),
+        has_range(&frozen, ..),
     ];
     expect_same(&rt, found, [true, true, false, false, false], "ranges");
 }
 
 /// Whether a frozen set is equal to a copy and to another one, and whether it holds A.
 fn equalities(alloc: Global, first: &FrozenCodePointSet, ends: &[u32]) -> Option<[bool; 3]> {
-    let copy = first.try_clone(alloc).ok()?;
-    let other = frozen_of(alloc, ends)?;
-    Some([*first == copy, *first == other, first.contains('A')])
+    let is_copy_equal = are_equal(first, &copy_of(alloc, first)?);
+    let is_other_equal = are_equal(first, &frozen_of(alloc, ends)?);
+    Some([is_copy_equal, is_other_equal, has_char(first, 'A')])
 }
 
 #[test]
@@ -213,10 +250,10 @@ fn equal_frozen_sets(rt: HostRuntime) {
 }
 
 /// The call is over: the set answers as it has to, where it was frozen.
-fn expect_frozen(rt: &(impl Abort + Print), made: Result<FrozenCodePointSet, MemoryError>) {
-    tell(rt, made.is_err());
-    if let Ok(frozen) = made {
-        let found = [frozen.contains('A'), frozen.contains('1')];
+fn expect_frozen(rt: &(impl Abort + Print), made: Option<FrozenCodePointSet>) {
+    tell(rt, made.is_none());
+    if let Some(frozen) = made {
+        let found = [has_char(&frozen, 'A'), has_char(&frozen, '1')];
         expect_same(rt, found, [true, false], "letters");
     }
 }
@@ -226,13 +263,13 @@ fn expect_frozen(rt: &(impl Abort + Print), made: Result<FrozenCodePointSet, Mem
 /// Calls: `FrozenCodePointSet::freeze`.
 #[test]
 fn freeze_refused(rt: HostRuntime) {
-    let Ok(set) = set_of(rt.alloc(), SETS[2]) else {
+    let Some(set) = set_of(rt.alloc(), SETS[2]) else {
         return;
     };
     say(&rt, "call");
-    let made = FrozenCodePointSet::freeze(rt.alloc(), &set);
+    let made = frozen(rt.alloc(), &set);
     expect_frozen(&rt, made);
-    expect_listed(&rt, set, SETS[2]);
+    expect_listed(&rt, &set, SETS[2]);
 }
 
 /// Calls: `FrozenCodePointSet::try_clone`.
@@ -242,9 +279,9 @@ fn try_clone_of_frozen_refused(rt: HostRuntime) {
         return;
     };
     say(&rt, "call");
-    let made = frozen.try_clone(rt.alloc());
+    let made = copy_of(rt.alloc(), &frozen);
     expect_frozen(&rt, made);
-    expect(&rt, frozen.contains('A'), "the set that was lent");
+    expect(&rt, has_char(&frozen, 'A'), "the set that was lent");
 }
 
 /// Calls: `FrozenCodePointSet::as_set`, `FrozenCodePointSet::contains`,
@@ -256,12 +293,12 @@ fn frozen_calls_quiet(rt: HostRuntime) {
     };
     say(&rt, "call");
     let held = [
-        frozen.contains('A'),
-        frozen.contains32(0x41),
-        frozen == frozen,
+        has_char(&frozen, 'A'),
+        has_number(&frozen, 0x41),
+        are_equal(&frozen, &frozen),
     ];
     let spans = spans_of(&frozen, "ab1");
-    let size = frozen.as_set().size();
+    let size = counts_of(frozen.as_set())[0];
     say(&rt, "done");
     expect_same(&rt, held, [true, true, true], "held");
     expect_same(&rt, spans, [2, 0, 3, 2], "spans");
@@ -278,15 +315,15 @@ fn frozen_pieces_quiet(rt: HostRuntime) {
     say(&rt, "call");
     let mut spans = frozen.spans("ab1");
     let pieces = [
-        spans.next().is_some(),
-        spans.next().is_some(),
-        spans.next().is_some(),
+        next_span(&mut spans).is_some(),
+        next_span(&mut spans).is_some(),
+        next_span(&mut spans).is_some(),
     ];
     let bytes = [
-        frozen.span_utf8(b"ab\xFF", true),
-        frozen.span_utf8(b"12", false),
+        span_of_bytes(&frozen, b"ab\xFF", true),
+        span_of_bytes(&frozen, b"12", false),
     ];
-    let holds_range = frozen.contains_range('A'..);
+    let holds_range = has_range(&frozen, 'A'..);
     say(&rt, "done");
     expect_same(&rt, pieces, [true, true, false], "two spans");
     expect_same(&rt, bytes, [2, 2], "bytes");

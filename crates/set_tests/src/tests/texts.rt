@@ -6,16 +6,18 @@ mod memory;
 mod sets;
 
 use super::expect_text;
+use super::points::all;
 use icu_invlist::codepointinvlist::CodePointInversionList;
-use icu_text_sets::codepointinvliststringlist::CodePointInversionListAndStringList;
+use icu_text_sets::codepointinvliststringlist::{
+    CodePointInversionListAndStringList, InvalidStringList,
+};
 use icu_zerovec::MemoryError;
 use std::alloc::Global;
 use std::fmt::Display;
 use std::process::Abort;
-use std::test::Fail;
 
 /// The strings of these texts, in their order.
-fn strings_of(alloc: Global, texts: &[&str]) -> Result<Vec<String>, MemoryError> {
+fn strings_made(alloc: Global, texts: &[&str]) -> Result<Vec<String>, MemoryError> {
     let mut strings = Vec::with_capacity(alloc, texts.len())?;
     for text in texts {
         strings.push(String::from_str(alloc, text)?)?;
@@ -23,30 +25,86 @@ fn strings_of(alloc: Global, texts: &[&str]) -> Result<Vec<String>, MemoryError>
     Ok(strings)
 }
 
-/// The set of these code points and texts.
+/// The strings of these texts, in their order. `None` where memory was refused.
+fn strings_of(alloc: Global, texts: &[&str]) -> Option<Vec<String>> {
+    strings_made(alloc, texts).ok()
+}
+
+/// The set of these code points and strings, or why it is none.
+fn set_or_fault(
+    points: CodePointInversionList<'static>,
+    strings: Vec<String>,
+) -> Result<CodePointInversionListAndStringList<'static>, InvalidStringList> {
+    CodePointInversionListAndStringList::try_from(points, strings)
+}
+
+/// The set of these code points and texts. `None` where memory was refused.
 fn set_of_both(
     alloc: Global,
     points: CodePointInversionList<'static>,
     texts: &[&str],
 ) -> Option<CodePointInversionListAndStringList<'static>> {
-    let strings = strings_of(alloc, texts).ok()?;
-    CodePointInversionListAndStringList::try_from(points, strings).ok()
+    set_or_fault(points, strings_of(alloc, texts)?).ok()
 }
 
 /// The set of all code points and "ab", where there is memory for it.
 fn all_and_ab(alloc: Global) -> Option<CodePointInversionListAndStringList<'static>> {
-    set_of_both(alloc, CodePointInversionList::all(), &["ab"])
+    set_of_both(alloc, all(), &["ab"])
+}
+
+/// The set of these texts, in any order. `None` where memory was refused.
+fn gathered(alloc: Global, texts: &[&str]) -> Option<CodePointInversionListAndStringList<'static>> {
+    CodePointInversionListAndStringList::from_iter(alloc, texts.iter().copied()).ok()
+}
+
+/// A copy of the set. `None` where memory was refused.
+fn copy_of(
+    alloc: Global,
+    set: &CodePointInversionListAndStringList<'_>,
+) -> Option<CodePointInversionListAndStringList<'static>> {
+    set.try_clone(alloc).ok()
+}
+
+/// Whether the two sets are equal.
+fn are_equal(
+    a: &CodePointInversionListAndStringList<'_>,
+    b: &CodePointInversionListAndStringList<'_>,
+) -> bool {
+    *a == *b
+}
+
+/// How many members the set has, how many of them code points, and how many strings.
+fn counts_of(set: &CodePointInversionListAndStringList<'_>) -> [usize; 3] {
+    [set.size(), set.code_points().size(), set.strings().len()]
+}
+
+/// Whether the set has strings.
+fn has_strings(set: &CodePointInversionListAndStringList<'_>) -> bool {
+    set.has_strings()
+}
+
+/// Whether the set holds the text.
+fn holds_text(set: &CodePointInversionListAndStringList<'_>, text: &str) -> bool {
+    set.contains_str(text)
+}
+
+/// Whether the set holds the text of these bytes.
+fn holds_bytes(set: &CodePointInversionListAndStringList<'_>, bytes: &[u8]) -> bool {
+    set.contains_utf8(bytes)
+}
+
+/// Whether the set holds the character, and whether the number.
+fn holds_points(set: &CodePointInversionListAndStringList<'_>, ch: char, cp: u32) -> [bool; 2] {
+    [set.contains(ch), set.contains32(cp)]
 }
 
 /// What is printed of a refusal.
-fn expect_said<E: Display + Drop>(
-    rt: &(impl Abort + AllocGlobal),
-    refusal: Option<E>,
-    want: &str,
-) -> Result<(), Fail> {
-    let text = refusal
-        .ok_or("taken, and not refused")?
-        .to_string(rt.alloc())?;
-    expect_text(rt, text, want);
-    Ok(())
+fn expect_said<E: Display + Drop>(rt: &(impl Abort + AllocGlobal), refusal: Option<E>, want: &str) {
+    let Some(error) = refusal else {
+        rt.panic("taken, and not refused");
+    };
+    match error.to_string(rt.alloc()) {
+        Ok(text) => expect_text(rt, text, want),
+        Err(_) => rt.panic("no text"),
+    }
 }

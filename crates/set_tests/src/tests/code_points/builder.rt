@@ -1,54 +1,37 @@
 //! What the builder's calls leave, by the examples of UnicodeSet and of the Rust crate.
-use super::changes::{Addition, Change, Keeping, Operation, Removal, Turn, builder_of};
+use super::changes::{
+    Addition, Change, Keeping, Operation, Removal, Turn, builder_of, copy_of_builder,
+    empty_builder, is_empty, set_built,
+};
 use super::*;
-use crate::tests::{expect, expect_same, expect_set, set_of};
+use crate::tests::points::{expect_set, set_of};
+use crate::tests::{expect, expect_same};
 use icu_invlist::codepointinvlist::CodePointInversionListBuilder;
 
 /// The set that the builder has so far. `None` where memory was refused.
 fn set_so_far(builder: &CodePointInversionListBuilder) -> Option<CodePointInversionList<'static>> {
-    builder.try_clone().ok()?.build().ok()
+    set_built(copy_of_builder(builder)?)
 }
 
-/// The builder's set has these ends so far.
-fn expect_so_far(
-    rt: &(impl Abort + AllocGlobal),
-    builder: &CodePointInversionListBuilder,
-    ends: &[u32],
-) {
-    match set_so_far(builder) {
-        Some(set) => expect_set(rt, set, ends),
-        None => rt.panic("no memory"),
-    }
-}
-
-/// The set with the ends `own`, changed by that with the ends `other`.
+/// The set with the ends `own`, changed by that with the ends `other`. `None` where memory was
+/// refused.
 fn changed_by(
     alloc: Global,
     own: &[u32],
     operation: Operation,
     other: &[u32],
-) -> Option<CodePointInversionListBuilder> {
-    let mut builder = builder_of(alloc, own).ok()?;
-    operation
-        .apply(&mut builder, &set_of(alloc, other).ok()?)
-        .ok()?;
-    Some(builder)
-}
-
-/// The builder, for which there has to be memory, has these ends so far.
-fn expect_changed(
-    rt: &(impl Abort + AllocGlobal),
-    builder: Option<CodePointInversionListBuilder>,
-    ends: &[u32],
-) {
-    match builder {
-        Some(builder) => expect_so_far(rt, &builder, ends),
-        None => rt.panic("no memory"),
+) -> Option<CodePointInversionList<'static>> {
+    let other = set_of(alloc, other)?;
+    let mut builder = builder_of(alloc, own)?;
+    if operation.is_applied(&mut builder, &other) {
+        set_so_far(&builder)
+    } else {
+        None
     }
 }
 
 /// Sets, what changes them by which other sets, and what they are then.
-const CHANGED: [(&[u32], Operation, &[u32], &[u32]); 4] = [
+static CHANGED: [(&[u32], Operation, &[u32], &[u32]); 4] = [
     (
         &[0xA, 0x14, 0x28, 0x32],
         Operation::Union,
@@ -77,8 +60,8 @@ const CHANGED: [(&[u32], Operation, &[u32], &[u32]); 4] = [
 
 #[test]
 fn sets_changed_by_sets(rt: HostRuntime) {
-    for (own, operation, other, want) in CHANGED {
-        expect_changed(&rt, changed_by(rt.alloc(), own, operation, other), want);
+    for (own, operation, other, want) in CHANGED.iter() {
+        expect_set(&rt, changed_by(rt.alloc(), own, *operation, other), want);
     }
 }
 
@@ -89,8 +72,8 @@ fn expect_changes(
     changes: &[(Change, &[u32])],
 ) {
     for (change, ends) in changes {
-        expect(rt, change.apply(&mut builder).is_ok(), "changed");
-        expect_so_far(rt, &builder, ends);
+        expect(rt, change.is_applied(&mut builder), "changed");
+        expect_set(rt, set_so_far(&builder), ends);
     }
 }
 
@@ -99,7 +82,7 @@ type Turns = (&'static [u32], &'static [(Change, &'static [u32])]);
 
 /// What lies past the end of the code space is ignored by additions, and cut off by all other
 /// calls.
-const IN_TURN: [Turns; 14] = [
+static IN_TURN: [Turns; 14] = [
     // Additions past the end of the code space.
     (
         &[0x41, 0x5B],
@@ -244,10 +227,10 @@ const IN_TURN: [Turns; 14] = [
 
 #[test]
 fn changes_one_after_another(rt: HostRuntime) {
-    for (first, changes) in IN_TURN {
+    for (first, changes) in IN_TURN.iter() {
         match builder_of(rt.alloc(), first) {
-            Ok(builder) => expect_changes(&rt, builder, changes),
-            Err(_) => rt.panic("no builder"),
+            Some(builder) => expect_changes(&rt, builder, changes),
+            None => rt.panic("no builder"),
         }
     }
 }
@@ -255,11 +238,12 @@ fn changes_one_after_another(rt: HostRuntime) {
 /// A builder is empty until something is added.
 #[test]
 fn empty_until_added(rt: HostRuntime) {
-    let mut builder = CodePointInversionListBuilder::new(rt.alloc());
-    let found = (
-        builder.is_empty(),
-        builder.add_char('A').is_ok(),
-        builder.is_empty(),
-    );
-    expect_same(&rt, found, (true, true, false), "empty, added, empty");
+    let mut builder = empty_builder(rt.alloc());
+    let letter = Change::Add(Addition::Char('A'));
+    let found = [
+        is_empty(&builder),
+        letter.is_applied(&mut builder),
+        is_empty(&builder),
+    ];
+    expect_same(&rt, found, [true, true, false], "empty, added, empty");
 }

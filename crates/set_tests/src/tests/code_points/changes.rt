@@ -1,17 +1,43 @@
-//! The builder's calls as rows of tables name them.
-use crate::tests::set_of;
-use icu_invlist::codepointinvlist::{
-    CodePointInversionList, CodePointInversionListBuilder, SetError,
-};
+//! The builder's calls: as rows of tables name them, and each other one in a helper of its own.
+use crate::tests::points::set_of;
+use icu_invlist::codepointinvlist::{CodePointInversionList, CodePointInversionListBuilder};
 use icu_zerovec::MemoryError;
 use std::alloc::Global;
 use std::ops::Range;
 
-/// A builder of the set with these ends.
-pub fn builder_of(alloc: Global, ends: &[u32]) -> Result<CodePointInversionListBuilder, SetError> {
-    let mut builder = CodePointInversionListBuilder::new(alloc);
-    builder.add_set(&set_of(alloc, ends)?)?;
-    Ok(builder)
+/// A builder of no code point.
+pub fn empty_builder(alloc: Global) -> CodePointInversionListBuilder {
+    CodePointInversionListBuilder::new(alloc)
+}
+
+/// Whether the builder has no code point.
+pub fn is_empty(builder: &CodePointInversionListBuilder) -> bool {
+    builder.is_empty()
+}
+
+/// A builder of the set with these ends. `None` where memory was refused.
+pub fn builder_of(alloc: Global, ends: &[u32]) -> Option<CodePointInversionListBuilder> {
+    let mut builder = empty_builder(alloc);
+    let set = set_of(alloc, ends)?;
+    if Operation::Union.is_applied(&mut builder, &set) {
+        Some(builder)
+    } else {
+        None
+    }
+}
+
+/// A copy of the builder, which has no room left. `None` where memory was refused.
+pub fn copy_of_builder(
+    builder: &CodePointInversionListBuilder,
+) -> Option<CodePointInversionListBuilder> {
+    builder.try_clone().ok()
+}
+
+/// The set that the builder makes. `None` where memory was refused.
+pub fn set_built(
+    builder: CodePointInversionListBuilder,
+) -> Option<CodePointInversionList<'static>> {
+    builder.build().ok()
 }
 
 /// A change of a builder's set by another set.
@@ -25,7 +51,7 @@ pub enum Operation {
 
 impl Operation {
     /// Changes the builder's set by this one.
-    pub fn apply(
+    fn apply(
         self,
         builder: &mut CodePointInversionListBuilder,
         set: &CodePointInversionList<'_>,
@@ -36,6 +62,15 @@ impl Operation {
             Operation::Intersection => builder.retain_set(set),
             Operation::SymmetricDifference => builder.complement_set(set),
         }
+    }
+
+    /// Changes the builder's set by this one: whether there was memory for it.
+    pub fn is_applied(
+        self,
+        builder: &mut CodePointInversionListBuilder,
+        set: &CodePointInversionList<'_>,
+    ) -> bool {
+        self.apply(builder, set).is_ok()
     }
 }
 
@@ -53,7 +88,7 @@ pub enum Addition {
 
 impl Addition {
     /// Adds to the builder's set.
-    pub fn apply(self, builder: &mut CodePointInversionListBuilder) -> Result<(), MemoryError> {
+    fn apply(self, builder: &mut CodePointInversionListBuilder) -> Result<(), MemoryError> {
         match self {
             Addition::Char(c) => builder.add_char(c),
             Addition::Number(c) => builder.add32(c),
@@ -79,7 +114,7 @@ pub enum Removal {
 
 impl Removal {
     /// Removes from the builder's set.
-    pub fn apply(self, builder: &mut CodePointInversionListBuilder) -> Result<(), MemoryError> {
+    fn apply(self, builder: &mut CodePointInversionListBuilder) -> Result<(), MemoryError> {
         match self {
             Removal::Char(c) => builder.remove_char(c),
             Removal::Number(c) => builder.remove32(c),
@@ -105,7 +140,7 @@ pub enum Keeping {
 
 impl Keeping {
     /// Keeps this of the builder's set alone.
-    pub fn apply(self, builder: &mut CodePointInversionListBuilder) {
+    fn apply(self, builder: &mut CodePointInversionListBuilder) {
         match self {
             Keeping::Char(c) => builder.retain_char(c),
             Keeping::Number(c) => builder.retain32(c),
@@ -132,7 +167,7 @@ pub enum Turn {
 
 impl Turn {
     /// Turns this round in the builder's set.
-    pub fn apply(self, builder: &mut CodePointInversionListBuilder) -> Result<(), MemoryError> {
+    fn apply(self, builder: &mut CodePointInversionListBuilder) -> Result<(), MemoryError> {
         match self {
             Turn::All => builder.complement(),
             Turn::Char(c) => builder.complement_char(c),
@@ -156,7 +191,7 @@ pub enum Change {
 
 impl Change {
     /// Changes the builder's set.
-    pub fn apply(self, builder: &mut CodePointInversionListBuilder) -> Result<(), MemoryError> {
+    fn apply(self, builder: &mut CodePointInversionListBuilder) -> Result<(), MemoryError> {
         match self {
             Change::Add(addition) => addition.apply(builder),
             Change::Remove(removal) => removal.apply(builder),
@@ -166,5 +201,10 @@ impl Change {
             }
             Change::Turn(turn) => turn.apply(builder),
         }
+    }
+
+    /// Changes the builder's set: whether there was memory for it.
+    pub fn is_applied(self, builder: &mut CodePointInversionListBuilder) -> bool {
+        self.apply(builder).is_ok()
     }
 }

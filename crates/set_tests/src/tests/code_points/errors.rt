@@ -1,18 +1,24 @@
 //! Lists and ranges that are no sets, and the texts of errors.
 use super::*;
-use crate::tests::{expect, expect_same, expect_text, set_of};
+use crate::tests::points::{is_valid, list_of, set_of_range, set_or_fault, set_over};
+use crate::tests::{expect, expect_same, expect_text};
 use icu_invlist::codepointinvlist::{
-    InvalidSetError, RangeError, SetError, SetJsonError, TryRangeError, is_valid_zv,
+    InvalidSetError, RangeError, RangeOf, SetError, SetJsonError, TryRangeError,
 };
-use icu_zerovec::{PotentialCodePoint, ZeroVec};
+use icu_zerovec::PotentialCodePoint;
 use std::fmt::Display;
 use std::ops::Range;
 
+/// The number that is shown at this place.
+fn shown_at(points: &[PotentialCodePoint], place: usize) -> Option<u32> {
+    Some(u32::from(*points.get(place)?))
+}
+
 /// The numbers that are shown are these.
-fn expect_points(rt: &impl Abort, points: Vec<PotentialCodePoint>, shown: &[u32]) {
+fn expect_points(rt: &impl Abort, points: &[PotentialCodePoint], shown: &[u32]) {
     expect_same(rt, points.len(), shown.len(), "numbers shown");
-    for (point, want) in points.iter().zip(shown.iter()) {
-        expect_same(rt, u32::from(*point), *want, "a number shown");
+    for (place, want) in shown.iter().enumerate() {
+        expect_same(rt, shown_at(points, place), Some(*want), "a number shown");
     }
 }
 
@@ -23,47 +29,53 @@ fn expect_refused(
     shown: &[u32],
 ) {
     match made {
-        Err(SetError::Invalid(InvalidSetError(points))) => expect_points(rt, points, shown),
+        Err(SetError::Invalid(InvalidSetError(points))) => expect_points(rt, &points, shown),
         _ => rt.panic("not refused"),
     }
 }
 
+/// Lists that are no sets, and the numbers that are shown of them.
+static INVALID: [(&[u32], &[u32]); 4] = [
+    (&[1, 2, 2, 3], &[1, 2, 2, 3]),
+    (&[0x41, 0x100_0000], &[0x41, 0xFF_FFFF]),
+    (&[0x41], &[0x41]),
+    (&[0x5B, 0x41], &[0x5B, 0x41]),
+];
+
 #[test]
 fn invalid_lists(rt: HostRuntime) {
-    for (ends, shown) in [
-        ([1, 2, 2, 3].as_slice(), [1, 2, 2, 3].as_slice()),
-        ([0x41, 0x100_0000].as_slice(), [0x41, 0xFF_FFFF].as_slice()),
-        ([0x41].as_slice(), [0x41].as_slice()),
-        ([0x5B, 0x41].as_slice(), [0x5B, 0x41].as_slice()),
-    ] {
-        expect_refused(&rt, set_of(rt.alloc(), ends), shown);
+    for (ends, shown) in INVALID.iter() {
+        expect_refused(&rt, set_or_fault(rt.alloc(), ends), shown);
     }
 }
 
+/// The list that is no set is copied, so that it owns its bytes.
 #[test]
-fn invalid_packed_list(rt: HostRuntime) -> Result<(), Fail> {
-    let bytes = [1, 0, 0, 1, 0, 0];
-    let list = ZeroVec::<PotentialCodePoint>::parse_bytes(&bytes)?;
-    expect(&rt, !is_valid_zv(&list), "the end stands twice");
-    let list = list.into_owned(rt.alloc())?;
-    let made = CodePointInversionList::try_from_inversion_list(rt.alloc(), list);
-    expect_refused(&rt, made, &[1, 1]);
-    Ok(())
+fn invalid_packed_list(rt: HostRuntime) {
+    let list = list_of(&rt, &[1, 0, 0, 1, 0, 0]);
+    expect(&rt, !is_valid(&list), "the end stands twice");
+    match list.into_owned(rt.alloc()) {
+        Ok(owned) => expect_refused(&rt, set_over(rt.alloc(), owned), &[1, 1]),
+        Err(_) => rt.panic("no memory"),
+    }
+}
+
+/// Why the range is refused.
+fn fault_of<R: RangeOf<char>>(alloc: Global, range: R) -> Option<TryRangeError> {
+    set_of_range(alloc, range).err()
 }
 
 #[test]
 fn empty_and_reversed_ranges(rt: HostRuntime) {
+    let alloc = rt.alloc();
+    let reversed = Range {
+        start: 'B',
+        end: 'A',
+    };
     let found = [
-        CodePointInversionList::try_from(rt.alloc(), 'A'..'A').err(),
-        CodePointInversionList::try_from(
-            rt.alloc(),
-            Range {
-                start: 'B',
-                end: 'A',
-            },
-        )
-        .err(),
-        CodePointInversionList::try_from(rt.alloc(), ..'\0').err(),
+        fault_of(alloc, 'A'..'A'),
+        fault_of(alloc, reversed),
+        fault_of(alloc, ..'\0'),
     ];
     let want = [
         Some(TryRangeError::Invalid(RangeError(65, 65))),

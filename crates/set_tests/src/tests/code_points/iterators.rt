@@ -1,66 +1,64 @@
 //! The ranges, the gaps and the characters of sets.
 use super::*;
-use crate::tests::{expect_same, made_set};
+use crate::tests::expect_same;
+use crate::tests::points::{all, made_set, next_char, next_gap, next_range};
 
-/// The range is the one that begins at this place of the list.
-fn expect_range(rt: &impl Abort, range: RangeInclusive<u32>, ends: &[u32], place: usize) {
-    let start = ends.get(place).copied();
-    let end = ends.get(place.saturating_add(1)).copied();
-    let found = (Some(*range.start()), range.end().checked_add(1));
-    expect_same(rt, found, (start, end), "a range");
-}
-
-/// The set's ranges are those of the list.
-fn expect_ranges(rt: &impl Abort, set: &CodePointInversionList<'_>, ends: &[u32]) {
-    let mut given = 0;
-    for range in set.iter_ranges() {
-        expect_range(rt, range, ends, given);
-        given = given.saturating_add(2);
+/// The set's ranges are these, by their first and their last number, and no more.
+fn expect_ranges(rt: &impl Abort, set: &CodePointInversionList<'_>, want: &[(u32, u32)]) {
+    let mut ranges = set.iter_ranges();
+    expect_same(rt, ranges.len(), want.len(), "ranges");
+    for range in want {
+        expect_same(rt, next_range(&mut ranges), Some(*range), "a range");
     }
-    expect_same(rt, given, ends.len(), "ends of ranges");
+    expect_same(rt, next_range(&mut ranges), None, "a range too many");
 }
 
-/// The set's gaps are the ranges of the list.
-fn expect_gaps(rt: &impl Abort, set: &CodePointInversionList<'_>, ends: &[u32]) {
-    let mut given = 0;
-    for range in set.iter_ranges_complemented() {
-        expect_range(rt, range, ends, given);
-        given = given.saturating_add(2);
+/// The set's gaps are these, by their first and their last number, and no more.
+fn expect_gaps(rt: &impl Abort, set: &CodePointInversionList<'_>, want: &[(u32, u32)]) {
+    let mut gaps = set.iter_ranges_complemented();
+    for gap in want {
+        expect_same(rt, next_gap(&mut gaps), Some(*gap), "a gap");
     }
-    expect_same(rt, given, ends.len(), "ends of gaps");
+    expect_same(rt, next_gap(&mut gaps), None, "a gap too many");
 }
 
-/// The set's ranges are those of the list, and its gaps those of the other one.
-fn expect_both(rt: &impl Abort, set: CodePointInversionList<'_>, ends: &[u32], gaps: &[u32]) {
-    expect_ranges(rt, &set, ends);
-    expect_gaps(rt, &set, gaps);
-    expect_same(rt, set.iter_ranges().len(), ends.len() / 2, "ranges");
-}
+/// A set's ranges and gaps, by their first and their last number.
+type Pieces = &'static [(u32, u32)];
 
-/// Sets by their ends, and the ends of their gaps.
-static GAPS: [(&[u32], &[u32]); 3] = [
+/// Sets by their ends, their ranges and their gaps.
+static GAPS: [(&[u32], Pieces, Pieces); 3] = [
     (
         &[0xA, 0x14, 0x28, 0x32],
-        &[0, 0xA, 0x14, 0x28, 0x32, 0x11_0000],
+        &[(0xA, 0x13), (0x28, 0x31)],
+        &[(0, 9), (0x14, 0x27), (0x32, 0x10_FFFF)],
     ),
-    (&[0, 0xA, 0x14, 0x11_0000], &[0xA, 0x14]),
-    (&[], &[0, 0x11_0000]),
+    (
+        &[0, 0xA, 0x14, 0x11_0000],
+        &[(0, 9), (0x14, 0x10_FFFF)],
+        &[(0xA, 0x13)],
+    ),
+    (&[], &[], &[(0, 0x10_FFFF)]),
 ];
 
 #[test]
 fn ranges_and_gaps(rt: HostRuntime) {
-    for (ends, gaps) in GAPS.iter() {
-        expect_both(&rt, made_set(&rt, ends), ends, gaps);
+    for (ends, ranges, gaps) in GAPS.iter() {
+        let set = made_set(&rt, ends);
+        expect_ranges(&rt, &set, ranges);
+        expect_gaps(&rt, &set, gaps);
     }
-    expect_gaps(&rt, &CodePointInversionList::all(), &[]);
+    expect_gaps(&rt, &all(), &[]);
 }
+
+/// The characters of a set, and its end.
+static GIVEN: [Option<char>; 5] = [Some('A'), Some('B'), Some('C'), Some('E'), None];
 
 /// The surrogate is no character.
 #[test]
 fn characters(rt: HostRuntime) {
     let set = made_set(&rt, &[0x41, 0x44, 0x45, 0x46, 0xD800, 0xD801]);
     let mut chars = set.iter_chars();
-    for want in [Some('A'), Some('B'), Some('C'), Some('E'), None] {
-        expect_same(&rt, chars.next(), want, "a character");
+    for want in GIVEN.iter() {
+        expect_same(&rt, next_char(&mut chars), *want, "a character");
     }
 }

@@ -1,102 +1,129 @@
 //! Sets to and from JSON.
 use super::*;
-use crate::tests::{expect_listed, expect_same, expect_set, expect_text, say, set_of, tell};
+use crate::tests::points::{basic, expect_listed, expect_set, set_of};
+use crate::tests::{expect_same, expect_text, say, tell};
 use icu_invlist::codepointinvlist::SetJsonError;
 use serde_json::Value;
 
-/// The value has the text of a set with these ends.
-fn expect_read(
-    rt: &(impl Abort + AllocGlobal),
-    value: Result<Value, Fail>,
-    want: &[u32],
-) -> Result<(), Fail> {
-    let set = CodePointInversionList::from_json(rt.alloc(), &value?)?;
-    expect_set(rt, set, want);
-    Ok(())
+/// The value that a text is in JSON. `None` where memory was refused.
+pub fn value_of(alloc: Global, text: &str) -> Option<Value> {
+    Value::from_str(alloc, text).ok()
 }
 
-/// The value of a text.
-fn value_of(alloc: Global, text: &str) -> Result<Value, Fail> {
-    Ok(Value::from_str(alloc, text)?)
-}
-
-/// The value of the set with these ends.
-fn json_of(alloc: Global, ends: &[u32]) -> Result<Value, Fail> {
-    Ok(set_of(alloc, ends)?.to_json(alloc)?)
-}
-
-#[test]
-fn read_from_json(rt: HostRuntime) -> Result<(), Fail> {
-    for (text, want) in [
-        ("[\"A-A\"]", [0x41, 0x42].as_slice()),
-        ("[\"U+d800\"]", [0xD800, 0xD801].as_slice()),
-        ("[\"U-W\"]", [0x55, 0x58].as_slice()),
-        ("[\"AU+002DC\"]", [0x41, 0x44].as_slice()),
-        ("[\"--/\"]", [0x2D, 0x30].as_slice()),
-        ("[]", [].as_slice()),
-    ] {
-        expect_read(&rt, value_of(rt.alloc(), text), want)?;
+/// The value that a text is in JSON, for which there has to be memory.
+pub fn made_value(rt: &(impl Abort + AllocGlobal), text: &str) -> Value {
+    match value_of(rt.alloc(), text) {
+        Some(value) => value,
+        None => rt.panic("no value"),
     }
-    let ends = [0x2D, 0x2E, 0x55, 0x56, 0xD800, 0xE000];
-    expect_read(&rt, json_of(rt.alloc(), &ends), &ends)
 }
 
-/// Why a text is no set.
-fn fault_of(alloc: Global, text: &str) -> Result<Option<SetJsonError>, Fail> {
-    let value = value_of(alloc, text)?;
-    Ok(CodePointInversionList::from_json(alloc, &value).err())
+/// The text of the value. `None` where memory was refused.
+fn text_of(rt: &impl AllocGlobal, value: &Value) -> Option<String> {
+    value.to_string(rt.alloc()).ok()
 }
 
-#[test]
-fn refused_in_json(rt: HostRuntime) -> Result<(), Fail> {
-    for (text, want) in [
-        ("[\"A-B\", \"C-D\"]", SetJsonError::InvalidSet),
-        ("[\"A--\"]", SetJsonError::InvalidSet),
-        ("[\"A\", \"U+\"]", SetJsonError::NotARange(1)),
-        ("[\"U++123\"]", SetJsonError::NotARange(0)),
-        ("[\"A\", 5, \"\"]", SetJsonError::NotAString(1)),
-        ("{}", SetJsonError::NotAnArray),
-    ] {
-        expect_same(&rt, fault_of(rt.alloc(), text)?, Some(want), text);
+/// The value has this text, where there is memory for it.
+pub fn expect_value(rt: &(impl Abort + AllocGlobal), value: &Value, want: &str) {
+    if let Some(text) = text_of(rt, value) {
+        expect_text(rt, text, want);
     }
-    Ok(())
 }
 
-/// The text of the set with these ends.
-fn expect_written(rt: &(impl Abort + AllocGlobal), ends: &[u32], want: &str) -> Result<(), Fail> {
-    let text = json_of(rt.alloc(), ends)?.to_string(rt.alloc())?;
-    expect_text(rt, text, want);
-    Ok(())
+/// The value, which has to be there, has this text, for which there has to be memory.
+pub fn expect_written(rt: &(impl Abort + AllocGlobal), value: Option<Value>, want: &str) {
+    let Some(value) = value else {
+        rt.panic("no value");
+    };
+    match text_of(rt, &value) {
+        Some(text) => expect_text(rt, text, want),
+        None => rt.panic("no text"),
+    }
 }
+
+/// The value of the set. `None` where memory was refused.
+fn json_of(alloc: Global, set: &CodePointInversionList<'_>) -> Option<Value> {
+    set.to_json(alloc).ok()
+}
+
+/// The set of the value, or why it is none.
+fn set_read(alloc: Global, value: &Value) -> Result<CodePointInversionList<'static>, SetJsonError> {
+    CodePointInversionList::from_json(alloc, value)
+}
+
+/// Texts, and the ends of their sets.
+static READ: [(&str, &[u32]); 6] = [
+    ("[\"A-A\"]", &[0x41, 0x42]),
+    ("[\"U+d800\"]", &[0xD800, 0xD801]),
+    ("[\"U-W\"]", &[0x55, 0x58]),
+    ("[\"AU+002DC\"]", &[0x41, 0x44]),
+    ("[\"--/\"]", &[0x2D, 0x30]),
+    ("[]", &[]),
+];
 
 #[test]
-fn written_to_json(rt: HostRuntime) -> Result<(), Fail> {
-    expect_written(
-        &rt,
+fn read_from_json(rt: HostRuntime) {
+    for (text, want) in READ.iter() {
+        let read = set_read(rt.alloc(), &made_value(&rt, text));
+        expect_set(&rt, read.ok(), want);
+    }
+    let (ends, _) = WRITTEN[0];
+    match json_of_ends(rt.alloc(), ends) {
+        Some(value) => expect_set(&rt, set_read(rt.alloc(), &value).ok(), ends),
+        None => rt.panic("no value"),
+    }
+}
+
+/// Texts that are no sets, and why.
+static REFUSED: [(&str, SetJsonError); 6] = [
+    ("[\"A-B\", \"C-D\"]", SetJsonError::InvalidSet),
+    ("[\"A--\"]", SetJsonError::InvalidSet),
+    ("[\"A\", \"U+\"]", SetJsonError::NotARange(1)),
+    ("[\"U++123\"]", SetJsonError::NotARange(0)),
+    ("[\"A\", 5, \"\"]", SetJsonError::NotAString(1)),
+    ("{}", SetJsonError::NotAnArray),
+];
+
+#[test]
+fn refused_in_json(rt: HostRuntime) {
+    for (text, want) in REFUSED.iter() {
+        let fault = set_read(rt.alloc(), &made_value(&rt, text)).err();
+        expect_same(&rt, fault, Some(*want), text);
+    }
+}
+
+/// Sets by their ends, and their texts.
+static WRITTEN: [(&[u32], &str); 2] = [
+    (
         &[0x2D, 0x2E, 0x55, 0x56, 0xD800, 0xE000],
         "[\"-\",\"U\",\"U+D800-U+DFFF\"]",
-    )?;
-    expect_written(&rt, &[0x41, 0x5B, 0xDABC, 0xDABD], "[\"A-Z\",\"U+DABC\"]")
+    ),
+    (&[0x41, 0x5B, 0xDABC, 0xDABD], "[\"A-Z\",\"U+DABC\"]"),
+];
+
+/// The value of the set with these ends. `None` where memory was refused.
+fn json_of_ends(alloc: Global, ends: &[u32]) -> Option<Value> {
+    json_of(alloc, &set_of(alloc, ends)?)
 }
 
-/// The text of the value, where there is memory for it.
-fn expect_value(rt: &(impl Abort + AllocGlobal), value: Value, want: &str) {
-    if let Ok(text) = value.to_string(rt.alloc()) {
-        expect_text(rt, text, want);
+#[test]
+fn written_to_json(rt: HostRuntime) {
+    for (ends, want) in WRITTEN.iter() {
+        expect_written(&rt, json_of_ends(rt.alloc(), ends), want);
     }
 }
 
 /// Calls: `CodePointInversionList::to_json`.
 #[test]
 fn to_json_refused(rt: HostRuntime) {
-    let bmp = CodePointInversionList::bmp();
+    let basic = basic();
     say(&rt, "call");
-    let made = bmp.to_json(rt.alloc());
-    tell(&rt, made.is_err());
-    if let Ok(value) = made {
-        expect_value(&rt, value, "[\"\\u0000-\u{FFFF}\"]");
+    let made = json_of(rt.alloc(), &basic);
+    tell(&rt, made.is_none());
+    if let Some(value) = made {
+        expect_value(&rt, &value, "[\"\\u0000-\u{FFFF}\"]");
     }
-    expect_listed(&rt, bmp, &[0, 0x1_0000]);
+    expect_listed(&rt, &basic, &[0, 0x1_0000]);
 }
 
 /// The set that was read has these ends; nothing but memory was wanting where none was.
@@ -107,7 +134,7 @@ fn expect_read_or_refused(
 ) {
     tell(rt, made.is_err());
     match made {
-        Ok(set) => expect_listed(rt, set, want),
+        Ok(set) => expect_listed(rt, &set, want),
         Err(error) => expect_same(rt, error, SetJsonError::Memory, "refused"),
     }
 }
@@ -115,11 +142,11 @@ fn expect_read_or_refused(
 /// Calls: `CodePointInversionList::from_json`.
 #[test]
 fn from_json_refused(rt: HostRuntime) {
-    let Ok(value) = Value::from_str(rt.alloc(), "[\"A-Z\", \"a-z\"]") else {
+    let Some(value) = value_of(rt.alloc(), "[\"A-Z\", \"a-z\"]") else {
         return;
     };
     say(&rt, "call");
-    let made = CodePointInversionList::from_json(rt.alloc(), &value);
+    let made = set_read(rt.alloc(), &value);
     expect_read_or_refused(&rt, made, &[0x41, 0x5B, 0x61, 0x7B]);
-    expect_value(&rt, value, "[\"A-Z\",\"a-z\"]");
+    expect_value(&rt, &value, "[\"A-Z\",\"a-z\"]");
 }

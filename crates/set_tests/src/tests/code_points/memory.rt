@@ -5,40 +5,40 @@ mod builder;
 mod made;
 mod quiet;
 
-use super::changes::builder_of;
+use super::changes::{builder_of, copy_of_builder, set_built};
 use super::*;
-use crate::tests::{expect_listed, say, set_of, tell};
-use icu_invlist::codepointinvlist::{CodePointInversionListBuilder, SetError};
-use icu_zerovec::MemoryError;
+use crate::tests::points::expect_listed;
+use crate::tests::{say, tell};
+use icu_invlist::codepointinvlist::CodePointInversionListBuilder;
 
 /// The ends of the set that the builders begin with: that of A to Z.
 const LETTERS: [u32; 2] = [0x41, 0x5B];
 
 /// A builder of the set with these ends that has no room for more.
-fn full_builder_of(alloc: Global, ends: &[u32]) -> Result<CodePointInversionListBuilder, SetError> {
-    Ok(builder_of(alloc, ends)?.try_clone()?)
+fn full_builder_of(alloc: Global, ends: &[u32]) -> Option<CodePointInversionListBuilder> {
+    copy_of_builder(&builder_of(alloc, ends)?)
 }
 
-/// The builder's set has these ends, where there is memory to make and to list it.
-fn expect_left(
+/// The set, where it was made, has these ends, where there is memory to list them.
+fn expect_ends_of(
     rt: &(impl Abort + AllocGlobal),
-    builder: CodePointInversionListBuilder,
-    want: &[u32],
+    made: Option<CodePointInversionList<'_>>,
+    ends: &[u32],
 ) {
-    if let Ok(built) = builder.build() {
-        expect_listed(rt, built, want);
+    if let Some(set) = made {
+        expect_listed(rt, &set, ends);
     }
 }
 
-/// The call is over: the builder's set is `after`, and where the call was refused it is that of A
-/// to Z.
+/// The call is over, which was answered or refused: the builder's set is `after`, and where the
+/// call was refused it is that of A to Z.
 fn expect_answer(
     rt: &(impl Abort + AllocGlobal + Print),
-    answer: Result<(), MemoryError>,
+    is_answered: bool,
     builder: CodePointInversionListBuilder,
     after: &[u32],
 ) {
-    tell(rt, answer.is_err());
-    let want = if answer.is_ok() { after } else { &LETTERS };
-    expect_left(rt, builder, want);
+    tell(rt, !is_answered);
+    let want = if is_answered { after } else { &LETTERS };
+    expect_ends_of(rt, set_built(builder), want);
 }

@@ -1,13 +1,10 @@
 //! What sets answer.
 use super::*;
-use crate::tests::{expect_same, made_set, set_of};
-
-/// Whether the set with the ends `whole` holds the other.
-fn is_subset(alloc: Global, whole: &[u32], part: &[u32]) -> Option<bool> {
-    let whole = set_of(alloc, whole).ok()?;
-    let part = set_of(alloc, part).ok()?;
-    Some(whole.contains_set(&part))
-}
+use crate::tests::expect_same;
+use crate::tests::points::{
+    all, counts_of, holds_char, holds_range, holds_set, made_set, nth_of, place_of, place_of_char,
+    spans_of,
+};
 
 const GREATER: [u32; 8] = [0xA, 0x14, 0x28, 0x32, 0x46, 0x50, 0x64, 0x6E];
 
@@ -24,19 +21,22 @@ static SUBSETS: [(&[u32], &[u32], bool, &str); 4] = [
 #[test]
 fn subsets(rt: HostRuntime) {
     for (whole, part, want, what) in SUBSETS.iter() {
-        expect_same(&rt, is_subset(rt.alloc(), whole, part), Some(*want), what);
+        let whole = made_set(&rt, whole);
+        let part = made_set(&rt, part);
+        expect_same(&rt, holds_set(&whole, &part), *want, what);
     }
 }
 
 #[test]
 fn ranges_held(rt: HostRuntime) {
     let letters = made_set(&rt, &[0x41, 0x44]);
+    let all = all();
     let found = [
-        letters.contains_range('A'..='C'),
-        letters.contains_range('A'..='D'),
-        letters.contains_range('B'..'B'),
-        letters.contains('C'),
-        CodePointInversionList::all().contains_range(..),
+        holds_range(&letters, 'A'..='C'),
+        holds_range(&letters, 'A'..='D'),
+        holds_range(&letters, 'B'..'B'),
+        holds_char(&letters, 'C'),
+        holds_range(&all, ..),
     ];
     let want = [true, false, false, true, true];
     expect_same(
@@ -66,7 +66,7 @@ fn expect_positions(
     rows: &[(u32, Option<usize>)],
 ) {
     for (c, want) in rows {
-        expect_same(rt, (*c, set.position32(*c)), (*c, *want), "a place");
+        expect_same(rt, (*c, place_of(set, *c)), (*c, *want), "a place");
     }
 }
 
@@ -94,7 +94,7 @@ fn ranges_and_positions(rt: HostRuntime) {
     expect_nth(&rt, &set, &NTH);
     expect_positions(&rt, &set, &POSITIONS);
     expect_same(&rt, counts_of(&set), [5, 3], "size and ranges");
-    expect_same(&rt, set.position('E'), Some(3), "the place of E");
+    expect_same(&rt, place_of_char(&set, 'E'), Some(3), "the place of E");
 }
 
 /// Nor has the set of A to Z the greatest number, or a range of the greatest index.
@@ -125,15 +125,15 @@ static SPANS: [(&[u32], &[TextSpans]); 2] = [
 ];
 
 /// The texts lie so far in the set.
-fn expect_text_spans(rt: &impl Abort, set: CodePointInversionList<'_>, rows: &[TextSpans]) {
+fn expect_text_spans(rt: &impl Abort, set: &CodePointInversionList<'_>, rows: &[TextSpans]) {
     for (text, want) in rows {
-        expect_same(rt, spans_of(&set, text), *want, text);
+        expect_same(rt, spans_of(set, text), *want, text);
     }
 }
 
 #[test]
 fn spans(rt: HostRuntime) {
     for (ends, rows) in SPANS.iter() {
-        expect_text_spans(&rt, made_set(&rt, ends), rows);
+        expect_text_spans(&rt, &made_set(&rt, ends), rows);
     }
 }

@@ -1,14 +1,15 @@
 //! Sets in ICU's serialized form. The units are those that `uset_serialize` of ICU4C 72 writes, and
 //! refused ones are worked out by hand.
 use super::*;
-use crate::tests::{expect_listed, expect_same, expect_set, say, set_of, tell};
+use crate::tests::points::{basic, expect_listed, expect_set, made_set, set_of};
+use crate::tests::{expect_same, say, tell};
 use icu_invlist_binary::serialized::{
     SerializeError, SerializedSetError, WriteError, from_serialized, serialized_len, to_serialized,
     write_serialized,
 };
 
 /// Sets by their ends, and their units.
-const WRITTEN: [(&[u32], &[u16]); 9] = [
+static WRITTEN: [(&[u32], &[u16]); 9] = [
     (&[], &[0]),
     (&[0x61, 0x7B], &[2, 0x61, 0x7B]),
     (
@@ -28,17 +29,42 @@ fn expect_units(rt: &impl Abort, found: Vec<u16>, want: &[u16]) {
     expect_same(rt, found.as_slice(), want, "the units");
 }
 
-/// The units of the set with these ends.
-fn units_of(alloc: Global, ends: &[u32]) -> Result<Vec<u16>, Fail> {
-    Ok(to_serialized(alloc, &set_of(alloc, ends)?)?)
+/// The units of the set, or why there are none.
+fn units_of(alloc: Global, set: &CodePointInversionList<'_>) -> Result<Vec<u16>, SerializeError> {
+    to_serialized(alloc, set)
+}
+
+/// How many units are written to the slice, or why none are.
+fn put_units(set: &CodePointInversionList<'_>, units: &mut [u16]) -> Result<usize, WriteError> {
+    write_serialized(set, units)
+}
+
+/// How many units the set has.
+fn length_of(set: &CodePointInversionList<'_>) -> Option<usize> {
+    serialized_len(set)
+}
+
+/// The set that the units begin with, and how many of them it takes, or why there is none.
+fn set_read(
+    alloc: Global,
+    units: &[u16],
+) -> Result<(CodePointInversionList<'static>, usize), SerializedSetError> {
+    from_serialized(alloc, units)
+}
+
+/// Why the units are no set.
+fn fault_of(alloc: Global, units: &[u16]) -> Option<SerializedSetError> {
+    set_read(alloc, units).err()
 }
 
 #[test]
-fn written_in_units(rt: HostRuntime) -> Result<(), Fail> {
-    for (ends, units) in WRITTEN {
-        expect_units(&rt, units_of(rt.alloc(), ends)?, units);
+fn written_in_units(rt: HostRuntime) {
+    for (ends, want) in WRITTEN.iter() {
+        match units_of(rt.alloc(), &made_set(&rt, ends)) {
+            Ok(units) => expect_units(&rt, units, want),
+            Err(_) => rt.panic("no units"),
+        }
     }
-    Ok(())
 }
 
 /// The set of `a` to `z` in a slice that has room for more, and in one that is too short.
@@ -46,17 +72,17 @@ fn written_in_units(rt: HostRuntime) -> Result<(), Fail> {
 /// Calls: `serialized::write_serialized`, `serialized::serialized_len`.
 #[test]
 fn written_into_slices_quiet(rt: HostRuntime) {
-    let Ok(letters) = set_of(rt.alloc(), &[0x61, 0x7B]) else {
+    let Some(letters) = set_of(rt.alloc(), &[0x61, 0x7B]) else {
         return;
     };
     let mut long = [7; 4];
     let mut short = [7; 2];
     say(&rt, "call");
     let found = [
-        write_serialized(&letters, &mut long),
-        write_serialized(&letters, &mut short),
+        put_units(&letters, &mut long),
+        put_units(&letters, &mut short),
     ];
-    let len = serialized_len(&letters);
+    let len = length_of(&letters);
     say(&rt, "done");
     expect_same(&rt, found, [Ok(3), Err(WriteError::Short)], "answers");
     expect_same(&rt, len, Some(3), "the length");
@@ -65,39 +91,42 @@ fn written_into_slices_quiet(rt: HostRuntime) {
 }
 
 /// The set that the units begin with has these ends, and takes so many units.
-fn expect_read(
-    rt: &(impl Abort + AllocGlobal),
-    units: &[u16],
-    ends: &[u32],
-    len: usize,
-) -> Result<(), Fail> {
-    let (set, found) = from_serialized(rt.alloc(), units)?;
-    expect_same(rt, found, len, "units");
-    expect_set(rt, set, ends);
-    Ok(())
+fn expect_read(rt: &(impl Abort + AllocGlobal), units: &[u16], ends: &[u32], len: usize) {
+    match set_read(rt.alloc(), units) {
+        Ok((set, found)) => {
+            expect_set(rt, Some(set), ends);
+            expect_same(rt, found, len, "units");
+        }
+        Err(_) => rt.panic("no set"),
+    }
 }
 
 #[test]
-fn read_of_units(rt: HostRuntime) -> Result<(), Fail> {
-    for (ends, units) in WRITTEN {
-        expect_read(&rt, units, ends, units.len())?;
+fn read_of_units(rt: HostRuntime) {
+    for (ends, units) in WRITTEN.iter() {
+        expect_read(&rt, units, ends, units.len());
     }
-    Ok(())
 }
 
 /// Units that `uset_serialize` does not write, whose ranges `uset_getSerializedRange` gives: an end
 /// of the code space, an end below 0x10000 as a pair, and a count of all ends. Two units more are
 /// not the set's.
+static OTHER: [(&[u16], &[u32], usize); 4] = [
+    (&[0x8003, 1, 0x61, 0x11, 0], &[0x61, 0x11_0000], 5),
+    (&[0x8002, 0, 0, 0x41], &[0x41, 0x11_0000], 4),
+    (&[0x8002, 2, 0x41, 0x5B], &[0x41, 0x5B], 4),
+    (&[2, 0x41, 0x5B, 7, 8], &[0x41, 0x5B], 3),
+];
+
 #[test]
-fn read_of_other_units(rt: HostRuntime) -> Result<(), Fail> {
-    expect_read(&rt, &[0x8003, 1, 0x61, 0x11, 0], &[0x61, 0x11_0000], 5)?;
-    expect_read(&rt, &[0x8002, 0, 0, 0x41], &[0x41, 0x11_0000], 4)?;
-    expect_read(&rt, &[0x8002, 2, 0x41, 0x5B], &[0x41, 0x5B], 4)?;
-    expect_read(&rt, &[2, 0x41, 0x5B, 7, 8], &[0x41, 0x5B], 3)
+fn read_of_other_units(rt: HostRuntime) {
+    for (units, ends, len) in OTHER.iter() {
+        expect_read(&rt, units, ends, *len);
+    }
 }
 
 /// Units that are no set, and why.
-const REFUSED: [(&[u16], SerializedSetError); 11] = [
+static REFUSED: [(&[u16], SerializedSetError); 11] = [
     (&[], SerializedSetError::Short),
     (&[2, 0x41], SerializedSetError::Short),
     (&[0x8000], SerializedSetError::Short),
@@ -114,49 +143,47 @@ const REFUSED: [(&[u16], SerializedSetError); 11] = [
     ),
 ];
 
-/// Why the units are no set.
-fn fault_of(alloc: Global, units: &[u16]) -> Option<SerializedSetError> {
-    from_serialized(alloc, units).err()
-}
-
 #[test]
 fn refused_units(rt: HostRuntime) {
-    for (units, want) in REFUSED {
-        expect_same(&rt, fault_of(rt.alloc(), units), Some(want), "the fault");
+    for (units, want) in REFUSED.iter() {
+        expect_same(&rt, fault_of(rt.alloc(), units), Some(*want), "the fault");
     }
 }
 
 /// The set of every second code point below `limit`, which is even: its ends are all numbers below.
-fn every_second(alloc: Global, limit: u32) -> Result<CodePointInversionList<'static>, Fail> {
-    let mut ends = Vec::new(alloc);
+fn every_second(rt: &(impl Abort + AllocGlobal), limit: u32) -> CodePointInversionList<'static> {
+    let mut ends = Vec::new(rt.alloc());
     for end in 0..limit {
-        ends.push(end)?;
+        if ends.push(end).is_err() {
+            rt.panic("no memory");
+        }
     }
-    Ok(set_of(alloc, &ends)?)
-}
-
-/// The number of units of that set.
-fn length_of(alloc: Global, limit: u32) -> Result<Option<usize>, Fail> {
-    Ok(serialized_len(&every_second(alloc, limit)?))
+    made_set(rt, &ends)
 }
 
 /// 0x7FFE units of ends, and two more than that.
 #[test]
-fn longest_in_units(rt: HostRuntime) -> Result<(), Fail> {
-    let found = [
-        length_of(rt.alloc(), 0x7FFE)?,
-        length_of(rt.alloc(), 0x8000)?,
-    ];
-    expect_same(&rt, found, [Some(0x7FFF), None], "units");
-    let refused = to_serialized(rt.alloc(), &every_second(rt.alloc(), 0x8000)?).err();
-    expect_same(&rt, refused, Some(SerializeError::TooLong), "too long");
-    let written = write_serialized(&every_second(rt.alloc(), 0x8000)?, &mut []);
-    expect_same(&rt, written, Err(WriteError::TooLong), "too long");
-    Ok(())
+fn longest_in_units(rt: HostRuntime) {
+    let longest = length_of(&every_second(&rt, 0x7FFE));
+    let longer = every_second(&rt, 0x8000);
+    let fault = units_of(rt.alloc(), &longer).err();
+    let found = (
+        longest,
+        length_of(&longer),
+        fault,
+        put_units(&longer, &mut []),
+    );
+    let want = (
+        Some(0x7FFF),
+        None,
+        Some(SerializeError::TooLong),
+        Err(WriteError::TooLong),
+    );
+    expect_same(&rt, found, want, "two lengths, and twice too long");
 }
 
 /// The units are those of the basic plane, where they were written.
-fn expect_units_of_bmp(rt: &(impl Abort + Print), made: Result<Vec<u16>, SerializeError>) {
+fn expect_units_of_basic(rt: &(impl Abort + Print), made: Result<Vec<u16>, SerializeError>) {
     tell(rt, made.is_err());
     if let Ok(units) = made {
         expect_units(rt, units, &[0x8003, 1, 0, 1, 0]);
@@ -166,21 +193,21 @@ fn expect_units_of_bmp(rt: &(impl Abort + Print), made: Result<Vec<u16>, Seriali
 /// Calls: `serialized::to_serialized`.
 #[test]
 fn to_serialized_refused(rt: HostRuntime) {
-    let bmp = CodePointInversionList::bmp();
+    let basic = basic();
     say(&rt, "call");
-    let made = to_serialized(rt.alloc(), &bmp);
-    expect_units_of_bmp(&rt, made);
-    expect_listed(&rt, bmp, &[0, 0x1_0000]);
+    let made = units_of(rt.alloc(), &basic);
+    expect_units_of_basic(&rt, made);
+    expect_listed(&rt, &basic, &[0, 0x1_0000]);
 }
 
 /// The set that was read is that of the basic plane; nothing but memory was wanting where none was.
-fn expect_bmp_or_refused(
+fn expect_basic_or_refused(
     rt: &(impl Abort + AllocGlobal + Print),
     made: Result<(CodePointInversionList<'_>, usize), SerializedSetError>,
 ) {
     tell(rt, made.is_err());
     match made {
-        Ok((set, _)) => expect_listed(rt, set, &[0, 0x1_0000]),
+        Ok((set, _)) => expect_listed(rt, &set, &[0, 0x1_0000]),
         Err(error) => expect_same(rt, error, SerializedSetError::Memory, "refused"),
     }
 }
@@ -189,8 +216,8 @@ fn expect_bmp_or_refused(
 #[test]
 fn from_serialized_refused(rt: HostRuntime) {
     say(&rt, "call");
-    let made = from_serialized(rt.alloc(), &[0x8003, 1, 0, 1, 0]);
-    expect_bmp_or_refused(&rt, made);
+    let made = set_read(rt.alloc(), &[0x8003, 1, 0, 1, 0]);
+    expect_basic_or_refused(&rt, made);
 }
 
 /// Units that say no set are refused before memory is asked for.

@@ -1,8 +1,11 @@
 //! Sets: how they are made, and what they hold.
 use super::*;
-use crate::tests::{expect, expect_same, expect_set, hash_of, made_set};
+use crate::tests::points::{
+    all, are_equal, basic, copy_of, expect_set, holds, is_empty, list_of, made_set, owned,
+    set_of_range, set_of_ranges, set_over,
+};
+use crate::tests::{expect, expect_same, hash_of};
 use icu_invlist::codepointinvlist::deconstruct_range;
-use icu_zerovec::{PotentialCodePoint, ZeroVec};
 use std::ops::{Range, RangeFull};
 
 /// What a set is made of.
@@ -20,21 +23,18 @@ enum Source {
 /// The set that is made of it. `None` where memory was refused.
 fn set_from(source: Source, alloc: Global) -> Option<CodePointInversionList<'static>> {
     match source {
-        Source::Letters => CodePointInversionList::try_from(alloc, 'A'..='Z').ok(),
-        Source::FromA => CodePointInversionList::try_from(alloc, 'A'..).ok(),
-        Source::ToZ => CodePointInversionList::try_from(alloc, ..='Z').ok(),
-        Source::Joined => {
-            let ranges = [0..=0x3FFF, 0x4000..=0x7FFF];
-            CodePointInversionList::from_iter(alloc, ranges.into_iter()).ok()
-        }
-        Source::All => CodePointInversionList::try_from(alloc, ..).ok(),
-        Source::Basic => Some(CodePointInversionList::bmp()),
-        Source::Whole => Some(CodePointInversionList::all()),
+        Source::Letters => set_of_range(alloc, 'A'..='Z').ok(),
+        Source::FromA => set_of_range(alloc, 'A'..).ok(),
+        Source::ToZ => set_of_range(alloc, ..='Z').ok(),
+        Source::Joined => set_of_ranges(alloc, [0..=0x3FFF, 0x4000..=0x7FFF]),
+        Source::All => set_of_range(alloc, ..).ok(),
+        Source::Basic => Some(basic()),
+        Source::Whole => Some(all()),
     }
 }
 
 /// Sources, and the ends of their sets.
-const SOURCES: [(Source, [u32; 2]); 7] = [
+static SOURCES: [(Source, [u32; 2]); 7] = [
     (Source::Letters, [0x41, 0x5B]),
     (Source::FromA, [0x41, 0x11_0000]),
     (Source::ToZ, [0, 0x5B]),
@@ -46,11 +46,8 @@ const SOURCES: [(Source, [u32; 2]); 7] = [
 
 #[test]
 fn sets_of_ranges(rt: HostRuntime) {
-    for (source, ends) in SOURCES {
-        match set_from(source, rt.alloc()) {
-            Some(set) => expect_set(&rt, set, &ends),
-            None => rt.panic("no set"),
-        }
+    for (source, ends) in SOURCES.iter() {
+        expect_set(&rt, set_from(*source, rt.alloc()), ends);
     }
 }
 
@@ -110,68 +107,63 @@ fn ends_of_ranges_of_characters(rt: HostRuntime) {
     expect_same(&rt, found, want, "ends of ranges of characters");
 }
 
-/// The set of A to Z over borrowed bytes.
-fn lent_letters(alloc: Global) -> Option<CodePointInversionList<'static>> {
-    let list = ZeroVec::<PotentialCodePoint>::parse_bytes(&[0x41, 0, 0, 0x5B, 0, 0]).ok()?;
-    CodePointInversionList::try_from_inversion_list(alloc, list).ok()
-}
-
-/// A copy of it.
-fn cloned_letters(alloc: Global) -> Option<CodePointInversionList<'static>> {
-    lent_letters(alloc)?.try_clone(alloc).ok()
-}
-
-/// The same that owns its bytes.
-fn owned_letters(alloc: Global) -> Option<CodePointInversionList<'static>> {
-    lent_letters(alloc)?.into_owned(alloc).ok()
-}
-
 /// The sets are equal, and so are their hashes. They are another one than the basic plane.
-fn expect_alike(rt: &impl Abort, a: CodePointInversionList<'_>, b: CodePointInversionList<'_>) {
-    expect(rt, a == b, "equal");
-    expect_same(rt, hash_of(&a), hash_of(&b), "hashes");
-    expect(rt, a != CodePointInversionList::bmp(), "another set");
+fn expect_alike(rt: &impl Abort, a: &CodePointInversionList<'_>, b: &CodePointInversionList<'_>) {
+    let hashes = [hash_of(a), hash_of(b)];
+    expect(rt, are_equal(a, b), "equal");
+    expect_same(rt, hashes[0], hashes[1], "hashes");
+    expect(rt, !are_equal(a, &basic()), "another set");
 }
 
-/// There was memory for both sets, and they are alike.
-fn expect_both(
+/// The other set, for which there was memory, is like this one.
+fn expect_like(
     rt: &impl Abort,
-    a: Option<CodePointInversionList<'_>>,
-    b: Option<CodePointInversionList<'_>>,
+    set: &CodePointInversionList<'_>,
+    other: Option<CodePointInversionList<'_>>,
 ) {
-    match (a, b) {
-        (Some(a), Some(b)) => expect_alike(rt, a, b),
-        _ => rt.panic("no memory"),
+    match other {
+        Some(other) => expect_alike(rt, set, &other),
+        None => rt.panic("no memory"),
+    }
+}
+
+/// The set of A to Z over borrowed bytes.
+fn lent_letters(rt: &(impl Abort + AllocGlobal)) -> CodePointInversionList<'static> {
+    match set_over(rt.alloc(), list_of(rt, &[0x41, 0, 0, 0x5B, 0, 0])) {
+        Ok(set) => set,
+        Err(_) => rt.panic("no set"),
     }
 }
 
 #[test]
 fn lent_cloned_and_owned(rt: HostRuntime) {
     let alloc = rt.alloc();
-    expect_both(&rt, lent_letters(alloc), cloned_letters(alloc));
-    expect_both(&rt, lent_letters(alloc), owned_letters(alloc));
-    let all = set_from(Source::All, alloc);
-    let is_all = all.is_some_and(|all| all == CodePointInversionList::all());
-    expect(&rt, is_all, "all");
+    let letters = lent_letters(&rt);
+    expect_like(&rt, &letters, copy_of(alloc, &letters));
+    expect_like(&rt, &letters, owned(alloc, lent_letters(&rt)));
+    expect_like(&rt, &all(), set_from(Source::All, alloc));
 }
+
+/// Numbers beside the ends of A to Z and the greatest, and whether they are held.
+static BESIDE: [(u32, bool); 5] = [
+    (0x40, false),
+    (0x41, true),
+    (0x5A, true),
+    (0x5B, false),
+    (u32::MAX, false),
+];
 
 /// The set of A to Z is asked for the numbers beside its ends, and for the greatest.
 fn expect_held(rt: &impl Abort, letters: &CodePointInversionList<'_>) {
-    for (c, want) in [
-        (0x40, false),
-        (0x41, true),
-        (0x5A, true),
-        (0x5B, false),
-        (u32::MAX, false),
-    ] {
-        expect_same(rt, (c, letters.contains32(c)), (c, want), "held");
+    for (c, want) in BESIDE.iter() {
+        expect_same(rt, (*c, holds(letters, *c)), (*c, *want), "held");
     }
-    expect(rt, !letters.is_empty(), "not empty");
+    expect(rt, !is_empty(letters), "not empty");
 }
 
 #[test]
 fn held_and_listed(rt: HostRuntime) {
     let letters = made_set(&rt, &[0x41, 0x5B]);
     expect_held(&rt, &letters);
-    expect_set(&rt, letters, &[0x41, 0x5B]);
+    expect_set(&rt, Some(letters), &[0x41, 0x5B]);
 }

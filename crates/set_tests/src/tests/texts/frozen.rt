@@ -1,24 +1,49 @@
 //! Frozen sets with strings: that they are made, and answer as the set does; want of memory.
 use super::*;
-use crate::tests::{expect, expect_same, say, set_of, tell};
+use crate::tests::points::set_of;
+use crate::tests::{expect, expect_same, say, tell};
 use icu_frozen_sets::text_sets::FrozenCodePointSetAndStrings;
 
 /// The letters of ASCII, the empty text, and strings, one of which is of two characters.
 fn words(alloc: Global) -> Option<CodePointInversionListAndStringList<'static>> {
-    let letters = set_of(alloc, &[0x41, 0x5B, 0x61, 0x7B]).ok()?;
+    let letters = set_of(alloc, &[0x41, 0x5B, 0x61, 0x7B])?;
     set_of_both(alloc, letters, &["", "a1", "abc", "漢字"])
 }
 
-/// The same, frozen. `None` where memory was refused.
-fn frozen_words(alloc: Global) -> Option<FrozenCodePointSetAndStrings> {
-    let set = words(alloc)?;
-    FrozenCodePointSetAndStrings::freeze(alloc, &set).ok()
+/// The set, frozen. `None` where memory was refused.
+fn frozen(
+    alloc: Global,
+    set: &CodePointInversionListAndStringList<'_>,
+) -> Option<FrozenCodePointSetAndStrings> {
+    FrozenCodePointSetAndStrings::freeze(alloc, set).ok()
 }
 
-/// All code points and "ab", frozen. `None` where memory was refused.
-fn frozen_all(alloc: Global) -> Option<FrozenCodePointSetAndStrings> {
-    let set = all_and_ab(alloc)?;
-    FrozenCodePointSetAndStrings::freeze(alloc, &set).ok()
+/// The words, frozen. `None` where memory was refused.
+fn frozen_words(alloc: Global) -> Option<FrozenCodePointSetAndStrings> {
+    frozen(alloc, &words(alloc)?)
+}
+
+/// A copy of the frozen set. `None` where memory was refused.
+fn copy_of_frozen(
+    alloc: Global,
+    set: &FrozenCodePointSetAndStrings,
+) -> Option<FrozenCodePointSetAndStrings> {
+    set.try_clone(alloc).ok()
+}
+
+/// Whether the two frozen sets are equal.
+fn are_same(a: &FrozenCodePointSetAndStrings, b: &FrozenCodePointSetAndStrings) -> bool {
+    *a == *b
+}
+
+/// Whether the frozen set holds the text.
+fn has_text(frozen: &FrozenCodePointSetAndStrings, text: &str) -> bool {
+    frozen.contains_str(text)
+}
+
+/// Whether the frozen set holds the character, and whether the number.
+fn has_points(frozen: &FrozenCodePointSetAndStrings, ch: char, cp: u32) -> [bool; 2] {
+    [frozen.contains(ch), frozen.contains32(cp)]
 }
 
 /// Texts, and whether the set of the words holds them.
@@ -37,15 +62,13 @@ static TEXTS: [(&str, bool); 9] = [
 /// The frozen set holds these texts, and these code points.
 fn expect_texts(rt: &impl Abort, frozen: &FrozenCodePointSetAndStrings) {
     for (text, want) in TEXTS.iter() {
-        expect_same(rt, frozen.contains_str(text), *want, text);
+        expect_same(rt, has_text(frozen, text), *want, text);
     }
     let points = [
-        frozen.contains('Z'),
-        frozen.contains('['),
-        frozen.contains32(0x7A),
-        frozen.contains32(0x11_0041),
+        has_points(frozen, 'Z', 0x7A),
+        has_points(frozen, '[', 0x11_0041),
     ];
-    expect_same(rt, points, [true, false, true, false], "code points");
+    expect_same(rt, points, [[true, true], [false, false]], "code points");
 }
 
 #[test]
@@ -56,11 +79,12 @@ fn texts_in_frozen_sets(rt: HostRuntime) {
     }
 }
 
-/// Whether the frozen words are equal to a copy, and to another frozen set.
+/// Whether the frozen words are equal to a copy, and to all code points and "ab", frozen.
 fn equalities(alloc: Global) -> Option<[bool; 2]> {
     let first = frozen_words(alloc)?;
-    let copy = first.try_clone(alloc).ok()?;
-    Some([first == copy, first == frozen_all(alloc)?])
+    let is_copy_equal = are_same(&first, &copy_of_frozen(alloc, &first)?);
+    let other = frozen(alloc, &all_and_ab(alloc)?)?;
+    Some([is_copy_equal, are_same(&first, &other)])
 }
 
 #[test]
@@ -70,23 +94,16 @@ fn equal_frozen_sets_with_strings(rt: HostRuntime) {
 }
 
 /// The call is over: the set answers as it has to, where it was frozen.
-fn expect_frozen(
-    rt: &(impl Abort + Print),
-    made: Result<FrozenCodePointSetAndStrings, MemoryError>,
-) {
-    tell(rt, made.is_err());
-    if let Ok(frozen) = made {
+fn expect_frozen(rt: &(impl Abort + Print), made: Option<FrozenCodePointSetAndStrings>) {
+    tell(rt, made.is_none());
+    if let Some(frozen) = made {
         let found = [
-            frozen.contains_str("abc"),
-            frozen.contains_str("b"),
-            frozen.contains('1'),
+            has_text(&frozen, "abc"),
+            has_text(&frozen, "b"),
+            has_points(&frozen, '1', 0x31)[0],
         ];
-        expect_same(
-            rt,
-            found,
-            [true, true, false],
-            "a string, a letter and a digit",
-        );
+        let what = "a string, a letter and a digit";
+        expect_same(rt, found, [true, true, false], what);
     }
 }
 
@@ -99,9 +116,9 @@ fn freeze_with_strings_refused(rt: HostRuntime) {
         return;
     };
     say(&rt, "call");
-    let made = FrozenCodePointSetAndStrings::freeze(rt.alloc(), &set);
+    let made = frozen(rt.alloc(), &set);
     expect_frozen(&rt, made);
-    expect_same(&rt, set.size(), 56, "the set that was lent");
+    expect_same(&rt, counts_of(&set)[0], 56, "the set that was lent");
 }
 
 /// Calls: `FrozenCodePointSetAndStrings::try_clone`.
@@ -111,9 +128,9 @@ fn try_clone_of_frozen_with_strings_refused(rt: HostRuntime) {
         return;
     };
     say(&rt, "call");
-    let made = frozen.try_clone(rt.alloc());
+    let made = copy_of_frozen(rt.alloc(), &frozen);
     expect_frozen(&rt, made);
-    expect(&rt, frozen.contains_str("abc"), "the set that was lent");
+    expect(&rt, has_text(&frozen, "abc"), "the set that was lent");
 }
 
 /// Calls: `FrozenCodePointSetAndStrings::as_set`, `FrozenCodePointSetAndStrings::contains`,
@@ -124,15 +141,15 @@ fn frozen_with_strings_quiet(rt: HostRuntime) {
         return;
     };
     say(&rt, "call");
-    let held = [
-        frozen.contains('A'),
-        frozen.contains32(0x41),
-        frozen.contains_str("A"),
-        frozen.contains_str("abc"),
-        frozen == frozen,
+    let points = has_points(&frozen, 'A', 0x41);
+    let others = [
+        has_text(&frozen, "A"),
+        has_text(&frozen, "abc"),
+        are_same(&frozen, &frozen),
     ];
-    let size = frozen.as_set().size();
+    let size = counts_of(frozen.as_set())[0];
     say(&rt, "done");
-    expect_same(&rt, held, [true; 5], "held");
+    expect_same(&rt, points, [true; 2], "code points");
+    expect_same(&rt, others, [true; 3], "texts, and equal to itself");
     expect_same(&rt, size, 56, "size");
 }

@@ -1,17 +1,27 @@
 //! Want of memory: each call that may grow something says so at once where a growth was refused.
 //! Calls that take no memory ask for none.
 use super::*;
+use crate::tests::points::is_empty;
 use crate::tests::{expect, expect_same, say, tell};
-use icu_text_sets::codepointinvliststringlist::{InvalidStringList, StringListJsonError};
-use serde_json::Value;
 
 /// The set is still that of all code points and "ab", where there is memory to make another.
-fn expect_all_and_ab(
+pub fn expect_all_and_ab(
     rt: &(impl Abort + AllocGlobal),
-    set: CodePointInversionListAndStringList<'static>,
+    set: &CodePointInversionListAndStringList<'_>,
 ) {
     if let Some(want) = all_and_ab(rt.alloc()) {
-        expect(rt, set == want, "as it was");
+        expect(rt, are_equal(set, &want), "as it was");
+    }
+}
+
+/// The call is over: the set has a code point and two strings, where there was memory for it.
+fn expect_gathered(
+    rt: &(impl Abort + Print),
+    made: Option<CodePointInversionListAndStringList<'_>>,
+) {
+    tell(rt, made.is_none());
+    if let Some(set) = made {
+        expect_same(rt, counts_of(&set), [3, 1, 2], "members and strings");
     }
 }
 
@@ -22,13 +32,9 @@ fn expect_all_and_ab(
 fn from_iter_refused(rt: HostRuntime) {
     let texts = ["xyz", "a", "abc"];
     say(&rt, "call");
-    let answer = CodePointInversionListAndStringList::from_iter(rt.alloc(), texts.iter().copied());
-    tell(&rt, answer.is_err());
-    if let Ok(set) = answer {
-        let found = [set.size(), set.strings().len()];
-        expect_same(&rt, found, [3, 2], "members and strings");
-    }
-    expect(&rt, texts == ["xyz", "a", "abc"], "as they were");
+    let made = gathered(rt.alloc(), &texts);
+    expect_gathered(&rt, made);
+    expect_same(&rt, texts, ["xyz", "a", "abc"], "as they were");
 }
 
 /// Calls: `CodePointInversionListAndStringList::try_clone`.
@@ -38,77 +44,32 @@ fn try_clone_refused(rt: HostRuntime) {
         return;
     };
     say(&rt, "call");
-    let answer = set.try_clone(rt.alloc());
-    tell(&rt, answer.is_err());
-    expect_all_and_ab(&rt, set);
+    let is_refused = copy_of(rt.alloc(), &set).is_none();
+    tell(&rt, is_refused);
+    expect_all_and_ab(&rt, &set);
 }
 
-/// Calls: `CodePointInversionListAndStringList::to_json`.
-#[test]
-fn to_json_refused(rt: HostRuntime) {
-    let Some(set) = all_and_ab(rt.alloc()) else {
-        return;
-    };
-    say(&rt, "call");
-    let answer = set.to_json(rt.alloc());
-    tell(&rt, answer.is_err());
-    expect_all_and_ab(&rt, set);
-}
-
-/// Says that a call is over. It was refused for memory alone.
-fn tell_read(
-    rt: &(impl Abort + Print),
-    answer: Result<CodePointInversionListAndStringList<'_>, StringListJsonError>,
-) {
-    match answer {
-        Ok(_) => tell(rt, false),
-        Err(StringListJsonError::Memory) => tell(rt, true),
-        Err(error) => rt.panic(error),
-    }
-}
-
-/// The value has this text, where there is memory for it.
-fn expect_value(rt: &(impl Abort + AllocGlobal), value: Value, want: &str) {
-    if let Ok(text) = value.to_string(rt.alloc()) {
-        expect_text(rt, text, want);
-    }
-}
-
-/// Calls: `CodePointInversionListAndStringList::from_json`.
-#[test]
-fn from_json_refused(rt: HostRuntime) {
-    let text = "{\"cp_inv_list\":[\"a\"],\"str_list\":[\"abc\",\"xyz\"]}";
-    let Ok(value) = Value::from_str(rt.alloc(), text) else {
-        return;
-    };
-    say(&rt, "call");
-    let answer = CodePointInversionListAndStringList::from_json(rt.alloc(), &value);
-    tell_read(&rt, answer);
-    expect_value(&rt, value, text);
+/// Whether the answer is that the strings are not sorted.
+fn is_unsorted(made: Result<CodePointInversionListAndStringList<'_>, InvalidStringList>) -> bool {
+    matches!(&made, Err(InvalidStringList::StringListNotSorted(_, _)))
 }
 
 /// Calls: `CodePointInversionListAndStringList::try_from`.
 #[test]
 fn try_from_quiet(rt: HostRuntime) {
-    let Ok(sorted) = strings_of(rt.alloc(), &["abc", "xyz"]) else {
+    let Some(sorted) = strings_of(rt.alloc(), &["abc", "xyz"]) else {
         return;
     };
-    let Ok(unsorted) = strings_of(rt.alloc(), &["", "xyz", "abc"]) else {
+    let Some(unsorted) = strings_of(rt.alloc(), &["", "xyz", "abc"]) else {
         return;
     };
-    let all = CodePointInversionList::all();
     say(&rt, "call");
-    let taken = CodePointInversionListAndStringList::try_from(all, sorted).is_ok();
-    let all = CodePointInversionList::all();
-    let refused = CodePointInversionListAndStringList::try_from(all, unsorted).err();
+    let answers = [
+        set_or_fault(all(), sorted).is_ok(),
+        is_unsorted(set_or_fault(all(), unsorted)),
+    ];
     say(&rt, "done");
-    let is_unsorted = matches!(&refused, Some(InvalidStringList::StringListNotSorted(_, _)));
-    expect_same(
-        &rt,
-        [taken, is_unsorted],
-        [true, true],
-        "sorted and unsorted strings",
-    );
+    expect_same(&rt, answers, [true, true], "sorted and unsorted strings");
 }
 
 /// Calls: `CodePointInversionListAndStringList::size`,
@@ -123,15 +84,15 @@ fn queries_quiet(rt: HostRuntime) {
         return;
     };
     say(&rt, "call");
-    let counts = (set.size(), set.has_strings(), set.strings().len());
-    let points = [set.contains('a'), set.contains32(0x11_0000)];
+    let counts = (counts_of(&set), has_strings(&set));
+    let points = holds_points(&set, 'a', 0x11_0000);
     let texts = [
-        set.contains_str("ab"),
-        set.contains_str("a"),
-        set.contains_utf8(b"abc"),
+        holds_text(&set, "ab"),
+        holds_text(&set, "a"),
+        holds_bytes(&set, b"abc"),
     ];
     say(&rt, "done");
-    expect_same(&rt, counts, (0x11_0001, true, 1), "counts");
+    expect_same(&rt, counts, ([0x11_0001, 0x11_0000, 1], true), "counts");
     expect_same(&rt, points, [true, false], "code points");
     expect_same(&rt, texts, [true, true, false], "texts");
 }
@@ -143,7 +104,7 @@ fn equality_quiet(rt: HostRuntime) {
         return;
     };
     say(&rt, "call");
-    let same = set.code_points().is_empty() || set == set;
+    let same = is_empty(set.code_points()) || are_equal(&set, &set);
     say(&rt, "done");
     expect(&rt, same, "equal to itself");
 }

@@ -1,20 +1,21 @@
 //! Changes of a builder.
 use super::*;
 use crate::tests::code_points::changes::{Addition, Change, Operation, Removal, Turn};
+use crate::tests::points::set_of;
 
 /// Changes a full builder of A to Z: its set is `after` then, and where the change was refused it
 /// is that of A to Z.
 fn expect_change(rt: &(impl Abort + AllocGlobal + Print), change: Change, after: &[u32]) {
-    let Ok(mut builder) = full_builder_of(rt.alloc(), &LETTERS) else {
+    let Some(mut builder) = full_builder_of(rt.alloc(), &LETTERS) else {
         return;
     };
     say(rt, "call");
-    let answer = change.apply(&mut builder);
-    expect_answer(rt, answer, builder, after);
+    let is_answered = change.is_applied(&mut builder);
+    expect_answer(rt, is_answered, builder, after);
 }
 
 /// Changes, one by each call, and the ends of the set of A to Z then.
-const CHANGES: [(Change, &[u32]); 13] = [
+static CHANGES: [(Change, &[u32]); 13] = [
     (Change::Add(Addition::Char('a')), &[0x41, 0x5B, 0x61, 0x62]),
     (
         Change::Add(Addition::Number(0x61)),
@@ -67,8 +68,8 @@ const CHANGES: [(Change, &[u32]); 13] = [
 /// `CodePointInversionListBuilder::complement_range32`.
 #[test]
 fn changes_refused(rt: HostRuntime) {
-    for (change, after) in CHANGES {
-        expect_change(&rt, change, after);
+    for (change, after) in CHANGES.iter() {
+        expect_change(&rt, *change, after);
     }
 }
 
@@ -79,20 +80,20 @@ fn expect_change_by(
     lent: &[u32],
     after: &[u32],
 ) {
-    let Ok(set) = set_of(rt.alloc(), lent) else {
+    let Some(set) = set_of(rt.alloc(), lent) else {
         return;
     };
-    let Ok(mut builder) = full_builder_of(rt.alloc(), &LETTERS) else {
+    let Some(mut builder) = full_builder_of(rt.alloc(), &LETTERS) else {
         return;
     };
     say(rt, "call");
-    let answer = operation.apply(&mut builder, &set);
-    expect_answer(rt, answer, builder, after);
-    expect_listed(rt, set, lent);
+    let is_answered = operation.is_applied(&mut builder, &set);
+    expect_answer(rt, is_answered, builder, after);
+    expect_listed(rt, &set, lent);
 }
 
 /// Changes by sets with these ends, and the ends of the set of A to Z then.
-const CHANGES_BY: [(Operation, &[u32], &[u32]); 6] = [
+static CHANGES_BY: [(Operation, &[u32], &[u32]); 6] = [
     (
         Operation::Union,
         &[0x61, 0x63, 0x70, 0x71, 0x80, 0x81, 0x90, 0x91],
@@ -127,7 +128,7 @@ const CHANGES_BY: [(Operation, &[u32], &[u32]); 6] = [
 /// `CodePointInversionListBuilder::retain_set`, `CodePointInversionListBuilder::complement_set`.
 #[test]
 fn changes_by_sets_refused(rt: HostRuntime) {
-    for (operation, lent, after) in CHANGES_BY {
-        expect_change_by(&rt, operation, lent, after);
+    for (operation, lent, after) in CHANGES_BY.iter() {
+        expect_change_by(&rt, *operation, lent, after);
     }
 }

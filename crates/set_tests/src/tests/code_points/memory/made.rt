@@ -1,7 +1,11 @@
 //! Sets and lists that are made.
 use super::*;
-use crate::tests::{expect_ends, expect_same};
-use icu_zerovec::{PotentialCodePoint, ZeroVec};
+use crate::tests::expect_same;
+use crate::tests::points::{
+    all, basic, copy_of, counts_of, expect_ends, list_of, list_of_ends, owned, set_of,
+    set_of_range, set_of_ranges, set_over,
+};
+use icu_invlist::codepointinvlist::SetError;
 
 /// The call is over: the set has these ends, where it was made.
 fn expect_made(
@@ -10,13 +14,11 @@ fn expect_made(
     ends: &[u32],
 ) {
     tell(rt, made.is_none());
-    if let Some(set) = made {
-        expect_listed(rt, set, ends);
-    }
+    expect_ends_of(rt, made, ends);
 }
 
 /// The set that was lent is that of the basic plane still.
-fn expect_bmp(rt: &(impl Abort + AllocGlobal), lent: CodePointInversionList<'_>) {
+fn expect_basic(rt: &(impl Abort + AllocGlobal), lent: &CodePointInversionList<'_>) {
     expect_listed(rt, lent, &[0, 0x1_0000]);
 }
 
@@ -25,24 +27,24 @@ fn expect_bmp(rt: &(impl Abort + AllocGlobal), lent: CodePointInversionList<'_>)
 /// Calls: `CodePointInversionListBuilder::build`.
 #[test]
 fn build_refused(rt: HostRuntime) {
-    let Ok(builder) = builder_of(rt.alloc(), &LETTERS) else {
+    let Some(builder) = builder_of(rt.alloc(), &LETTERS) else {
         return;
     };
     say(&rt, "call");
-    let made = builder.build();
-    expect_made(&rt, made.ok(), &LETTERS);
+    let made = set_built(builder);
+    expect_made(&rt, made, &LETTERS);
 }
 
 /// Calls: `CodePointInversionListBuilder::try_clone`.
 #[test]
 fn try_clone_of_builder_refused(rt: HostRuntime) {
-    let Ok(builder) = builder_of(rt.alloc(), &LETTERS) else {
+    let Some(builder) = builder_of(rt.alloc(), &LETTERS) else {
         return;
     };
     say(&rt, "call");
-    match builder.try_clone() {
-        Ok(other) => expect_answer(&rt, Ok(()), other, &LETTERS),
-        Err(error) => expect_answer(&rt, Err(error), builder, &LETTERS),
+    match copy_of_builder(&builder) {
+        Some(other) => expect_answer(&rt, true, other, &LETTERS),
+        None => expect_answer(&rt, false, builder, &LETTERS),
     }
 }
 
@@ -58,20 +60,15 @@ enum Way {
 /// The set that is made so. `None` where memory was refused.
 fn made_by(way: Way, alloc: Global) -> Option<CodePointInversionList<'static>> {
     match way {
-        Way::Ends => {
-            CodePointInversionList::try_from_u32_inversion_list_slice(alloc, &LETTERS).ok()
-        }
-        Way::Range => CodePointInversionList::try_from(alloc, 'A'..='Z').ok(),
-        Way::Ranges => {
-            let ranges = [0x41..=0x50, 0x51..=0x5A];
-            CodePointInversionList::from_iter(alloc, ranges.into_iter()).ok()
-        }
-        Way::Owned => CodePointInversionList::bmp().into_owned(alloc).ok(),
+        Way::Ends => set_of(alloc, &LETTERS),
+        Way::Range => set_of_range(alloc, 'A'..='Z').ok(),
+        Way::Ranges => set_of_ranges(alloc, [0x41..=0x50, 0x51..=0x5A]),
+        Way::Owned => owned(alloc, basic()),
     }
 }
 
 /// Each way, and the ends of the set.
-const WAYS: [(Way, [u32; 2]); 4] = [
+static WAYS: [(Way, [u32; 2]); 4] = [
     (Way::Ends, LETTERS),
     (Way::Range, LETTERS),
     (Way::Ranges, LETTERS),
@@ -83,18 +80,18 @@ const WAYS: [(Way, [u32; 2]); 4] = [
 /// `CodePointInversionList::into_owned`.
 #[test]
 fn made_refused(rt: HostRuntime) {
-    for (way, ends) in WAYS {
+    for (way, ends) in WAYS.iter() {
         say(&rt, "call");
-        let made = made_by(way, rt.alloc());
-        expect_made(&rt, made, &ends);
+        let made = made_by(*way, rt.alloc());
+        expect_made(&rt, made, ends);
     }
 }
 
 /// Calls: `CodePointInversionList::from_valid_slice`.
 #[test]
 fn from_valid_slice_refused(rt: HostRuntime) {
-    let all = CodePointInversionList::all();
-    expect_same(&rt, all.get_range_count(), 1, "ranges of all code points");
+    let all = all();
+    expect_same(&rt, counts_of(&all)[1], 1, "ranges of all code points");
     let Ok(ends) = all.get_inversion_list_vec(rt.alloc()) else {
         return;
     };
@@ -106,11 +103,11 @@ fn from_valid_slice_refused(rt: HostRuntime) {
 /// Calls: `CodePointInversionList::try_clone`.
 #[test]
 fn try_clone_refused(rt: HostRuntime) {
-    let bmp = CodePointInversionList::bmp();
+    let basic = basic();
     say(&rt, "call");
-    let made = bmp.try_clone(rt.alloc());
-    expect_made(&rt, made.ok(), &[0, 0x1_0000]);
-    expect_bmp(&rt, bmp);
+    let made = copy_of(rt.alloc(), &basic);
+    expect_made(&rt, made, &[0, 0x1_0000]);
+    expect_basic(&rt, &basic);
 }
 
 /// The call is over: the list is refused, and its two numbers are shown where there was memory for
@@ -130,18 +127,17 @@ fn expect_two_shown(rt: &(impl Abort + Print), made: Result<CodePointInversionLi
 ///
 /// Calls: `CodePointInversionList::try_from_inversion_list`.
 #[test]
-fn try_from_inversion_list_refused(rt: HostRuntime) -> Result<(), Fail> {
-    let list = ZeroVec::<PotentialCodePoint>::parse_bytes(&[1, 0, 0, 1, 0, 0])?;
+fn try_from_inversion_list_refused(rt: HostRuntime) {
+    let list = list_of(&rt, &[1, 0, 0, 1, 0, 0]);
     say(&rt, "call");
-    let made = CodePointInversionList::try_from_inversion_list(rt.alloc(), list);
+    let made = set_over(rt.alloc(), list);
     expect_two_shown(&rt, made);
-    Ok(())
 }
 
 /// The call is over: the ends are those of the basic plane, where they were listed.
-fn expect_list_of_bmp(rt: &(impl Abort + Print), made: Result<Vec<u32>, MemoryError>) {
-    tell(rt, made.is_err());
-    if let Ok(ends) = made {
+fn expect_list_of_basic(rt: &(impl Abort + Print), made: Option<Vec<u32>>) {
+    tell(rt, made.is_none());
+    if let Some(ends) = made {
         expect_ends(rt, ends, &[0, 0x1_0000]);
     }
 }
@@ -149,9 +145,9 @@ fn expect_list_of_bmp(rt: &(impl Abort + Print), made: Result<Vec<u32>, MemoryEr
 /// Calls: `CodePointInversionList::get_inversion_list_vec`.
 #[test]
 fn get_inversion_list_vec_refused(rt: HostRuntime) {
-    let bmp = CodePointInversionList::bmp();
+    let basic = basic();
     say(&rt, "call");
-    let made = bmp.get_inversion_list_vec(rt.alloc());
-    expect_list_of_bmp(&rt, made);
-    expect_bmp(&rt, bmp);
+    let made = list_of_ends(rt.alloc(), &basic);
+    expect_list_of_basic(&rt, made);
+    expect_basic(&rt, &basic);
 }

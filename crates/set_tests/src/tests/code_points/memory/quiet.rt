@@ -1,24 +1,30 @@
 //! Calls that ask for no memory.
 use super::*;
-use crate::tests::code_points::changes::{Addition, Change, Keeping, Operation, Removal, Turn};
+use crate::tests::code_points::changes::{
+    Addition, Change, Keeping, Operation, Removal, Turn, empty_builder, is_empty as has_nothing,
+};
+use crate::tests::points::{
+    all, are_equal, basic, counts_of, holds, holds_char, holds_range, holds_set, is_empty,
+    is_valid, list_of, next_char, next_gap, next_range, nth_of, place_of, place_of_char, set_of,
+    set_over, spans_of,
+};
 use crate::tests::{expect, expect_same, hash_of};
-use icu_invlist::codepointinvlist::{RangeOf, RangePoint, deconstruct_range, is_valid_zv};
-use icu_zerovec::{PotentialCodePoint, ZeroVec};
+use icu_invlist::codepointinvlist::{RangeOf, RangePoint, deconstruct_range};
 
 /// Each change of a full builder of A to Z and a to z is answered, and leaves a set with the ends
 /// `after` at last.
 fn expect_changes(rt: &(impl Abort + AllocGlobal + Print), changes: &[Change], after: &[u32]) {
-    let Ok(mut builder) = full_builder_of(rt.alloc(), &[0x41, 0x5B, 0x61, 0x7B]) else {
+    let Some(mut builder) = full_builder_of(rt.alloc(), &[0x41, 0x5B, 0x61, 0x7B]) else {
         return;
     };
     let mut answered = true;
     say(rt, "call");
     for change in changes {
-        answered = change.apply(&mut builder).is_ok() && answered;
+        answered = change.is_applied(&mut builder) && answered;
     }
     say(rt, "done");
     expect(rt, answered, "not refused");
-    expect_left(rt, builder, after);
+    expect_ends_of(rt, set_built(builder), after);
 }
 
 /// Changes that put no end in, or as many as they take out.
@@ -59,7 +65,7 @@ fn retained_quiet(rt: HostRuntime) {
 }
 
 /// What a set of nothing changes nothing by.
-const CHANGING_NOTHING: [Operation; 3] = [
+static CHANGING_NOTHING: [Operation; 3] = [
     Operation::Union,
     Operation::Difference,
     Operation::SymmetricDifference,
@@ -71,8 +77,8 @@ fn is_changed_by(
     nothing: &CodePointInversionList<'_>,
 ) -> bool {
     let mut answered = true;
-    for operation in CHANGING_NOTHING {
-        answered = operation.apply(builder, nothing).is_ok() && answered;
+    for operation in CHANGING_NOTHING.iter() {
+        answered = operation.is_applied(builder, nothing) && answered;
     }
     answered
 }
@@ -83,30 +89,30 @@ fn is_changed_by(
 /// `CodePointInversionListBuilder::complement_set`.
 #[test]
 fn sets_of_nothing_quiet(rt: HostRuntime) {
-    let Ok(nothing) = set_of(rt.alloc(), &[]) else {
+    let Some(nothing) = set_of(rt.alloc(), &[]) else {
         return;
     };
-    let Ok(mut builder) = full_builder_of(rt.alloc(), &LETTERS) else {
+    let Some(mut builder) = full_builder_of(rt.alloc(), &LETTERS) else {
         return;
     };
     say(&rt, "call");
     let answered = is_changed_by(&mut builder, &nothing);
     say(&rt, "done");
     expect(&rt, answered, "not refused");
-    expect_left(&rt, builder, &LETTERS);
+    expect_ends_of(&rt, set_built(builder), &LETTERS);
 }
 
 /// What the basic plane is asked: of code points, and beside all of them.
 fn membership() -> [bool; 6] {
-    let all = CodePointInversionList::all();
-    let bmp = CodePointInversionList::bmp();
+    let all = all();
+    let basic = basic();
     [
-        bmp.contains('A'),
-        bmp.contains32(0x1_0000),
-        bmp.contains_range('A'..),
-        all.contains_set(&bmp),
-        bmp == all,
-        bmp.is_empty(),
+        holds_char(&basic, 'A'),
+        holds(&basic, 0x1_0000),
+        holds_range(&basic, 'A'..),
+        holds_set(&all, &basic),
+        are_equal(&basic, &all),
+        is_empty(&basic),
     ]
 }
 
@@ -120,8 +126,8 @@ fn membership() -> [bool; 6] {
 fn membership_quiet(rt: HostRuntime) {
     say(&rt, "call");
     let found = membership();
-    let hash = hash_of(&CodePointInversionList::bmp());
-    let again = hash_of(&CodePointInversionList::bmp());
+    let hash = hash_of(&basic());
+    let again = hash_of(&basic());
     say(&rt, "done");
     let want = [true, false, false, true, false, false];
     expect_same(&rt, found, want, "code points and sets");
@@ -141,7 +147,7 @@ type Counts = (
 fn counted(set: &CodePointInversionList<'_>) -> Counts {
     (
         counts_of(set),
-        [set.position('A'), set.position32(0x1_0000)],
+        [place_of_char(set, 'A'), place_of(set, 0x1_0000)],
         spans_of(set, "ab"),
         [nth_of(set, 0), nth_of(set, 1)],
     )
@@ -154,7 +160,7 @@ fn counted(set: &CodePointInversionList<'_>) -> Counts {
 #[test]
 fn counts_quiet(rt: HostRuntime) {
     say(&rt, "call");
-    let found = counted(&CodePointInversionList::bmp());
+    let found = counted(&basic());
     say(&rt, "done");
     let want = (
         [0x1_0000, 1],
@@ -177,9 +183,9 @@ type Firsts = (
 fn firsts_of(set: &CodePointInversionList<'_>) -> Firsts {
     let mut ranges = set.iter_ranges();
     let counts = [ranges.len(), ranges.size_hint().0];
-    let gap = ends_of(set.iter_ranges_complemented().next());
-    let character = set.iter_chars().next();
-    (counts, ends_of(ranges.next()), gap, character)
+    let gap = next_gap(&mut set.iter_ranges_complemented());
+    let character = next_char(&mut set.iter_chars());
+    (counts, next_range(&mut ranges), gap, character)
 }
 
 /// Calls: `CodePointInversionList::iter_ranges`, `IterRanges::len`, `IterRanges::size_hint`,
@@ -188,7 +194,7 @@ fn firsts_of(set: &CodePointInversionList<'_>) -> Firsts {
 #[test]
 fn iterators_quiet(rt: HostRuntime) {
     say(&rt, "call");
-    let found = firsts_of(&CodePointInversionList::bmp());
+    let found = firsts_of(&basic());
     say(&rt, "done");
     let want = (
         [1, 1],
@@ -203,7 +209,7 @@ fn iterators_quiet(rt: HostRuntime) {
 #[test]
 fn new_builder_quiet(rt: HostRuntime) {
     say(&rt, "call");
-    let is_empty = CodePointInversionListBuilder::new(rt.alloc()).is_empty();
+    let is_empty = has_nothing(&empty_builder(rt.alloc()));
     say(&rt, "done");
     expect(&rt, is_empty, "empty");
 }
@@ -213,24 +219,25 @@ fn new_builder_quiet(rt: HostRuntime) {
 /// Calls: `codepointinvlist::deconstruct_range`, `RangeOf::deconstruct`,
 /// `codepointinvlist::is_valid_zv`, `CodePointInversionList::try_from_inversion_list`.
 #[test]
-fn lists_and_ranges_quiet(rt: HostRuntime) -> Result<(), Fail> {
-    let list = ZeroVec::<PotentialCodePoint>::parse_bytes(&[0x41, 0, 0, 0x5B, 0, 0])?;
+fn lists_and_ranges_quiet(rt: HostRuntime) {
+    let list = list_of(&rt, &[0x41, 0, 0, 0x5B, 0, 0]);
     say(&rt, "call");
     let ends = [deconstruct_range('A'..='Z'), (5..=u32::MAX).deconstruct()];
-    let is_valid = is_valid_zv(&list);
-    let is_taken = CodePointInversionList::try_from_inversion_list(rt.alloc(), list).is_ok();
+    let answers = [is_valid(&list), set_over(rt.alloc(), list).is_ok()];
     say(&rt, "done");
     expect_same(&rt, ends, [(0x41, 0x5B), (5, u32::MAX)], "ends of ranges");
-    expect(&rt, is_valid, "a valid list");
-    expect(&rt, is_taken, "a set over the list");
-    Ok(())
+    expect_same(
+        &rt,
+        answers,
+        [true, true],
+        "a valid list, and a set over it",
+    );
 }
 
 /// Whether a set of the ends that a set lends is equal to it.
 fn is_same_by_its_ends(alloc: Global, set: &CodePointInversionList<'_>) -> bool {
-    let ends = set.as_inversion_list().as_zerovec();
-    match CodePointInversionList::try_from_inversion_list(alloc, ends) {
-        Ok(same) => same == *set,
+    match set_over(alloc, set.as_inversion_list().as_zerovec()) {
+        Ok(same) => are_equal(&same, set),
         Err(_) => false,
     }
 }
@@ -239,10 +246,10 @@ fn is_same_by_its_ends(alloc: Global, set: &CodePointInversionList<'_>) -> bool 
 /// `CodePointInversionList::try_from_inversion_list`.
 #[test]
 fn lent_ends_quiet(rt: HostRuntime) {
-    let bmp = CodePointInversionList::bmp();
+    let basic = basic();
     say(&rt, "call");
-    let is_same = is_same_by_its_ends(rt.alloc(), &bmp);
-    let ends = bmp.as_inversion_list();
+    let is_same = is_same_by_its_ends(rt.alloc(), &basic);
+    let ends = basic.as_inversion_list();
     say(&rt, "done");
     expect_same(&rt, ends.as_bytes(), &[0, 0, 0, 0, 0, 1], "packed ends");
     expect(&rt, is_same, "an equal set");
