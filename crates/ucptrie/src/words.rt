@@ -40,10 +40,11 @@ const OPTION: Argument = Argument {
     help: "",
 };
 
-/// An option that takes a value of 32 bits, and is 0 where it is left out.
+/// An option that takes a value of 32 bits, as `value_parser!(u32)` tests it, and is 0 where it is
+/// left out.
 const NUMBER: Argument = Argument {
     value_name: &["N"],
-    values: ValueParser::Unsigned(0, 0xffffffff),
+    values: ValueParser::Signed(0, 0xffffffff),
     default: &["0"],
     ..OPTION
 };
