@@ -1,31 +1,50 @@
 //! Maps that are read back, and maps that are made of a trie, written to and built again.
 
-use crate::tests::support::{BOTH, expect, expect_number, expect_ranges, over_the_fast_limit};
+use crate::tests::support::{
+    BOTH, builder_of, built_by, error_of, expect, expect_number, expect_ranges, expect_same,
+    over_the_fast_limit, run_of, write_one, write_range,
+};
 use icu_collections::codepointtrie::{
-    CodePointTrie, CodePointTrieBuilder, CodePointTrieHeader, PartsError, TrieType,
+    CodePointTrie, CodePointTrieBuilder, CodePointTrieHeader, TrieType, TrieValue,
 };
 use icu_collections::zerovec::MemoryError;
-use std::alloc::Global;
+use std::ops::RangeInclusive;
 use std::process::Abort;
 
+/// Writes a value at each code point of a range, for which there is memory.
+fn write<T: TrieValue>(
+    rt: &impl Abort,
+    builder: &mut CodePointTrieBuilder<T>,
+    range: RangeInclusive<u32>,
+    value: T,
+) {
+    expect(rt, write_range(builder, range, value).is_ok(), "a range");
+}
+
 /// A map of 5 with 8 and 11 in ranges that touch, 7 over the fast limit, and 10 at one code point.
-fn written(alloc: Global) -> Result<CodePointTrieBuilder<u16>, MemoryError> {
-    let mut builder = CodePointTrieBuilder::new(alloc, 5u16, 6, TrieType::Small);
-    builder.set_range_value(0x1000..=0x1FFF, 8)?;
-    builder.set_range_value(0x1FFF..=0x2000, 11)?;
-    builder.set_range_value(0xFFC8..=0x1000F, 7)?;
-    builder.set_value(0x20000, 10)?;
-    Ok(builder)
+fn written(rt: &(impl Abort + AllocGlobal)) -> CodePointTrieBuilder<u16> {
+    let mut builder = builder_of(rt.alloc(), TrieType::Small, (5u16, 6));
+    write(rt, &mut builder, 0x1000..=0x1FFF, 8);
+    write(rt, &mut builder, 0x1FFF..=0x2000, 11);
+    write(rt, &mut builder, 0xFFC8..=0x1000F, 7);
+    let one = write_one(&mut builder, 0x20000, 10);
+    expect(rt, one.is_ok(), "one");
+    builder
 }
 
-/// The end and the value of the range from a code point on.
-fn end_and_value(builder: &CodePointTrieBuilder<u16>, start: u32) -> Option<(u32, u16)> {
-    let range = builder.get_range(start)?;
-    Some((*range.range.end(), range.value))
+/// The end and the number of the range from a code point on.
+fn end_and_number(builder: &CodePointTrieBuilder<u16>, start: u32) -> Option<(u32, u32)> {
+    match builder.get_range(start) {
+        Some(range) => {
+            let (_, end, number) = run_of(&range);
+            Some((end, number))
+        }
+        None => None,
+    }
 }
 
-/// Code points, and where the range from there on ends and which value it has.
-const RANGES: [(u32, Option<(u32, u16)>); 14] = [
+/// Code points, and where the range from there on ends and which number it has.
+const RANGES: [(u32, Option<(u32, u32)>); 14] = [
     (0, Some((0xFFF, 5))),
     (0xFFF, Some((0xFFF, 5))),
     (0x1000, Some((0x1FFE, 8))),
@@ -45,8 +64,8 @@ const RANGES: [(u32, Option<(u32, u16)>); 14] = [
 /// The ranges of a map that was written to.
 fn expect_written_ranges(rt: &impl Abort, builder: &CodePointTrieBuilder<u16>) {
     for (start, wanted) in RANGES {
-        let same = end_and_value(builder, start) == wanted;
-        expect(rt, same, "a range");
+        let found = end_and_number(builder, start);
+        expect_same(rt, (start, found), (start, wanted), "a range");
     }
 }
 
@@ -60,34 +79,44 @@ fn expect_answers(rt: &impl Abort, builder: &CodePointTrieBuilder<u16>, expected
 /// Values and ranges at the borders of what was written, and above the code space.
 #[test]
 fn a_map_is_read(rt: HostRuntime) {
-    match written(rt.alloc()) {
-        Ok(builder) => {
-            expect_written_ranges(&rt, &builder);
-            let expected = [
-                (0xFFF, 5),
-                (0x1000, 8),
-                (0x1FFE, 8),
-                (0x2000, 11),
-                (0x2001, 5),
-                (0xFFFF, 7),
-                (0x10000, 7),
-                (0x20000, 10),
-                (0x10FFFF, 5),
-                (0x110000, 6),
-                (0xFFFFFFFF, 6),
-            ];
-            expect_answers(&rt, &builder, &expected);
-        }
-        Err(MemoryError) => expect(&rt, false, "not written"),
+    let builder = written(&rt);
+    expect_written_ranges(&rt, &builder);
+    let expected = [
+        (0xFFF, 5),
+        (0x1000, 8),
+        (0x1FFE, 8),
+        (0x2000, 11),
+        (0x2001, 5),
+        (0xFFFF, 7),
+        (0x10000, 7),
+        (0x20000, 10),
+        (0x10FFFF, 5),
+        (0x110000, 6),
+        (0xFFFFFFFF, 6),
+    ];
+    expect_answers(&rt, &builder, &expected);
+}
+
+/// The map of a trie.
+fn map_of(
+    rt: &(impl Abort + AllocGlobal),
+    trie: &CodePointTrie<'_, u8>,
+) -> CodePointTrieBuilder<u8> {
+    match CodePointTrieBuilder::from_trie(rt.alloc(), trie) {
+        Ok(builder) => builder,
+        Err(MemoryError) => rt.panic("no map"),
     }
 }
 
 /// The trie with 3 in a range that it had nothing in, and 0 in a part of another.
-fn amended(alloc: Global, trie: &CodePointTrie<'_, u8>) -> Option<CodePointTrie<'static, u8>> {
-    let mut builder = CodePointTrieBuilder::from_trie(alloc, trie).ok()?;
-    builder.set_range_value(0x41..=0x5A, 3).ok()?;
-    builder.set_range_value(0xFFFF..=0x10001, 0).ok()?;
-    builder.build().ok()
+fn amended(
+    rt: &(impl Abort + AllocGlobal),
+    trie: &CodePointTrie<'_, u8>,
+) -> CodePointTrie<'static, u8> {
+    let mut builder = map_of(rt, trie);
+    write(rt, &mut builder, 0x41..=0x5A, 3);
+    write(rt, &mut builder, 0xFFFF..=0x10001, 0);
+    built_by(rt, builder)
 }
 
 /// A trie that was built is amended: what was not written to stays.
@@ -104,16 +133,14 @@ fn a_built_trie_is_amended(rt: HostRuntime) {
         (0x10010, 0x10FFFF, 0),
     ];
     for trie_type in BOTH {
-        match amended(rt.alloc(), &over_the_fast_limit(&rt, trie_type)) {
-            Some(trie) => expect_ranges(&rt, &trie, &ranges),
-            None => expect(&rt, false, "not amended"),
-        }
+        let trie = over_the_fast_limit(&rt, trie_type);
+        expect_ranges(&rt, &amended(&rt, &trie), &ranges);
     }
 }
 
 /// A trie of 7 below 0x1000 and 8 from 0x2000 on, whose header names the blocks of 7 as blocks of 4
 /// and which has no cells between: the format answers nothing there.
-fn misnamed(alloc: Global) -> Result<CodePointTrie<'static, u8>, PartsError> {
+fn misnamed(rt: &(impl Abort + AllocGlobal)) -> CodePointTrie<'static, u8> {
     let header = CodePointTrieHeader {
         high_start: 0x2000,
         shifted12_high_start: 2,
@@ -125,24 +152,17 @@ fn misnamed(alloc: Global) -> Result<CodePointTrie<'static, u8>, PartsError> {
     let mut values = [7u8; 66];
     values[64] = 8;
     values[65] = 9;
-    CodePointTrie::alloc_from_slices(alloc, header, &[0; 64], &values)
+    match CodePointTrie::alloc_from_slices(rt.alloc(), header, &[0; 64], &values) {
+        Ok(trie) => trie,
+        Err(_) => rt.panic("no trie"),
+    }
 }
 
 /// A trie that is not coherent becomes the map of its look-ups, which is then built anew.
-fn built_again(alloc: Global) -> Option<CodePointTrie<'static, u8>> {
-    let trie = misnamed(alloc).ok()?;
-    let builder = CodePointTrieBuilder::from_trie(alloc, &trie).ok()?;
-    builder.build().ok()
-}
-
 #[test]
 fn a_trie_with_a_lying_header_is_taken_by_its_look_ups(rt: HostRuntime) {
-    match built_again(rt.alloc()) {
-        Some(trie) => {
-            let ranges = [(0, 0xFFF, 7), (0x1000, 0x1FFF, 9), (0x2000, 0x10FFFF, 8)];
-            expect_ranges(&rt, &trie, &ranges);
-            expect(&rt, trie.error_value() == 9, "error value");
-        }
-        None => expect(&rt, false, "not built"),
-    }
+    let trie = built_by(&rt, map_of(&rt, &misnamed(&rt)));
+    let ranges = [(0, 0xFFF, 7), (0x1000, 0x1FFF, 9), (0x2000, 0x10FFFF, 8)];
+    expect_ranges(&rt, &trie, &ranges);
+    expect(&rt, error_of(&trie) == 9, "error value");
 }

@@ -2,13 +2,13 @@
 //! before.
 
 use crate::tests::support::{
-    BOTH, built, expect, expect_cells, expect_map, expect_number, expect_numbers, expect_ranges,
+    BOTH, Written, all_of, append, ascending, built, expect, expect_cells, expect_map,
+    expect_number, expect_numbers, expect_ranges, expect_same, sizes_of, trie_of,
 };
 use icu_collections::codepointtrie::json::to_json;
 use icu_collections::codepointtrie::{CodePointTrie, TrieType, Write};
-use std::alloc::{AllocError, Global};
+use std::alloc::Global;
 use std::process::Abort;
-use std::test::Fail;
 
 /// A number of the header of a trie, in its JSON form.
 fn in_json(alloc: Global, trie: &CodePointTrie<'_, u8>, key: &str) -> Option<u64> {
@@ -19,20 +19,21 @@ fn in_json(alloc: Global, trie: &CodePointTrie<'_, u8>, key: &str) -> Option<u64
 /// The null block of the trie holds this number, and blocks of 512 hold nothing else; its JSON form
 /// says the same.
 fn expect_null(rt: &(impl Abort + AllocGlobal), trie: &CodePointTrie<'_, u8>, null_value: u32) {
-    let (header, _, _) = trie.parts();
-    let offsets = (
-        u64::from(header.data_null_offset),
-        u64::from(header.index3_null_offset),
-    );
+    let (header, _, _) = sizes_of(trie);
     expect_number(rt, 0, header.null_value, null_value);
-    expect(rt, offsets.0 != 0xfffff, "no null block");
-    expect(rt, offsets.1 != 0x7fff, "no null block of 512");
-    for (key, want) in [
+    expect(rt, header.data_null_offset != 0xfffff, "no null block");
+    expect(
+        rt,
+        header.index3_null_offset != 0x7fff,
+        "no null block of 512",
+    );
+    for (key, number) in [
         ("null_value", u64::from(null_value)),
-        ("data_null_offset", offsets.0),
-        ("index3_null_offset", offsets.1),
+        ("data_null_offset", u64::from(header.data_null_offset)),
+        ("index3_null_offset", u64::from(header.index3_null_offset)),
     ] {
-        expect(rt, in_json(rt.alloc(), trie, key) == Some(want), key);
+        let found = in_json(rt.alloc(), trie, key);
+        expect_same(rt, (key, found), (key, Some(number)), "in JSON");
     }
 }
 
@@ -93,68 +94,55 @@ fn null_block_over_the_last_cells(rt: HostRuntime) {
 }
 
 /// A hundred blocks of 16, each of which begins with the last eight numbers of the one before.
-fn overlapping_writes(alloc: Global) -> Result<Vec<Write<u16>>, AllocError> {
-    let mut writes = Vec::new(alloc);
-    for k in 0..100u16 {
-        for j in 0..16u16 {
-            let c = 0x10000 + 16 * u32::from(k) + u32::from(j);
-            writes.push(Write::One(c, 8 * k + j + 1))?;
-        }
+fn overlapping_writes(rt: &(impl Abort + AllocGlobal)) -> Vec<Written> {
+    let mut writes = Vec::new(rt.alloc());
+    for k in 0..100u32 {
+        let first = 0x10000 + 16 * k;
+        append(rt, &mut writes, ascending(first, first + 15, 8 * k + 1));
     }
-    Ok(writes)
+    writes
 }
 
 /// Blocks that overlap take the cells that they have in common once.
 #[test]
-fn overlapping_data_blocks(rt: HostRuntime) -> Result<(), Fail> {
-    let writes = overlapping_writes(rt.alloc())?;
+fn overlapping_data_blocks(rt: HostRuntime) {
+    let writes = overlapping_writes(&rt);
     let expected = [(0x10000, 1), (0x10010, 9), (0x1063F, 808), (0x10640, 0)];
     for trie_type in BOTH {
-        let trie = built(&rt, trie_type, (0, 9), &writes);
+        let trie = trie_of::<u16>(&rt, trie_type, &writes, u32::MAX);
         expect_cells(&rt, &trie, usize::MAX, 1000);
         expect_numbers(&rt, &trie, &expected);
     }
-    Ok(())
 }
 
 /// Blocks of 16 that stand in a block of 64 below the fast limit, at places that are no multiple of
 /// 16, take no cells.
 #[test]
-fn small_blocks_in_a_fast_block(rt: HostRuntime) -> Result<(), Fail> {
-    let mut writes = Vec::new(rt.alloc());
-    for j in 0..64u32 {
-        writes.push(Write::One(0x400 + j, j + 1))?;
-    }
-    for j in 0..16u32 {
-        writes.push(Write::One(0x20000 + j, j + 8))?;
-    }
-    let trie = built(&rt, TrieType::Fast, (0, 9), &writes);
+fn small_blocks_in_a_fast_block(rt: HostRuntime) {
+    let writes = [ascending(0x400, 0x43F, 1), ascending(0x20000, 0x2000F, 8)];
+    let trie = trie_of::<u32>(&rt, TrieType::Fast, &writes, u32::MAX);
     expect_cells(&rt, &trie, usize::MAX, 194);
     let expected = [(0x43F, 64), (0x20000, 8), (0x2000F, 23), (0x20010, 0)];
     expect_numbers(&rt, &trie, &expected);
-    expect(&rt, writes.len() == 80, "writes");
-    Ok(())
 }
 
 /// A hundred blocks of 512, each of 32 blocks of 16 of one value, of which the first sixteen are
 /// the last sixteen of the block before.
-fn overlapping_index_writes(alloc: Global) -> Result<Vec<Write<u16>>, AllocError> {
-    let mut writes = Vec::new(alloc);
-    for k in 0..100u16 {
-        for p in 0..32u16 {
-            let first = 0x10000 + 512 * u32::from(k) + 16 * u32::from(p);
-            writes.push(Write::Range(first..=first + 15, 16 * k + p + 1))?;
+fn overlapping_index_writes(rt: &(impl Abort + AllocGlobal)) -> Vec<Written> {
+    let mut writes = Vec::new(rt.alloc());
+    for k in 0..100u32 {
+        for p in 0..32u32 {
+            let first = 0x10000 + 512 * k + 16 * p;
+            append(rt, &mut writes, all_of(first, first + 15, 16 * k + p + 1));
         }
     }
-    Ok(writes)
+    writes
 }
 
 /// Index-3 blocks that overlap take the cells that they have in common once.
 #[test]
-fn overlapping_index_blocks(rt: HostRuntime) -> Result<(), Fail> {
-    let writes = overlapping_index_writes(rt.alloc())?;
-    let trie = built(&rt, TrieType::Fast, (0, 9), &writes);
-    expect_cells(&rt, &trie, 3000, usize::MAX);
+fn overlapping_index_blocks(rt: HostRuntime) {
+    let writes = overlapping_index_writes(&rt);
     let expected = [
         (0xFFFF, 0),
         (0x10000, 1),
@@ -163,8 +151,9 @@ fn overlapping_index_blocks(rt: HostRuntime) -> Result<(), Fail> {
         (0x1C7FF, 1616),
         (0x1C800, 0),
     ];
-    for trie_type in BOTH {
-        expect_numbers(&rt, &built(&rt, trie_type, (0, 9), &writes), &expected);
+    for (trie_type, most_index) in [(TrieType::Fast, 3000), (TrieType::Small, usize::MAX)] {
+        let trie = trie_of::<u16>(&rt, trie_type, &writes, u32::MAX);
+        expect_cells(&rt, &trie, most_index, usize::MAX);
+        expect_numbers(&rt, &trie, &expected);
     }
-    Ok(())
 }

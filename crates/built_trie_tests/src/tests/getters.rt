@@ -1,6 +1,8 @@
 //! Every getter of a trie, values of every type, parts and copies.
 
-use crate::tests::support::{BOTH, built, expect, expect_number, expect_same};
+use crate::tests::support::{
+    BOTH, are_same, built, expect, expect_number, expect_same, lent, number_at, sizes_of,
+};
 use icu_collections::codepointtrie::{CodePointTrie, TrieType, TrieValue, Write};
 use std::alloc::Global;
 use std::process::Abort;
@@ -13,8 +15,9 @@ fn expect_signed<T: TrieValue>(
     numbers: (u32, u32),
 ) {
     expect(rt, trie.get32(0x20000) == value, "the value");
-    expect_number(rt, 0x20000, trie.get32_u32(0x20000), numbers.0);
-    expect_number(rt, 0x110000, trie.get32_u32(0x110000), numbers.1);
+    for (c, number) in [(0x20000, numbers.0), (0x110000, numbers.1)] {
+        expect_number(rt, c, trie.get32_u32(c), number);
+    }
 }
 
 /// A negative value keeps its sign, and has the number of its two's complement of 32 bits.
@@ -99,22 +102,16 @@ fn five(
     built(rt, trie_type, (0, error), &[Write::One(0x20000, 5)])
 }
 
-/// The trie of the parts of this one, which it borrows.
-fn lent<'a>(trie: &'a CodePointTrie<'_, u16>) -> Option<CodePointTrie<'a, u16>> {
-    let (header, index, data) = trie.parts();
-    CodePointTrie::try_new(header, index.as_zerovec(), data.as_zerovec()).ok()
-}
-
 /// Whether a trie of the parts of this one, which it borrows, equals it, and a copy of that one
 /// does too, and both have 5 at 0x20000.
-fn are_equal(alloc: Global, trie: &CodePointTrie<'_, u16>) -> Option<(bool, bool, u16, u16)> {
+fn are_equal(alloc: Global, trie: &CodePointTrie<'_, u16>) -> Option<(bool, bool, u32, u32)> {
     let lent = lent(trie)?;
     let copy = lent.try_clone(alloc).ok()?;
     Some((
-        lent == *trie,
-        copy == *trie,
-        lent.get32(0x20000),
-        copy.get32(0x20000),
+        are_same(&lent, trie),
+        are_same(&copy, trie),
+        number_at(&lent, 0x20000),
+        number_at(&copy, 0x20000),
     ))
 }
 
@@ -124,9 +121,10 @@ fn are_equal(alloc: Global, trie: &CodePointTrie<'_, u16>) -> Option<(bool, bool
 fn parts_and_copies(rt: HostRuntime) {
     for trie_type in BOTH {
         let trie = five(&rt, trie_type, 9);
-        expect(&rt, trie.parts().0.trie_type == trie_type, "type");
+        let (header, _, _) = sizes_of(&trie);
+        expect(&rt, header.trie_type == trie_type, "type");
         let found = are_equal(rt.alloc(), &trie);
-        expect(&rt, found == Some((true, true, 5, 5)), "lent, and a copy");
+        expect_same(&rt, found, Some((true, true, 5, 5)), "lent, and a copy");
         let other = five(&rt, trie_type, 8);
         expect(&rt, other != trie, "error values");
     }

@@ -1,11 +1,12 @@
 //! Ranges and tries under a map of the values, of built tries.
 
-use crate::tests::support::{BOTH, built, expect, expect_same, over_the_fast_limit};
+use crate::tests::support::{
+    BOTH, built, error_of, expect, expect_ranges, expect_same, over_the_fast_limit,
+};
 use icu_collections::codepointtrie::{CodePointMapRange, CodePointTrie, MapError, TrieType};
 use std::fmt::Debug;
 use std::ops::RangeInclusive;
 use std::process::Abort;
-use std::test::Fail;
 
 /// The range of a value.
 fn with<T>(range: RangeInclusive<u32>, value: T) -> CodePointMapRange<T> {
@@ -13,49 +14,61 @@ fn with<T>(range: RangeInclusive<u32>, value: T) -> CodePointMapRange<T> {
 }
 
 /// What was found is what is wanted, in its order.
-fn expect_items<T: PartialEq + Debug + Drop>(rt: &impl Abort, found: Vec<T>, wanted: &[T]) {
-    expect_same(rt, found.as_slice(), wanted, "the items");
+fn expect_items<T: PartialEq + Debug + Drop, E>(
+    rt: &impl Abort,
+    found: Result<Vec<T>, E>,
+    wanted: &[T],
+) {
+    match found {
+        Ok(found) => expect_same(rt, found.as_slice(), wanted, "the items"),
+        Err(_) => rt.panic("no memory"),
+    }
 }
 
 #[test]
-fn runs_over_the_fast_limit(rt: HostRuntime) -> Result<(), Fail> {
+fn runs_over_the_fast_limit(rt: HostRuntime) {
     let trie = over_the_fast_limit(&rt, TrieType::Fast);
-    let ones = trie.iter_ranges_for_value(1).collect(rt.alloc())?;
+    let ones = trie.iter_ranges_for_value(1).collect::<Vec<_>>(rt.alloc());
     expect_items(&rt, ones, &[0xFFC0..=0xFFCF, 0x10000..=0x1000F]);
-    let mapped = trie.iter_ranges_mapped(|v| v != 0).collect(rt.alloc())?;
+    let mapped = trie
+        .iter_ranges_mapped(|v| v != 0)
+        .collect::<Vec<_>>(rt.alloc());
     let wanted = [
         with(0..=0xFFBF, false),
         with(0xFFC0..=0x1000F, true),
         with(0x10010..=0x10FFFF, false),
     ];
     expect_items(&rt, mapped, &wanted);
-    Ok(())
 }
 
-/// The trie of 7 for all and the error value 9, one higher.
-fn expect_one_higher(
+/// A trie of 7 for all with the error value 9.
+fn seven(rt: &(impl Abort + AllocGlobal), trie_type: TrieType) -> CodePointTrie<'static, u8> {
+    built(rt, trie_type, (7u8, 9), &[])
+}
+
+/// The trie with each value one higher.
+fn one_higher(
     rt: &(impl Abort + AllocGlobal),
-    trie: CodePointTrie<'_, u16>,
-) -> Result<(), Fail> {
-    expect(rt, trie.get32(0x110000) == 10, "error value");
-    let ranges = trie.iter_ranges().collect(rt.alloc())?;
-    expect_items(rt, ranges, &[with(0..=0x10FFFF, 8u16)]);
-    Ok(())
+    trie: &CodePointTrie<'_, u8>,
+) -> CodePointTrie<'static, u16> {
+    let next = trie.try_alloc_map_value(rt.alloc(), |v: u8| Ok::<u16, u8>(u16::from(v) + 1));
+    match next {
+        Ok(next) => next,
+        Err(_) => rt.panic("not mapped"),
+    }
 }
 
 #[test]
-fn one_default_for_all(rt: HostRuntime) -> Result<(), Fail> {
+fn one_default_for_all(rt: HostRuntime) {
     for trie_type in BOTH {
-        let trie = built(&rt, trie_type, (7u8, 9), &[]);
-        let next = trie.try_alloc_map_value(rt.alloc(), |v: u8| Ok::<u16, u8>(u16::from(v) + 1))?;
-        expect_one_higher(&rt, next)?;
+        let next = one_higher(&rt, &seven(&rt, trie_type));
+        expect_same(&rt, error_of(&next), 10, "error value");
+        expect_ranges(&rt, &next, &[(0, 0x10FFFF, 8)]);
     }
-    Ok(())
 }
 
 /// The error value is the first that is asked for, and no call follows its refusal.
-fn expect_refusal_of_nine(rt: &(impl Abort + AllocGlobal), trie_type: TrieType) {
-    let trie = built(rt, trie_type, (7u8, 9), &[]);
+fn expect_refusal_of_nine(rt: &(impl Abort + AllocGlobal), trie: &CodePointTrie<'_, u8>) {
     let mut calls = 0u32;
     let answer = trie.try_alloc_map_value(rt.alloc(), |v: u8| {
         calls = calls.saturating_add(1);
@@ -69,6 +82,6 @@ fn expect_refusal_of_nine(rt: &(impl Abort + AllocGlobal), trie_type: TrieType) 
 #[test]
 fn refused_error_value(rt: HostRuntime) {
     for trie_type in BOTH {
-        expect_refusal_of_nine(&rt, trie_type);
+        expect_refusal_of_nine(&rt, &seven(&rt, trie_type));
     }
 }

@@ -1,10 +1,11 @@
 //! Maps of random writes, built and asked beside a list of the writes.
 
-use crate::tests::support::{BOTH, Random, built, expect, expect_number, expect_same};
-use icu_collections::codepointtrie::{CodePointTrie, TrieType, Write};
-use std::alloc::{AllocError, Global};
+use crate::tests::support::{
+    BOTH, Random, Written, all_of, append, expect, expect_number, expect_same, number_at, run_list,
+    sizes_of, sort, trie_of,
+};
+use icu_collections::codepointtrie::{CodePointTrie, TrieType};
 use std::process::Abort;
-use std::test::Fail;
 
 /// Places near which something may go wrong.
 const PLACES: [u32; 16] = [
@@ -36,37 +37,23 @@ fn random_value(random: &mut Random, is_wide: bool) -> u32 {
     }
 }
 
-/// A write: its range and its value.
-#[derive(Clone, Copy)]
-struct Written {
-    first: u32,
-    last: u32,
-    value: u32,
-}
-
-/// Up to 24 random writes.
+/// Up to 24 random writes, each of one value.
 fn random_writes(
-    alloc: Global,
+    rt: &(impl Abort + AllocGlobal),
     random: &mut Random,
     is_wide: bool,
-) -> Result<Vec<Written>, AllocError> {
-    let mut writes = Vec::new(alloc);
+) -> Vec<Written> {
+    let mut writes = Vec::new(rt.alloc());
     for _ in 0..random.next() % 24 {
         let first = random_place(random);
         let last = first.saturating_add(random_length(random));
-        let value = random_value(random, is_wide);
-        writes.push(Written { first, last, value })?;
+        append(
+            rt,
+            &mut writes,
+            all_of(first, last, random_value(random, is_wide)),
+        );
     }
-    Ok(writes)
-}
-
-/// The same as the builder takes them.
-fn builder_writes(alloc: Global, writes: &[Written]) -> Result<Vec<Write<u32>>, AllocError> {
-    let mut taken = Vec::new(alloc);
-    for write in writes {
-        taken.push(Write::Range(write.first..=write.last, write.value))?;
-    }
-    Ok(taken)
+    writes
 }
 
 /// The value of a code point: that of the last write over it, and 0 where there is none.
@@ -74,27 +61,27 @@ fn value_of(writes: &[Written], c: u32) -> u32 {
     let mut value = 0;
     for write in writes {
         if write.first <= c && c <= write.last {
-            value = write.value;
+            value = write.number;
         }
     }
     value
 }
 
 /// The code points at which a write begins or has ended, ascending.
-fn borders_of(alloc: Global, writes: &[Written]) -> Result<Vec<u32>, AllocError> {
-    let mut borders = Vec::new(alloc);
+fn borders_of(rt: &(impl Abort + AllocGlobal), writes: &[Written]) -> Vec<u32> {
+    let mut borders = Vec::new(rt.alloc());
     for write in writes {
-        borders.push(write.first.min(0x10FFFF))?;
-        borders.push(write.last.saturating_add(1).min(0x10FFFF))?;
+        append(rt, &mut borders, write.first.min(0x10FFFF));
+        append(rt, &mut borders, write.last.saturating_add(1).min(0x10FFFF));
     }
-    borders.sort()?;
-    Ok(borders)
+    sort(rt, &mut borders);
+    borders
 }
 
 /// The trie has the value of this code point.
 fn expect_value(rt: &impl Abort, trie: &CodePointTrie<'_, u32>, writes: &[Written], c: u32) {
     let wanted = if c > 0x10FFFF { 9 } else { value_of(writes, c) };
-    expect_number(rt, c, trie.get32(c), wanted);
+    expect_number(rt, c, number_at(trie, c), wanted);
 }
 
 /// It has them round every border, and at random code points.
@@ -116,23 +103,18 @@ fn expect_values(
 }
 
 /// Its ranges are whole, have the values of the writes, and end where the value changes.
-fn expect_runs(
-    rt: &impl Abort,
-    trie: &CodePointTrie<'_, u32>,
-    writes: &[Written],
-    borders: &[u32],
-) {
+fn expect_runs(rt: &impl Abort, runs: &[(u32, u32, u32)], writes: &[Written], borders: &[u32]) {
     let mut next = 0u32;
-    for range in trie.iter_ranges() {
-        let (first, last) = (*range.range.start(), *range.range.end());
+    for (first, last, number) in runs {
+        let (first, last, number) = (*first, *last, *number);
         expect_same(rt, first, next, "no gap");
-        expect_number(rt, first, range.value, value_of(writes, first));
+        expect_number(rt, first, number, value_of(writes, first));
         next = last.saturating_add(1);
-        let goes_on = next <= 0x10FFFF && value_of(writes, next) == range.value;
+        let goes_on = next <= 0x10FFFF && value_of(writes, next) == number;
         expect_same(rt, (last, goes_on), (last, false), "not cut");
         for border in borders {
             if first <= *border && *border <= last {
-                expect_number(rt, *border, range.value, value_of(writes, *border));
+                expect_number(rt, *border, number, value_of(writes, *border));
             }
         }
     }
@@ -168,49 +150,44 @@ fn expect_few_cells(
     let most = fast
         .saturating_mul(64)
         .saturating_add(small.saturating_mul(16));
-    let (_, _, data) = trie.parts();
-    let found = data.len();
-    expect(rt, found <= most.saturating_add(160), "cells of data");
+    let (_, _, data) = sizes_of(trie);
+    expect(rt, data <= most.saturating_add(160), "cells of data");
+}
+
+/// Where the fast blocks of a trie end.
+fn limit_of(trie_type: TrieType) -> u32 {
+    match trie_type {
+        TrieType::Fast => 0x10000,
+        TrieType::Small => 0x1000,
+    }
 }
 
 /// Builds the tries of a random map and asks them.
-fn ask_random_map(
-    rt: &(impl Abort + AllocGlobal),
-    random: &mut Random,
-    is_wide: bool,
-) -> Result<(), Fail> {
-    let writes = random_writes(rt.alloc(), random, is_wide)?;
-    let borders = borders_of(rt.alloc(), &writes)?;
-    let taken = builder_writes(rt.alloc(), &writes)?;
+fn ask_random_map(rt: &(impl Abort + AllocGlobal), random: &mut Random, is_wide: bool) {
+    let writes = random_writes(rt, random, is_wide);
+    let borders = borders_of(rt, &writes);
     for trie_type in BOTH {
-        let limit = match trie_type {
-            TrieType::Fast => 0x10000,
-            TrieType::Small => 0x1000,
-        };
-        let trie = built(rt, trie_type, (0, 9), &taken);
+        let trie = trie_of::<u32>(rt, trie_type, &writes, u32::MAX);
         expect_values(rt, &trie, &writes, &borders, random);
-        expect_runs(rt, &trie, &writes, &borders);
-        expect_few_cells(rt, &trie, limit, &writes, &borders);
+        expect_runs(rt, &run_list(rt, &trie), &writes, &borders);
+        expect_few_cells(rt, &trie, limit_of(trie_type), &writes, &borders);
     }
-    Ok(())
 }
 
 /// Maps of few values, whose blocks are often equal.
 #[test]
-fn maps_of_few_values(rt: HostRuntime) -> Result<(), Fail> {
+fn maps_of_few_values(rt: HostRuntime) {
     let mut random = Random::new(1);
     for _ in 0..100 {
-        ask_random_map(&rt, &mut random, false)?;
+        ask_random_map(&rt, &mut random, false);
     }
-    Ok(())
 }
 
 /// Maps of many values.
 #[test]
-fn maps_of_many_values(rt: HostRuntime) -> Result<(), Fail> {
+fn maps_of_many_values(rt: HostRuntime) {
     let mut random = Random::new(2);
     for _ in 0..100 {
-        ask_random_map(&rt, &mut random, true)?;
+        ask_random_map(&rt, &mut random, true);
     }
-    Ok(())
 }

@@ -1,13 +1,11 @@
 //! Ranges and value sets of built tries, and values at the borders of what was written.
 
 use crate::tests::support::{
-    BOTH, expect, expect_map, expect_ranges, expect_same, is_range, over_the_fast_limit,
+    BOTH, expect, expect_ends, expect_map, expect_ranges, expect_same, over_the_fast_limit, run_of,
 };
+use icu_collections::codepointinvlist::CodePointInversionList;
 use icu_collections::codepointtrie::{CodePointTrie, Write};
-use icu_collections::zerovec::MemoryError;
-use std::alloc::Global;
 use std::process::Abort;
-use std::test::Fail;
 
 /// A write of the default value counts as any other.
 #[test]
@@ -61,8 +59,16 @@ fn writes_at_the_end_of_the_code_space(rt: HostRuntime) {
     expect_map(&rt, 0, &writes, &ranges, &numbers);
 }
 
+/// The range from a code point on.
+fn run_at(trie: &CodePointTrie<'_, u8>, c: u32) -> Option<(u32, u32, u32)> {
+    match trie.get_range(c) {
+        Some(range) => Some(run_of(&range)),
+        None => None,
+    }
+}
+
 /// The trie's ranges, and the range that ends at the fast limit and that of no code point.
-fn expect_over_the_fast_limit(rt: &impl Abort, trie: &CodePointTrie<'_, u8>) {
+fn expect_over_the_fast_limit(rt: &(impl Abort + AllocGlobal), trie: &CodePointTrie<'_, u8>) {
     let ranges = [
         (0, 0xFFBF, 0),
         (0xFFC0, 0xFFCF, 1),
@@ -71,12 +77,9 @@ fn expect_over_the_fast_limit(rt: &impl Abort, trie: &CodePointTrie<'_, u8>) {
         (0x10010, 0x10FFFF, 0),
     ];
     expect_ranges(rt, trie, &ranges);
-    let found = match trie.get_range(0xFFD0) {
-        Some(range) => is_range(&range, (0xFFD0, 0xFFFF, 2)),
-        None => false,
-    };
-    expect(rt, found, "at ffd0");
-    expect(rt, trie.get_range(0x110000).is_none(), "at 110000");
+    let found = run_at(trie, 0xFFD0);
+    expect_same(rt, found, Some((0xFFD0, 0xFFFF, 2)), "at ffd0");
+    expect_same(rt, run_at(trie, 0x110000), None, "at 110000");
 }
 
 #[test]
@@ -86,14 +89,16 @@ fn ranges_over_the_fast_limit(rt: HostRuntime) {
     }
 }
 
-/// The ends of the set of a value.
-fn set_of(alloc: Global, trie: &CodePointTrie<'_, u8>, value: u8) -> Result<Vec<u32>, MemoryError> {
-    let set = trie.get_set_for_value(alloc, value)?;
-    set.get_inversion_list_vec(alloc)
-}
-
-fn expect_ends(rt: &impl Abort, found: &[u32], wanted: &[u32]) {
-    expect_same(rt, found, wanted, "the ends");
+/// The set of a value.
+fn set_of(
+    rt: &(impl Abort + AllocGlobal),
+    trie: &CodePointTrie<'_, u8>,
+    value: u8,
+) -> CodePointInversionList<'static> {
+    match trie.get_set_for_value(rt.alloc(), value) {
+        Ok(set) => set,
+        Err(_) => rt.panic("no set"),
+    }
 }
 
 /// Values, and the ends of their sets.
@@ -104,12 +109,11 @@ static SETS: [(u8, &[u32]); 3] = [
 ];
 
 #[test]
-fn sets_over_the_fast_limit(rt: HostRuntime) -> Result<(), Fail> {
+fn sets_over_the_fast_limit(rt: HostRuntime) {
     for trie_type in BOTH {
         let trie = over_the_fast_limit(&rt, trie_type);
         for (value, ends) in SETS.iter() {
-            expect_ends(&rt, &set_of(rt.alloc(), &trie, *value)?, ends);
+            expect_ends(&rt, &set_of(&rt, &trie, *value), ends);
         }
     }
-    Ok(())
 }

@@ -3,11 +3,13 @@
 //! refuses nothing: a refusal between the lines `call` and `done` has to be answered by the line
 //! `refused`. In a test whose name ends in `_quiet` nothing is asked for between the two.
 
-use crate::tests::support::{expect, expect_numbers, expect_ranges, is_range};
+use crate::tests::support::{
+    are_same, build, builder_of, expect, expect_numbers, expect_same, lent, run_of, runs_of,
+    try_built, write_one, write_range,
+};
 use icu_collections::codepointinvlist::CodePointInversionList;
 use icu_collections::codepointtrie::{
     ApplyRefused, BuildError, CodePointTrie, CodePointTrieBuilder, TrieType, Write,
-    build_from_writes,
 };
 use icu_collections::zerovec::MemoryError;
 use std::alloc::Global;
@@ -29,12 +31,12 @@ fn say_if_refused(rt: &(impl Abort + Print), refused: bool) {
 
 /// A builder of a map of 0.
 fn builder_of_nothing(alloc: Global) -> CodePointTrieBuilder<u8> {
-    CodePointTrieBuilder::new(alloc, 0, 9, TrieType::Small)
+    builder_of(alloc, TrieType::Small, (0, 9))
 }
 
 /// The trie of 1 at 0x41. `None` where memory was refused.
 fn trie_of_one(alloc: Global) -> Option<CodePointTrie<'static, u8>> {
-    build_from_writes(alloc, 0, 9, TrieType::Small, &[Write::One(0x41, 1)]).ok()
+    try_built(alloc, TrieType::Small, (0, 9), &[Write::One(0x41, 1)]).ok()
 }
 
 /// Code points and their values: in many blocks, in both halves of the code space.
@@ -57,28 +59,36 @@ const POINTS: [(u32, u8); 16] = [
     (0xE_01EF, 3),
 ];
 
-/// Gives the code points their values, up to the first that is refused, at most `count` of them:
+/// What a write is of: a code point of `POINTS`, or the range of 0x334 code points from there on,
+/// which begins and ends within blocks.
+#[derive(Clone, Copy)]
+enum Shape {
+    Point,
+    Range,
+}
+
+/// One such write.
+fn write(
+    builder: &mut CodePointTrieBuilder<u8>,
+    shape: Shape,
+    c: u32,
+    value: u8,
+) -> Result<(), MemoryError> {
+    match shape {
+        Shape::Point => write_one(builder, c, value),
+        Shape::Range => write_range(builder, c..=c.saturating_add(0x333), value),
+    }
+}
+
+/// Writes the values of the code points, up to the first that is refused, at most `count` of them:
 /// how many were written, and the refusal.
 fn write_points(
     builder: &mut CodePointTrieBuilder<u8>,
+    shape: Shape,
     count: usize,
 ) -> (usize, Result<(), MemoryError>) {
     for (k, (c, value)) in POINTS.iter().take(count).enumerate() {
-        let written = builder.set_value(*c, *value);
-        if written.is_err() {
-            return (k, written);
-        }
-    }
-    (count, Ok(()))
-}
-
-/// The same with the ranges of 0x334 code points from there on, which begin and end within blocks.
-fn write_ranges(
-    builder: &mut CodePointTrieBuilder<u8>,
-    count: usize,
-) -> (usize, Result<(), MemoryError>) {
-    for (k, (c, value)) in POINTS.iter().take(count).enumerate() {
-        let written = builder.set_range_value(*c..=c.saturating_add(0x333), *value);
+        let written = write(builder, shape, *c, *value);
         if written.is_err() {
             return (k, written);
         }
@@ -95,18 +105,10 @@ fn writes_at_points(alloc: Global) -> Option<Vec<Write<u8>>> {
     Some(writes)
 }
 
-/// A builder after so many writes at single code points, `None` where memory was refused.
-fn with_points(alloc: Global, count: usize) -> Option<CodePointTrieBuilder<u8>> {
+/// A builder after so many writes, `None` where memory was refused.
+fn with_points(alloc: Global, shape: Shape, count: usize) -> Option<CodePointTrieBuilder<u8>> {
     let mut builder = builder_of_nothing(alloc);
-    let (_, written) = write_points(&mut builder, count);
-    written.ok()?;
-    Some(builder)
-}
-
-/// A builder after so many writes at ranges, `None` where memory was refused.
-fn with_ranges(alloc: Global, count: usize) -> Option<CodePointTrieBuilder<u8>> {
-    let mut builder = builder_of_nothing(alloc);
-    let (_, written) = write_ranges(&mut builder, count);
+    let (_, written) = write_points(&mut builder, shape, count);
     written.ok()?;
     Some(builder)
 }
@@ -120,8 +122,12 @@ fn expect_same_built(
     let Some(want) = want else {
         return;
     };
-    if let (Ok(found), Ok(want)) = (found.build(), want.build()) {
-        expect(rt, found == want, "the writes before the refused one");
+    if let (Ok(found), Ok(want)) = (build(found), build(want)) {
+        expect(
+            rt,
+            are_same(&found, &want),
+            "the writes before the refused one",
+        );
     }
 }
 
@@ -132,10 +138,10 @@ fn expect_same_built(
 fn set_value_refused(rt: HostRuntime) {
     let mut builder = builder_of_nothing(rt.alloc());
     say(&rt, "call");
-    let (count, answer) = write_points(&mut builder, POINTS.len());
+    let (count, answer) = write_points(&mut builder, Shape::Point, POINTS.len());
     say(&rt, "done");
     say_if_refused(&rt, answer == Err(MemoryError));
-    expect_same_built(&rt, builder, with_points(rt.alloc(), count));
+    expect_same_built(&rt, builder, with_points(rt.alloc(), Shape::Point, count));
 }
 
 /// Calls: `CodePointTrieBuilder::set_range_value`.
@@ -143,10 +149,15 @@ fn set_value_refused(rt: HostRuntime) {
 fn set_range_value_refused(rt: HostRuntime) {
     let mut builder = builder_of_nothing(rt.alloc());
     say(&rt, "call");
-    let (count, answer) = write_ranges(&mut builder, POINTS.len());
+    let (count, answer) = write_points(&mut builder, Shape::Range, POINTS.len());
     say(&rt, "done");
     say_if_refused(&rt, answer == Err(MemoryError));
-    expect_same_built(&rt, builder, with_ranges(rt.alloc(), count));
+    expect_same_built(&rt, builder, with_points(rt.alloc(), Shape::Range, count));
+}
+
+/// Makes these writes.
+fn apply(builder: &mut CodePointTrieBuilder<u8>, writes: &[Write<u8>]) -> Result<(), ApplyRefused> {
+    builder.apply(writes)
 }
 
 /// The writes before the place that is answered are made, and no other.
@@ -159,14 +170,14 @@ fn apply_refused(rt: HostRuntime) {
         return;
     };
     say(&rt, "call");
-    let answer = builder.apply(&writes);
+    let answer = apply(&mut builder, &writes);
     say(&rt, "done");
     say_if_refused(&rt, answer.is_err());
     let count = match answer {
         Ok(()) => POINTS.len(),
         Err(ApplyRefused(place)) => place,
     };
-    expect_same_built(&rt, builder, with_points(rt.alloc(), count));
+    expect_same_built(&rt, builder, with_points(rt.alloc(), Shape::Point, count));
 }
 
 /// The place is that of the first write that needs memory, after one that is ignored.
@@ -177,7 +188,7 @@ fn apply_after_ignored_refused(rt: HostRuntime) {
     let mut builder = builder_of_nothing(rt.alloc());
     let writes = [Write::One(0x110000, 3), Write::One(0x41, 1)];
     say(&rt, "call");
-    let answer = builder.apply(&writes);
+    let answer = apply(&mut builder, &writes);
     say(&rt, "done");
     say_if_refused(&rt, answer == Err(ApplyRefused(1)));
     expect(&rt, answer != Err(ApplyRefused(0)), "the place");
@@ -187,11 +198,9 @@ fn apply_after_ignored_refused(rt: HostRuntime) {
 /// index-3 are needed too. `None` where memory was refused.
 fn written(alloc: Global) -> Option<CodePointTrieBuilder<u8>> {
     let mut builder = builder_of_nothing(alloc);
-    if builder.set_value(0x41, 1).is_ok() && builder.set_value(0x10000, 2).is_ok() {
-        Some(builder)
-    } else {
-        None
-    }
+    write_one(&mut builder, 0x41, 1).ok()?;
+    write_one(&mut builder, 0x10000, 2).ok()?;
+    Some(builder)
 }
 
 /// A trie of 1 at 0x41 and 2 at 0x10000, or the want of memory, which is said.
@@ -215,7 +224,7 @@ fn build_refused(rt: HostRuntime) {
         return;
     };
     say(&rt, "call");
-    let answer = builder.build();
+    let answer = build(builder);
     say(&rt, "done");
     expect_answer(&rt, answer);
 }
@@ -225,7 +234,7 @@ fn build_refused(rt: HostRuntime) {
 fn build_from_writes_refused(rt: HostRuntime) {
     let writes = [Write::One(0x41, 1u8), Write::One(0x10000, 2)];
     say(&rt, "call");
-    let answer = build_from_writes(rt.alloc(), 0, 9, TrieType::Fast, &writes);
+    let answer = try_built(rt.alloc(), TrieType::Fast, (0, 9), &writes);
     say(&rt, "done");
     expect_answer(&rt, answer);
     let first = matches!(&writes[0], Write::One(0x41, 1));
@@ -263,10 +272,22 @@ fn expect_others(
 ) {
     match answer {
         Ok(set) => {
-            expect(rt, set.contains32(0x40), "40");
-            expect(rt, !set.contains32(0x41), "41");
+            for (c, held) in [(0x40, true), (0x41, false)] {
+                expect_same(rt, (c, set.contains32(c)), (c, held), "held");
+            }
         }
         Err(MemoryError) => say(rt, "refused"),
+    }
+}
+
+/// The trie has these ranges, where there is memory to see it.
+fn expect_ranges(
+    rt: &(impl Abort + AllocGlobal),
+    trie: &CodePointTrie<'_, u8>,
+    wanted: &[(u32, u32, u32)],
+) {
+    if let Some(found) = runs_of(rt.alloc(), trie) {
+        expect_same(rt, found.as_slice(), wanted, "the ranges");
     }
 }
 
@@ -287,8 +308,8 @@ fn get_set_for_value_refused(rt: HostRuntime) {
 }
 
 /// The builder holds 0 at each code point, where there is memory to see it.
-fn expect_nothing_written(rt: &impl Abort, builder: CodePointTrieBuilder<u8>) {
-    if let Ok(trie) = builder.build() {
+fn expect_nothing_written(rt: &(impl Abort + AllocGlobal), builder: CodePointTrieBuilder<u8>) {
+    if let Ok(trie) = build(builder) {
         expect_ranges(rt, &trie, &[(0, 0x10FFFF, 0)]);
     }
 }
@@ -301,14 +322,34 @@ fn expect_nothing_written(rt: &impl Abort, builder: CodePointTrieBuilder<u8>) {
 #[test]
 fn ignored_write_quiet(rt: HostRuntime) {
     say(&rt, "call");
-    let mut builder = CodePointTrieBuilder::new(rt.alloc(), 0u8, 9, TrieType::Small);
-    let point = builder.set_value(0x110000, 1);
-    let above = builder.set_range_value(0x110000..=u32::MAX, 1);
-    let reversed = builder.set_range_value(5..=3, 1);
+    let mut builder = builder_of_nothing(rt.alloc());
+    let point = write_one(&mut builder, 0x110000, 1);
+    let above = write_range(&mut builder, 0x110000..=u32::MAX, 1);
+    let reversed = write_range(&mut builder, 5..=3, 1);
     say(&rt, "done");
     let answers = [point, above, reversed];
     expect(&rt, answers == [Ok(()), Ok(()), Ok(())], "ignored");
     expect_nothing_written(&rt, builder);
+}
+
+/// What `get32` answers, and the two values.
+fn by_get32(trie: &CodePointTrie<'_, u8>) -> [u8; 4] {
+    [
+        trie.get32(0x41),
+        trie.get32(0x10FFFF),
+        trie.error_value(),
+        trie.null_value(),
+    ]
+}
+
+/// What the other getters answer.
+fn by_others(trie: &CodePointTrie<'_, u8>) -> ([u8; 3], u32) {
+    let values = [
+        trie.get('A'),
+        trie.get16(0x42),
+        trie.get32_supplementary(0x10000),
+    ];
+    (values, trie.get32_u32(0x41))
 }
 
 /// Look-ups by every getter take no memory.
@@ -322,21 +363,19 @@ fn look_ups_quiet(rt: HostRuntime) {
         return;
     };
     say(&rt, "call");
-    let found = (
-        trie.get32(0x41),
-        trie.get32(0x10FFFF),
-        trie.error_value(),
-        trie.null_value(),
-    );
-    let others = (
-        trie.get('A'),
-        trie.get16(0x42),
-        trie.get32_supplementary(0x10000),
-        trie.get32_u32(0x41),
-    );
+    let found = by_get32(&trie);
+    let others = by_others(&trie);
     say(&rt, "done");
-    expect(&rt, found == (1, 0, 9, 0), "by get32, and the two values");
-    expect(&rt, others == (1, 0, 0, 1), "by the other getters");
+    expect_same(&rt, found, [1, 0, 9, 0], "by get32, and the two values");
+    expect_same(&rt, others, ([1, 0, 0], 1), "by the other getters");
+}
+
+/// Whether the trie of the parts of this one, which it borrows, equals it.
+fn is_lent(trie: &CodePointTrie<'_, u8>) -> bool {
+    match lent(trie) {
+        Some(lent) => are_same(&lent, trie),
+        None => false,
+    }
 }
 
 /// A trie of lent parts takes no memory.
@@ -348,9 +387,7 @@ fn lent_parts_quiet(rt: HostRuntime) {
         return;
     };
     say(&rt, "call");
-    let (header, index, data) = trie.parts();
-    let lent = CodePointTrie::try_new(header, index.as_zerovec(), data.as_zerovec());
-    let same = lent.is_ok_and(|lent| lent == trie);
+    let same = is_lent(&trie);
     say(&rt, "done");
     expect(&rt, same, "lent");
 }
@@ -374,6 +411,19 @@ fn from_trie_refused(rt: HostRuntime) {
     expect_one(&rt, &trie);
 }
 
+/// The value of a map at each of these code points.
+fn values_at(builder: &CodePointTrieBuilder<u8>, [first, second, third]: [u32; 3]) -> [u8; 3] {
+    [builder.get(first), builder.get(second), builder.get(third)]
+}
+
+/// The range of a map from a code point on.
+fn run_at(builder: &CodePointTrieBuilder<u8>, c: u32) -> Option<(u32, u32, u32)> {
+    match builder.get_range(c) {
+        Some(range) => Some(run_of(&range)),
+        None => None,
+    }
+}
+
 /// A map is read without memory.
 ///
 /// Calls: `CodePointTrieBuilder::get`, `CodePointTrieBuilder::get_range`.
@@ -383,11 +433,9 @@ fn read_map_quiet(rt: HostRuntime) {
         return;
     };
     say(&rt, "call");
-    let values = (builder.get(0x41), builder.get(0x42), builder.get(0x110000));
-    let range = builder.get_range(0x42);
-    let none = builder.get_range(0x110000);
+    let values = values_at(&builder, [0x41, 0x42, 0x110000]);
+    let ranges = [run_at(&builder, 0x42), run_at(&builder, 0x110000)];
     say(&rt, "done");
-    expect(&rt, values == (1, 0, 9), "the values");
-    let same = range.is_some_and(|range| is_range(&range, (0x42, 0xFFFF, 0)));
-    expect(&rt, same && none.is_none(), "the ranges");
+    expect_same(&rt, values, [1, 0, 9], "the values");
+    expect_same(&rt, ranges, [Some((0x42, 0xFFFF, 0)), None], "the ranges");
 }

@@ -1,73 +1,67 @@
 //! Tables by way of ICU's binary form, run.
 
-use crate::tests::support::expect;
-use icu_collections::codepointtrie::binary::{BinaryError, WriteError, to_binary};
-use icu_collections::codepointtrie::{
-    CodePointTrie, TrieType, TrieValue, Write, build_from_writes,
-};
-use std::alloc::Global;
+use crate::tests::support::{built, expect, expect_numbers, number_at};
+use icu_collections::codepointtrie::binary::{BinaryError, to_binary};
+use icu_collections::codepointtrie::{CodePointTrie, TrieType, TrieValue, Write};
 use std::process::Abort;
 use uses::stored;
 
 /// A trie in which `A` to `Z` have 1, and what is above the code points too.
-fn ones(alloc: Global) -> Option<CodePointTrie<'static, u8>> {
-    let rows = [Write::Range(0x41..=0x5A, 1)];
-    build_from_writes(alloc, 0, 1, TrieType::Small, &rows).ok()
+fn ones(rt: &(impl Abort + AllocGlobal)) -> CodePointTrie<'static, u8> {
+    built(rt, TrieType::Small, (0, 1), &[Write::Range(0x41..=0x5A, 1)])
 }
 
 /// A trie in which `A` to `Z` have 500.
-fn five_hundreds(alloc: Global) -> Option<CodePointTrie<'static, u16>> {
-    let rows = [Write::Range(0x41..=0x5A, 500)];
-    build_from_writes(alloc, 0, 0, TrieType::Small, &rows).ok()
+fn five_hundreds(rt: &(impl Abort + AllocGlobal)) -> CodePointTrie<'static, u16> {
+    built(
+        rt,
+        TrieType::Small,
+        (0, 0),
+        &[Write::Range(0x41..=0x5A, 500)],
+    )
+}
+
+/// A table as it stands in a file.
+fn bytes_of<T: TrieValue>(rt: &(impl Abort + AllocGlobal), trie: &CodePointTrie<'_, T>) -> Vec<u8> {
+    match to_binary(rt.alloc(), trie) {
+        Ok(bytes) => bytes,
+        Err(_) => rt.panic("not written"),
+    }
 }
 
 /// Two tables, written one behind the other.
-fn file_of(
-    alloc: Global,
-    first: &CodePointTrie<'_, u8>,
-    second: &CodePointTrie<'_, u16>,
-) -> Result<Vec<u8>, WriteError> {
-    let mut bytes = to_binary(alloc, first)?;
-    let more = to_binary(alloc, second)?;
-    bytes.extend_from_slice(&more)?;
-    Ok(bytes)
+fn file_of_two(rt: &(impl Abort + AllocGlobal)) -> Vec<u8> {
+    let mut bytes = bytes_of(rt, &ones(rt));
+    let more = bytes_of(rt, &five_hundreds(rt));
+    let whole = bytes.extend_from_slice(&more).is_ok();
+    expect(rt, whole, "written");
+    bytes
 }
 
 #[test]
 fn a_table_through_a_file(rt: HostRuntime) {
-    let Some(trie) = ones(rt.alloc()) else {
-        rt.panic("built");
-    };
-    let found = match stored::through_a_file(rt.alloc(), &trie) {
-        Ok(copy) => [copy.get32(0x41), copy.get32(0x5B), copy.get32(0x110000)],
-        Err(_) => [9, 9, 9],
-    };
-    expect(&rt, found == [1, 0, 1], "the answers");
+    match stored::through_a_file(rt.alloc(), &ones(&rt)) {
+        Ok(copy) => expect_numbers(&rt, &copy, &[(0x41, 1), (0x5B, 0), (0x110000, 1)]),
+        Err(_) => rt.panic("not read"),
+    }
 }
 
-/// The values of `A` in the two tables of a file.
-fn values_of_a(bytes: &[u8]) -> Option<(u8, u16)> {
-    let (first, second) = stored::two_tables(bytes).ok()?;
-    Some((first.get32(0x41), second.get32(0x41)))
+/// The values of `A` in the two tables of a file, or why there are none.
+fn values_of_a(bytes: &[u8]) -> Result<(u32, u32), BinaryError> {
+    match stored::two_tables(bytes) {
+        Ok((first, second)) => Ok((number_at(&first, 0x41), number_at(&second, 0x41))),
+        Err(error) => Err(error),
+    }
 }
 
 #[test]
 fn two_tables_of_a_file(rt: HostRuntime) {
-    let (Some(first), Some(second)) = (ones(rt.alloc()), five_hundreds(rt.alloc())) else {
-        rt.panic("built");
-    };
-    let found = match file_of(rt.alloc(), &first, &second) {
-        Ok(bytes) => values_of_a(&bytes),
-        Err(_) => None,
-    };
-    expect(&rt, found == Some((1, 500)), "each in its place");
+    let found = values_of_a(&file_of_two(&rt));
+    expect(&rt, found == Ok((1, 500)), "each in its place");
 }
 
 #[test]
 fn a_file_without_a_table(rt: HostRuntime) {
-    let refused = match stored::two_tables(b"Tri3") {
-        Ok(_) => false,
-        Err(error) => error == BinaryError::Short,
-    };
-    expect(&rt, refused, "too short");
+    let found = values_of_a(b"Tri3");
+    expect(&rt, found == Err(BinaryError::Short), "too short");
 }
