@@ -153,13 +153,14 @@ pub extern "C" fn ours_c16_iter(alloc: Global, units: &[u8]) -> u64 {
 fn mixed_listing(alloc: Global, trie: &Char16Trie<'_>) -> u64 {
     let mut sum = 0u64;
     let mut entries = trie.entries(alloc);
-    loop {
+    for _ in 0..u64::MAX {
         match entries.advance() {
             Ok(true) => sum = mixed(sum, entries.value().cast_unsigned()),
             Ok(false) => return sum,
             Err(_) => return u64::MAX,
         }
     }
+    sum
 }
 
 /// The values of all entries, in unit order, of which each is reached with the text of its key.
