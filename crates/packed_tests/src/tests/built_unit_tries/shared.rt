@@ -3,15 +3,13 @@ use super::support::{build, expect_added, len_of, new_builder};
 use crate::tests::support::{expect, expect_same, given};
 use crate::tests::unit_tries::support::value_of;
 use icu_char16trie::char16trie::Char16Trie;
-use std::alloc::{AllocError, Global};
 use std::process::Abort;
 
 /// A key of a letter and forty units 7.
-fn key_of(alloc: Global, letter: u16) -> Result<Vec<u16>, AllocError> {
-    let mut key = Vec::new(alloc);
-    key.push(letter)?;
-    key.extend_from_slice(&[7; 40])?;
-    Ok(key)
+fn key_of(letter: u16) -> [u16; 41] {
+    let mut key = [7; 41];
+    key[0] = letter;
+    key
 }
 
 /// The value of the key of a letter: the same for all, or the letter.
@@ -23,18 +21,16 @@ fn value_for(letter: u16, alike: bool) -> i32 {
 fn trie_of_four(rt: &(impl Abort + AllocGlobal), alike: bool) -> Char16Trie<'static> {
     let mut builder = new_builder(rt.alloc());
     for letter in 1..5 {
-        let key = given(rt, key_of(rt.alloc(), letter));
-        expect_added(rt, &mut builder, key.as_slice(), value_for(letter, alike));
+        expect_added(rt, &mut builder, &key_of(letter), value_for(letter, alike));
     }
     given(rt, build(builder))
 }
 
 /// Whether the key of each letter has its value.
-fn has_four(rt: &(impl Abort + AllocGlobal), trie: &Char16Trie<'_>, alike: bool) -> bool {
+fn has_four(trie: &Char16Trie<'_>, alike: bool) -> bool {
     let mut all = true;
     for letter in 1..5 {
-        let key = given(rt, key_of(rt.alloc(), letter));
-        all &= value_of(trie, key.as_slice()) == Some(value_for(letter, alike));
+        all &= value_of(trie, &key_of(letter)) == Some(value_for(letter, alike));
     }
     all
 }
@@ -42,7 +38,7 @@ fn has_four(rt: &(impl Abort + AllocGlobal), trie: &Char16Trie<'_>, alike: bool)
 /// How many units a trie of four keys has, and whether it has the keys.
 fn four(rt: &(impl Abort + AllocGlobal), alike: bool) -> (usize, bool) {
     let trie = trie_of_four(rt, alike);
-    (len_of(&trie), has_four(rt, &trie, alike))
+    (len_of(&trie), has_four(&trie, alike))
 }
 
 /// Forty units take 43 with their leads, and a value 1. The last of four nodes stands in the row

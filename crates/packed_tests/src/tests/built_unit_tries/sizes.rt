@@ -1,8 +1,9 @@
 //! Branches of many units, jumps and deltas of two units, long linear matches.
 use super::support::{build, copies_of, expect_added, gives, new_builder};
 use crate::tests::support::{expect, expect_same, given};
-use crate::tests::unit_tries::support::{is_over, items_of, next_item, value_of};
+use crate::tests::unit_tries::support::{is_over, items_of, value_of};
 use icu_char16trie::char16trie::{Char16Trie, Iter2};
+use icu_char16trie_builder::builder::Char16TrieBuilder;
 use std::process::Abort;
 
 /// A trie of keys of one unit, those below `count`, each with its unit as value.
@@ -14,22 +15,15 @@ fn trie_of_units(rt: &(impl Abort + AllocGlobal), count: u16) -> Char16Trie<'sta
     given(rt, build(builder))
 }
 
-/// Whether the next item has this value.
-fn is_next_value(items: &mut Iter2<'_>, value: i32) -> bool {
-    match next_item(items) {
-        Ok(Some((_, found))) => found == value,
-        _ => false,
-    }
-}
-
-/// Whether the values are 0, 1, .. up to before `count`.
-fn counts_up(items: &mut Iter2<'_>, count: u16) -> bool {
-    for wanted in 0..count {
-        if !is_next_value(items, i32::from(wanted)) {
+/// Whether the entries are the units below `count`, each with its unit as value.
+fn counts_up(rt: &(impl Abort + AllocGlobal), trie: &Char16Trie<'_>, count: u16) -> bool {
+    let mut items = items_of(rt.alloc(), trie);
+    for unit in 0..count {
+        if !gives(rt, trie, &mut items, &[unit], i32::from(unit)) {
             return false;
         }
     }
-    is_over(items)
+    is_over(&mut items)
 }
 
 /// The trie has the units below `count` as keys, each with its unit as value, and no other one.
@@ -38,8 +32,7 @@ fn expect_units(rt: &(impl Abort + AllocGlobal), trie: &Char16Trie<'_>, count: u
         let want = (unit < count).then_some(i32::from(unit));
         expect_same(rt, value_of(trie, &[unit]), want, "a key of one unit");
     }
-    let listed = counts_up(&mut items_of(rt.alloc(), trie), count);
-    expect(rt, listed, "the entries in order");
+    expect(rt, counts_up(rt, trie, count), "the entries in order");
 }
 
 #[test]
@@ -54,12 +47,17 @@ fn branch_of_all_units(rt: HostRuntime) {
     expect_units(&rt, &trie_of_units(&rt, 0xFFFF), 0xFFFF);
 }
 
+/// Adds the key of 20,000 units k, with the value k.
+fn add_copies(rt: &(impl Abort + AllocGlobal), builder: &mut Char16TrieBuilder, k: u16) {
+    let key = given(rt, copies_of(rt.alloc(), k, 20_000));
+    expect_added(rt, builder, key.as_slice(), i32::from(k));
+}
+
 /// A trie of ten keys, the key k being 20,000 units k.
 fn trie_of_ten(rt: &(impl Abort + AllocGlobal)) -> Char16Trie<'static> {
     let mut builder = new_builder(rt.alloc());
     for k in 1..11 {
-        let key = given(rt, copies_of(rt.alloc(), k, 20_000));
-        expect_added(rt, &mut builder, key.as_slice(), i32::from(k));
+        add_copies(rt, &mut builder, k);
     }
     given(rt, build(builder))
 }
@@ -80,14 +78,24 @@ fn has_key(
     }
 }
 
+/// Whether the trie has the key of 20,000 units k, as its next item.
+fn has_copies(
+    rt: &(impl Abort + AllocGlobal),
+    trie: &Char16Trie<'_>,
+    items: &mut Iter2<'_>,
+    k: u16,
+) -> bool {
+    let key = given(rt, copies_of(rt.alloc(), k, 20_000));
+    has_key(rt, trie, items, key.as_slice(), i32::from(k))
+}
+
 /// Whether each of the ten keys has its value, is the next item, and has none without its last
 /// unit, and no other item comes.
 fn has_ten(rt: &(impl Abort + AllocGlobal), trie: &Char16Trie<'_>) -> bool {
     let mut items = items_of(rt.alloc(), trie);
     let mut right = true;
     for k in 1..11 {
-        let key = given(rt, copies_of(rt.alloc(), k, 20_000));
-        right &= has_key(rt, trie, &mut items, key.as_slice(), i32::from(k));
+        right &= has_copies(rt, trie, &mut items, k);
     }
     right & is_over(&mut items)
 }

@@ -42,6 +42,14 @@ pub fn expect_added(rt: &impl Abort, builder: &mut Char16TrieBuilder, key: &[u16
     expect_same(rt, add(builder, key, value), Ok(()), "an entry is added");
 }
 
+/// Adds an entry, which has to be there.
+fn expect_entry_added(rt: &impl Abort, builder: &mut Char16TrieBuilder, entry: Option<&Entry>) {
+    match entry {
+        Some((key, value, _)) => expect_added(rt, builder, key, *value),
+        None => rt.panic("no entry"),
+    }
+}
+
 /// The trie of these entries, added in their order or the last one first.
 pub fn built(
     rt: &(impl Abort + AllocGlobal),
@@ -50,12 +58,8 @@ pub fn built(
 ) -> Char16Trie<'static> {
     let mut builder = new_builder(rt.alloc());
     for i in 0..entries.len() {
-        let (key, value, _) = if last_first {
-            entries[entries.len() - 1 - i]
-        } else {
-            entries[i]
-        };
-        expect_added(rt, &mut builder, key, value);
+        let place = if last_first { entries.len() - 1 - i } else { i };
+        expect_entry_added(rt, &mut builder, entries.get(place));
     }
     given(rt, build(builder))
 }
@@ -95,13 +99,18 @@ pub fn gives(
     is_next(items, text.as_str(), value) && value_of(trie, key) == Some(value)
 }
 
+/// Whether the trie has this entry, and it is the next item.
+fn has_entry(trie: &Char16Trie<'_>, items: &mut Iter2<'_>, entry: &Entry) -> bool {
+    let (key, value, text) = *entry;
+    value_of(trie, key) == Some(value) && is_next(items, text, value)
+}
+
 /// Whether the trie has these entries, which are in unit order, and no other item.
 fn has_entries(alloc: Global, trie: &Char16Trie<'_>, entries: &[Entry]) -> bool {
     let mut items = items_of(alloc, trie);
     let mut right = true;
-    for (key, value, text) in entries {
-        right &= value_of(trie, key) == Some(*value);
-        right &= is_next(&mut items, text, *value);
+    for entry in entries {
+        right &= has_entry(trie, &mut items, entry);
     }
     right & is_over(&mut items)
 }

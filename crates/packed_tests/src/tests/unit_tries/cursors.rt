@@ -71,15 +71,19 @@ fn steps_of_a_clone(trie: &Char16Trie<'_>) -> Option<(bool, [Option<i32>; 2])> {
 /// The units of "ab" to 3.
 const AB: [u16; 4] = [0x31, 0x61, 0x62, 0x8003];
 
+/// What steps of a cursor over "ab" tell.
+fn expect_steps(rt: &impl Abort, trie: &Char16Trie<'_>) {
+    let found = written(cursor_of(trie), "ab");
+    expect_same(rt, found, (true, (Some(3), true)), "ab");
+    let want = [(None, false), (None, true), (None, true)];
+    expect_same(rt, nowhere(units_of(trie)), want, "x, then a");
+    let found = steps_of_a_clone(trie);
+    expect_same(rt, found, Some((true, [None, Some(3)])), "a, then b");
+}
+
 #[test]
 fn steps_of_a_cursor(rt: HostRuntime) {
-    let trie = made_trie(&rt, &AB);
-    let found = written(cursor_of(&trie), "ab");
-    expect_same(&rt, found, (true, (Some(3), true)), "ab");
-    let want = [(None, false), (None, true), (None, true)];
-    expect_same(&rt, nowhere(units_of(&trie)), want, "x, then a");
-    let found = steps_of_a_clone(&trie);
-    expect_same(&rt, found, Some((true, [None, Some(3)])), "a, then b");
+    expect_steps(&rt, &made_trie(&rt, &AB));
 }
 
 /// The value that a character leads to, where it can be written by a format.
@@ -100,18 +104,22 @@ fn results_by_units(units: ZeroSlice<'_, u16>) -> Option<[TrieResult; 3]> {
     Some([first, wrong, right])
 }
 
-#[test]
-fn units_of_a_character(rt: HostRuntime) {
-    let smile = made_trie(&rt, &[0x31, 0xD83D, 0xDE00, 0x8001]);
-    let found = formatted(cursor_of(&smile), '\u{1f600}');
-    expect_same(&rt, found, Some(1), "a format");
-    let found = results_by_units(units_of(&smile));
+/// The character of this trie is found by a format, and by its units.
+fn expect_character(rt: &impl Abort, trie: &Char16Trie<'_>) {
+    let found = formatted(cursor_of(trie), '\u{1f600}');
+    expect_same(rt, found, Some(1), "a format");
+    let found = results_by_units(units_of(trie));
     let want = [
         TrieResult::NoValue,
         TrieResult::NoMatch,
         TrieResult::FinalValue(1),
     ];
-    expect_same(&rt, found, Some(want), "the units of a character");
+    expect_same(rt, found, Some(want), "the units of a character");
+}
+
+#[test]
+fn units_of_a_character(rt: HostRuntime) {
+    expect_character(&rt, &made_trie(&rt, &[0x31, 0xD83D, 0xDE00, 0x8001]));
 }
 
 /// The value after a character from a place, and where the cursor stands then.

@@ -1,5 +1,5 @@
 //! Tries from and to JSON.
-use super::support::{are_same, made_trie, trie_of, value_of};
+use super::support::{are_same, made_trie, some_trie, value_of};
 use crate::tests::support::{expect, expect_answer, expect_same, expect_text, given, say};
 use icu_char16trie::char16trie::{Char16JsonError, Char16Trie};
 use icu_zerovec::MemoryError;
@@ -60,11 +60,16 @@ fn json_texts(rt: HostRuntime) {
     }
 }
 
+/// The JSON text of a trie.
+fn text_of(rt: &impl AllocGlobal, trie: &Char16Trie<'_>) -> Option<String> {
+    let value = written(rt.alloc(), trie).ok()?;
+    value.to_string(rt.alloc()).ok()
+}
+
 #[test]
 fn written_to_json(rt: HostRuntime) {
-    let trie = made_trie(&rt, &[0x31, 0x61, 0x62, 0x8003]);
-    let value = given(&rt, written(rt.alloc(), &trie));
-    let text = value.to_string(rt.alloc());
+    let text = text_of(&rt, &made_trie(&rt, &[0x31, 0x61, 0x62, 0x8003]));
+    let text = text.ok_or(MemoryError);
     expect_text(&rt, text, r#"{"data":[49,97,98,32771]}"#);
 }
 
@@ -95,47 +100,61 @@ fn has_units(alloc: Global, trie: &Char16Trie<'_>) -> Result<bool, MemoryError> 
     Ok(value.get("data").is_some())
 }
 
+/// The trie is written as JSON, or memory is refused, and it stays as it was.
+fn ask_to_json(rt: &(impl Abort + AllocGlobal + Print), trie: &Char16Trie<'_>) {
+    say(rt, "call");
+    let written = has_units(rt.alloc(), trie);
+    say(rt, "done");
+    expect_answer(rt, written, true, "the key `data`");
+    let root = value_of(trie, &[]);
+    expect_same(rt, root, Some(7), "the trie itself");
+}
+
 /// Calls: `Char16Trie::to_json`.
 #[test]
 fn to_json_refused(rt: HostRuntime) {
-    let Ok(trie) = trie_of(rt.alloc(), &[0x8007]) else {
-        return;
-    };
-    say(&rt, "call");
-    let written = has_units(rt.alloc(), &trie);
-    say(&rt, "done");
-    expect_answer(&rt, written, true, "the key `data`");
-    let root = value_of(&trie, &[]);
-    expect_same(&rt, root, Some(7), "the trie itself");
-}
-
-/// The trie has the value 7 at its root, or memory was refused.
-fn expect_seven(rt: &(impl Abort + Print), read: Result<Char16Trie<'_>, Char16JsonError>) {
-    match read {
-        Ok(trie) => expect_same(rt, value_of(&trie, &[]), Some(7), "the value"),
-        Err(error) => {
-            expect_same(rt, error, Char16JsonError::Memory, "the error");
-            say(rt, "refused");
-        }
+    if let Some(trie) = some_trie(&rt, &[0x8007]) {
+        ask_to_json(&rt, &trie);
     }
 }
 
-/// A value and its copy, where there was memory for them.
-fn two_values(alloc: Global) -> Option<(Value, Value)> {
-    let text = r#"{"data":[32775]}"#;
-    let value = value_of_text(alloc, text)?;
-    Some((value, value_of_text(alloc, text)?))
+/// The text of a trie with the value 7 at its root.
+const SEVEN: &str = r#"{"data":[32775]}"#;
+
+/// The value at the root of the trie that a JSON value says.
+fn root_read(alloc: Global, value: &Value) -> Result<Option<i32>, Char16JsonError> {
+    match read(alloc, value) {
+        Ok(trie) => Ok(value_of(&trie, &[])),
+        Err(error) => Err(error),
+    }
+}
+
+/// The trie has the value 7 at its root, or memory was refused.
+fn expect_seven(rt: &(impl Abort + Print), root: Result<Option<i32>, Char16JsonError>) {
+    if root == Err(Char16JsonError::Memory) {
+        say(rt, "refused");
+    } else {
+        expect_same(rt, root, Ok(Some(7)), "the value");
+    }
+}
+
+/// Whether a value is still what its text says, where there is memory to read that again.
+fn is_kept(alloc: Global, value: &Value) -> bool {
+    match value_of_text(alloc, SEVEN) {
+        Some(copy) => *value == copy,
+        None => true,
+    }
 }
 
 /// Calls: `Char16Trie::from_json`.
 #[test]
 fn from_json_refused(rt: HostRuntime) {
-    let Some((value, copy)) = two_values(rt.alloc()) else {
+    let Some(value) = value_of_text(rt.alloc(), SEVEN) else {
         return;
     };
     say(&rt, "call");
-    let read = read(rt.alloc(), &value);
+    let root = root_read(rt.alloc(), &value);
     say(&rt, "done");
-    expect_seven(&rt, read);
-    expect(&rt, value == copy, "the value itself");
+    expect_seven(&rt, root);
+    expect(&rt, is_kept(rt.alloc(), &value), "the value itself");
 }

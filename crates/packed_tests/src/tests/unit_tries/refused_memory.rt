@@ -10,19 +10,15 @@ use super::steps::{
 };
 use super::support::{
     SIX, advanced, are_same, count_of, cursor_of, entries_from, entries_of, is_over, is_trie,
-    items_of, iter_of, last_result, next_item, next_result, next_units_of, of_data, pass, told,
-    trie_of, unique_value_of, value_at,
+    items_of, iter_of, last_result, next_item, next_result, next_units_of, of_data, pass,
+    some_trie, told, unique_value_of, value_at,
 };
 use crate::tests::support::{expect, expect_answer, expect_same, say};
+use crate::tests::vectors::support::vector_of;
 use icu_char16trie::char16trie::{Char16Trie, Entries, Iter2, TrieResult};
-use icu_zerovec::{MemoryError, ZeroSlice, ZeroVec};
+use icu_zerovec::{MemoryError, ZeroSlice};
 use std::alloc::Global;
 use std::process::Abort;
-
-/// The trie of these units, where there is memory for it.
-fn some_trie(rt: &impl AllocGlobal, units: &[u16]) -> Option<Char16Trie<'static>> {
-    trie_of(rt.alloc(), units).ok()
-}
 
 /// The key "a" has its value 1 still.
 fn expect_kept(rt: &impl Abort, trie: &Char16Trie<'_>) {
@@ -114,6 +110,11 @@ fn count_entries_refused(rt: HostRuntime) {
     expect_kept(&rt, &trie);
 }
 
+/// The value of the entry that a listing reached last.
+fn value_told(entries: &Entries<'_>) -> i32 {
+    told(entries).1
+}
+
 /// The value of the last entry that a listing goes to, of at most 99.
 fn last_listed(entries: &mut Entries<'_>) -> Result<i32, MemoryError> {
     let mut last = 0;
@@ -121,7 +122,7 @@ fn last_listed(entries: &mut Entries<'_>) -> Result<i32, MemoryError> {
         if !advanced(entries)? {
             return Ok(last);
         }
-        last = told(entries).1;
+        last = value_told(entries);
     }
     Ok(last)
 }
@@ -182,22 +183,25 @@ fn entries_quiet(rt: HostRuntime) {
     expect_same(&rt, told, (0, 0), "told");
 }
 
+/// After the first entry the value of the last one is 6, and no memory is asked for.
+fn ask_after_first(rt: &(impl Abort + Print), entries: &mut Entries<'_>) {
+    let Ok(first) = advanced(entries) else {
+        return;
+    };
+    say(rt, "call");
+    let last = last_listed(entries).ok();
+    say(rt, "done");
+    expect_same(rt, (first, last), (true, Some(6)), "the values");
+}
+
 /// After the first of six keys of one unit, the buffers have room for the others.
 ///
 /// Calls: `Entries::advance`.
 #[test]
 fn entries_of_one_length_quiet(rt: HostRuntime) {
-    let Some(trie) = some_trie(&rt, &SIX) else {
-        return;
-    };
-    let mut entries = entries_of(rt.alloc(), &trie);
-    let Ok(first) = advanced(&mut entries) else {
-        return;
-    };
-    say(&rt, "call");
-    let last = last_listed(&mut entries).ok();
-    say(&rt, "done");
-    expect_same(&rt, (first, last), (true, Some(6)), "the values");
+    if let Some(trie) = some_trie(&rt, &SIX) {
+        ask_after_first(&rt, &mut entries_of(rt.alloc(), &trie));
+    }
 }
 
 /// With how many units keys go on from the root.
@@ -247,6 +251,19 @@ fn look_up_by_clones(trie: &Char16Trie<'_>, c: char) -> Option<(bool, Option<i32
     Some((written, value_at(&cursor), next_result(&mut iterator, c)))
 }
 
+/// Look-ups, clones of what looks up, and an iterator that is not asked.
+fn ask_look_ups(rt: &(impl Abort + AllocGlobal + Print), trie: &Char16Trie<'_>) {
+    say(rt, "call");
+    let found = look_ups_of(trie);
+    let by_clones = look_up_by_clones(trie, 'f');
+    let _ = items_of(rt.alloc(), trie);
+    say(rt, "done");
+    let want = (true, (Some(3), true), TrieResult::FinalValue(4));
+    expect_same(rt, found, want, "c and d");
+    let want = Some((true, Some(6), TrieResult::FinalValue(6)));
+    expect_same(rt, by_clones, want, "f by clones");
+}
+
 /// Look-ups take no memory, clones of what looks up take none, and neither does an iterator that is
 /// not asked.
 ///
@@ -255,18 +272,9 @@ fn look_up_by_clones(trie: &Char16Trie<'_>, c: char) -> Option<(bool, Option<i32
 /// `Char16TrieIterator::next`.
 #[test]
 fn look_ups_quiet(rt: HostRuntime) {
-    let Some(trie) = some_trie(&rt, &SIX) else {
-        return;
-    };
-    say(&rt, "call");
-    let found = look_ups_of(&trie);
-    let by_clones = look_up_by_clones(&trie, 'f');
-    let _ = items_of(rt.alloc(), &trie);
-    say(&rt, "done");
-    let want = (true, (Some(3), true), TrieResult::FinalValue(4));
-    expect_same(&rt, found, want, "c and d");
-    let want = Some((true, Some(6), TrieResult::FinalValue(6)));
-    expect_same(&rt, by_clones, want, "f by clones");
+    if let Some(trie) = some_trie(&rt, &SIX) {
+        ask_look_ups(&rt, &trie);
+    }
 }
 
 /// The values after steps of each kind, by a cursor that is made of a view.
@@ -292,8 +300,21 @@ fn results_of(units: ZeroSlice<'_, u16>) -> [TrieResult; 2] {
 }
 
 /// The value at the root of the trie that these units are.
-fn root_value(units: ZeroVec<'_, u16>) -> Option<i32> {
-    value_at(&cursor_of(&of_data(units)))
+fn root_value(units: ZeroSlice<'_, u16>) -> Option<i32> {
+    value_at(&cursor_of(&of_data(vector_of(units))))
+}
+
+/// Steps of each kind, by what is made of the units of a trie.
+fn ask_steps(rt: &(impl Abort + Print), units: ZeroSlice<'_, u16>) {
+    say(rt, "call");
+    let values = steps_of(units);
+    let results = results_of(units);
+    let root = root_value(units);
+    say(rt, "done");
+    expect_same(rt, values, [Some(1), Some(2), Some(3)], "a, b and c");
+    let want = [TrieResult::FinalValue(4), TrieResult::FinalValue(5)];
+    expect_same(rt, results, want, "d and e");
+    expect_same(rt, root, None, "the root");
 }
 
 /// Calls: `Char16Trie::new`, `Char16TrieCursor::new`, `Char16TrieCursor::step`,
@@ -301,18 +322,9 @@ fn root_value(units: ZeroVec<'_, u16>) -> Option<i32> {
 /// `Char16TrieIterator::next32`, `Char16TrieIterator::next16`.
 #[test]
 fn steps_quiet(rt: HostRuntime) {
-    let Some(trie) = some_trie(&rt, &SIX) else {
-        return;
-    };
-    say(&rt, "call");
-    let values = steps_of(units_of(&trie));
-    let results = results_of(units_of(&trie));
-    let root = root_value(trie.data);
-    say(&rt, "done");
-    expect_same(&rt, values, [Some(1), Some(2), Some(3)], "a, b and c");
-    let want = [TrieResult::FinalValue(4), TrieResult::FinalValue(5)];
-    expect_same(&rt, results, want, "d and e");
-    expect_same(&rt, root, None, "the root");
+    if let Some(trie) = some_trie(&rt, &SIX) {
+        ask_steps(&rt, units_of(&trie));
+    }
 }
 
 /// The value at the root, by a cursor that is resumed where one stands.
@@ -321,25 +333,25 @@ fn resumed_root(trie: &Char16Trie<'_>) -> Option<i32> {
     value_at(&resumed_at(units_of(trie), place))
 }
 
+/// The keys that begin texts, and a cursor that is resumed.
+fn ask_matches(rt: &(impl Abort + Print), trie: &Char16Trie<'_>) {
+    say(rt, "call");
+    let of_units = longest_of(trie, &[0x61, 0x62]);
+    let of_text = longest_in_text(trie, "bc");
+    let [first, _, _] = three_matches(trie, &[0x63, 0x62]);
+    let root = resumed_root(trie);
+    say(rt, "done");
+    let want = [Some((1, 1)), Some((1, 2)), Some((1, 3))];
+    let found = [of_units, of_text, first];
+    expect_same(rt, found, want, "a of ab, b of bc, c of cb");
+    expect_same(rt, root, None, "the root");
+}
+
 /// Calls: `Char16Trie::longest_match`, `Char16Trie::longest_match_str`, `Char16Trie::matches`,
 /// `Matches::next`, `Char16TrieCursor::place`, `Char16TrieCursor::resume`.
 #[test]
 fn matches_quiet(rt: HostRuntime) {
-    let Some(trie) = some_trie(&rt, &SIX) else {
-        return;
-    };
-    say(&rt, "call");
-    let of_units = longest_of(&trie, &[0x61, 0x62]);
-    let of_text = longest_in_text(&trie, "bc");
-    let [first, _, _] = three_matches(&trie, &[0x63, 0x62]);
-    let root = resumed_root(&trie);
-    say(&rt, "done");
-    let want = [Some((1, 1)), Some((1, 2)), Some((1, 3))];
-    expect_same(
-        &rt,
-        [of_units, of_text, first],
-        want,
-        "a of ab, b of bc, c of cb",
-    );
-    expect_same(&rt, root, None, "the root");
+    if let Some(trie) = some_trie(&rt, &SIX) {
+        ask_matches(&rt, &trie);
+    }
 }

@@ -29,6 +29,14 @@ pub fn trie_of(alloc: Global, units: &[u16]) -> Result<Char16Trie<'static>, Memo
     Ok(of_data(packed_of(alloc, units)?))
 }
 
+/// The trie of these units, where there is memory for it.
+pub fn some_trie(rt: &impl AllocGlobal, units: &[u16]) -> Option<Char16Trie<'static>> {
+    match trie_of(rt.alloc(), units) {
+        Ok(trie) => Some(trie),
+        Err(_) => None,
+    }
+}
+
 /// The trie of these units, for which there has to be memory.
 pub fn made_trie(rt: &(impl Abort + AllocGlobal), units: &[u16]) -> Char16Trie<'static> {
     given(rt, trie_of(rt.alloc(), units))
@@ -88,9 +96,10 @@ pub fn last_result(trie: &Char16Trie<'_>, text: &str) -> TrieResult {
     result
 }
 
-/// An entry as `text=value;`.
-fn line_of(alloc: Global, text: &str, value: i32) -> Result<String, MemoryError> {
-    Ok(format!(in alloc; "{text}={value};")?)
+/// Adds an entry to what is said, as `text=value;`.
+fn add_line(alloc: Global, said: &mut String, text: &str, value: i32) -> Result<(), MemoryError> {
+    let line = format!(in alloc; "{text}={value};")?;
+    Ok(said.push_str(line.as_str())?)
 }
 
 /// The entries of a trie, each as a text of its own.
@@ -112,15 +121,25 @@ pub fn is_over(items: &mut Iter2<'_>) -> bool {
     matches!(next_item(items), Ok(None))
 }
 
+/// Adds the next of these entries to what is said: whether there is one.
+fn add_item(alloc: Global, said: &mut String, items: &mut Iter2<'_>) -> Result<bool, MemoryError> {
+    match next_item(items) {
+        Ok(Some((text, value))) => {
+            add_line(alloc, said, text.as_str(), value)?;
+            Ok(true)
+        }
+        Ok(None) => Ok(false),
+        Err(error) => Err(error),
+    }
+}
+
 /// These entries one after another, of at most 99.
 pub fn items_listed(alloc: Global, items: &mut Iter2<'_>) -> Result<String, MemoryError> {
     let mut said = String::new(alloc);
     for _ in 0..99 {
-        let Some((text, value)) = next_item(items)? else {
+        if !add_item(alloc, &mut said, items)? {
             return Ok(said);
-        };
-        let line = line_of(alloc, text.as_str(), value)?;
-        said.push_str(line.as_str())?;
+        }
     }
     Ok(said)
 }
@@ -153,8 +172,7 @@ pub fn listed(alloc: Global, entries: &mut Entries<'_>) -> Result<String, Memory
             return Ok(said);
         }
         let (text, value) = told(entries);
-        let line = line_of(alloc, text, value)?;
-        said.push_str(line.as_str())?;
+        add_line(alloc, &mut said, text, value)?;
     }
     Ok(said)
 }

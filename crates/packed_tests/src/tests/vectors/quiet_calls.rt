@@ -16,21 +16,27 @@ use std::process::Abort;
 /// Two numbers.
 const TWO: [u8; 8] = [0x41, 0, 0, 0, 0x42, 0, 0, 0];
 
+/// Whether bytes are the same.
+fn are_same_bytes(one: &[u8], other: &[u8]) -> bool {
+    one == other
+}
+
 /// How many values of a vector come one after another, and of its view.
 fn counts_of(vector: &ZeroVec<'_, u32>) -> [usize; 2] {
     let view = view_of(vector);
     [vector.iter().count(), view.iter().count()]
 }
 
-/// The ends of a vector and of its view, and how many values come one after another.
-type Reads = ([Ends<u32>; 2], [usize; 2]);
+/// The ends of a vector and of its view, how many values come one after another, the second one,
+/// and whether the bytes are the same.
+type Reads = ([Ends<u32>; 2], [usize; 2], Found<u32>, bool);
 
-/// What a vector of these bytes reads, and what its view does, and both at the second place.
-fn reads_of(rt: &impl Abort, bytes: &[u8]) -> (Reads, Found<u32>) {
+/// What a vector of these bytes reads, and what its view does.
+fn reads_of(rt: &impl Abort, bytes: &[u8]) -> Reads {
     let lent = lent_of(rt, bytes);
-    let view = view_of(&lent);
-    let ends = [ends_of(&lent), ends_of_view(view)];
-    ((ends, counts_of(&lent)), at_place(&lent, 1))
+    let ends = [ends_of(&lent), ends_of_view(view_of(&lent))];
+    let same = are_same_bytes(bytes_of(&lent), bytes);
+    (ends, counts_of(&lent), at_place(&lent, 1), same)
 }
 
 /// Calls: `ZeroVec::parse_bytes`, `ZeroVec::len`, `ZeroVec::is_empty`, `ZeroVec::get`,
@@ -40,14 +46,12 @@ fn reads_of(rt: &impl Abort, bytes: &[u8]) -> (Reads, Found<u32>) {
 #[test]
 fn reads_quiet(rt: HostRuntime) {
     say(&rt, "call");
-    let (reads, second) = reads_of(&rt, &TWO);
-    let same = bytes_of(&lent_of::<u32>(&rt, &TWO)) == TWO.as_slice();
+    let reads = reads_of(&rt, &TWO);
     say(&rt, "done");
     let ends = (2, false, Some(0x41), Some(0x42));
-    expect_same(&rt, reads, ([ends; 2], [2; 2]), "a vector and its view");
-    let want = (Some(0x42), Some(0x42), Some(0x42));
-    expect_same(&rt, second, want, "the second value");
-    expect(&rt, same, "the bytes");
+    let second = (Some(0x42), Some(0x42), Some(0x42));
+    let want: Reads = ([ends; 2], [2; 2], second, true);
+    expect_same(&rt, reads, want, "a vector and its view");
 }
 
 /// The places of one number and of another, each in a vector of these bytes and in its view.
@@ -70,7 +74,7 @@ fn searches_quiet(rt: HostRuntime) {
 fn is_like_its_owner(rt: &impl Abort, owner: &ZeroVec<'_, u32>) -> ([bool; 4], [bool; 2]) {
     let lent = lent_of(rt, bytes_of(owner));
     let view = view_of(&lent);
-    let same_bytes = bytes_of(&lent) == bytes_of_view(view);
+    let same_bytes = are_same_bytes(bytes_of(&lent), bytes_of_view(view));
     let same = are_same(&vector_of(view), &lent);
     (are_alike(owner, &lent), [same, same_bytes])
 }
@@ -164,18 +168,23 @@ fn packed<T: AsULE>(value: T) -> [u8; 4] {
 #[test]
 fn packed_values_quiet(rt: HostRuntime) {
     say(&rt, "call");
-    let unsigned = (packed(7_u8), packed(7_u16), packed(7_u32));
-    let signed = (packed(7_i8), packed(7_i16), packed(7_i32));
-    let points = (packed('\u{7}'), packed(PotentialCodePoint::from_u24(7)));
+    let found = [
+        packed(7_u8),
+        packed(7_u16),
+        packed(7_u32),
+        packed(7_i8),
+        packed(7_i16),
+        packed(7_i32),
+        packed('\u{7}'),
+        packed(PotentialCodePoint::from_u24(7)),
+    ];
     let read = (
         u8::from_unaligned(&[7]),
         i16::from_unaligned(&[7, 0]),
         char::from_unaligned(&[7, 0, 0]),
     );
     say(&rt, "done");
-    let want = [7, 0, 0, 0];
-    expect_same(&rt, unsigned, (want, want, want), "unsigned numbers");
-    expect_same(&rt, signed, (want, want, want), "numbers with sign");
-    expect_same(&rt, points, (want, want), "code points");
+    let what = "unsigned numbers, those with sign, and code points";
+    expect_same(&rt, found, [[7, 0, 0, 0]; 8], what);
     expect_same(&rt, read, (Some(7), Some(7), Some('\u{7}')), "read back");
 }
