@@ -21,6 +21,7 @@ KERNELS = (
     ("c16_look", "unit tries: a key"),
     ("c16_longest", "unit tries: the longest key"),
     ("c16_iter", "unit tries: all entries"),
+    ("c16_entries", "unit tries: all by one buffer"),
     ("c16_build", "building a unit trie"),
 )
 
