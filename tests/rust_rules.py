@@ -3,8 +3,7 @@ they need that the code doesn't, and forms that rust/make has to refuse."""
 
 # Our crates of tests, and what they test beside the library.
 TESTS = (
-    "packed_tests set_tests trie_tests built_trie_tests trie_format_tests ucptab_table"
-    " ucptrie_tests uses damaged_forms"
+    "packed_tests set_tests trie_tests built_trie_tests ucptab_table ucptrie_tests uses damaged_forms"
 ).split()
 # A program's own file, for which tests/rust_parts has another; and the tests of ucptrie's tables, of
 # which those of ucptab's stay: its engine asks errors of JSON and TOML for what the kit's crates tell
@@ -20,8 +19,8 @@ LEFT_OUT = [
 FORMS = ["damaged_forms"]
 FORM_MODULES = (
     "set_tests/tests/code_points/json set_tests/tests/texts/json packed_tests/tests/unit_tries/json"
-    " packed_tests/tests/unit_tries/written trie_format_tests/tests/json"
-    " trie_format_tests/tests/toml_keys trie_format_tests/tests/trie_toml"
+    " packed_tests/tests/unit_tries/written trie_tests/tests/formats/json"
+    " trie_tests/tests/formats/toml_keys trie_tests/tests/formats/trie_toml"
 ).split()
 # A test of memory becomes one that runs it by one of tests/rust_parts/refusals.rs.
 RUN_BY = r"#[test]\nfn \1() {\n    %s(\1_once);\n}\n\nfn \1_once("

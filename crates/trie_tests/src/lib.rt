@@ -1,4 +1,5 @@
-//! Tests of code point tries that are made of their parts, by their public calls.
+//! Tests of code point tries that are made of their parts, and of their stored forms, by their
+//! public calls.
 #![tactic(auto)]
 
 #[cfg(test)]

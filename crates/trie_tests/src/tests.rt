@@ -1,11 +1,12 @@
 //! What no clause says of tries that are made of their parts: examples whose answers come from
-//! outside, packed values of a user's own, headers that lie, and values along texts.
+//! outside, packed values of a user's own, headers that lie, values along texts, and stored forms.
 //!
 //! An assert stands in a small helper without a contract, and a value that owns memory is handed to
 //! it: a proof of a test that asserts and holds such values at the same time is long.
 
 mod coherence;
 mod constants;
+mod formats;
 mod packed_vectors;
 mod quiet_calls;
 mod reader;

@@ -1,6 +1,7 @@
 //! Tries in ICU's binary form with the highest byte of each number first.
 use super::binary_tables::{SMALL_8, SMALL_32};
-use super::support::{expect_same, expect_told, say};
+use super::support::expect_told;
+use crate::tests::{expect_same, say};
 use icu_trie_binary::binary::{BinaryError, SwappedError, from_binary_swapped, to_binary};
 use std::alloc::Global;
 use std::process::Abort;

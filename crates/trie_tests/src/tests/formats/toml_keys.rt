@@ -1,6 +1,7 @@
 //! Tries in TOML, key by key: each number that is missing or out of its range is named, and what
 //! the type's number says.
-use super::support::{expect_same, joined};
+use super::support::joined;
+use crate::tests::expect_same;
 use icu_trie::header::{CodePointTrieHeader, TrieType};
 use icu_trie_formats::trie_toml::{CodePointTrieToml, TomlError};
 use std::alloc::Global;

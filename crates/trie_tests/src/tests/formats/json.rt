@@ -1,5 +1,6 @@
 //! Tries in JSON: faults, the way there and back, texts, and refused memory.
-use super::support::{expect, expect_answers, expect_same, expect_told, joined, say};
+use super::support::{expect_answers, expect_told, joined};
+use crate::tests::{expect, expect_same, say};
 use icu_trie::cptrie::CodePointTrie;
 use icu_trie::error::CodePointTrieError;
 use icu_trie_formats::json::{TrieJsonError, from_json, to_json};

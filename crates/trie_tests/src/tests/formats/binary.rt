@@ -1,6 +1,7 @@
 //! Tries in ICU's binary form: those that ICU wrote, texts, and calls that take no memory.
 use super::binary_tables::{FAST_16_DATA, FAST_16_FRONT, LARGE_8_HEADER, SMALL_8, SMALL_32};
-use super::support::{expect_same, expect_told, say};
+use super::support::expect_told;
+use crate::tests::{expect_same, say};
 use icu_trie::cptrie::CodePointTrie;
 use icu_trie::error::CodePointTrieError;
 use icu_trie::header::{CodePointTrieHeader, TrieType};

@@ -1,7 +1,8 @@
 //! Tries written in ICU's binary form: those that ICU wrote give its bytes again; refusals, texts,
 //! and memory.
 use super::binary_tables::{FAST_16_DATA, FAST_16_FRONT, SMALL_8, SMALL_32};
-use super::support::{expect, expect_same, expect_told, say};
+use super::support::expect_told;
+use crate::tests::{expect, expect_same, say};
 use icu_trie::cptrie::CodePointTrie;
 use icu_trie::header::{CodePointTrieHeader, TrieType};
 use icu_trie::value::TrieValue;

@@ -1,5 +1,5 @@
 //! The trie of the planes.
-use super::support::{expect, expect_same, say};
+use crate::tests::{expect, expect_same, say};
 use icu_trie::cptrie::CodePointTrie;
 use icu_trie::error::CodePointTrieError;
 use icu_trie::ranges::CodePointMapRange;

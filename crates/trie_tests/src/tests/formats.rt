@@ -1,4 +1,4 @@
-//! What no clause says: each code point's plane, texts, and refused memory.
+//! Tries in JSON, TOML and ICU's binary form, and the trie of the planes.
 mod binary;
 mod binary_swapped;
 mod binary_tables;
