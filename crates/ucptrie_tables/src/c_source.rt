@@ -2,7 +2,7 @@
 use crate::cells::push_cells;
 use crate::pattern::Number::{Decimal, Hexadecimal};
 use crate::pattern::{push_named, push_pattern};
-use crate::source::{index1_offset, push_sizes, type_code};
+use crate::source::{header_numbers, index1_offset, push_sizes};
 use crate::table::Table;
 use std::alloc::{AllocError, Global};
 
@@ -84,23 +84,6 @@ static const UCPTrie @_trie={
 #endif
 ";
 
-/// Appends the trie for ICU.
-fn push_struct(text: &mut String, table: &Table, name: &str) -> Result<(), AllocError> {
-    let (header, index, values) = table.trie.parts();
-    let numbers = [
-        Decimal(index.len()),
-        Decimal(values.len()),
-        Hexadecimal(header.high_start),
-        Hexadecimal(header.shifted12_high_start as u32),
-        Decimal(type_code(header.trie_type) as usize),
-        Decimal(table.width.code() as usize),
-        Hexadecimal(header.index3_null_offset as u32),
-        Hexadecimal(header.data_null_offset),
-        Hexadecimal(header.null_value),
-    ];
-    push_pattern(text, STRUCT, name, &numbers)
-}
-
 /// The table in C: the two arrays, a look-up over them that needs no ICU, and the trie for ICU
 /// where its header is included before.
 pub(crate) fn c_text(alloc: Global, table: &Table, name: &str) -> Result<String, AllocError> {
@@ -110,6 +93,6 @@ pub(crate) fn c_text(alloc: Global, table: &Table, name: &str) -> Result<String,
     push_arrays(&mut text, table, name)?;
     push_numbers(&mut text, table, name)?;
     push_named(&mut text, LOOK_UP, name)?;
-    push_struct(&mut text, table, name)?;
+    push_pattern(&mut text, STRUCT, name, &header_numbers(table))?;
     Ok(text)
 }

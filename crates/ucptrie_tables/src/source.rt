@@ -1,5 +1,5 @@
-//! What source in C and in Rust have in common.
-use crate::pattern::Number::Decimal;
+//! What the texts of a table have in common.
+use crate::pattern::Number::{self, Decimal, Hexadecimal};
 use crate::pattern::push_pattern;
 use crate::table::Table;
 use icu_trie::header::TrieType;
@@ -59,4 +59,21 @@ pub(crate) fn push_sizes(text: &mut String, table: &Table) -> Result<(), AllocEr
         Decimal(values.len().saturating_mul(table.width.bytes())),
     ];
     push_pattern(text, SIZES, type_name(header.trie_type), &numbers)
+}
+
+/// The numbers of the header in the order of ICU's own struct, which TOML has too: lengths, where
+/// the high values begin, type and width, null blocks and the null value.
+pub(crate) fn header_numbers(table: &Table) -> [Number; 9] {
+    let (header, index, values) = table.trie.parts();
+    [
+        Decimal(index.len()),
+        Decimal(values.len()),
+        Hexadecimal(header.high_start),
+        Hexadecimal(header.shifted12_high_start as u32),
+        Decimal(type_code(header.trie_type) as usize),
+        Decimal(table.width.code() as usize),
+        Hexadecimal(header.index3_null_offset as u32),
+        Hexadecimal(header.data_null_offset),
+        Hexadecimal(header.null_value),
+    ]
 }

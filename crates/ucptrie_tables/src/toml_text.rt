@@ -1,8 +1,8 @@
 //! A table in TOML, as ICU's usrc_writeUCPTrie writes it.
 use crate::cells::push_cells;
-use crate::pattern::Number::{Decimal, Hexadecimal};
+use crate::pattern::Number::Decimal;
 use crate::pattern::push_pattern;
-use crate::source::type_code;
+use crate::source::header_numbers;
 use crate::table::Table;
 use std::alloc::{AllocError, Global};
 
@@ -20,23 +20,6 @@ dataNullOffset = %
 nullValue = %
 ";
 
-/// Appends what follows the data.
-fn push_header(text: &mut String, table: &Table) -> Result<(), AllocError> {
-    let (header, index, values) = table.trie.parts();
-    let numbers = [
-        Decimal(index.len()),
-        Decimal(values.len()),
-        Hexadecimal(header.high_start),
-        Hexadecimal(header.shifted12_high_start as u32),
-        Decimal(type_code(header.trie_type) as usize),
-        Decimal(table.width.code() as usize),
-        Hexadecimal(header.index3_null_offset as u32),
-        Hexadecimal(header.data_null_offset),
-        Hexadecimal(header.null_value),
-    ];
-    push_pattern(text, HEADER, "", &numbers)
-}
-
 /// The table in TOML.
 pub(crate) fn toml_text(alloc: Global, table: &Table) -> Result<String, AllocError> {
     let (_, index, values) = table.trie.parts();
@@ -46,6 +29,6 @@ pub(crate) fn toml_text(alloc: Global, table: &Table) -> Result<String, AllocErr
     let bits = [Decimal(table.width.bits() as usize)];
     push_pattern(&mut text, "\n]\ndata_% = [\n  ", "", &bits)?;
     push_cells(&mut text, values, "  ")?;
-    push_header(&mut text, table)?;
+    push_pattern(&mut text, HEADER, "", &header_numbers(table))?;
     Ok(text)
 }
