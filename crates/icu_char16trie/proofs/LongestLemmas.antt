@@ -99,7 +99,8 @@ at_next units text i node n q found within steps h on = record {
     none k above below =
         let same : i + (k - i) ≡ k = omega (arith, above) in
         subst (λ z. P z None) same
-        (front_from units text i (k - i) (Node node) None steps (on.none (k - i) (omega (arith, above)) (omega (arith, above, below, on.some))))
+        (front_from units text i (k - i) (Node node) None steps
+        (on.none (k - i) (omega (arith, above)) (omega (arith, above, below, on.some))))
 
 none_further : (units text : List ℕ) (i node : ℕ) (found : Option (ℕ × ℤ)) → i ≤ length text
     → StepsAlong units (Node 0) (take i text) (Node node) → LongestWithin (HasFrontStepped units text) i found
@@ -131,8 +132,8 @@ found_here units text i node lead before found at g is =
     rw is (rw value at at.longest)
 
 -- no lead is there
-pub ends_before : (units text : List ℕ) (i node : ℕ) (found : Option (ℕ × ℤ)) → IsAtNode units text i node found → slice_get units node ≡ None
-    → LongestWithin (HasFrontStepped units text) (length text) found
+pub ends_before : (units text : List ℕ) (i node : ℕ) (found : Option (ℕ × ℤ)) → IsAtNode units text i node found
+    → slice_get units node ≡ None → LongestWithin (HasFrontStepped units text) (length text) found
 ends_before units text i node found at g =
     let no_value : value_at units (Node node) ≡ None = ap (option_and_then (value_by units (node + 1))) g in
     none_beyond_node units text i node found at.within at.steps (rw no_value at at.longest) (ap ends_by g)
@@ -166,7 +167,8 @@ pub at_next_node : (units text : List ℕ) (i node lead n q : ℕ) (before found
 at_next_node units text i node lead n q before found at g is on =
     at_next units text i node n q found at.within at.steps (found_here units text i node lead before found at g is) on
 
-pub within_text : (units text : List ℕ) (i node n q : ℕ) → i ≤ length text → LeadsToNode units (Node node) (drop i text) q n → i + n ≤ length text
+pub within_text : (units text : List ℕ) (i node n q : ℕ) → i ≤ length text
+    → LeadsToNode units (Node node) (drop i text) q n → i + n ≤ length text
 within_text units text i node n q within on = omega (arith, on.within, length-drop i text, within)
 
 -- all that is left of a text

@@ -48,11 +48,13 @@ first_left m text k v xs within value is =
 
 -- ---- a whole run
 
-run_gives : (xs : List (ℕ × ℤ)) (s t u : Matches) (m : UnitMap) (left : List (ℕ × ℤ)) → AreLeft s m left → Yields GivesMatch s xs t → GivesMatch t None u → xs ≡ left
+run_gives : (xs : List (ℕ × ℤ)) (s t u : Matches) (m : UnitMap) (left : List (ℕ × ℤ)) → AreLeft s m left
+    → Yields GivesMatch s xs t → GivesMatch t None u → xs ≡ left
 run_gives [] s t u m left are y last = sym (last.items m left (subst (λ z. AreLeft z m left) y are))
 run_gives (x ∷ xs) s t u m left are (j, step, others) last =
     let g = step.items m left are in
     ap (λ z. x ∷ z) (run_gives xs j t u m g.0 g.2 others last) ∙ sym g.1
 
-pub drain_matches : (s : Matches) (xs : List (ℕ × ℤ)) (m : UnitMap) (left : List (ℕ × ℤ)) → AreLeft s m left → Drains GivesMatch s xs → xs ≡ left
+pub drain_matches : (s : Matches) (xs : List (ℕ × ℤ)) (m : UnitMap) (left : List (ℕ × ℤ)) → AreLeft s m left
+    → Drains GivesMatch s xs → xs ≡ left
 drain_matches s xs m left are d = run_gives xs s d.1.0 d.0 m left are d.1.1 d.1.2

@@ -48,7 +48,8 @@ mutual
   children_one units (none arms m a e) y = e ∙ sym (children_nil units y a)
   children_one units (more u q rest arms m others all a h c e) y =
       let f = children_cons units y u q rest a in
-      e ∙ ap (λ z. under (u ∷ []) z ++ others) (holds_one units h f.node) ∙ ap (λ z. under (u ∷ []) f.first ++ z) (children_one units c f.children) ∙ sym f.is
+      e ∙ ap (λ z. under (u ∷ []) z ++ others) (holds_one units h f.node)
+      ∙ ap (λ z. under (u ∷ []) f.first ++ z) (children_one units c f.children) ∙ sym f.is
 
 no_root : (units : List ℕ) (m : List (List ℕ × ℤ)) → units ≡ [] → Holds units 0 m → ⊥
 no_root units m e h = holds_within units h (ap (λ z. slice_get z 0) e)
@@ -82,7 +83,8 @@ pub from_more : (s t : ℕ) (arms : List (ℕ × ℕ)) → s ≤ t → UnitsFrom
 from_more s t [] h f = tt
 from_more s t (a ∷ arms) h f = (omega (arith, f.0), from_more s t arms h f.1)
 
-children_begin : (units : List ℕ) {arms : List (ℕ × ℕ)} {m : List (List ℕ × ℤ)} → Children units arms m → (s : ℕ) → UnitsFrom s arms → AllBeginFrom s m
+children_begin : (units : List ℕ) {arms : List (ℕ × ℕ)} {m : List (List ℕ × ℤ)} → Children units arms m → (s : ℕ)
+    → UnitsFrom s arms → AllBeginFrom s m
 children_begin units (none arms m a e) s f = rw e tt
 children_begin units (more u q rest arms m others all a h c e) s f =
     let f' : (s ≤ u) × UnitsFrom s rest = rw a at f in
@@ -125,25 +127,31 @@ first_below u key [] b = tt
 first_below u key (([], v) ∷ m) b = absurd b.0
 first_below u key ((x ∷ rest, v) ∷ m) b = (inl (omega (arith, b.0)), first_below u key m b.1)
 
-append_ascends : (u : ℕ) (m n : List (List ℕ × ℤ)) → IsAscendingKeys (under (u ∷ []) m) → IsAscendingKeys n → AllBeginFrom (u + 1) n → IsAscendingKeys (under (u ∷ []) m ++ n)
+append_ascends : (u : ℕ) (m n : List (List ℕ × ℤ)) → IsAscendingKeys (under (u ∷ []) m) → IsAscendingKeys n
+    → AllBeginFrom (u + 1) n → IsAscendingKeys (under (u ∷ []) m ++ n)
 append_ascends u [] n h k b = k
-append_ascends u (e ∷ m) n h k b = (below_append (u ∷ e.0) (under (u ∷ []) m) n h.0 (first_below u e.0 n b), append_ascends u m n h.1 k b)
+append_ascends u (e ∷ m) n h k b =
+    (below_append (u ∷ e.0) (under (u ∷ []) m) n h.0 (first_below u e.0 n b), append_ascends u m n h.1 k b)
 
 mutual
   holds_ascends : (units : List ℕ) {p : ℕ} {m : List (List ℕ × ℤ)} → Holds units p m → IsAscendingKeys m
   holds_ascends units (final p lead n m g big s e) = rw e (tt, tt)
   holds_ascends units (plain p lead m g small h) = matches_ascends units h
-  holds_ascends units (valued p lead n m rest g big small s h e) = rw e (empty_below 0 rest (matches_begin units h), matches_ascends units h)
+  holds_ascends units (valued p lead n m rest g big small s h e) =
+      rw e (empty_below 0 rest (matches_begin units h), matches_ascends units h)
 
   matches_ascends : (units : List ℕ) {p low : ℕ} {m : List (List ℕ × ℤ)} → Matches units p low m → IsAscendingKeys m
-  matches_ascends units (run p low m rest big small within h e) = rw e (under_ascends (take (low - 0x2f) (drop p units)) rest (holds_ascends units h))
+  matches_ascends units (run p low m rest big small within h e) =
+      rw e (under_ascends (take (low - 0x2f) (drop p units)) rest (holds_ascends units h))
   matches_ascends units (branch p low n arms m small len many part up c) = children_ascend units c up
 
-  children_ascend : (units : List ℕ) {arms : List (ℕ × ℕ)} {m : List (List ℕ × ℤ)} → Children units arms m → IsAscending arms → IsAscendingKeys m
+  children_ascend : (units : List ℕ) {arms : List (ℕ × ℕ)} {m : List (List ℕ × ℤ)} → Children units arms m
+      → IsAscending arms → IsAscendingKeys m
   children_ascend units (none arms m a e) up = rw e tt
   children_ascend units (more u q rest arms m others all a h c e) up =
       let up' : UnitsFrom (u + 1) rest × IsAscending rest = rw a at up in
-      rw e (append_ascends u m others (under_ascends (u ∷ []) m (holds_ascends units h)) (children_ascend units c up'.1) (children_begin units c (u + 1) up'.0))
+      rw e (append_ascends u m others (under_ascends (u ∷ []) m (holds_ascends units h))
+      (children_ascend units c up'.1) (children_begin units c (u + 1) up'.0))
 
 pub trie_ascends : (units : List ℕ) (m : List (List ℕ × ℤ)) → IsTrieOf units m → IsAscendingKeys m
 trie_ascends units m (grammar.node h) = holds_ascends units h

@@ -20,7 +20,8 @@ last_found units (last p n u' arms e g a) le u h w = let same : u' ≡ u = cc in
 last_found units (entry p n u' v child rest arms more le5 g g' c r a) le u h w = absurd (omega arith)
 last_found units (split p n s d low lower upper arms more g g' c l r b f a) le u h w = absurd (omega arith)
 
-pub last_is : (units : List ℕ) {p n : ℕ} {arms : List (ℕ × ℕ)} → Part units p n arms → n ≤ 1 → (u : ℕ) → slice_get units p ≡ Some u → arms ≡ (u, p + 1) ∷ []
+pub last_is : (units : List ℕ) {p n : ℕ} {arms : List (ℕ × ℕ)} → Part units p n arms → n ≤ 1 → (u : ℕ) → slice_get units p ≡ Some u
+    → arms ≡ (u, p + 1) ∷ []
 last_is units (last p n u' arms e g a) le u h = let same : u' ≡ u = cc in a ∙ ap (λ z. (z, p + 1) ∷ []) same
 last_is units (entry p n u' v child rest arms more le5 g g' c r a) le u h = absurd (omega arith)
 last_is units (split p n s d low lower upper arms more g g' c l r b f a) le u h = absurd (omega arith)
@@ -41,7 +42,14 @@ entry_found units (last p n u' arms e g a) more le u v h h' = absurd (omega arit
 entry_found units (entry p n u' v' child rest arms more le5 g g' c r a) _ _ u v h h' =
     let su : u' ≡ u = cc in
     let sv : v' ≡ v = cc in
-    record { child = child; rest = rest; at = rw (← sv) c; is = a ∙ ap (λ z. (z, child) ∷ rest) su; others = rw (← sv) r; found = λ w. rw (a, su) refl }
+    record {
+      child = child;
+      rest = rest;
+      at = rw (← sv) c;
+      is = a ∙ ap (λ z. (z, child) ∷ rest) su;
+      others = rw (← sv) r;
+      found = λ w. rw (a, su) refl;
+    }
 entry_found units (split p n s d low lower upper arms more g g' c l r b f a) _ le u v h h' = absurd (omega arith)
 
 -- no arm below s has the unit s or more
@@ -115,7 +123,8 @@ part_goes_on units (last p n u arms e g a) many h = omega arith
 part_goes_on units (entry p n u v child rest arms more few g g' c r a) many h = no_none (sym g' ∙ h)
 part_goes_on units (split p n s d low lower upper arms more g g' c l r b f a) many h = no_none (sym g' ∙ h)
 
-row_cut_by : (units : List ℕ) (u p n : ℕ) (first : Option ℕ) → slice_get units p ≡ first → 1 < n → slice_get units (p + 1) ≡ None → InRow units u p n None
+row_cut_by : (units : List ℕ) (u p n : ℕ) (first : Option ℕ) → slice_get units p ≡ first → 1 < n
+    → slice_get units (p + 1) ≡ None → InRow units u p n None
 row_cut_by units u p n None g more g' = gone p n None g refl
 row_cut_by units u p n (Some x) g more g' = cut p n x None more g g' refl
 
@@ -123,7 +132,8 @@ row_cut_by units u p n (Some x) g more g' = cut p n x None more g g' refl
 pub row_cut : (units : List ℕ) (u p n : ℕ) → 1 < n → slice_get units (p + 1) ≡ None → InRow units u p n None
 row_cut units u p n = row_cut_by units u p n (slice_get units p) refl
 
-part_cut_by : (units : List ℕ) (u p n : ℕ) (first : Option ℕ) → slice_get units p ≡ first → 5 < n → slice_get units (p + 1) ≡ None → InPart units u p n None
+part_cut_by : (units : List ℕ) (u p n : ℕ) (first : Option ℕ) → slice_get units p ≡ first → 5 < n
+    → slice_get units (p + 1) ≡ None → InPart units u p n None
 part_cut_by units u p n None g more g' = no_split p n None more g refl
 part_cut_by units u p n (Some s) g more g' = no_delta p n s None more g g' refl
 
@@ -132,7 +142,8 @@ pub part_cut : (units : List ℕ) (u p n : ℕ) → 5 < n → slice_get units (p
 part_cut units u p n = part_cut_by units u p n (slice_get units p) refl
 
 -- what a row leads to is what its arms say
-row_finds : (units : List ℕ) {u p n : ℕ} {r : Option ℕ} → InRow units u p n r → {arms : List (ℕ × ℕ)} → Part units p n arms → n ≤ 5 → r ≡ arm_of arms u
+row_finds : (units : List ℕ) {u p n : ℕ} {r : Option ℕ} → InRow units u p n r → {arms : List (ℕ × ℕ)}
+    → Part units p n arms → n ≤ 5 → r ≡ arm_of arms u
 row_finds units (gone p n r g is) part few = absurd (part_begins units part g)
 row_finds units (last_here p n x r one g is) part few = is ∙ last_found units part one x g _
 row_finds units (cut p n x r more g g' is) part few = absurd (part_goes_on units part more g')
@@ -146,7 +157,8 @@ row_finds units {u} (on p n x v r more g ne g' rest) part few =
     row_finds units rest e.others (omega (arith, few)) ∙ sym (e.found u ∙ rw other refl)
 
 -- and so is what a part leads to
-pub part_finds : (units : List ℕ) {u p n : ℕ} {r : Option ℕ} → InPart units u p n r → {arms : List (ℕ × ℕ)} → Part units p n arms → r ≡ arm_of arms u
+pub part_finds : (units : List ℕ) {u p n : ℕ} {r : Option ℕ} → InPart units u p n r → {arms : List (ℕ × ℕ)}
+    → Part units p n arms → r ≡ arm_of arms u
 part_finds units (row p n r few in_row) part = row_finds units in_row part few
 part_finds units (no_split p n r more g is) part = absurd (part_begins units part g)
 part_finds units (no_delta p n s r more g g' is) part = absurd (part_goes_on units part (omega (arith, more)) g')

@@ -8,7 +8,8 @@ use Rattle.icu_char16trie.specs.Passed.{Passes}
 use Rattle.icu_char16trie.specs.declared.place.Place.{Place}
 use Rattle.icu_char16trie.proofs.StepLemmas.{steps_one}
 
-pub along_then : (units : List ℕ) (from mid to : Place) (v w : List ℕ) → StepsAlong units from v mid → StepsAlong units mid w to → StepsAlong units from (v ++ w) to
+pub along_then : (units : List ℕ) (from mid to : Place) (v w : List ℕ) → StepsAlong units from v mid
+    → StepsAlong units mid w to → StepsAlong units from (v ++ w) to
 along_then units from mid to [] w h k = subst (λ z. StepsAlong units z w to) h k
 along_then units from mid to (u ∷ v) w h k = (h.0, h.1, along_then units h.0 mid to v w h.2 k)
 
@@ -18,7 +19,8 @@ along_one units from to to' (u ∷ w) h k =
     let same : k.0 ≡ h.0 = steps_one units from u k.0 h.0 k.1 h.1 in
     along_one units h.0 to to' w h.2 (subst (λ z. StepsAlong units z w to') same k.2)
 
-pub passes_unit : (s t : At) (u : ℕ) → t.units ≡ s.units → StepsTo s.units s.place u t.place → ((m : List (List ℕ × ℤ)) (w : List ℕ) → IsAfter s m w → IsAfter t m (w ++ u ∷ [])) → Passes s (u ∷ []) t
+pub passes_unit : (s t : At) (u : ℕ) → t.units ≡ s.units → StepsTo s.units s.place u t.place
+    → ((m : List (List ℕ × ℤ)) (w : List ℕ) → IsAfter s m w → IsAfter t m (w ++ u ∷ [])) → Passes s (u ∷ []) t
 passes_unit s t u e x a = record { units = e; exact = (t.place, x, refl); after = a }
 
 pub passes_then : (s t r : At) (v w : List ℕ) → Passes s v t → Passes t w r → Passes s (v ++ w) r

@@ -46,7 +46,8 @@ value_stands units (Node p) m (inr h) = rw (h.0, h.1) refl
 value_stands units (Run p left) m h =
     let f = run_keys_first units p left m h in sym (ap (λ z. value_of z []) f.2 ∙ value_under f.0 f.1 h.rest)
 
-pub empty_stands : (units : List ℕ) (place : Place) (m : List (List ℕ × ℤ)) → Stands units place m → is_empty_at units place ≡ not (goes_on m [])
+pub empty_stands : (units : List ℕ) (place : Place) (m : List (List ℕ × ℤ)) → Stands units place m
+    → is_empty_at units place ≡ not (goes_on m [])
 unfolding goes_on key_goes_on
 empty_stands units Nowhere m h = rw h refl
 empty_stands units (Node p) m (inl h) = empty_holds units h
@@ -56,17 +57,21 @@ empty_stands units (Run p left) m h =
     sym (ap (λ z. not (goes_on z [])) f.2 ∙ ap not (under_on f.0 f.1 h.rest (holds_has units h.node)))
 
 -- the same after the units w from the root
-pub value_is_after : (cursor : At) (m : List (List ℕ × ℤ)) (w : List ℕ) → IsAfter cursor m w → value_at cursor.units cursor.place ≡ value_of m w
+pub value_is_after : (cursor : At) (m : List (List ℕ × ℤ)) (w : List ℕ) → IsAfter cursor m w
+    → value_at cursor.units cursor.place ≡ value_of m w
 value_is_after cursor m w h = value_stands cursor.units cursor.place (after_all w m) h ∙ sym (value_after_all w m)
 
-pub empty_is_after : (cursor : At) (m : List (List ℕ × ℤ)) (w : List ℕ) → IsAfter cursor m w → is_empty_at cursor.units cursor.place ≡ not (goes_on m w)
+pub empty_is_after : (cursor : At) (m : List (List ℕ × ℤ)) (w : List ℕ) → IsAfter cursor m w
+    → is_empty_at cursor.units cursor.place ≡ not (goes_on m w)
 empty_is_after cursor m w h = empty_stands cursor.units cursor.place (after_all w m) h ∙ ap not (sym (goes_on_after_all w m))
 
 -- what is told where units of a trie have been passed
-pub answer_is_after : (cursor : At) (m : List (List ℕ × ℤ)) (w : List ℕ) → IsAfter cursor m w → answer_at cursor ≡ result_of (value_of m w) (not (goes_on m w))
+pub answer_is_after : (cursor : At) (m : List (List ℕ × ℤ)) (w : List ℕ) → IsAfter cursor m w
+    → answer_at cursor ≡ result_of (value_of m w) (not (goes_on m w))
 answer_is_after cursor m w h = rw (value_is_after cursor m w h, empty_is_after cursor m w h) refl
 
-pub step_is_after : (units : List ℕ) (place : Place) (m : List (List ℕ × ℤ)) (w : List ℕ) (u : ℕ) → Stands units place (after u (after_all w m)) → Stands units place (after_all (w ++ u ∷ []) m)
+pub step_is_after : (units : List ℕ) (place : Place) (m : List (List ℕ × ℤ)) (w : List ℕ) (u : ℕ)
+    → Stands units place (after u (after_all w m)) → Stands units place (after_all (w ++ u ∷ []) m)
 step_is_after units place m w u h = rw (after_all_push w u m) h
 
 -- the root of a trie stands for its map

@@ -74,7 +74,8 @@ none_within units (u ∷ text) p (suc left) b (suc k) lt =
 
 -- ---- a text that does not
 
-nowhere_has_none : (units : List ℕ) (from : Place) (u : ℕ) (text : List ℕ) → StepsTo units from u Nowhere → NoneHasValue units from (u ∷ text)
+nowhere_has_none : (units : List ℕ) (from : Place) (u : ℕ) (text : List ℕ) → StepsTo units from u Nowhere
+    → NoneHasValue units from (u ∷ text)
 nowhere_has_none units from u text step zero some within = absurd (omega (arith, some))
 nowhere_has_none units from u text step (suc k) some within = (Nowhere, (Nowhere, step, stays_nowhere units (take k text)), refl)
 
@@ -90,7 +91,8 @@ is_unit units p u = by (slice_get units p)
     by (Some x) = here x (nat_eq x u) refl
 
 -- its first unit is not that of the linear match
-off_at_first : (units : List ℕ) (text : List ℕ) (p left u : ℕ) → (slice_get units p ≡ Some u → ⊥) → NoneHasValue units (Run p left) (u ∷ text)
+off_at_first : (units : List ℕ) (text : List ℕ) (p left u : ℕ) → (slice_get units p ≡ Some u → ⊥)
+    → NoneHasValue units (Run p left) (u ∷ text)
 off_at_first units text p left u other = nowhere_has_none units (Run p left) u text (off_run units p left u (slice_get units p) refl other)
 
 run_left : (units : List ℕ) (text : List ℕ) (p left : ℕ) → (BeginsRun units p (suc left) text → ⊥) → NoneHasValue units (Run p left) text
@@ -107,7 +109,8 @@ run_left units (u ∷ text) p (suc left) never (suc zero) some within = elim (is
 ]
 run_left units (u ∷ text) p (suc left) never (suc (suc k)) some within = elim (is_unit units p u) [
   | inl g ↦
-      let h = run_left units text (p + 1) left (λ b. never (begins_more units p (suc left) u text g b)) (suc k) (omega arith) (omega (arith, within)) in
+      let h = run_left units text (p + 1) left (λ b. never (begins_more units p (suc left) u text g b))
+      (suc k) (omega arith) (omega (arith, within)) in
       (h.0, (Run (p + 1) left, on_in_run units p left u g, h.1), h.2)
   | inr other ↦ off_at_first units text p (suc left) u other (suc (suc k)) some within
 ]
@@ -119,11 +122,13 @@ by_run : (units : List ℕ) (from : Place) (p low : ℕ) → 0x30 ≤ low → Le
     → StepsTo units (Run p (low - 0x30)) u to → StepsTo units from u to
 by_run units from p low big leads u to step = leads u to (in_run p low to big step)
 
-steps_by : (units : List ℕ) (from mid : Place) (w : List ℕ) (q : Place) → ((u : ℕ) (to : Place) → StepsTo units mid u to → StepsTo units from u to)
+steps_by : (units : List ℕ) (from mid : Place) (w : List ℕ) (q : Place)
+    → ((u : ℕ) (to : Place) → StepsTo units mid u to → StepsTo units from u to)
     → (u : ℕ) → StepsAlong units mid (u ∷ w) q → StepsAlong units from (u ∷ w) q
 steps_by units from mid w q leads u h = (h.0, leads u h.0 h.1, h.2)
 
-value_by_front : (units : List ℕ) (from mid : Place) (text : List ℕ) → ((u : ℕ) (to : Place) → StepsTo units mid u to → StepsTo units from u to)
+value_by_front : (units : List ℕ) (from mid : Place) (text : List ℕ)
+    → ((u : ℕ) (to : Place) → StepsTo units mid u to → StepsTo units from u to)
     → (k : ℕ) → 0 < k → k ≤ length text → HasValueFrom units mid (take k text) None → HasValueFrom units from (take k text) None
 value_by_front units from mid text leads zero some within h = absurd (omega (arith, some))
 value_by_front units from mid [] leads (suc k) some within h = absurd (omega (arith, within))
@@ -143,12 +148,14 @@ passes_run units text p low n q big e at b from leads =
     let there : p + suc (low - 0x30) ≡ q = omega (arith, e, big, at) in
     let b' : BeginsRun units p (suc (low - 0x30)) text = rw more at b in
     let passed : StepsAlong units (Run p (low - 0x30)) (take (suc (low - 0x30)) text) (Node q) =
-    subst (λ z. StepsAlong units (Run p (low - 0x30)) (take (suc (low - 0x30)) text) (Node z)) there (run_passed units text p (low - 0x30) b') in
+    subst (λ z. StepsAlong units (Run p (low - 0x30)) (take (suc (low - 0x30)) text) (Node z)) there
+    (run_passed units text p (low - 0x30) b') in
     record {
       some = omega (arith, e, big);
       within = b.within;
-      steps = node_by_front units from (Run p (low - 0x30)) text (Node q) (by_run units from p low big leads) n (omega (arith, e, big)) b.within
-          (rw (← more) at passed);
+      steps =
+          node_by_front units from (Run p (low - 0x30)) text (Node q) (by_run units from p low big leads) n (omega (arith, e, big))
+          b.within (rw (← more) at passed);
       none = λ k some lt.
           value_by_front units from (Run p (low - 0x30)) text (by_run units from p low big leads) k some (omega (arith, b.within, lt))
           (none_within units text p (low - 0x30) b' k (omega (arith, lt, more)));
