@@ -34,11 +34,6 @@ next_left cursor text k m within after =
     let count : length text - k ≡ length text + 1 - (k + 1) = omega arith in
     (omega (arith, within), after, ap (λ (n : ℕ). matches_from m text (k + 1) n) count)
 
-pub all_left : (cursor : At) (text : List ℕ) (m : UnitMap) → IsAfter cursor m [] → AreLeftAt cursor text (Some 0) m (matches_of m text)
-all_left cursor text m after =
-    let count : length text + 1 ≡ length text + 1 - 0 = omega arith in
-    (omega arith, after, ap (λ (n : ℕ). matches_from m text 0 n) count)
-
 -- a front is told
 pub first_left : (m : UnitMap) (text : List ℕ) (k : ℕ) (v : Option ℤ) (xs : List (ℕ × ℤ)) → k ≤ length text → value_of m (take k text) ≡ v
     → xs ≡ matches_from m text k (length text + 1 - k) → xs ≡ match_at k v ++ matches_from m text (k + 1) (length text - k)

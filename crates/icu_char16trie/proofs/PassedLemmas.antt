@@ -13,12 +13,6 @@ pub along_then : (units : List ℕ) (from mid to : Place) (v w : List ℕ) → S
 along_then units from mid to [] w h k = subst (λ z. StepsAlong units z w to) h k
 along_then units from mid to (u ∷ v) w h k = (h.0, h.1, along_then units h.0 mid to v w h.2 k)
 
-pub along_one : (units : List ℕ) (from to to' : Place) (w : List ℕ) → StepsAlong units from w to → StepsAlong units from w to' → to ≡ to'
-along_one units from to to' [] h k = h ∙ sym k
-along_one units from to to' (u ∷ w) h k =
-    let same : k.0 ≡ h.0 = steps_one units from u k.0 h.0 k.1 h.1 in
-    along_one units h.0 to to' w h.2 (subst (λ z. StepsAlong units z w to') same k.2)
-
 pub passes_unit : (s t : At) (u : ℕ) → t.units ≡ s.units → StepsTo s.units s.place u t.place
     → ((m : List (List ℕ × ℤ)) (w : List ℕ) → IsAfter s m w → IsAfter t m (w ++ u ∷ [])) → Passes s (u ∷ []) t
 passes_unit s t u e x a = record { units = e; exact = (t.place, x, refl); after = a }
@@ -29,9 +23,6 @@ passes_then s t r v w a b = record {
   exact = along_then s.units s.place t.place r.place v w a.exact (subst (λ z. StepsAlong z t.place w r.place) a.units b.exact);
   after = λ m key h. let h' = b.after m (key ++ v) (a.after m key h) in rw append_assoc at h';
 }
-
-pub one_unit : (c : ℕ) → c < 0x1_0000 → encode_utf16 c ≡ c ∷ []
-one_unit c h = let t : nat_lt c 0x1_0000 ≡ true = grind (arith, nat_tests) in rw t refl
 
 pub two_units : (c : ℕ) → 0x1_0000 ≤ c → encode_utf16 c ≡ (0xD800 + (c - 0x1_0000) / 0x400) ∷ (0xDC00 + (c - 0x1_0000) % 0x400) ∷ []
 two_units c h = let t : nat_lt c 0x1_0000 ≡ false = grind (arith, nat_tests) in rw t refl

@@ -186,6 +186,3 @@ pub leaves_branch : (units text : List ℕ) (p low u : ℕ) → 0 < length text 
 leaves_branch units [] p low u some g step from leads = absurd (omega (arith, some))
 leaves_branch units (x ∷ text) p low u some g step from leads =
     let same : x ≡ u = cc in nowhere_has_none units from x text (rw same (leads u Nowhere step))
-
-pub leaves_end : (units text : List ℕ) (p low : ℕ) → length text ≤ 0 → PassesMatch units text p low None
-leaves_end units text p low none from leads k some within = absurd (omega (arith, some, within, none))

@@ -260,9 +260,6 @@ under_not front m h e =
 holds_before : (units : List ℕ) (p : ℕ) {m : UnitMap} → Holds units p m → length units ≤ p → ⊥
 holds_before units p h past = holds_within units h (slice_get_past units p past)
 
-pub nowhere_none : (units : List ℕ) (v : ℤ) → StandsForOneValue units Nowhere v → ⊥
-nowhere_none units v h = h.2.0 h.1
-
 pub node_is_ahead : (units : List ℕ) (p : ℕ) → p < length units → IsNodeAhead units (Node p) p
 node_is_ahead units p within = record {
   within = within;
