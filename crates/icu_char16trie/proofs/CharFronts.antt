@@ -1,5 +1,5 @@
 -- The first characters of a text, their units and their bytes.
-use Rattle.std.proofs.Common.{◌≡◌, ℕ, ℤ, ◌+◌, ◌<◌, ◌≤◌, Bool, true, false, cond, nat_lt, ◌&&◌, ◌-◌, ◌/◌, ◌%◌, zero, suc, List, [], ◌∷◌, ◌++◌, Option, Some, None, length, take, drop, get_or, sym, ap, refl, ◌∙◌, arith, append_assoc, append-nil, length-append}
+use Rattle.std.proofs.Common.{◌≡◌, ℕ, ℤ, ◌+◌, ◌<◌, ◌≤◌, Bool, true, false, cond, nat_lt, ◌&&◌, ◌-◌, ◌/◌, ◌%◌, zero, suc, List, [], ◌∷◌, ◌++◌, Option, Some, None, length, take, drop, get_or, sym, ap, refl, ◌∙◌, arith, append-nil, length-append}
 use Rattle.std.proofs.Math.Utf8.{scalar, scalars, encode, encodes}
 use Rattle.std.proofs.lemmas.Str.{encodes-append, encodes-chars, scalars-chars, IsCharBoundary-from_take}
 use Rattle.std.proofs.Math.Seq.{take-append_seam, take-suc}
@@ -13,7 +13,7 @@ use Rattle.std.specs.Str.{chars, IsCharBoundary, IsUtf8}
 use Rattle.icu_char16trie.specs.UnitMap.{UnitMap, goes_on, value_of}
 use Rattle.icu_char16trie.specs.UnitPlaces.{is_empty_at}
 use Rattle.icu_char16trie.specs.Steps.{StepsAlong}
-use Rattle.icu_char16trie.specs.Matches.{HasCharsStepped, HasCharsValue, LongestWithin, front_units, in_bytes}
+use Rattle.icu_char16trie.specs.Matches.{HasCharsStepped, HasCharsValue, front_units, in_bytes}
 use Rattle.icu_char16trie.specs.Inside.Fronts.{longer}
 use Rattle.icu_char16trie.specs.declared.place.Place.{Place}
 use Rattle.icu_char16trie.specs.declared.place.Place.TheVariants.{Node}

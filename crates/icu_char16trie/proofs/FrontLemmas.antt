@@ -1,10 +1,10 @@
 -- The fronts of a text, and the longest one that has a value.
-use Rattle.std.proofs.Common.{◌≡◌, ℕ, ℤ, zero, suc, ◌+◌, ◌<◌, ◌≤◌, Bool, true, false, not, List, [], ◌∷◌, ◌++◌, Option, Some, None, length, take, get_or, sym, ap, subst, refl, ◌∙◌, arith, ◌⊎◌, inl, inr}
+use Rattle.std.proofs.Common.{◌≡◌, ℕ, ℤ, zero, suc, ◌+◌, ◌<◌, ◌≤◌, true, false, List, [], ◌∷◌, ◌++◌, Option, Some, None, length, take, get_or, sym, ap, subst, refl, ◌∙◌, arith, ◌⊎◌, inl, inr}
 use Rattle.std.specs.Prelude.{nat_le, slice_get}
 use Rattle.std.proofs.lemmas.Bool.Decides.{nat_tests}
 use Rattle.std.proofs.Math.Seq.{take-suc}
 use Rattle.icu_char16trie.specs.UnitMap.{UnitMap, goes_on, value_of}
-use Rattle.icu_char16trie.specs.UnitPlaces.{value_at, is_empty_at, ends_by}
+use Rattle.icu_char16trie.specs.UnitPlaces.{is_empty_at, ends_by}
 use Rattle.icu_char16trie.specs.Steps.{InNode, StepsTo, StepsAlong, no_lead, at_final}
 use Rattle.icu_char16trie.specs.Matches.{LongestWithin, HasFrontValue, HasFrontStepped, HasValueAlong}
 use Rattle.icu_char16trie.specs.Inside.Fronts.{longer}

@@ -5,7 +5,7 @@ use Rattle.std.proofs.Math.Seq.{take-length}
 use Rattle.std.proofs.lemmas.Bool.{lt-ltb}
 use Rattle.icu_char16trie.specs.Numbers.{node_end, end_by}
 use Rattle.icu_char16trie.specs.UnitPlaces.{value_at, value_by, is_empty_at, ends_by}
-use Rattle.icu_char16trie.specs.Steps.{InMatch, at_plain, at_valued, StepsAlong}
+use Rattle.icu_char16trie.specs.Steps.{at_plain, at_valued, StepsAlong}
 use Rattle.icu_char16trie.specs.Matches.{HasFrontStepped, LongestWithin}
 use Rattle.icu_char16trie.specs.Inside.Fronts.{longer, HasValueFrom, NoneHasValue, LeadsToNode, LeadsByMatch, PassesMatch}
 use Rattle.icu_char16trie.specs.declared.place.Place.{Place}

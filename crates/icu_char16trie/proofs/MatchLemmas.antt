@@ -3,7 +3,7 @@ use Rattle.std.proofs.Common.{◌≡◌, ℕ, ℤ, zero, suc, ◌+◌, ◌-◌, 
 use Rattle.std.specs.Iterator.{Yields, Drains}
 use Rattle.icu_char16trie.specs.UnitMap.{UnitMap, goes_on, value_of}
 use Rattle.icu_char16trie.specs.UnitPlaces.{At, IsAfter}
-use Rattle.icu_char16trie.specs.Matches.{match_at, matches_from, matches_of}
+use Rattle.icu_char16trie.specs.Matches.{match_at, matches_from}
 use Rattle.icu_char16trie.specs.MatchesLeft.{AreLeft, AreLeftAt, GivesMatch}
 use Rattle.icu_char16trie.specs.declared.matches.Matches.{Matches}
 use Rattle.icu_char16trie.proofs.FrontLemmas.{no_longer_front}

@@ -1,12 +1,11 @@
 -- What a cursor passes, one unit after the other.
-use Rattle.std.proofs.Common.{◌≡◌, ℕ, ℤ, ◌+◌, ◌-◌, ◌/◌, ◌%◌, ◌<◌, ◌≤◌, true, false, nat_lt, List, [], ◌∷◌, ◌++◌, refl, sym, subst, ◌∙◌, arith, append_assoc}
+use Rattle.std.proofs.Common.{◌≡◌, ℕ, ℤ, ◌+◌, ◌-◌, ◌/◌, ◌%◌, ◌≤◌, false, nat_lt, List, [], ◌∷◌, ◌++◌, refl, subst, ◌∙◌, arith, append_assoc}
 use Rattle.std.specs.Char.Escape.{encode_utf16}
 use Rattle.std.proofs.lemmas.Bool.Decides.{nat_tests}
 use Rattle.icu_char16trie.specs.UnitPlaces.{At, IsAfter}
 use Rattle.icu_char16trie.specs.Steps.{StepsTo, StepsAlong}
 use Rattle.icu_char16trie.specs.Passed.{Passes}
 use Rattle.icu_char16trie.specs.declared.place.Place.{Place}
-use Rattle.icu_char16trie.proofs.StepLemmas.{steps_one}
 
 pub along_then : (units : List ℕ) (from mid to : Place) (v w : List ℕ) → StepsAlong units from v mid
     → StepsAlong units mid w to → StepsAlong units from (v ++ w) to

@@ -1,10 +1,9 @@
 -- How a text goes on at a match node, to the next node or no further.
-use Rattle.std.proofs.Common.{◌≡◌, ℕ, ℤ, zero, suc, ◌+◌, ◌-◌, ◌<◌, ◌≤◌, Bool, true, false, nat_eq, List, [], ◌∷◌, ◌++◌, Option, Some, None, length, slice_get, take, drop, refl, sym, ap, subst, ◌∙◌, ◌⊎◌, inl, inr, arith, add-zero}
+use Rattle.std.proofs.Common.{◌≡◌, ℕ, zero, suc, ◌+◌, ◌-◌, ◌<◌, ◌≤◌, Bool, true, false, nat_eq, List, [], ◌∷◌, Option, Some, None, length, slice_get, take, refl, ap, subst, ◌⊎◌, inl, inr, arith, add-zero}
 use Rattle.std.proofs.lemmas.Option.{same_Some}
 use Rattle.std.proofs.lemmas.Bool.{eqb-true, eqb-false, eq-eqb, ne_eqb}
-use Rattle.icu_char16trie.specs.UnitPlaces.{value_at}
-use Rattle.icu_char16trie.specs.Steps.{InMatch, in_run, StepsTo, StepsAlong, run_place, child_place}
-use Rattle.icu_char16trie.specs.Inside.Fronts.{BeginsRun, HasValueFrom, NoneHasValue, LeadsToNode, LeadsByMatch, PassesMatch}
+use Rattle.icu_char16trie.specs.Steps.{InMatch, in_run, StepsTo, StepsAlong}
+use Rattle.icu_char16trie.specs.Inside.Fronts.{BeginsRun, HasValueFrom, NoneHasValue, LeadsByMatch, PassesMatch}
 use Rattle.icu_char16trie.specs.declared.place.Place.{Place}
 use Rattle.icu_char16trie.specs.declared.place.Place.TheVariants.{Nowhere, Node, Run}
 use Rattle.icu_char16trie.proofs.FrontLemmas.{stays_nowhere}

@@ -1,18 +1,17 @@
 -- What stands where steps have led.
-use Rattle.std.proofs.Common.{◌≡◌, ℕ, ℤ, zero, suc, ◌+◌, ◌-◌, ◌%◌, ◌<◌, ◌≤◌, Bool, true, false, nat_eq, List, [], ◌∷◌, Option, Some, None, get_or, slice_get, take, refl, sym, ap, subst, ◌∙◌, arith, ◌⊎◌, inl, inr, add-one}
+use Rattle.std.proofs.Common.{◌≡◌, ℕ, ℤ, zero, suc, ◌+◌, ◌-◌, Bool, true, false, nat_eq, List, [], ◌∷◌, Option, Some, None, get_or, slice_get, take, refl, sym, ◌∙◌, arith, inl, inr}
 use Rattle.std.proofs.lemmas.Bool.{eqb-true, ne_eqb}
 use Rattle.std.proofs.lemmas.Option.{same_Some, slice_get-get_or}
-use Rattle.icu_char16trie.specs.Numbers.{node_end}
-use Rattle.icu_char16trie.specs.Grammar.{Arms, Part, IsAscending, Children, Matches, Holds, IsTrieOf, branch_len, branch_start}
-use Rattle.icu_char16trie.specs.UnitMap.{UnitMap, after, after_all, value_of}
-use Rattle.icu_char16trie.specs.UnitPlaces.{InRun, Stands, value_at}
+use Rattle.icu_char16trie.specs.Grammar.{Arms, Part, IsAscending, Children, Matches, Holds, IsTrieOf, branch_start}
+use Rattle.icu_char16trie.specs.UnitMap.{UnitMap, after, after_all}
+use Rattle.icu_char16trie.specs.UnitPlaces.{InRun, Stands}
 use Rattle.icu_char16trie.specs.Steps.{InPart, InMatch, in_run, in_short, in_long, no_length, InNode, no_lead, at_final, at_plain, at_valued, StepsTo, StepsAlong, run_place, child_place}
 use Rattle.icu_char16trie.specs.Matches.{HasFrontValue, HasFrontStepped, LongestWithin}
 use Rattle.icu_char16trie.specs.declared.place.Place.{Place}
 use Rattle.icu_char16trie.specs.declared.place.Place.TheVariants.{Nowhere, Node, Run}
 use Rattle.icu_char16trie.proofs.MapLemmas.{value_after_all}
 use Rattle.icu_char16trie.proofs.NodeLemmas.{children_found, children_other, holds_final, holds_plain, holds_valued, holds_within, matches_branch, matches_run, run_end, run_other, run_step}
-use Rattle.icu_char16trie.proofs.PartLemmas.{part_begins, part_finds}
+use Rattle.icu_char16trie.proofs.PartLemmas.{part_finds}
 use Rattle.icu_char16trie.proofs.PlaceLemmas.{root_stands, value_stands}
 use Rattle.icu_char16trie.proofs.SoundnessLemmas.{short_len, short_start, long_len, long_start}
 

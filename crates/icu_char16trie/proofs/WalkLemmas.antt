@@ -11,7 +11,7 @@ use Rattle.icu_char16trie.specs.UnitPlaces.{Stands, value_by}
 use Rattle.icu_char16trie.specs.Pending.{Spells, PartsGive, IsPending, IsOver, IsNodeValue, weight, work_left}
 use Rattle.icu_char16trie.specs.Walk.{FrontGives, GivesFrom, IsWalked, front_work, work_from}
 use Rattle.icu_char16trie.specs.Inside.Opening.{bytes_of, Keeps}
-use Rattle.icu_char16trie.specs.Inside.Walking.{IsNearFront, IsSound, below, own, EndsKey, FindsEntry, IsOpened, OpensFront, ReadsNode, TellsNode}
+use Rattle.icu_char16trie.specs.Inside.Walking.{IsNearFront, below, own, EndsKey, FindsEntry, IsOpened, OpensFront, ReadsNode, TellsNode}
 use Rattle.icu_char16trie.specs.declared.front.Front.{Front}
 use Rattle.icu_char16trie.specs.declared.front.Front.TheVariants.{At}
 use Rattle.icu_char16trie.specs.declared.pending.Pending.{Pending}

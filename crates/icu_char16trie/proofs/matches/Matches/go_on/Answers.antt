@@ -1,4 +1,4 @@
-use Rattle.std.proofs.Common.{◌≡◌, ◌+◌, ◌<◌, ◌≤◌, Bool, true, false, not, take, length, refl, sym, ◌∙◌, arith}
+use Rattle.std.proofs.Common.{◌≡◌, ◌+◌, Bool, true, false, not, take, refl, arith}
 use Rattle.icu_char16trie.specs.UnitMap.{goes_on}
 use Rattle.icu_char16trie.specs.UnitPlaces.{IsAfter}
 use Rattle.icu_char16trie.proofs.FrontLemmas.{take_next}

@@ -1,4 +1,4 @@
-use Rattle.std.proofs.Common.{◌≡◌, ℕ, ℤ, ◌+◌, ◌-◌, ◌<◌, ◌≤◌, List, ◌∷◌, ◌++◌, Option, Some, None, length, take, sym, ap, subst, ◌∙◌, arith, rules, to_z, of_z, w32}
+use Rattle.std.proofs.Common.{◌≡◌, ℕ, ℤ, ◌+◌, ◌-◌, List, ◌∷◌, ◌++◌, Option, Some, None, length, take, sym, ap, subst, ◌∙◌, arith, rules, to_z, of_z, w32}
 use Rattle.std.proofs.lemmas.Int.{to_z-of_z}
 use Rattle.icu_char16trie.specs.UnitMap.{value_of}
 use Rattle.icu_char16trie.specs.Matches.{match_at, matches_from}

@@ -1,20 +1,20 @@
-use Rattle.std.proofs.Common.{◌≡◌, ℕ, ℤ, ◌+◌, ◌<◌, ◌≤◌, Bool, true, false, not, List, [], ◌∷◌, ◌++◌, Option, Some, None, length, take, get_or, refl, sym, ap, subst, ◌∙◌, arith, length-append}
-use Rattle.std.specs.Prelude.{IfSome, encode_utf8_all}
+use Rattle.std.proofs.Common.{◌≡◌, ℕ, ◌+◌, ◌≤◌, Bool, true, false, not, List, [], ◌∷◌, ◌++◌, None, length, take, refl, sym, ap, subst, ◌∙◌, arith, length-append}
+use Rattle.std.specs.Prelude.{encode_utf8_all}
 use Rattle.std.specs.Char.Escape.{encode_utf16}
 use Rattle.std.specs.List.{flat_map}
-use Rattle.std.specs.Str.{chars, IsCharBoundary}
+use Rattle.std.specs.Str.{chars}
 use Rattle.std.proofs.lemmas.List.{map-id}
 use Rattle.std.proofs.lemmas.Iterator.{YieldsList-from_chars}
 use Rattle.std.proofs.lemmas.Iterator.Consumers.{YieldsList-end, YieldsList-so_far, YieldsList-turn}
 use Rattle.icu_char16trie.specs.UnitMap.{UnitMap, goes_on, value_of}
 use Rattle.icu_char16trie.specs.UnitPlaces.{IsAfter, is_empty_at}
 use Rattle.icu_char16trie.specs.Steps.{StepsAlong}
-use Rattle.icu_char16trie.specs.Matches.{HasCharsStepped, HasCharsValue, LongestWithin, front_units, in_bytes}
+use Rattle.icu_char16trie.specs.Matches.{HasCharsStepped, HasCharsValue, LongestWithin, front_units}
 use Rattle.icu_char16trie.specs.Inside.Fronts.{longer}
 use Rattle.icu_char16trie.specs.Grammar.{IsTrieOf}
 use Rattle.icu_char16trie.specs.declared.place.Place.TheVariants.{Node}
 use Rattle.icu_char16trie.proofs.CharFronts.{front_next, bytes_next, bytes_within, ends_at_boundary, longer_bytes, no_more_chars, no_more_steps, units_next}
-use Rattle.icu_char16trie.proofs.FrontLemmas.{LongestWithin-zero, LongestWithin-suc, LongestWithin-more, take_next}
+use Rattle.icu_char16trie.proofs.FrontLemmas.{LongestWithin-zero, LongestWithin-suc, LongestWithin-more}
 use Rattle.icu_char16trie.proofs.PassedLemmas.{along_then}
 use Rattle.icu_char16trie.proofs.trie.Char16Trie.longest_match_str.Goals as goal
 
