@@ -79,18 +79,40 @@ fn texts_in_frozen_sets(rt: HostRuntime) {
     }
 }
 
-/// Whether the frozen words are equal to a copy, and to all code points and "ab", frozen.
-fn equalities(alloc: Global) -> Option<[bool; 2]> {
-    let first = frozen_words(alloc)?;
-    let is_copy_equal = are_same(&first, &copy_of_frozen(alloc, &first)?);
-    let other = frozen(alloc, &all_and_ab(alloc)?)?;
-    Some([is_copy_equal, are_same(&first, &other)])
+/// All code points and "ab", frozen. `None` where memory was refused.
+fn frozen_all_and_ab(alloc: Global) -> Option<FrozenCodePointSetAndStrings> {
+    frozen(alloc, &all_and_ab(alloc)?)
+}
+
+/// Whether a frozen set that was made is equal to this one. `None` where it was not made.
+fn is_same(
+    frozen: &FrozenCodePointSetAndStrings,
+    other: Option<FrozenCodePointSetAndStrings>,
+) -> Option<bool> {
+    match other {
+        Some(other) => Some(are_same(frozen, &other)),
+        None => None,
+    }
+}
+
+/// The frozen set is equal to its copy, and not to all code points and "ab", frozen.
+fn expect_equalities(rt: &(impl Abort + AllocGlobal), frozen: &FrozenCodePointSetAndStrings) {
+    let copy = is_same(frozen, copy_of_frozen(rt.alloc(), frozen));
+    let other = is_same(frozen, frozen_all_and_ab(rt.alloc()));
+    expect_same(
+        rt,
+        [copy, other],
+        [Some(true), Some(false)],
+        "the copy alone",
+    );
 }
 
 #[test]
 fn equal_frozen_sets_with_strings(rt: HostRuntime) {
-    let found = equalities(rt.alloc());
-    expect_same(&rt, found, Some([true, false]), "the copy alone");
+    match frozen_words(rt.alloc()) {
+        Some(frozen) => expect_equalities(&rt, &frozen),
+        None => rt.panic("no memory"),
+    }
 }
 
 /// The call is over: the set answers as it has to, where it was frozen.
