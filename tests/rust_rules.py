@@ -3,20 +3,21 @@ they need that the code doesn't, and forms that rust/make has to refuse."""
 
 # Our crates of tests, and what they test beside the library.
 TESTS = (
-    "packed_tests set_tests trie_tests built_trie_tests ucptab_table ucptrie_tests uses damaged_forms"
+    "packed_tests set_tests trie_tests built_trie_tests ucptab_table ucptrie_tests uses stored_forms"
 ).split()
 # A program's own file, for which tests/rust_parts has another; and the tests of ucptrie's tables, of
 # which those of ucptab's stay: its engine asks errors of JSON and TOML for what the kit's crates tell
 # of them, and Debian's do not, as the line of a fault.
 LEFT_OUT = [
-    "damaged_forms/main",
+    "stored_forms/main",
+    "stored_forms/exported",
     *(
         f"ucptrie_tests/tests/{it}"
         for it in "diff faults icu_tables memory names read rows support texts".split()
     ),
 ]
 # What needs JSON or TOML: crates, and modules of others.
-FORMS = ["damaged_forms"]
+FORMS = ["stored_forms"]
 FORM_MODULES = (
     "set_tests/tests/code_points/json set_tests/tests/texts/json packed_tests/tests/unit_tries/json"
     " packed_tests/tests/unit_tries/written trie_tests/tests/formats/json"

@@ -17,13 +17,13 @@ stop() { echo "exported: $1" >&2; exit 70; }
 work=$(mktemp -d)
 trap 'rm -rf "$work"' EXIT
 trap 'exit 130' INT TERM
-program=$("$root/tests/build" exported_tries) || stop "exported_tries is not proved and built"
+program=$("$root/tests/build" stored_forms) || stop "stored_forms is not proved and built"
 cd "$work"
 
 failed=
 # compare WHAT RANGES: the ranges of trie.toml are these.
 compare() {
-    if "$program" >"$work/out" && cmp -s "$work/out" "$2"; then
+    if "$program" exported >"$work/out" && cmp -s "$work/out" "$2"; then
         echo "$1: $(wc -l <"$2") ranges compared"
     else
         echo "$1: the first other lines:"; diff "$work/out" "$2" | head -n 6

@@ -1,13 +1,15 @@
-//! Damages stored forms of tries, sets and unit tries, reads what came of them, and asks all that
-//! is taken.
+//! Stored forms of tries, sets and unit tries, read.
 //!
-//! Usage: `damaged_forms COUNT [FOLDER]`, the folder being that of the stored forms. The damage
-//! comes from a fixed seed, so that each run of one count does the same. The last line says how
-//! many forms were tried, taken and refused; the status is 1 where a form that was taken answered
-//! wrongly, or took more than a second of processor time.
+//! Usage: `stored_forms COUNT [FOLDER]` damages those of the folder, reads what came of them, and
+//! asks all that is taken. The damage comes from a fixed seed, so that each run of one count does the
+//! same. The last line says how many forms were tried, taken and refused; the status is 1 where a
+//! form that was taken answered wrongly, or took more than a second of processor time.
+//!
+//! `stored_forms exported` reads a trie as ICU exports it (`exported.rt`).
 #![tactic(auto)]
 
 mod damage;
+mod exported;
 mod icu_forms;
 mod names;
 mod outcome;
@@ -37,13 +39,6 @@ fn word<'a>(rt: &HostRuntime, place: usize, bytes: &'a mut [u8]) -> Result<Optio
         Err(FillError::NotPresent) => Ok(None),
         Err(FillError::TooLong) => bail!("a word is too long"),
     }
-}
-
-/// The number that the first word says.
-fn count(rt: &HostRuntime) -> Result<u32> {
-    let mut bytes = [0; 64];
-    let word = word(rt, 1, &mut bytes)?.context("a count is missing")?;
-    word.parse::<u32>().ok().context("the count is no number")
 }
 
 /// Tries form number `number`, and says what is wrong with it where something is.
@@ -97,9 +92,8 @@ fn run_with_tries(
     tried_all(rt, stored, count)
 }
 
-/// Reads the stored forms, and tries them damaged.
-fn run(rt: &HostRuntime) -> Result<bool> {
-    let count = count(rt)?;
+/// Reads the stored forms, and tries so many damaged ones.
+fn run_damaged(rt: &HostRuntime, count: u32) -> Result<bool> {
     let mut bytes = [0; 4096];
     let folder = word(rt, 2, &mut bytes)?.unwrap_or(".");
     let texts = stored::texts(rt, folder)?;
@@ -111,12 +105,24 @@ fn run(rt: &HostRuntime) -> Result<bool> {
     run_with_tries(rt, &texts, &small, &fast, count)
 }
 
+/// Does what the first word says. It answers whether all went well.
+fn run(rt: &HostRuntime) -> Result<bool> {
+    let mut bytes = [0; 64];
+    let first = word(rt, 1, &mut bytes)?.context("a word is missing")?;
+    if first == "exported" {
+        exported::shown(rt)?;
+        return Ok(true);
+    }
+    let count = first.parse::<u32>().ok();
+    run_damaged(rt, count.context("the count is no number")?)
+}
+
 fn main(rt: HostRuntime) -> ExitCode {
     match run(&rt) {
         Ok(true) => ExitCode::from(0),
         Ok(false) => ExitCode::from(1),
         Err(error) => {
-            let _ = eprintln!(rt; "damaged_forms: {error}");
+            let _ = eprintln!(rt; "stored_forms: {error}");
             ExitCode::from(2)
         }
     }

@@ -1,17 +1,14 @@
-//! Prints the ranges of the first trie of the file `trie.toml` where it runs, as ICU's
-//! icuexportdata writes it, and writes the trie in ICU's binary form into `trie.bin` beside it,
-//! with values of 32 bits, for `tests/exported/run.sh`. Where there is a file `text` too, whose
-//! bytes may be ill-formed UTF-8, it writes the values along them into `values`, four bytes a part,
-//! the lowest first. Where there is no such trie, as in the gate, it prints and writes nothing, and
-//! the status is 1.
-#![tactic(auto)]
-
+//! The tries of ICU's own files: the ranges of the first trie of the file `trie.toml` where the
+//! program runs, as ICU's icuexportdata writes it, are printed, and the trie is written in ICU's
+//! binary form into `trie.bin` beside it, with values of 32 bits. Where there is a file `text` too,
+//! whose bytes may be ill-formed UTF-8, the values along them are written into `values`, four bytes
+//! a part, the lowest first. `tests/exported/run.sh` compares all three with what ICU says.
+use anyhow::{Context, Result};
 use icu_trie::cptrie::CodePointTrie;
 use icu_trie_binary::binary::to_binary;
 use icu_trie_formats::trie_toml::CodePointTrieToml;
 use icu_trie_text::text::values_of_utf8;
 use std::fs;
-use std::process::ExitCode;
 use toml::{Table, Value};
 
 /// The table of the first property's trie.
@@ -47,23 +44,23 @@ fn write_values(rt: &HostRuntime, trie: &CodePointTrie<'static, u32>) -> Option<
     fs::write(rt, "values", values).ok()
 }
 
-fn main(rt: HostRuntime) -> ExitCode {
-    let Some(trie) = trie_of(&rt) else {
-        return ExitCode::from(1);
-    };
+/// Prints the ranges, a line each.
+fn print_ranges(rt: &HostRuntime, trie: &CodePointTrie<'static, u32>) -> Result<()> {
     for range in trie.iter_ranges() {
         let (first, last) = (*range.range.start(), *range.range.end());
-        let printed = if first == last {
-            println!(rt; "{first:04X};{}", range.value)
+        if first == last {
+            println!(rt; "{first:04X};{}", range.value)?;
         } else {
-            println!(rt; "{first:04X}..{last:04X};{}", range.value)
-        };
-        if printed.is_err() {
-            return ExitCode::from(2);
+            println!(rt; "{first:04X}..{last:04X};{}", range.value)?;
         }
     }
-    if write_form(&rt, &trie).is_none() || write_values(&rt, &trie).is_none() {
-        return ExitCode::from(3);
-    }
-    ExitCode::from(0)
+    Ok(())
+}
+
+/// Reads the trie, prints its ranges, and writes its form and the values along a text.
+pub fn shown(rt: &HostRuntime) -> Result<()> {
+    let trie = trie_of(rt).context("no trie")?;
+    print_ranges(rt, &trie)?;
+    write_form(rt, &trie).context("the binary form was not written")?;
+    write_values(rt, &trie).context("the values were not written")
 }

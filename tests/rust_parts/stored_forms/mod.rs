@@ -1,4 +1,4 @@
-//! The program damaged_forms, erased: it counts of the damaged forms what the proved program counts.
+//! The program stored_forms, erased: it counts of the damaged forms what the proved program counts.
 
 mod damage;
 mod icu_forms;
@@ -15,7 +15,7 @@ use std::path::{Path, PathBuf};
 /// The folder of the program.
 fn folder() -> PathBuf {
     let top = std::env::var("REPOSITORY").expect("no REPOSITORY");
-    Path::new(&top).join("crates/damaged_forms")
+    Path::new(&top).join("crates/stored_forms")
 }
 
 /// What the program prints of so many forms, as its `main` does.
