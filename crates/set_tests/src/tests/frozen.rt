@@ -330,6 +330,16 @@ fn frozen_pieces_quiet(rt: HostRuntime) {
     expect(&rt, !holds_range, "all from A on");
 }
 
+/// Whether all blocks have their words at this place.
+fn are_all(index: &[u16], place: u16) -> bool {
+    for found in index {
+        if *found != place {
+            return false;
+        }
+    }
+    true
+}
+
 /// The letters are bits 1 to 26 of each half of the second word of the first block, and all blocks
 /// behind it hold nothing.
 ///
@@ -346,7 +356,7 @@ fn frozen_tables_quiet(rt: HostRuntime) {
         words[usize::from(index[1])],
         words[usize::from(index[4351])],
     ];
-    let shared = index[1..].iter().all(|place| *place == index[1]);
+    let shared = are_all(&index[1..], index[1]);
     say(&rt, "done");
     expect_same(&rt, index.len(), 4352, "blocks");
     expect_same(&rt, letters, Some(0x07FF_FFFE_07FF_FFFE), "the word");
