@@ -10,7 +10,7 @@ use Rattle.icu_char16trie.specs.UnitMap.{UnitMap, value_of, same_key, KeyBelow, 
 use Rattle.icu_char16trie.specs.LossyText.{key_text}
 use Rattle.icu_char16trie.specs.Entries.{AreEntries, AreCutShort}
 use Rattle.icu_char16trie_builder.specs.Entries.{with_entry, most_units}
-use Rattle.icu_char16trie_builder.proofs.EntryLemmas.{IsCompared, compared, same_key_eq, same_key_self, ascends_with}
+use Rattle.icu_char16trie_builder.proofs.EntryLemmas.{IsCompared, compared, below_itself, same_key_eq, same_key_self, ascends_with}
 -- Keys that go on beyond some units
 pub use Rattle.icu_char16trie_builder.proofs.LongerKeys.{goes_on-with_entry}
 
@@ -18,11 +18,6 @@ pub use Rattle.icu_char16trie_builder.proofs.LongerKeys.{goes_on-with_entry}
 
 pub IsAscendingKeys-with_entry : (key : List ℕ) (v : ℤ) (m : UnitMap) → IsAscendingKeys m → IsAscendingKeys (with_entry key v m)
 IsAscendingKeys-with_entry key v m up = ascends_with key v m up
-
-below_itself : (a : List ℕ) → KeyBelow a a → ⊥
-below_itself [] h = h
-below_itself (x ∷ a) (inl h) = absurd (omega (arith, h))
-below_itself (x ∷ a) (inr h) = below_itself a h.1
 
 not_below : (a b : List ℕ) → a ≡ b → KeyBelow b a → ⊥
 not_below a b e h = below_itself b (subst (λ z. KeyBelow b z) e h)

@@ -83,7 +83,7 @@ same_key_eq (x ∷ a) (y ∷ b) h =
 
 -- ---- the entries in order
 
-key_trans : (a b c : List ℕ) → KeyBelow a b → KeyBelow b c → KeyBelow a c
+pub key_trans : (a b c : List ℕ) → KeyBelow a b → KeyBelow b c → KeyBelow a c
 key_trans a b [] h k = k
 key_trans a [] (z ∷ c) h k = absurd h
 key_trans [] (y ∷ b) (z ∷ c) h k = tt
@@ -91,6 +91,11 @@ key_trans (x ∷ a) (y ∷ b) (z ∷ c) (inl h) (inl k) = inl (omega (arith, h, 
 key_trans (x ∷ a) (y ∷ b) (z ∷ c) (inl h) (inr k) = inl (omega (arith, h, k.0))
 key_trans (x ∷ a) (y ∷ b) (z ∷ c) (inr h) (inl k) = inl (omega (arith, h.0, k))
 key_trans (x ∷ a) (y ∷ b) (z ∷ c) (inr h) (inr k) = inr (h.0 ∙ k.0, key_trans a b c h.1 k.1)
+
+pub below_itself : (a : List ℕ) → KeyBelow a a → ⊥
+below_itself [] h = h
+below_itself (x ∷ a) (inl h) = absurd (omega (arith, h))
+below_itself (x ∷ a) (inr h) = below_itself a h.1
 
 below_trans : (a b : List ℕ) (m : UnitMap) → KeyBelow a b → KeyBelowAll b m → KeyBelowAll a m
 below_trans a b [] h k = tt

@@ -7,6 +7,7 @@ pub mod ArmLemmas
 pub mod OpenLemmas
 pub mod KnownLemmas
 pub mod EntryLemmas
+pub mod SortedLemmas
 mod LongerKeys
 pub mod TextLemmas
 pub mod CallerLemmas

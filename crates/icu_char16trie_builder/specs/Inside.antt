@@ -3,3 +3,4 @@ pub mod Encoding
 pub mod Written
 pub mod Cuts
 pub mod Steps
+pub mod Refusals

@@ -1,3 +1,4 @@
 pub mod Entries
+pub mod Sorted
 pub mod Errors
 pub mod Inside

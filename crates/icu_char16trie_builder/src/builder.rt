@@ -4,16 +4,19 @@ ghost use Rattle.icu_char16trie.specs.Grammar.{IsTrieOf};
 ghost use Rattle.icu_char16trie.specs.Matches.{text_units};
 ghost use Rattle.icu_char16trie.specs.UnitMap.{UnitMap, value_of, IsAscendingKeys};
 ghost use Rattle.icu_char16trie_builder.specs.Entries.{with_entry, entry_map, most_units};
+ghost use Rattle.icu_char16trie_builder.specs.Sorted.{pair_map, key_at, IsInOrder, IsFirstRefused};
 ghost use Rattle.icu_char16trie_builder.specs.Inside.Cuts.{cut, room};
 ghost use Rattle.icu_char16trie_builder.specs.declared.error.AddError.TheVariants.{KeyTooLong, Duplicate};
 ghost use Rattle.icu_char16trie_builder.specs.declared.error.BuildError.TheVariants.{TooLarge, Memory};
+ghost use Rattle.icu_char16trie_builder.specs.declared.error.SortedError.TheVariants as sorted;
 
 use crate::entry::Entry;
-use crate::error::{AddError, BuildError};
+use crate::error::{AddError, BuildError, SortedError};
+use crate::sorted::{entries_of_pairs, refusal};
 use crate::text::{is_too_long, units_of_text};
 use crate::units::units_of;
 use icu_char16trie::char16trie::Char16Trie;
-use icu_zerovec::ZeroVec;
+use icu_zerovec::{MemoryError, ZeroVec};
 use std::alloc::{AllocError, Global};
 use std::collections::BTreeMap;
 use std::marker::Model;
@@ -115,20 +118,33 @@ fn first_len(entries: &[Entry<'_>]) -> usize
     entries[0].key.len()
 }
 
+/// What entries take with one more whose key has so many units, if that is not too much.
+pub(crate) fn total_with(total: u64, len: usize) -> Option<u64>
+    requires { total ≤ 0x7FFF_FFFF }
+    ensures { let more = total + 2 * len + 16 in MatchOption result (0x7FFF_FFFF < more)
+        (λ sum. (sum ≡ more) × (more ≤ 0x7FFF_FFFF)) }
+{
+    let len = len as u64;
+    if len > MOST_UNITS {
+        return None;
+    }
+    let more = total + 2 * len + 16;
+    if more > MOST_UNITS {
+        return None;
+    }
+    Some(more)
+}
+
 /// Whether no trie of the entries can need too many units.
 fn fits(entries: &[Entry<'_>]) -> bool
     ensures { IsTrue result ↔ (room 0 entries.now ≤ 0x7FFF_FFFF) }
 {
     let mut total: u64 = 0;
     for i in 0..entries.len() {
-        let len = first_len(entries.split_at(i).1) as u64;
-        if len > MOST_UNITS {
+        let Some(more) = total_with(total, first_len(entries.split_at(i).1)) else {
             return false;
-        }
-        total += 2 * len + 16;
-        if total > MOST_UNITS {
-            return false;
-        }
+        };
+        total = more;
     }
     true
 }
@@ -144,6 +160,18 @@ fn trie_units(alloc: Global, entries: &[Entry<'_>]) -> Result<Vec<u16>, AllocErr
         return Ok(Vec::new(alloc));
     }
     units_of(alloc, entries)
+}
+
+/// The trie of the entries.
+fn trie_of(alloc: Global, entries: &[Entry<'_>]) -> Result<Char16Trie<'static>, MemoryError>
+    requires ascends { IsAscendingKeys (cut 0 entries.now) }
+    requires few { room 0 entries.now ≤ 0x7FFF_FFFF }
+    ensures trie { IfOk result (λ trie. IsTrieOf trie (cut 0 entries.now)) }
+    ensures bound { IfOk result (λ trie. length trie ≤ room 0 entries.now) }
+{
+    let units = trie_units(alloc, entries)?;
+    let trie = Char16Trie::new(ZeroVec::alloc_from_slice(alloc, units.as_slice())?);
+    Ok(trie)
 }
 
 impl Char16TrieBuilder {
@@ -255,8 +283,47 @@ impl Char16TrieBuilder {
         if !fits(entries.as_slice()) {
             return Err(BuildError::TooLarge);
         }
-        let units = trie_units(self.alloc, entries.as_slice())?;
-        let trie = Char16Trie::new(ZeroVec::alloc_from_slice(self.alloc, units.as_slice())?);
+        let trie = trie_of(self.alloc, entries.as_slice())?;
+        Ok(trie)
+    }
+
+    /// The trie of entries whose keys ascend in unit order already, each after the one before: the
+    /// empty list of units, if there are none. It is the trie that a builder builds of them, and no
+    /// key is copied for it.
+    ///
+    /// ```
+    /// let entries: [(&[u16], i32); 2] = [(&[0x61], 1), (&[0x61, 0x62], 2)];
+    /// let trie = Char16TrieBuilder::build_sorted(alloc, &entries)?;
+    /// // the trie of "a" to 1 and "ab" to 2
+    /// ```
+    ///
+    /// # Errors
+    /// Of the first entry that can't be taken the place, counted from 0: `KeyTooLong` exactly where
+    /// its key has more than 65,535 units, and else `NotAscending`, exactly where its key is equal
+    /// to the key before it or stands before that. `TooLarge` exactly where all can be taken, and
+    /// 2 U + 16 E is more than `0x7FFF_FFFF`, with U units in the keys of E entries. These take no
+    /// memory. Else `Memory` where memory was refused.
+    pub fn build_sorted(
+        alloc: Global,
+        entries: &[(&[u16], i32)],
+    ) -> Result<Char16Trie<'static>, SortedError>
+        ensures trie { IfOk result (λ trie. IsTrieOf trie (pair_map entries.now)) }
+        ensures bound { IfOk result (λ trie. length trie ≤ most_units (pair_map entries.now)) }
+        ensures in_order { OnOk result (IsInOrder (pair_map entries.now)) }
+        ensures too_long { let m = pair_map entries.now in
+            (i : ℕ) → (result ≡ Err (sorted.KeyTooLong i))
+            ↔ (IsFirstRefused m i × (65535 < length (key_at m i))) }
+        ensures not_ascending { let m = pair_map entries.now in
+            (i : ℕ) → (result ≡ Err (sorted.NotAscending i))
+            ↔ (IsFirstRefused m i × (length (key_at m i) ≤ 65535)) }
+        ensures too_large { let m = pair_map entries.now in
+            (result ≡ Err sorted.TooLarge) ↔ (IsInOrder m × (0x7FFF_FFFF < most_units m)) }
+    {
+        if let Some(error) = refusal(entries) {
+            return Err(error);
+        }
+        let list = entries_of_pairs(alloc, entries)?;
+        let trie = trie_of(alloc, list.as_slice())?;
         Ok(trie)
     }
 }

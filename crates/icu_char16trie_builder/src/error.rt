@@ -2,6 +2,7 @@
 ghost use Rattle.std.specs.Prelude.{◌≡◌};
 ghost use Rattle.icu_char16trie_builder.specs.declared.error.BuildError.TheVariants.{Memory};
 ghost use Rattle.icu_char16trie_builder.specs.declared.error.AddError.TheVariants.{Memory as AddMemory};
+ghost use Rattle.icu_char16trie_builder.specs.declared.error.SortedError.TheVariants.{Memory as SortedMemory};
 
 use icu_zerovec::MemoryError;
 use std::alloc::{AllocError, AllocFailed};
@@ -79,5 +80,46 @@ impl From<AddError> for BuildError {
             AddError::Memory => BuildError::Memory,
             AddError::KeyTooLong | AddError::Duplicate => BuildError::Entry(error),
         }
+    }
+}
+
+/// Why no trie was built of a slice of entries. A place is an index in the slice.
+#[derive(Clone, Copy, Debug, PartialEq, Eq, Error)]
+pub enum SortedError {
+    /// The key at this place, the first that can't be taken, has more than 65,535 units.
+    #[error("key {0} too long")]
+    KeyTooLong(usize),
+    /// The key at this place, the first that can't be taken, does not stand after the one before.
+    #[error("key {0} not ascending")]
+    NotAscending(usize),
+    /// The entries may take more than `0x7FFF_FFFF` units.
+    #[error("too large")]
+    TooLarge,
+    /// Memory was refused.
+    #[error("no memory")]
+    Memory,
+}
+
+impl From<AllocError> for SortedError {
+    ghost from_gives = { λ _ e. e ≡ SortedMemory };
+
+    fn from(_error: AllocError) -> SortedError {
+        SortedError::Memory
+    }
+}
+
+impl<T: Drop> From<AllocFailed<T>> for SortedError {
+    ghost from_gives = { λ _ e. e ≡ SortedMemory };
+
+    fn from(_error: AllocFailed<T>) -> SortedError {
+        SortedError::Memory
+    }
+}
+
+impl From<MemoryError> for SortedError {
+    ghost from_gives = { λ _ e. e ≡ SortedMemory };
+
+    fn from(_error: MemoryError) -> SortedError {
+        SortedError::Memory
     }
 }

@@ -19,6 +19,7 @@ unfoldable pub use Rattle.icu_char16trie.specs.NextUnits.{first_units}
 pub use Rattle.icu_char16trie.specs.OneValue.{AllHaveValue, HaveOneValue, StandsForOneValue}
 pub use Rattle.icu_char16trie.specs.LossyText.{key_text}
 unfoldable pub use Rattle.icu_char16trie_builder.specs.Entries.{most_units, with_entry}
+pub use Rattle.icu_char16trie_builder.specs.Sorted.{IsFirstRefused, IsInOrder, key_at, pair_map}
 pub use Rattle.icu_char16trie_builder.specs.Errors.{entry_refusal}
 -- The format, unit by unit, how a unit leads on, and what an iterator has still to give
 pub use Rattle.icu_char16trie.specs.Numbers

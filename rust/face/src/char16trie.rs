@@ -35,7 +35,7 @@ pub use crate::icu_char16trie::char16trie::{
 #[cfg(feature = "json")]
 pub use crate::icu_char16trie::char16trie::Char16JsonError;
 pub use crate::icu_char16trie_builder::builder::Char16TrieBuilder;
-pub use crate::icu_char16trie_builder::error::{AddError, BuildError};
+pub use crate::icu_char16trie_builder::error::{AddError, BuildError, SortedError};
 
 use crate::plain::{plain, plain_clone};
 use alloc::string::String;

@@ -54,6 +54,12 @@ fn builders() {
     unchanged_where_refused("Char16TrieBuilder::add", some, add, is_some);
     let add_str = |it: &mut Char16TrieBuilder| added(it.add_str("ÿÿ", 1));
     unchanged_where_refused("Char16TrieBuilder::add_str", some, add_str, is_some);
+    let mut sorted = keys.clone();
+    sorted.sort();
+    let entries: Vec<(&[u16], i32)> = sorted.iter().map(Vec::as_slice).zip(0..).collect();
+    let built = || Char16TrieBuilder::build_sorted(&entries).ok();
+    refused_in_turn("Char16TrieBuilder::build_sorted", built);
+    assert_eq!(built().map(|it| it.iter2().count()), Some(400));
 }
 
 #[test]

@@ -3,11 +3,12 @@
 #[allow(unused_imports)]
 use crate::support::prelude::*;
 use crate::icu_char16trie_builder::entry::Entry;
-use crate::icu_char16trie_builder::error::{AddError, BuildError};
+use crate::icu_char16trie_builder::error::{AddError, BuildError, SortedError};
+use crate::icu_char16trie_builder::sorted::{entries_of_pairs, refusal};
 use crate::icu_char16trie_builder::text::{is_too_long, units_of_text};
 use crate::icu_char16trie_builder::units::units_of;
 use crate::icu_char16trie::char16trie::Char16Trie;
-use crate::icu_zerovec::ZeroVec;
+use crate::icu_zerovec::{MemoryError, ZeroVec};
 use crate::support::{AllocError};
 use crate::support::BTreeMap;
 
@@ -81,18 +82,29 @@ fn first_len(entries: &[Entry<'_>]) -> usize {
     entries[0].key.len()
 }
 
+/// What entries take with one more whose key has so many units, if that is not too much.
+#[inline]
+pub(crate) fn total_with(total: u64, len: usize) -> Option<u64> {
+    let len = len as u64;
+    if len > MOST_UNITS {
+        return None;
+    }
+    let more = total + 2 * len + 16;
+    if more > MOST_UNITS {
+        return None;
+    }
+    Some(more)
+}
+
 /// Whether no trie of the entries can need too many units.
+#[inline]
 fn fits(entries: &[Entry<'_>]) -> bool {
     let mut total: u64 = 0;
     for i in 0..entries.len() {
-        let len = first_len(entries.split_at(i).1) as u64;
-        if len > MOST_UNITS {
+        let Some(more) = total_with(total, first_len(entries.split_at(i).1)) else {
             return false;
-        }
-        total += 2 * len + 16;
-        if total > MOST_UNITS {
-            return false;
-        }
+        };
+        total = more;
     }
     true
 }
@@ -104,6 +116,14 @@ fn trie_units(entries: &[Entry<'_>]) -> Result<Vec<u16>, AllocError> {
         return Ok(Vec::new());
     }
     units_of(entries)
+}
+
+/// The trie of the entries.
+#[inline]
+fn trie_of(entries: &[Entry<'_>]) -> Result<Char16Trie<'static>, MemoryError> {
+    let units = trie_units(entries)?;
+    let trie = Char16Trie::new(ZeroVec::alloc_from_slice(units.as_slice())?);
+    Ok(trie)
 }
 
 impl Char16TrieBuilder {
@@ -188,8 +208,35 @@ impl Char16TrieBuilder {
         if !fits(entries.as_slice()) {
             return Err(BuildError::TooLarge);
         }
-        let units = trie_units(entries.as_slice())?;
-        let trie = Char16Trie::new(ZeroVec::alloc_from_slice(units.as_slice())?);
+        let trie = trie_of(entries.as_slice())?;
+        Ok(trie)
+    }
+
+    /// The trie of entries whose keys ascend in unit order already, each after the one before: the
+    /// empty list of units, if there are none. It is the trie that a builder builds of them, and no
+    /// key is copied for it.
+    ///
+    /// ```ignore
+    /// let entries: [(&[u16], i32); 2] = [(&[0x61], 1), (&[0x61, 0x62], 2)];
+    /// let trie = Char16TrieBuilder::build_sorted(&entries)?;
+    /// // the trie of "a" to 1 and "ab" to 2
+    /// ```
+    ///
+    /// # Errors
+    /// Of the first entry that can't be taken the place, counted from 0: `KeyTooLong` exactly where
+    /// its key has more than 65,535 units, and else `NotAscending`, exactly where its key is equal
+    /// to the key before it or stands before that. `TooLarge` exactly where all can be taken, and
+    /// 2 U + 16 E is more than `0x7FFF_FFFF`, with U units in the keys of E entries. These take no
+    /// memory. Else `Memory` where memory was refused.
+    #[inline]
+    pub fn build_sorted(
+        entries: &[(&[u16], i32)],
+    ) -> Result<Char16Trie<'static>, SortedError> {
+        if let Some(error) = refusal(entries) {
+            return Err(error);
+        }
+        let list = entries_of_pairs(entries)?;
+        let trie = trie_of(list.as_slice())?;
         Ok(trie)
     }
 }

@@ -65,6 +65,40 @@ impl From<AddError> for BuildError {
     }
 }
 
+/// Why no trie was built of a slice of entries. A place is an index in the slice.
+#[derive(Clone, Copy, Debug, PartialEq, Eq)]
+pub enum SortedError {
+    /// The key at this place, the first that can't be taken, has more than 65,535 units.
+    KeyTooLong(usize),
+    /// The key at this place, the first that can't be taken, does not stand after the one before.
+    NotAscending(usize),
+    /// The entries may take more than `0x7FFF_FFFF` units.
+    TooLarge,
+    /// Memory was refused.
+    Memory,
+}
+
+impl From<AllocError> for SortedError {
+    #[inline]
+    fn from(_error: AllocError) -> SortedError {
+        SortedError::Memory
+    }
+}
+
+impl<T> From<AllocFailed<T>> for SortedError {
+    #[inline]
+    fn from(_error: AllocFailed<T>) -> SortedError {
+        SortedError::Memory
+    }
+}
+
+impl From<MemoryError> for SortedError {
+    #[inline]
+    fn from(_error: MemoryError) -> SortedError {
+        SortedError::Memory
+    }
+}
+
 impl core::fmt::Display for AddError {
     #[inline]
     fn fmt(&self, f: &mut core::fmt::Formatter<'_>) -> core::fmt::Result {
@@ -90,3 +124,17 @@ impl core::fmt::Display for BuildError {
 }
 
 impl core::error::Error for BuildError {}
+
+impl core::fmt::Display for SortedError {
+    #[inline]
+    fn fmt(&self, f: &mut core::fmt::Formatter<'_>) -> core::fmt::Result {
+        match self {
+            SortedError::KeyTooLong(_0) => write!(f, "key {_0} too long"),
+            SortedError::NotAscending(_0) => write!(f, "key {_0} not ascending"),
+            SortedError::TooLarge => write!(f, "too large"),
+            SortedError::Memory => write!(f, "no memory"),
+        }
+    }
+}
+
+impl core::error::Error for SortedError {}

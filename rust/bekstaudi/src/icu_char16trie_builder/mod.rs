@@ -10,6 +10,7 @@
 //! ```
 //!
 //! - `builder`: [`Char16TrieBuilder`](builder::Char16TrieBuilder), the entries and their trie
+//! - `sorted`: entries that stand in unit order already
 //! - `text`: the units of a text, which may be a key
 //! - `error`: why an entry was refused, or a trie could not be built
 //!
@@ -31,6 +32,7 @@ pub mod error;
 mod known;
 mod level;
 mod open;
+mod sorted;
 mod step;
 mod text;
 mod units;

@@ -1,4 +1,4 @@
-use Rattle.std.proofs.Common.{rules, arith, ◌≡◌, ◌≤◌, true, false, length, ap, ◌∙◌}
+use Rattle.std.proofs.Common.{rules, arith, ◌≡◌, ◌≤◌, true, false, ap}
 use Rattle.std.proofs.lemmas.List.{nil_from_length}
 use Rattle.icu_char16trie_builder.specs.Entries.{entry_map, most_units}
 use Rattle.icu_char16trie_builder.specs.Inside.Cuts.{room}
@@ -17,15 +17,13 @@ pub returns-clause-bound : goal.returns-clause-bound
 returns-clause-bound c =
     let same : room 0 c.as_slice-2.result.now ≡ most_units c.args.self =
     room_self c.as_slice-2.result.now c.in_ok-entries.entries.items (entry_map c.self.inside.entries.entries) c.args.self c.as_slice-2.ensures.value c.in_ok-entries.ensures (search rules) in
-    let trie : c.new-trie.result ≡ c.in_ok-units.units.items = c.new-trie.ensures ∙ c.in_ok-alloc_from_slice.ensures ∙ c.as_slice-3.ensures.value in
-    omega (arith, same, ap length trie, c.in_ok-units.ensures.bound)
+    omega (arith, same, c.in_ok-trie.ensures.bound)
 
 pub returns-clause-empty : goal.returns-clause-empty
 returns-clause-empty c e =
     let same : room 0 c.as_slice-2.result.now ≡ most_units c.args.self =
     room_self c.as_slice-2.result.now c.in_ok-entries.entries.items (entry_map c.self.inside.entries.entries) c.args.self c.as_slice-2.ensures.value c.in_ok-entries.ensures (search rules) in
-    let trie : c.new-trie.result ≡ c.in_ok-units.units.items = c.new-trie.ensures ∙ c.in_ok-alloc_from_slice.ensures ∙ c.as_slice-3.ensures.value in
-    nil_from_length c.new-trie.result (omega (arith, same, ap length trie, c.in_ok-units.ensures.bound, ap most_units e, most_none))
+    nil_from_length c.in_ok-trie.trie (omega (arith, same, c.in_ok-trie.ensures.bound, ap most_units e, most_none))
 
 pub returns-clause-fits : goal.returns-clause-fits
 returns-clause-fits c =
