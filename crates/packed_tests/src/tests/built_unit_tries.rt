@@ -7,7 +7,7 @@ mod random_maps;
 mod refused_memory;
 mod shared;
 mod sizes;
-mod support;
+pub mod support;
 mod texts;
 mod values;
 mod worked_tries;
