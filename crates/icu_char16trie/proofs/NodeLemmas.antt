@@ -130,6 +130,11 @@ holds_within units (final p lead n m g le s e) h = cc
 holds_within units (plain p lead m g lt node) h = cc
 holds_within units (valued p lead n m rest g ge lt s node e) h = cc
 
+pub holds_below : (units : List ℕ) {p : ℕ} {m : List (List ℕ × ℤ)} → Holds units p m → p < length units
+holds_below units (final p lead n m g le s e) = slice_get_within units p lead g
+holds_below units (plain p lead m g lt node) = slice_get_within units p lead g
+holds_below units (valued p lead n m rest g ge lt s node e) = slice_get_within units p lead g
+
 -- ---- a match node has a key, and no empty one
 
 value_append : (m n : List (List ℕ × ℤ)) → value_of m [] ≡ None → value_of n [] ≡ None → value_of (m ++ n) [] ≡ None

@@ -6,18 +6,18 @@ use Rattle.std.proofs.lemmas.List.{take_all, take-append-le, reverse-append}
 use Rattle.std.proofs.lemmas.Option.{slice_get_within}
 use Rattle.std.proofs.lemmas.Str.{IsUtf8-take, IsUtf8-string_bytes, IsCharBoundary-end, IsCharBoundary-from_take}
 use Rattle.std.specs.Str.{IsUtf8}
-use Rattle.icu_char16trie.specs.Grammar.{Matches}
+use Rattle.icu_char16trie.specs.Grammar.{Part, last, entry, split, Children, Holds, Matches}
 use Rattle.icu_char16trie.specs.Numbers.{entry_child, short_end, lower_part, delta_end}
 use Rattle.icu_char16trie.specs.UnitMap.{under}
 use Rattle.icu_char16trie.specs.UnitPlaces.{Stands}
 use Rattle.icu_char16trie.specs.Pending.{Spells, ArmsHold, PartsGive, IsPending, weight, work_left}
 use Rattle.icu_char16trie.specs.Inside.Cuts.{AreCuts, IsCut}
-use Rattle.icu_char16trie.specs.Inside.Opening.{bytes_of, SpellsOn, PutsOff, Opens}
+use Rattle.icu_char16trie.specs.Inside.Opening.{bytes_of, SpellsOn, PutsOff, IsFrom, Opens}
 use Rattle.icu_char16trie.specs.declared.pending.BranchPart.{BranchPart}
 use Rattle.icu_char16trie.specs.declared.pending.Pending.{Pending}
 use Rattle.icu_char16trie.specs.declared.place.Place.TheVariants.{Node}
 use Rattle.icu_char16trie.proofs.EntryLemmas.{under_append, under_under, children_split, children_cons, children_nil}
-use Rattle.icu_char16trie.proofs.NodeLemmas.{matches_branch}
+use Rattle.icu_char16trie.proofs.NodeLemmas.{holds_below, matches_branch}
 use Rattle.icu_char16trie.proofs.PartLemmas.{last_is, entry_found, split_found, part_begins, part_goes_on}
 use Rattle.icu_char16trie.proofs.SpellingLemmas.{spells_on}
 use Rattle.icu_char16trie.proofs.WorkLemmas.{weight_some, weight_one, weight_two, weight_le, work_push}
@@ -39,6 +39,10 @@ cuts_longer text tail (part ∷ parts) u u' c =
     let same : take part.mark.len (text ++ tail) ≡ take part.mark.len text = take-append-le part.mark.len text tail c.0.0 in
     let front : IsUtf8 (take part.mark.len (text ++ tail)) = rw same (IsUtf8-take text part.mark.len u c.0) in
     (IsCharBoundary-from_take (text ++ tail) part.mark.len u' (omega (arith, length-append text tail, c.0.0)) front, rw same c.1)
+
+-- a node from a later place on
+pub from_later : (k j : ℕ) (s : Pending) → j ≤ k → IsFrom k s → IsFrom j s
+from_later k j s h f = (f.0, f.1, omega (arith, h, f.2), f.3)
 
 -- the key grows by a run of units, and the node after it is gone to
 pub record GoesTo (old : Pending) (run : List ℕ) (q : ℕ) (new : Pending) : Type 0 where
@@ -69,13 +73,19 @@ gone_work : (old new : Pending) (run : List ℕ) (p q : ℕ) → GoesTo old run 
     → work_left new < weight (length (slice_values old.units)) p + work_left old
 gone_work old new run p q g h i = rw (g.units, g.node, g.parts) (omega (arith, weight_one (length (slice_values old.units)) p q h i))
 
+gone_leads : (old new : Pending) (run : List ℕ) (p q : ℕ) (entries : List (List ℕ × ℤ)) → GoesTo old run q new → p < q
+    → Holds (slice_values old.units) q entries → IsFrom (p + 1) new
+gone_leads old new run p q entries g i h = (q, g.node, omega (arith, i), rw g.units (holds_below (slice_values old.units) h))
+
 pub gone_opens : (old new : Pending) (run : List ℕ) (p q : ℕ) (Stood : List (List ℕ × ℤ) → Type 0) → GoesTo old run q new → p < length (slice_values old.units) → p < q
-    → ((first : List (List ℕ × ℤ)) → Stood first → (entries : List (List ℕ × ℤ)) × Stands (slice_values old.units) (Node q) entries × (first ≡ under run entries))
+    → ((first : List (List ℕ × ℤ)) → Stood first
+    → (entries : List (List ℕ × ℤ)) × Holds (slice_values old.units) q entries × (first ≡ under run entries))
     → Opens old p Stood new
 gone_opens old new run p q Stood g h i is = record {
   units = g.units;
   entries = λ key first others stood s pg.
-      let e = is first stood in rw e.2 (gone_entries old new run q g key e.0 others e.1 s pg);
+      let e = is first stood in rw e.2 (gone_entries old new run q g key e.0 others (inl e.1) s pg);
+  leads = λ first stood. let e = is first stood in gone_leads old new run p q e.0 g i e.1;
   cuts = gone_cuts old new run q g;
   work = gone_work old new run p q g h i;
 }
@@ -86,6 +96,7 @@ pub nothing_opens : (old : Pending) (p : ℕ) (Stood : List (List ℕ × ℤ) �
 nothing_opens old p Stood never = record {
   units = refl;
   entries = λ key first others stood s pg. absurd (never first stood);
+  leads = λ first stood. absurd (never first stood);
   cuts = λ c. c;
   work = omega (arith, weight_some (length (slice_values old.units)) p);
 }
@@ -94,6 +105,7 @@ pub later_opens : (old new : Pending) (p q : ℕ) (Stood Stood' : List (List ℕ
 later_opens old new p q Stood Stood' o h is = record {
   units = o.units;
   entries = λ key first others stood. o.entries key first others (is first stood);
+  leads = λ first stood. from_later (q + 1) (p + 1) new (omega (arith, h)) (o.leads first (is first stood));
   cuts = o.cuts;
   work = omega (arith, o.work, weight_le (length (slice_values old.units)) p q h);
 }
@@ -152,6 +164,12 @@ split_opens old mid new p n s d low high many hs hd hl at lower upper off o = re
       let whole : under key first ++ others ≡ under key c.low ++ (under key c.high ++ others) =
       ap (λ z. under key z ++ others) c.is ∙ ap (λ z. z ++ others) (under_append key c.low c.high) ∙ append_assoc (under key c.low) (under key c.high) others in
       rw whole (o.entries key c.low (under key c.high ++ others) below (rw off.spelling sp) parts);
+  leads = λ first stood.
+      let t = split_found (slice_values old.units) stood.1 many s d hs hd in
+      let c = children_split (slice_values old.units) stood.2 t.lower t.upper t.is in
+      let same : t.low ≡ low = cc (t.at, hl) in
+      let below : ArmsHold (slice_values mid.units) low (n / 2) c.low = rw (off.units, ← same) (t.lower, t.below, c.below) in
+      from_later (low + 1) (p + 1) new (omega (arith, lower)) (o.leads c.low below);
   cuts = λ c. o.cuts (off_cuts old mid high (n - n / 2) off c);
   work =
       let within : p < length (slice_values old.units) = slice_get_within (slice_values old.units) p s hs in
@@ -176,6 +194,11 @@ row_opens old mid new p n u v child rest many few hu hv hc at here behind off g 
       let whole : under key first ++ others ≡ under key (under (u ∷ []) c.first) ++ (under key c.others ++ others) =
       ap (λ z. under key z ++ others) c.is ∙ ap (λ z. z ++ others) (under_append key (under (u ∷ []) c.first) c.others) ∙ append_assoc (under key (under (u ∷ []) c.first)) (under key c.others) others in
       rw whole (gone_entries mid new (u ∷ []) child g key c.first (under key c.others ++ others) node (rw off.spelling sp) parts);
+  leads = λ first stood.
+      let t = entry_found (slice_values old.units) stood.1 many few u v hu hv in
+      let c = children_cons (slice_values old.units) stood.2 u t.child t.rest t.is in
+      let same : t.child ≡ child = cc (t.at, hc) in
+      gone_leads mid new (u ∷ []) p child c.first g here (rw (off.units, ← same) c.node);
   cuts = λ c. gone_cuts mid new (u ∷ []) child g (off_cuts old mid rest (n - 1) off c);
   work =
       let within : p < length (slice_values old.units) = slice_get_within (slice_values old.units) p u hu in
@@ -187,11 +210,11 @@ row_opens old mid new p n u v child rest many few hu hv hc at here behind off g 
 
 -- the last entry
 pub last_stands : (units : List ℕ) (p n u : ℕ) (first : List (List ℕ × ℤ)) → n ≤ 1 → slice_get units p ≡ Some u → ArmsHold units p n first
-    → (entries : List (List ℕ × ℤ)) × Stands units (Node (p + 1)) entries × (first ≡ under (u ∷ []) entries)
+    → (entries : List (List ℕ × ℤ)) × Holds units (p + 1) entries × (first ≡ under (u ∷ []) entries)
 last_stands units p n u first few hu (arms, part, children) =
     let c = children_cons units children u (p + 1) [] (last_is units part few u hu) in
     let none_left : c.others ≡ [] = children_nil units c.children refl in
-    (c.first, inl c.node, c.is ∙ ap (λ z. under (u ∷ []) c.first ++ z) none_left ∙ append-nil (under (u ∷ []) c.first))
+    (c.first, c.node, c.is ∙ ap (λ z. under (u ∷ []) c.first ++ z) none_left ∙ append-nil (under (u ∷ []) c.first))
 
 -- ---- match nodes
 
@@ -205,3 +228,13 @@ length_gone units p low zero' g m h =
     let is_zero : nat_eq low 0 ≡ true = eq-eqb low 0 (omega arith) in
     let at : slice_get units p ≡ Some b.n = rw is_zero at b.len in
     some_none (sym g ∙ at)
+
+part_long : (units : List ℕ) {p n : ℕ} {arms : List (ℕ × ℕ)} {m : List (List ℕ × ℤ)} → Part units p n arms
+    → Children units arms m → 2 ≤ length units
+part_long units (last p n u arms e g a) c = omega (arith, holds_below units (children_cons units c u (p + 1) [] a).node)
+part_long units (entry p n u v child rest arms many few g g' h r a) c = omega (arith, slice_get_within units (p + 1) v g')
+part_long units (split p n s d low lower upper arms many g g' h l r b f a) c = omega (arith, slice_get_within units (p + 1) d g')
+
+-- a part takes two units at least
+pub arms_long : (units : List ℕ) (p n : ℕ) (m : List (List ℕ × ℤ)) → ArmsHold units p n m → 2 ≤ length units
+arms_long units p n m (arms, part, c) = part_long units part c

@@ -1,17 +1,18 @@
 -- How a walk goes from one entry to the next.
 use Rattle.icu_zerovec.specs.Slice.{slice_values}
-use Rattle.std.proofs.Common.{◌≡◌, ℕ, ℤ, ◌+◌, ◌-◌, ◌/◌, ◌%◌, ◌<◌, ◌≤◌, List, [], ◌∷◌, ◌++◌, Option, Some, None, Bool, true, false, refl, sym, ap, subst, ◌∙◌, arith, length, slice_get, append-nil, reverse, string_bytes, encode_utf8}
-use Rattle.std.specs.Prelude.{IsSome, IfSome, nat_le, nat_lt}
+use Rattle.std.proofs.Common.{◌≡◌, ℕ, ℤ, ◌+◌, ◌-◌, ◌/◌, ◌%◌, ◌<◌, ◌≤◌, List, [], ◌∷◌, ◌++◌, Option, Some, None, Bool, true, false, refl, sym, ap, subst, ◌∙◌, arith, length, slice_get, append-nil, reverse, string_bytes, encode_utf8, inl, inr}
+use Rattle.std.specs.Prelude.{◌⊎◌, IfSome, nat_le, nat_lt}
+use Rattle.std.proofs.lemmas.Bool.{le-ltb}
 use Rattle.std.proofs.lemmas.Bool.Decides.{nat_tests}
-use Rattle.std.proofs.lemmas.Option.{slice_get_within}
+use Rattle.std.proofs.lemmas.Option.{none-some, slice_get_within}
 use Rattle.icu_char16trie.specs.Grammar.{Matches}
 use Rattle.icu_char16trie.specs.Numbers.{node_end, end_by}
 use Rattle.icu_char16trie.specs.UnitMap.{UnitMap, under}
 use Rattle.icu_char16trie.specs.UnitPlaces.{Stands, value_by}
 use Rattle.icu_char16trie.specs.Pending.{Spells, PartsGive, IsPending, IsOver, IsNodeValue, weight, work_left}
-use Rattle.icu_char16trie.specs.Walk.{FrontGives, GivesFrom, IsWalked, front_work, work_from}
-use Rattle.icu_char16trie.specs.Inside.Opening.{bytes_of, Keeps}
-use Rattle.icu_char16trie.specs.Inside.Walking.{IsNearFront, below, own, EndsKey, FindsEntry, IsOpened, OpensFront, ReadsNode, TellsNode}
+use Rattle.icu_char16trie.specs.Walk.{FrontGives, GivesFrom, WalkGives, IsWalked, front_work, work_from}
+use Rattle.icu_char16trie.specs.Inside.Opening.{bytes_of, GoesToNode, IsFrom, IsPast, Keeps}
+use Rattle.icu_char16trie.specs.Inside.Walking.{IsNearFront, below, own, EndsKey, FindsEntry, IsOpened, IsPastFront, OpensFront, ReadsNode, TellsNode}
 use Rattle.icu_char16trie.specs.declared.front.Front.{Front}
 use Rattle.icu_char16trie.specs.declared.front.Front.TheVariants.{At}
 use Rattle.icu_char16trie.specs.declared.pending.Pending.{Pending}
@@ -19,7 +20,7 @@ use Rattle.icu_char16trie.specs.declared.place.Place.{Place}
 use Rattle.icu_char16trie.specs.declared.place.Place.TheVariants.{Nowhere}
 use Rattle.icu_char16trie.specs.declared.spelling.LeadSurrogate.{LeadSurrogate}
 use Rattle.icu_char16trie.specs.declared.walk.Walk.{Walk}
-use Rattle.icu_char16trie.proofs.NextLemmas.{IsWithout, not_both, over_gives, stands_absent, stands_by, without_cuts}
+use Rattle.icu_char16trie.proofs.NextLemmas.{IsWithout, from_gone, from_here, not_both, over_gives, past_gives, stands_absent, stands_by, without_cuts, work_by}
 use Rattle.icu_char16trie.proofs.NodeLemmas.{under_nil}
 use Rattle.icu_char16trie.proofs.SpellingLemmas.{spelled_none, spelled_held, spells_nothing}
 use Rattle.icu_char16trie.proofs.WorkLemmas.{weight_one, weight_some}
@@ -27,9 +28,9 @@ use Rattle.icu_char16trie.proofs.WorkLemmas.{weight_one, weight_some}
 -- ---- a node is read
 
 -- nothing stands at the node
-pub nothing_read : (old new : Pending) → IsWithout old new → ((m : UnitMap) (h : IsPending old m) → h.first ≡ []) → (IsSome old.node → work_from new (At Nowhere) < work_left old)
-    → ReadsNode old (At Nowhere) None new
-nothing_read old new w none less = record {
+pub nothing_read : (old new : Pending) → IsWithout old new → ((m : UnitMap) (h : IsPending old m) → h.first ≡ [])
+    → ((k : ℕ) → IsFrom k old → ⊥) → work_from new (At Nowhere) ≤ work_left old → ReadsNode old (At Nowhere) None new
+nothing_read old new w none never less = record {
   units = w.units;
   entries = λ m h. record {
     key = h.key;
@@ -41,10 +42,15 @@ nothing_read old new w none less = record {
     is = h.is ∙ ap (λ z. z ++ h.others) (none m h);
   };
   some_value = tt;
+  leads = λ _ k at. (first_one k at, refl);
   cuts = without_cuts old new w;
   near = tt;
   work = less;
 }
+  where
+    first_one : (k : ℕ) → (k ≡ 0) ⊎ IsFrom k old → k + 1 ≡ 1
+    first_one k (inl e) = omega (arith, e)
+    first_one k (inr f) = absurd (never k f)
 
 less_nowhere : (old new : Pending) (p : ℕ) → IsWithout old new → old.node ≡ Some p → work_from new (At Nowhere) < work_left old
 less_nowhere old new p w n = rw (w.units, w.parts, n) (omega (arith, weight_some (length (slice_values old.units)) p))
@@ -53,7 +59,7 @@ pub absent_read : (old new : Pending) (p : ℕ) → IsWithout old new → old.no
 absent_read old new p w n g =
     nothing_read old new w
     (λ m h. let at = rw n at h.node in at.2 ∙ ap (under h.key) (stands_absent (slice_values old.units) p at.0 at.1 g))
-    (λ s. less_nowhere old new p w n)
+    (λ k. from_gone old k p n g) (omega (arith, less_nowhere old new p w n))
 
 below_gives : (units : List ℕ) (p lead : ℕ) (rest : UnitMap) → (0x8000 ≤ lead → rest ≡ []) → (lead < 0x8000 → Matches units (node_end p lead) (lead % 64) rest) → FrontGives units (below p lead) rest
 below_gives units p lead rest last match = by (nat_le 0x8000 lead) refl
@@ -61,6 +67,21 @@ below_gives units p lead rest last match = by (nat_le 0x8000 lead) refl
     by : (b : Bool) → nat_le 0x8000 lead ≡ b → FrontGives units (below p lead) rest
     by true e = rw e (last (grind (arith, nat_tests)))
     by false e = rw e (match (grind (arith, nat_tests)))
+
+-- a node without a value leads to a match node behind it
+below_past : (units : List ℕ) (p lead k : ℕ) → value_by units (p + 1) lead ≡ None → k ≤ p → p < node_end (p + 1) lead
+    → IsPastFront (k + 1) (below (p + 1) lead)
+below_past units p lead k none from behind = by (nat_le 0x8000 lead) refl
+  where
+    by : (b : Bool) → nat_le 0x8000 lead ≡ b → IsPastFront (k + 1) (below (p + 1) lead)
+    by true e =
+        let big : 0x8000 ≤ lead = grind (arith, nat_tests) in
+        absurd (none-some _ (rw (le-ltb lead 0x40 (omega (arith, big)), le-ltb lead 0x8000 big) at (sym none)))
+    by false e = rw e (omega (arith, from, behind))
+
+from_le : (s : Pending) (k p : ℕ) → s.node ≡ Some p → (k ≡ 0) ⊎ IsFrom k s → k ≤ p
+from_le s k p n (inl e) = omega (arith, e)
+from_le s k p n (inr f) = (from_here s k p n f).0
 
 below_work : (len p q lead : ℕ) → p < len → p < node_end q lead → front_work len (below q lead) < weight len p
 below_work len p q lead within behind = by (nat_le 0x8000 lead) refl
@@ -108,10 +129,11 @@ lead_read old new p lead front value w n g at near is behind = record {
       node_tells value h.key b.rest h.others m front new whole (rw w.spelling h.spelled) (rw w.units next) (rw (w.units, w.spelling, w.parts) h.parts);
   some_value = node_has (slice_values old.units) p lead value g is;
   cuts = without_cuts old new w;
+  leads = λ none k from. rw at (below_past (slice_values old.units) p lead k (sym is ∙ none) (from_le old k p n from) behind);
   near = near;
-  work = λ s.
+  work =
       let less = below_work (length (slice_values old.units)) p (p + 1) lead (slice_get_within (slice_values old.units) p lead g) behind in
-      rw (w.units, w.parts, n, at) (omega (arith, less));
+      work_by (work_from new front) (work_left old) value (rw (w.units, w.parts, n, at) (omega (arith, less)));
 }
 
 -- ---- the text of a key
@@ -136,20 +158,27 @@ held_ends old new lead p f v h e = record {
 -- ---- from one entry to the next
 
 -- a node without a value is read, and what is below it is opened
-pub more_opened : (first : Walk) (old mid read new : Pending) (front : Front) → IsOpened first old → Keeps old mid → IsSome mid.node → ReadsNode mid front None read → OpensFront read front new
-    → (IsWalked first → ⊥) → IsOpened first new
-more_opened first old mid read new front i k s r o more = record {
+pub more_opened : (first : Walk) (old mid read new : Pending) (front : Front) → IsOpened first old → Keeps old mid
+    → ReadsNode mid front None read → OpensFront read front new → (IsWalked first → ⊥) → IsOpened first new
+more_opened first old mid read new front i k r o more = record {
   units = o.units ∙ r.units ∙ k.units ∙ i.units;
   entries = λ m g. o.entries m (r.entries m (k.entries m (i.entries m g)));
   cuts = o.cuts (r.cuts k.cuts);
-  work = omega (arith, o.work, r.work s, k.work, i.work);
+  work = omega (arith, o.work, r.work, k.work, i.work);
   over = λ d. absurd (more d);
 }
 
+pub more_passed : (first : Walk) (old mid read new : Pending) (front : Front) (k : ℕ) → IsOpened first old → Keeps old mid
+    → GoesToNode old mid → ReadsNode mid front None read → OpensFront read front new → ((m : UnitMap) → WalkGives first m → IsPast k old)
+    → (m : UnitMap) → WalkGives first m → IsPast (k + 1) new
+more_passed first old mid read new front k i keeps goes r o past m g =
+    let here = i.entries m g in
+    o.leads m (r.entries m (keeps.entries m here)) (k + 1) (r.leads refl k (goes m here k (past m g)))
+
 -- a node with a value is reached
-pub entry_found : (first new : Walk) (old mid : Pending) (v : ℤ) (told : Walk) → IsOpened first old → Keeps old mid → IsSome mid.node → ReadsNode mid told.front (Some v) told.pending → told.value ≡ v
-    → EndsKey told new → FindsEntry first true new
-entry_found first new old mid v told i k s r tv e = record {
+pub entry_found : (first new : Walk) (old mid : Pending) (v : ℤ) (told : Walk) → IsOpened first old → Keeps old mid
+    → ReadsNode mid told.front (Some v) told.pending → told.value ≡ v → EndsKey told new → FindsEntry first true new
+entry_found first new old mid v told i k r tv e = record {
   units = ap (λ z. z.units) e.pending ∙ r.units ∙ k.units ∙ i.units;
   entries = λ m g.
       let t = r.entries m (k.entries m (i.entries m g)) in
@@ -157,13 +186,24 @@ entry_found first new old mid v told i k s r tv e = record {
       (t.0, t.1, is, e.text t.0 t.3, rw (e.pending, e.front) t.4);
   value = λ _. rw (e.pending, e.value, tv) (subst (λ z. IsNodeValue (slice_values z) v) (sym r.units) r.some_value);
   sound = λ _. rw (e.pending, e.front) (r.cuts k.cuts, r.near);
-  work = λ _. rw (e.pending, e.front) (omega (arith, r.work s, k.work, i.work));
+  work = λ _. rw (e.pending, e.front) (omega (arith, r.work, k.work, i.work));
 }
 
 pub none_found : (first new : Walk) (old : Pending) → IsOpened first old → Keeps old new.pending → IsOver new.pending → FindsEntry first false new
 none_found first new old i k o = record {
   units = k.units ∙ i.units;
   entries = λ m g. over_gives new.pending m o (k.entries m (i.entries m g));
+  value = λ e. absurd (not_both e);
+  sound = λ e. absurd (not_both e);
+  work = λ e. absurd (not_both e);
+}
+
+-- as many nodes were opened as there are units
+pub no_more_found : (first new : Walk) (k : ℕ) → IsOpened first new.pending → length (slice_values new.pending.units) ≤ k
+    → ((m : UnitMap) → WalkGives first m → IsPast k new.pending) → FindsEntry first false new
+no_more_found first new k i all past = record {
+  units = i.units;
+  entries = λ m g. past_gives new.pending m k all (i.entries m g) (past m g);
   value = λ e. absurd (not_both e);
   sound = λ e. absurd (not_both e);
   work = λ e. absurd (not_both e);

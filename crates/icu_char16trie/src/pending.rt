@@ -38,7 +38,7 @@ pub(crate) struct Pending<'a> {
 impl<'a> Pending<'a> {
     ghost use Rattle.icu_char16trie.specs.Pending.{ArmsHold, IsPending, IsOver, Gives, work_left};
     ghost use Rattle.icu_char16trie.specs.Inside.Cuts.{IsCut};
-    ghost use Rattle.icu_char16trie.specs.Inside.Opening.{IsItemBy, PutsOff, Opens, OpensNode, Keeps, Finds};
+    ghost use Rattle.icu_char16trie.specs.Inside.Opening.{IsItemBy, PutsOff, Opens, OpensNode, GoesToNode, Keeps, Finds};
 
     /// All entries of these units.
     pub(crate) fn new(alloc: Global, units: ZeroSlice<'a, u16>) -> Self
@@ -196,35 +196,43 @@ impl<'a> Pending<'a> {
         Ok(item)
     }
 
-    /// Goes to the next node, if there is one.
+    /// Goes to the next node, by the next part where there is none: whether anything was left. A
+    /// part of a trie leads to a node.
     pub(crate) fn go_to_node(&mut self) -> Result<bool, AllocError>
         requires { IsCut self.old }
         ensures done { IsOver self.old → result ≡ Ok false }
         ensures keeps { OnOk result (Keeps self.old self.new) }
-        ensures found { result ≡ Ok true → IsSome self.new.node }
         ensures over { result ≡ Ok false → IsOver self.new }
+        ensures leads { result ≡ Ok true → GoesToNode self.old self.new }
     {
-        while self.node.is_none() {
-            let Some(part) = self.parts.pop() else {
-                return Ok(false);
-            };
-            self.spelling.cut_to(part.mark);
-            self.enter_part(part.place, part.count)?;
+        if self.node.is_some() {
+            return Ok(true);
         }
+        let Some(part) = self.parts.pop() else {
+            return Ok(false);
+        };
+        self.spelling.cut_to(part.mark);
+        self.enter_part(part.place, part.count)?;
         Ok(true)
     }
 
-    /// The next item.
+    /// The next item. It opens at most as many nodes as there are units, and then nothing is left:
+    /// a node of a trie that has no item leads to a later one.
     fn find_item(&mut self, alloc: Global) -> Result<Option<(String, i32)>, AllocError>
         requires { IsCut self.old }
         ensures done { IsOver self.old → result ≡ Ok None }
         ensures finds { IfOk result (λ item. Finds self.old item self.new) }
     {
-        while self.go_to_node()? {
+        for _opened in 0..self.units.len() {
+            if !self.go_to_node()? {
+                return Ok(None);
+            }
             if let Some(item) = self.open_node(alloc)? {
                 return Ok(Some(item));
             }
         }
+        self.node = None;
+        self.parts.clear();
         Ok(None)
     }
 

@@ -1,5 +1,5 @@
 -- What the steps of an iterator over the entries do.
-use Rattle.std.specs.Prelude.{◌≡◌, ℕ, ℤ, ◌+◌, ◌<◌, List, [], ◌∷◌, ◌++◌, Option, Some, None, length, reverse, string_bytes, MatchOption, IfSome, IsSome, String, ◌≤◌}
+use Rattle.std.specs.Prelude.{◌≡◌, ℕ, ℤ, ◌+◌, ◌<◌, ◌≤◌, ◌⊎◌, List, [], ◌∷◌, ◌++◌, Option, Some, None, length, reverse, string_bytes, MatchOption, IfSome, String}
 use Rattle.std.specs.Global.{Global}
 use Rattle.icu_zerovec.specs.Slice.{slice_values}
 use Rattle.icu_char16trie.specs.UnitMap.{UnitMap, under}
@@ -35,6 +35,15 @@ pub record PutsOff (old : Pending) (p n : ℕ) (new : Pending) : Type 0 where
   pub len : part.mark.len ≡ length (bytes_of old.spelling)
   pub held : part.mark.held ≡ old.spelling.held
 
+-- there is a node, and it stands among the units, at k or behind
+abbrev pub IsFrom : ℕ → Pending → Type 0
+IsFrom k s = (p : ℕ) × (s.node ≡ Some p) × (k ≤ p) × (p < length (slice_values s.units))
+
+-- k nodes of a trie were opened, and had no item: the next one stands at k or behind, since each
+-- led to a later one. Before the first it may stand anywhere, and after none at all a part is next
+abbrev pub IsPast : ℕ → Pending → Type 0
+IsPast k s = (k ≡ 0) ⊎ (((k ≡ 1) × (s.node ≡ None)) ⊎ IsFrom k s)
+
 -- what stands for some entries is opened, under the key so far: then they are pending, before those
 -- of the parts; it makes less work than a node at p
 pub record Opens (old : Pending) (p : ℕ) (Stood : UnitMap → Type 0) (new : Pending) : Type 0 where
@@ -43,6 +52,7 @@ pub record Opens (old : Pending) (p : ℕ) (Stood : UnitMap → Type 0) (new : P
       → Spells (bytes_of old.spelling) old.spelling.held key
       → PartsGive (slice_values old.units) (bytes_of old.spelling) (reverse old.parts.items) others
       → IsPending new (under key first ++ others)
+  pub leads : (first : UnitMap) → Stood first → IsFrom (p + 1) new
   pub cuts : IsCut old → IsCut new
   pub work : work_left new < weight (length (slice_values old.units)) p + work_left old
 
@@ -61,8 +71,11 @@ pub record OpensNode (old : Pending) (item : Option (String Global × ℤ)) (new
   pub entries : (m : UnitMap) → IsPending old m
       → MatchOption item (IsPending new m) (λ x. TakesFirst m (string_bytes x.0) x.1 new)
   pub value : IfSome item (λ x. IsNodeValue (slice_values old.units) x.1)
+  pub leads : item ≡ None → (m : UnitMap) → IsPending old m → (k : ℕ) → (k ≡ 0) ⊎ IsFrom k old
+      → IsPast (k + 1) new
   pub cuts : IsCut old → IsCut new
-  pub work : IsSome old.node → work_left new < work_left old
+  pub work : MatchOption item (work_left new ≤ work_left old)
+      (λ x. work_left new < work_left old)
 
 -- what was pending is pending still
 pub record Keeps (old new : Pending) : Type 0 where
@@ -70,6 +83,11 @@ pub record Keeps (old new : Pending) : Type 0 where
   pub entries : (m : UnitMap) → IsPending old m → IsPending new m
   pub cuts : IsCut new
   pub work : work_left new ≤ work_left old
+
+-- where k nodes of a trie were opened there is a node now, at k or behind
+abbrev pub GoesToNode : Pending → Pending → Type 0
+GoesToNode old new =
+    (m : UnitMap) → IsPending old m → (k : ℕ) → IsPast k old → (k ≡ 0) ⊎ IsFrom k new
 
 -- the next item is found, or there is none and nothing is left
 pub record Finds (old : Pending) (item : Option (String Global × ℤ)) (new : Pending)

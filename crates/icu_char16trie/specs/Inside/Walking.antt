@@ -1,5 +1,5 @@
 -- What the steps of a walk over the entries of a trie do.
-use Rattle.std.specs.Prelude.{◌≡◌, ℕ, ℤ, ◌^◌, ◌%◌, ◌<◌, ◌≤◌, List, [], ◌∷◌, Option, None, Bool, true, false, nat_le, if◌then◌else◌, Some, IfSome, IsSome}
+use Rattle.std.specs.Prelude.{◌≡◌, ℕ, ℤ, ◌+◌, ◌^◌, ◌%◌, ◌<◌, ◌≤◌, ◌⊎◌, List, [], ◌∷◌, Option, None, Bool, true, false, nat_le, if◌then◌else◌, Some, IfSome, MatchOption}
 use Rattle.std.proofs.Props.{props}
 use Rattle.std.specs.Coded.{×_prop, Unit-prop}
 use Rattle.icu_zerovec.specs.Slice.{slice_values}
@@ -9,7 +9,7 @@ use Rattle.icu_char16trie.specs.UnitMap.{UnitMap}
 use Rattle.icu_char16trie.specs.UnitPlaces.{IsNear}
 use Rattle.icu_char16trie.specs.Pending.{Spells, IsPending, IsOver, IsNodeValue, work_left}
 use Rattle.icu_char16trie.specs.Inside.Cuts.{IsCut, IsCut-prop}
-use Rattle.icu_char16trie.specs.Inside.Opening.{bytes_of}
+use Rattle.icu_char16trie.specs.Inside.Opening.{bytes_of, IsFrom, IsPast}
 use Rattle.icu_char16trie.specs.Walk.{GivesFrom, WalkGives, IsWalked, IsValueOfNode, Reaches, walk_text, walk_work, work_from}
 use Rattle.icu_char16trie.specs.declared.front.Front.{Front}
 use Rattle.icu_char16trie.specs.declared.front.Front.TheVariants.{At, Match}
@@ -37,11 +37,18 @@ abbrev pub own : Option ℤ → UnitMap
 own None = []
 own (Some v) = ([], v) ∷ []
 
+-- k nodes of a trie were read, and had no value: what comes next is a match node at k or behind, or
+-- nothing after none at all
+abbrev pub IsPastFront : ℕ → Front → Type 0
+IsPastFront k (At place) = (k ≡ 1) × (place ≡ Nowhere)
+IsPastFront k (Match p low) = k ≤ p
+
 -- what comes next is opened: what was still to come is pending
 pub record OpensFront (old : Pending) (front : Front) (new : Pending) : Type 0 where
   pub units : new.units ≡ old.units
   pub entries : (m : UnitMap) → GivesFrom old front m → IsPending new m
   pub cuts : IsCut old → IsCut new
+  pub leads : (m : UnitMap) → GivesFrom old front m → (k : ℕ) → IsPastFront k front → IsPast k new
   pub work : work_left new ≤ work_from old front
   pub over : front ≡ At Nowhere → old.parts.items ≡ [] → IsOver new
 
@@ -60,9 +67,11 @@ pub record ReadsNode (old : Pending) (front : Front) (value : Option ℤ) (new :
   pub units : new.units ≡ old.units
   pub entries : (m : UnitMap) → IsPending old m → TellsNode m value front new
   pub some_value : IfSome value (IsNodeValue (slice_values old.units))
+  pub leads : value ≡ None → (k : ℕ) → (k ≡ 0) ⊎ IsFrom k old → IsPastFront (k + 1) front
   pub cuts : IsCut old → IsCut new
   pub near : IsNearFront front
-  pub work : IsSome old.node → work_from new front < work_left old
+  pub work : MatchOption value (work_from new front ≤ work_left old)
+      (λ v. work_from new front < work_left old)
 
 -- what a walk had still to give is pending
 pub record IsOpened (old : Walk) (new : Pending) : Type 0 where

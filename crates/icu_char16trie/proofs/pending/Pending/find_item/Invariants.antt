@@ -1,13 +1,12 @@
-use Rattle.icu_char16trie.specs.Pending.{IsOver, work_left}
-use Rattle.icu_char16trie.specs.Inside.Opening.{Keeps}
+use Rattle.icu_char16trie.specs.Pending.{IsOver, IsPending}
+use Rattle.icu_char16trie.specs.UnitMap.{UnitMap}
+use Rattle.icu_char16trie.specs.Inside.Opening.{IsPast, Keeps}
 use Rattle.icu_char16trie.proofs.pending.Pending.find_item.Given as goal
 
--- what was pending at first is pending still
-abbrev pub invariant-loop-self : goal.invariant-loop-self
-invariant-loop-self l = record {
+-- what was pending at first is pending still, behind the nodes that were opened
+abbrev pub invariant-loop-opened : goal.invariant-loop-opened
+invariant-loop-opened l = record {
   keeps : Keeps l.fn.self l.self;
   done : IsOver l.fn.self → IsOver l.self;
+  past : (m : UnitMap) → IsPending l.fn.self m → IsPast l._opened l.self;
 }
-
-abbrev pub decreases-loop-self : goal.decreases-loop-self
-decreases-loop-self l = work_left l.self

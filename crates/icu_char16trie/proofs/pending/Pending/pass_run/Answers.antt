@@ -1,4 +1,4 @@
-use Rattle.std.proofs.Common.{◌+◌, refl, inl, arith}
+use Rattle.std.proofs.Common.{◌+◌, refl, arith}
 use Rattle.icu_char16trie.proofs.OpeningLemmas.{nothing_opens, gone_opens}
 use Rattle.icu_char16trie.proofs.pending.Pending.pass_run.Goals as goal
 
@@ -8,4 +8,4 @@ returns-then-len-place c = nothing_opens c.args.self.now c.args.place _ (λ firs
 pub returns : goal.returns
 returns c =
     gone_opens c.args.self.now _ _ c.args.place (c.args.place + c.args.count) _ (record { units = refl; spelling = c.in_ok-push_run.ensures; node = refl; parts = refl })
-    (omega arith) (omega arith) (λ first r. (r.rest, inl r.node, r.keys))
+    (omega arith) (omega arith) (λ first r. (r.rest, r.node, r.keys))
