@@ -1,274 +1,210 @@
 -- Lemmas on blocks of 16 code points.
-use Rattle.std.proofs.Common.{◌≡◌, ◌≢◌, ℕ, ◌+◌, ◌*◌, ◌/◌, ◌%◌, ◌<◌, ◌≤◌, ◌⊎◌, inl, inr, Bool, true, false, List, length, get_or, set, refl, sym, ◌∙◌, ap, arith, [], take, drop, ◌-◌}
-use Rattle.std.proofs.lemmas.Bool.{cases_lt, cases_eq, false≢true}
-use Rattle.std.proofs.lemmas.List.{get_or-set_same, get_or-set_other, length-set, get_or_default, get_or_past, same_lists, length-take, length-drop, get_or-take, get_or-drop}
-use Rattle.std.proofs.Math.Nat.{mul_assoc, mul-add}
+use Rattle.std.proofs.Common.{◌≡◌, ◌≢◌, ℕ, ◌+◌, ◌*◌, ◌/◌, ◌%◌, ◌<◌, ◌≤◌, ◌⊎◌, inl, inr, Bool, true, false, List, [], ◌∷◌, ◌++◌, length, get_or, set, replicate, take, drop, refl, sym, ◌∙◌, ap, arith, ◌-◌}
+use Rattle.std.proofs.lemmas.Bool.{cases_lt, cases_eq, cases_Bool, false≢true}
+use Rattle.std.proofs.lemmas.List.{get_or-set_same, get_or-set_other, length-set, get_or_default, get_or_past, same_lists, length-take, length-drop, get_or-take, get_or-drop, length-replicate, get_or-replicate, get_or_append_left, get_or_push, take-replicate, drop-replicate, drop-drop}
+use Rattle.std.proofs.Math.Seq.{take-add}
+use Rattle.std.proofs.Math.Nat.{mul_assoc, mul-add, zero-mul}
 use Rattle.std.proofs.lemmas.List.FromFn.{length-map-range_with_len, get_or-map-range_with_len}
-use Rattle.icu_trie_core.specs.Blocks.{block}
-use Rattle.icu_trie_map.specs.NumberMap.{code_points, numbers_of, IsBlocks, block_count, number_at, is_mixed}
-use Rattle.icu_trie_map.specs.Inside.Blocks.{SameNumbers}
-use Rattle.icu_trie_map.specs.declared.number_map.Blocks.{Blocks}
-
--- what the number of a code point is, where its block is mixed and where it is not
-pub number_at-mixed : (b : Blocks) (rest c : ℕ) → is_mixed b (c / 16) ≡ true → number_at b rest c ≡ get_or b.cells.items (get_or b.numbers.items (c / 16) 0 + c % 16) 0
-unfolding number_at
-number_at-mixed b rest c h = rw h refl
-
-pub number_at-same : (b : Blocks) (rest c : ℕ) → is_mixed b (c / 16) ≡ false → number_at b rest c ≡ get_or b.numbers.items (c / 16) rest
-unfolding number_at
-number_at-same b rest c h = rw h refl
-
--- a block is mixed or not
-pub mixed-cases : (b : Blocks) (i : ℕ) → (is_mixed b i ≡ true) ⊎ (is_mixed b i ≡ false)
-mixed-cases b i = bool-cases (is_mixed b i) where
-  bool-cases : (x : Bool) → (x ≡ true) ⊎ (x ≡ false)
-  bool-cases true = inl refl
-  bool-cases false = inr refl
-
-pub block_count-is : block_count ≡ 0x11000
-unfolding block_count
-block_count-is = refl
-
--- Blocks come where there were none, each with the number of all
-module _ (b b' : Blocks) (rest : ℕ) (none : length b.mixed.items ≡ 0) (sound : IsBlocks b)
-    (mixed : length b'.mixed.items ≡ 0x11000) (numbers : length b'.numbers.items ≡ 0x11000)
-    (whole : (i : ℕ) (d : Bool) → i < 0x11000 → get_or b'.mixed.items i d ≡ false)
-    (filled : (i d : ℕ) → i < 0x11000 → get_or b'.numbers.items i d ≡ rest) where
-  never : (i : ℕ) → is_mixed b' i ≡ false
-  never i = elim (cases_lt i 0x11000) [
-    | inl l ↦ whole i false l
-    | inr m ↦ get_or_past b'.mixed.items i false (omega (arith, m, mixed))
-  ]
-
-  pub made-sound : IsBlocks b'
-  made-sound = record {
-    same_count = numbers ∙ sym mixed;
-    none_or_all = inr (mixed ∙ sym block_count-is);
-    inside = λ i h. absurd (false≢true (sym (never i) ∙ h));
-    apart = λ i j hi hj l. absurd (false≢true (sym (never i) ∙ hi));
-  }
-
-  pub made-all : length b'.mixed.items ≡ block_count
-  made-all = mixed ∙ sym block_count-is
-
-  pub made-same : (c : ℕ) → c < 0x110000 → number_at b' rest c ≡ number_at b rest c
-  made-same c l = number_at-same b' rest c (never (c / 16)) ∙ filled (c / 16) rest (omega (arith, l))
-      ∙ sym (number_at-same b rest c (get_or_past b.mixed.items (c / 16) false (omega (arith, none))) ∙ get_or_past b.numbers.items (c / 16) rest (omega (arith, none, sound.same_count)))
-
--- Block number n, which is not mixed, gets cells of its own after those so far, with its number
-module _ (b b' : Blocks) (n : ℕ) (sound : IsBlocks b) (there : n < length b.mixed.items) (whole : is_mixed b n ≡ false)
-    (mixed : b'.mixed.items ≡ set b.mixed.items n true)
-    (numbers : b'.numbers.items ≡ set b.numbers.items n (length b.cells.items))
-    (more : length b'.cells.items ≡ length b.cells.items + 16)
-    (kept : (k : ℕ) → k < length b.cells.items → get_or b'.cells.items k 0 ≡ get_or b.cells.items k 0)
-    (filled : (k : ℕ) → length b.cells.items ≤ k → k < length b.cells.items + 16 → get_or b'.cells.items k 0 ≡ get_or b.numbers.items n 0) where
-  pub mix-own : is_mixed b' n ≡ true
-  mix-own = rw mixed (get_or-set_same b.mixed.items n true false there)
-
-  mix-other : (i : ℕ) → i ≢ n → is_mixed b' i ≡ is_mixed b i
-  mix-other i ne = rw mixed (get_or-set_other b.mixed.items n i true false ne)
-
-  pub mix-kept : (i : ℕ) → is_mixed b i ≡ true → is_mixed b' i ≡ true
-  mix-kept i h = elim (cases_eq i n) [
-    | inl e ↦ rw e mix-own
-    | inr ne ↦ mix-other i ne ∙ h
-  ]
-
-  place-own : get_or b'.numbers.items n 0 ≡ length b.cells.items
-  place-own = rw numbers (get_or-set_same b.numbers.items n (length b.cells.items) 0 (omega (arith, there, sound.same_count)))
-
-  place-other : (i d : ℕ) → i ≢ n → get_or b'.numbers.items i d ≡ get_or b.numbers.items i d
-  place-other i d ne = rw numbers (get_or-set_other b.numbers.items n i (length b.cells.items) d ne)
-
-  -- the place of a mixed block
-  inside-other : (i : ℕ) → i ≢ n → is_mixed b' i ≡ true → get_or b'.numbers.items i 0 + 16 ≤ length b.cells.items
-  inside-other i ne h = omega (arith, place-other i 0 ne, sound.inside i (sym (mix-other i ne) ∙ h))
-
-  pub mix-sound : IsBlocks b'
-  mix-sound = record {
-    same_count = rw (mixed, numbers, length-set b.mixed.items n true, length-set b.numbers.items n (length b.cells.items)) sound.same_count;
-    none_or_all = rw (mixed, length-set b.mixed.items n true) sound.none_or_all;
-    inside = λ i h. elim (cases_eq i n) [
-      | inl e ↦ rw e (omega (arith, place-own, more))
-      | inr ne ↦ omega (arith, inside-other i ne h, more)
-    ];
-    apart = λ i j hi hj l. elim (cases_eq i n) [
-      | inl e ↦ let ne : j ≢ n = λ q. absurd (omega (arith, l, e, q)) in inr (rw e (omega (arith, place-own, inside-other j ne hj)))
-      | inr ne ↦ elim (cases_eq j n) [
-        | inl e ↦ inl (rw e (omega (arith, place-own, inside-other i ne hi)))
-        | inr nj ↦ rw (place-other i 0 ne, place-other j 0 nj) (sound.apart i j (sym (mix-other i ne) ∙ hi) (sym (mix-other j nj) ∙ hj) l)
-      ]
-    ];
-  }
-
-  pub mix-same : SameNumbers b b'
-  mix-same rest c = elim (cases_eq (c / 16) n) [
-    | inl e ↦
-        number_at-mixed b' rest c (ap (is_mixed b') e ∙ mix-own)
-        ∙ ap (λ x. get_or b'.cells.items (get_or b'.numbers.items x 0 + c % 16) 0) e
-        ∙ ap (λ x. get_or b'.cells.items (x + c % 16) 0) place-own
-        ∙ filled (length b.cells.items + c % 16) (omega arith) (omega arith)
-        ∙ get_or_default b.numbers.items n 0 rest (omega (arith, there, sound.same_count))
-        ∙ ap (λ x. get_or b.numbers.items x rest) (sym e)
-        ∙ sym (number_at-same b rest c (ap (is_mixed b) e ∙ whole))
-    | inr ne ↦ elim (mixed-cases b (c / 16)) [
-      | inl h ↦
-          let h' : is_mixed b' (c / 16) ≡ true = mix-other (c / 16) ne ∙ h in
-          number_at-mixed b' rest c h'
-          ∙ kept (get_or b'.numbers.items (c / 16) 0 + c % 16) (omega (arith, inside-other (c / 16) ne h'))
-          ∙ ap (λ x. get_or b.cells.items (x + c % 16) 0) (place-other (c / 16) 0 ne)
-          ∙ sym (number_at-mixed b rest c h)
-      | inr h ↦ number_at-same b' rest c (mix-other (c / 16) ne ∙ h) ∙ place-other (c / 16) rest ne ∙ sym (number_at-same b rest c h)
-    ]
-  ]
-
--- The cells of mixed block number n are written from its place `from` on to before `to`
-module _ (b b' : Blocks) (n from to number : ℕ) (sound : IsBlocks b) (own : is_mixed b n ≡ true) (range : from ≤ to) (within : to ≤ 16)
-    (mixed : b'.mixed.items ≡ b.mixed.items) (numbers : b'.numbers.items ≡ b.numbers.items) (len : length b'.cells.items ≡ length b.cells.items)
-    (inside : (k : ℕ) → get_or b.numbers.items n 0 + from ≤ k → k < get_or b.numbers.items n 0 + to → get_or b'.cells.items k 0 ≡ number)
-    (before : (k : ℕ) → k < get_or b.numbers.items n 0 + from → get_or b'.cells.items k 0 ≡ get_or b.cells.items k 0)
-    (after : (k : ℕ) → get_or b.numbers.items n 0 + to ≤ k → get_or b'.cells.items k 0 ≡ get_or b.cells.items k 0) where
-  pub fill-sound : IsBlocks b'
-  fill-sound = record {
-    same_count = rw (mixed, numbers) sound.same_count;
-    none_or_all = rw mixed sound.none_or_all;
-    inside = λ i h. rw (numbers, len) (sound.inside i (rw (← mixed) h));
-    apart = λ i j hi hj l. rw numbers (sound.apart i j (rw (← mixed) hi) (rw (← mixed) hj) l);
-  }
-
-  pub fill-inside : (rest c : ℕ) → 16 * n + from ≤ c → c < 16 * n + to → number_at b' rest c ≡ number
-  fill-inside rest c low high =
-      let e : c / 16 ≡ n = omega (arith, low, high, within) in
-      let place : get_or b'.numbers.items (c / 16) 0 ≡ get_or b.numbers.items n 0 = rw (numbers, e) refl in
-      number_at-mixed b' rest c (rw (mixed, e) own)
-      ∙ ap (λ x. get_or b'.cells.items (x + c % 16) 0) place
-      ∙ inside (get_or b.numbers.items n 0 + c % 16) (omega (arith, e, low)) (omega (arith, e, high))
-
-  -- a cell of another block, or one outside the range, is as it was
-  fill-cell : (c : ℕ) → (c < 16 * n + from) ⊎ (16 * n + to ≤ c) → is_mixed b (c / 16) ≡ true
-      → get_or b'.cells.items (get_or b.numbers.items (c / 16) 0 + c % 16) 0 ≡ get_or b.cells.items (get_or b.numbers.items (c / 16) 0 + c % 16) 0
-  fill-cell c out h = elim (cases_eq (c / 16) n) [
-    | inl e ↦ elim out [
-      | inl low ↦ before (get_or b.numbers.items (c / 16) 0 + c % 16) (rw e (omega (arith, e, low)))
-      | inr high ↦ after (get_or b.numbers.items (c / 16) 0 + c % 16) (rw e (omega (arith, e, high)))
-    ]
-    | inr ne ↦ elim (cases_lt (c / 16) n) [
-      | inl l ↦ apart-cell (c / 16) (c % 16) (omega arith) (sound.apart (c / 16) n h own l)
-      | inr m ↦ apart-cell (c / 16) (c % 16) (omega arith) (swap (sound.apart n (c / 16) own h (omega (arith, ne, m))))
-    ]
-  ] where
-    swap : {A B : Type 0} → A ⊎ B → B ⊎ A
-    swap (inl x) = inr x
-    swap (inr x) = inl x
-
-    apart-cell : (i k : ℕ) → k < 16 → (get_or b.numbers.items i 0 + 16 ≤ get_or b.numbers.items n 0) ⊎ (get_or b.numbers.items n 0 + 16 ≤ get_or b.numbers.items i 0)
-        → get_or b'.cells.items (get_or b.numbers.items i 0 + k) 0 ≡ get_or b.cells.items (get_or b.numbers.items i 0 + k) 0
-    apart-cell i k l (inl low) = before (get_or b.numbers.items i 0 + k) (omega (arith, l, low))
-    apart-cell i k l (inr high) = after (get_or b.numbers.items i 0 + k) (omega (arith, high, within))
-
-  pub fill-outside : (rest c : ℕ) → (c < 16 * n + from) ⊎ (16 * n + to ≤ c) → number_at b' rest c ≡ number_at b rest c
-  fill-outside rest c out = elim (mixed-cases b (c / 16)) [
-    | inl h ↦ number_at-mixed b' rest c (rw mixed h) ∙ ap (λ xs. get_or b'.cells.items (get_or xs (c / 16) 0 + c % 16) 0) numbers ∙ fill-cell c out h ∙ sym (number_at-mixed b rest c h)
-    | inr h ↦ number_at-same b' rest c (rw mixed h) ∙ ap (λ xs. get_or xs (c / 16) rest) numbers ∙ sym (number_at-same b rest c h)
-  ]
-
--- Block number n, which is not mixed, gets another number
-module _ (b b' : Blocks) (n number : ℕ) (sound : IsBlocks b) (there : n < length b.mixed.items) (whole : is_mixed b n ≡ false)
-    (mixed : b'.mixed.items ≡ b.mixed.items) (numbers : b'.numbers.items ≡ set b.numbers.items n number) (cells : b'.cells.items ≡ b.cells.items) where
-  number-other : (i d : ℕ) → i ≢ n → get_or b'.numbers.items i d ≡ get_or b.numbers.items i d
-  number-other i d ne = rw numbers (get_or-set_other b.numbers.items n i number d ne)
-
-  not-own : (i : ℕ) → is_mixed b' i ≡ true → i ≢ n
-  not-own i h e = let not : is_mixed b i ≡ false = rw e whole in let own : is_mixed b i ≡ true = rw (← mixed) h in absurd (false≢true (sym not ∙ own))
-
-  pub set-sound : IsBlocks b'
-  set-sound = record {
-    same_count = rw (mixed, numbers, length-set b.numbers.items n number) sound.same_count;
-    none_or_all = rw mixed sound.none_or_all;
-    inside = λ i h. rw (number-other i 0 (not-own i h), cells) (sound.inside i (rw (← mixed) h));
-    apart = λ i j hi hj l. rw (number-other i 0 (not-own i hi), number-other j 0 (not-own j hj)) (sound.apart i j (rw (← mixed) hi) (rw (← mixed) hj) l);
-  }
-
-  pub set-inside : (rest c : ℕ) → 16 * n ≤ c → c < 16 * n + 16 → number_at b' rest c ≡ number
-  set-inside rest c low high =
-      let e : c / 16 ≡ n = omega (arith, low, high) in
-      number_at-same b' rest c (rw (mixed, e) whole) ∙ ap (λ x. get_or b'.numbers.items x rest) e ∙ rw numbers (get_or-set_same b.numbers.items n number rest (omega (arith, there, sound.same_count)))
-
-  pub set-outside : (rest c : ℕ) → (c < 16 * n) ⊎ (16 * n + 16 ≤ c) → number_at b' rest c ≡ number_at b rest c
-  set-outside rest c out =
-      let ne : c / 16 ≢ n = λ e. elim out [ inl l ↦ absurd (omega (arith, e, l)) | inr l ↦ absurd (omega (arith, e, l)) ] in
-      elim (mixed-cases b (c / 16)) [
-        | inl h ↦ number_at-mixed b' rest c (rw mixed h) ∙ ap (λ x. get_or b'.cells.items (x + c % 16) 0) (number-other (c / 16) 0 ne) ∙ ap (λ xs. get_or xs (get_or b.numbers.items (c / 16) 0 + c % 16) 0) cells ∙ sym (number_at-mixed b rest c h)
-        | inr h ↦ number_at-same b' rest c (rw mixed h) ∙ number-other (c / 16) rest ne ∙ sym (number_at-same b rest c h)
-      ]
-
--- blocks where there are none, or all
-pub number_at-none : (b : Blocks) (rest c : ℕ) → IsBlocks b → length b.mixed.items ≡ 0 → number_at b rest c ≡ rest
-number_at-none b rest c sound none = number_at-same b rest c (get_or_past b.mixed.items (c / 16) false (omega (arith, none))) ∙ get_or_past b.numbers.items (c / 16) rest (omega (arith, none, sound.same_count))
-
--- the number of a code point of a block
-pub number_at-cell : (b : Blocks) (rest n i : ℕ) → is_mixed b n ≡ true → i < 16 → number_at b rest (16 * n + i) ≡ get_or b.cells.items (get_or b.numbers.items n 0 + i) 0
-number_at-cell b rest n i h l =
-    let e : (16 * n + i) / 16 ≡ n = omega (arith, l) in
-    let r : (16 * n + i) % 16 ≡ i = omega (arith, l) in
-    number_at-mixed b rest (16 * n + i) (ap (is_mixed b) e ∙ h) ∙ ap (λ x. get_or b.cells.items (get_or b.numbers.items x 0 + (16 * n + i) % 16) 0) e ∙ ap (λ x. get_or b.cells.items (get_or b.numbers.items n 0 + x) 0) r
-
-pub number_at-one : (b : Blocks) (rest n i : ℕ) → IsBlocks b → n < length b.mixed.items → is_mixed b n ≡ false → i < 16 → number_at b rest (16 * n + i) ≡ get_or b.numbers.items n 0
-number_at-one b rest n i sound there h l =
-    let e : (16 * n + i) / 16 ≡ n = omega (arith, l) in
-    number_at-same b rest (16 * n + i) (ap (is_mixed b) e ∙ h) ∙ ap (λ x. get_or b.numbers.items x rest) e ∙ get_or_default b.numbers.items n rest 0 (omega (arith, there, sound.same_count))
-
--- a code point of a block, by its place in the block
-pub split : (c : ℕ) → c ≡ 16 * (c / 16) + c % 16
-split c = omega arith
+use Rattle.icu_trie_core.specs.Blocks.{block, window}
+use Rattle.icu_trie_map.specs.NumberMap.{code_points}
+use Rattle.icu_trie_map.specs.Inside.Blocks.{AreBlocks, IsWritten, number_at, all_numbers, is_mixed}
 
 code_points-is : code_points ≡ 0x110000
 unfolding code_points
 code_points-is = refl
 
-pub numbers-length : (b : Blocks) (rest : ℕ) → length (numbers_of b rest) ≡ 0x110000
-numbers-length b rest = length-map-range_with_len (number_at b rest) 0 code_points ∙ code_points-is
+-- the list of the numbers of all code points
+module _ (f : ℕ → ℕ) where
+  numbers-length : length (all_numbers f) ≡ 0x110000
+  numbers-length = length-map-range_with_len f 0 code_points ∙ code_points-is
 
-pub numbers-at : (b : Blocks) (rest c d : ℕ) → c < 0x110000 → get_or (numbers_of b rest) c d ≡ number_at b rest c
-numbers-at b rest c d l = get_or-map-range_with_len (number_at b rest) 0 code_points c c d (omega (arith, l, code_points-is)) (omega arith)
+  numbers-at : (c d : ℕ) → c < 0x110000 → get_or (all_numbers f) c d ≡ f c
+  numbers-at c d l = get_or-map-range_with_len f 0 code_points c c d (omega (arith, l, code_points-is)) (omega arith)
 
-pub numbers-past : (b : Blocks) (rest c d : ℕ) → 0x110000 ≤ c → get_or (numbers_of b rest) c d ≡ d
-numbers-past b rest c d m = get_or_past (numbers_of b rest) c d (omega (arith, m, numbers-length b rest))
+  numbers-are : (xs : List ℕ) → length xs ≡ 0x110000 → ((c : ℕ) → c < 0x110000 → f c ≡ get_or xs c 0) → all_numbers f ≡ xs
+  numbers-are xs len at = same_lists (all_numbers f) xs (numbers-length ∙ sym len) (λ c d l.
+      let below : c < 0x110000 = omega (arith, l, numbers-length) in
+      numbers-at c d below ∙ at c below ∙ get_or_default xs c 0 d (omega (arith, below, len)))
 
--- maps that have one number at each code point are one list
-pub numbers-same : (b b' : Blocks) (rest : ℕ) → ((c : ℕ) → c < 0x110000 → number_at b' rest c ≡ number_at b rest c) → numbers_of b' rest ≡ numbers_of b rest
-numbers-same b b' rest same = same_lists (numbers_of b' rest) (numbers_of b rest) (numbers-length b' rest ∙ sym (numbers-length b rest))
-    (λ c d l. let below : c < 0x110000 = omega (arith, l, numbers-length b' rest) in numbers-at b' rest c d below ∙ same c below ∙ sym (numbers-at b rest c d below))
+-- one number at all code points
+pub one-length : (v : ℕ) → length (replicate code_points v) ≡ 0x110000
+one-length v = length-replicate code_points v ∙ code_points-is
 
--- the same items
-pub items-same : (b b' : Blocks) → b'.mixed.items ≡ b.mixed.items → b'.numbers.items ≡ b.numbers.items → b'.cells.items ≡ b.cells.items → SameNumbers b b'
-unfolding number_at
-items-same b b' mixed numbers cells rest c = rw (mixed, numbers, cells) refl
+pub one-at : (v c : ℕ) → c < 0x110000 → get_or (replicate code_points v) c 0 ≡ v
+one-at v c l = get_or-replicate code_points c v 0 (omega (arith, l, code_points-is))
 
--- a block that holds one number, or has cells, code point by code point
-module _ (b : Blocks) (sound : IsBlocks b) (n : ℕ) (there : n < length b.mixed.items) where
-  split-at : (c : ℕ) → 16 * n ≤ c → c < 16 * n + 16 → c ≡ 16 * n + (c - 16 * n)
-  split-at c low high = omega (arith, low)
+-- the number of a code point of block number i, where the block is mixed and where it is not
+module _ (m : List Bool) (n : List ℕ) (cs : List (List ℕ)) (i c : ℕ) (e : c / 16 ≡ i) where
+  at-mixed : is_mixed m i ≡ true → number_at m n cs c ≡ get_or (get_or cs (get_or n i 0) []) (c % 16) 0
+  unfolding number_at
+  at-mixed h = rw (e, h) refl
 
-  pub one-holds : (number rest c : ℕ) → is_mixed b n ≡ false → get_or b.numbers.items n 0 ≡ number → 16 * n ≤ c → c < 16 * n + 16 → number_at b rest c ≡ number
-  one-holds number rest c whole held low high =
-      ap (number_at b rest) (split-at c low high) ∙ number_at-one b rest n (c - 16 * n) sound there whole (omega (arith, low, high)) ∙ held
+  at-one : is_mixed m i ≡ false → number_at m n cs c ≡ get_or n i 0
+  unfolding number_at
+  at-one h = rw (e, h) refl
 
-  pub cell-holds : (rest c x : ℕ) → is_mixed b n ≡ true → 16 * n ≤ c → c < 16 * n + 16 → get_or b.cells.items (get_or b.numbers.items n 0 + (c - 16 * n)) 0 ≡ x → number_at b rest c ≡ x
-  cell-holds rest c x own low high at =
-      ap (number_at b rest) (split-at c low high) ∙ number_at-cell b rest n (c - 16 * n) own (omega (arith, low, high)) ∙ at
+-- blocks of which none is mixed, and each has this number
+pub made-numbers : (m : List Bool) (n : List ℕ) (number : ℕ) → ((i : ℕ) (d : Bool) → i < 0x11000 → get_or m i d ≡ false)
+    → ((i d : ℕ) → i < 0x11000 → get_or n i d ≡ number) → all_numbers (number_at m n []) ≡ replicate code_points number
+made-numbers m n number whole filled = numbers-are (number_at m n []) (replicate code_points number) (one-length number)
+    (λ c l. let i : c / 16 < 0x11000 = omega (arith, l) in
+    at-one m n [] (c / 16) c refl (whole (c / 16) false i) ∙ filled (c / 16) 0 i ∙ sym (one-at number c l))
 
+-- the number of a code point whose block does not change, where block number i does
+others : (m m' : List Bool) (n n' : List ℕ) (cs cs' : List (List ℕ)) (i : ℕ) → ((j : ℕ) → j ≢ i → is_mixed m' j ≡ is_mixed m j)
+    → ((j : ℕ) → j ≢ i → get_or n' j 0 ≡ get_or n j 0)
+    → ((j : ℕ) → j ≢ i → is_mixed m j ≡ true → get_or cs' (get_or n j 0) [] ≡ get_or cs (get_or n j 0) [])
+    → (c : ℕ) → c / 16 ≢ i → number_at m' n' cs' c ≡ number_at m n cs c
+others m m' n n' cs cs' i mixed places cells c ne = let j = c / 16 in elim (cases_Bool (is_mixed m j)) [
+  | inl h ↦ at-mixed m' n' cs' j c refl (mixed j ne ∙ h) ∙ ap (λ x. get_or (get_or cs' x []) (c % 16) 0) (places j ne)
+      ∙ ap (λ xs. get_or xs (c % 16) 0) (cells j ne h) ∙ sym (at-mixed m n cs j c refl h)
+  | inr h ↦ at-one m' n' cs' j c refl (mixed j ne ∙ h) ∙ places j ne ∙ sym (at-one m n cs j c refl h)
+]
+
+-- a write, number by number
+written : (f g : ℕ → ℕ) (start end number : ℕ) → end ≤ 0x110000 → ((c : ℕ) → start ≤ c → c < end → g c ≡ number)
+    → ((c : ℕ) → (c < start) ⊎ (end ≤ c) → g c ≡ f c) → IsWritten (all_numbers f) (all_numbers g) start end number
+written f g start end number within inside outside = record {
+  len = numbers-length g ∙ sym (numbers-length f);
+  inside = λ c low high. numbers-at g c 0 (omega (arith, high, within)) ∙ inside c low high;
+  outside = λ c out. elim (cases_lt c 0x110000) [
+    | inl l ↦ numbers-at g c 0 l ∙ outside c out ∙ sym (numbers-at f c 0 l)
+    | inr past ↦ get_or_past (all_numbers g) c 0 (omega (arith, past, numbers-length g))
+        ∙ sym (get_or_past (all_numbers f) c 0 (omega (arith, past, numbers-length f)))
+  ];
+}
+
+-- nothing is written, or one place
+pub written-none : (xs : List ℕ) (start number : ℕ) → IsWritten xs xs start start number
+written-none xs start number = record { len = refl; inside = λ c low high. absurd (omega (arith, low, high)); outside = λ _ _. refl }
+
+pub written-one : (xs : List ℕ) (i number : ℕ) → i < length xs → IsWritten xs (set xs i number) i (i + 1) number
+written-one xs i number there = record {
+  len = length-set xs i number;
+  inside = λ c low high. let e : c ≡ i = omega (arith, low, high) in rw e (get_or-set_same xs i number 0 there);
+  outside = λ c out. get_or-set_other xs i c number 0 (λ e. elim out [ inl l ↦ omega (arith, l, e) | inr h ↦ omega (arith, h, e) ]);
+}
+
+-- two writes, one after the other
+pub written-on : {a b c : List ℕ} {start middle end number : ℕ} → start ≤ middle → middle ≤ end
+    → IsWritten a b start middle number → IsWritten b c middle end number → IsWritten a c start end number
+written-on {middle = middle} low high first second = record {
+  len = second.len ∙ first.len;
+  inside = λ k from to. elim (cases_lt k middle) [
+    | inl l ↦ second.outside k (inl l) ∙ first.inside k from l
+    | inr m ↦ second.inside k m to
+  ];
+  outside = λ k out. elim out [
+    | inl l ↦ second.outside k (inl (omega (arith, l, low))) ∙ first.outside k (inl l)
+    | inr m ↦ second.outside k (inr m) ∙ first.outside k (inr (omega (arith, m, high)))
+  ];
+}
+
+module _ (m : List Bool) (n : List ℕ) (cs : List (List ℕ)) (sound : AreBlocks m n cs) where
+  -- Block number i, which is not mixed, gets cells of its own after those so far, with its number
+  pub mix-same : (i : ℕ) → i < 0x11000 → is_mixed m i ≡ false
+      → all_numbers (number_at (set m i true) (set n i (length cs)) (cs ++ replicate 16 (get_or n i 0) ∷ []))
+      ≡ all_numbers (number_at m n cs)
+  mix-same i there whole =
+      let m' : List Bool = set m i true in let n' : List ℕ = set n i (length cs) in
+      let f : ℕ → ℕ = number_at m n cs in let x : List ℕ = replicate 16 (get_or n i 0) in let cs' : List (List ℕ) = cs ++ x ∷ [] in
+      numbers-are (number_at m' n' cs') (all_numbers f) (numbers-length f) (λ c l. elim (cases_eq (c / 16) i) [
+        | inl e ↦ at-mixed m' n' cs' i c e (get_or-set_same m i true false (omega (arith, there, sound.all)))
+            ∙ ap (λ y. get_or (get_or cs' y []) (c % 16) 0) (get_or-set_same n i (length cs) 0 (omega (arith, there, sound.same)))
+            ∙ ap (λ y. get_or y (c % 16) 0) (get_or_push cs x [] (length cs) refl)
+            ∙ get_or-replicate 16 (c % 16) (get_or n i 0) 0 (omega arith) ∙ sym (at-one m n cs i c e whole)
+        | inr ne ↦ others m m' n n' cs cs' i (λ j nj. get_or-set_other m i j true false nj)
+            (λ j nj. get_or-set_other n i j (length cs) 0 nj)
+            (λ j nj h. get_or_append_left cs (x ∷ []) [] (get_or n j 0) (sound.inside j h)) c ne
+      ] ∙ sym (numbers-at f c 0 l))
+
+  -- The cells of a mixed block are written from one code point of it on to before another
+  pub fill-written : (xs : List ℕ) (start end number : ℕ) → is_mixed m (start / 16) ≡ true → start < end → end ≤ 16 * (start / 16) + 16
+      → IsWritten (get_or cs (get_or n (start / 16) 0) []) xs (start - 16 * (start / 16)) (end - 16 * (start / 16)) number → end ≤ 0x110000
+      → IsWritten (all_numbers (number_at m n cs)) (all_numbers (number_at m n (set cs (get_or n (start / 16) 0) xs))) start end number
+  fill-written xs start end number own range within fill all =
+      let i : ℕ = start / 16 in let place : ℕ = get_or n i 0 in let cs' : List (List ℕ) = set cs place xs in
+      let filled : (c : ℕ) → c / 16 ≡ i → number_at m n cs' c ≡ get_or xs (c % 16) 0 = λ c e. at-mixed m n cs' i c e own
+      ∙ ap (λ ys. get_or ys (c % 16) 0) (get_or-set_same cs place xs [] (sound.inside i own)) in
+      written (number_at m n cs) (number_at m n cs') start end number all
+      (λ c low high. filled c (omega (arith, low, high, within))
+      ∙ fill.inside (c % 16) (omega (arith, low, high, within)) (omega (arith, low, high, within)))
+      (λ c out. elim (cases_eq (c / 16) i) [
+        | inl e ↦ filled c e
+            ∙ fill.outside (c % 16) (elim out [ inl l ↦ inl (omega (arith, l, e)) | inr h ↦ inr (omega (arith, h, e, range)) ])
+            ∙ sym (at-mixed m n cs i c e own)
+        | inr ne ↦ others m m n n cs cs' i (λ _ _. refl) (λ _ _. refl)
+            (λ j nj h. get_or-set_other cs place (get_or n j 0) xs [] (λ e. nj (sound.own j i h own e))) c ne
+      ])
+
+  -- Block number i, which is not mixed, gets another number
+  pub set-written : (i number start end : ℕ) → i < 0x11000 → is_mixed m i ≡ false → start / 16 ≡ i → start < end → end ≤ 16 * i + 16
+      → (start % 16 ≡ 0) ⊎ (is_mixed m (start / 16) ≡ true) → (end % 16 ≡ 0) ⊎ (is_mixed m (end / 16) ≡ true)
+      → IsWritten (all_numbers (number_at m n cs)) (all_numbers (number_at m (set n i number) cs)) start end number
+  set-written i number start end there whole here range within first last =
+      let never : (j : ℕ) → j ≡ i → is_mixed m j ≡ true → ⊥ = λ j e own. false≢true (sym whole ∙ ap (is_mixed m) (sym e) ∙ own) in
+      let low : start ≡ 16 * i = elim first [ inl z ↦ omega (arith, z, here) | inr own ↦ absurd (never (start / 16) here own) ] in
+      let high : end ≡ 16 * i + 16 = elim last [
+        | inl z ↦ omega (arith, z, low, range, within)
+        | inr own ↦ elim (cases_eq (end / 16) i) [
+          | inl e ↦ absurd (never (end / 16) e own)
+          | inr ne ↦ omega (arith, ne, low, range, within)
+        ]
+      ] in
+      written (number_at m n cs) (number_at m (set n i number) cs) start end number (omega (arith, there, high))
+      (λ c from to. at-one m (set n i number) cs i c (omega (arith, from, to, low, high)) whole
+      ∙ get_or-set_same n i number 0 (omega (arith, there, sound.same)))
+      (λ c out. others m m n (set n i number) cs cs i (λ _ _. refl) (λ j nj. get_or-set_other n i j number 0 nj) (λ _ _ _. refl) c
+      (λ e. absurd (elim out [ inl l ↦ omega (arith, l, e, low) | inr h ↦ omega (arith, h, e, high) ])))
+
+-- a block, number by number
 length-window : (k at : ℕ) (xs : List ℕ) → at + k ≤ length xs → length (take k (drop at xs)) ≡ k
 length-window k at xs h = omega (arith, length-take k (drop at xs), length-drop at xs, h)
 
 window-read : (k at i : ℕ) (xs : List ℕ) (d : ℕ) → i < k → get_or (take k (drop at xs)) i d ≡ get_or xs (at + i) d
 window-read k at i xs d l = get_or-take k (drop at xs) i d l ∙ get_or-drop at xs i d
 
--- a block, cell by cell
-pub block-is : (k n : ℕ) (xs ys : List ℕ) → k * n + k ≤ length xs → length ys ≡ k → ((i : ℕ) → i < k → get_or ys i 0 ≡ get_or xs (k * n + i) 0) → ys ≡ block k xs n
-block-is k n xs ys inside len items = same_lists ys (block k xs n) (len ∙ sym (length-window k (k * n) xs inside))
-    (λ i d l. let below : i < k = omega (arith, l, len) in
-    get_or_default ys i d 0 l ∙ items i below ∙ get_or_default xs (k * n + i) 0 d (omega (arith, inside, below)) ∙ sym (window-read k (k * n) i xs d below))
+block-is : (k n : ℕ) (xs ys : List ℕ) → k * n + k ≤ length xs → length ys ≡ k → ((i : ℕ) → i < k → get_or ys i 0 ≡ get_or xs (k * n + i) 0)
+    → ys ≡ block k xs n
+block-is k n xs ys inside len items = same_lists ys (block k xs n) (len ∙ sym (length-window k (k * n) xs inside)) (λ i d l.
+    let below : i < k = omega (arith, l, len) in
+    get_or_default ys i d 0 l ∙ items i below ∙ get_or_default xs (k * n + i) 0 d (omega (arith, inside, below))
+    ∙ sym (window-read k (k * n) i xs d below))
+
+-- what block number i holds
+pub holds : (m : List Bool) (n : List ℕ) (cs : List (List ℕ)) (i : ℕ) (ys : List ℕ) → i < 0x11000 → length ys ≡ 16
+    → ((c : ℕ) → c / 16 ≡ i → number_at m n cs c ≡ get_or ys (c % 16) 0) → ys ≡ block 16 (all_numbers (number_at m n cs)) i
+holds m n cs i ys there len at =
+    let f : ℕ → ℕ = number_at m n cs in
+    block-is 16 i (all_numbers f) ys (omega (arith, there, numbers-length f)) len (λ k l.
+    let r : (16 * i + k) % 16 ≡ k = omega (arith, l) in
+    ap (λ x. get_or ys x 0) (sym r) ∙ sym (at (16 * i + k) (omega (arith, l)))
+    ∙ sym (numbers-at f (16 * i + k) 0 (omega (arith, there, l))))
+
+pub holds-one : (m : List Bool) (n : List ℕ) (cs : List (List ℕ)) (i : ℕ) → i < 0x11000 → is_mixed m i ≡ false
+    → replicate 16 (get_or n i 0) ≡ block 16 (all_numbers (number_at m n cs)) i
+holds-one m n cs i there h = let x : ℕ = get_or n i 0 in holds m n cs i (replicate 16 x) there (length-replicate 16 x)
+    (λ c e. at-one m n cs i c e h ∙ sym (get_or-replicate 16 (c % 16) x 0 (omega arith)))
+
+pub holds-cells : (m : List Bool) (n : List ℕ) (cs : List (List ℕ)) (i : ℕ) → i < 0x11000 → AreBlocks m n cs → is_mixed m i ≡ true
+    → get_or cs (get_or n i 0) [] ≡ block 16 (all_numbers (number_at m n cs)) i
+holds-cells m n cs i there sound h = let x : ℕ = get_or n i 0 in
+    holds m n cs i (get_or cs x []) there (sound.whole x (sound.inside i h)) (λ c e. at-mixed m n cs i c e h)
+
+-- the number of a code point, by what its block holds
+pub number-in : (xs ys : List ℕ) (n c : ℕ) → ys ≡ block 16 xs n → c / 16 ≡ n → get_or xs c 0 ≡ get_or ys (c % 16) 0
+number-in xs ys n c held e = let at : c ≡ 16 * n + c % 16 = omega (arith, e) in
+    ap (λ x. get_or xs x 0) at ∙ sym (window-read 16 (16 * n) (c % 16) xs 0 (omega arith)) ∙ ap (λ zs. get_or zs (c % 16) 0) (sym held)
+
+pub number-in-one : (xs : List ℕ) (n c v : ℕ) → replicate 16 v ≡ block 16 xs n → c / 16 ≡ n → get_or xs c 0 ≡ v
+number-in-one xs n c v held e = number-in xs (replicate 16 v) n c held e ∙ get_or-replicate 16 (c % 16) v 0 (omega arith)
+
+-- the numbers of blocks, and of one more
+pub window-on : (xs : List ℕ) (first i : ℕ) → first ≤ i
+    → window (16 * (i + 1 - first)) (16 * first) xs ≡ window (16 * (i - first)) (16 * first) xs ++ block 16 xs i
+window-on xs first i from = let ys : List ℕ = drop (16 * first) xs in
+    ap (λ k. take k ys) (omega (arith, from)) ∙ take-add (16 * (i - first)) 16 ys ∙ ap (λ zs. take (16 * (i - first)) ys ++ take 16 zs)
+    (drop-drop (16 * (i - first)) (16 * first) xs ∙ ap (λ at. drop at xs) (omega (arith, from)))
 
 -- the block before
 pub before : (k n : ℕ) → 0 < n → k * n ≡ k * (n - 1) + k
@@ -277,21 +213,22 @@ before k n h =
     let one : k * 1 ≡ k = omega arith in
     ap (λ x. k * x) e ∙ mul-add k (n - 1) 1 ∙ ap (λ x. k * (n - 1) + x) one
 
--- two blocks of one number are equal
-pub blocks-of-one : (k n v : ℕ) (xs : List ℕ) → 0 < n → k * n + k ≤ length xs → ((c : ℕ) → k * (n - 1) ≤ c → c < k * n + k → get_or xs c 0 ≡ v) → block k xs n ≡ block k xs (n - 1)
+-- a block of one number, and two
+pub block-of-one : (k n v : ℕ) → k * n + k ≤ 0x110000 → block k (replicate code_points v) n ≡ replicate k v
+block-of-one k n v inside = ap (λ xs. take k xs) (drop-replicate (k * n) code_points v)
+    ∙ take-replicate k (code_points - k * n) v (omega (arith, inside, code_points-is))
+
+pub blocks-of-one : (k n v : ℕ) (xs : List ℕ) → 0 < n → k * n + k ≤ length xs
+    → ((c : ℕ) → k * (n - 1) ≤ c → c < k * n + k → get_or xs c 0 ≡ v) → block k xs n ≡ block k xs (n - 1)
 blocks-of-one k n v xs some inside one =
     let step : k * n ≡ k * (n - 1) + k = before k n some in
-    block-is k (n - 1) xs (block k xs n) (omega (arith, step, inside)) (length-window k (k * n) xs inside)
-    (λ i l. window-read k (k * n) i xs 0 l ∙ one (k * n + i) (omega (arith, step)) (omega (arith, l)) ∙ sym (one (k * (n - 1) + i) (omega arith) (omega (arith, step, l))))
+    block-is k (n - 1) xs (block k xs n) (omega (arith, step, inside)) (length-window k (k * n) xs inside) (λ i l.
+    window-read k (k * n) i xs 0 l ∙ one (k * n + i) (omega (arith, step)) (omega (arith, l))
+    ∙ sym (one (k * (n - 1) + i) (omega arith) (omega (arith, step, l))))
 
--- 16 times a number of blocks
+-- 16 times a number of blocks, and no block
 pub sixteen : (k n : ℕ) → k % 16 ≡ 0 → 16 * (k / 16 * n) ≡ k * n
 sixteen k n h = sym (mul_assoc 16 (k / 16) n) ∙ ap (λ x. x * n) (omega (arith, h))
 
-pub length-cases : (b : Blocks) → IsBlocks b → length b.mixed.items ≤ 0x11000
-length-cases b sound = elim sound.none_or_all [ inl e ↦ omega (arith, e) | inr e ↦ omega (arith, e, block_count-is) ]
-
--- no blocks at all
-pub empty-number : (b : Blocks) (rest c : ℕ) → b.mixed.items ≡ [] → b.numbers.items ≡ [] → number_at b rest c ≡ rest
-unfolding number_at
-empty-number b rest c mixed numbers = rw (mixed, numbers) refl
+pub none-times : (k n : ℕ) → k ≡ 0 → k * n ≡ 0
+none-times k n h = rw h (zero-mul n)

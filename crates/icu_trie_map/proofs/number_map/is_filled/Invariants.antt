@@ -1,5 +1,0 @@
-use Rattle.std.proofs.Common.{◌≡◌, ℕ, ◌+◌, ◌<◌, get_or}
-use Rattle.icu_trie_map.proofs.number_map.is_filled.Given as goal
-
-abbrev pub invariant-loop-i : goal.invariant-loop-i
-invariant-loop-i l = (i : ℕ) → i < l.i → get_or l.blocks.cells.items (get_or l.blocks.numbers.items l.block 0 + i) 0 ≡ l.number

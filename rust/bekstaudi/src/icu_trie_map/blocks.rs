@@ -1,0 +1,239 @@
+//! The numbers of all code points, in blocks of 16.
+
+#[allow(unused_imports)]
+use crate::support::prelude::*;
+use crate::icu_zerovec::CODE_POINT_LIMIT;
+use crate::support::{AllocError};
+
+/// How many blocks of 16 code points there are.
+const BLOCK_COUNT: usize = CODE_POINT_LIMIT as usize / 16;
+
+/// Blocks below this one are made mixed four at a time.
+const FIRST_SINGLE: usize = 0x1000;
+
+/// The numbers of 16 code points.
+#[derive(Clone, Copy)]
+enum Block<'a> {
+    /// All have this one.
+    One(u32),
+    /// Each has its own, so that the block is mixed.
+    Cells(&'a [u32; 16]),
+}
+
+/// The numbers of all code points, in blocks of 16.
+#[derive(Debug)]
+pub(crate) struct Blocks {
+    /// Whether a block is mixed, that is, has cells.
+    mixed: Vec<bool>,
+    /// The number of all code points of a block, and of a mixed one the place of its cells.
+    places: Vec<u32>,
+    /// The numbers of the code points of each mixed block.
+    cells: Vec<[u32; 16]>,
+}
+
+/// A list of `count` copies of a value.
+#[inline]
+fn copies<T: Copy>(count: usize, value: T) -> Result<Vec<T>, AllocError> {
+    let mut made = Vec::with_room(count)?;
+    made.try_resize(count, value)?;
+    Ok(made)
+}
+
+/// Appends the cells of a block of this number.
+#[inline]
+fn push_block(cells: &mut Vec<[u32; 16]>, number: u32) -> Result<(), AllocError> {
+    // By quarters, since the cells of most maps fill few doublings.
+    if cells.capacity() == cells.len() {
+        cells.try_exact_room(cells.len() / 4 + 64)?;
+    }
+    cells.try_push([number; 16])?;
+    Ok(())
+}
+
+/// Writes the number from place `start` on to before `end`.
+#[inline]
+fn fill_range(cells: &mut [u32; 16], start: usize, end: usize, number: u32) {
+    for i in start..end {
+        cells[i] = number;
+    }
+}
+
+impl Blocks {
+    /// Blocks that have this number at every code point.
+    #[inline]
+    pub(crate) fn new(number: u32) -> Result<Blocks, AllocError> {
+        let mixed = copies(BLOCK_COUNT, false)?;
+        let places = copies(BLOCK_COUNT, number)?;
+        let cells = Vec::new();
+        Ok(Blocks {
+            mixed,
+            places,
+            cells,
+        })
+    }
+
+    /// Gives block number `number` cells, where it has none.
+    #[inline]
+    fn mix(&mut self, number: usize) -> Result<(), AllocError> {
+        if self.mixed[number] {
+            return Ok(());
+        }
+        let Ok(place) = u32::try_from(self.cells.len()) else {
+            return Err(AllocError);
+        };
+        push_block(&mut self.cells, self.places[number])?;
+        self.places[number] = place;
+        self.mixed[number] = true;
+        Ok(())
+    }
+
+    /// Gives the block that the code point `c` stands in, and does not begin, cells. Where it had
+    /// none, the other blocks of its aligned 64 code points below 0x10000 get them too, so that
+    /// they stand side by side.
+    fn mix_around(&mut self, c: usize) -> Result<(), AllocError> {
+        let number = c / 16;
+        if c % 16 == 0 || self.mixed[number] {
+            return Ok(());
+        }
+        if number >= FIRST_SINGLE {
+            return self.mix(number);
+        }
+        let first = number - number % 4;
+        for other in first..first + 4 {
+            self.mix(other)?;
+        }
+        Ok(())
+    }
+
+    /// Writes a number to code points of one block.
+    fn write_in_block(&mut self, start: usize, end: usize, number: u32) {
+        let block = start / 16;
+        if !self.mixed[block] {
+            self.places[block] = number;
+            return;
+        }
+        let place = self.places[block] as usize;
+        fill_range(
+            &mut self.cells[place],
+            start - 16 * block,
+            end - 16 * block,
+            number,
+        );
+    }
+
+    /// Writes a number to the code points from `start` on to before `end`, block by block.
+    #[inline]
+    fn write_blocks(&mut self, start: usize, end: usize, number: u32) {
+        let mut from = start;
+        while from < end {
+            let to = (from - from % 16 + 16).min(end);
+            self.write_in_block(from, to, number);
+            from = to;
+        }
+    }
+
+    /// Writes a number to the code points from `start` on to before `end`. Memory is asked for
+    /// before anything is written.
+    #[inline]
+    pub(crate) fn write(&mut self, start: usize, end: usize, number: u32) -> Result<(), AllocError> {
+        self.mix_around(start)?;
+        self.mix_around(end)?;
+        self.write_blocks(start, end, number);
+        Ok(())
+    }
+
+    /// Block number `number`.
+    #[inline(always)]
+    fn block(&self, number: usize) -> Block<'_> {
+        if self.mixed[number] {
+            return Block::Cells(&self.cells[self.places[number] as usize]);
+        }
+        Block::One(self.places[number])
+    }
+
+    /// The number of the code point `c`.
+    #[inline]
+    pub(crate) fn number_of(&self, c: usize) -> u32 {
+        match self.block(c / 16) {
+            Block::One(number) => number,
+            Block::Cells(cells) => cells[c % 16],
+        }
+    }
+
+    /// The first place of block number `block`, from its place `from` on, that has another number
+    /// than this, and 16 where there is none.
+    #[inline(always)]
+    fn other_in_block(&self, block: usize, from: usize, number: u32) -> usize {
+        match self.block(block) {
+            Block::One(held) => if held == number { 16 } else { from },
+            Block::Cells(cells) => {
+                for i in from..16 {
+                    if cells[i] != number {
+                        return i;
+                    }
+                }
+                16
+            }
+        }
+    }
+
+    /// The first code point from `start` on that has another number than this, and 0x110000 where
+    /// there is none, block by block.
+    #[inline]
+    pub(crate) fn find_other(&self, start: usize, number: u32) -> usize {
+        let mut from = start;
+        while from < CODE_POINT_LIMIT as usize {
+            let first = from - from % 16;
+            let other = self.other_in_block(from / 16, from % 16, number);
+            if other < 16 {
+                return first + other;
+            }
+            from = first + 16;
+        }
+        CODE_POINT_LIMIT as usize
+    }
+
+    /// How many blocks there are up to the last that does not hold this number alone.
+    #[inline]
+    pub(crate) fn used(&self, number: u32) -> usize {
+        let mut count = BLOCK_COUNT;
+        while count > 0 {
+            if self.other_in_block(count - 1, 0, number) < 16 {
+                return count;
+            }
+            count -= 1;
+        }
+        0
+    }
+
+    /// Whether `count` blocks from block number `first` on are seen at once to hold one number.
+    #[inline]
+    pub(crate) fn hold_one(&self, first: usize, count: usize) -> bool {
+        let Block::One(number) = self.block(first) else {
+            return false;
+        };
+        for other in first + 1..first + count {
+            match self.block(other) {
+                Block::One(held) if held == number => {}
+                _ => return false,
+            }
+        }
+        true
+    }
+
+    /// Appends the numbers of `count` blocks from block number `first` on to those in `room`.
+    pub(crate) fn copy(
+        &self,
+        first: usize,
+        count: usize,
+        room: &mut Vec<u32>,
+    ) -> Result<(), AllocError> {
+        for block in first..first + count {
+            match self.block(block) {
+                Block::One(number) => room.try_resize(room.len() + 16, number)?,
+                Block::Cells(cells) => room.try_extend_from_slice(cells)?,
+            }
+        }
+        Ok(())
+    }
+}
