@@ -1,6 +1,11 @@
 //! Which units are a trie, and of how many entries, by the format's description.
-use super::support::{SIX, count_of, cursor_of, is_trie, made_trie, unique_value_of};
+use super::support::{
+    SIX, advanced, count_of, cursor_of, entries_of, is_over, is_trie, items_of, made_trie,
+    unique_value_of,
+};
 use crate::tests::support::{expect_same, given};
+use icu_char16trie::char16trie::Char16Trie;
+use icu_zerovec::MemoryError;
 use std::alloc::{AllocError, Global};
 use std::process::Abort;
 
@@ -119,6 +124,21 @@ fn branches_that_share_nodes(rt: HostRuntime) {
     expect_same(&rt, told, false, "with no node behind them");
     let told = told_of_branches(&rt, 40, &[0x8001]);
     expect_same(&rt, told, true, "with a value behind them");
+}
+
+/// Whether neither listing of a trie has an entry.
+fn lists_nothing(alloc: Global, trie: &Char16Trie<'_>) -> Result<bool, MemoryError> {
+    let has_entry = advanced(&mut entries_of(alloc, trie))?;
+    Ok(!has_entry && is_over(&mut items_of(alloc, trie)))
+}
+
+/// Branches over which one call would open 2^40 nodes, were they not counted.
+#[test]
+fn listings_of_branches_with_no_node_behind(rt: HostRuntime) {
+    let units = given(&rt, branches(rt.alloc(), 40, &[]));
+    let trie = made_trie(&rt, units.as_slice());
+    let told = given(&rt, lists_nothing(rt.alloc(), &trie));
+    expect_same(&rt, told, true, "no entry");
 }
 
 /// The value of all keys of so many branches with these units behind them.
