@@ -34,22 +34,42 @@ fn append_reversed(bytes: &mut Vec<u8>, groups: &[u8], width: usize) -> Result<(
     Ok(())
 }
 
-/// Its index has 186 cells.
-#[test]
-fn trie_of_32_bits(rt: HostRuntime) -> Result<(), Fail> {
-    let mut bytes = Vec::new(rt.alloc());
+/// `SMALL_32` with the highest byte first: its index has 186 cells.
+fn swapped_32(alloc: Global) -> Result<Vec<u8>, Fail> {
+    let mut bytes = Vec::new(alloc);
     append_reversed(&mut bytes, &SMALL_32[..4], 4)?;
     append_reversed(&mut bytes, &SMALL_32[4..16 + 2 * 186], 2)?;
     append_reversed(&mut bytes, &SMALL_32[16 + 2 * 186..], 4)?;
-    let (trie, len) = from_binary_swapped::<u32>(rt.alloc(), bytes.as_slice())?;
-    expect_same(&rt, len, 972, "bytes of the trie");
-    let written = to_binary(rt.alloc(), &trie)?;
-    expect_same(
-        &rt,
-        written.as_slice(),
-        SMALL_32.as_slice(),
-        "as ICU wrote it",
-    );
+    Ok(bytes)
+}
+
+/// How many of the bytes the trie of 32 bits takes, and the bytes as which it is written. `None`
+/// where there is none, or no memory.
+fn rewritten(alloc: Global, bytes: &[u8]) -> Option<(usize, Vec<u8>)> {
+    match from_binary_swapped::<u32>(alloc, bytes) {
+        Ok((trie, len)) => match to_binary(alloc, &trie) {
+            Ok(written) => Some((len, written)),
+            Err(_) => None,
+        },
+        Err(_) => None,
+    }
+}
+
+/// It takes all bytes, and is written as ICU wrote it.
+fn expect_rewritten(rt: &impl Abort, found: Option<(usize, Vec<u8>)>) {
+    match found {
+        Some((len, written)) => {
+            let want = (972, SMALL_32.as_slice());
+            expect_same(rt, (len, written.as_slice()), want, "as ICU wrote it");
+        }
+        None => rt.panic("no trie"),
+    }
+}
+
+#[test]
+fn trie_of_32_bits(rt: HostRuntime) -> Result<(), Fail> {
+    let bytes = swapped_32(rt.alloc())?;
+    expect_rewritten(&rt, rewritten(rt.alloc(), bytes.as_slice()));
     Ok(())
 }
 

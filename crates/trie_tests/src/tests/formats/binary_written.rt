@@ -194,15 +194,25 @@ fn texts_of_errors(rt: HostRuntime) {
 }
 
 /// What was written into 278 bytes of 7, and into 275, which are too few.
-fn written_in_place(bytes: &mut [u8; 278]) -> Option<(usize, WriteError)> {
-    let (trie, _) = from_binary::<u8>(&SMALL_8).ok()?;
-    let len = write_binary(&trie, bytes).ok()?;
+fn written_in_place(
+    trie: &CodePointTrie<'_, u8>,
+    bytes: &mut [u8; 278],
+) -> Option<(usize, WriteError)> {
+    let len = write_binary(trie, bytes).ok()?;
     let mut few = [7; 275];
-    let fault = write_binary(&trie, &mut few).err()?;
-    if few == [7; 275] && binary_len(&trie) == Ok(len) {
+    let fault = write_binary(trie, &mut few).err()?;
+    if few == [7; 275] && binary_len(trie) == Ok(len) {
         Some((len, fault))
     } else {
         None
+    }
+}
+
+/// The same of the small trie of 8 bits.
+fn small_in_place(bytes: &mut [u8; 278]) -> Option<(usize, WriteError)> {
+    match from_binary::<u8>(&SMALL_8) {
+        Ok((trie, _)) => written_in_place(&trie, bytes),
+        Err(_) => None,
     }
 }
 
@@ -211,7 +221,7 @@ fn written_in_place(bytes: &mut [u8; 278]) -> Option<(usize, WriteError)> {
 fn write_binary_quiet(rt: HostRuntime) {
     let mut bytes = [7; 278];
     say(&rt, "call");
-    let written = written_in_place(&mut bytes);
+    let written = small_in_place(&mut bytes);
     say(&rt, "done");
     expect_same(&rt, written, Some((276, WriteError::Short)), "what it says");
     expect(&rt, bytes.starts_with(&SMALL_8), "the bytes of ICU");
