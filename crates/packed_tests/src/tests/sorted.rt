@@ -112,18 +112,40 @@ fn worked_entries(rt: HostRuntime) {
     }
 }
 
+/// Why no trie is built of these two keys is this, or else it is the trie of a builder.
+fn expect_two(
+    rt: &(impl Abort + AllocGlobal),
+    first: &[u16],
+    second: &[u16],
+    refusal: Option<SortedError>,
+) {
+    let entries = [(first, 1), (second, 2)];
+    expect_told_of(rt, &entries, refusal);
+}
+
+/// The same of three keys.
+fn expect_three(
+    rt: &(impl Abort + AllocGlobal),
+    first: &[u16],
+    second: &[u16],
+    third: &[u16],
+    refusal: Option<SortedError>,
+) {
+    let entries = [(first, 1), (second, 2), (third, 3)];
+    expect_told_of(rt, &entries, refusal);
+}
+
 /// Keys of 65,535 units are taken, longer ones are not, wherever they stand.
 fn expect_limit(rt: &(impl Abort + AllocGlobal), longest: &[u16], longer: &[u16]) {
-    expect_told_of(rt, &[(&[4], 1), (longest, 2)], None);
-    let first = Some(SortedError::KeyTooLong(0));
-    expect_told_of(rt, &[(longer, 1), (&[4], 2)], first);
-    let second = Some(SortedError::KeyTooLong(1));
-    expect_told_of(rt, &[(longest, 1), (longer, 2), (longer, 3)], second);
+    expect_two(rt, &[4], longest, None);
+    let (first, second) = (SortedError::KeyTooLong(0), SortedError::KeyTooLong(1));
+    expect_two(rt, longer, &[4], Some(first));
+    expect_three(rt, longest, longer, longer, Some(second));
     // Too long, and not after the key before it.
-    expect_told_of(rt, &[(&[6], 1), (longer, 2)], second);
+    expect_two(rt, &[6], longer, Some(second));
     // The first one that can't be taken is told.
-    let lower = Some(SortedError::NotAscending(1));
-    expect_told_of(rt, &[(&[4], 1), (&[3], 2), (longer, 3)], lower);
+    let lower = SortedError::NotAscending(1);
+    expect_three(rt, &[4], &[3], longer, Some(lower));
 }
 
 #[test]
