@@ -8,8 +8,9 @@ use crate::icu_zerovec::{MemoryError, ZeroSlice};
 /// The entries of a trie in unit order: each key as text, a lone surrogate as U+FFFD, with its
 /// value.
 ///
-/// After an `Err`, and after the last entry, no item comes. On units that are no trie the items are
-/// what their nodes say as far as they go, and they end.
+/// After an `Err`, and after the last entry, no item comes. One call opens at most as many nodes as
+/// there are units. A trie has no more of them before an entry; on units that are no trie the items
+/// are what their nodes say as far as they go, and end where a call has opened so many for none.
 #[derive(Debug)]
 pub struct Iter2<'a> {
     pending: Pending<'a>,

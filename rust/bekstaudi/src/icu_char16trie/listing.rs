@@ -13,8 +13,9 @@ use crate::icu_zerovec::{MemoryError, ZeroSlice};
 ///
 /// Made by [`Char16Trie::entries`](crate::icu_char16trie::trie::Char16Trie::entries), and by
 /// [`Char16TrieCursor::entries`](crate::icu_char16trie::cursor::Char16TrieCursor::entries) of the keys that go on
-/// from a cursor. On units that are no trie the entries are what their nodes say as far as they go,
-/// and they end.
+/// from a cursor. One call opens at most as many nodes as there are units. A trie has no more of
+/// them before an entry; on units that are no trie the entries are what their nodes say as far as
+/// they go, and end where a call has opened so many for none.
 #[derive(Debug)]
 pub struct Entries<'a> {
     walk: Walk<'a>,

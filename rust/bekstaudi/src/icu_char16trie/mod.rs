@@ -8,8 +8,8 @@
 //! ```
 //!
 //! The list may come from a stranger: every call answers on all units, where a unit that is needed
-//! and is not there is no match. To list the entries of such units can take long:
-//! [`Char16Trie::is_trie`](char16trie::Char16Trie::is_trie) tests them before.
+//! and is not there is no match. To list the entries of such units can take long, since they may be
+//! many: [`Char16Trie::count_entries`](char16trie::Char16Trie::count_entries) tells before.
 //!
 //! All public items stand in [`char16trie`], as in the Rust crate. Inside:
 //!

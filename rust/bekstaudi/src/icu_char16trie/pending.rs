@@ -154,27 +154,35 @@ impl<'a> Pending<'a> {
         Ok(item)
     }
 
-    /// Goes to the next node, if there is one.
+    /// Goes to the next node, by the next part where there is none: whether anything was left. A
+    /// part of a trie leads to a node.
     #[inline]
     pub(crate) fn go_to_node(&mut self) -> Result<bool, AllocError> {
-        while self.node.is_none() {
-            let Some(part) = self.parts.pop() else {
-                return Ok(false);
-            };
-            self.spelling.cut_to(part.mark);
-            self.enter_part(part.place, part.count)?;
+        if self.node.is_some() {
+            return Ok(true);
         }
+        let Some(part) = self.parts.pop() else {
+            return Ok(false);
+        };
+        self.spelling.cut_to(part.mark);
+        self.enter_part(part.place, part.count)?;
         Ok(true)
     }
 
-    /// The next item.
+    /// The next item. It opens at most as many nodes as there are units, and then nothing is left:
+    /// a node of a trie that has no item leads to a later one.
     #[inline]
     fn find_item(&mut self, ) -> Result<Option<(String, i32)>, AllocError> {
-        while self.go_to_node()? {
+        for _opened in 0..self.units.len() {
+            if !self.go_to_node()? {
+                return Ok(None);
+            }
             if let Some(item) = self.open_node()? {
                 return Ok(Some(item));
             }
         }
+        self.node = None;
+        self.parts.clear();
         Ok(None)
     }
 

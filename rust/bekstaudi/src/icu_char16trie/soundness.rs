@@ -121,8 +121,10 @@ pub(crate) fn has_all_wanted(units: ZeroSlice<'_, u16>, wanted: &mut [bool]) -> 
 }
 
 impl<'data> Char16Trie<'data> {
-    /// Whether the units are a trie of some map: who has units from a stranger tests them before
-    /// listing them. [`Char16Trie::new`] does not, and the Rust crate and ICU have no such test.
+    /// Whether the units are a trie of some map, so that what is listed of a stranger's units are
+    /// its entries. [`Char16Trie::new`] does not ask, and the Rust crate and ICU have no such test.
+    /// How many entries there are, and so how long a listing takes, tells
+    /// [`Char16Trie::count_entries`].
     ///
     /// They are one where a node stands at each place that the root leads to: its lead, its value,
     /// its linear match or its branch are whole, the units of a branch strictly ascend, also past

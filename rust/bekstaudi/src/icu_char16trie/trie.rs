@@ -61,11 +61,9 @@ impl<'data> Char16Trie<'data> {
     /// The entries, in unit order: each key as text, with its value. It takes no memory before its
     /// first item.
     ///
-    /// Units from a stranger can take long: nodes may be shared, so that few units have very many
-    /// entries, and on units that are no trie even the first item can take 2^k steps, over some 4 k
-    /// units. [`Char16Trie::is_trie`] tests that before: where it answers `true` each node leads to
-    /// an entry, so that an item takes at most some steps for each unit of its key, and
-    /// [`Char16Trie::count_entries`] tells how many there are.
+    /// One item opens at most as many nodes as there are units, whatever they are. All of them take
+    /// as long as there are entries, which may be very many over few units, since nodes may be
+    /// shared: [`Char16Trie::count_entries`] tells how many there are.
     ///
     /// It is not named `iter`, since in the Rust crate that call gives what looks up and does not
     /// list.
@@ -84,7 +82,8 @@ impl<'data> Char16Trie<'data> {
     /// The entries, in unit order, by one buffer for the text of their keys: for a listing that
     /// keeps no keys, where [`iter2`](Self::iter2) gives each as a text of its own.
     ///
-    /// It takes no memory before the first entry.
+    /// It takes no memory before the first entry. As with `iter2`, one call opens at most as many
+    /// nodes as there are units, and there may be very many entries.
     ///
     /// ```text
     /// // of the map of "a" to 1 and "ab" to 2

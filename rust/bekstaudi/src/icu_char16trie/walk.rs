@@ -60,11 +60,15 @@ impl<'a> Walk<'a> {
         Ok(())
     }
 
-    /// Goes to the next entry, if there is one.
+    /// Goes to the next entry, if there is one. It reads at most as many nodes as there are units:
+    /// a node of a trie that has no value leads to a later one.
     fn find_entry(&mut self) -> Result<bool, AllocError> {
         let front = self.front;
         self.pending.open_front(front)?;
-        while self.pending.go_to_node()? {
+        for _opened in 0..self.pending.units.len() {
+            if !self.pending.go_to_node()? {
+                return Ok(false);
+            }
             let (front, value) = self.pending.read_node();
             if let Some(value) = value {
                 self.front = front;
