@@ -1,9 +1,9 @@
 //! Stored forms of tries, sets and unit tries, read.
 //!
 //! Usage: `stored_forms COUNT [FOLDER]` damages those of the folder, reads what came of them, and
-//! asks all that is taken. The damage comes from a fixed seed, so that each run of one count does the
-//! same. The last line says how many forms were tried, taken and refused; the status is 1 where a
-//! form that was taken answered wrongly, or took more than a second of processor time.
+//! asks all that is taken. The damage comes from a fixed seed, so that each run of one count does
+//! the same. The last line says how many forms were tried, taken and refused; the status is 1 where
+//! a form that was taken answered wrongly, or took more than a second of processor time.
 //!
 //! `stored_forms exported` reads a trie as ICU exports it (`exported.rt`).
 #![tactic(auto)]
