@@ -137,19 +137,29 @@ const COMMANDS: [(&str, &str, &[Argument]); 4] = [
     ),
 ];
 
-/// The argument, as clap takes it.
-fn arg_of<'a>(alloc: Global, row: &Argument) -> Arg<'a> {
-    let argument = Arg::new(alloc, row.id)
-        .required(row.required)
+/// The argument's values: how many, what they are called, and what stands for none.
+fn with_values<'a>(argument: Arg<'a>, row: &Argument) -> Arg<'a> {
+    argument
         .value_names(row.value_name)
         .value_parser(row.values)
         .default_values(row.default)
-        .help(row.help);
+}
+
+/// The argument by its place among the words.
+fn placed<'a>(argument: Arg<'a>, row: &Argument) -> Arg<'a> {
     match row.place {
         Place::Option => argument.long(row.id),
         Place::Word => argument,
         Place::Words => argument.num_args(1..),
     }
+}
+
+/// The argument, as clap takes it.
+fn arg_of<'a>(alloc: Global, row: &Argument) -> Arg<'a> {
+    let argument = Arg::new(alloc, row.id)
+        .required(row.required)
+        .help(row.help);
+    placed(with_values(argument, row), row)
 }
 
 /// A command that takes these arguments.
