@@ -5,7 +5,7 @@ ghost use Rattle.std.specs.Prelude.{◌≡◌, ◌<◌};
 
 use icu_trie_core::cells::Steps;
 use std::env;
-use std::io::{Read, Write};
+use std::io::{ErrorKind, Read, Write};
 use std::marker::Brand;
 use std::process::ExitCode;
 use std::sync::ledger::{Blank, Ledger};
@@ -60,6 +60,17 @@ impl<W: Write, L: Ledger> Sink for Output<W, L> {
     }
 }
 
+/// Says why there are no words, and answers the status: where memory was refused its line, and where
+/// a word is no text the usage line.
+fn without_words<W: Sink>(writer: &mut W, why: ErrorKind) -> u8 {
+    if why != ErrorKind::OutOfMemory {
+        write_usage(writer);
+        return 2;
+    }
+    let _ = write_fault(writer, TableError::Memory);
+    1
+}
+
 /// Runs the program over standard input and output, with a ledger for the failures of each.
 /// It answers the status.
 fn status<L: Ledger, K: Ledger>(rt: &HostRuntime, reads: Blank, writes: Blank) -> u8
@@ -78,9 +89,9 @@ fn status<L: Ledger, K: Ledger>(rt: &HostRuntime, reads: Blank, writes: Blank) -
         writer: rt.stdout(),
         failures: Steps::<K>::new(writes),
     };
-    let Ok(args) = env::args(rt) else {
-        write_usage(&mut writer);
-        return 2;
+    let args = match env::args(rt) {
+        Ok(args) => args,
+        Err(error) => return without_words(&mut writer, error.kind()),
     };
     let Ok(words) = args.skip(1).collect(rt.alloc()) else {
         let _ = write_fault(&mut writer, TableError::Memory);
