@@ -6,7 +6,9 @@ mod words;
 
 use anyhow::{Context, Error, Result, anyhow};
 use clap::ArgMatches;
+use clap::error::ErrorKind;
 use icu_trie_core::header::TrieType;
+use std::alloc::AllocError;
 use std::io::{Read, Write};
 use std::process::ExitCode;
 use std::{env, fs};
@@ -18,7 +20,7 @@ use ucptrie_tables::shown::{answered, shown};
 use ucptrie_tables::source::is_name;
 use ucptrie_tables::table::{Table, TableOptions};
 use ucptrie_tables::width::ValueWidth;
-use ucptrie_tables::written::Form;
+use ucptrie_tables::written::{Form, written};
 use words::program_words;
 
 /// The type that the words name.
@@ -86,6 +88,13 @@ fn table_at(rt: &HostRuntime, matches: &ArgMatches<'_>, id: &str) -> Result<Tabl
     Ok(table)
 }
 
+/// The table of a file, in the form that the words name.
+fn convert(rt: &HostRuntime, matches: &ArgMatches<'_>) -> Result<Vec<u8>> {
+    let form = form(matches)?;
+    let table = table_at(rt, matches, "file")?;
+    Ok(written(rt.alloc(), &table, form)?)
+}
+
 /// What a table is.
 fn show(rt: &HostRuntime, matches: &ArgMatches<'_>) -> Result<String> {
     let table = table_at(rt, matches, "file")?;
@@ -127,6 +136,7 @@ fn diff(rt: &HostRuntime, matches: &ArgMatches<'_>) -> Result<String> {
 fn written_by(rt: &HostRuntime, name: &str, matches: &ArgMatches<'_>) -> Result<Vec<u8>> {
     let text = match name {
         "build" => return build(rt, matches),
+        "convert" => return convert(rt, matches),
         "show" => show(rt, matches)?,
         "get" => get(rt, matches)?,
         "diff" => diff(rt, matches)?,
@@ -135,16 +145,23 @@ fn written_by(rt: &HostRuntime, name: &str, matches: &ArgMatches<'_>) -> Result<
     Ok(text.into_bytes())
 }
 
+/// Says why the words are not taken, and answers the status. That memory was refused is no fault of
+/// the words.
+fn not_taken(rt: &HostRuntime, error: &clap::Error) -> Result<ExitCode> {
+    if matches!(error.kind(), ErrorKind::OutOfMemory) {
+        return Err(AllocError.into());
+    }
+    error.print(rt)?;
+    Ok(ExitCode::from(error.exit_code() as u8))
+}
+
 /// Does what the words ask for, and answers the status.
 fn run(rt: &HostRuntime) -> Result<ExitCode> {
     let words: Vec<String> = env::args(rt)?.collect(rt.alloc())?;
     let command = program_words(rt.alloc())?;
     let matches = match command.try_get_matches_from(words.as_slice()) {
         Ok(matches) => matches,
-        Err(error) => {
-            error.print(rt)?;
-            return Ok(ExitCode::from(error.exit_code() as u8));
-        }
+        Err(error) => return not_taken(rt, &error),
     };
     let (name, matches) = matches.subcommand().context("no command")?;
     let bytes = written_by(rt, name, matches)?;

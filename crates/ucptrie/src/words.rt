@@ -58,6 +58,22 @@ const FILE: Argument = Argument {
     ..OPTION
 };
 
+/// The form in which a table is written.
+const FORM: Argument = Argument {
+    id: "as",
+    values: ValueParser::Names(&["icu", "toml", "json", "c", "rust", "rows"]),
+    required: true,
+    ..OPTION
+};
+
+/// What stands in front of each name in source.
+const NAME: Argument = Argument {
+    id: "name",
+    default: &["table"],
+    help: "The name in C and Rust",
+    ..OPTION
+};
+
 /// What rows become.
 const BUILD: [Argument; 6] = [
     Argument {
@@ -80,19 +96,12 @@ const BUILD: [Argument; 6] = [
         id: "error",
         ..NUMBER
     },
-    Argument {
-        id: "as",
-        values: ValueParser::Names(&["icu", "toml", "json", "c", "rust", "rows"]),
-        required: true,
-        ..OPTION
-    },
-    Argument {
-        id: "name",
-        default: &["table"],
-        help: "The name in C and Rust",
-        ..OPTION
-    },
+    FORM,
+    NAME,
 ];
+
+/// A table, and what it becomes.
+const CONVERT: [Argument; 3] = [FILE, FORM, NAME];
 
 /// A table, and the numbers that it is asked.
 const GET: [Argument; 2] = [
@@ -118,11 +127,16 @@ const DIFF: [Argument; 2] = [
 ];
 
 /// The commands: the name of each, what it does, and what it takes.
-const COMMANDS: [(&str, &str, &[Argument]); 4] = [
+const COMMANDS: [(&str, &str, &[Argument]); 5] = [
     (
         "build",
         "Writes the table of the rows on standard input to standard output",
         &BUILD,
+    ),
+    (
+        "convert",
+        "Writes a table in another form to standard output",
+        &CONVERT,
     ),
     (
         "show",
