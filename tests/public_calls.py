@@ -4,11 +4,11 @@ import glob
 import os
 import re
 
-from shown_items import ENGINES, SHOWN, engines, plain, shown, sources, without_generics
+from shown_items import SHOWN, plain, shown, sources, without_generics
 
 # What answers a want of memory, beside each enum with a variant `Memory`, or one for such an enum.
 ANSWERS = {"MemoryError", "AllocError", "ApplyRefused"}
-WANTS = re.compile(r"\bMemory\b|\bTableError\b")
+WANTS = re.compile(r"\bMemory\b")
 ENUM = re.compile(r"^pub enum (\w+)[^{]*\{(.*?)^\}", re.M | re.S)
 # Traits whose methods are called by an operator or by a format, and those whose methods are the
 # caller's own.
@@ -75,7 +75,6 @@ def public_calls():
     """Each public call by its name, as `CodePointInversionListBuilder::add_char`, and its kind."""
     names, modules = shown()
     crates = sorted({os.path.basename(it) for it in glob.glob("crates/icu_*")} - {SHOWN})
-    crates += ENGINES
     text = {path: plain(open(path).read()) for crate in crates for path in sources(crate)}
     enums = {
         (path.split("/")[1], name): bool(WANTS.search(body))
@@ -100,13 +99,12 @@ def public_calls():
     traits = {
         name for it in text.values() for name in re.findall(r"^pub trait (\w+)", it, re.M)
     } & names.keys()
-    found, called = {}, engines()
+    found = {}
     for path in text:
         whole = next(
             (module for folder, module in modules.items() if path.startswith(folder)), None
         )
         module = whole and os.path.basename(path)[:-3].replace("lib", whole).replace("mod", whole)
-        module = called.get(path, module)
         # A crate's own enum of a name is what its signatures mean by it.
         others = {name for (crate, name), it in enums.items() if not it and crate in path.split("/")}
         for call, kind in calls_of(path, names, traits, module, answers - others):

@@ -1,13 +1,18 @@
 /* Loaded before the C library (LD_PRELOAD): the request for memory number REFUSE (from 1) is
    refused, as by malloc that gives NULL. Where it is, the byte `x` and a newline are written to
-   standard output, so that it stands between what the program prints before and after. Needs no
-   header and no other library than glibc. */
+   standard output, so that it stands between what the program prints before and after. A read gives
+   up to MOST bytes, and read number FAILING_READ fails, and so does the write to standard output
+   number FAILING_WRITE. What is not set changes nothing. Needs no header and no other library than
+   glibc, and Linux on x86-64. */
 typedef unsigned long size;
 extern void *__libc_malloc(size), *__libc_realloc(void *, size);
 extern char *getenv(const char *);
-extern long write(int, const void *, size);
+extern long syscall(long, ...);
+extern int *__errno_location(void);
 
-static long left = -1, begun;
+enum { READ, WRITE, EIO = 5 };
+
+static long left = -1, begun, most, reads, writes;
 
 static long number(const char *text) {
     long n = 0;
@@ -15,15 +20,40 @@ static long number(const char *text) {
     return n;
 }
 
+static void begin(void) {
+    if (begun) return;
+    begun = 1;
+    left = number(getenv("REFUSE"));
+    most = number(getenv("MOST"));
+    reads = number(getenv("FAILING_READ"));
+    writes = number(getenv("FAILING_WRITE"));
+}
+
 static int refused(void) {
-    if (!begun) {
-        begun = 1;
-        left = number(getenv("REFUSE"));
-    }
+    begin();
     if (left == 0 || --left) return 0;
-    write(1, "x\n", 2);
+    syscall(WRITE, 1, "x\n", 2);
     return 1;
+}
+
+static long failed(void) {
+    *__errno_location() = EIO;
+    return -1;
 }
 
 void *malloc(size n) { return refused() ? 0 : __libc_malloc(n); }
 void *realloc(void *p, size n) { return refused() ? 0 : __libc_realloc(p, n); }
+
+long read(int file, void *to, size n) {
+    begin();
+    if (reads && !--reads) return failed();
+    return syscall(READ, file, to, most && (size)most < n ? (size)most : n);
+}
+
+long write(int file, const void *from, size n) {
+    begin();
+    if (file == 1 && writes && !--writes) return failed();
+    return syscall(WRITE, file, from, n);
+}
+
+long __write(int file, const void *from, size n) { return write(file, from, n); }

@@ -3,19 +3,10 @@ they need that the code doesn't, and forms that rust/make has to refuse."""
 
 # Our crates of tests, and what they test beside the library.
 TESTS = (
-    "packed_tests set_tests trie_tests built_trie_tests ucptab_table ucptrie_tests uses stored_forms"
+    "packed_tests set_tests trie_tests built_trie_tests ucptab_table uses stored_forms"
 ).split()
-# A program's own file, for which tests/rust_parts has another; and the tests of ucptrie's tables, of
-# which those of ucptab's stay: its engine asks errors of JSON and TOML for what the kit's crates tell
-# of them, and Debian's do not, as the line of a fault.
-LEFT_OUT = [
-    "stored_forms/main",
-    "stored_forms/exported",
-    *(
-        f"ucptrie_tests/tests/{it}"
-        for it in "diff faults icu_tables memory names read rows support texts".split()
-    ),
-]
+# A program's own file, for which tests/rust_parts has another.
+LEFT_OUT = ["stored_forms/main", "stored_forms/exported"]
 # What needs JSON or TOML: crates, and modules of others.
 FORMS = ["stored_forms"]
 FORM_MODULES = (
@@ -72,9 +63,8 @@ FORM_RULES = [
 ]
 # Calls that have other names in the edition than TRIED in rust/rules.py says.
 OTHER_NAMES = {"CodePointInversionList::try_from": "CodePointInversionList::try_from_range"}
-# Calls whose requests are not refused one by one: those of the program, one that is inside, and
-# those that write JSON.
-NOT_SWEPT = r"^ucptab_table::|^ucptrie_tables::|::from_valid_slice$|::to_json$"
+# Calls whose requests are not refused one by one: one that is inside, and those that write JSON.
+NOT_SWEPT = r"::from_valid_slice$|::to_json$"
 # Forms that rust/make does not know.
 UNKNOWN = [
     "fn f(x: u8) -> u8\n    decreases { x }\n{\n    x\n}\n",

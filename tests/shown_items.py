@@ -3,10 +3,8 @@ import glob
 import os
 import re
 
-# The crate through which the library is called, and the programs' engines. Of the first one's
-# modules the program calls none.
+# The crate through which the library is called.
 SHOWN = "icu_collections"
-ENGINES = {"ucptab_table": "", "ucptrie_tables": r"^pub mod (\w+);"}
 
 
 def sources(crate):
@@ -44,14 +42,3 @@ def shown():
                 else:
                     names[name] = module
     return names, modules
-
-
-def engines():
-    """The sources of the engines that have their programs' calls, each with its module."""
-    found = {}
-    for engine, shown_modules in ENGINES.items():
-        head = f"crates/{engine}/src/lib.rt"
-        found[head] = engine
-        for name in re.findall(shown_modules or r"(?!)", open(head).read(), re.M):
-            found[f"crates/{engine}/src/{name}.rt"] = f"{engine}::{name}"
-    return found

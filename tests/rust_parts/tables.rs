@@ -1,5 +1,5 @@
 //! The program `ucptab`, erased: what it prints of whole tables, and of the streams that
-//! `tests/program` gives the proved one. All other rows are those of `ucptrie_tests`.
+//! `tests/program` gives the proved one. `tests/command_lines` has all other rows.
 
 use crate::runtime::*;
 use crate::support::prelude::*;
