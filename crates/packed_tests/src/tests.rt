@@ -4,7 +4,7 @@
 //! test calls helpers: the proof of an assert goes over all values that are alive beside it.
 
 mod built_unit_tries;
-mod sorted;
 mod support;
 mod unit_tries;
 mod vectors;
+mod written;

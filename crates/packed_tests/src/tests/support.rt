@@ -16,11 +16,6 @@ pub fn expect_same<T: Copy + Debug + PartialEq>(rt: &impl Abort, found: T, want:
     assert_eq!(rt; found, want, "{what}");
 }
 
-/// The bytes are these.
-pub fn expect_bytes(rt: &impl Abort, found: &[u8], want: &[u8]) {
-    expect_same(rt, found, want, "the bytes");
-}
-
 /// What a call gave, which has to be no error.
 pub fn given<T, E: Drop>(rt: &impl Abort, answer: Result<T, E>) -> T {
     match answer {
@@ -42,11 +37,27 @@ pub fn expect_told<T: Display>(rt: &(impl Abort + AllocGlobal), told: &T, want: 
     expect_text(rt, told.to_string(rt.alloc()), want);
 }
 
+/// A value is shown so, as for one who looks for a fault.
+pub fn expect_shown<T: Debug>(rt: &(impl Abort + AllocGlobal), shown: &T, want: &str) {
+    expect_text(rt, format!(in rt.alloc(); "{shown:?}"), want);
+}
+
 /// Prints the line.
 pub fn say(rt: &(impl Abort + Print), line: &str) {
     if rt.println(line).is_err() {
         rt.panic("nothing can be printed");
     }
+}
+
+/// The calls that the line `call` stands before are done, and what they gave is what is wanted.
+pub fn expect_done<T: Copy + Debug + PartialEq>(
+    rt: &(impl Abort + Print),
+    found: T,
+    want: T,
+    what: &str,
+) {
+    say(rt, "done");
+    expect_same(rt, found, want, what);
 }
 
 /// Says that memory was refused.
@@ -55,13 +66,15 @@ pub fn say_refused(rt: &(impl Abort + Print), error: MemoryError) {
     say(rt, "refused");
 }
 
-/// What was found is what is wanted, or memory was refused.
+/// The call that the line `call` stands before is done, and what it gave is what is wanted, or
+/// memory was refused.
 pub fn expect_answer<T: Copy + Debug + PartialEq>(
     rt: &(impl Abort + Print),
     answer: Result<T, MemoryError>,
     want: T,
     what: &str,
 ) {
+    say(rt, "done");
     match answer {
         Ok(found) => expect_same(rt, found, want, what),
         Err(error) => say_refused(rt, error),

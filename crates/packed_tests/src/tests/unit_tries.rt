@@ -6,7 +6,6 @@ mod dictionaries;
 mod json;
 mod refused_memory;
 mod soundness;
-mod steps;
 pub mod support;
 mod worked_tries;
 mod written;

@@ -2,8 +2,8 @@
 //! test whose name ends in `_refused` with its first, second, .. request refused, until a run
 //! refuses nothing: a refusal between the lines `call` and `done` has to be answered by the line
 //! `refused`. In a test whose name ends in `_quiet` nothing is asked for between the two.
-use super::support::{add, add_text, build, counted, new_builder};
-use crate::tests::support::{expect, expect_same, say};
+use super::support::{add, build, new_builder};
+use crate::tests::support::{expect, expect_done, expect_same, say};
 use crate::tests::unit_tries::support::{are_same, value_of};
 use icu_char16trie_builder::builder::Char16TrieBuilder;
 use icu_char16trie_builder::error::{AddError, BuildError};
@@ -89,7 +89,7 @@ static TEXTS: [&str; 12] = [
 /// Adds the texts as keys up to the first that is refused: how many were added, and the refusal.
 fn add_texts(builder: &mut Char16TrieBuilder) -> (u16, Result<(), AddError>) {
     for k in 0..12u16 {
-        let added = add_text(builder, TEXTS[usize::from(k)], i32::from(k));
+        let added = builder.add_str(TEXTS[usize::from(k)], i32::from(k));
         if added.is_err() {
             return (k, added);
         }
@@ -107,13 +107,8 @@ fn add_str_refused(rt: HostRuntime) {
     let (count, refusal) = add_texts(&mut builder);
     say(&rt, "done");
     expect_memory(&rt, refusal);
-    let (len, _) = counted(&builder);
-    expect_same(
-        &rt,
-        len,
-        usize::from(count),
-        "the entries before the refused one",
-    );
+    let what = "the entries before the refused one";
+    expect_same(&rt, builder.len(), usize::from(count), what);
 }
 
 /// The value of the last key in the trie that the builder builds.
@@ -152,7 +147,6 @@ fn build_refused(rt: HostRuntime) {
 fn new_quiet(rt: HostRuntime) {
     say(&rt, "call");
     let builder = new_builder(rt.alloc());
-    let found = counted(&builder);
-    say(&rt, "done");
-    expect_same(&rt, found, (0, true), "no entries");
+    let found = (builder.len(), builder.is_empty());
+    expect_done(&rt, found, (0, true), "no entries");
 }

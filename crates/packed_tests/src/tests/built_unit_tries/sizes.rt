@@ -1,108 +1,81 @@
-//! Branches of many units, jumps and deltas of two units, long linear matches.
-use super::support::{build, copies_of, expect_added, gives, new_builder};
-use crate::tests::support::{expect, expect_same, given};
-use crate::tests::unit_tries::support::{is_over, items_of, value_of};
-use icu_char16trie::char16trie::{Char16Trie, Iter2};
-use icu_char16trie_builder::builder::Char16TrieBuilder;
+//! How many units tries have, and that large ones are built.
+use super::support::{Entry, build, built, expect_added, new_builder};
+use super::worked_tries::TWELVE;
+use crate::tests::support::{expect_same, given};
+use crate::tests::unit_tries::support::value_of;
+use icu_char16trie::char16trie::Char16Trie;
+use std::alloc::{AllocError, Global};
 use std::process::Abort;
 
-/// A trie of keys of one unit, those below `count`, each with its unit as value.
-fn trie_of_units(rt: &(impl Abort + AllocGlobal), count: u16) -> Char16Trie<'static> {
+/// A key of a letter and forty units 7.
+fn key_of(letter: u16) -> [u16; 41] {
+    let mut key = [7; 41];
+    key[0] = letter;
+    key
+}
+
+/// How many units the trie of these entries has.
+fn len_of(rt: &(impl Abort + AllocGlobal), entries: &[Entry<'_>]) -> usize {
+    built(rt, entries).data.len()
+}
+
+/// How many units a trie of the keys of four letters with these values has.
+fn len_of_four(rt: &(impl Abort + AllocGlobal), values: [i32; 4]) -> usize {
+    let [a, b, c, d] = [key_of(1), key_of(2), key_of(3), key_of(4)];
+    let [first, second, third, fourth] = values;
+    let entries = [
+        (a.as_slice(), first),
+        (b.as_slice(), second),
+        (c.as_slice(), third),
+        (d.as_slice(), fourth),
+    ];
+    len_of(rt, &entries)
+}
+
+/// Forty units take 43 with their leads, and a value 1. The last of four nodes stands in the row
+/// itself, so of four equal ones two are written.
+#[test]
+fn equal_nodes(rt: HostRuntime) {
+    let shared = len_of_four(&rt, [1; 4]);
+    let apart = len_of_four(&rt, [1, 2, 3, 4]);
+    expect_same(&rt, apart, shared.saturating_add(88), "two nodes less");
+}
+
+/// A key of so many units 5.
+fn long_key(alloc: Global, count: usize) -> Result<Vec<u16>, AllocError> {
+    vec![in alloc; 5; count]
+}
+
+/// The longest key takes 4,095 linear matches of 16 units and one of 15, each with its lead, and
+/// the value.
+#[test]
+fn lengths(rt: HostRuntime) {
+    expect_same(&rt, len_of(&rt, &TWELVE), 45, "as many units as ICU's");
+    let key = given(&rt, long_key(rt.alloc(), 65_535));
+    let len = len_of(&rt, &[(key.as_slice(), 2)]);
+    expect_same(&rt, len, 65_535 + 4096 + 1, "units");
+}
+
+/// A trie of keys of one unit each, all but the greatest, each with its unit as value.
+fn trie_of_units(rt: &(impl Abort + AllocGlobal)) -> Char16Trie<'static> {
     let mut builder = new_builder(rt.alloc());
-    for unit in 0..count {
+    for unit in 0..0xFFFF {
         expect_added(rt, &mut builder, &[unit], i32::from(unit));
     }
     given(rt, build(builder))
 }
 
-/// Whether the entries are the units below `count`, each with its unit as value.
-fn counts_up(rt: &(impl Abort + AllocGlobal), trie: &Char16Trie<'_>, count: u16) -> bool {
-    let mut items = items_of(rt.alloc(), trie);
-    for unit in 0..count {
-        if !gives(rt, trie, &mut items, &[unit], i32::from(unit)) {
-            return false;
-        }
-    }
-    is_over(&mut items)
-}
-
-/// The trie has the units below `count` as keys, each with its unit as value, and no other one.
-fn expect_units(rt: &(impl Abort + AllocGlobal), trie: &Char16Trie<'_>, count: u16) {
-    for unit in 0..0xFFFF {
-        let want = (unit < count).then_some(i32::from(unit));
-        expect_same(rt, value_of(trie, &[unit]), want, "a key of one unit");
-    }
-    expect(rt, counts_up(rt, trie, count), "the entries in order");
-}
-
-#[test]
-fn branches_of_many_units(rt: HostRuntime) {
-    for count in [1, 2, 5, 6, 0x30, 0x31, 300] {
-        expect_units(&rt, &trie_of_units(&rt, count), count);
-    }
+/// The values of the first key, of the last one and of none.
+fn values_of_ends(trie: &Char16Trie<'_>) -> [Option<i32>; 3] {
+    [
+        value_of(trie, &[0]),
+        value_of(trie, &[0xFFFE]),
+        value_of(trie, &[0xFFFF]),
+    ]
 }
 
 #[test]
 fn branch_of_all_units(rt: HostRuntime) {
-    expect_units(&rt, &trie_of_units(&rt, 0xFFFF), 0xFFFF);
-}
-
-/// Adds the key of 20,000 units k, with the value k.
-fn add_copies(rt: &(impl Abort + AllocGlobal), builder: &mut Char16TrieBuilder, k: u16) {
-    let key = given(rt, copies_of(rt.alloc(), k, 20_000));
-    expect_added(rt, builder, key.as_slice(), i32::from(k));
-}
-
-/// A trie of ten keys, the key k being 20,000 units k.
-fn trie_of_ten(rt: &(impl Abort + AllocGlobal)) -> Char16Trie<'static> {
-    let mut builder = new_builder(rt.alloc());
-    for k in 1..11 {
-        add_copies(rt, &mut builder, k);
-    }
-    given(rt, build(builder))
-}
-
-/// Whether a key has this value and is the next item, and has no value without its last unit.
-fn has_key(
-    rt: &(impl Abort + AllocGlobal),
-    trie: &Char16Trie<'_>,
-    items: &mut Iter2<'_>,
-    key: &[u16],
-    value: i32,
-) -> bool {
-    match key.split_last() {
-        Some((_, shorter)) => {
-            value_of(trie, shorter).is_none() && gives(rt, trie, items, key, value)
-        }
-        None => false,
-    }
-}
-
-/// Whether the trie has the key of 20,000 units k, as its next item.
-fn has_copies(
-    rt: &(impl Abort + AllocGlobal),
-    trie: &Char16Trie<'_>,
-    items: &mut Iter2<'_>,
-    k: u16,
-) -> bool {
-    let key = given(rt, copies_of(rt.alloc(), k, 20_000));
-    has_key(rt, trie, items, key.as_slice(), i32::from(k))
-}
-
-/// Whether each of the ten keys has its value, is the next item, and has none without its last
-/// unit, and no other item comes.
-fn has_ten(rt: &(impl Abort + AllocGlobal), trie: &Char16Trie<'_>) -> bool {
-    let mut items = items_of(rt.alloc(), trie);
-    let mut right = true;
-    for k in 1..11 {
-        right &= has_copies(rt, trie, &mut items, k);
-    }
-    right & is_over(&mut items)
-}
-
-/// A delta passes 0xFBFF, and needs two units.
-#[test]
-fn ten_keys_of_20_000_units(rt: HostRuntime) {
-    let whole = has_ten(&rt, &trie_of_ten(&rt));
-    expect(&rt, whole, "ten keys of 20,000 units");
+    let values = values_of_ends(&trie_of_units(&rt));
+    expect_same(&rt, values, [Some(0), Some(0xFFFE), None], "the ends");
 }

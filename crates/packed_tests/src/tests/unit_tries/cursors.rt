@@ -1,169 +1,273 @@
-//! Steps of cursors and of iterators.
-use super::steps::{
-    clone_of, is_character_written, is_written, iterator_clone, iterator_of, pass_character,
-    pass_number, place_of, result_of_number, result_of_unit, resumed_at, root_of, told_at,
-    units_of,
+//! Steps of cursors and of iterators, which take no memory.
+use super::support::{A_AB, LEAD_PAIR, SIX, cursor_of, some_trie, units_of};
+use crate::tests::support::{expect_done, expect_same, say};
+use icu_char16trie::char16trie::{
+    Char16Trie, Char16TrieCursor, Char16TrieIterator, CursorPlace, TrieResult,
 };
-use super::support::{cursor_after, cursor_of, iter_of, made_trie, value_at};
-use crate::tests::support::expect_same;
-use icu_char16trie::char16trie::{Char16Trie, Char16TrieCursor, CursorPlace, TrieResult};
 use icu_zerovec::ZeroSlice;
 use std::fmt::Write;
 use std::process::Abort;
 
-/// The value after a number as one step of a cursor, and whether no key goes on beyond it.
-fn told_of(mut cursor: Char16TrieCursor<'_>, number: u32) -> (Option<i32>, bool) {
-    pass_number(&mut cursor, number);
-    told_at(&cursor)
+/// What is done with a cursor or with an iterator.
+enum Step {
+    Character(char),
+    Unit(u16),
+    Number(u32),
+    /// A text is written to a cursor, and its characters are given to an iterator.
+    Text(&'static str),
+    /// A character is written to a cursor, and given to an iterator.
+    Written(char),
+    /// A clone takes its place.
+    Cloned,
+    /// A cursor that is resumed where it stands takes its place.
+    Resumed,
+    /// One of the same units takes its place.
+    Renewed,
 }
 
-/// The numbers match nothing in the trie of these units, by a cursor and by an iterator.
-fn expect_no_match(rt: &impl Abort, trie: &Char16Trie<'_>, units: &[u16]) {
-    for number in [0x11_0000, 0x12_0000, 0xFFFF_FFFF] {
-        let told = told_of(cursor_of(trie), number);
-        let result = result_of_number(&mut iter_of(trie), number);
-        let want = (units, number, (None, true), TrieResult::NoMatch);
-        expect_same(rt, (units, number, told, result), want, "no match");
+/// Makes a cursor do a step, where it can.
+fn pass<'a>(
+    cursor: &mut Char16TrieCursor<'a>,
+    units: ZeroSlice<'a, u16>,
+    step: &Step,
+) -> Option<()> {
+    match step {
+        Step::Character(c) => cursor.step(*c),
+        Step::Unit(unit) => cursor.step16(*unit),
+        Step::Number(number) => cursor.step32(*number),
+        Step::Text(text) => cursor.write_str(text).ok()?,
+        Step::Written(c) => cursor.write_char(*c).ok()?,
+        Step::Cloned => *cursor = cursor.clone().ok()?,
+        Step::Resumed => *cursor = Char16TrieCursor::resume(units, cursor.place()),
+        Step::Renewed => *cursor = Char16TrieCursor::new(units),
+    }
+    Some(())
+}
+
+/// What a cursor tells where it stands, as an iterator tells it.
+fn result_at(cursor: &Char16TrieCursor<'_>) -> TrieResult {
+    match (cursor.value(), cursor.is_empty()) {
+        (Some(value), true) => TrieResult::FinalValue(value),
+        (Some(value), false) => TrieResult::Intermediate(value),
+        (None, true) => TrieResult::NoMatch,
+        (None, false) => TrieResult::NoValue,
     }
 }
 
-/// Units of tries whose keys a number above the code points would be, were it cut to units.
-static TAKEN_FOR_KEYS: [&[u16]; 4] = [
-    &[0x30, 0xD800, 0x8005],
-    &[0x30, 0x61, 0xFFFF],
-    &[0x31, 0xDC00, 0xDC00, 0x8001],
-    &[0x30, 0, 0x8001],
-];
+/// What a cursor tells after these steps, if it could do them.
+fn told_by_cursor(trie: &Char16Trie<'_>, steps: &[Step]) -> Option<TrieResult> {
+    let units = units_of(trie);
+    let mut cursor = cursor_of(trie);
+    for step in steps.iter() {
+        pass(&mut cursor, units, step)?;
+    }
+    Some(result_at(&cursor))
+}
 
-/// A number above the code points is not cut to units that are keys.
-#[test]
-fn numbers_above_the_code_points(rt: HostRuntime) {
-    for units in TAKEN_FOR_KEYS.iter() {
-        expect_no_match(&rt, &made_trie(&rt, units), units);
+/// What an iterator tells of one more text.
+fn result_of_text(iterator: &mut Char16TrieIterator<'_>, text: &str) -> Option<TrieResult> {
+    let mut result = None;
+    for c in text.chars() {
+        result = Some(iterator.next(c));
+    }
+    result
+}
+
+/// Makes an iterator do a step: what it tells, if it tells anything.
+fn result_of_step<'a>(
+    iterator: &mut Char16TrieIterator<'a>,
+    units: ZeroSlice<'a, u16>,
+    step: &Step,
+) -> Option<TrieResult> {
+    match step {
+        Step::Character(c) | Step::Written(c) => Some(iterator.next(*c)),
+        Step::Unit(unit) => Some(iterator.next16(*unit)),
+        Step::Number(number) => Some(iterator.next32(*number)),
+        Step::Text(text) => result_of_text(iterator, text),
+        Step::Cloned | Step::Resumed => {
+            *iterator = iterator.clone().ok()?;
+            None
+        }
+        Step::Renewed => {
+            *iterator = Char16TrieIterator::new(units);
+            None
+        }
     }
 }
 
-/// Whether the text can be written, the value that it leads to, and whether no key goes on beyond
-/// it.
-fn written(mut cursor: Char16TrieCursor<'_>, text: &str) -> (bool, (Option<i32>, bool)) {
-    let written = is_written(&mut cursor, text);
-    (written, told_at(&cursor))
-}
-
-/// What is told at the root, beyond a character that matches nothing, and beyond a further one.
-fn nowhere(units: ZeroSlice<'_, u16>) -> [(Option<i32>, bool); 3] {
-    let mut cursor = root_of(units);
-    let at_root = told_at(&cursor);
-    pass_character(&mut cursor, 'x');
-    let beyond = told_at(&cursor);
-    pass_character(&mut cursor, 'a');
-    [at_root, beyond, told_at(&cursor)]
-}
-
-/// Whether `b` can be written to a clone of a cursor after `a`, and the values of both.
-fn steps_of_a_clone(trie: &Char16Trie<'_>) -> Option<(bool, [Option<i32>; 2])> {
-    let first = cursor_after(trie, &[0x61]);
-    let mut second = clone_of(&first)?;
-    let written = is_character_written(&mut second, 'b');
-    Some((written, [value_at(&first), value_at(&second)]))
+/// What an iterator tells of the last of these steps.
+fn told_by_iterator(trie: &Char16Trie<'_>, steps: &[Step]) -> Option<TrieResult> {
+    let units = units_of(trie);
+    let mut iterator = trie.iter();
+    let mut result = None;
+    for step in steps.iter() {
+        result = result_of_step(&mut iterator, units, step);
+    }
+    result
 }
 
 /// The units of "ab" to 3.
 const AB: [u16; 4] = [0x31, 0x61, 0x62, 0x8003];
 
-/// What steps of a cursor over "ab" tell.
-fn expect_steps(rt: &impl Abort, trie: &Char16Trie<'_>) {
-    let found = written(cursor_of(trie), "ab");
-    expect_same(rt, found, (true, (Some(3), true)), "ab");
-    let want = [(None, false), (None, true), (None, true)];
-    expect_same(rt, nowhere(units_of(trie)), want, "x, then a");
-    let found = steps_of_a_clone(trie);
-    expect_same(rt, found, Some((true, [None, Some(3)])), "a, then b");
+/// The units of a character of two units to 1.
+const PAIR: [u16; 4] = [0x31, 0xD83D, 0xDE00, 0x8001];
+
+/// Units of a trie, steps, and what is told after them.
+type Row = (&'static [u16], &'static [Step], TrieResult);
+
+static ROWS: [Row; 33] = [
+    (&AB, &[Step::Text("ab")], TrieResult::FinalValue(3)),
+    (&AB, &[Step::Character('a')], TrieResult::NoValue),
+    // From a character that matches nothing on, none does.
+    (&AB, &[Step::Character('x')], TrieResult::NoMatch),
+    (
+        &AB,
+        &[Step::Character('x'), Step::Character('a')],
+        TrieResult::NoMatch,
+    ),
+    (
+        &AB,
+        &[Step::Character('a'), Step::Cloned, Step::Written('b')],
+        TrieResult::FinalValue(3),
+    ),
+    (
+        &AB,
+        &[Step::Character('a'), Step::Resumed, Step::Character('b')],
+        TrieResult::FinalValue(3),
+    ),
+    (
+        &AB,
+        &[Step::Text("ab"), Step::Resumed, Step::Character('a')],
+        TrieResult::NoMatch,
+    ),
+    (
+        &A_AB,
+        &[Step::Text("ab"), Step::Renewed, Step::Character('a')],
+        TrieResult::Intermediate(1),
+    ),
+    (&SIX, &[Step::Character('a')], TrieResult::FinalValue(1)),
+    (&SIX, &[Step::Unit(0x62)], TrieResult::FinalValue(2)),
+    (&SIX, &[Step::Number(0x63)], TrieResult::FinalValue(3)),
+    (
+        &SIX,
+        &[Step::Cloned, Step::Written('f')],
+        TrieResult::FinalValue(6),
+    ),
+    // A character by its units, and by itself.
+    (&PAIR, &[Step::Unit(0xD83D)], TrieResult::NoValue),
+    (
+        &PAIR,
+        &[Step::Unit(0xD83D), Step::Cloned, Step::Unit(0xDE01)],
+        TrieResult::NoMatch,
+    ),
+    (
+        &PAIR,
+        &[Step::Unit(0xD83D), Step::Number(0xDE00)],
+        TrieResult::FinalValue(1),
+    ),
+    (
+        &PAIR,
+        &[Step::Character('\u{1f600}')],
+        TrieResult::FinalValue(1),
+    ),
+    (&PAIR, &[Step::Number(0x1_F600)], TrieResult::FinalValue(1)),
+    (&PAIR, &[Step::Text("\u{1f600}")], TrieResult::FinalValue(1)),
+    (
+        &PAIR,
+        &[Step::Written('\u{1f600}')],
+        TrieResult::FinalValue(1),
+    ),
+    (
+        &LEAD_PAIR,
+        &[Step::Unit(0xD83D), Step::Unit(0xDE00)],
+        TrieResult::FinalValue(2),
+    ),
+    (
+        &LEAD_PAIR,
+        &[Step::Number(0xD83D)],
+        TrieResult::Intermediate(1),
+    ),
+    // A number above the code points is not cut to units that are keys.
+    (&LONE, &[Step::Number(0x11_0000)], TrieResult::NoMatch),
+    (&LONE, &[Step::Number(0x12_0000)], TrieResult::NoMatch),
+    (&LONE, &[Step::Number(0xFFFF_FFFF)], TrieResult::NoMatch),
+    (&CUT, &[Step::Number(0x11_0000)], TrieResult::NoMatch),
+    (&CUT, &[Step::Number(0x12_0000)], TrieResult::NoMatch),
+    (&CUT, &[Step::Number(0xFFFF_FFFF)], TrieResult::NoMatch),
+    (&TRAILS, &[Step::Number(0x11_0000)], TrieResult::NoMatch),
+    (&TRAILS, &[Step::Number(0x12_0000)], TrieResult::NoMatch),
+    (&TRAILS, &[Step::Number(0xFFFF_FFFF)], TrieResult::NoMatch),
+    (&ZERO, &[Step::Number(0x11_0000)], TrieResult::NoMatch),
+    (&ZERO, &[Step::Number(0x12_0000)], TrieResult::NoMatch),
+    (&ZERO, &[Step::Number(0xFFFF_FFFF)], TrieResult::NoMatch),
+];
+
+/// The units of a lone lead surrogate to 5.
+const LONE: [u16; 3] = [0x30, 0xD800, 0x8005];
+
+/// The units of "a" to a value that is cut off.
+const CUT: [u16; 3] = [0x30, 0x61, 0xFFFF];
+
+/// The units of two trail surrogates to 1.
+const TRAILS: [u16; 4] = [0x31, 0xDC00, 0xDC00, 0x8001];
+
+/// The units of a unit 0 to 1.
+const ZERO: [u16; 3] = [0x30, 0, 0x8001];
+
+/// After these steps a cursor and an iterator tell this, and ask for no memory.
+fn expect_told_after(
+    rt: &(impl Abort + AllocGlobal + Print),
+    units: &[u16],
+    steps: &[Step],
+    want: TrieResult,
+) {
+    let Some(trie) = some_trie(rt, units) else {
+        return;
+    };
+    say(rt, "call");
+    let found = [told_by_cursor(&trie, steps), told_by_iterator(&trie, steps)];
+    expect_done(rt, (units, found), (units, [Some(want); 2]), "steps");
 }
 
+/// Calls: `Char16Trie::cursor`, `Char16Trie::iter`, `Char16TrieCursor::new`,
+/// `Char16TrieCursor::resume`, `Char16TrieCursor::place`, `Char16TrieCursor::step`,
+/// `Char16TrieCursor::step16`, `Char16TrieCursor::step32`, `Char16TrieCursor::write_str`,
+/// `Char16TrieCursor::value`, `Char16TrieCursor::is_empty`, `Char16TrieIterator::new`,
+/// `Char16TrieIterator::next`, `Char16TrieIterator::next16`, `Char16TrieIterator::next32`.
 #[test]
-fn steps_of_a_cursor(rt: HostRuntime) {
-    expect_steps(&rt, &made_trie(&rt, &AB));
-}
-
-/// The value that a character leads to, where it can be written by a format.
-fn formatted(mut cursor: Char16TrieCursor<'_>, c: char) -> Option<i32> {
-    match write!(&mut cursor, "{c}") {
-        Ok(()) => value_at(&cursor),
-        Err(_) => None,
+fn steps_quiet(rt: HostRuntime) {
+    for (units, steps, want) in ROWS.iter() {
+        expect_told_after(&rt, units, steps, *want);
     }
 }
 
-/// What the first unit of a character gives, then a wrong second one to a clone, and then the right
-/// one.
-fn results_by_units(units: ZeroSlice<'_, u16>) -> Option<[TrieResult; 3]> {
-    let mut by_units = iterator_of(units);
-    let first = result_of_unit(&mut by_units, 0xD83D);
-    let wrong = result_of_unit(&mut iterator_clone(&by_units)?, 0xDE01);
-    let right = result_of_number(&mut by_units, 0xDE00);
-    Some([first, wrong, right])
-}
-
-/// The character of this trie is found by a format, and by its units.
-fn expect_character(rt: &impl Abort, trie: &Char16Trie<'_>) {
-    let found = formatted(cursor_of(trie), '\u{1f600}');
-    expect_same(rt, found, Some(1), "a format");
-    let found = results_by_units(units_of(trie));
-    let want = [
-        TrieResult::NoValue,
-        TrieResult::NoMatch,
-        TrieResult::FinalValue(1),
-    ];
-    expect_same(rt, found, Some(want), "the units of a character");
-}
-
-#[test]
-fn units_of_a_character(rt: HostRuntime) {
-    expect_character(&rt, &made_trie(&rt, &[0x31, 0xD83D, 0xDE00, 0x8001]));
-}
-
-/// The value after a character from a place, and where the cursor stands then.
-fn step_from(units: ZeroSlice<'_, u16>, place: CursorPlace, c: char) -> (Option<i32>, CursorPlace) {
-    let mut cursor = resumed_at(units, place);
-    pass_character(&mut cursor, c);
-    (value_at(&cursor), place_of(&cursor))
-}
-
-/// The values after `b` by a cursor that is resumed where one stands after `a`, and after `a` again.
-fn resumed(trie: &Char16Trie<'_>) -> [Option<i32>; 2] {
-    let units = units_of(trie);
-    let mut first = cursor_of(trie);
-    pass_character(&mut first, 'a');
-    let (value, place) = step_from(units, place_of(&first), 'b');
-    let (again, _) = step_from(units, place, 'a');
-    [value, again]
-}
-
-/// Places, the first in a linear match, and those of strangers: what stands there is told, or no
-/// match.
-static PLACES: [(usize, u16, (Option<i32>, bool)); 6] = [
-    (0, 0, (None, false)),
-    (1, 2, (None, false)),
-    (3, 0, (Some(3), true)),
-    (4, 0, (None, true)),
-    (0, 257, (None, true)),
-    (usize::MAX, 0, (None, true)),
+/// Places, the first in a linear match, and those of strangers, and what is told there.
+static PLACES: [(usize, u16, TrieResult); 6] = [
+    (0, 0, TrieResult::NoValue),
+    (1, 2, TrieResult::NoValue),
+    (3, 0, TrieResult::FinalValue(3)),
+    (4, 0, TrieResult::NoMatch),
+    (0, 257, TrieResult::NoMatch),
+    (usize::MAX, 0, TrieResult::NoMatch),
 ];
 
 /// What is told at each of the places.
 fn expect_places(rt: &impl Abort, units: ZeroSlice<'_, u16>) {
     for (position, left, want) in PLACES.iter() {
         let (position, left) = (*position, *left);
-        let found = told_at(&resumed_at(units, CursorPlace { position, left }));
+        let cursor = Char16TrieCursor::resume(units, CursorPlace { position, left });
         let want = (position, left, *want);
-        expect_same(rt, (position, left, found), want, "a place");
+        expect_same(rt, (position, left, result_at(&cursor)), want, "a place");
     }
 }
 
+/// Calls: `Char16TrieCursor::resume`, `Char16TrieCursor::value`, `Char16TrieCursor::is_empty`.
 #[test]
-fn places_of_a_cursor(rt: HostRuntime) {
-    let trie = made_trie(&rt, &AB);
-    let found = resumed(&trie);
-    expect_same(&rt, found, [Some(3), None], "a, b, a");
+fn places_quiet(rt: HostRuntime) {
+    let Some(trie) = some_trie(&rt, &AB) else {
+        return;
+    };
+    say(&rt, "call");
     expect_places(&rt, units_of(&trie));
+    say(&rt, "done");
 }

@@ -1,64 +1,89 @@
-//! The keys that begin a text: the longest one, and all of them.
-use super::support::{A_AB, LEAD_PAIR, SIX, made_trie};
-use crate::tests::support::expect_same;
+//! The keys that begin a text: the longest one, and all of them. No memory is asked for.
+use super::support::{A_AB, LEAD_PAIR, SIX, some_trie};
+use crate::tests::support::{expect_done, say};
 use icu_char16trie::char16trie::Char16Trie;
 use std::process::Abort;
 
 /// The units of the empty key to 7 and "a" to 1.
 const EMPTY_A: [u16; 3] = [0x230, 0x61, 0x8001];
 
-/// Units of a trie, a text, and the longest key that begins it.
-type Row = (&'static [u16], &'static [u16], Option<(usize, i32)>);
+/// A text of units, or of characters.
+enum Text {
+    Units(&'static [u16]),
+    Characters(&'static str),
+}
 
-static LONGEST: [Row; 24] = [
-    (&A_AB, &[0x61, 0x62, 0x63], Some((2, 2))),
-    (&A_AB, &[0x61, 0x62], Some((2, 2))),
-    (&A_AB, &[0x61, 0x63], Some((1, 1))),
-    (&A_AB, &[0x61], Some((1, 1))),
-    (&A_AB, &[0x62], None),
-    (&A_AB, &[], None),
+/// Units of a trie, a text, and the longest key that begins it.
+type Row = (&'static [u16], Text, Option<(usize, i32)>);
+
+static LONGEST: [Row; 35] = [
+    (&A_AB, Text::Units(&[0x61, 0x62, 0x63]), Some((2, 2))),
+    (&A_AB, Text::Units(&[0x61, 0x62]), Some((2, 2))),
+    (&A_AB, Text::Units(&[0x61, 0x63]), Some((1, 1))),
+    (&A_AB, Text::Units(&[0x61]), Some((1, 1))),
+    (&A_AB, Text::Units(&[0x62]), None),
+    (&A_AB, Text::Units(&[]), None),
     // A key in a text, but not at its begin.
-    (&A_AB, &[0x63, 0x61], None),
+    (&A_AB, Text::Units(&[0x63, 0x61]), None),
     // The empty key begins each text.
-    (&[0x8007], &[], Some((0, 7))),
-    (&[0x8007], &[0x61], Some((0, 7))),
-    (&EMPTY_A, &[], Some((0, 7))),
-    (&EMPTY_A, &[0x62], Some((0, 7))),
-    (&EMPTY_A, &[0x61, 0x61], Some((1, 1))),
+    (&[0x8007], Text::Units(&[]), Some((0, 7))),
+    (&[0x8007], Text::Units(&[0x61]), Some((0, 7))),
+    (&EMPTY_A, Text::Units(&[]), Some((0, 7))),
+    (&EMPTY_A, Text::Units(&[0x62]), Some((0, 7))),
+    (&EMPTY_A, Text::Units(&[0x61, 0x61]), Some((1, 1))),
     // A text that ends within a linear match.
-    (&[0x31, 0x61, 0x62, 0x8003], &[0x61], None),
-    (&[0x31, 0x61, 0x62, 0x8003], &[0x61, 0x62], Some((2, 3))),
-    (&[0x31, 0x61, 0x62, 0x8003], &[0x61, 0x61, 0x62], None),
-    (&SIX, &[0x63, 0x63], Some((1, 3))),
-    (&SIX, &[0x67], None),
+    (&[0x31, 0x61, 0x62, 0x8003], Text::Units(&[0x61]), None),
+    (
+        &[0x31, 0x61, 0x62, 0x8003],
+        Text::Units(&[0x61, 0x62]),
+        Some((2, 3)),
+    ),
+    (
+        &[0x31, 0x61, 0x62, 0x8003],
+        Text::Units(&[0x61, 0x61, 0x62]),
+        None,
+    ),
+    (&SIX, Text::Units(&[0x63, 0x63]), Some((1, 3))),
+    (&SIX, Text::Units(&[0x67]), None),
     // Units, and not characters, are matched.
-    (&LEAD_PAIR, &[0xD83D, 0xDE01], Some((1, 1))),
-    (&LEAD_PAIR, &[0xD83D, 0xDE00], Some((2, 2))),
+    (&LEAD_PAIR, Text::Units(&[0xD83D, 0xDE01]), Some((1, 1))),
+    (&LEAD_PAIR, Text::Units(&[0xD83D, 0xDE00]), Some((2, 2))),
     // Units that are no trie: what is needed and not there is no match, and a value that is cut off
     // is 0.
-    (&[], &[0x61], None),
-    (&[0xFFFF], &[0x61], Some((0, 0))),
-    (&[0x30], &[0x61], None),
-    (&[1, 0x61, 0x3FFF, 0x62, 0x8002], &[0x61, 0x62], None),
-    (&[1, 0x61, 0x3FFF, 0x62, 0x8002], &[0x62], Some((1, 2))),
-];
-
-/// Units of a trie, a text, and the longest key that begins it, by its length in bytes.
-type TextRow = (&'static [u16], &'static str, Option<(usize, i32)>);
-
-static LONGEST_IN_TEXTS: [TextRow; 11] = [
-    (&A_AB, "abc", Some((2, 2))),
-    (&A_AB, "ac", Some((1, 1))),
-    (&A_AB, "", None),
-    (&A_AB, "\u{e9}", None),
-    (&EMPTY_A, "\u{e9}", Some((0, 7))),
-    (&[0x30, 0xE9, 0x8001], "\u{e9}s", Some((2, 1))),
-    (&[0x31, 0x4E2D, 0x61, 0x8005], "\u{4e2d}ab", Some((4, 5))),
-    (&LEAD_PAIR, "\u{1f600}a", Some((4, 2))),
+    (&[], Text::Units(&[0x61]), None),
+    (&[0xFFFF], Text::Units(&[0x61]), Some((0, 0))),
+    (&[0x30], Text::Units(&[0x61]), None),
+    (
+        &[1, 0x61, 0x3FFF, 0x62, 0x8002],
+        Text::Units(&[0x61, 0x62]),
+        None,
+    ),
+    (
+        &[1, 0x61, 0x3FFF, 0x62, 0x8002],
+        Text::Units(&[0x62]),
+        Some((1, 2)),
+    ),
+    // The length of a key in a text of characters is one of bytes.
+    (&A_AB, Text::Characters("abc"), Some((2, 2))),
+    (&A_AB, Text::Characters("ac"), Some((1, 1))),
+    (&A_AB, Text::Characters(""), None),
+    (&A_AB, Text::Characters("\u{e9}"), None),
+    (&EMPTY_A, Text::Characters("\u{e9}"), Some((0, 7))),
+    (
+        &[0x30, 0xE9, 0x8001],
+        Text::Characters("\u{e9}s"),
+        Some((2, 1)),
+    ),
+    (
+        &[0x31, 0x4E2D, 0x61, 0x8005],
+        Text::Characters("\u{4e2d}ab"),
+        Some((4, 5)),
+    ),
+    (&LEAD_PAIR, Text::Characters("\u{1f600}a"), Some((4, 2))),
     // A key that ends between the two units of a character.
-    (&LEAD_PAIR, "\u{1f601}", None),
-    (&[0x30, 0xD83D, 0x8001], "\u{1f600}", None),
-    (&[], "a", None),
+    (&LEAD_PAIR, Text::Characters("\u{1f601}"), None),
+    (&[0x30, 0xD83D, 0x8001], Text::Characters("\u{1f600}"), None),
+    (&[], Text::Characters("a"), None),
 ];
 
 /// Units of a trie, a text, and all keys that begin it, of which there are at most two.
@@ -82,63 +107,62 @@ static ALL: [AllRow; 7] = [
     (&[], &[0x61], [None; 3]),
 ];
 
-/// The longest key that begins some units.
-pub fn longest_of(trie: &Char16Trie<'_>, text: &[u16]) -> Option<(usize, i32)> {
-    trie.longest_match(text)
+/// The longest key that begins a text.
+fn longest_of(trie: &Char16Trie<'_>, text: &Text) -> Option<(usize, i32)> {
+    match text {
+        Text::Units(units) => trie.longest_match(units),
+        Text::Characters(text) => trie.longest_match_str(text),
+    }
 }
 
-/// The longest key that begins a text of characters.
-pub fn longest_in_text(trie: &Char16Trie<'_>, text: &str) -> Option<(usize, i32)> {
-    trie.longest_match_str(text)
+/// The longest key that begins a text is this one.
+fn expect_longest(
+    rt: &(impl Abort + AllocGlobal + Print),
+    units: &[u16],
+    text: &Text,
+    want: Option<(usize, i32)>,
+) {
+    let Some(trie) = some_trie(rt, units) else {
+        return;
+    };
+    say(rt, "call");
+    let found = longest_of(&trie, text);
+    expect_done(rt, (units, found), (units, want), "the longest match");
+}
+
+/// Calls: `Char16Trie::longest_match`, `Char16Trie::longest_match_str`.
+#[test]
+fn longest_matches_quiet(rt: HostRuntime) {
+    for (units, text, want) in LONGEST.iter() {
+        expect_longest(&rt, units, text, *want);
+    }
 }
 
 /// The first three items: all matches of a text, where it has at most two.
-pub fn three_matches(trie: &Char16Trie<'_>, text: &[u16]) -> [Option<(usize, i32)>; 3] {
-    let mut found = [None; 3];
+fn three_matches(trie: &Char16Trie<'_>, text: &[u16]) -> [Option<(usize, i32)>; 3] {
     let mut matches = trie.matches(text);
-    for i in 0..3 {
-        found[i] = matches.next();
-    }
-    found
+    [matches.next(), matches.next(), matches.next()]
 }
 
-#[test]
-fn all_matches(rt: HostRuntime) {
-    for (units, text, want) in ALL.iter() {
-        let found = three_matches(&made_trie(&rt, units), text);
-        expect_same(&rt, (*units, found), (*units, *want), "all matches");
-    }
-}
-
-/// What was found is what is wanted.
-fn expect_found(
-    rt: &impl Abort,
-    found: Option<(usize, i32)>,
-    want: Option<(usize, i32)>,
+/// All keys that begin a text are these ones.
+fn expect_matches(
+    rt: &(impl Abort + AllocGlobal + Print),
     units: &[u16],
+    text: &[u16],
+    want: [Option<(usize, i32)>; 3],
 ) {
-    expect_same(rt, (units, found), (units, want), "the longest match");
+    let Some(trie) = some_trie(rt, units) else {
+        return;
+    };
+    say(rt, "call");
+    let found = three_matches(&trie, text);
+    expect_done(rt, (units, found), (units, want), "all matches");
 }
 
-/// The longest key that begins each text of characters.
-fn expect_longest_in_texts(rt: &(impl Abort + AllocGlobal)) {
-    for (units, text, want) in LONGEST_IN_TEXTS.iter() {
-        let found = longest_in_text(&made_trie(rt, units), text);
-        expect_found(rt, found, *want, units);
-    }
-}
-
+/// Calls: `Char16Trie::matches`, `Matches::next`.
 #[test]
-fn longest_matches(rt: HostRuntime) {
-    for (units, text, want) in LONGEST.iter() {
-        let found = longest_of(&made_trie(&rt, units), text);
-        expect_found(&rt, found, *want, units);
+fn matches_quiet(rt: HostRuntime) {
+    for (units, text, want) in ALL.iter() {
+        expect_matches(&rt, units, text, *want);
     }
-    expect_longest_in_texts(&rt);
-}
-
-#[test]
-fn the_longest_match_of_a_long_text(rt: HostRuntime) {
-    let found = longest_of(&made_trie(&rt, &A_AB), &[0x61; 10_000]);
-    expect_found(&rt, found, Some((1, 1)), &A_AB);
 }

@@ -1,10 +1,8 @@
 //! The tries that are asked, and their calls that several tests make, each in one helper.
 use crate::tests::support::given;
-use crate::tests::vectors::support::packed_of;
-use icu_char16trie::char16trie::{
-    Char16Trie, Char16TrieCursor, Char16TrieIterator, Entries, Iter2, TrieResult,
-};
-use icu_zerovec::{MemoryError, ZeroVec};
+use crate::tests::vectors::support::{packed_of, view_of};
+use icu_char16trie::char16trie::{Char16Trie, Char16TrieCursor, Entries, Iter2, TrieResult};
+use icu_zerovec::{MemoryError, ZeroSlice};
 use std::alloc::Global;
 use std::process::Abort;
 
@@ -19,14 +17,9 @@ pub const A_AB: [u16; 5] = [0x30, 0x61, 0xB0, 0x62, 0x8002];
 /// The units of a lead surrogate to 1 and the character that it begins to 2.
 pub const LEAD_PAIR: [u16; 5] = [0x30, 0xD83D, 0xB0, 0xDE00, 0x8002];
 
-/// The trie that these packed units are.
-pub fn of_data(data: ZeroVec<'_, u16>) -> Char16Trie<'_> {
-    Char16Trie::new(data)
-}
-
 /// The trie of these units.
-pub fn trie_of(alloc: Global, units: &[u16]) -> Result<Char16Trie<'static>, MemoryError> {
-    Ok(of_data(packed_of(alloc, units)?))
+fn trie_of(alloc: Global, units: &[u16]) -> Result<Char16Trie<'static>, MemoryError> {
+    Ok(Char16Trie::new(packed_of(alloc, units)?))
 }
 
 /// The trie of these units, where there is memory for it.
@@ -47,51 +40,36 @@ pub fn are_same(one: &Char16Trie<'_>, other: &Char16Trie<'_>) -> bool {
     *one == *other
 }
 
+/// The units of a trie.
+pub fn units_of<'a>(trie: &'a Char16Trie<'_>) -> ZeroSlice<'a, u16> {
+    view_of(&trie.data)
+}
+
 /// The cursor at the root.
 pub fn cursor_of<'a>(trie: &'a Char16Trie<'_>) -> Char16TrieCursor<'a> {
     trie.cursor()
-}
-
-/// One more unit.
-pub fn pass(cursor: &mut Char16TrieCursor<'_>, unit: u16) {
-    cursor.step16(unit);
 }
 
 /// The cursor after some units.
 pub fn cursor_after<'a>(trie: &'a Char16Trie<'_>, passed: &[u16]) -> Char16TrieCursor<'a> {
     let mut cursor = cursor_of(trie);
     for unit in passed.iter() {
-        pass(&mut cursor, *unit);
+        cursor.step16(*unit);
     }
     cursor
 }
 
-/// The value where a cursor stands.
-pub fn value_at(cursor: &Char16TrieCursor<'_>) -> Option<i32> {
-    cursor.value()
-}
-
 /// The value of a key, looked up unit by unit.
 pub fn value_of(trie: &Char16Trie<'_>, key: &[u16]) -> Option<i32> {
-    value_at(&cursor_after(trie, key))
-}
-
-/// The iterator at the root.
-pub fn iter_of<'a>(trie: &'a Char16Trie<'_>) -> Char16TrieIterator<'a> {
-    trie.iter()
-}
-
-/// What an iterator tells of one more character.
-pub fn next_result(iterator: &mut Char16TrieIterator<'_>, c: char) -> TrieResult {
-    iterator.next(c)
+    cursor_after(trie, key).value()
 }
 
 /// What the last of these characters gives. `NoValue` before the first.
 pub fn last_result(trie: &Char16Trie<'_>, text: &str) -> TrieResult {
-    let mut iterator = iter_of(trie);
+    let mut iterator = trie.iter();
     let mut result = TrieResult::NoValue;
     for c in text.chars() {
-        result = next_result(&mut iterator, c);
+        result = iterator.next(c);
     }
     result
 }
@@ -185,20 +163,4 @@ pub fn is_trie(alloc: Global, trie: &Char16Trie<'_>) -> Result<bool, MemoryError
 /// How many entries a trie has.
 pub fn count_of(alloc: Global, trie: &Char16Trie<'_>) -> Result<Option<u64>, MemoryError> {
     trie.count_entries(alloc)
-}
-
-/// The units with which keys go on from a cursor.
-pub fn next_units_of(
-    alloc: Global,
-    cursor: &Char16TrieCursor<'_>,
-) -> Result<Vec<u16>, MemoryError> {
-    cursor.next_units(alloc)
-}
-
-/// The value of all keys that go on from a cursor, where they have one.
-pub fn unique_value_of(
-    alloc: Global,
-    cursor: &Char16TrieCursor<'_>,
-) -> Result<Option<i32>, MemoryError> {
-    cursor.unique_value(alloc)
 }

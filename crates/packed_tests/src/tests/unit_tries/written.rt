@@ -1,8 +1,7 @@
 //! Printed texts of errors and of tries.
-use super::support::{last_result, made_trie};
-use crate::tests::support::{expect_text, expect_told};
-use icu_char16trie::char16trie::{Char16JsonError, Char16Trie};
-use std::alloc::{AllocError, Global};
+use super::support::made_trie;
+use crate::tests::support::{expect_shown, expect_told};
+use icu_char16trie::char16trie::{Char16JsonError, TrieResult};
 
 static ERRORS: [(Char16JsonError, &str); 3] = [
     (
@@ -23,15 +22,9 @@ fn texts_of_errors(rt: HostRuntime) {
     }
 }
 
-/// A trie as it is shown, and what it tells of `a`.
-fn shown(alloc: Global, trie: &Char16Trie<'_>) -> Result<String, AllocError> {
-    let result = last_result(trie, "a");
-    format!(in alloc; "{trie:?} {result:?}")
-}
-
 #[test]
 fn trie_and_result_shown(rt: HostRuntime) {
     let trie = made_trie(&rt, &[0x8007]);
-    let text = shown(rt.alloc(), &trie);
-    expect_text(&rt, text, "Char16Trie { data: [32775] } NoMatch");
+    expect_shown(&rt, &trie, "Char16Trie { data: [32775] }");
+    expect_shown(&rt, &TrieResult::NoMatch, "NoMatch");
 }

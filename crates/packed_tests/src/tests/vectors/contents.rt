@@ -1,125 +1,177 @@
-//! What bytes hold, whichever call reads them.
-use super::equality::expect_owned;
-use super::support::{
-    Ends, at_place, bytes_of, bytes_of_view, ends_of, ends_of_view, items_of, items_of_view,
-    lent_of, next_of, view_of,
-};
-use crate::tests::support::{expect_bytes, expect_same, given};
+//! What bytes hold, whichever call reads them, and the bytes that values pack to.
+use super::support::{Ends, ends_of, lent_of, packed_of, view_of};
+use crate::tests::support::{expect_done, expect_same, say, say_refused};
 use icu_zerovec::iter::Iter;
 use icu_zerovec::ule::AsULE;
-use icu_zerovec::{PotentialCodePoint, ZeroVec};
+use icu_zerovec::{MemoryError, PotentialCodePoint, ZeroSlice, ZeroVec};
 use std::fmt::Debug;
 use std::process::Abort;
 
-/// The values stand at their places, and none after them.
+/// The ends of a view.
+fn ends_of_view<T: AsULE>(view: ZeroSlice<'_, T>) -> Ends<T> {
+    (view.len(), view.is_empty(), view.first(), view.last())
+}
+
+/// The last value of the vector that a clone of a view gives.
+fn last_of_clone<T: AsULE>(view: ZeroSlice<'_, T>) -> Option<T> {
+    let clone = view.clone().ok()?;
+    clone.as_zerovec().last()
+}
+
+/// What stands at a place of a vector and of its view, and of the view where the place is known to
+/// be one of its.
+fn at_place<T: AsULE>(vector: &ZeroVec<'_, T>, place: usize) -> [Option<T>; 3] {
+    let view = view_of(vector);
+    let known = if place < view.len() {
+        Some(view.at(place))
+    } else {
+        None
+    };
+    [vector.get(place), view.get(place), known]
+}
+
+/// The next value, and how many are to come before it, counted in two ways.
+fn next_of<T: AsULE>(items: &mut Iter<'_, T>) -> (usize, usize, Option<T>) {
+    (items.len(), items.size_hint().0, items.next())
+}
+
+/// The values stand at their places and come one after another, and none after them.
 fn expect_places<T: AsULE + Debug + PartialEq>(
     rt: &impl Abort,
     vector: &ZeroVec<'_, T>,
     values: &[T],
 ) {
+    let (mut items, mut items_of_view) = (vector.iter(), view_of(vector).iter());
     for place in 0..=values.len() {
-        let want = values.get(place).copied();
-        expect_same(rt, at_place(vector, place), (want, want, want), "a place");
-    }
-}
-
-/// The first and the last value, and how many there are.
-fn expect_ends<T: AsULE + Debug + PartialEq>(
-    rt: &impl Abort,
-    vector: &ZeroVec<'_, T>,
-    values: &[T],
-) {
-    let (first, last) = (values.first().copied(), values.last().copied());
-    let want: Ends<T> = (values.len(), values.is_empty(), first, last);
-    expect_same(rt, ends_of(vector), want, "a vector");
-    expect_same(rt, ends_of_view(view_of(vector)), want, "a view");
-}
-
-/// The values, one after another.
-fn expect_items<T: AsULE + Debug + PartialEq>(
-    rt: &impl Abort,
-    mut items: Iter<'_, T>,
-    values: &[T],
-) {
-    for place in 0..=values.len() {
-        let want = (values.len() - place, values.get(place).copied());
-        expect_same(rt, next_of(&mut items), want, "values to come");
+        let (left, want) = (values.len() - place, values.get(place).copied());
+        expect_same(rt, at_place(vector, place), [want; 3], "a place");
+        let next = [next_of(&mut items), next_of(&mut items_of_view)];
+        expect_same(rt, next, [(left, left, want); 2], "values to come");
     }
 }
 
 /// These bytes are these values, whichever call reads them.
 fn expect_values<T: AsULE + Debug + PartialEq>(rt: &impl Abort, bytes: &[u8], values: &[T]) {
     let vector = lent_of::<T>(rt, bytes);
-    expect_bytes(rt, bytes_of(&vector), bytes);
-    expect_bytes(rt, bytes_of_view(view_of(&vector)), bytes);
+    let view = view_of(&vector);
+    let kept = [vector.as_bytes(), view.as_bytes()];
+    expect_same(rt, kept, [bytes; 2], "the bytes");
+    let (first, last) = (values.first().copied(), values.last().copied());
+    let want: Ends<T> = (values.len(), values.is_empty(), first, last);
+    let ends = ([ends_of(&vector), ends_of_view(view)], last_of_clone(view));
+    expect_same(
+        rt,
+        ends,
+        ([want; 2], last),
+        "a vector, its view and a clone",
+    );
     expect_places(rt, &vector, values);
-    expect_ends(rt, &vector, values);
-    expect_items(rt, items_of(&vector), values);
-    expect_items(rt, items_of_view(view_of(&vector)), values);
 }
 
-/// These bytes are these values, and none are none, borrowed and owned.
+/// Calls: `ZeroVec::parse_bytes`, `ZeroVec::len`, `ZeroVec::is_empty`, `ZeroVec::get`,
+/// `ZeroVec::first`, `ZeroVec::last`, `ZeroVec::iter`, `ZeroVec::as_bytes`, `ZeroVec::as_slice`,
+/// `ZeroSlice::len`, `ZeroSlice::is_empty`, `ZeroSlice::get`, `ZeroSlice::at`, `ZeroSlice::first`,
+/// `ZeroSlice::last`, `ZeroSlice::iter`, `ZeroSlice::as_bytes`, `ZeroSlice::as_zerovec`,
+/// `Iter::next`, `Iter::len`, `Iter::size_hint`.
+#[test]
+fn reads_quiet(rt: HostRuntime) {
+    say(&rt, "call");
+    expect_values::<u32>(&rt, &[0x41, 0, 0, 0, 0x42, 0, 0, 0], &[0x41, 0x42]);
+    expect_values::<u32>(&rt, &[], &[]);
+    say(&rt, "done");
+}
+
+/// The call is done, and made a vector of these bytes, or memory was refused.
+fn expect_made<T: AsULE>(
+    rt: &(impl Abort + Print),
+    made: Result<ZeroVec<'_, T>, MemoryError>,
+    bytes: &[u8],
+) {
+    say(rt, "done");
+    match made {
+        Ok(vector) => expect_same(rt, vector.as_bytes(), bytes, "the bytes"),
+        Err(error) => say_refused(rt, error),
+    }
+}
+
+/// These bytes are these values, which pack to them, where memory is not refused.
 fn expect_type<T: AsULE + Debug + PartialEq>(
-    rt: &(impl Abort + AllocGlobal),
+    rt: &(impl Abort + AllocGlobal + Print),
     bytes: &[u8],
     values: &[T],
 ) {
     expect_values(rt, bytes, values);
-    expect_values::<T>(rt, &[], &[]);
-    expect_owned(rt, bytes, values);
+    say(rt, "call");
+    let made = packed_of(rt.alloc(), values);
+    expect_made(rt, made, bytes);
 }
 
+/// The lowest byte stands first.
+///
+/// Calls: `ZeroVec::alloc_from_slice`.
 #[test]
-fn lowest_byte_first(rt: HostRuntime) {
+fn numbers_refused(rt: HostRuntime) {
     expect_type::<u8>(&rt, &[0, 0x7f, 0xff], &[0, 127, 255]);
-    expect_type::<u16>(
-        &rt,
-        &[0x34, 0x12, 0xff, 0, 0xff, 0xff],
-        &[0x1234, 255, 65535],
-    );
-    expect_type::<u32>(
-        &rt,
-        &[0x78, 0x56, 0x34, 0x12, 0, 0, 0, 0x80],
-        &[0x1234_5678, 0x8000_0000],
-    );
-}
-
-#[test]
-fn lowest_byte_of_signed_numbers_first(rt: HostRuntime) {
+    let bytes = [0x34, 0x12, 0xff, 0, 0xff, 0xff];
+    expect_type::<u16>(&rt, &bytes, &[0x1234, 255, 65535]);
+    let bytes = [0x78, 0x56, 0x34, 0x12, 0, 0, 0, 0x80];
+    expect_type::<u32>(&rt, &bytes, &[0x1234_5678, 0x8000_0000]);
     expect_type::<i8>(&rt, &[0, 0x7f, 0x80, 0xff], &[0, 127, -128, -1]);
-    expect_type::<i16>(
-        &rt,
-        &[0xfe, 0xff, 0, 0x80, 0xff, 0x7f],
-        &[-2, -32768, 32767],
-    );
-    expect_type::<i32>(
-        &rt,
-        &[0xfd, 0xff, 0xff, 0xff, 0, 0, 0, 0x80],
-        &[-3, -2_147_483_648],
-    );
+    let bytes = [0xfe, 0xff, 0, 0x80, 0xff, 0x7f];
+    expect_type::<i16>(&rt, &bytes, &[-2, -32768, 32767]);
+    let bytes = [0xfd, 0xff, 0xff, 0xff, 0, 0, 0, 0x80];
+    expect_type::<i32>(&rt, &bytes, &[-3, -2_147_483_648]);
 }
 
+/// A code point takes three bytes.
+///
+/// Calls: `ZeroVec::alloc_from_slice`.
 #[test]
-fn code_points_in_three_bytes(rt: HostRuntime) {
-    expect_type::<char>(
-        &rt,
-        &[0x41, 0, 0, 0xff, 0xd7, 0, 0, 0xe0, 0, 0xff, 0xff, 0x10],
-        &['A', '\u{d7ff}', '\u{e000}', '\u{10ffff}'],
-    );
-    expect_type::<PotentialCodePoint>(
-        &rt,
-        &[0x41, 0, 0, 0, 0xd8, 0, 0xff, 0xff, 0xff],
-        &[
-            PotentialCodePoint::from_u24(0x41),
-            PotentialCodePoint::from_u24(0xd800),
-            PotentialCodePoint::from_u24(0xff_ffff),
-        ],
-    );
+fn code_points_refused(rt: HostRuntime) {
+    let bytes = [0x41, 0, 0, 0xff, 0xd7, 0, 0, 0xe0, 0, 0xff, 0xff, 0x10];
+    let values = ['A', '\u{d7ff}', '\u{e000}', '\u{10ffff}'];
+    expect_type::<char>(&rt, &bytes, &values);
+    let values = [
+        PotentialCodePoint::from_u24(0x41),
+        PotentialCodePoint::from_u24(0xd800),
+        PotentialCodePoint::from_u24(0xff_ffff),
+    ];
+    let bytes = [0x41, 0, 0, 0, 0xd8, 0, 0xff, 0xff, 0xff];
+    expect_type::<PotentialCodePoint>(&rt, &bytes, &values);
 }
 
+/// Characters of a text come from an iterator that does not know how many there are, so memory is
+/// asked for as they come.
+///
+/// Calls: `ZeroVec::alloc_from_iter`.
 #[test]
-fn values_of_an_iterator(rt: HostRuntime) {
-    let codes = ZeroVec::<u32>::alloc_from_iter(rt.alloc(), "AZ".chars().map(|c| u32::from(c)));
-    let want = [0x41, 0, 0, 0, 0x5a, 0, 0, 0];
-    expect_bytes(&rt, bytes_of(&given(&rt, codes)), &want);
+fn alloc_from_iter_refused(rt: HostRuntime) {
+    say(&rt, "call");
+    let made = ZeroVec::<char>::alloc_from_iter(rt.alloc(), "AZ\u{1f600}az".chars());
+    let bytes = [0x41, 0, 0, 0x5a, 0, 0, 0, 0xf6, 1, 0x61, 0, 0, 0x7a, 0, 0];
+    expect_made(&rt, made, &bytes);
+}
+
+/// Calls: `ZeroVec::try_clone`, `ZeroVec::into_owned`.
+#[test]
+fn owned_copies_refused(rt: HostRuntime) {
+    let bytes = [0x34, 0x12, 255, 0];
+    let vector = lent_of::<u16>(&rt, &bytes);
+    say(&rt, "call");
+    let cloned = vector.try_clone(rt.alloc());
+    expect_made(&rt, cloned, &bytes);
+    say(&rt, "call");
+    let owned = vector.into_owned(rt.alloc());
+    expect_made(&rt, owned, &bytes);
+}
+
+/// Calls: `AsULE::shown`, `AsULE::to_unaligned`, `AsULE::from_unaligned`.
+#[test]
+fn packed_values_quiet(rt: HostRuntime) {
+    say(&rt, "call");
+    0x1234_u16.shown();
+    let packed = 0x1234_u16.to_unaligned();
+    let read = u16::from_unaligned(&[0x34, 0x12]);
+    let want = ([0x34, 0x12, 0, 0], Some(0x1234));
+    expect_done(&rt, (packed, read), want, "a value, packed and read");
 }

@@ -1,69 +1,77 @@
 //! The same bytes as values of another type of the same width.
 ghost use Rattle.std.specs.Prelude.{◌≡◌};
 
-use super::support::{are_same, bytes_of, last_of, lent_of, packed_of, parsed};
-use crate::tests::support::{expect, expect_bytes, expect_same, given};
+use super::support::{Ends, ends_of, lent_of};
+use crate::tests::support::{expect_done, expect_same, given, say};
 use icu_zerovec::ule::{AsULE, UleError};
 use icu_zerovec::{PotentialCodePoint, ZeroVec};
 use std::process::Abort;
 
 /// The vector as one of another type of the same width.
-pub fn converted<'a, T: AsULE, P: AsULE>(vector: ZeroVec<'a, T>) -> Result<ZeroVec<'a, P>, UleError>
+fn converted<'a, T: AsULE, P: AsULE>(vector: ZeroVec<'a, T>) -> Result<ZeroVec<'a, P>, UleError>
     requires { T.WIDTH ≡ P.WIDTH }
 {
     vector.try_into_converted::<P>()
 }
 
-/// The vector is equal to one that is made of these values.
-fn expect_list<T: AsULE>(rt: &(impl Abort + AllocGlobal), vector: &ZeroVec<'_, T>, values: &[T]) {
-    let made = given(rt, packed_of(rt.alloc(), values));
-    expect(rt, are_same(vector, &made), "the values");
+/// The ends of these bytes as values of one type, and then of another one of the same width.
+fn ends_of_converted<T: AsULE, P: AsULE>(rt: &impl Abort, bytes: &[u8]) -> Result<Ends<P>, UleError>
+    requires { T.WIDTH ≡ P.WIDTH }
+{
+    match converted::<T, P>(lent_of(rt, bytes)) {
+        Ok(vector) => Ok(ends_of(&vector)),
+        Err(error) => Err(error),
+    }
 }
 
-/// The bytes of numbers without sign as numbers with sign.
-pub fn signed_of<'a>(rt: &impl Abort, bytes: &'a [u8]) -> ZeroVec<'a, i32> {
-    given(rt, converted(lent_of::<u32>(rt, bytes)))
-}
+/// -1 and 5, or the greatest number and 5.
+const NUMBERS: [u8; 8] = [0xff, 0xff, 0xff, 0xff, 5, 0, 0, 0];
 
+/// A letter and an emoji.
+const LETTERS: [u8; 6] = [0x41, 0, 0, 0, 0xf6, 1];
+
+/// A letter, a surrogate, and a number above the code points.
+const NO_CHARACTERS: [u8; 9] = [0x41, 0, 0, 0, 0xd8, 0, 0, 0, 0x11];
+
+/// Calls: `ZeroVec::try_into_converted`.
 #[test]
-fn numbers_converted(rt: HostRuntime) {
-    let bytes = [0xff, 0xff, 0xff, 0xff, 5, 0, 0, 0];
-    expect_list(&rt, &signed_of(&rt, &bytes), &[-1, 5]);
-    let unsigned = given(&rt, converted::<i32, u32>(signed_of(&rt, &bytes)));
-    expect_bytes(&rt, bytes_of(&unsigned), &bytes);
-    expect_list(&rt, &unsigned, &[0xffff_ffff, 5]);
+fn conversions_quiet(rt: HostRuntime) {
+    say(&rt, "call");
+    let found = ends_of_converted::<u32, i32>(&rt, &NUMBERS);
+    let want = Ok((2, false, Some(-1), Some(5)));
+    expect_same(&rt, found, want, "numbers with sign");
+    let found = ends_of_converted::<i32, u32>(&rt, &NUMBERS);
+    let want = Ok((2, false, Some(0xffff_ffff), Some(5)));
+    expect_same(&rt, found, want, "numbers without");
+    let found = ends_of_converted::<char, PotentialCodePoint>(&rt, &LETTERS);
+    let letter = PotentialCodePoint::from_u24(0x41);
+    let last = PotentialCodePoint::from_u24(0x1_f600);
+    let want = Ok((2, false, Some(letter), Some(last)));
+    expect_same(&rt, found, want, "code points");
+    let found = ends_of_converted::<PotentialCodePoint, char>(&rt, &LETTERS);
+    let want = Ok((2, false, Some('A'), Some('\u{1f600}')));
+    expect_same(&rt, found, want, "characters");
+    let found = ends_of_converted::<PotentialCodePoint, char>(&rt, &NO_CHARACTERS);
+    expect_done(&rt, found, Err(UleError::Cell(1)), "the first surrogate");
 }
 
-/// The bytes of characters as code points.
-pub fn points_of<'a>(rt: &impl Abort, bytes: &'a [u8]) -> ZeroVec<'a, PotentialCodePoint> {
-    given(rt, converted(lent_of::<char>(rt, bytes)))
+/// The ends of these bytes as numbers without sign, and then as numbers with sign, which keep the
+/// bytes.
+fn ends_of_taken(rt: &(impl Abort + AllocGlobal), bytes: Vec<u8>) -> Ends<i32> {
+    let unsigned = given(rt, ZeroVec::<u32>::parse_owned(bytes));
+    let signed = given(rt, converted::<u32, i32>(unsigned));
+    ends_of(&given(rt, signed.into_owned(rt.alloc())))
 }
 
-/// The bytes of code points as characters.
-fn characters_of(bytes: &[u8]) -> Result<ZeroVec<'_, char>, UleError> {
-    converted(parsed::<PotentialCodePoint>(bytes)?)
-}
-
-/// The number of the last of these characters, by its code point.
-fn last_number(rt: &impl Abort, bytes: &[u8]) -> Option<u32> {
-    let point = last_of(&points_of(rt, bytes))?;
-    Some(u32::from(point))
-}
-
+/// A vector that owns its bytes does so once it is converted, and keeps them.
+///
+/// Calls: `ZeroVec::parse_owned`, `ZeroVec::try_into_converted`, `ZeroVec::into_owned`.
 #[test]
-fn characters_converted(rt: HostRuntime) {
-    let letters = [0x41, 0, 0, 0, 0xf6, 1];
-    let last = last_number(&rt, &letters);
-    expect_same(&rt, last, Some(0x1_f600), "the last point");
-    let back = given(
-        &rt,
-        converted::<PotentialCodePoint, char>(points_of(&rt, &letters)),
-    );
-    expect_same(&rt, last_of(&back), Some('\u{1f600}'), "the last character");
-}
-
-#[test]
-fn points_that_are_no_characters(rt: HostRuntime) {
-    let refused = characters_of(&[0x41, 0, 0, 0, 0xd8, 0, 0, 0, 0x11]).err();
-    expect_same(&rt, refused, Some(UleError::Cell(1)), "the first surrogate");
+fn owned_bytes_quiet(rt: HostRuntime) {
+    let Ok(bytes) = Vec::from_slice(rt.alloc(), &NUMBERS) else {
+        return;
+    };
+    say(&rt, "call");
+    let ends = ends_of_taken(&rt, bytes);
+    expect_done(&rt, ends, (2, false, Some(-1), Some(5)), "-1 and 5");
 }

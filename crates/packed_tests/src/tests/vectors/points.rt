@@ -1,5 +1,5 @@
 //! Numbers of 24 bits as code points that may be none.
-use crate::tests::support::{expect, expect_same, hash_of};
+use crate::tests::support::{expect, expect_same, hash_of, say};
 use icu_zerovec::PotentialCodePoint;
 use std::process::Abort;
 
@@ -8,31 +8,33 @@ use std::process::Abort;
 fn expect_number(rt: &impl Abort, number: u32, want: Option<u32>) {
     match PotentialCodePoint::try_from(number) {
         Ok(point) => {
-            expect_same(rt, want, None, "refused");
-            expect_same(rt, u32::from(point), number, "number");
-            expect_same(rt, hash_of(&point), hash_of(&number), "hash");
+            let found = (None, u32::from(point), hash_of(&point));
+            expect_same(rt, found, (want, number, hash_of(&number)), "a point");
         }
         Err(refused) => expect_same(rt, Some(refused), want, "refused"),
     }
 }
 
-#[test]
-fn potential_code_points(rt: HostRuntime) {
-    for (number, want) in [
-        (0, None),
-        (0x11_0000, None),
-        (0xff_ffff, None),
-        (0x100_0000, Some(0x100_0000)),
-        (u32::MAX, Some(u32::MAX)),
-    ] {
-        expect_number(&rt, number, want);
-    }
-}
+/// Numbers, and those that are refused.
+static NUMBERS: [(u32, Option<u32>); 5] = [
+    (0, None),
+    (0x11_0000, None),
+    (0xff_ffff, None),
+    (0x100_0000, Some(0x100_0000)),
+    (u32::MAX, Some(u32::MAX)),
+];
 
+/// Points are in the order of their numbers.
+///
+/// Calls: `PotentialCodePoint::from_u24`, `PotentialCodePoint::try_from`.
 #[test]
-fn potential_code_points_in_order(rt: HostRuntime) {
+fn potential_code_points_quiet(rt: HostRuntime) {
+    say(&rt, "call");
+    for (number, want) in NUMBERS.iter() {
+        expect_number(&rt, *number, *want);
+    }
     let low = PotentialCodePoint::from_u24(0xff);
     let high = PotentialCodePoint::from_u24(0x100);
-    expect(&rt, low < high, "0xff is below 0x100");
-    expect(&rt, low != high, "0xff is not 0x100");
+    say(&rt, "done");
+    expect(&rt, low < high && low != high, "0xff is below 0x100");
 }

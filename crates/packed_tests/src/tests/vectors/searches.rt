@@ -1,7 +1,21 @@
 //! Searched places.
-use super::support::{lent_of, places_of};
-use crate::tests::support::{expect_same, given};
-use icu_zerovec::ZeroVec;
+use super::support::{lent_of, view_of};
+use crate::tests::support::{expect_same, say};
+use icu_zerovec::ule::AsULE;
+use std::fmt::Debug;
+use std::process::Abort;
+
+/// A value has this place among those of the bytes, in a vector and in its view.
+fn expect_place<T: AsULE + Debug + Ord>(
+    rt: &impl Abort,
+    bytes: &[u8],
+    x: T,
+    want: Result<usize, usize>,
+) {
+    let vector = lent_of::<T>(rt, bytes);
+    let places = [vector.binary_search(&x), view_of(&vector).binary_search(&x)];
+    expect_same(rt, (x, places), (x, [want; 2]), "a place");
+}
 
 /// The tens, and 256.
 const TENS: [u8; 8] = [10, 0, 20, 0, 30, 0, 0, 1];
@@ -19,39 +33,18 @@ static PLACES: [(u16, Result<usize, usize>); 9] = [
     (257, Err(4)),
 ];
 
-#[test]
-fn searched_places(rt: HostRuntime) {
-    for (x, want) in PLACES.iter() {
-        let found = places_of(&lent_of(&rt, &TENS), *x);
-        expect_same(&rt, found, [*want; 2], "a place among the tens");
-    }
-}
-
 /// -128, -1, 0 and 127.
 const SIGNED: [u8; 4] = [0x80, 0xff, 0, 0x7f];
 
-/// Bytes of numbers with sign, a number, and its place among them.
-static SIGNED_PLACES: [(&[u8], i8, Result<usize, usize>); 3] = [
-    (&[], 7, Err(0)),
-    (&SIGNED, -1, Ok(1)),
-    (&SIGNED, -2, Err(1)),
-];
-
+/// Calls: `ZeroVec::binary_search`, `ZeroSlice::binary_search`.
 #[test]
-fn searched_places_of_signed_numbers(rt: HostRuntime) {
-    for (bytes, x, want) in SIGNED_PLACES.iter() {
-        let found = places_of(&lent_of(&rt, bytes), *x);
-        expect_same(&rt, (*x, found), (*x, [*want; 2]), "a number with sign");
+fn searches_quiet(rt: HostRuntime) {
+    say(&rt, "call");
+    for (x, want) in PLACES.iter() {
+        expect_place(&rt, &TENS, *x, *want);
     }
-}
-
-#[test]
-fn searched_places_among_fifty(rt: HostRuntime) {
-    let evens = ZeroVec::<u32>::alloc_from_iter(rt.alloc(), (0..50_u32).map(|i| i.wrapping_mul(2)));
-    let evens = given(&rt, evens);
-    for x in 0..100_u32 {
-        let half = (x / 2) as usize;
-        let want = if x % 2 == 0 { Ok(half) } else { Err(half + 1) };
-        expect_same(&rt, places_of(&evens, x), [want; 2], "among fifty");
-    }
+    expect_place::<i8>(&rt, &[], 7, Err(0));
+    expect_place::<i8>(&rt, &SIGNED, -1, Ok(1));
+    expect_place::<i8>(&rt, &SIGNED, -2, Err(1));
+    say(&rt, "done");
 }

@@ -1,0 +1,43 @@
+//! Vectors are equal, and hash alike, by their lists of values, whoever owns the bytes.
+use super::support::{lent_of, packed_of, view_of};
+use crate::tests::support::{expect_same, hash_of, say};
+use icu_zerovec::ZeroVec;
+
+/// Whether two vectors and their views are equal, and whether their hashes are.
+fn are_alike(one: &ZeroVec<'_, u16>, other: &ZeroVec<'_, u16>) -> [bool; 4] {
+    let (view, other_view) = (view_of(one), view_of(other));
+    [
+        *one == *other,
+        view == other_view,
+        hash_of(one) == hash_of(other),
+        hash_of(&view) == hash_of(&other_view),
+    ]
+}
+
+/// Bytes of lists, and whether they are the list of 1 alone.
+static LISTS: [(&[u8], bool); 5] = [
+    (&[1, 0], true),
+    (&[], false),
+    (&[0, 1], false),
+    (&[1, 0, 0, 0], false),
+    (&[1, 0, 1, 0], false),
+];
+
+/// Calls: `ZeroVec::parse_bytes`, `ZeroVec::as_slice`.
+#[test]
+fn comparisons_quiet(rt: HostRuntime) {
+    let Ok(owner) = packed_of(rt.alloc(), &[1_u16]) else {
+        return;
+    };
+    say(&rt, "call");
+    for (bytes, want) in LISTS.iter() {
+        let found = are_alike(&owner, &lent_of(&rt, bytes));
+        expect_same(
+            &rt,
+            (*bytes, found),
+            (*bytes, [*want; 4]),
+            "1 and another list",
+        );
+    }
+    say(&rt, "done");
+}
