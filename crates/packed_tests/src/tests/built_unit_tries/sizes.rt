@@ -1,9 +1,11 @@
 //! How many units tries have, and that large ones are built.
-use super::support::{Entry, build, built, expect_added, new_builder};
+use super::support::{Entry, add, build, built, expect_added, new_builder};
 use super::worked_tries::TWELVE;
 use crate::tests::support::{expect_same, given};
 use crate::tests::unit_tries::support::value_of;
 use icu_char16trie::char16trie::Char16Trie;
+use icu_char16trie_builder::builder::Char16TrieBuilder;
+use icu_char16trie_builder::error::AddError;
 use std::alloc::{AllocError, Global};
 use std::process::Abort;
 
@@ -46,36 +48,100 @@ fn long_key(alloc: Global, count: usize) -> Result<Vec<u16>, AllocError> {
     vec![in alloc; 5; count]
 }
 
-/// The longest key takes 4,095 linear matches of 16 units and one of 15, each with its lead, and
-/// the value.
 #[test]
-fn lengths(rt: HostRuntime) {
+fn length_of_twelve_keys(rt: HostRuntime) {
     expect_same(&rt, len_of(&rt, &TWELVE), 45, "as many units as ICU's");
-    let key = given(&rt, long_key(rt.alloc(), 65_535));
-    let len = len_of(&rt, &[(key.as_slice(), 2)]);
-    expect_same(&rt, len, 65_535 + 4096 + 1, "units");
 }
 
-/// A trie of keys of one unit each, all but the greatest, each with its unit as value.
-fn trie_of_units(rt: &(impl Abort + AllocGlobal)) -> Char16Trie<'static> {
+/// What a builder of no entries answers for four keys: one of 65,536 units, one of 65,535, and both
+/// again.
+fn answers_at_the_limit(
+    builder: &mut Char16TrieBuilder,
+    longest: &[u16],
+    longer: &[u16],
+) -> [Result<(), AddError>; 4] {
+    [
+        add(builder, longer, 1),
+        add(builder, longest, 2),
+        add(builder, longer, 3),
+        add(builder, longest, 4),
+    ]
+}
+
+/// The trie has the longest key with the value 2, and not the longer one: 4,095 linear matches of
+/// 16 units and one of 15, each with its lead, and the value.
+fn expect_longest(rt: &impl Abort, trie: &Char16Trie<'_>, longest: &[u16], longer: &[u16]) {
+    let found = [value_of(trie, longest), value_of(trie, longer)];
+    expect_same(rt, found, [Some(2), None], "65,535 units, and 65,536");
+    expect_same(rt, trie.data.len(), 65_535 + 4096 + 1, "units");
+}
+
+/// Of both keys only the first one is added, once.
+#[test]
+fn longest_keys(rt: HostRuntime) {
+    let longest = given(&rt, long_key(rt.alloc(), 65_535));
+    let longer = given(&rt, long_key(rt.alloc(), 65_536));
     let mut builder = new_builder(rt.alloc());
-    for unit in 0..0xFFFF {
+    let answers = answers_at_the_limit(&mut builder, &longest, &longer);
+    let (long, again) = (Err(AddError::KeyTooLong), Err(AddError::Duplicate));
+    expect_same(&rt, answers, [long, Ok(()), long, again], "the answers");
+    expect_longest(&rt, &given(&rt, build(builder)), &longest, &longer);
+}
+
+/// A trie of keys of one unit, those below `count`, each with its unit as value.
+fn trie_of_units(rt: &(impl Abort + AllocGlobal), count: u16) -> Char16Trie<'static> {
+    let mut builder = new_builder(rt.alloc());
+    for unit in 0..count {
         expect_added(rt, &mut builder, &[unit], i32::from(unit));
     }
     given(rt, build(builder))
 }
 
-/// The values of the first key, of the last one and of none.
-fn values_of_ends(trie: &Char16Trie<'_>) -> [Option<i32>; 3] {
-    [
-        value_of(trie, &[0]),
-        value_of(trie, &[0xFFFE]),
-        value_of(trie, &[0xFFFF]),
-    ]
+/// The trie has the units below `count` as keys, each with its unit as value, and no other one.
+fn expect_units(rt: &impl Abort, trie: &Char16Trie<'_>, count: u16) {
+    for unit in 0..0xFFFF {
+        let want = (unit < count).then_some(i32::from(unit));
+        expect_same(rt, value_of(trie, &[unit]), want, "a key of one unit");
+    }
 }
 
 #[test]
-fn branch_of_all_units(rt: HostRuntime) {
-    let values = values_of_ends(&trie_of_units(&rt));
-    expect_same(&rt, values, [Some(0), Some(0xFFFE), None], "the ends");
+fn branches_of_many_units(rt: HostRuntime) {
+    for count in [1, 2, 5, 6, 0x30, 0x31, 300, 0xFFFF] {
+        expect_units(&rt, &trie_of_units(&rt, count), count);
+    }
+}
+
+/// A key of 20,000 units k.
+fn copies_of(alloc: Global, k: u16) -> Result<Vec<u16>, AllocError> {
+    vec![in alloc; k; 20_000]
+}
+
+/// A trie of ten keys, of which key k is 20,000 units k, with the value k.
+fn trie_of_ten(rt: &(impl Abort + AllocGlobal)) -> Char16Trie<'static> {
+    let mut builder = new_builder(rt.alloc());
+    for k in 1..11 {
+        let key = given(rt, copies_of(rt.alloc(), k));
+        expect_added(rt, &mut builder, key.as_slice(), i32::from(k));
+    }
+    given(rt, build(builder))
+}
+
+/// The values of a key, and of the key without its last unit.
+fn values_at_the_end(trie: &Char16Trie<'_>, key: &[u16]) -> [Option<i32>; 2] {
+    match key.split_last() {
+        Some((_, shorter)) => [value_of(trie, key), value_of(trie, shorter)],
+        None => [None; 2],
+    }
+}
+
+/// A delta passes 0xFBFF, and needs two units.
+#[test]
+fn ten_keys_of_20_000_units(rt: HostRuntime) {
+    let trie = trie_of_ten(&rt);
+    for k in 1..11 {
+        let key = given(&rt, copies_of(rt.alloc(), k));
+        let found = values_at_the_end(&trie, key.as_slice());
+        expect_same(&rt, found, [Some(i32::from(k)), None], "a long key");
+    }
 }
