@@ -2,12 +2,9 @@
 //! sizes, each public call on its happy path, and refused memory; and the callers in `uses`.
 
 mod amended_maps;
-mod built_tries;
 mod callers;
 mod compaction;
 mod getters;
-mod mapped;
-mod maps_of_both_widths;
 mod random_maps;
 mod ranges;
 mod refused_memory;

@@ -4,7 +4,7 @@ mod errors;
 mod stored;
 
 use crate::tests::support::{
-    builder_of, built, expect, expect_ends, expect_numbers, expect_ok, expect_same, number_at,
+    builder_of, built, expect, expect_numbers, expect_ok, expect_same, expect_set, number_at,
     run_of,
 };
 use icu_collections::char16trie::{Char16Trie, TrieResult};
@@ -12,9 +12,8 @@ use icu_collections::codepointinvlist::{
     CodePointInversionList, CodePointInversionListBuilder, FrozenCodePointSet,
 };
 use icu_collections::codepointtrie::{CodePointTrie, CodePointTrieHeader, TrieType, Write};
+use icu_collections::zerovec::ZeroVec;
 use icu_collections::zerovec::ule::AsULE;
-use icu_collections::zerovec::{MemoryError, ZeroVec};
-use std::ops::RangeInclusive;
 use std::process::Abort;
 use uses::categories::Category;
 use uses::{categories, own_cells, sets, strangers, tables, texts, words};
@@ -24,26 +23,6 @@ fn set_of(rt: &(impl Abort + AllocGlobal), ends: &[u32]) -> CodePointInversionLi
     match CodePointInversionList::try_from_u32_inversion_list_slice(rt.alloc(), ends) {
         Ok(set) => set,
         Err(_) => rt.panic("no set"),
-    }
-}
-
-/// A set was made, and has these ends.
-fn expect_set<E>(
-    rt: &(impl Abort + AllocGlobal),
-    made: Result<CodePointInversionList<'_>, E>,
-    ends: &[u32],
-) {
-    match made {
-        Ok(set) => expect_ends(rt, &set, ends),
-        Err(_) => rt.panic("no set"),
-    }
-}
-
-/// How many code points a set holds that was made, and 0 where none was.
-fn size_of<E: Drop>(made: Result<CodePointInversionList<'_>, E>) -> usize {
-    match made {
-        Ok(set) => set.size(),
-        Err(_) => 0,
     }
 }
 
@@ -86,42 +65,73 @@ fn small_header() -> CodePointTrieHeader {
     }
 }
 
-/// The first range of a set, and how many it has.
-fn first_and_count(set: &CodePointInversionList<'_>) -> (Option<RangeInclusive<u32>>, usize) {
-    (sets::first_range(set), sets::count_ranges(set))
+/// A list was made, and is so long.
+fn expect_length<T: Drop>(rt: &impl Abort, made: Option<Vec<T>>, wanted: usize) {
+    match made {
+        Some(list) => expect_same(rt, list.len(), wanted, "how long a list is"),
+        None => rt.panic("no list"),
+    }
 }
 
+/// What is asked of a set of letters and one code point far above, and of that of the BMP.
+fn expect_asked(
+    rt: &impl Abort,
+    set: &CodePointInversionList<'_>,
+    bmp: &CodePointInversionList<'_>,
+) {
+    expect_same(rt, sets::behind_its_front(set, "äb 1"), " 1", "behind");
+    expect_same(rt, sets::before_its_tail(set, "1 äb"), "1 ", "before");
+    for (c, wanted) in [(0x1F600, Some(13)), (0x63, None)] {
+        let found = sets::value_beside(set, &[10, 11, 12, 13], c);
+        expect_same(rt, (c, found), (c, wanted), "the last, and none");
+    }
+    let first = sets::first_range(bmp) == Some(0..=0xFFFF);
+    expect(rt, first, "first");
+    expect(rt, sets::count_ranges(bmp) == 1, "count");
+}
+
+/// The numbers of the code space, those of the BMP, and some.
 #[test]
 fn sets_that_are_asked(rt: HostRuntime) {
     let far = sets::holds_a_far_number(&CodePointInversionList::all());
     expect(&rt, !far, "far");
-    let (first, count) = first_and_count(&CodePointInversionList::bmp());
-    expect(&rt, first == Some(0..=0xFFFF), "first");
-    expect(&rt, count == 1, "count");
+    let ends = [0x61, 0x63, 0xE4, 0xE5, 0x1F600, 0x1F601];
+    expect_asked(&rt, &set_of(&rt, &ends), &CodePointInversionList::bmp());
 }
 
-#[test]
-fn a_set_that_is_stored(rt: HostRuntime) {
-    let set = set_of(&rt, &[0x41, 0x5B]);
-    expect_set(&rt, sets::stored(rt.alloc(), &set), &[0x41, 0x5B]);
+/// What is made of a set of letters, and of two sets.
+fn expect_made(
+    rt: &(impl Abort + AllocGlobal),
+    set: &CodePointInversionList<'_>,
+    other: &CodePointInversionList<'_>,
+) {
+    expect_set(rt, sets::stored(rt.alloc(), set), &[0x41, 0x62]);
+    let changed = sets::changed_letters(rt.alloc(), set);
+    expect_set(rt, changed, &[0x41, 0x61, 0x62, 0x7B]);
+    let same = sets::are_one_set(rt.alloc(), set, other);
+    expect_ok(rt, same, true, "one set");
 }
 
+/// Each has the ends that it is to have; by De Morgan's law two are one.
 #[test]
-fn letters_that_are_changed(rt: HostRuntime) {
+fn sets_that_are_made(rt: HostRuntime) {
     let set = set_of(&rt, &[0x41, 0x62]);
-    let changed = sets::changed_letters(rt.alloc(), &set);
-    expect_set(&rt, changed, &[0x41, 0x61, 0x62, 0x7B]);
+    expect_made(&rt, &set, &CodePointInversionList::bmp());
 }
 
+/// A code point to a set, and a write to a map.
 #[test]
-fn a_code_point_that_is_added(rt: HostRuntime) {
-    let mut builder = CodePointInversionListBuilder::new(rt.alloc());
-    expect(&rt, sets::try_to_add(&mut builder, 0x41), "added");
-    expect_set(&rt, builder.build(), &[0x41, 0x42]);
+fn what_is_added(rt: HostRuntime) {
+    let mut set = CodePointInversionListBuilder::new(rt.alloc());
+    expect(&rt, sets::try_to_add(&mut set, 0x41), "added");
+    expect_set(&rt, set.build(), &[0x41, 0x42]);
+    let mut map = builder_of(rt.alloc(), TrieType::Fast, (0u8, 9));
+    expect(&rt, tables::try_to_write(&mut map, 0x41, 1), "written");
 }
 
+/// By a list of writes, by calls one by one, by two lists and by a map of the values.
 #[test]
-fn tables_that_are_built(rt: HostRuntime) {
+fn values_of_tables(rt: HostRuntime) {
     let alloc = rt.alloc();
     expect_ok(&rt, tables::value_of_a(alloc), 1, "A");
     let category = tables::general_category(alloc, &rows(), 'Z');
@@ -131,13 +141,31 @@ fn tables_that_are_built(rt: HostRuntime) {
     expect_ok(&rt, amended, 7, "amended");
     let twice = tables::written_twice(alloc, 0u16, 9, (0x41, 300), (0x41, 301), 0x41);
     expect_ok(&rt, twice, 301, "twice");
-    let mut builder = builder_of(alloc, TrieType::Fast, (0u8, 9));
-    expect(&rt, tables::try_to_write(&mut builder, 0x41, 1), "written");
+    let next = tables::next_value(alloc, &rows(), 0x41);
+    expect_ok(&rt, next, 2, "one more");
+    let cells = uses::built::cells_of(alloc, 0u8, 9, TrieType::Small, &rows());
+    expect(&rt, cells.is_ok(), "cells");
+    let set = tables::set_of_category(alloc, &rows(), 2);
+    expect_set(&rt, set, &[0x5A, 0x5B, 0x61, 0x7B]);
+}
+
+/// Texts, and whether they are surely normal: empty, of 1 alone, one in which Z has 2, and one in
+/// which 1 has 0.
+const NORMAL: [(&str, bool); 4] = [("", true), ("ABY", true), ("ABZ", false), ("A1", false)];
+
+/// What is asked of the table of the rows.
+fn expect_table(rt: &(impl Abort + AllocGlobal), trie: &CodePointTrie<'_, u8>) {
+    let stored = tables::stored_value(rt.alloc(), trie, 0x11_0000);
+    expect_ok(rt, stored, 9, "stored");
+    expect(rt, tables::value_by_type(trie, 'a') == 2, "by its type");
+    for (text, wanted) in NORMAL {
+        let found = texts::is_surely_normal(trie, text);
+        expect_same(rt, (text, found), (text, wanted), "normal");
+    }
 }
 
 /// The table of the rows with 7 at two of its code points.
-#[test]
-fn a_table_that_is_changed(rt: HostRuntime) {
+fn expect_changed(rt: &(impl Abort + AllocGlobal), trie: &CodePointTrie<'_, u8>) {
     let expected = [
         (0x41, 1),
         (0x42, 7),
@@ -146,38 +174,34 @@ fn a_table_that_is_changed(rt: HostRuntime) {
         (0x5A, 2),
         (0x11_0000, 9),
     ];
-    match tables::with_range_changed(rt.alloc(), &table(&rt), 0x42..=0x43, 7) {
-        Ok(changed) => expect_numbers(&rt, &changed, &expected),
+    match tables::with_range_changed(rt.alloc(), trie, 0x42..=0x43, 7) {
+        Ok(changed) => expect_numbers(rt, &changed, &expected),
         Err(_) => rt.panic("changed"),
     }
 }
 
-#[test]
-fn values_by_other_calls(rt: HostRuntime) {
-    let next = tables::next_value(rt.alloc(), &rows(), 0x41);
-    expect_ok(&rt, next, 2, "one more");
-    let value = tables::value_by_type(&table(&rt), 'a');
-    expect(&rt, value == 2, "by its type");
-}
-
-#[test]
-fn a_table_that_is_stored(rt: HostRuntime) {
-    let found = tables::stored_value(rt.alloc(), &table(&rt), 0x11_0000);
-    expect_ok(&rt, found, 9, "stored");
-}
-
-#[test]
-fn the_set_of_a_category(rt: HostRuntime) {
-    let set = tables::set_of_category(rt.alloc(), &rows(), 2);
-    expect_set(&rt, set, &[0x5A, 0x5B, 0x61, 0x7B]);
-}
-
-#[test]
-fn the_runs_of_rows(rt: HostRuntime) {
-    match tables::runs_of_rows(rt.alloc(), &rows()) {
-        Ok(ranges) => expect(&rt, ranges.len() == 6, "six runs"),
-        Err(_) => rt.panic("ranges"),
+/// The ranges of the table, of 2 and of each value; A to Y, of 1; and the set of 1.
+fn expect_runs(rt: &(impl Abort + AllocGlobal), trie: &CodePointTrie<'_, u8>) {
+    let alloc = rt.alloc();
+    expect_length(rt, tables::runs_of_rows(alloc, &rows()).ok(), 6);
+    expect_length(rt, tables::runs_of_having(alloc, trie, 2).ok(), 5);
+    expect_length(rt, tables::trusted_ranges_of(alloc, trie, 2), 2);
+    expect_length(rt, strangers::trusted_runs(alloc, trie), 6);
+    match strangers::trusted_range(trie, 'A') {
+        Some(range) => expect_same(rt, run_of(&range), (0x41, 0x59, 1), "A to Y"),
+        None => rt.panic("range"),
     }
+    let ones = tables::trusted_set(alloc, trie, 1);
+    expect_set(rt, ones.ok_or(()), &[0x41, 0x5A]);
+}
+
+/// The table of the rows: its values, its ranges, and a changed copy.
+#[test]
+fn a_table_that_is_asked(rt: HostRuntime) {
+    let trie = table(&rt);
+    expect_table(&rt, &trie);
+    expect_changed(&rt, &trie);
+    expect_runs(&rt, &trie);
 }
 
 /// The trie has this number of a word.
@@ -186,6 +210,16 @@ fn expect_word(rt: &impl Abort, trie: &Char16Trie<'_>, word: &str, wanted: Optio
     expect_same(rt, (word, found), (word, wanted), "a word");
 }
 
+/// Texts, each with the longest word that begins it, and that word's number: "ab" of "abc", "a" of
+/// "ac", and none of "b" and of the empty text.
+static LONGEST: [(&[u16], Option<(usize, i32)>); 4] = [
+    (&[0x61, 0x62, 0x63], Some((2, 2))),
+    (&[0x61, 0x63], Some((1, 1))),
+    (&[0x62], None),
+    (&[], None),
+];
+
+/// A word, a character that words begin with, and the longest word of a text.
 #[test]
 fn words_that_are_looked_up(rt: HostRuntime) {
     let trie = word_trie(&rt);
@@ -193,6 +227,10 @@ fn words_that_are_looked_up(rt: HostRuntime) {
     expect_word(&rt, &trie, "b", None);
     let first = words::first_result(&trie, 'a');
     expect(&rt, first == TrieResult::Intermediate(1), "a");
+    for (text, wanted) in LONGEST.iter() {
+        let found = words::longest_word(&trie, text);
+        expect_same(&rt, (*text, found), (*text, *wanted), "the longest word");
+    }
 }
 
 /// There is a list of these two texts and their numbers.
@@ -202,68 +240,42 @@ fn expect_listed(rt: &impl Abort, list: Option<Vec<(String, i32)>>, wanted: [(&s
     };
     match list.as_slice() {
         [(first, one), (second, two)] => {
-            expect_same(rt, first.as_str(), wanted[0].0, "the first text");
-            expect_same(rt, second.as_str(), wanted[1].0, "the second text");
-            let numbers = [wanted[0].1, wanted[1].1];
-            expect_same(rt, [*one, *two], numbers, "their numbers");
+            let found = [(first.as_str(), *one), (second.as_str(), *two)];
+            expect_same(rt, found, wanted, "the texts and their numbers");
         }
         _ => rt.panic("not two"),
     }
 }
 
+/// The two words, and what goes on from "a": nothing more, and "b".
 #[test]
 fn words_that_are_listed(rt: HostRuntime) {
     let list = words::two_words(rt.alloc());
     expect_listed(&rt, list, [("a", 1), ("ab", 2)]);
+    let more = words::completions(rt.alloc(), &word_trie(&rt), "a");
+    expect_listed(&rt, more, [("", 1), ("b", 2)]);
 }
 
-/// What goes on from "a": nothing more, and "b".
-#[test]
-fn words_that_go_on(rt: HostRuntime) {
-    let list = words::completions(rt.alloc(), &word_trie(&rt), "a");
-    expect_listed(&rt, list, [("", 1), ("b", 2)]);
-}
+/// Texts, and how many units the words have into which they are cut.
+static CUT: [(&[u16], &[usize]); 3] = [
+    (&[0x61, 0x62, 0x78, 0x61], &[2, 1, 1]),
+    (&[0x62, 0x61, 0x61, 0x62], &[1, 1, 2]),
+    (&[], &[]),
+];
 
-/// The text is cut into words of so many units.
-fn expect_cut(
-    rt: &(impl Abort + AllocGlobal),
-    trie: &Char16Trie<'_>,
-    text: &[u16],
-    wanted: &[usize],
-) {
-    match words::cut_into_words(rt.alloc(), trie, text) {
-        Some(lengths) => expect_same(rt, lengths.as_slice(), wanted, "the lengths"),
-        None => rt.panic("not cut"),
-    }
-}
-
+/// Each word is the longest one at its place, or one unit.
 #[test]
 fn texts_cut_into_words(rt: HostRuntime) {
     let trie = word_trie(&rt);
-    expect_cut(&rt, &trie, &[0x61, 0x62, 0x78, 0x61], &[2, 1, 1]);
-    expect_cut(&rt, &trie, &[0x62, 0x61, 0x61, 0x62], &[1, 1, 2]);
-    expect_cut(&rt, &trie, &[], &[]);
-}
-
-/// Texts, and whether they are surely normal: empty, of 1 alone, one in which Z has 2, and one in
-/// which 1 has 0.
-const NORMAL: [(&str, bool); 4] = [("", true), ("ABY", true), ("ABZ", false), ("A1", false)];
-
-#[test]
-fn texts_that_are_normal(rt: HostRuntime) {
-    let trie = table(&rt);
-    for (text, wanted) in NORMAL {
-        let found = texts::is_surely_normal(&trie, text);
-        expect_same(&rt, (text, found), (text, wanted), "normal");
+    for (text, wanted) in CUT.iter() {
+        match words::cut_into_words(rt.alloc(), &trie, text) {
+            Some(lengths) => expect_same(&rt, lengths.as_slice(), *wanted, "the lengths"),
+            None => rt.panic("not cut"),
+        }
     }
 }
 
-#[test]
-fn a_set_that_can_be_trusted(rt: HostRuntime) {
-    let set = tables::trusted_set(rt.alloc(), &table(&rt), 1);
-    expect_set(&rt, set.ok_or(MemoryError), &[0x41, 0x5A]);
-}
-
+/// Cells in slices, and the error value for what is no code point.
 #[test]
 fn cells_of_ones_own(rt: HostRuntime) {
     let mut values = [7; 66];
@@ -274,67 +286,22 @@ fn cells_of_ones_own(rt: HostRuntime) {
     }
 }
 
-/// The longest word that begins the text has so many units, and this number.
-fn expect_longest(
-    rt: &impl Abort,
-    trie: &Char16Trie<'_>,
-    text: &[u16],
-    wanted: Option<(usize, i32)>,
-) {
-    let found = words::longest_word(trie, text);
-    expect_same(rt, (text, found), (text, wanted), "the longest word");
-}
-
-/// "ab" of "abc", "a" of "ac", and none of "b" and of the empty text.
+/// Of the digits, of the letters, and of B, which is neither.
 #[test]
-fn the_longest_word_of_a_text(rt: HostRuntime) {
-    let trie = word_trie(&rt);
-    expect_longest(&rt, &trie, &[0x61, 0x62, 0x63], Some((2, 2)));
-    expect_longest(&rt, &trie, &[0x61, 0x63], Some((1, 1)));
-    expect_longest(&rt, &trie, &[0x62], None);
-    expect_longest(&rt, &trie, &[], None);
-}
-
-/// A table of the digits, of the letters, and of B, which is neither.
-fn category_table(rt: &(impl Abort + AllocGlobal)) -> CodePointTrie<'static, Category> {
+fn categories_of_characters(rt: HostRuntime) {
     let rows = [
         Write::Range(0x30..=0x39, Category::Number),
         Write::Range(0x41..=0x5A, Category::Letter),
         Write::One(0x42, Category::Other),
     ];
-    match categories::categories_of(rt.alloc(), &rows) {
-        Ok(trie) => trie,
-        Err(_) => rt.panic("built"),
-    }
-}
-
-#[test]
-fn categories_of_characters(rt: HostRuntime) {
-    let trie = category_table(&rt);
+    let Ok(trie) = categories::categories_of(rt.alloc(), &rows) else {
+        rt.panic("built");
+    };
     for (c, wanted) in [('A', true), ('B', false), ('1', false)] {
         let found = categories::is_letter(&trie, c);
         expect_same(&rt, (c, found), (c, wanted), "a letter");
     }
     expect(&rt, trie.get('1') == Category::Number, "a number");
-}
-
-#[test]
-fn what_a_built_trie_is(rt: HostRuntime) {
-    let cells = uses::built::cells_of(rt.alloc(), 0u8, 9, TrieType::Small, &rows());
-    expect(&rt, cells.is_ok(), "cells");
-}
-
-#[test]
-fn tries_from_strangers(rt: HostRuntime) {
-    let trie = table(&rt);
-    match strangers::trusted_runs(rt.alloc(), &trie) {
-        Some(runs) => expect(&rt, runs.len() == 6, "six runs"),
-        None => rt.panic("runs"),
-    }
-    match strangers::trusted_range(&trie, 'A') {
-        Some(range) => expect_same(&rt, run_of(&range), (0x41, 0x59, 1), "A to Y, of 1"),
-        None => rt.panic("range"),
-    }
 }
 
 /// What a trie of packed bytes has at 0x41, if they are one.
@@ -345,6 +312,7 @@ fn number_in_bytes(index: &[u8], values: &[u8]) -> Option<u32> {
     }
 }
 
+/// Whole cells, and an index that ends within one.
 #[test]
 fn a_trie_of_bytes(rt: HostRuntime) {
     let found = number_in_bytes(&[0; 128], &[7; 128]);
@@ -353,43 +321,7 @@ fn a_trie_of_bytes(rt: HostRuntime) {
     expect_same(&rt, refused, None, "half a unit");
 }
 
-#[test]
-fn texts_cut_by_a_set(rt: HostRuntime) {
-    let set = set_of(&rt, &[0x61, 0x7B, 0xE4, 0xE5]);
-    expect_same(&rt, sets::behind_its_front(&set, "äb 1"), " 1", "behind");
-    expect_same(&rt, sets::before_its_tail(&set, "1 äb"), "1 ", "before");
-}
-
-#[test]
-fn values_beside_a_set(rt: HostRuntime) {
-    let set = set_of(&rt, &[0x61, 0x63, 0x1F600, 0x1F601]);
-    for (c, wanted) in [(0x1F600, Some(12)), (0x63, None)] {
-        let found = sets::value_beside(&set, &[10, 11, 12], c);
-        expect_same(&rt, (c, found), (c, wanted), "the third, and none");
-    }
-}
-
-#[test]
-fn what_neither_set_holds(rt: HostRuntime) {
-    let first = set_of(&rt, &[0x61, 0x63]);
-    let second = set_of(&rt, &[0, 0x10]);
-    let same = sets::are_one_set(rt.alloc(), &first, &second);
-    expect_ok(&rt, same, true, "one set");
-}
-
-#[test]
-fn runs_that_are_mapped(rt: HostRuntime) {
-    let trie = table(&rt);
-    match tables::runs_of_having(rt.alloc(), &trie, 2) {
-        Ok(runs) => expect(&rt, runs.len() == 5, "without 2, and with it"),
-        Err(_) => rt.panic("runs"),
-    }
-    match tables::trusted_ranges_of(rt.alloc(), &trie, 2) {
-        Some(ranges) => expect(&rt, ranges.len() == 2, "of 2"),
-        None => rt.panic("ranges"),
-    }
-}
-
+/// Numbers of 16 bits, whose highest one is the difference of one less.
 #[test]
 fn numbers_as_differences(rt: HostRuntime) {
     let rows = [Write::One(0x41, 0xFFFFu16)];
@@ -401,17 +333,13 @@ fn numbers_as_differences(rt: HostRuntime) {
     expect_same(&rt, found, [-1, 32], "one less, and 32 more");
 }
 
-/// The set of these ends, frozen.
-fn frozen_set(rt: &(impl Abort + AllocGlobal), ends: &[u32]) -> FrozenCodePointSet {
-    match FrozenCodePointSet::freeze(rt.alloc(), &set_of(rt, ends)) {
-        Ok(frozen) => frozen,
-        Err(_) => rt.panic("frozen"),
-    }
-}
-
+/// The small letters of a text, among them one of two bytes.
 #[test]
 fn characters_that_are_kept(rt: HostRuntime) {
-    let frozen = frozen_set(&rt, &[0x61, 0x7B, 0xE4, 0xE5]);
+    let set = set_of(&rt, &[0x61, 0x7B, 0xE4, 0xE5]);
+    let Ok(frozen) = FrozenCodePointSet::freeze(rt.alloc(), &set) else {
+        rt.panic("frozen");
+    };
     match sets::kept_characters(rt.alloc(), &frozen, "Über 1 Bär") {
         Ok(kept) => expect_same(&rt, kept.as_str(), "berär", "small letters"),
         Err(_) => rt.panic("kept"),

@@ -1,36 +1,38 @@
-//! Every getter of a trie, values of every type, parts and copies.
+//! Every getter of a trie, values of every type, and parts.
 
 use crate::tests::support::{
-    BOTH, are_same, built, expect, expect_number, expect_same, lent, number_at, sizes_of,
+    BOTH, are_same, built, expect, expect_number, expect_same, number_at, say, try_built,
 };
-use icu_collections::codepointtrie::{CodePointTrie, TrieType, TrieValue, Write};
-use std::alloc::Global;
+use icu_collections::codepointtrie::{CodePointTrie, TrieValue, Write};
 use std::process::Abort;
 
-/// The value is at 0x20000, and these numbers are there and past the code points.
+/// In the tries of both types of this write over the first of the two values, with the second as
+/// the error value, the value is at 0x20000, and these numbers are there and past the code points.
 fn expect_signed<T: TrieValue>(
-    rt: &impl Abort,
-    trie: &CodePointTrie<'_, T>,
+    rt: &(impl Abort + AllocGlobal),
+    values: (T, T),
+    writes: &[Write<T>],
     value: T,
-    numbers: (u32, u32),
+    (number, error_number): (u32, u32),
 ) {
-    expect(rt, trie.get32(0x20000) == value, "the value");
-    for (c, number) in [(0x20000, numbers.0), (0x110000, numbers.1)] {
-        expect_number(rt, c, trie.get32_u32(c), number);
+    for trie_type in BOTH {
+        let trie = built(rt, trie_type, values, writes);
+        expect(rt, trie.get32(0x20000) == value, "the value");
+        expect_number(rt, 0x20000, trie.get32_u32(0x20000), number);
+        expect_number(rt, 0x110000, trie.get32_u32(0x110000), error_number);
     }
 }
 
 /// A negative value keeps its sign, and has the number of its two's complement of 32 bits.
 #[test]
 fn negative_value(rt: HostRuntime) {
-    for trie_type in BOTH {
-        let of_8 = built(&rt, trie_type, (0i8, 9), &[Write::One(0x20000, -1)]);
-        expect_signed(&rt, &of_8, -1, (0xFFFFFFFF, 9));
-        let of_16 = built(&rt, trie_type, (0i16, 9), &[Write::One(0x20000, -300)]);
-        expect_signed(&rt, &of_16, -300, (0xFFFFFED4, 9));
-        let of_32 = built(&rt, trie_type, (0i32, -9), &[Write::One(0x20000, i32::MIN)]);
-        expect_signed(&rt, &of_32, i32::MIN, (0x80000000, 0xFFFFFFF7));
-    }
+    let of_8 = [Write::One(0x20000, -1)];
+    expect_signed(&rt, (0i8, 9), &of_8, -1, (0xFFFFFFFF, 9));
+    let of_16 = [Write::One(0x20000, -300)];
+    expect_signed(&rt, (0i16, 9), &of_16, -300, (0xFFFFFED4, 9));
+    let of_32 = [Write::One(0x20000, i32::MIN)];
+    let numbers = (0x80000000, 0xFFFFFFF7);
+    expect_signed(&rt, (0i32, -9), &of_32, i32::MIN, numbers);
 }
 
 /// The number is that of this value, or of none.
@@ -57,7 +59,7 @@ fn numbers_of_values(rt: HostRuntime) {
 }
 
 /// What the getters answer of a trie of characters.
-fn answers_of(trie: CodePointTrie<'_, char>) -> ([char; 7], [u32; 2]) {
+fn answers_of(trie: &CodePointTrie<'_, char>) -> ([char; 10], [u32; 2]) {
     let characters = [
         trie.get('a'),
         trie.get('\u{10428}'),
@@ -66,6 +68,9 @@ fn answers_of(trie: CodePointTrie<'_, char>) -> ([char; 7], [u32; 2]) {
         trie.get16(0xFFFF),
         trie.get32_supplementary(0x10428),
         trie.get32_supplementary(0x10429),
+        trie.get32(0x10428),
+        trie.error_value(),
+        trie.null_value(),
     ];
     (
         characters,
@@ -73,59 +78,75 @@ fn answers_of(trie: CodePointTrie<'_, char>) -> ([char; 7], [u32; 2]) {
     )
 }
 
-fn expect_answers(rt: &impl Abort, (characters, numbers): ([char; 7], [u32; 2])) {
-    let wanted = ['A', '\u{10400}', 'A', 'B', '-', '\u{10400}', '-'];
-    expect_same(rt, characters, wanted, "characters");
+/// What they are to answer.
+const CHARACTERS: [char; 10] = [
+    'A',
+    '\u{10400}',
+    'A',
+    'B',
+    '-',
+    '\u{10400}',
+    '-',
+    '\u{10400}',
+    '\u{FFFD}',
+    '-',
+];
+
+/// The getters answer so, and take no memory.
+fn expect_answers(rt: &(impl Abort + Print), trie: &CodePointTrie<'_, char>) {
+    say(rt, "call");
+    let (characters, numbers) = answers_of(trie);
+    say(rt, "done");
+    expect_same(rt, characters, CHARACTERS, "characters");
     expect_same(rt, numbers, [0x10400, 0xFFFD], "numbers");
 }
 
 /// Characters that stand for others, as in a mapping of characters to their upper case.
+///
+/// Calls: `CodePointTrie::get`, `CodePointTrie::get16`, `CodePointTrie::get32_supplementary`,
+/// `CodePointTrie::get32`, `CodePointTrie::error_value`, `CodePointTrie::null_value`,
+/// `CodePointTrie::get32_u32`.
 #[test]
-fn each_getter(rt: HostRuntime) {
+fn each_getter_quiet(rt: HostRuntime) {
+    let writes = [
+        Write::One(0x61, 'A'),
+        Write::One(0xD800, 'B'),
+        Write::One(0x10428, '\u{10400}'),
+    ];
     for trie_type in BOTH {
-        let writes = [
-            Write::One(0x61, 'A'),
-            Write::One(0xD800, 'B'),
-            Write::One(0x10428, '\u{10400}'),
-        ];
-        let trie = built(&rt, trie_type, ('-', '\u{FFFD}'), &writes);
-        expect_answers(&rt, answers_of(trie));
+        if let Ok(trie) = try_built(rt.alloc(), trie_type, ('-', '\u{FFFD}'), &writes) {
+            expect_answers(&rt, &trie);
+        }
     }
 }
 
-/// A trie of 5 at 0x20000 and of 0 elsewhere, with this error value.
-fn five(
-    rt: &(impl Abort + AllocGlobal),
-    trie_type: TrieType,
-    error: u16,
-) -> CodePointTrie<'static, u16> {
-    built(rt, trie_type, (0, error), &[Write::One(0x20000, 5)])
+/// Whether the trie of the parts of this one, which it borrows, equals it, and its number at
+/// 0x20000.
+fn lent_answers(trie: &CodePointTrie<'_, u16>) -> Option<(bool, u32)> {
+    let (header, index, data) = trie.parts();
+    match CodePointTrie::try_new(header, index.as_zerovec(), data.as_zerovec()) {
+        Ok(lent) => Some((are_same(&lent, trie), number_at(&lent, 0x20000))),
+        Err(_) => None,
+    }
 }
 
-/// Whether a trie of the parts of this one, which it borrows, equals it, and a copy of that one
-/// does too, and both have 5 at 0x20000.
-fn are_equal(alloc: Global, trie: &CodePointTrie<'_, u16>) -> Option<(bool, bool, u32, u32)> {
-    let lent = lent(trie)?;
-    let copy = lent.try_clone(alloc).ok()?;
-    Some((
-        are_same(&lent, trie),
-        are_same(&copy, trie),
-        number_at(&lent, 0x20000),
-        number_at(&copy, 0x20000),
-    ))
+/// The trie of the parts is the same, and takes no memory.
+fn expect_lent(rt: &(impl Abort + Print), trie: &CodePointTrie<'_, u16>) {
+    say(rt, "call");
+    let found = lent_answers(trie);
+    say(rt, "done");
+    expect_same(rt, found, Some((true, 5)), "lent");
 }
 
-/// A trie of the parts of another one, which it borrows, equals it, and so does a copy. Tries that
-/// differ in their error values alone are not equal.
+/// A trie of the parts of another one, which it borrows, equals it.
+///
+/// Calls: `CodePointTrie::parts`, `CodePointTrie::try_new`, `ZeroSlice::as_zerovec`.
 #[test]
-fn parts_and_copies(rt: HostRuntime) {
+fn lent_parts_quiet(rt: HostRuntime) {
+    let writes = [Write::One(0x20000, 5)];
     for trie_type in BOTH {
-        let trie = five(&rt, trie_type, 9);
-        let (header, _, _) = sizes_of(&trie);
-        expect(&rt, header.trie_type == trie_type, "type");
-        let found = are_equal(rt.alloc(), &trie);
-        expect_same(&rt, found, Some((true, true, 5, 5)), "lent, and a copy");
-        let other = five(&rt, trie_type, 8);
-        expect(&rt, other != trie, "error values");
+        if let Ok(trie) = try_built(rt.alloc(), trie_type, (0, 9), &writes) {
+            expect_lent(&rt, &trie);
+        }
     }
 }

@@ -1,10 +1,9 @@
-//! Maps of random writes, built and asked beside a list of the writes.
+//! Random maps, built and asked beside a plain list of the number of each code point.
 
 use crate::tests::support::{
-    BOTH, Random, Written, all_of, append, expect, expect_number, expect_same, number_at, run_list,
-    sizes_of, sort, trie_of,
+    BOTH, append, append_blocks, built, expect, expect_number, number_at, random_number, run_list,
 };
-use icu_collections::codepointtrie::{CodePointTrie, TrieType};
+use icu_collections::codepointtrie::{CodePointTrie, Write};
 use std::process::Abort;
 
 /// Places near which something may go wrong.
@@ -16,178 +15,95 @@ const PLACES: [u32; 16] = [
 /// How long a written range is, at most.
 const LENGTHS: [u32; 8] = [0, 1, 15, 16, 64, 200, 600, 0x12000];
 
-/// A number near one of the places.
-fn random_place(random: &mut Random) -> u32 {
-    let place = PLACES[(random.next() % 16) as usize];
-    place.saturating_add(random.next() % 0x110)
+/// A range near one of the places, and one of so many numbers for it.
+fn random_write(state: &mut u32, numbers: u32) -> Write<u32> {
+    let place = PLACES[(random_number(state) % 16) as usize];
+    let first = place.saturating_add(random_number(state) % 0x110);
+    let most = LENGTHS[(random_number(state) % 8) as usize];
+    let length = random_number(state) % most.saturating_add(1);
+    let number = random_number(state) % numbers.max(1);
+    Write::Range(first..=first.saturating_add(length), number)
 }
 
-/// The length of a range.
-fn random_length(random: &mut Random) -> u32 {
-    let most = LENGTHS[(random.next() % 8) as usize];
-    random.next() % most.saturating_add(1)
-}
-
-/// A value: one of four, or any of 24 bits.
-fn random_value(random: &mut Random, is_wide: bool) -> u32 {
-    if is_wide {
-        random.next()
-    } else {
-        random.next() % 4
-    }
-}
-
-/// Up to 24 random writes, each of one value.
-fn random_writes(
-    rt: &(impl Abort + AllocGlobal),
-    random: &mut Random,
-    is_wide: bool,
-) -> Vec<Written> {
+/// The writes of the map of this place among the random ones: in every other one few numbers, so
+/// that blocks are often equal, and in every fourth one so many different blocks that data offsets
+/// need 18 bits in some index-3 blocks and 16 in others.
+fn random_writes(rt: &(impl Abort + AllocGlobal), state: &mut u32, place: u32) -> Vec<Write<u32>> {
     let mut writes = Vec::new(rt.alloc());
-    for _ in 0..random.next() % 24 {
-        let first = random_place(random);
-        let last = first.saturating_add(random_length(random));
-        append(
-            rt,
-            &mut writes,
-            all_of(first, last, random_value(random, is_wide)),
-        );
+    if place % 4 == 0 {
+        append_blocks(rt, &mut writes, 0x10000, 1, 0x14000, 1);
+    }
+    let numbers = if place % 2 == 0 { 0x1000000 } else { 4 };
+    for _ in 0..24 {
+        append(rt, &mut writes, random_write(state, numbers));
     }
     writes
 }
 
-/// The value of a code point: that of the last write over it, and 0 where there is none.
-fn value_of(writes: &[Written], c: u32) -> u32 {
-    let mut value = 0;
-    for write in writes {
-        if write.first <= c && c <= write.last {
-            value = write.number;
+/// Gives the code points of a range this number in a list.
+fn cover(list: &mut Vec<u32>, first: u32, last: u32, number: u32) {
+    for c in first..=last {
+        if let Some(cell) = list.get_mut(c as usize) {
+            *cell = number;
         }
     }
-    value
 }
 
-/// The code points at which a write begins or has ended, ascending.
-fn borders_of(rt: &(impl Abort + AllocGlobal), writes: &[Written]) -> Vec<u32> {
-    let mut borders = Vec::new(rt.alloc());
+/// The number of each code point: the last write's, and 0 where nothing is written.
+fn list_of(rt: &(impl Abort + AllocGlobal), writes: &[Write<u32>]) -> Vec<u32> {
+    let alloc = rt.alloc();
+    let Ok(mut list) = vec![in alloc; 0u32; 0x110000] else {
+        rt.panic("no memory");
+    };
     for write in writes {
-        append(rt, &mut borders, write.first.min(0x10FFFF));
-        append(rt, &mut borders, write.last.saturating_add(1).min(0x10FFFF));
+        if let Write::Range(range, number) = write {
+            cover(&mut list, *range.start(), *range.end(), *number);
+        }
     }
-    sort(rt, &mut borders);
-    borders
+    list
 }
 
-/// The trie has the value of this code point.
-fn expect_value(rt: &impl Abort, trie: &CodePointTrie<'_, u32>, writes: &[Written], c: u32) {
-    let wanted = if c > 0x10FFFF { 9 } else { value_of(writes, c) };
-    expect_number(rt, c, number_at(trie, c), wanted);
+/// The number that is listed for this code point; 9, the error value, where none is.
+fn listed(list: &[u32], c: u32) -> u32 {
+    list.get(c as usize).copied().unwrap_or(9)
 }
 
-/// It has them round every border, and at random code points.
-fn expect_values(
+/// The trie's ranges are whole, have the listed numbers, as its look-ups do, and end where these
+/// change.
+fn expect_runs(
     rt: &impl Abort,
     trie: &CodePointTrie<'_, u32>,
-    writes: &[Written],
-    borders: &[u32],
-    random: &mut Random,
+    runs: &[(u32, u32, u32)],
+    list: &[u32],
 ) {
-    for border in borders {
-        expect_value(rt, trie, writes, border.saturating_sub(1));
-        expect_value(rt, trie, writes, *border);
-        expect_value(rt, trie, writes, border.saturating_add(1));
-    }
-    for _ in 0..50 {
-        expect_value(rt, trie, writes, random.next() % 0x110010);
-    }
-}
-
-/// Its ranges are whole, have the values of the writes, and end where the value changes.
-fn expect_runs(rt: &impl Abort, runs: &[(u32, u32, u32)], writes: &[Written], borders: &[u32]) {
     let mut next = 0u32;
     for (first, last, number) in runs {
         let (first, last, number) = (*first, *last, *number);
-        expect_same(rt, first, next, "no gap");
-        expect_number(rt, first, number, value_of(writes, first));
+        expect_number(rt, next, first, next);
+        for c in first..=last {
+            expect(rt, listed(list, c) == number, "listed");
+            expect(rt, number_at(trie, c) == number, "looked up");
+        }
         next = last.saturating_add(1);
-        let goes_on = next <= 0x10FFFF && value_of(writes, next) == number;
-        expect_same(rt, (last, goes_on), (last, false), "not cut");
-        for border in borders {
-            if first <= *border && *border <= last {
-                expect_number(rt, *border, number, value_of(writes, *border));
-            }
-        }
+        expect(rt, next > 0x10FFFF || listed(list, next) != number, "cut");
     }
-    expect_same(rt, next, 0x110000, "the end");
+    expect_number(rt, 0x10FFFF, next, 0x110000);
 }
 
-/// How many aligned blocks of `size` code points from `low` to before `high` have a border inside.
-fn mixed_blocks(borders: &[u32], size: u32, low: u32, high: u32) -> usize {
-    let mut count = 0usize;
-    let mut last = u32::MAX;
-    for border in borders {
-        let block = border.checked_div(size).unwrap_or(0);
-        let inside = border.checked_rem(size).unwrap_or(0) != 0;
-        if inside && low <= *border && *border < high && block != last {
-            count = count.saturating_add(1);
-            last = block;
-        }
-    }
-    count
-}
-
-/// It has no more cells of data than its map has different blocks for.
-fn expect_few_cells(
-    rt: &impl Abort,
-    trie: &CodePointTrie<'_, u32>,
-    limit: u32,
-    writes: &[Written],
-    borders: &[u32],
-) {
-    let values = writes.len().saturating_add(1);
-    let fast = mixed_blocks(borders, 64, 0, limit).saturating_add(values);
-    let small = mixed_blocks(borders, 16, limit, 0x110000).saturating_add(values);
-    let most = fast
-        .saturating_mul(64)
-        .saturating_add(small.saturating_mul(16));
-    let (_, _, data) = sizes_of(trie);
-    expect(rt, data <= most.saturating_add(160), "cells of data");
-}
-
-/// Where the fast blocks of a trie end.
-fn limit_of(trie_type: TrieType) -> u32 {
-    match trie_type {
-        TrieType::Fast => 0x10000,
-        TrieType::Small => 0x1000,
-    }
-}
-
-/// Builds the tries of a random map and asks them.
-fn ask_random_map(rt: &(impl Abort + AllocGlobal), random: &mut Random, is_wide: bool) {
-    let writes = random_writes(rt, random, is_wide);
-    let borders = borders_of(rt, &writes);
+/// Builds the tries of a map and asks them.
+fn ask(rt: &(impl Abort + AllocGlobal), writes: &[Write<u32>]) {
+    let list = list_of(rt, writes);
     for trie_type in BOTH {
-        let trie = trie_of::<u32>(rt, trie_type, &writes, u32::MAX);
-        expect_values(rt, &trie, &writes, &borders, random);
-        expect_runs(rt, &run_list(rt, &trie), &writes, &borders);
-        expect_few_cells(rt, &trie, limit_of(trie_type), &writes, &borders);
+        let trie = built(rt, trie_type, (0, 9), writes);
+        expect_runs(rt, &trie, &run_list(rt, &trie), &list);
     }
 }
 
-/// Maps of few values, whose blocks are often equal.
+/// Two of each four maps have few numbers, and one has wide offsets.
 #[test]
-fn maps_of_few_values(rt: HostRuntime) {
-    let mut random = Random::new(1);
-    for _ in 0..100 {
-        ask_random_map(&rt, &mut random, false);
-    }
-}
-
-/// Maps of many values.
-#[test]
-fn maps_of_many_values(rt: HostRuntime) {
-    let mut random = Random::new(2);
-    for _ in 0..100 {
-        ask_random_map(&rt, &mut random, true);
+fn random_maps(rt: HostRuntime) {
+    let mut state = 1;
+    for place in 0..8 {
+        ask(&rt, &random_writes(&rt, &mut state, place));
     }
 }

@@ -1,62 +1,136 @@
 //! Ranges and value sets of built tries, and values at the borders of what was written.
 
 use crate::tests::support::{
-    BOTH, expect, expect_ends, expect_map, expect_ranges, expect_same, over_the_fast_limit, run_of,
+    BOTH, append, built, expect_numbers, expect_ranges, expect_same, expect_set, run_of,
 };
-use icu_collections::codepointinvlist::CodePointInversionList;
 use icu_collections::codepointtrie::{CodePointTrie, Write};
 use std::process::Abort;
 
-/// A write of the default value counts as any other.
-#[test]
-fn default_write_over_a_range(rt: HostRuntime) {
-    let writes = [Write::Range(0x41..=0x5A, 1), Write::One(0x41, 0)];
-    let ranges = [(0, 0x41, 0), (0x42, 0x5A, 1), (0x5B, 0x10FFFF, 0)];
-    let numbers = [
-        (0, 0),
-        (0x40, 0),
-        (0x41, 0),
-        (0x42, 1),
-        (0x5A, 1),
-        (0x5B, 0),
-        (0xFFFF, 0),
-        (0x10000, 0),
-        (0x10FFFF, 0),
-        (0x110000, 9),
-        (u32::MAX, 9),
-    ];
-    expect_map(&rt, 0, &writes, &ranges, &numbers);
+/// A map: its default, what is written, its ranges, and numbers at some code points. A range has
+/// its first and last code point and its number; the error value is 9.
+type Row = (
+    u8,
+    &'static [(u32, u32, u8)],
+    &'static [(u32, u32, u32)],
+    &'static [(u32, u32)],
+);
+
+static MAPS: [Row; 8] = [
+    // The default counts as any other value.
+    (
+        0,
+        &[(0x41, 0x5A, 1), (0x41, 0x41, 0)],
+        &[(0, 0x41, 0), (0x42, 0x5A, 1), (0x5B, 0x10FFFF, 0)],
+        &[
+            (0, 0),
+            (0x40, 0),
+            (0x41, 0),
+            (0x42, 1),
+            (0x5A, 1),
+            (0x5B, 0),
+            (0xFFFF, 0),
+            (0x10000, 0),
+            (0x10FFFF, 0),
+            (0x110000, 9),
+            (0xFFFFFFFF, 9),
+        ],
+    ),
+    // The whole code space is written, and then most of it taken back.
+    (
+        0,
+        &[(0, 0x10FFFF, 1), (0x80, 0x10FFFF, 0)],
+        &[(0, 0x7F, 1), (0x80, 0x10FFFF, 0)],
+        &[],
+    ),
+    // Nothing is written, or the default alone.
+    (7, &[], &[(0, 0x10FFFF, 7)], &[]),
+    (
+        7,
+        &[(0x41, 0x5A, 7), (0x10FFFF, 0x10FFFF, 7)],
+        &[(0, 0x10FFFF, 7)],
+        &[],
+    ),
+    // A range is cut at the end of the code space, and one that starts after it writes nothing.
+    (
+        0,
+        &[(0x10FFFF, 0x110005, 1), (0x110000, 0x200000, 2)],
+        &[(0, 0x10FFFE, 0), (0x10FFFF, 0x10FFFF, 1)],
+        &[(0, 0), (0x10FFFE, 0), (0x10FFFF, 1), (0x110000, 9)],
+    ),
+    // Fives below 0x10000, and zeros after them.
+    (
+        0,
+        &[(0, 0xFFFF, 5)],
+        &[(0, 0xFFFF, 5), (0x10000, 0x10FFFF, 0)],
+        &[],
+    ),
+    // Equal values on both sides of the fast limit, in blocks of 64 and of 16.
+    (
+        0,
+        &[
+            (0xFFC0, 0xFFCF, 1),
+            (0xFFD0, 0xFFFF, 2),
+            (0x10000, 0x1000F, 1),
+        ],
+        &[
+            (0, 0xFFBF, 0),
+            (0xFFC0, 0xFFCF, 1),
+            (0xFFD0, 0xFFFF, 2),
+            (0x10000, 0x1000F, 1),
+            (0x10010, 0x10FFFF, 0),
+        ],
+        &[],
+    ),
+    // Zeros in a block of 64 that begins like the null block.
+    (
+        5,
+        &[
+            (0x400, 0x40F, 0),
+            (0x10000, 0x10FFFE, 0),
+            (0x10FFFF, 0x10FFFF, 3),
+        ],
+        &[
+            (0, 0x3FF, 5),
+            (0x400, 0x40F, 0),
+            (0x410, 0xFFFF, 5),
+            (0x10000, 0x10FFFE, 0),
+            (0x10FFFF, 0x10FFFF, 3),
+        ],
+        &[],
+    ),
+];
+
+/// The writes of these numbers over these ranges.
+fn writes_of(rt: &(impl Abort + AllocGlobal), ranges: &[(u32, u32, u8)]) -> Vec<Write<u8>> {
+    let mut writes = Vec::new(rt.alloc());
+    for (first, last, number) in ranges {
+        let write = if first == last {
+            Write::One(*first, *number)
+        } else {
+            Write::Range(*first..=*last, *number)
+        };
+        append(rt, &mut writes, write);
+    }
+    writes
 }
 
-/// The whole code space is written, and then most of it taken back.
-#[test]
-fn ranges_taken_back(rt: HostRuntime) {
-    let writes = [
-        Write::Range(0..=0x10FFFF, 1),
-        Write::Range(0x80..=0x10FFFF, 0),
-    ];
-    expect_map(&rt, 0, &writes, &[(0, 0x7F, 1), (0x80, 0x10FFFF, 0)], &[]);
+/// The tries of both types that are built of these writes have these ranges and numbers.
+fn expect_map(rt: &(impl Abort + AllocGlobal), row: Row) {
+    let (default, written, ranges, numbers) = row;
+    let writes = writes_of(rt, written);
+    for trie_type in BOTH {
+        let trie = built(rt, trie_type, (default, 9), &writes);
+        expect_ranges(rt, &trie, ranges);
+        expect_numbers(rt, &trie, numbers);
+    }
 }
 
-/// Nothing is written, or the default value alone.
+/// Each map, by both types of tries.
 #[test]
-fn range_of_the_default(rt: HostRuntime) {
-    let all = [(0, 0x10FFFF, 7)];
-    expect_map(&rt, 7, &[], &all, &[]);
-    let writes = [Write::Range(0x41..=0x5A, 7), Write::One(0x10FFFF, 7)];
-    expect_map(&rt, 7, &writes, &all, &[]);
-}
-
-/// A range is cut at the end of the code space, and one that starts after it writes nothing.
-#[test]
-fn writes_at_the_end_of_the_code_space(rt: HostRuntime) {
-    let writes = [
-        Write::Range(0x10FFFF..=0x110005, 1),
-        Write::Range(0x110000..=0x200000, 2),
-    ];
-    let ranges = [(0, 0x10FFFE, 0), (0x10FFFF, 0x10FFFF, 1)];
-    let numbers = [(0, 0), (0x10FFFE, 0), (0x10FFFF, 1), (0x110000, 9)];
-    expect_map(&rt, 0, &writes, &ranges, &numbers);
+fn maps_at_their_borders(rt: HostRuntime) {
+    for row in MAPS.iter() {
+        expect_map(&rt, *row);
+    }
 }
 
 /// The range from a code point on.
@@ -67,40 +141,6 @@ fn run_at(trie: &CodePointTrie<'_, u8>, c: u32) -> Option<(u32, u32, u32)> {
     }
 }
 
-/// The trie's ranges, and the range that ends at the fast limit and that of no code point.
-fn expect_over_the_fast_limit(rt: &(impl Abort + AllocGlobal), trie: &CodePointTrie<'_, u8>) {
-    let ranges = [
-        (0, 0xFFBF, 0),
-        (0xFFC0, 0xFFCF, 1),
-        (0xFFD0, 0xFFFF, 2),
-        (0x10000, 0x1000F, 1),
-        (0x10010, 0x10FFFF, 0),
-    ];
-    expect_ranges(rt, trie, &ranges);
-    let found = run_at(trie, 0xFFD0);
-    expect_same(rt, found, Some((0xFFD0, 0xFFFF, 2)), "at ffd0");
-    expect_same(rt, run_at(trie, 0x110000), None, "at 110000");
-}
-
-#[test]
-fn ranges_over_the_fast_limit(rt: HostRuntime) {
-    for trie_type in BOTH {
-        expect_over_the_fast_limit(&rt, &over_the_fast_limit(&rt, trie_type));
-    }
-}
-
-/// The set of a value.
-fn set_of(
-    rt: &(impl Abort + AllocGlobal),
-    trie: &CodePointTrie<'_, u8>,
-    value: u8,
-) -> CodePointInversionList<'static> {
-    match trie.get_set_for_value(rt.alloc(), value) {
-        Ok(set) => set,
-        Err(_) => rt.panic("no set"),
-    }
-}
-
 /// Values, and the ends of their sets.
 static SETS: [(u8, &[u32]); 3] = [
     (1, &[0xFFC0, 0xFFD0, 0x10000, 0x10010]),
@@ -108,12 +148,24 @@ static SETS: [(u8, &[u32]); 3] = [
     (7, &[]),
 ];
 
+/// The sets of the values, the range that ends at the fast limit, and that of no code point.
+fn expect_over_the_fast_limit(rt: &(impl Abort + AllocGlobal), trie: &CodePointTrie<'_, u8>) {
+    let found = [run_at(trie, 0xFFD0), run_at(trie, 0x110000)];
+    expect_same(rt, found, [Some((0xFFD0, 0xFFFF, 2)), None], "a range");
+    for (value, ends) in SETS.iter() {
+        expect_set(rt, trie.get_set_for_value(rt.alloc(), *value), ends);
+    }
+}
+
+/// Equal values on both sides of the fast limit, in blocks of 64 and of 16: 0, and then 1, 2 and 1.
 #[test]
 fn sets_over_the_fast_limit(rt: HostRuntime) {
+    let writes = [
+        Write::Range(0xFFC0..=0xFFCF, 1),
+        Write::Range(0xFFD0..=0xFFFF, 2),
+        Write::Range(0x10000..=0x1000F, 1),
+    ];
     for trie_type in BOTH {
-        let trie = over_the_fast_limit(&rt, trie_type);
-        for (value, ends) in SETS.iter() {
-            expect_ends(&rt, &set_of(&rt, &trie, *value), ends);
-        }
+        expect_over_the_fast_limit(&rt, &built(&rt, trie_type, (0, 9), &writes));
     }
 }

@@ -1,16 +1,33 @@
-//! How many cells a built trie has, and which maps are too large.
+//! How many cells of index and of data a built trie has, below the bounds that are proved, and
+//! which maps are too large.
 
 use crate::tests::support::{
-    BOTH, Written, append, ascending, built, expect, expect_cells, expect_numbers,
-    expect_own_numbers, expect_same, sizes_of, trie_of, try_trie_of,
+    BOTH, append_blocks, built, expect, expect_cells, expect_number, expect_numbers, expect_same,
+    number_at, sizes_of, try_built,
 };
 use icu_collections::codepointtrie::{BuildError, CodePointTrie, TrieType, Write};
 use std::process::Abort;
 
-/// Each code point from 0x10000 to 0x3EDEF has itself as its value, and none beside them: data
-/// offsets on both sides of 0xFFFF, so that index-3 blocks of both widths are read.
-fn expect_values(rt: &impl Abort, trie: &CodePointTrie<'_, u32>) {
-    expect_own_numbers(rt, trie, 0x10000, 0x3EDEF);
+/// A write for each of so many code points from the first on, whose numbers ascend.
+fn single_writes(
+    rt: &(impl Abort + AllocGlobal),
+    first: u32,
+    count: u32,
+    number: u32,
+) -> Vec<Write<u32>> {
+    let mut writes = Vec::new(rt.alloc());
+    append_blocks(rt, &mut writes, first, 1, count, number);
+    writes
+}
+
+/// Each code point from 0x10000 to 0x3EDEF has itself as its number, and none beside them.
+fn expect_own_numbers(rt: &impl Abort, trie: &CodePointTrie<'_, u32>) {
+    for c in 0x10000..=0x3EDEF {
+        expect_number(rt, c, number_at(trie, c), c);
+    }
+    let cell = [0xFF, 0x0F, 0x02, 0x00];
+    let is_cell = trie.get32_ule(0x20FFF) == Some(cell.as_slice());
+    expect(rt, is_cell, "the cell at 20FFF");
     let others = [
         (0, 0),
         (0xFFFF, 0),
@@ -22,49 +39,25 @@ fn expect_values(rt: &impl Abort, trie: &CodePointTrie<'_, u32>) {
 }
 
 /// 12,000 different blocks of 16 values are no reason to refuse a map, nor does it take long to
-/// find which are equal.
+/// find which are equal. Data offsets lie on both sides of 0xFFFF: the first 127 of the 375 blocks
+/// of 512 take 32 cells of index, and the others 36, beside the fast index and 33 cells for each
+/// 0x4000 code points.
 #[test]
 fn twelve_thousand_small_blocks(rt: HostRuntime) {
-    let writes = [ascending(0x10000, 0x3EDEF, 0x10000)];
-    for (trie_type, most_data) in [(TrieType::Fast, 192_224), (TrieType::Small, usize::MAX)] {
-        let trie = trie_of(&rt, trie_type, &writes, u32::MAX);
-        expect_cells(&rt, &trie, usize::MAX, most_data);
-        expect_values(&rt, &trie);
-    }
-}
-
-/// The writes of another value in each of 799 blocks of 512.
-fn distant_writes(rt: &(impl Abort + AllocGlobal)) -> Vec<Written> {
-    let mut writes = Vec::new(rt.alloc());
-    for k in 0..799u32 {
-        let c = 0x10000 + 512 * k;
-        append(rt, &mut writes, ascending(c, c, k + 1));
-    }
-    writes
-}
-
-/// Of 800 different blocks of 512 values each a map is not refused, and its data and its index stay
-/// small.
-#[test]
-fn eight_hundred_blocks(rt: HostRuntime) {
-    let writes = distant_writes(&rt);
-    let expected = [(0x10000, 1), (0x10001, 0), (0x73C00, 799), (0x73C01, 0)];
-    for (trie_type, most_index, most_data) in [
-        (TrieType::Fast, 28_800, 13_024),
-        (TrieType::Small, usize::MAX, usize::MAX),
-    ] {
-        let trie = trie_of::<u32>(&rt, trie_type, &writes, u32::MAX);
-        expect_cells(&rt, &trie, most_index, most_data);
-        expect_numbers(&rt, &trie, &expected);
+    let writes = single_writes(&rt, 0x10000, 0x2EDF0, 0x10000);
+    for (trie_type, most_index) in [(TrieType::Fast, 14_412), (TrieType::Small, 13_616)] {
+        let trie = built(&rt, trie_type, (0, 9), &writes);
+        expect_cells(&rt, &trie, most_index, 192_224);
+        expect_own_numbers(&rt, &trie);
     }
 }
 
 /// A map of as many different values as there are code points has no trie.
 #[test]
 fn too_large(rt: HostRuntime) {
-    let writes = [ascending(0, 0x10FFFF, 1)];
+    let writes = single_writes(&rt, 0, 0x110000, 1);
     for trie_type in BOTH {
-        let refused = try_trie_of::<u32>(&rt, trie_type, &writes, u32::MAX).err();
+        let refused = try_built(rt.alloc(), trie_type, (0, 9), &writes).err();
         expect(&rt, refused == Some(BuildError::TooLarge), "too large");
     }
 }

@@ -39,15 +39,12 @@ static ERRORS: [(CodePointTrieError, &str); 5] = [
     ),
 ];
 
+/// Errors of tries in the words of the Rust crate, and ours of building.
 #[test]
 fn errors_of_tries(rt: HostRuntime) {
     for (error, text) in ERRORS.iter() {
         expect_told(&rt, error, text);
     }
-}
-
-#[test]
-fn errors_of_building(rt: HostRuntime) {
     expect_told(&rt, &BuildError::TooLarge, "too large");
     expect_told(&rt, &BuildError::Memory, "no memory");
     expect_told(&rt, &MemoryError, "no memory");

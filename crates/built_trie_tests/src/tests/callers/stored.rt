@@ -1,25 +1,11 @@
 //! Tables by way of ICU's binary form, run.
 
+use super::table;
 use crate::tests::support::{built, expect, expect_numbers, number_at};
 use icu_collections::codepointtrie::binary::{BinaryError, to_binary};
 use icu_collections::codepointtrie::{CodePointTrie, TrieType, TrieValue, Write};
 use std::process::Abort;
 use uses::stored;
-
-/// A trie in which `A` to `Z` have 1, and what is above the code points too.
-fn ones(rt: &(impl Abort + AllocGlobal)) -> CodePointTrie<'static, u8> {
-    built(rt, TrieType::Small, (0, 1), &[Write::Range(0x41..=0x5A, 1)])
-}
-
-/// A trie in which `A` to `Z` have 500.
-fn five_hundreds(rt: &(impl Abort + AllocGlobal)) -> CodePointTrie<'static, u16> {
-    built(
-        rt,
-        TrieType::Small,
-        (0, 0),
-        &[Write::Range(0x41..=0x5A, 500)],
-    )
-}
 
 /// A table as it stands in a file.
 fn bytes_of<T: TrieValue>(rt: &(impl Abort + AllocGlobal), trie: &CodePointTrie<'_, T>) -> Vec<u8> {
@@ -29,19 +15,33 @@ fn bytes_of<T: TrieValue>(rt: &(impl Abort + AllocGlobal), trie: &CodePointTrie<
     }
 }
 
-/// Two tables, written one behind the other.
-fn file_of_two(rt: &(impl Abort + AllocGlobal)) -> Vec<u8> {
-    let mut bytes = bytes_of(rt, &ones(rt));
-    let more = bytes_of(rt, &five_hundreds(rt));
-    let whole = bytes.extend_from_slice(&more).is_ok();
-    expect(rt, whole, "written");
-    bytes
+/// Adds a table to a file.
+fn append_table<T: TrieValue>(
+    rt: &(impl Abort + AllocGlobal),
+    file: &mut Vec<u8>,
+    trie: &CodePointTrie<'_, T>,
+) {
+    let bytes = bytes_of(rt, trie);
+    if file.extend_from_slice(&bytes).is_err() {
+        rt.panic("no memory");
+    }
 }
 
+/// The file of a table in which `A` to `Z` have 1, and of one in which they have 500.
+fn file_of_two(rt: &(impl Abort + AllocGlobal)) -> Vec<u8> {
+    let mut file = Vec::new(rt.alloc());
+    let ones = [Write::Range(0x41..=0x5A, 1)];
+    append_table(rt, &mut file, &built(rt, TrieType::Small, (0u8, 1), &ones));
+    let more = [Write::Range(0x41..=0x5A, 500)];
+    append_table(rt, &mut file, &built(rt, TrieType::Small, (0u16, 0), &more));
+    file
+}
+
+/// What is read answers what was written.
 #[test]
 fn a_table_through_a_file(rt: HostRuntime) {
-    match stored::through_a_file(rt.alloc(), &ones(&rt)) {
-        Ok(copy) => expect_numbers(&rt, &copy, &[(0x41, 1), (0x5B, 0), (0x110000, 1)]),
+    match stored::through_a_file(rt.alloc(), &table(&rt)) {
+        Ok(copy) => expect_numbers(&rt, &copy, &[(0x41, 1), (0x5B, 0), (0x110000, 9)]),
         Err(_) => rt.panic("not read"),
     }
 }
@@ -54,14 +54,11 @@ fn values_of_a(bytes: &[u8]) -> Result<(u32, u32), BinaryError> {
     }
 }
 
+/// Two tables, one behind the other; and bytes that are too few for one.
 #[test]
 fn two_tables_of_a_file(rt: HostRuntime) {
     let found = values_of_a(&file_of_two(&rt));
     expect(&rt, found == Ok((1, 500)), "each in its place");
-}
-
-#[test]
-fn a_file_without_a_table(rt: HostRuntime) {
-    let found = values_of_a(b"Tri3");
-    expect(&rt, found == Err(BinaryError::Short), "too short");
+    let short = values_of_a(b"Tri3");
+    expect(&rt, short == Err(BinaryError::Short), "too short");
 }
