@@ -5,6 +5,7 @@ mod amended_maps;
 mod callers;
 mod compaction;
 mod getters;
+mod mapped;
 mod random_maps;
 mod ranges;
 mod refused_memory;

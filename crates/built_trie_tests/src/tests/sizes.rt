@@ -2,8 +2,8 @@
 //! which maps are too large.
 
 use crate::tests::support::{
-    BOTH, append_blocks, built, expect, expect_cells, expect_number, expect_numbers, expect_same,
-    number_at, sizes_of, try_built,
+    BOTH, append, append_blocks, built, expect, expect_cells, expect_number, expect_numbers,
+    expect_same, number_at, sizes_of, try_built,
 };
 use icu_collections::codepointtrie::{BuildError, CodePointTrie, TrieType, Write};
 use std::process::Abort;
@@ -20,35 +20,65 @@ fn single_writes(
     writes
 }
 
-/// Each code point from 0x10000 to 0x3EDEF has itself as its number, and none beside them.
-fn expect_own_numbers(rt: &impl Abort, trie: &CodePointTrie<'_, u32>) {
-    for c in 0x10000..=0x3EDEF {
+/// Each code point from 0x10000 to the last one has itself as its number, and none beside them.
+fn expect_own_numbers(rt: &impl Abort, trie: &CodePointTrie<'_, u32>, last: u32) {
+    for c in 0x10000..=last {
         expect_number(rt, c, number_at(trie, c), c);
     }
     let cell = [0xFF, 0x0F, 0x02, 0x00];
     let is_cell = trie.get32_ule(0x20FFF) == Some(cell.as_slice());
     expect(rt, is_cell, "the cell at 20FFF");
-    let others = [
-        (0, 0),
-        (0xFFFF, 0),
-        (0x3EDF0, 0),
-        (0x3EDF1, 0),
-        (0x110000, 9),
-    ];
-    expect_numbers(rt, trie, &others);
+    for c in [0, 0xFFFF, last.saturating_add(1), last.saturating_add(2)] {
+        expect_number(rt, c, number_at(trie, c), 0);
+    }
+    expect_number(rt, 0x110000, number_at(trie, 0x110000), 9);
 }
 
-/// 12,000 different blocks of 16 values are no reason to refuse a map, nor does it take long to
-/// find which are equal. Data offsets lie on both sides of 0xFFFF: the first 127 of the 375 blocks
-/// of 512 take 32 cells of index, and the others 36, beside the fast index and 33 cells for each
-/// 0x4000 code points.
+/// Maps from 0x10000 on by their last code point: the type of the trie, and the most cells of index
+/// and data that it has. Of the second map 12,000 blocks of 16 values differ: it is not refused, nor
+/// does it take long to find which are equal. Data offsets lie on both sides of 0xFFFF: the first
+/// 127 of its 375 blocks of 512 take 32 cells of index, and the others 36, beside the fast index and
+/// 33 cells for each 0x4000 code points.
+static ASCENDING: [(u32, TrieType, usize, usize); 4] = [
+    (0x20FFF, TrieType::Fast, usize::MAX, usize::MAX),
+    (0x20FFF, TrieType::Small, usize::MAX, usize::MAX),
+    (0x3EDEF, TrieType::Fast, 14_412, 192_224),
+    (0x3EDEF, TrieType::Small, 13_616, 192_224),
+];
+
+/// Each code point has itself as its number.
 #[test]
-fn twelve_thousand_small_blocks(rt: HostRuntime) {
-    let writes = single_writes(&rt, 0x10000, 0x2EDF0, 0x10000);
-    for (trie_type, most_index) in [(TrieType::Fast, 14_412), (TrieType::Small, 13_616)] {
+fn ascending_numbers(rt: HostRuntime) {
+    for (last, trie_type, most_index, most_data) in ASCENDING.iter() {
+        let writes = single_writes(&rt, 0x10000, last.saturating_sub(0xFFFF), 0x10000);
+        let trie = built(&rt, *trie_type, (0, 9), &writes);
+        expect_cells(&rt, &trie, *most_index, *most_data);
+        expect_own_numbers(&rt, &trie, *last);
+    }
+}
+
+/// The writes of another value in each of 799 blocks of 512.
+fn distant_writes(rt: &(impl Abort + AllocGlobal)) -> Vec<Write<u32>> {
+    let mut writes = Vec::new(rt.alloc());
+    for k in 0..799u32 {
+        append(rt, &mut writes, Write::One(0x10000 + 512 * k, k + 1));
+    }
+    writes
+}
+
+/// Of 800 different blocks of 512 values each a map is not refused, and its data and its index stay
+/// small.
+#[test]
+fn eight_hundred_blocks(rt: HostRuntime) {
+    let writes = distant_writes(&rt);
+    for (trie_type, most_index, most_data) in [
+        (TrieType::Fast, 28_800, 13_024),
+        (TrieType::Small, usize::MAX, usize::MAX),
+    ] {
         let trie = built(&rt, trie_type, (0, 9), &writes);
-        expect_cells(&rt, &trie, most_index, 192_224);
-        expect_own_numbers(&rt, &trie);
+        expect_cells(&rt, &trie, most_index, most_data);
+        let numbers = [(0x10000, 1), (0x10001, 0), (0x73C00, 799), (0x73C01, 0)];
+        expect_numbers(&rt, &trie, &numbers);
     }
 }
 
