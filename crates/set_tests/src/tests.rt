@@ -7,7 +7,7 @@ mod frozen;
 mod points;
 mod texts;
 
-use std::fmt::Debug;
+use std::fmt::{Debug, Display};
 use std::hash::{DefaultHasher, Hash, Hasher};
 use std::process::Abort;
 
@@ -26,6 +26,14 @@ fn expect_same<T: Copy + Debug + PartialEq>(rt: &impl Abort, found: T, want: T, 
 /// The text is the wanted one.
 fn expect_text(rt: &impl Abort, text: String, want: &str) {
     expect_same(rt, text.as_str(), want, "the text");
+}
+
+/// What is shown has this text, for which there has to be memory.
+fn expect_told<T: Display>(rt: &(impl Abort + AllocGlobal), shown: &T, want: &str) {
+    match shown.to_string(rt.alloc()) {
+        Ok(text) => expect_text(rt, text, want),
+        Err(_) => rt.panic("no text"),
+    }
 }
 
 /// The hash of a value by the standard hasher.

@@ -7,8 +7,8 @@ mod iterators;
 pub mod json;
 mod memory;
 mod queries;
+mod ranges;
 mod serialized;
-mod sets;
 
 use icu_invlist::codepointinvlist::CodePointInversionList;
 use std::alloc::Global;

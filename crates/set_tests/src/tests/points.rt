@@ -1,10 +1,7 @@
 //! Sets of code points: how tests make them, and what they ask them. A call of the library that
 //! several tests make stands here alone.
-use super::{expect, expect_same};
-use icu_invlist::codepointinvlist::{
-    CodePointInversionList, IterChars, IterRanges, IterRangesComplemented, RangeOf, SetError,
-    TryRangeError, is_valid_zv,
-};
+use super::expect_same;
+use icu_invlist::codepointinvlist::{CodePointInversionList, RangeOf, SetError, TryRangeError};
 use icu_zerovec::{PotentialCodePoint, ZeroVec};
 use std::alloc::Global;
 use std::ops::RangeInclusive;
@@ -49,14 +46,6 @@ pub fn set_of_range<R: RangeOf<char>>(
     CodePointInversionList::try_from(alloc, range)
 }
 
-/// The set of two ranges. `None` where memory was refused.
-pub fn set_of_ranges(
-    alloc: Global,
-    ranges: [RangeInclusive<u32>; 2],
-) -> Option<CodePointInversionList<'static>> {
-    CodePointInversionList::from_iter(alloc, ranges.into_iter()).ok()
-}
-
 /// The list that borrows these bytes.
 pub fn list_of<'a>(rt: &impl Abort, bytes: &'a [u8]) -> ZeroVec<'a, PotentialCodePoint> {
     match ZeroVec::<PotentialCodePoint>::parse_bytes(bytes) {
@@ -65,38 +54,12 @@ pub fn list_of<'a>(rt: &impl Abort, bytes: &'a [u8]) -> ZeroVec<'a, PotentialCod
     }
 }
 
-/// Whether the list is an inversion list.
-pub fn is_valid(list: &ZeroVec<'_, PotentialCodePoint>) -> bool {
-    is_valid_zv(list)
-}
-
 /// The set over this list, or why it is none.
 pub fn set_over<'a>(
     alloc: Global,
     list: ZeroVec<'a, PotentialCodePoint>,
 ) -> Result<CodePointInversionList<'a>, SetError> {
     CodePointInversionList::try_from_inversion_list(alloc, list)
-}
-
-/// A copy of the set. `None` where memory was refused.
-pub fn copy_of(
-    alloc: Global,
-    set: &CodePointInversionList<'_>,
-) -> Option<CodePointInversionList<'static>> {
-    set.try_clone(alloc).ok()
-}
-
-/// The set with ends of its own. `None` where memory was refused.
-pub fn owned(
-    alloc: Global,
-    set: CodePointInversionList<'_>,
-) -> Option<CodePointInversionList<'static>> {
-    set.into_owned(alloc).ok()
-}
-
-/// Whether the two sets are equal.
-pub fn are_equal(a: &CodePointInversionList<'_>, b: &CodePointInversionList<'_>) -> bool {
-    *a == *b
 }
 
 /// The ends of the set. `None` where memory was refused.
@@ -135,78 +98,13 @@ pub fn expect_listed(
     }
 }
 
-/// Whether the set holds the number.
-pub fn holds(set: &CodePointInversionList<'_>, c: u32) -> bool {
-    set.contains32(c)
-}
-
-/// Whether the set holds the character.
-pub fn holds_char(set: &CodePointInversionList<'_>, c: char) -> bool {
-    set.contains(c)
-}
-
-/// Whether the set holds what the range of characters names.
-pub fn holds_range<R: RangeOf<char>>(set: &CodePointInversionList<'_>, range: R) -> bool {
-    set.contains_range(range)
-}
-
-/// Whether the set holds all that the other one does.
-pub fn holds_set(whole: &CodePointInversionList<'_>, part: &CodePointInversionList<'_>) -> bool {
-    whole.contains_set(part)
-}
-
-/// Whether the set holds nothing.
-pub fn is_empty(set: &CodePointInversionList<'_>) -> bool {
-    set.is_empty()
-}
-
-/// How many of the set's numbers stand below this one, where the set holds it.
-pub fn place_of(set: &CodePointInversionList<'_>, c: u32) -> Option<usize> {
-    set.position32(c)
-}
-
-/// The same of a character.
-pub fn place_of_char(set: &CodePointInversionList<'_>, c: char) -> Option<usize> {
-    set.position(c)
-}
-
 /// How many numbers the set holds, and how many ranges it has.
 pub fn counts_of(set: &CodePointInversionList<'_>) -> [usize; 2] {
     [set.size(), set.get_range_count()]
 }
 
 /// The first and the last number of a range.
-fn ends_of(range: Option<RangeInclusive<u32>>) -> Option<(u32, u32)> {
+pub fn ends_of(range: Option<RangeInclusive<u32>>) -> Option<(u32, u32)> {
     let range = range?;
     Some((*range.start(), *range.end()))
-}
-
-/// The first and the last number of the range at this place.
-pub fn nth_of(set: &CodePointInversionList<'_>, index: usize) -> Option<(u32, u32)> {
-    ends_of(set.get_nth_range(index))
-}
-
-/// The first and the last number of the next range.
-pub fn next_range(ranges: &mut IterRanges<'_>) -> Option<(u32, u32)> {
-    ends_of(ranges.next())
-}
-
-/// The first and the last number of the next gap.
-pub fn next_gap(gaps: &mut IterRangesComplemented<'_>) -> Option<(u32, u32)> {
-    ends_of(gaps.next())
-}
-
-/// The next character.
-pub fn next_char(chars: &mut IterChars<'_>) -> Option<char> {
-    chars.next()
-}
-
-/// How far a text lies in a set, and how far in what is not held: by the front, and by the tail.
-pub fn spans_of(set: &CodePointInversionList<'_>, text: &str) -> [usize; 4] {
-    [
-        set.span(text, true),
-        set.span(text, false),
-        set.span_back(text, true),
-        set.span_back(text, false),
-    ]
 }

@@ -5,7 +5,7 @@ mod json;
 mod memory;
 mod sets;
 
-use super::expect_text;
+use super::expect_told;
 use super::points::all;
 use icu_invlist::codepointinvlist::CodePointInversionList;
 use icu_text_sets::codepointinvliststringlist::{
@@ -17,17 +17,12 @@ use std::fmt::Display;
 use std::process::Abort;
 
 /// The strings of these texts, in their order.
-fn strings_made(alloc: Global, texts: &[&str]) -> Result<Vec<String>, MemoryError> {
+fn strings_of(alloc: Global, texts: &[&str]) -> Result<Vec<String>, MemoryError> {
     let mut strings = Vec::with_capacity(alloc, texts.len())?;
     for text in texts {
         strings.push(String::from_str(alloc, text)?)?;
     }
     Ok(strings)
-}
-
-/// The strings of these texts, in their order. `None` where memory was refused.
-fn strings_of(alloc: Global, texts: &[&str]) -> Option<Vec<String>> {
-    strings_made(alloc, texts).ok()
 }
 
 /// The set of these code points and strings, or why it is none.
@@ -44,7 +39,7 @@ fn set_of_both(
     points: CodePointInversionList<'static>,
     texts: &[&str],
 ) -> Option<CodePointInversionListAndStringList<'static>> {
-    set_or_fault(points, strings_of(alloc, texts)?).ok()
+    set_or_fault(points, strings_of(alloc, texts).ok()?).ok()
 }
 
 /// The set of all code points and "ab", where there is memory for it.
@@ -55,14 +50,6 @@ fn all_and_ab(alloc: Global) -> Option<CodePointInversionListAndStringList<'stat
 /// The set of these texts, in any order. `None` where memory was refused.
 fn gathered(alloc: Global, texts: &[&str]) -> Option<CodePointInversionListAndStringList<'static>> {
     CodePointInversionListAndStringList::from_iter(alloc, texts.iter().copied()).ok()
-}
-
-/// A copy of the set. `None` where memory was refused.
-fn copy_of(
-    alloc: Global,
-    set: &CodePointInversionListAndStringList<'_>,
-) -> Option<CodePointInversionListAndStringList<'static>> {
-    set.try_clone(alloc).ok()
 }
 
 /// Whether the two sets are equal.
@@ -78,33 +65,10 @@ fn counts_of(set: &CodePointInversionListAndStringList<'_>) -> [usize; 3] {
     [set.size(), set.code_points().size(), set.strings().len()]
 }
 
-/// Whether the set has strings.
-fn has_strings(set: &CodePointInversionListAndStringList<'_>) -> bool {
-    set.has_strings()
-}
-
-/// Whether the set holds the text.
-fn holds_text(set: &CodePointInversionListAndStringList<'_>, text: &str) -> bool {
-    set.contains_str(text)
-}
-
-/// Whether the set holds the text of these bytes.
-fn holds_bytes(set: &CodePointInversionListAndStringList<'_>, bytes: &[u8]) -> bool {
-    set.contains_utf8(bytes)
-}
-
-/// Whether the set holds the character, and whether the number.
-fn holds_points(set: &CodePointInversionListAndStringList<'_>, ch: char, cp: u32) -> [bool; 2] {
-    [set.contains(ch), set.contains32(cp)]
-}
-
 /// What is printed of a refusal.
 fn expect_said<E: Display + Drop>(rt: &(impl Abort + AllocGlobal), refusal: Option<E>, want: &str) {
-    let Some(error) = refusal else {
-        rt.panic("taken, and not refused");
-    };
-    match error.to_string(rt.alloc()) {
-        Ok(text) => expect_text(rt, text, want),
-        Err(_) => rt.panic("no text"),
+    match refusal {
+        Some(error) => expect_told(rt, &error, want),
+        None => rt.panic("taken, and not refused"),
     }
 }

@@ -1,68 +1,15 @@
 //! What the builder's calls leave, by the examples of UnicodeSet and of the Rust crate.
 use super::changes::{
-    Addition, Change, Keeping, Operation, Removal, Turn, builder_of, copy_of_builder,
-    empty_builder, is_empty, set_built,
+    Addition, Change, Keeping, Removal, Turn, builder_of, copy_of_builder, set_built,
 };
 use super::*;
-use crate::tests::points::{expect_set, set_of};
-use crate::tests::{expect, expect_same};
+use crate::tests::expect;
+use crate::tests::points::expect_set;
 use icu_invlist::codepointinvlist::CodePointInversionListBuilder;
 
 /// The set that the builder has so far. `None` where memory was refused.
 fn set_so_far(builder: &CodePointInversionListBuilder) -> Option<CodePointInversionList<'static>> {
     set_built(copy_of_builder(builder)?)
-}
-
-/// The set with the ends `own`, changed by that with the ends `other`. `None` where memory was
-/// refused.
-fn changed_by(
-    alloc: Global,
-    own: &[u32],
-    operation: Operation,
-    other: &[u32],
-) -> Option<CodePointInversionList<'static>> {
-    let other = set_of(alloc, other)?;
-    let mut builder = builder_of(alloc, own)?;
-    if operation.is_applied(&mut builder, &other) {
-        set_so_far(&builder)
-    } else {
-        None
-    }
-}
-
-/// Sets, what changes them by which other sets, and what they are then.
-static CHANGED: [(&[u32], Operation, &[u32], &[u32]); 4] = [
-    (
-        &[0xA, 0x14, 0x28, 0x32],
-        Operation::Union,
-        &[0x5, 0xA, 0x16, 0x21, 0x2C, 0x33],
-        &[0x5, 0x14, 0x16, 0x21, 0x28, 0x33],
-    ),
-    (
-        &[0xA, 0x14, 0x28, 0x32, 0x46, 0x50],
-        Operation::Difference,
-        &[0xA, 0x14, 0x2D, 0x4B],
-        &[0x28, 0x2D, 0x4B, 0x50],
-    ),
-    (
-        &[0xA, 0x14, 0x28, 0x32, 0x46, 0x50],
-        Operation::Intersection,
-        &[0xE, 0x14, 0x19, 0x37, 0x4D, 0x51],
-        &[0xE, 0x14, 0x28, 0x32, 0x4D, 0x50],
-    ),
-    (
-        &[0xA, 0x14],
-        Operation::SymmetricDifference,
-        &[0x10, 0x20],
-        &[0xA, 0x10, 0x14, 0x20],
-    ),
-];
-
-#[test]
-fn sets_changed_by_sets(rt: HostRuntime) {
-    for (own, operation, other, want) in CHANGED.iter() {
-        expect_set(&rt, changed_by(rt.alloc(), own, *operation, other), want);
-    }
 }
 
 /// The builder's set has after each change, one after another, the ends beside it.
@@ -72,7 +19,7 @@ fn expect_changes(
     changes: &[(Change, &[u32])],
 ) {
     for (change, ends) in changes {
-        expect(rt, change.is_applied(&mut builder), "changed");
+        expect(rt, change.apply(&mut builder).is_ok(), "changed");
         expect_set(rt, set_so_far(&builder), ends);
     }
 }
@@ -233,17 +180,4 @@ fn changes_one_after_another(rt: HostRuntime) {
             None => rt.panic("no builder"),
         }
     }
-}
-
-/// A builder is empty until something is added.
-#[test]
-fn empty_until_added(rt: HostRuntime) {
-    let mut builder = empty_builder(rt.alloc());
-    let letter = Change::Add(Addition::Char('A'));
-    let found = [
-        is_empty(&builder),
-        letter.is_applied(&mut builder),
-        is_empty(&builder),
-    ];
-    expect_same(&rt, found, [true, true, false], "empty, added, empty");
 }

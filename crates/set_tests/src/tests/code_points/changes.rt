@@ -1,28 +1,17 @@
-//! The builder's calls: as rows of tables name them, and each other one in a helper of its own.
+//! The builder's calls, as rows of tables name them.
 use crate::tests::points::set_of;
 use icu_invlist::codepointinvlist::{CodePointInversionList, CodePointInversionListBuilder};
 use icu_zerovec::MemoryError;
 use std::alloc::Global;
 use std::ops::Range;
 
-/// A builder of no code point.
-pub fn empty_builder(alloc: Global) -> CodePointInversionListBuilder {
-    CodePointInversionListBuilder::new(alloc)
-}
-
-/// Whether the builder has no code point.
-pub fn is_empty(builder: &CodePointInversionListBuilder) -> bool {
-    builder.is_empty()
-}
-
 /// A builder of the set with these ends. `None` where memory was refused.
 pub fn builder_of(alloc: Global, ends: &[u32]) -> Option<CodePointInversionListBuilder> {
-    let mut builder = empty_builder(alloc);
     let set = set_of(alloc, ends)?;
-    if Operation::Union.is_applied(&mut builder, &set) {
-        Some(builder)
-    } else {
-        None
+    let mut builder = CodePointInversionListBuilder::new(alloc);
+    match Operation::Union.apply(&mut builder, &set) {
+        Ok(()) => Some(builder),
+        Err(_) => None,
     }
 }
 
@@ -41,7 +30,6 @@ pub fn set_built(
 }
 
 /// A change of a builder's set by another set.
-#[derive(Clone, Copy)]
 pub enum Operation {
     Union,
     Difference,
@@ -51,8 +39,8 @@ pub enum Operation {
 
 impl Operation {
     /// Changes the builder's set by this one.
-    fn apply(
-        self,
+    pub fn apply(
+        &self,
         builder: &mut CodePointInversionListBuilder,
         set: &CodePointInversionList<'_>,
     ) -> Result<(), MemoryError> {
@@ -63,20 +51,10 @@ impl Operation {
             Operation::SymmetricDifference => builder.complement_set(set),
         }
     }
-
-    /// Changes the builder's set by this one: whether there was memory for it.
-    pub fn is_applied(
-        self,
-        builder: &mut CodePointInversionListBuilder,
-        set: &CodePointInversionList<'_>,
-    ) -> bool {
-        self.apply(builder, set).is_ok()
-    }
 }
 
 /// An addition to a builder's set. A range reaches to its second number, which it holds unless it
 /// is named by the end that it stays below.
-#[derive(Clone, Copy)]
 pub enum Addition {
     Char(char),
     Number(u32),
@@ -88,13 +66,13 @@ pub enum Addition {
 
 impl Addition {
     /// Adds to the builder's set.
-    fn apply(self, builder: &mut CodePointInversionListBuilder) -> Result<(), MemoryError> {
+    fn apply(&self, builder: &mut CodePointInversionListBuilder) -> Result<(), MemoryError> {
         match self {
-            Addition::Char(c) => builder.add_char(c),
-            Addition::Number(c) => builder.add32(c),
-            Addition::Chars(first, last) => builder.add_range(first..=last),
-            Addition::CharsBelow(start, end) => builder.add_range(start..end),
-            Addition::Numbers(first, last) => builder.add_range32(first..=last),
+            Addition::Char(c) => builder.add_char(*c),
+            Addition::Number(c) => builder.add32(*c),
+            Addition::Chars(first, last) => builder.add_range(*first..=*last),
+            Addition::CharsBelow(start, end) => builder.add_range(*start..*end),
+            Addition::Numbers(first, last) => builder.add_range32(*first..=*last),
             Addition::All => builder.add_range32(..),
         }
     }
@@ -102,7 +80,6 @@ impl Addition {
 
 /// A removal from a builder's set. A range reaches to its second number, which it holds unless it
 /// is named by the end that it stays below.
-#[derive(Clone, Copy)]
 pub enum Removal {
     Char(char),
     Number(u32),
@@ -114,21 +91,20 @@ pub enum Removal {
 
 impl Removal {
     /// Removes from the builder's set.
-    fn apply(self, builder: &mut CodePointInversionListBuilder) -> Result<(), MemoryError> {
+    fn apply(&self, builder: &mut CodePointInversionListBuilder) -> Result<(), MemoryError> {
         match self {
-            Removal::Char(c) => builder.remove_char(c),
-            Removal::Number(c) => builder.remove32(c),
-            Removal::CharsBelow(start, end) => builder.remove_range(start..end),
-            Removal::CharsFrom(start) => builder.remove_range(start..),
-            Removal::Numbers(first, last) => builder.remove_range32(first..=last),
-            Removal::NumbersBelow(start, end) => builder.remove_range32(start..end),
+            Removal::Char(c) => builder.remove_char(*c),
+            Removal::Number(c) => builder.remove32(*c),
+            Removal::CharsBelow(start, end) => builder.remove_range(*start..*end),
+            Removal::CharsFrom(start) => builder.remove_range(*start..),
+            Removal::Numbers(first, last) => builder.remove_range32(*first..=*last),
+            Removal::NumbersBelow(start, end) => builder.remove_range32(*start..*end),
         }
     }
 }
 
 /// What is kept of a builder's set. A range reaches to its second number, which it holds unless it
 /// is named by the end that it stays below.
-#[derive(Clone, Copy)]
 pub enum Keeping {
     Char(char),
     Number(u32),
@@ -140,21 +116,23 @@ pub enum Keeping {
 
 impl Keeping {
     /// Keeps this of the builder's set alone.
-    fn apply(self, builder: &mut CodePointInversionListBuilder) {
+    fn apply(&self, builder: &mut CodePointInversionListBuilder) {
         match self {
-            Keeping::Char(c) => builder.retain_char(c),
-            Keeping::Number(c) => builder.retain32(c),
-            Keeping::Chars(first, last) => builder.retain_range(first..=last),
-            Keeping::CharsBelow(start, end) => builder.retain_range(start..end),
-            Keeping::Numbers(first, last) => builder.retain_range32(first..=last),
-            Keeping::NumbersBelow(start, end) => builder.retain_range32(Range { start, end }),
+            Keeping::Char(c) => builder.retain_char(*c),
+            Keeping::Number(c) => builder.retain32(*c),
+            Keeping::Chars(first, last) => builder.retain_range(*first..=*last),
+            Keeping::CharsBelow(start, end) => builder.retain_range(*start..*end),
+            Keeping::Numbers(first, last) => builder.retain_range32(*first..=*last),
+            Keeping::NumbersBelow(start, end) => builder.retain_range32(Range {
+                start: *start,
+                end: *end,
+            }),
         }
     }
 }
 
 /// What is turned round in a builder's set. A range reaches to its second number, which it holds
 /// unless it is named by the end that it stays below.
-#[derive(Clone, Copy)]
 pub enum Turn {
     All,
     Char(char),
@@ -167,21 +145,20 @@ pub enum Turn {
 
 impl Turn {
     /// Turns this round in the builder's set.
-    fn apply(self, builder: &mut CodePointInversionListBuilder) -> Result<(), MemoryError> {
+    fn apply(&self, builder: &mut CodePointInversionListBuilder) -> Result<(), MemoryError> {
         match self {
             Turn::All => builder.complement(),
-            Turn::Char(c) => builder.complement_char(c),
-            Turn::Number(c) => builder.complement32(c),
-            Turn::Chars(first, last) => builder.complement_range(first..=last),
-            Turn::CharsBelow(start, end) => builder.complement_range(start..end),
-            Turn::Numbers(first, last) => builder.complement_range32(first..=last),
-            Turn::NumbersBelow(start, end) => builder.complement_range32(start..end),
+            Turn::Char(c) => builder.complement_char(*c),
+            Turn::Number(c) => builder.complement32(*c),
+            Turn::Chars(first, last) => builder.complement_range(*first..=*last),
+            Turn::CharsBelow(start, end) => builder.complement_range(*start..*end),
+            Turn::Numbers(first, last) => builder.complement_range32(*first..=*last),
+            Turn::NumbersBelow(start, end) => builder.complement_range32(*start..*end),
         }
     }
 }
 
 /// A change of a builder's set.
-#[derive(Clone, Copy)]
 pub enum Change {
     Add(Addition),
     Remove(Removal),
@@ -191,7 +168,7 @@ pub enum Change {
 
 impl Change {
     /// Changes the builder's set.
-    fn apply(self, builder: &mut CodePointInversionListBuilder) -> Result<(), MemoryError> {
+    pub fn apply(&self, builder: &mut CodePointInversionListBuilder) -> Result<(), MemoryError> {
         match self {
             Change::Add(addition) => addition.apply(builder),
             Change::Remove(removal) => removal.apply(builder),
@@ -201,10 +178,5 @@ impl Change {
             }
             Change::Turn(turn) => turn.apply(builder),
         }
-    }
-
-    /// Changes the builder's set: whether there was memory for it.
-    pub fn is_applied(self, builder: &mut CodePointInversionListBuilder) -> bool {
-        self.apply(builder).is_ok()
     }
 }

@@ -1,12 +1,11 @@
 //! Lists and ranges that are no sets, and the texts of errors.
 use super::*;
-use crate::tests::points::{is_valid, list_of, set_of_range, set_or_fault, set_over};
-use crate::tests::{expect, expect_same, expect_text};
+use crate::tests::points::{set_of_range, set_or_fault};
+use crate::tests::{expect_same, expect_told};
 use icu_invlist::codepointinvlist::{
     InvalidSetError, RangeError, RangeOf, SetError, SetJsonError, TryRangeError,
 };
 use icu_zerovec::PotentialCodePoint;
-use std::fmt::Display;
 use std::ops::Range;
 
 /// The number that is shown at this place.
@@ -15,7 +14,7 @@ fn shown_at(points: &[PotentialCodePoint], place: usize) -> Option<u32> {
 }
 
 /// The numbers that are shown are these.
-fn expect_points(rt: &impl Abort, points: &[PotentialCodePoint], shown: &[u32]) {
+pub fn expect_points(rt: &impl Abort, points: &[PotentialCodePoint], shown: &[u32]) {
     expect_same(rt, points.len(), shown.len(), "numbers shown");
     for (place, want) in shown.iter().enumerate() {
         expect_same(rt, shown_at(points, place), Some(*want), "a number shown");
@@ -49,17 +48,6 @@ fn invalid_lists(rt: HostRuntime) {
     }
 }
 
-/// The list that is no set is copied, so that it owns its bytes.
-#[test]
-fn invalid_packed_list(rt: HostRuntime) {
-    let list = list_of(&rt, &[1, 0, 0, 1, 0, 0]);
-    expect(&rt, !is_valid(&list), "the end stands twice");
-    match list.into_owned(rt.alloc()) {
-        Ok(owned) => expect_refused(&rt, set_over(rt.alloc(), owned), &[1, 1]),
-        Err(_) => rt.panic("no memory"),
-    }
-}
-
 /// Why the range is refused.
 fn fault_of<R: RangeOf<char>>(alloc: Global, range: R) -> Option<TryRangeError> {
     set_of_range(alloc, range).err()
@@ -83,14 +71,6 @@ fn empty_and_reversed_ranges(rt: HostRuntime) {
         Some(TryRangeError::Invalid(RangeError(0, 0))),
     ];
     expect_same(&rt, found, want, "refused ranges");
-}
-
-/// The error is told so.
-fn expect_told<E: Display>(rt: &(impl Abort + AllocGlobal), error: &E, want: &str) {
-    match error.to_string(rt.alloc()) {
-        Ok(text) => expect_text(rt, text, want),
-        Err(_) => rt.panic("no text"),
-    }
 }
 
 #[test]

@@ -1,32 +1,33 @@
 //! The ranges, the gaps and the characters of sets.
 use super::*;
-use crate::tests::expect_same;
-use crate::tests::points::{all, made_set, next_char, next_gap, next_range};
+use crate::tests::points::{ends_of, set_of};
+use crate::tests::{expect_same, say};
 
 /// The set's ranges are these, by their first and their last number, and no more.
 fn expect_ranges(rt: &impl Abort, set: &CodePointInversionList<'_>, want: &[(u32, u32)]) {
     let mut ranges = set.iter_ranges();
-    expect_same(rt, ranges.len(), want.len(), "ranges");
+    let counts = [ranges.len(), ranges.size_hint().0];
+    expect_same(rt, counts, [want.len(); 2], "ranges");
     for range in want {
-        expect_same(rt, next_range(&mut ranges), Some(*range), "a range");
+        expect_same(rt, ends_of(ranges.next()), Some(*range), "a range");
     }
-    expect_same(rt, next_range(&mut ranges), None, "a range too many");
+    expect_same(rt, ends_of(ranges.next()), None, "a range too many");
 }
 
 /// The set's gaps are these, by their first and their last number, and no more.
 fn expect_gaps(rt: &impl Abort, set: &CodePointInversionList<'_>, want: &[(u32, u32)]) {
     let mut gaps = set.iter_ranges_complemented();
     for gap in want {
-        expect_same(rt, next_gap(&mut gaps), Some(*gap), "a gap");
+        expect_same(rt, ends_of(gaps.next()), Some(*gap), "a gap");
     }
-    expect_same(rt, next_gap(&mut gaps), None, "a gap too many");
+    expect_same(rt, ends_of(gaps.next()), None, "a gap too many");
 }
 
 /// A set's ranges and gaps, by their first and their last number.
 type Pieces = &'static [(u32, u32)];
 
 /// Sets by their ends, their ranges and their gaps.
-static GAPS: [(&[u32], Pieces, Pieces); 3] = [
+static GAPS: [(&[u32], Pieces, Pieces); 4] = [
     (
         &[0xA, 0x14, 0x28, 0x32],
         &[(0xA, 0x13), (0x28, 0x31)],
@@ -38,27 +39,40 @@ static GAPS: [(&[u32], Pieces, Pieces); 3] = [
         &[(0xA, 0x13)],
     ),
     (&[], &[], &[(0, 0x10_FFFF)]),
+    (&[0, 0x11_0000], &[(0, 0x10_FFFF)], &[]),
 ];
 
+/// Calls: `CodePointInversionList::iter_ranges`, `IterRanges::len`, `IterRanges::size_hint`,
+/// `IterRanges::next`, `CodePointInversionList::iter_ranges_complemented`,
+/// `IterRangesComplemented::next`.
 #[test]
-fn ranges_and_gaps(rt: HostRuntime) {
+fn ranges_and_gaps_quiet(rt: HostRuntime) {
     for (ends, ranges, gaps) in GAPS.iter() {
-        let set = made_set(&rt, ends);
+        let Some(set) = set_of(rt.alloc(), ends) else {
+            return;
+        };
+        say(&rt, "call");
         expect_ranges(&rt, &set, ranges);
         expect_gaps(&rt, &set, gaps);
+        say(&rt, "done");
     }
-    expect_gaps(&rt, &all(), &[]);
 }
 
 /// The characters of a set, and its end.
 static GIVEN: [Option<char>; 5] = [Some('A'), Some('B'), Some('C'), Some('E'), None];
 
 /// The surrogate is no character.
+///
+/// Calls: `CodePointInversionList::iter_chars`, `IterChars::next`.
 #[test]
-fn characters(rt: HostRuntime) {
-    let set = made_set(&rt, &[0x41, 0x44, 0x45, 0x46, 0xD800, 0xD801]);
+fn characters_quiet(rt: HostRuntime) {
+    let Some(set) = set_of(rt.alloc(), &[0x41, 0x44, 0x45, 0x46, 0xD800, 0xD801]) else {
+        return;
+    };
+    say(&rt, "call");
     let mut chars = set.iter_chars();
     for want in GIVEN.iter() {
-        expect_same(&rt, next_char(&mut chars), *want, "a character");
+        expect_same(&rt, chars.next(), *want, "a character");
     }
+    say(&rt, "done");
 }

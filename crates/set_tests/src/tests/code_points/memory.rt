@@ -31,14 +31,15 @@ fn expect_ends_of(
 }
 
 /// The call is over, which was answered or refused: the builder's set is `after`, and where the
-/// call was refused it is that of A to Z.
+/// call was refused it is `own` still.
 fn expect_answer(
     rt: &(impl Abort + AllocGlobal + Print),
     is_answered: bool,
     builder: CodePointInversionListBuilder,
+    own: &[u32],
     after: &[u32],
 ) {
     tell(rt, !is_answered);
-    let want = if is_answered { after } else { &LETTERS };
+    let want = if is_answered { after } else { own };
     expect_ends_of(rt, set_built(builder), want);
 }

@@ -1,10 +1,7 @@
 //! What sets answer.
 use super::*;
-use crate::tests::expect_same;
-use crate::tests::points::{
-    all, counts_of, holds_char, holds_range, holds_set, made_set, nth_of, place_of, place_of_char,
-    spans_of,
-};
+use crate::tests::points::{all, basic, counts_of, ends_of, set_of};
+use crate::tests::{expect_same, hash_of, say};
 
 const GREATER: [u32; 8] = [0xA, 0x14, 0x28, 0x32, 0x46, 0x50, 0x64, 0x6E];
 
@@ -18,34 +15,42 @@ static SUBSETS: [(&[u32], &[u32], bool, &str); 4] = [
     (&SMALLER, &GREATER, false, "the greater in the smaller"),
 ];
 
+/// Calls: `CodePointInversionList::contains_set`.
 #[test]
-fn subsets(rt: HostRuntime) {
+fn subsets_quiet(rt: HostRuntime) {
     for (whole, part, want, what) in SUBSETS.iter() {
-        let whole = made_set(&rt, whole);
-        let part = made_set(&rt, part);
-        expect_same(&rt, holds_set(&whole, &part), *want, what);
+        let Some(whole) = set_of(rt.alloc(), whole) else {
+            return;
+        };
+        let Some(part) = set_of(rt.alloc(), part) else {
+            return;
+        };
+        say(&rt, "call");
+        let found = whole.contains_set(&part);
+        say(&rt, "done");
+        expect_same(&rt, found, *want, what);
     }
 }
 
+/// A set that is made twice has one hash.
+///
+/// Calls: `CodePointInversionList::all`, `CodePointInversionList::bmp`,
+/// `CodePointInversionList::contains_range`, `CodePointInversionList::is_empty`.
 #[test]
-fn ranges_held(rt: HostRuntime) {
-    let letters = made_set(&rt, &[0x41, 0x44]);
+fn all_and_basic_quiet(rt: HostRuntime) {
+    say(&rt, "call");
     let all = all();
-    let found = [
-        holds_range(&letters, 'A'..='C'),
-        holds_range(&letters, 'A'..='D'),
-        holds_range(&letters, 'B'..'B'),
-        holds_char(&letters, 'C'),
-        holds_range(&all, ..),
-    ];
-    let want = [true, false, false, true, true];
-    expect_same(
-        &rt,
-        found,
-        want,
-        "A to C, A to D, no character, C, all in all",
-    );
+    let basic = basic();
+    let found = [all.contains_range(..), basic == all, basic.is_empty()];
+    let hashes = [hash_of(&basic), hash_of(&CodePointInversionList::bmp())];
+    say(&rt, "done");
+    let what = "all in all, the basic plane is all, it is empty";
+    expect_same(&rt, found, [true, false, false], what);
+    expect_same(&rt, hashes[0], hashes[1], "hashes");
 }
+
+/// Numbers, and how many of the set's numbers stand below each, where the set holds it.
+type Places = &'static [(u32, Option<usize>)];
 
 /// The set has these ranges, by their places.
 fn expect_nth(
@@ -54,19 +59,16 @@ fn expect_nth(
     rows: &[(usize, Option<(u32, u32)>)],
 ) {
     for (index, want) in rows {
-        let found = nth_of(set, *index);
+        let found = ends_of(set.get_nth_range(*index));
         expect_same(rt, (*index, found), (*index, *want), "a range");
     }
 }
 
-/// So many of the set's numbers stand below each, where the set holds it.
-fn expect_positions(
-    rt: &impl Abort,
-    set: &CodePointInversionList<'_>,
-    rows: &[(u32, Option<usize>)],
-) {
+/// The set holds the numbers that have a place, and these are their places.
+fn expect_positions(rt: &impl Abort, set: &CodePointInversionList<'_>, rows: Places) {
     for (c, want) in rows {
-        expect_same(rt, (*c, place_of(set, *c)), (*c, *want), "a place");
+        let found = (*c, set.contains32(*c), set.position32(*c));
+        expect_same(rt, found, (*c, want.is_some(), *want), "a place");
     }
 }
 
@@ -80,7 +82,9 @@ static NTH: [(usize, Option<(u32, u32)>); 5] = [
 ];
 
 /// The places of numbers among them.
-static POSITIONS: [(u32, Option<usize>); 5] = [
+static POSITIONS: [(u32, Option<usize>); 7] = [
+    (0x40, None),
+    (0x41, Some(0)),
     (0x43, Some(2)),
     (0x44, None),
     (0x45, Some(3)),
@@ -88,52 +92,29 @@ static POSITIONS: [(u32, Option<usize>); 5] = [
     (u32::MAX, None),
 ];
 
+/// Calls: `CodePointInversionList::get_nth_range`, `CodePointInversionList::contains32`,
+/// `CodePointInversionList::position32`, `CodePointInversionList::size`,
+/// `CodePointInversionList::get_range_count`, `CodePointInversionList::contains_range`,
+/// `CodePointInversionList::contains`, `CodePointInversionList::position`.
 #[test]
-fn ranges_and_positions(rt: HostRuntime) {
-    let set = made_set(&rt, &[0x41, 0x44, 0x45, 0x46, 0xD800, 0xD801]);
+fn ranges_and_positions_quiet(rt: HostRuntime) {
+    let Some(set) = set_of(rt.alloc(), &[0x41, 0x44, 0x45, 0x46, 0xD800, 0xD801]) else {
+        return;
+    };
+    say(&rt, "call");
     expect_nth(&rt, &set, &NTH);
     expect_positions(&rt, &set, &POSITIONS);
-    expect_same(&rt, counts_of(&set), [5, 3], "size and ranges");
-    expect_same(&rt, place_of_char(&set, 'E'), Some(3), "the place of E");
-}
-
-/// Nor has the set of A to Z the greatest number, or a range of the greatest index.
-#[test]
-fn places_of_the_greatest_number(rt: HostRuntime) {
-    let letters = made_set(&rt, &[0x41, 0x5B]);
-    expect_positions(&rt, &letters, &[(u32::MAX, None)]);
-    expect_nth(&rt, &letters, &[(usize::MAX, None)]);
-}
-
-/// A text, and how far it lies in a set and beside it, by the front and by the tail.
-type TextSpans = (&'static str, [usize; 4]);
-
-/// Sets by their ends, and texts.
-static SPANS: [(&[u32], &[TextSpans]); 2] = [
-    (
-        &[0xE9, 0xEA],
-        &[
-            ("ééa", [4, 0, 5, 4]),
-            ("aéé", [0, 1, 1, 5]),
-            ("", [0, 0, 0, 0]),
-        ],
-    ),
-    (
-        &[0x41, 0x44, 0x46, 0x4B],
-        &[("XYZABFH", [0, 3, 3, 7]), ("ABCXYZ", [3, 0, 6, 3])],
-    ),
-];
-
-/// The texts lie so far in the set.
-fn expect_text_spans(rt: &impl Abort, set: &CodePointInversionList<'_>, rows: &[TextSpans]) {
-    for (text, want) in rows {
-        expect_same(rt, spans_of(set, text), *want, text);
-    }
-}
-
-#[test]
-fn spans(rt: HostRuntime) {
-    for (ends, rows) in SPANS.iter() {
-        expect_text_spans(&rt, &made_set(&rt, ends), rows);
-    }
+    let counts = counts_of(&set);
+    let held = [
+        set.contains_range('A'..='C'),
+        set.contains_range('A'..='D'),
+        set.contains_range('B'..'B'),
+        set.contains('C'),
+    ];
+    let place = set.position('E');
+    say(&rt, "done");
+    expect_same(&rt, counts, [5, 3], "size and ranges");
+    let what = "A to C, A to D, no character, C";
+    expect_same(&rt, held, [true, false, false, true], what);
+    expect_same(&rt, place, Some(3), "the place of E");
 }

@@ -34,37 +34,12 @@ fn units_of(alloc: Global, set: &CodePointInversionList<'_>) -> Result<Vec<u16>,
     to_serialized(alloc, set)
 }
 
-/// How many units are written to the slice, or why none are.
-fn put_units(set: &CodePointInversionList<'_>, units: &mut [u16]) -> Result<usize, WriteError> {
-    write_serialized(set, units)
-}
-
-/// How many units the set has.
-fn length_of(set: &CodePointInversionList<'_>) -> Option<usize> {
-    serialized_len(set)
-}
-
 /// The set that the units begin with, and how many of them it takes, or why there is none.
 fn set_read(
     alloc: Global,
     units: &[u16],
 ) -> Result<(CodePointInversionList<'static>, usize), SerializedSetError> {
     from_serialized(alloc, units)
-}
-
-/// Why the units are no set.
-fn fault_of(alloc: Global, units: &[u16]) -> Option<SerializedSetError> {
-    set_read(alloc, units).err()
-}
-
-#[test]
-fn written_in_units(rt: HostRuntime) {
-    for (ends, want) in WRITTEN.iter() {
-        match units_of(rt.alloc(), &made_set(&rt, ends)) {
-            Ok(units) => expect_units(&rt, units, want),
-            Err(_) => rt.panic("no units"),
-        }
-    }
 }
 
 /// The set of `a` to `z` in a slice that has room for more, and in one that is too short.
@@ -79,15 +54,23 @@ fn written_into_slices_quiet(rt: HostRuntime) {
     let mut short = [7; 2];
     say(&rt, "call");
     let found = [
-        put_units(&letters, &mut long),
-        put_units(&letters, &mut short),
+        write_serialized(&letters, &mut long),
+        write_serialized(&letters, &mut short),
     ];
-    let len = length_of(&letters);
+    let len = serialized_len(&letters);
     say(&rt, "done");
     expect_same(&rt, found, [Ok(3), Err(WriteError::Short)], "answers");
     expect_same(&rt, len, Some(3), "the length");
     expect_same(&rt, long, [2, 0x61, 0x7B, 7], "written, and the rest");
     expect_same(&rt, short, [7, 7], "nothing written");
+}
+
+/// The set with these ends has these units.
+fn expect_written(rt: &(impl Abort + AllocGlobal), ends: &[u32], want: &[u16]) {
+    match units_of(rt.alloc(), &made_set(rt, ends)) {
+        Ok(units) => expect_units(rt, units, want),
+        Err(_) => rt.panic("no units"),
+    }
 }
 
 /// The set that the units begin with has these ends, and takes so many units.
@@ -102,8 +85,9 @@ fn expect_read(rt: &(impl Abort + AllocGlobal), units: &[u16], ends: &[u32], len
 }
 
 #[test]
-fn read_of_units(rt: HostRuntime) {
+fn written_and_read(rt: HostRuntime) {
     for (ends, units) in WRITTEN.iter() {
+        expect_written(&rt, ends, units);
         expect_read(&rt, units, ends, units.len());
     }
 }
@@ -143,11 +127,17 @@ static REFUSED: [(&[u16], SerializedSetError); 11] = [
     ),
 ];
 
+/// Units that say no set are refused before memory is asked for.
+///
+/// Calls: `serialized::from_serialized`.
 #[test]
-fn refused_units(rt: HostRuntime) {
+fn refused_units_quiet(rt: HostRuntime) {
+    say(&rt, "call");
     for (units, want) in REFUSED.iter() {
-        expect_same(&rt, fault_of(rt.alloc(), units), Some(*want), "the fault");
+        let fault = set_read(rt.alloc(), units).err();
+        expect_same(&rt, fault, Some(*want), "the fault");
     }
+    say(&rt, "done");
 }
 
 /// The set of every second code point below `limit`, which is even: its ends are all numbers below.
@@ -164,14 +154,14 @@ fn every_second(rt: &(impl Abort + AllocGlobal), limit: u32) -> CodePointInversi
 /// 0x7FFE units of ends, and two more than that.
 #[test]
 fn longest_in_units(rt: HostRuntime) {
-    let longest = length_of(&every_second(&rt, 0x7FFE));
+    let longest = serialized_len(&every_second(&rt, 0x7FFE));
     let longer = every_second(&rt, 0x8000);
     let fault = units_of(rt.alloc(), &longer).err();
     let found = (
         longest,
-        length_of(&longer),
+        serialized_len(&longer),
         fault,
-        put_units(&longer, &mut []),
+        write_serialized(&longer, &mut []),
     );
     let want = (
         Some(0x7FFF),
@@ -218,15 +208,4 @@ fn from_serialized_refused(rt: HostRuntime) {
     say(&rt, "call");
     let made = set_read(rt.alloc(), &[0x8003, 1, 0, 1, 0]);
     expect_basic_or_refused(&rt, made);
-}
-
-/// Units that say no set are refused before memory is asked for.
-///
-/// Calls: `serialized::from_serialized`.
-#[test]
-fn refused_units_quiet(rt: HostRuntime) {
-    say(&rt, "call");
-    let fault = fault_of(rt.alloc(), &[2, 0x5B, 0x41]);
-    say(&rt, "done");
-    expect_same(&rt, fault, Some(SerializedSetError::Invalid), "the fault");
 }

@@ -23,29 +23,6 @@ fn frozen_words(alloc: Global) -> Option<FrozenCodePointSetAndStrings> {
     frozen(alloc, &words(alloc)?)
 }
 
-/// A copy of the frozen set. `None` where memory was refused.
-fn copy_of_frozen(
-    alloc: Global,
-    set: &FrozenCodePointSetAndStrings,
-) -> Option<FrozenCodePointSetAndStrings> {
-    set.try_clone(alloc).ok()
-}
-
-/// Whether the two frozen sets are equal.
-fn are_same(a: &FrozenCodePointSetAndStrings, b: &FrozenCodePointSetAndStrings) -> bool {
-    *a == *b
-}
-
-/// Whether the frozen set holds the text.
-fn has_text(frozen: &FrozenCodePointSetAndStrings, text: &str) -> bool {
-    frozen.contains_str(text)
-}
-
-/// Whether the frozen set holds the character, and whether the number.
-fn has_points(frozen: &FrozenCodePointSetAndStrings, ch: char, cp: u32) -> [bool; 2] {
-    [frozen.contains(ch), frozen.contains32(cp)]
-}
-
 /// Texts, and whether the set of the words holds them.
 static TEXTS: [(&str, bool); 9] = [
     ("", true),
@@ -59,60 +36,28 @@ static TEXTS: [(&str, bool); 9] = [
     ("\u{10000}", false),
 ];
 
-/// The frozen set holds these texts, and these code points.
-fn expect_texts(rt: &impl Abort, frozen: &FrozenCodePointSetAndStrings) {
+/// Calls: `FrozenCodePointSetAndStrings::as_set`, `FrozenCodePointSetAndStrings::contains`,
+/// `FrozenCodePointSetAndStrings::contains32`, `FrozenCodePointSetAndStrings::contains_str`.
+#[test]
+fn frozen_with_strings_quiet(rt: HostRuntime) {
+    let Some(frozen) = frozen_words(rt.alloc()) else {
+        return;
+    };
+    say(&rt, "call");
     for (text, want) in TEXTS.iter() {
-        expect_same(rt, has_text(frozen, text), *want, text);
+        expect_same(&rt, frozen.contains_str(text), *want, text);
     }
-    let points = [
-        has_points(frozen, 'Z', 0x7A),
-        has_points(frozen, '[', 0x11_0041),
+    let held = [
+        frozen.contains('Z'),
+        frozen.contains32(0x7A),
+        frozen == frozen,
     ];
-    expect_same(rt, points, [[true, true], [false, false]], "code points");
-}
-
-#[test]
-fn texts_in_frozen_sets(rt: HostRuntime) {
-    match frozen_words(rt.alloc()) {
-        Some(frozen) => expect_texts(&rt, &frozen),
-        None => rt.panic("no memory"),
-    }
-}
-
-/// All code points and "ab", frozen. `None` where memory was refused.
-fn frozen_all_and_ab(alloc: Global) -> Option<FrozenCodePointSetAndStrings> {
-    frozen(alloc, &all_and_ab(alloc)?)
-}
-
-/// Whether a frozen set that was made is equal to this one. `None` where it was not made.
-fn is_same(
-    frozen: &FrozenCodePointSetAndStrings,
-    other: Option<FrozenCodePointSetAndStrings>,
-) -> Option<bool> {
-    match other {
-        Some(other) => Some(are_same(frozen, &other)),
-        None => None,
-    }
-}
-
-/// The frozen set is equal to its copy, and not to all code points and "ab", frozen.
-fn expect_equalities(rt: &(impl Abort + AllocGlobal), frozen: &FrozenCodePointSetAndStrings) {
-    let copy = is_same(frozen, copy_of_frozen(rt.alloc(), frozen));
-    let other = is_same(frozen, frozen_all_and_ab(rt.alloc()));
-    expect_same(
-        rt,
-        [copy, other],
-        [Some(true), Some(false)],
-        "the copy alone",
-    );
-}
-
-#[test]
-fn equal_frozen_sets_with_strings(rt: HostRuntime) {
-    match frozen_words(rt.alloc()) {
-        Some(frozen) => expect_equalities(&rt, &frozen),
-        None => rt.panic("no memory"),
-    }
+    let not_held = [frozen.contains('['), frozen.contains32(0x11_0041)];
+    let counts = counts_of(frozen.as_set());
+    say(&rt, "done");
+    expect_same(&rt, held, [true; 3], "code points, and equal to itself");
+    expect_same(&rt, not_held, [false; 2], "code points that are not held");
+    expect_same(&rt, counts, [56, 52, 4], "members");
 }
 
 /// The call is over: the set answers as it has to, where it was frozen.
@@ -120,9 +65,9 @@ fn expect_frozen(rt: &(impl Abort + Print), made: Option<FrozenCodePointSetAndSt
     tell(rt, made.is_none());
     if let Some(frozen) = made {
         let found = [
-            has_text(&frozen, "abc"),
-            has_text(&frozen, "b"),
-            has_points(&frozen, '1', 0x31)[0],
+            frozen.contains_str("abc"),
+            frozen.contains_str("b"),
+            frozen.contains('1'),
         ];
         let what = "a string, a letter and a digit";
         expect_same(rt, found, [true, true, false], what);
@@ -150,28 +95,7 @@ fn try_clone_of_frozen_with_strings_refused(rt: HostRuntime) {
         return;
     };
     say(&rt, "call");
-    let made = copy_of_frozen(rt.alloc(), &frozen);
-    expect_frozen(&rt, made);
-    expect(&rt, has_text(&frozen, "abc"), "the set that was lent");
-}
-
-/// Calls: `FrozenCodePointSetAndStrings::as_set`, `FrozenCodePointSetAndStrings::contains`,
-/// `FrozenCodePointSetAndStrings::contains32`, `FrozenCodePointSetAndStrings::contains_str`.
-#[test]
-fn frozen_with_strings_quiet(rt: HostRuntime) {
-    let Some(frozen) = frozen_words(rt.alloc()) else {
-        return;
-    };
-    say(&rt, "call");
-    let points = has_points(&frozen, 'A', 0x41);
-    let others = [
-        has_text(&frozen, "A"),
-        has_text(&frozen, "abc"),
-        are_same(&frozen, &frozen),
-    ];
-    let size = counts_of(frozen.as_set())[0];
-    say(&rt, "done");
-    expect_same(&rt, points, [true; 2], "code points");
-    expect_same(&rt, others, [true; 3], "texts, and equal to itself");
-    expect_same(&rt, size, 56, "size");
+    let made = frozen.try_clone(rt.alloc());
+    expect_frozen(&rt, made.ok());
+    expect(&rt, frozen.contains_str("abc"), "the set that was lent");
 }

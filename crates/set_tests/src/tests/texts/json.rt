@@ -1,8 +1,8 @@
 //! Sets to and from JSON.
 use super::*;
 use crate::tests::code_points::json::{expect_value, expect_written, made_value, value_of};
-use crate::tests::texts::memory::expect_all_and_ab;
-use crate::tests::{expect, say, tell};
+use crate::tests::texts::memory::{expect_all_and_ab, expect_gathered};
+use crate::tests::{say, tell};
 use icu_text_sets::codepointinvliststringlist::StringListJsonError;
 use serde_json::Value;
 
@@ -53,31 +53,15 @@ fn refused_in_json(rt: HostRuntime) {
     expect_said(&rt, Some(StringListJsonError::Memory), "no memory");
 }
 
-/// The set of two characters and two other texts.
-fn gathered_four(alloc: Global) -> Option<CodePointInversionListAndStringList<'static>> {
-    gathered(alloc, &["abc", "a", "", "b"])
-}
-
-/// The value of that set.
+/// The value of the set of two characters and two other texts. `None` where memory was refused.
 fn json_of_four(alloc: Global) -> Option<Value> {
-    json_of(alloc, &gathered_four(alloc)?)
+    json_of(alloc, &gathered(alloc, &["abc", "a", "", "b"])?)
 }
 
 #[test]
 fn written_to_json(rt: HostRuntime) {
     let want = "{\"cp_inv_list\":[\"a-b\"],\"str_list\":[\"\",\"abc\"]}";
     expect_written(&rt, json_of_four(rt.alloc()), want);
-}
-
-/// Whether the set that is read of its value is equal to it. `None` where memory was refused.
-fn is_read_back(alloc: Global) -> Option<bool> {
-    let read = set_read(alloc, &json_of_four(alloc)?).ok()?;
-    Some(are_equal(&read, &gathered_four(alloc)?))
-}
-
-#[test]
-fn read_back_from_json(rt: HostRuntime) {
-    expect(&rt, is_read_back(rt.alloc()) == Some(true), "read back");
 }
 
 /// Calls: `CodePointInversionListAndStringList::to_json`.
@@ -92,14 +76,15 @@ fn to_json_refused(rt: HostRuntime) {
     expect_all_and_ab(&rt, &set);
 }
 
-/// Says that a call is over. It was refused for memory alone.
-fn tell_read(
+/// The call is over: the set has a code point and two strings; nothing but memory was wanting where
+/// none was read.
+fn expect_read(
     rt: &(impl Abort + Print),
     answer: Result<CodePointInversionListAndStringList<'_>, StringListJsonError>,
 ) {
     match answer {
-        Ok(_) => tell(rt, false),
-        Err(StringListJsonError::Memory) => tell(rt, true),
+        Ok(set) => expect_gathered(rt, Some(set)),
+        Err(StringListJsonError::Memory) => expect_gathered(rt, None),
         Err(error) => rt.panic(error),
     }
 }
@@ -113,6 +98,6 @@ fn from_json_refused(rt: HostRuntime) {
     };
     say(&rt, "call");
     let answer = set_read(rt.alloc(), &value);
-    tell_read(&rt, answer);
+    expect_read(&rt, answer);
     expect_value(&rt, &value, text);
 }

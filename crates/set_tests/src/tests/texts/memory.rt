@@ -1,7 +1,6 @@
 //! Want of memory: each call that may grow something says so at once where a growth was refused.
 //! Calls that take no memory ask for none.
 use super::*;
-use crate::tests::points::is_empty;
 use crate::tests::{expect, expect_same, say, tell};
 
 /// The set is still that of all code points and "ab", where there is memory to make another.
@@ -15,7 +14,7 @@ pub fn expect_all_and_ab(
 }
 
 /// The call is over: the set has a code point and two strings, where there was memory for it.
-fn expect_gathered(
+pub fn expect_gathered(
     rt: &(impl Abort + Print),
     made: Option<CodePointInversionListAndStringList<'_>>,
 ) {
@@ -44,67 +43,64 @@ fn try_clone_refused(rt: HostRuntime) {
         return;
     };
     say(&rt, "call");
-    let is_refused = copy_of(rt.alloc(), &set).is_none();
+    let is_refused = set.try_clone(rt.alloc()).is_err();
     tell(&rt, is_refused);
     expect_all_and_ab(&rt, &set);
-}
-
-/// Whether the answer is that the strings are not sorted.
-fn is_unsorted(made: Result<CodePointInversionListAndStringList<'_>, InvalidStringList>) -> bool {
-    matches!(&made, Err(InvalidStringList::StringListNotSorted(_, _)))
 }
 
 /// Calls: `CodePointInversionListAndStringList::try_from`.
 #[test]
 fn try_from_quiet(rt: HostRuntime) {
-    let Some(sorted) = strings_of(rt.alloc(), &["abc", "xyz"]) else {
+    let Ok(sorted) = strings_of(rt.alloc(), &["abc", "xyz"]) else {
         return;
     };
-    let Some(unsorted) = strings_of(rt.alloc(), &["", "xyz", "abc"]) else {
+    let Ok(unsorted) = strings_of(rt.alloc(), &["", "xyz", "abc"]) else {
         return;
     };
     say(&rt, "call");
     let answers = [
         set_or_fault(all(), sorted).is_ok(),
-        is_unsorted(set_or_fault(all(), unsorted)),
+        set_or_fault(all(), unsorted).is_err(),
     ];
     say(&rt, "done");
     expect_same(&rt, answers, [true, true], "sorted and unsorted strings");
 }
 
+/// Whether the set holds the text, and whether that of its bytes.
+fn holds_text(set: &CodePointInversionListAndStringList<'_>, text: &str) -> [bool; 2] {
+    [set.contains_str(text), set.contains_utf8(text.as_bytes())]
+}
+
+/// Whether the set holds the character, and whether the number.
+fn holds_points(set: &CodePointInversionListAndStringList<'_>, ch: char, cp: u32) -> [bool; 2] {
+    [set.contains(ch), set.contains32(cp)]
+}
+
+/// Texts that are given in any order, one of them twice, and one of them a character.
+///
 /// Calls: `CodePointInversionListAndStringList::size`,
+/// `CodePointInversionListAndStringList::code_points`,
+/// `CodePointInversionListAndStringList::strings`,
 /// `CodePointInversionListAndStringList::has_strings`,
-/// `CodePointInversionListAndStringList::strings`, `CodePointInversionListAndStringList::contains`,
+/// `CodePointInversionListAndStringList::contains`,
 /// `CodePointInversionListAndStringList::contains32`,
 /// `CodePointInversionListAndStringList::contains_str`,
 /// `CodePointInversionListAndStringList::contains_utf8`.
 #[test]
-fn queries_quiet(rt: HostRuntime) {
-    let Some(set) = all_and_ab(rt.alloc()) else {
+fn gathered_quiet(rt: HostRuntime) {
+    let Some(set) = gathered(rt.alloc(), &["a", "abc", "xyz", "abc"]) else {
         return;
     };
     say(&rt, "call");
-    let counts = (counts_of(&set), has_strings(&set));
-    let points = holds_points(&set, 'a', 0x11_0000);
-    let texts = [
-        holds_text(&set, "ab"),
-        holds_text(&set, "a"),
-        holds_bytes(&set, b"abc"),
-    ];
+    let counts = counts_of(&set);
+    let points = (set.has_strings(), holds_points(&set, 'a', 0x61));
+    let held = [holds_text(&set, "abc"), holds_text(&set, "a")];
+    let not_held = [holds_text(&set, "ab"), holds_text(&set, "b")];
+    let others = [set.contains_utf8(&[0xFF]), are_equal(&set, &set)];
     say(&rt, "done");
-    expect_same(&rt, counts, ([0x11_0001, 0x11_0000, 1], true), "counts");
-    expect_same(&rt, points, [true, false], "code points");
-    expect_same(&rt, texts, [true, true, false], "texts");
-}
-
-/// Calls: `CodePointInversionListAndStringList::code_points`.
-#[test]
-fn equality_quiet(rt: HostRuntime) {
-    let Some(set) = all_and_ab(rt.alloc()) else {
-        return;
-    };
-    say(&rt, "call");
-    let same = is_empty(set.code_points()) || are_equal(&set, &set);
-    say(&rt, "done");
-    expect(&rt, same, "equal to itself");
+    expect_same(&rt, counts, [3, 1, 2], "size, code points, strings");
+    expect_same(&rt, points, (true, [true; 2]), "strings, a, its number");
+    expect_same(&rt, held, [[true; 2]; 2], "abc, a as a text");
+    expect_same(&rt, not_held, [[false; 2]; 2], "ab, b as a text");
+    expect_same(&rt, others, [false, true], "no text, equal to itself");
 }

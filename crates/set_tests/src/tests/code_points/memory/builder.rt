@@ -5,13 +5,13 @@ use crate::tests::points::set_of;
 
 /// Changes a full builder of A to Z: its set is `after` then, and where the change was refused it
 /// is that of A to Z.
-fn expect_change(rt: &(impl Abort + AllocGlobal + Print), change: Change, after: &[u32]) {
+fn expect_change(rt: &(impl Abort + AllocGlobal + Print), change: &Change, after: &[u32]) {
     let Some(mut builder) = full_builder_of(rt.alloc(), &LETTERS) else {
         return;
     };
     say(rt, "call");
-    let is_answered = change.is_applied(&mut builder);
-    expect_answer(rt, is_answered, builder, after);
+    let is_answered = change.apply(&mut builder).is_ok();
+    expect_answer(rt, is_answered, builder, &LETTERS, after);
 }
 
 /// Changes, one by each call, and the ends of the set of A to Z then.
@@ -69,55 +69,95 @@ static CHANGES: [(Change, &[u32]); 13] = [
 #[test]
 fn changes_refused(rt: HostRuntime) {
     for (change, after) in CHANGES.iter() {
-        expect_change(&rt, *change, after);
+        expect_change(&rt, change, after);
     }
 }
 
-/// The same by a set with the ends `lent`, which has them still.
+/// Changes a full builder of a set with the ends `own` by one with the ends `lent`, which has them
+/// still: its set is `after` then, and where the change was refused it is as it was.
 fn expect_change_by(
     rt: &(impl Abort + AllocGlobal + Print),
-    operation: Operation,
+    own: &[u32],
+    operation: &Operation,
     lent: &[u32],
     after: &[u32],
 ) {
     let Some(set) = set_of(rt.alloc(), lent) else {
         return;
     };
-    let Some(mut builder) = full_builder_of(rt.alloc(), &LETTERS) else {
+    let Some(mut builder) = full_builder_of(rt.alloc(), own) else {
         return;
     };
     say(rt, "call");
-    let is_answered = operation.is_applied(&mut builder, &set);
-    expect_answer(rt, is_answered, builder, after);
+    let is_answered = operation.apply(&mut builder, &set).is_ok();
+    expect_answer(rt, is_answered, builder, own, after);
     expect_listed(rt, &set, lent);
 }
 
-/// Changes by sets with these ends, and the ends of the set of A to Z then.
-static CHANGES_BY: [(Operation, &[u32], &[u32]); 6] = [
+/// The ends of a set, what changes it by which other set, and its ends then.
+type ChangeBy = (&'static [u32], Operation, &'static [u32], &'static [u32]);
+
+/// Changes of sets by others: the examples of UnicodeSet and of the Rust crate, and then others of
+/// A to Z.
+static CHANGES_BY: [ChangeBy; 10] = [
     (
+        &[0xA, 0x14, 0x28, 0x32],
+        Operation::Union,
+        &[0x5, 0xA, 0x16, 0x21, 0x2C, 0x33],
+        &[0x5, 0x14, 0x16, 0x21, 0x28, 0x33],
+    ),
+    (
+        &[0xA, 0x14, 0x28, 0x32, 0x46, 0x50],
+        Operation::Difference,
+        &[0xA, 0x14, 0x2D, 0x4B],
+        &[0x28, 0x2D, 0x4B, 0x50],
+    ),
+    (
+        &[0xA, 0x14, 0x28, 0x32, 0x46, 0x50],
+        Operation::Intersection,
+        &[0xE, 0x14, 0x19, 0x37, 0x4D, 0x51],
+        &[0xE, 0x14, 0x28, 0x32, 0x4D, 0x50],
+    ),
+    (
+        &[0xA, 0x14],
+        Operation::SymmetricDifference,
+        &[0x10, 0x20],
+        &[0xA, 0x10, 0x14, 0x20],
+    ),
+    (
+        &LETTERS,
         Operation::Union,
         &[0x61, 0x63, 0x70, 0x71, 0x80, 0x81, 0x90, 0x91],
         &[0x41, 0x5B, 0x61, 0x63, 0x70, 0x71, 0x80, 0x81, 0x90, 0x91],
     ),
     // The sets have members in common.
     (
+        &LETTERS,
         Operation::Union,
         &[0x3F, 0x43, 0x50, 0x52, 0x5A, 0x60, 0x70, 0x71],
         &[0x3F, 0x60, 0x70, 0x71],
     ),
     // The set is one range, below the letters.
-    (Operation::Union, &[0x30, 0x32], &[0x30, 0x32, 0x41, 0x5B]),
     (
+        &LETTERS,
+        Operation::Union,
+        &[0x30, 0x32],
+        &[0x30, 0x32, 0x41, 0x5B],
+    ),
+    (
+        &LETTERS,
         Operation::Difference,
         &[0x43, 0x45, 0x47, 0x48, 0x4A, 0x4B, 0x50, 0x52],
         &[0x41, 0x43, 0x45, 0x47, 0x48, 0x4A, 0x4B, 0x50, 0x52, 0x5B],
     ),
     (
+        &LETTERS,
         Operation::Intersection,
         &[0x43, 0x45, 0x47, 0x48, 0x4A, 0x4B, 0x50, 0x52],
         &[0x43, 0x45, 0x47, 0x48, 0x4A, 0x4B, 0x50, 0x52],
     ),
     (
+        &LETTERS,
         Operation::SymmetricDifference,
         &[0x43, 0x45, 0x47, 0x48, 0x4A, 0x4B, 0x60, 0x62],
         &[0x41, 0x43, 0x45, 0x47, 0x48, 0x4A, 0x4B, 0x5B, 0x60, 0x62],
@@ -128,7 +168,7 @@ static CHANGES_BY: [(Operation, &[u32], &[u32]); 6] = [
 /// `CodePointInversionListBuilder::retain_set`, `CodePointInversionListBuilder::complement_set`.
 #[test]
 fn changes_by_sets_refused(rt: HostRuntime) {
-    for (operation, lent, after) in CHANGES_BY.iter() {
-        expect_change_by(&rt, *operation, lent, after);
+    for (own, operation, lent, after) in CHANGES_BY.iter() {
+        expect_change_by(&rt, own, operation, lent, after);
     }
 }

@@ -1,11 +1,12 @@
 //! Sets and lists that are made.
 use super::*;
+use crate::tests::code_points::errors::expect_points;
 use crate::tests::expect_same;
 use crate::tests::points::{
-    all, basic, copy_of, counts_of, expect_ends, list_of, list_of_ends, owned, set_of,
-    set_of_range, set_of_ranges, set_over,
+    all, basic, counts_of, expect_ends, list_of, list_of_ends, set_of, set_of_range, set_over,
 };
 use icu_invlist::codepointinvlist::SetError;
+use std::ops::RangeInclusive;
 
 /// The call is over: the set has these ends, where it was made.
 fn expect_made(
@@ -15,11 +16,6 @@ fn expect_made(
 ) {
     tell(rt, made.is_none());
     expect_ends_of(rt, made, ends);
-}
-
-/// The set that was lent is that of the basic plane still.
-fn expect_basic(rt: &(impl Abort + AllocGlobal), lent: &CodePointInversionList<'_>) {
-    expect_listed(rt, lent, &[0, 0x1_0000]);
 }
 
 /// The builder has room left, which the set that it makes does not keep.
@@ -43,35 +39,51 @@ fn try_clone_of_builder_refused(rt: HostRuntime) {
     };
     say(&rt, "call");
     match copy_of_builder(&builder) {
-        Some(other) => expect_answer(&rt, true, other, &LETTERS),
-        None => expect_answer(&rt, false, builder, &LETTERS),
+        Some(other) => expect_answer(&rt, true, other, &LETTERS, &LETTERS),
+        None => expect_answer(&rt, false, builder, &LETTERS, &LETTERS),
     }
 }
 
+/// The set of two ranges. `None` where memory was refused.
+fn set_of_ranges(
+    alloc: Global,
+    ranges: [RangeInclusive<u32>; 2],
+) -> Option<CodePointInversionList<'static>> {
+    CodePointInversionList::from_iter(alloc, ranges.into_iter()).ok()
+}
+
 /// Ways to make a set.
-#[derive(Clone, Copy)]
 enum Way {
     Ends,
-    Range,
+    Letters,
+    FromA,
+    ToZ,
+    All,
     Ranges,
     Owned,
 }
 
 /// The set that is made so. `None` where memory was refused.
-fn made_by(way: Way, alloc: Global) -> Option<CodePointInversionList<'static>> {
+fn made_by(way: &Way, alloc: Global) -> Option<CodePointInversionList<'static>> {
     match way {
         Way::Ends => set_of(alloc, &LETTERS),
-        Way::Range => set_of_range(alloc, 'A'..='Z').ok(),
-        Way::Ranges => set_of_ranges(alloc, [0x41..=0x50, 0x51..=0x5A]),
-        Way::Owned => owned(alloc, basic()),
+        Way::Letters => set_of_range(alloc, 'A'..='Z').ok(),
+        Way::FromA => set_of_range(alloc, 'A'..).ok(),
+        Way::ToZ => set_of_range(alloc, ..='Z').ok(),
+        Way::All => set_of_range(alloc, ..).ok(),
+        Way::Ranges => set_of_ranges(alloc, [0..=0x3FFF, 0x4000..=0x7FFF]),
+        Way::Owned => basic().into_owned(alloc).ok(),
     }
 }
 
 /// Each way, and the ends of the set.
-static WAYS: [(Way, [u32; 2]); 4] = [
+static WAYS: [(Way, [u32; 2]); 7] = [
     (Way::Ends, LETTERS),
-    (Way::Range, LETTERS),
-    (Way::Ranges, LETTERS),
+    (Way::Letters, LETTERS),
+    (Way::FromA, [0x41, 0x11_0000]),
+    (Way::ToZ, [0, 0x5B]),
+    (Way::All, [0, 0x11_0000]),
+    (Way::Ranges, [0, 0x8000]),
     (Way::Owned, [0, 0x1_0000]),
 ];
 
@@ -82,7 +94,7 @@ static WAYS: [(Way, [u32; 2]); 4] = [
 fn made_refused(rt: HostRuntime) {
     for (way, ends) in WAYS.iter() {
         say(&rt, "call");
-        let made = made_by(*way, rt.alloc());
+        let made = made_by(way, rt.alloc());
         expect_made(&rt, made, ends);
     }
 }
@@ -105,9 +117,9 @@ fn from_valid_slice_refused(rt: HostRuntime) {
 fn try_clone_refused(rt: HostRuntime) {
     let basic = basic();
     say(&rt, "call");
-    let made = copy_of(rt.alloc(), &basic);
-    expect_made(&rt, made, &[0, 0x1_0000]);
-    expect_basic(&rt, &basic);
+    let made = basic.try_clone(rt.alloc());
+    expect_made(&rt, made.ok(), &[0, 0x1_0000]);
+    expect_listed(&rt, &basic, &[0, 0x1_0000]);
 }
 
 /// The call is over: the list is refused, and its two numbers are shown where there was memory for
@@ -117,7 +129,7 @@ fn expect_two_shown(rt: &(impl Abort + Print), made: Result<CodePointInversionLi
         Ok(_) => rt.panic("an invalid list"),
         Err(SetError::Invalid(error)) => {
             tell(rt, false);
-            expect_same(rt, error.0.len(), 2, "numbers shown");
+            expect_points(rt, &error.0, &[1, 1]);
         }
         Err(SetError::Memory) => tell(rt, true),
     }
@@ -149,5 +161,5 @@ fn get_inversion_list_vec_refused(rt: HostRuntime) {
     say(&rt, "call");
     let made = list_of_ends(rt.alloc(), &basic);
     expect_list_of_basic(&rt, made);
-    expect_basic(&rt, &basic);
+    expect_listed(&rt, &basic, &[0, 0x1_0000]);
 }
