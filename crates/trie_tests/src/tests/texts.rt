@@ -1,6 +1,5 @@
-//! Values of tries along texts: examples from outside, each call at a type.
-mod find;
-mod quiet;
+//! Values of tries along texts: examples from outside, each call at a type, and no call asks for
+//! memory.
 mod support;
 mod text;
 mod utf16;

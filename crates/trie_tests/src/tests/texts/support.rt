@@ -1,8 +1,8 @@
 //! The trie that is asked along texts.
+use crate::tests::trie_of;
 use icu_trie::cptrie::CodePointTrie;
-use icu_trie::error::PartsError;
 use icu_trie::header::{CodePointTrieHeader, TrieType};
-use std::alloc::Global;
+use std::process::Abort;
 
 /// The value of each surrogate.
 pub const SURROGATE: u8 = 100;
@@ -22,11 +22,12 @@ const HEADER: CodePointTrieHeader = CodePointTrieHeader {
     trie_type: TrieType::Fast,
 };
 
-/// A trie in which each code point below 0x10000 but the surrogates has its last six bits.
-pub fn six_bits(alloc: Global) -> Result<CodePointTrie<'static, u8>, PartsError> {
-    let mut index = [0; 1024];
+/// The bytes of the index and of the data of a trie in which each code point below 0x10000 but the
+/// surrogates has its last six bits.
+pub fn six_bits() -> ([u8; 2048], [u8; 130]) {
+    let mut index = [0; 2048];
     for block in 0xD800 / 64..0xE000 / 64 {
-        index[block] = 64;
+        index[2 * block] = 64;
     }
     let mut values = [SURROGATE; 130];
     for k in 0..64 {
@@ -34,5 +35,13 @@ pub fn six_bits(alloc: Global) -> Result<CodePointTrie<'static, u8>, PartsError>
     }
     values[128] = HIGH;
     values[129] = ERROR;
-    CodePointTrie::alloc_from_slices(alloc, HEADER, &index, &values)
+    (index, values)
+}
+
+/// The trie of these bytes.
+pub fn trie_of_bits<'a>(
+    rt: &impl Abort,
+    (index, values): &'a ([u8; 2048], [u8; 130]),
+) -> CodePointTrie<'a, u8> {
+    trie_of(rt, HEADER, index, values)
 }

@@ -1,11 +1,9 @@
-//! The value of each character of a text, and its place.
-use super::support::{HIGH, six_bits};
-use crate::tests::expect_items;
+//! The value of each character of a text, its place, and the first character with a value that is
+//! sought.
+use super::support::{HIGH, six_bits, trie_of_bits};
+use crate::tests::{expect_same, say};
 use icu_trie::cptrie::CodePointTrie;
-use icu_trie::typed::FastCodePointTrie;
-use icu_trie_text::text::{value_indices_of, values_of};
-use std::process::Abort;
-use std::test::Fail;
+use icu_trie_text::text::{Found, find_value, span_of_values, value_indices_of, values_of};
 
 /// Characters of one to four bytes, and the values that the last six bits of their code points are:
 /// U+0041, U+00E9, U+20AC, U+FFFD, U+1F600.
@@ -19,30 +17,6 @@ static VALUES: [(char, u8); 5] = [
     ('\u{1F600}', HIGH),
 ];
 
-/// The characters of the text have these values.
-fn expect_values(
-    rt: &(impl Abort + AllocGlobal),
-    trie: &CodePointTrie<'_, u8>,
-) -> Result<(), Fail> {
-    let found = values_of(trie, TEXT).collect(rt.alloc())?;
-    expect_items(rt, found, &VALUES);
-    Ok(())
-}
-
-#[test]
-fn values(rt: HostRuntime) -> Result<(), Fail> {
-    let trie = six_bits(rt.alloc())?;
-    expect_values(&rt, &trie)
-}
-
-#[test]
-fn no_values(rt: HostRuntime) -> Result<(), Fail> {
-    let trie = six_bits(rt.alloc())?;
-    let found = values_of(&trie, "").collect(rt.alloc())?;
-    expect_items(&rt, found, &[]);
-    Ok(())
-}
-
 static INDICES: [(usize, char, u8); 5] = [
     (0, 'A', 0x01),
     (1, 'é', 0x29),
@@ -51,17 +25,85 @@ static INDICES: [(usize, char, u8); 5] = [
     (9, '\u{1F600}', HIGH),
 ];
 
-#[test]
-fn indices(rt: HostRuntime) -> Result<(), Fail> {
-    let trie = six_bits(rt.alloc())?;
-    let found = value_indices_of(&trie, TEXT).collect(rt.alloc())?;
-    expect_items(&rt, found, &INDICES);
-    Ok(())
+/// Whether the text's characters have these values, and stand at these places, and whether an empty
+/// text has none.
+fn have_values(trie: &CodePointTrie<'_, u8>) -> [bool; 3] {
+    [
+        values_of(trie, TEXT).eq(VALUES.iter().copied()),
+        value_indices_of(trie, TEXT).eq(INDICES.iter().copied()),
+        values_of(trie, "").next().is_none(),
+    ]
 }
 
-/// A trie whose type is known lends one whose type is not.
+/// Calls: `text::values_of`, `text::value_indices_of`, `ValuesOf::next`, `ValueIndicesOf::next`.
 #[test]
-fn values_of_a_typed_trie(rt: HostRuntime) -> Result<(), Fail> {
-    let trie = FastCodePointTrie::try_from(six_bits(rt.alloc())?).map_err(|_| "not fast")?;
-    expect_values(&rt, trie.as_untyped_ref())
+fn values_quiet(rt: HostRuntime) {
+    let bits = six_bits();
+    let trie = trie_of_bits(&rt, &bits);
+    say(&rt, "call");
+    let found = have_values(&trie);
+    say(&rt, "done");
+    expect_same(&rt, found, [true; 3], "values, places, and none");
+}
+
+/// A text, where its first character stands whose value is 1, and how many bytes before it there
+/// are.
+static ONES: [(&str, Option<(usize, char)>, usize); 5] = [
+    ("", None, 0),
+    ("é€", None, 5),
+    ("é€A", Some((5, 'A')), 5),
+    ("\u{1F600}aAB", Some((5, 'A')), 5),
+    ("\u{201}é", Some((0, '\u{201}')), 0),
+];
+
+/// The value is 1.
+fn is_one(value: u8) -> bool {
+    value == 1
+}
+
+/// The value is not 1.
+fn is_another(value: u8) -> bool {
+    value != 1
+}
+
+/// Where the first character with the value 1 stands, and how many bytes before it there are.
+fn first_one(trie: &CodePointTrie<'_, u8>, text: &str) -> (Option<(usize, char)>, usize) {
+    let found = match find_value(trie, text, is_one) {
+        Some(found) => Some((found.offset, found.character)),
+        None => None,
+    };
+    (found, span_of_values(trie, text, is_another))
+}
+
+/// Calls: `text::find_value`, `text::span_of_values`.
+#[test]
+fn searches_quiet(rt: HostRuntime) {
+    let bits = six_bits();
+    let trie = trie_of_bits(&rt, &bits);
+    say(&rt, "call");
+    for (text, want, before) in ONES.iter() {
+        expect_same(&rt, first_one(&trie, text), (*want, *before), text);
+    }
+    say(&rt, "done");
+}
+
+/// The value is that of the code points from 0x10000 on.
+fn is_high(value: u8) -> bool {
+    value == HIGH
+}
+
+/// What is found has its value too.
+#[test]
+fn found_value(rt: HostRuntime) {
+    let found = find_value(
+        &trie_of_bits(&rt, &six_bits()),
+        "é\u{1F600}\u{1F601}",
+        is_high,
+    );
+    let want = Found {
+        offset: 2,
+        character: '\u{1F600}',
+        value: HIGH,
+    };
+    expect_same(&rt, found, Some(want), "the first one above 0xFFFF");
 }

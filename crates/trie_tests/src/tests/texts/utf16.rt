@@ -1,11 +1,8 @@
 //! The value of each code point of 16-bit units.
-use super::support::{HIGH, SURROGATE, six_bits};
-use crate::tests::expect_items;
+use super::support::{HIGH, SURROGATE, six_bits, trie_of_bits};
+use crate::tests::{expect_same, say};
 use icu_trie::cptrie::CodePointTrie;
 use icu_trie_text::text::values_of_utf16;
-use std::alloc::AllocError;
-use std::process::Abort;
-use std::test::Fail;
 
 /// Units, and their code points with their values, as `U16_NEXT` of ICU goes over them: pairs joined,
 /// and each surrogate without a partner by itself.
@@ -29,23 +26,20 @@ static ROWS: [(&[u16], &[(u32, u8)]); 8] = [
     ),
 ];
 
-/// The units have these code points, each with its value.
-fn expect_points(
-    rt: &(impl Abort + AllocGlobal),
-    trie: &CodePointTrie<'_, u8>,
-    units: &[u16],
-    want: &[(u32, u8)],
-) -> Result<(), AllocError> {
-    let found = values_of_utf16(trie, units).collect(rt.alloc())?;
-    expect_items(rt, found, want);
-    Ok(())
+/// Whether the units have these code points, each with its value.
+fn have_points(trie: &CodePointTrie<'_, u8>, units: &[u16], want: &[(u32, u8)]) -> bool {
+    values_of_utf16(trie, units).eq(want.iter().copied())
 }
 
+/// Calls: `text::values_of_utf16`, `ValuesOfUtf16::next`.
 #[test]
-fn code_points(rt: HostRuntime) -> Result<(), Fail> {
-    let trie = six_bits(rt.alloc())?;
+fn code_points_quiet(rt: HostRuntime) {
+    let bits = six_bits();
+    let trie = trie_of_bits(&rt, &bits);
+    say(&rt, "call");
     for (units, want) in ROWS.iter() {
-        expect_points(&rt, &trie, units, want)?;
+        let right = have_points(&trie, units, want);
+        expect_same(&rt, (*units, right), (*units, true), "the code points");
     }
-    Ok(())
+    say(&rt, "done");
 }

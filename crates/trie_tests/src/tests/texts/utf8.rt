@@ -1,11 +1,8 @@
 //! The value of each character of bytes that may be ill-formed UTF-8.
-use super::support::{ERROR, HIGH, six_bits};
-use crate::tests::{expect_items, expect_same};
+use super::support::{ERROR, HIGH, six_bits, trie_of_bits};
+use crate::tests::{expect_same, say};
 use icu_trie::cptrie::CodePointTrie;
 use icu_trie_text::text::values_of_utf8;
-use std::alloc::AllocError;
-use std::process::Abort;
-use std::test::Fail;
 
 /// Bytes, and the characters that they become, a U+FFFD for each maximal subpart of what is
 /// ill-formed: the examples of the Unicode Standard, section 3.9, tables 3-8 to 3-11 of version 15,
@@ -41,7 +38,7 @@ static ROWS: [(&[u8], &str); 12] = [
 ];
 
 /// Whether the characters of the items are those of a text.
-fn has_characters(trie: &CodePointTrie<'_, u8>, bytes: &[u8], text: &str) -> bool {
+fn have_characters(trie: &CodePointTrie<'_, u8>, bytes: &[u8], text: &str) -> bool {
     let mut wanted = text.chars();
     for (c, _) in values_of_utf8(trie, bytes) {
         if wanted.next() != Some(c) {
@@ -51,14 +48,17 @@ fn has_characters(trie: &CodePointTrie<'_, u8>, bytes: &[u8], text: &str) -> boo
     wanted.next().is_none()
 }
 
+/// Calls: `text::values_of_utf8`, `ValuesOfUtf8::next`.
 #[test]
-fn ill_formed(rt: HostRuntime) -> Result<(), Fail> {
-    let trie = six_bits(rt.alloc())?;
+fn ill_formed_quiet(rt: HostRuntime) {
+    let bits = six_bits();
+    let trie = trie_of_bits(&rt, &bits);
+    say(&rt, "call");
     for (bytes, want) in ROWS.iter() {
-        let right = has_characters(&trie, bytes, want);
-        expect_same(&rt, right, true, "the characters");
+        let right = have_characters(&trie, bytes, want);
+        expect_same(&rt, (*bytes, right), (*bytes, true), "the characters");
     }
-    Ok(())
+    say(&rt, "done");
 }
 
 /// Bytes, and the characters that they become with their values: of the last and the first of each
@@ -84,23 +84,18 @@ static VALUES: [(&[u8], &[(char, u8)]); 5] = [
     ),
 ];
 
-/// The bytes have these characters, each with its value.
-fn expect_row(
-    rt: &(impl Abort + AllocGlobal),
-    trie: &CodePointTrie<'_, u8>,
-    bytes: &[u8],
-    want: &[(char, u8)],
-) -> Result<(), AllocError> {
-    let found = values_of_utf8(trie, bytes).collect(rt.alloc())?;
-    expect_items(rt, found, want);
-    Ok(())
+/// Whether the bytes have these characters, each with its value.
+fn have_values(trie: &CodePointTrie<'_, u8>, bytes: &[u8], want: &[(char, u8)]) -> bool {
+    values_of_utf8(trie, bytes).eq(want.iter().copied())
 }
 
+/// Each character has its value, and so has what is ill-formed.
 #[test]
-fn values(rt: HostRuntime) -> Result<(), Fail> {
-    let trie = six_bits(rt.alloc())?;
+fn values(rt: HostRuntime) {
+    let bits = six_bits();
+    let trie = trie_of_bits(&rt, &bits);
     for (bytes, want) in VALUES.iter() {
-        expect_row(&rt, &trie, bytes, want)?;
+        let right = have_values(&trie, bytes, want);
+        expect_same(&rt, (*bytes, right), (*bytes, true), "the values");
     }
-    Ok(())
 }
