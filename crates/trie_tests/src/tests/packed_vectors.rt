@@ -8,13 +8,12 @@ use icu_zerovec::ule::{AsULE, UleError};
 use icu_zerovec::{MemoryError, ZeroVec};
 use std::alloc::Global;
 use std::hash::{DefaultHasher, Hash, Hasher};
-use std::process::Abort;
-use std::test::Fail;
 
 const ON: Flag = Flag { on: true };
 
 const OFF: Flag = Flag { on: false };
 
+/// The hash by the standard hasher.
 fn hash_of<T: Hash>(x: &T) -> u64
     ensures { result ≡ sip.finish (fold sip.write sip.initial (T.hash_input x.now)) }
 {
@@ -67,22 +66,27 @@ fn second_parsed_again(flags: &ZeroVec<'_, Flag>) -> Option<Flag> {
 }
 
 /// Whether the flags of these bytes equal those of [`owned_flags`], as vectors and as slices, and
-/// hash alike; whether they keep the bytes, and the second of them is on.
-fn compared(alloc: Global, bytes: &[u8]) -> Option<[bool; 5]> {
+/// hash alike; whether both keep their bytes, and the second of the flags is on.
+fn compared(alloc: Global, bytes: &[u8]) -> Option<([bool; 3], [bool; 3])> {
     let lent = ZeroVec::<Flag>::parse_bytes(bytes).ok()?;
     let owned = owned_flags(alloc).ok()?;
-    Some([
+    let alike = [
         lent == owned,
         lent.as_slice() == owned.as_slice(),
         hash_of(&lent) == hash_of(&owned),
+    ];
+    let kept = [
         lent.as_bytes() == bytes,
+        owned.as_bytes() == [0, 1, 1, 0].as_slice(),
         second_parsed_again(&lent) == Some(ON),
-    ])
+    ];
+    Some((alike, kept))
 }
 
 /// Other bytes are the same flags, and other flags are neither equal nor hash alike.
 #[test]
 fn encodings_of_flags(rt: HostRuntime) {
+    expect(&rt, has_two_encodings(), "two encodings");
     for (bytes, alike) in [
         ([0, 1, 1, 0], true),
         ([0, 7, 1, 0], true),
@@ -90,97 +94,27 @@ fn encodings_of_flags(rt: HostRuntime) {
         ([0, 255, 0, 0], false),
     ] {
         let found = compared(rt.alloc(), &bytes);
-        let want = (bytes, Some([alike, alike, alike, true, true]));
+        let want = (bytes, Some(([alike; 3], [true; 3])));
         expect_same(&rt, (bytes, found), want, "flags");
     }
 }
 
-/// The vector has these bytes.
-fn expect_bytes<T: AsULE>(rt: &impl Abort, vector: ZeroVec<'_, T>, want: &[u8]) {
-    expect_same(rt, vector.as_bytes(), want, "the bytes");
-}
+/// Two flags, off and on, as the numbers of their bytes and how many these are; whether the numbers
+/// are these flags again; and why the flags are no sides.
+type Converted = ((Option<u8>, Option<u8>, usize), bool, Option<UleError>);
 
-#[test]
-fn bytes_of_flags(rt: HostRuntime) -> Result<(), Fail> {
-    expect_bytes(&rt, owned_flags(rt.alloc())?, &[0, 1, 1, 0]);
-    expect(&rt, has_two_encodings(), "two encodings");
-    Ok(())
-}
-
-/// Two flags, off and on, as the numbers of their bytes and how many these are; the first flag and
-/// the last one of the numbers; and why the flags are no sides.
-type Converted = (
-    (Option<u8>, Option<u8>, usize),
-    (Option<Flag>, Option<Flag>),
-    Option<UleError>,
-);
-
+/// What conversions of two flags give.
 fn converted() -> Result<Converted, UleError> {
     let numbers = ZeroVec::<Flag>::parse_bytes(&[0, 255])?.try_into_converted::<u8>()?;
     let read = (numbers.get(0), numbers.get(1), numbers.len());
     let flags = numbers.try_into_converted::<Flag>()?;
-    let ends = (flags.first(), flags.last());
-    Ok((read, ends, flags.try_into_converted::<Side>().err()))
+    let again = flags.first() == Some(OFF) && flags.last() == Some(ON);
+    Ok((read, again, flags.try_into_converted::<Side>().err()))
 }
 
 /// A conversion keeps the bytes as they are, and doesn't pack the values anew.
 #[test]
 fn flags_converted(rt: HostRuntime) {
-    let want = (
-        (Some(0), Some(255), 2),
-        (Some(OFF), Some(ON)),
-        Some(UleError::Cell(1)),
-    );
+    let want = ((Some(0), Some(255), 2), true, Some(UleError::Cell(1)));
     expect_same(&rt, converted().ok(), Some(want), "flags of two bytes");
-}
-
-#[test]
-fn owned_flags_converted(rt: HostRuntime) -> Result<(), Fail> {
-    let owned = ZeroVec::<Flag>::parse_bytes(&[0, 255])?.into_owned(rt.alloc())?;
-    expect_bytes(&rt, owned.try_into_converted::<u8>()?, &[0, 255]);
-    Ok(())
-}
-
-const BEFORE: Side = Side { byte: 0 };
-
-const AFTER: Side = Side { byte: 1 };
-
-/// Whether the sides of three bytes are equal to their copy and hash alike; the second one, the
-/// third one and the one behind them; and whether the copy has the same bytes.
-type Sides = (bool, bool, [Option<Side>; 3], bool);
-
-fn sides_of(alloc: Global, sides: &[Side; 3], bytes: &[u8; 3]) -> Option<Sides> {
-    let owned = ZeroVec::alloc_from_slice(alloc, sides).ok()?;
-    let lent = ZeroVec::<Side>::parse_bytes(bytes).ok()?;
-    Some((
-        lent == owned,
-        hash_of(&lent) == hash_of(&owned),
-        [lent.get(1), lent.get(2), lent.get(3)],
-        owned.as_bytes() == bytes.as_slice(),
-    ))
-}
-
-#[test]
-fn bytes_of_sides(rt: HostRuntime) {
-    let found = sides_of(rt.alloc(), &[AFTER, BEFORE, AFTER], &[1, 0, 1]);
-    let want = (true, true, [Some(BEFORE), Some(AFTER), None], true);
-    expect_same(&rt, found, Some(want), "three sides");
-}
-
-/// The place of the first byte that is no side.
-fn fault_of(bytes: &[u8]) -> Option<UleError> {
-    ZeroVec::<Side>::parse_bytes(bytes).err()
-}
-
-#[test]
-fn bytes_that_are_no_sides(rt: HostRuntime) {
-    for (bytes, want) in [([2, 0, 0], 0), ([0, 1, 2], 2), ([1, 255, 9], 1)] {
-        let found = fault_of(&bytes);
-        expect_same(
-            &rt,
-            (bytes, found),
-            (bytes, Some(UleError::Cell(want))),
-            "no sides",
-        );
-    }
 }

@@ -7,7 +7,7 @@ use icu_zerovec::ule::AsULE;
 use std::marker::Model;
 
 /// The side on which a mark stands: 0 before, 1 after. No other byte is a side.
-#[derive(Clone, Copy, Debug, PartialEq, Eq)]
+#[derive(Clone, Copy, PartialEq, Eq)]
 pub(super) struct Side {
     pub(super) byte: u8,
 }
@@ -89,7 +89,7 @@ impl TrieValue for Side {
 }
 
 /// A flag. Any byte but zero is a flag that is on.
-#[derive(Clone, Copy, Debug, PartialEq, Eq)]
+#[derive(Clone, Copy, PartialEq, Eq)]
 pub(super) struct Flag {
     pub(super) on: bool,
 }
