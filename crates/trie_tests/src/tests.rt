@@ -4,28 +4,22 @@
 //! An assert stands in a small helper without a contract, and a value that owns memory is handed to
 //! it: a proof of a test that asserts and holds such values at the same time is long.
 
-mod coherence;
 mod constants;
+mod error_texts;
 mod formats;
+mod lying_headers;
+mod made_of_tries;
 mod packed_vectors;
 mod quiet_calls;
-mod reader;
 mod reads;
 mod refused_parts;
 mod texts;
-mod typed_tries;
 mod values;
-mod views;
 
-use icu_collections::codepointtrie::{
-    CodePointTrie, CodePointTrieHeader, TrieType, TrieValue, Write, build_from_writes,
-};
+use icu_collections::codepointtrie::{CodePointTrie, CodePointTrieHeader, TrieType, TrieValue};
 use icu_collections::zerovec::ZeroVec;
-use std::alloc::Global;
-use std::fmt::Debug;
+use std::fmt::{Debug, Display};
 use std::process::Abort;
-
-const BOTH: [TrieType; 2] = [TrieType::Fast, TrieType::Small];
 
 static ZEROS: [u8; 128] = [0; 128];
 
@@ -41,43 +35,24 @@ fn expect_same<T: PartialEq + Debug + Drop>(rt: &impl Abort, found: T, want: T, 
     assert_eq!(rt; found, want, "{what}");
 }
 
-/// What was found is what was wanted of a trie with this high start and this null data offset.
-fn expect_of<T: PartialEq + Debug + Drop>(rt: &impl Abort, found: T, want: T, of: (u32, u32)) {
-    expect_same(
-        rt,
-        (of, found),
-        (of, want),
-        "high start, null offset, found",
-    );
-}
-
 /// What was found at the code point `c` is what was wanted.
 fn expect_at<T: PartialEq + Debug + Drop>(rt: &impl Abort, found: T, want: T, c: u32) {
     expect_same(rt, (c, found), (c, want), "at a code point");
 }
 
-/// The items found are those wanted, in their order.
-fn expect_items<T: PartialEq + Debug + Drop>(rt: &impl Abort, found: Vec<T>, want: &[T]) {
-    expect_same(rt, found.as_slice(), want, "the items");
+/// Each error is told so, where there was memory for its text.
+fn expect_told<E: Display>(rt: &(impl Abort + AllocGlobal), rows: &[(E, &str)]) {
+    for (error, want) in rows.iter() {
+        match error.to_string(rt.alloc()) {
+            Ok(text) => expect_same(rt, text.as_str(), *want, "the text"),
+            Err(_) => rt.panic("no text"),
+        }
+    }
 }
 
 /// Prints a word of which the caller of the test knows what the test is about to do, or has done.
 fn say(rt: &(impl Abort + Print), word: &str) {
     rt.println(word).expect(rt, "not printed");
-}
-
-/// The trie of these writes, the default value and the error value being `values`.
-fn built<T: TrieValue>(
-    rt: &impl Abort,
-    alloc: Global,
-    trie_type: TrieType,
-    values: (T, T),
-    writes: &[Write<T>],
-) -> CodePointTrie<'static, T> {
-    match build_from_writes(alloc, values.0, values.1, trie_type, writes) {
-        Ok(trie) => trie,
-        Err(_) => rt.panic("not built"),
-    }
 }
 
 /// The header of a small trie that has no null block.
@@ -99,6 +74,7 @@ const SEVENS: Cells = (7, 7, 9);
 
 const ONES: Cells = (1, 2, 3);
 
+/// The bytes of such data.
 fn data((each, high, error): Cells) -> [u8; 66] {
     let mut data = [each; 66];
     data[64] = high;
@@ -107,23 +83,23 @@ fn data((each, high, error): Cells) -> [u8; 66] {
 }
 
 /// The trie of these parts, if they are not refused.
-fn lent_trie<'a>(
+fn lent_trie<'a, T: TrieValue>(
     header: CodePointTrieHeader,
     index: &'a [u8],
     data: &'a [u8],
-) -> Option<CodePointTrie<'a, u8>> {
+) -> Option<CodePointTrie<'a, T>> {
     let index = ZeroVec::parse_bytes(index).ok()?;
     let data = ZeroVec::parse_bytes(data).ok()?;
     CodePointTrie::try_new(header, index, data).ok()
 }
 
 /// The trie of these parts, which it borrows.
-fn trie_of<'a>(
+fn trie_of<'a, T: TrieValue>(
     rt: &impl Abort,
     header: CodePointTrieHeader,
     index: &'a [u8],
     data: &'a [u8],
-) -> CodePointTrie<'a, u8> {
+) -> CodePointTrie<'a, T> {
     lent_trie(header, index, data).expect(rt, "a trie")
 }
 

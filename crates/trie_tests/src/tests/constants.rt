@@ -9,38 +9,54 @@ use icu_collections::codepointtrie::impl_const::{
     SMALL_TYPE_FAST_INDEXING_MAX,
 };
 
-#[test]
-fn shifts(rt: HostRuntime) {
-    expect_same(&rt, FAST_TYPE_SHIFT, 6, "of the fast type");
-    let found = [SHIFT_3, SHIFT_2, SHIFT_1, SHIFT_2_3, SHIFT_1_2];
-    expect_same(&rt, found, [4, 9, 14, 5, 5], "of the stages");
-}
+/// Each by its name, and what it is.
+static CONSTANTS: [(&str, u32, u32); 24] = [
+    ("FAST_TYPE_SHIFT", FAST_TYPE_SHIFT as u32, 6),
+    (
+        "FAST_TYPE_DATA_BLOCK_LENGTH",
+        FAST_TYPE_DATA_BLOCK_LENGTH,
+        64,
+    ),
+    ("FAST_TYPE_DATA_MASK", FAST_TYPE_DATA_MASK, 63),
+    (
+        "FAST_TYPE_FAST_INDEXING_MAX",
+        FAST_TYPE_FAST_INDEXING_MAX,
+        0xFFFF,
+    ),
+    (
+        "SMALL_TYPE_FAST_INDEXING_MAX",
+        SMALL_TYPE_FAST_INDEXING_MAX,
+        0xFFF,
+    ),
+    (
+        "ERROR_VALUE_NEG_DATA_OFFSET",
+        ERROR_VALUE_NEG_DATA_OFFSET,
+        1,
+    ),
+    ("HIGH_VALUE_NEG_DATA_OFFSET", HIGH_VALUE_NEG_DATA_OFFSET, 2),
+    ("BMP_INDEX_LENGTH", BMP_INDEX_LENGTH, 1024),
+    ("SMALL_LIMIT", SMALL_LIMIT, 0x1000),
+    ("SMALL_INDEX_LENGTH", SMALL_INDEX_LENGTH, 64),
+    ("SHIFT_3", SHIFT_3, 4),
+    ("SHIFT_2", SHIFT_2, 9),
+    ("SHIFT_1", SHIFT_1, 14),
+    ("SHIFT_2_3", SHIFT_2_3, 5),
+    ("SHIFT_1_2", SHIFT_1_2, 5),
+    ("OMITTED_BMP_INDEX_1_LENGTH", OMITTED_BMP_INDEX_1_LENGTH, 4),
+    ("INDEX_2_BLOCK_LENGTH", INDEX_2_BLOCK_LENGTH, 32),
+    ("INDEX_2_MASK", INDEX_2_MASK, 31),
+    ("CP_PER_INDEX_2_ENTRY", CP_PER_INDEX_2_ENTRY, 512),
+    ("INDEX_3_BLOCK_LENGTH", INDEX_3_BLOCK_LENGTH, 32),
+    ("INDEX_3_MASK", INDEX_3_MASK, 31),
+    ("SMALL_DATA_BLOCK_LENGTH", SMALL_DATA_BLOCK_LENGTH, 16),
+    ("SMALL_DATA_MASK", SMALL_DATA_MASK, 15),
+    ("CODE_POINT_MAX", CODE_POINT_MAX, 0x10_FFFF),
+];
 
+/// Each constant is what the format has.
 #[test]
-fn lengths_and_masks(rt: HostRuntime) {
-    let found = [FAST_TYPE_DATA_BLOCK_LENGTH, FAST_TYPE_DATA_MASK];
-    expect_same(&rt, found, [64, 63], "fast blocks");
-    let found = [SMALL_DATA_BLOCK_LENGTH, SMALL_DATA_MASK];
-    expect_same(&rt, found, [16, 15], "small blocks");
-    let found = [INDEX_2_BLOCK_LENGTH, INDEX_2_MASK, CP_PER_INDEX_2_ENTRY];
-    expect_same(&rt, found, [32, 31, 512], "index-2 blocks");
-    let found = [INDEX_3_BLOCK_LENGTH, INDEX_3_MASK];
-    expect_same(&rt, found, [32, 31], "index-3 blocks");
-}
-
-#[test]
-fn limits(rt: HostRuntime) {
-    let found = [FAST_TYPE_FAST_INDEXING_MAX, SMALL_TYPE_FAST_INDEXING_MAX];
-    expect_same(
-        &rt,
-        found,
-        [0xFFFF, 0xFFF],
-        "last code points of the fast index",
-    );
-    let found = [BMP_INDEX_LENGTH, SMALL_LIMIT, SMALL_INDEX_LENGTH];
-    expect_same(&rt, found, [1024, 0x1000, 64], "of the fast index");
-    let found = [ERROR_VALUE_NEG_DATA_OFFSET, HIGH_VALUE_NEG_DATA_OFFSET];
-    expect_same(&rt, found, [1, 2], "cells from the end");
-    expect_same(&rt, OMITTED_BMP_INDEX_1_LENGTH, 4, "of index-1");
-    expect_same(&rt, CODE_POINT_MAX, 0x10_FFFF, "last code point");
+fn constants(rt: HostRuntime) {
+    for (name, found, want) in CONSTANTS.iter() {
+        expect_same(&rt, *found, *want, name);
+    }
 }

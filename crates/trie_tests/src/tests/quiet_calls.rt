@@ -1,8 +1,10 @@
 //! Calls that ask for no memory: all reads of a trie, of its ranges and of its cells, and its
 //! conversions. The script `tests/refused_memory` sees that a test whose name ends in `_quiet` asks
 //! for nothing between the lines `call` and `done`.
+use super::values::Side;
 use super::{ONES, ZEROS, data, expect_same, say, small_header, trie_of};
 use icu_trie::cptrie::CodePointTrie;
+use icu_trie::error::ConvertError;
 use icu_trie::iterator_utils::RangeListIteratorCoalescer;
 use icu_trie::typed::{FastCodePointTrie, SmallCodePointTrie, Typed, TypedCodePointTrie};
 use icu_trie_core::header::{CodePointTrieHeader, TrieType};
@@ -14,43 +16,35 @@ fn trie_of_two<'a>(rt: &impl Abort, cells: &'a [u8; 66]) -> CodePointTrie<'a, u8
     trie_of(rt, small_header(0x1000, 1), &ZEROS, cells)
 }
 
-/// The values by the getters, and whether the trie is coherent.
-fn reads_of(trie: &CodePointTrie<'_, u8>) -> ([u8; 6], u32, bool) {
+/// The values by the getters, and how many cells the index and the data have.
+fn reads_of(trie: CodePointTrie<'_, u8>) -> ([u8; 5], u32, (usize, usize)) {
     let values = [
-        trie.get32(0x1000),
         trie.get('A'),
         trie.get16(0x42),
         trie.get32_supplementary(0x1_0000),
         trie.error_value(),
         trie.null_value(),
     ];
-    (values, trie.get32_u32(0x11_0000), trie.is_coherent())
-}
-
-/// How many bytes a cell has, and how many cells the trie.
-fn lengths_of(trie: &CodePointTrie<'_, u8>) -> (usize, usize, usize) {
     let (_, index, cells) = trie.parts();
-    let bytes = match trie.get32_ule(0x41) {
-        Some(bytes) => bytes.len(),
-        None => 0,
-    };
-    (bytes, index.len(), cells.len())
+    let lengths = (index.len(), cells.len());
+    (values, trie.get32_u32(0x11_0000), lengths)
 }
 
-/// Calls: `CodePointTrie::try_new`, `CodePointTrie::get32`, `CodePointTrie::get`,
-/// `CodePointTrie::get16`, `CodePointTrie::get32_supplementary`, `CodePointTrie::get32_u32`,
-/// `CodePointTrie::get32_ule`, `CodePointTrie::error_value`, `CodePointTrie::null_value`,
-/// `CodePointTrie::parts`, `CodePointTrie::is_coherent`.
+/// Calls: `CodePointTrie::get`, `CodePointTrie::get16`, `CodePointTrie::get32_supplementary`,
+/// `CodePointTrie::get32_u32`, `CodePointTrie::error_value`, `CodePointTrie::null_value`,
+/// `CodePointTrie::parts`.
 #[test]
 fn reads_quiet(rt: HostRuntime) {
     let cells = data(ONES);
     say(&rt, "call");
-    let trie = trie_of_two(&rt, &cells);
-    let reads = reads_of(&trie);
-    let lengths = lengths_of(&trie);
+    let reads = reads_of(trie_of_two(&rt, &cells));
     say(&rt, "done");
-    expect_same(&rt, reads, ([2, 1, 1, 2, 3, 1], 3, true), "values");
-    expect_same(&rt, lengths, (1, 64, 66), "lengths");
+    expect_same(
+        &rt,
+        reads,
+        ([1, 1, 2, 3, 1], 3, (64, 66)),
+        "values, and lengths",
+    );
 }
 
 /// Calls: `TrieType::fast_limit`, `TrieType::fast_index_len`.
@@ -61,42 +55,42 @@ fn fast_indices_quiet(rt: HostRuntime) {
     let limits = (fast.fast_limit(), small.fast_limit());
     let lengths = (fast.fast_index_len(), small.fast_index_len());
     say(&rt, "done");
-    expect_same(&rt, limits, (0x10000, 0x1000), "first code points past it");
-    expect_same(&rt, lengths, (1024, 64), "cells of the fast index");
+    let want = ((0x10000, 0x1000), (1024, 64));
+    expect_same(&rt, (limits, lengths), want, "limits, and cells");
 }
 
-/// How many ranges there are, how many of them have the value 2, how many are left where all have
-/// one value and where those that touch and have one value are joined, and the last code point of
-/// the first.
-fn ranges_of(trie: &CodePointTrie<'_, u8>) -> ([usize; 4], Option<u32>) {
-    let counts = [
-        trie.iter_ranges().count(),
+/// Seven, of each value.
+fn seven(_value: u8) -> u8 {
+    7
+}
+
+/// How many ranges have the value 2, and how many are left where all have one value and where those
+/// that touch and have one value are joined.
+fn ranges_of(trie: CodePointTrie<'_, u8>) -> [usize; 3] {
+    [
         trie.iter_ranges_for_value(2).count(),
-        trie.iter_ranges_mapped(|_| 7_u8).count(),
+        trie.iter_ranges_mapped(seven).count(),
         RangeListIteratorCoalescer::new(trie.iter_ranges()).count(),
-    ];
-    let first = match trie.get_range(0) {
-        Some(range) => Some(*range.range.end()),
-        None => None,
-    };
-    (counts, first)
+    ]
 }
 
-/// Calls: `CodePointTrie::get_range`, `CodePointTrie::iter_ranges`,
-/// `CodePointMapRangeIterator::next`, `CodePointTrie::iter_ranges_for_value`,
-/// `IterRangesForValue::next`, `CodePointTrie::iter_ranges_mapped`, `IterRangesMapped::next`,
+/// Calls: `CodePointTrie::iter_ranges_for_value`, `IterRangesForValue::next`,
+/// `CodePointTrie::iter_ranges_mapped`, `IterRangesMapped::next`,
 /// `RangeListIteratorCoalescer::new`, `RangeListIteratorCoalescer::next`.
 #[test]
 fn ranges_quiet(rt: HostRuntime) {
     let cells = data(ONES);
     say(&rt, "call");
-    let ranges = ranges_of(&trie_of_two(&rt, &cells));
+    let ranges = ranges_of(trie_of_two(&rt, &cells));
     say(&rt, "done");
-    expect_same(&rt, ranges, ([2, 1, 1, 2], Some(0xFFF)), "ranges");
+    expect_same(&rt, ranges, [1, 1, 2], "ranges");
 }
 
-/// What a trie of a known type reads.
-fn typed_reads<'a, X: TypedCodePointTrie<'a, u8>>(trie: &X) -> ([u8; 4], u32, Option<u8>) {
+/// What a trie of a known type reads: its values, and those by its fast index.
+type TypedReads = ([u8; 4], u32, [Option<u8>; 2]);
+
+/// What a trie of a known type reads, with the first code point past its fast index.
+fn typed_reads<'a, X: TypedCodePointTrie<'a, u8>>(trie: &X, past: u32) -> TypedReads {
     trie.shown();
     let values = [
         trie.get32(0x1000),
@@ -104,12 +98,16 @@ fn typed_reads<'a, X: TypedCodePointTrie<'a, u8>>(trie: &X) -> ([u8; 4], u32, Op
         trie.get16(0x42),
         trie.get32_supplementary(0x1_0000),
     ];
-    (values, trie.get32_u32(0x41), trie.get32_by_fast_index(0x41))
+    let fast = [
+        trie.get32_by_fast_index(0x41),
+        trie.get32_by_fast_index(past),
+    ];
+    (values, trie.get32_u32(0x41), fast)
 }
 
 /// The small trie's value at 0x1000, by the trie as its type is told and by a conversion that asks
 /// for it.
-fn small_values(trie: &CodePointTrie<'_, u8>) -> Option<(u8, u8, ([u8; 4], u32, Option<u8>))> {
+fn small_values(trie: &CodePointTrie<'_, u8>) -> Option<(u8, u8, TypedReads)> {
     let told = match trie.as_typed_ref() {
         Typed::Small(small) => small.to_untyped().get32(0x1000),
         Typed::Fast(_) => 0,
@@ -118,15 +116,16 @@ fn small_values(trie: &CodePointTrie<'_, u8>) -> Option<(u8, u8, ([u8; 4], u32, 
     Some((
         told,
         small.as_untyped_ref().get32(0x1000),
-        typed_reads(&small),
+        typed_reads(&small, 0x1000),
     ))
 }
 
-/// The value at 0x1000 of a trie, as its type is told.
-fn told_value(trie: CodePointTrie<'_, u8>) -> u8 {
+/// The value at 0x1000 of a trie, as its type is told, and whether it is no fast one.
+fn told_value(trie: CodePointTrie<'_, u8>) -> (u8, bool) {
+    let refused = FastCodePointTrie::try_from(&trie).is_err();
     match trie.to_typed() {
-        Typed::Small(small) => small.get32(0x1000),
-        Typed::Fast(fast) => fast.get32(0x1000),
+        Typed::Small(small) => (small.get32(0x1000), refused),
+        Typed::Fast(fast) => (fast.get32(0x1000), refused),
     }
 }
 
@@ -143,19 +142,24 @@ fn typed_tries_quiet(rt: HostRuntime) {
     let small = small_values(&trie);
     let told = told_value(trie);
     say(&rt, "done");
-    let reads = ([2, 1, 1, 2], 1, Some(1));
-    expect_same(&rt, small, Some((2, 2, reads)), "a small trie");
-    expect_same(&rt, told, 2, "as its type is told");
+    let reads = ([2, 1, 1, 2], 1, [Some(1), None]);
+    let want = (Some((2, 2, reads)), (2, true));
+    expect_same(&rt, (small, told), want, "a small trie");
 }
 
-/// The value of a fast trie at 0x41, by the trie as a fast one, lent and given.
-fn fast_values(trie: CodePointTrie<'_, u8>) -> Option<(u8, u8)> {
-    let lent = match FastCodePointTrie::try_from(&trie) {
-        Ok(fast) => fast.as_untyped_ref().get32(0x41),
+/// The value of a fast trie at 0x41, by the trie as a fast one, lent and given, what it reads, and
+/// whether it is no small one.
+fn fast_values(trie: CodePointTrie<'_, u8>) -> Option<(u8, u8, TypedReads, bool)> {
+    let refused = SmallCodePointTrie::try_from(&trie).is_err();
+    let (lent, reads) = match FastCodePointTrie::try_from(&trie) {
+        Ok(fast) => (
+            fast.as_untyped_ref().get32(0x41),
+            typed_reads(&fast, 0x10000),
+        ),
         Err(_) => return None,
     };
     let fast = FastCodePointTrie::try_from(trie).ok()?;
-    Some((lent, fast.to_untyped().get32(0x41)))
+    Some((lent, fast.to_untyped().get32(0x41), reads, refused))
 }
 
 /// Calls: `FastCodePointTrie::try_from`, `FastCodePointTrie::as_untyped_ref`,
@@ -170,7 +174,13 @@ fn fast_tries_quiet(rt: HostRuntime) {
     say(&rt, "call");
     let values = fast_values(trie_of(&rt, header, &index, &cells));
     say(&rt, "done");
-    expect_same(&rt, values, Some((1, 1)), "a fast trie");
+    let reads = ([1, 1, 1, 2], 1, [Some(1), None]);
+    expect_same(&rt, values, Some((1, 1, reads, true)), "a fast trie");
+    let types = (
+        FastCodePointTrie::<'static, u8>::TRIE_TYPE,
+        SmallCodePointTrie::<'static, u8>::TRIE_TYPE,
+    );
+    expect_same(&rt, types, (TrieType::Fast, TrieType::Small), "the types");
 }
 
 /// The value at 0x41 of the trie, as one of signed numbers.
@@ -185,21 +195,31 @@ fn conversions_quiet(rt: HostRuntime) {
     let cells = data(ONES);
     say(&rt, "call");
     let signed = signed_value(trie_of_two(&rt, &cells));
-    let unsigned = (7_u8.to_u32(), 7_u16.to_u32(), 7_u32.to_u32());
-    let others = (
+    let wide = trie_of_two(&rt, &cells).try_into_converted::<u16>().err();
+    let sides = trie_of_two(&rt, &cells).try_into_converted::<Side>().err();
+    let numbers = [
+        7_u8.to_u32(),
+        7_u16.to_u32(),
+        7_u32.to_u32(),
         (-1_i8).to_u32(),
         (-1_i16).to_u32(),
         (-1_i32).to_u32(),
         'A'.to_u32(),
-    );
+    ];
     let read = (
         u8::try_from_u32(7).ok(),
         i16::try_from_u32(7).ok(),
         char::try_from_u32(0x41).ok(),
     );
     say(&rt, "done");
-    expect_same(&rt, signed, Some(1), "a trie of signed numbers");
-    expect_same(&rt, unsigned, (7, 7, 7), "unsigned numbers");
-    expect_same(&rt, others, (u32::MAX, u32::MAX, u32::MAX, 0x41), "others");
-    expect_same(&rt, read, (Some(7), Some(7), Some('A')), "read back");
+    let faults = (Some(ConvertError::Width), Some(ConvertError::Cell(64)));
+    expect_same(
+        &rt,
+        (signed, (wide, sides)),
+        (Some(1), faults),
+        "converted tries",
+    );
+    let want = [7, 7, 7, u32::MAX, u32::MAX, u32::MAX, 0x41];
+    let want = (want, (Some(7), Some(7), Some('A')));
+    expect_same(&rt, (numbers, read), want, "numbers, and read back");
 }

@@ -1,0 +1,206 @@
+//! Tries whose header may say what is not so: which are coherent, and what is answered where it is
+//! not.
+use super::{
+    Cells, ONES, SEVENS, ZEROS, data, expect, expect_at, expect_same, say, small_header,
+    small_trie, trie_of,
+};
+use icu_collections::codepointtrie::{CodePointTrie, CodePointTrieHeader};
+
+/// What is asked of a trie, with its answer.
+enum Asked {
+    /// Whether it is coherent.
+    Coherent(bool),
+    /// How many ranges come from 0 on.
+    Ranges(usize),
+    /// The value of a code point, which is also the packed byte of its cell.
+    Value(u32, u8),
+    /// The range from a code point on, if any: its first and its last code point, and its value.
+    Range(u32, Option<(u32, u32, u8)>),
+}
+
+/// Headers, by their high start and their null data offset, each over an index of zeros and such
+/// data, and what the trie answers.
+static HEADERS: [((u32, u32), Cells, Asked); 38] = [
+    // What these say is so.
+    ((0x1000, 0xfffff), SEVENS, Asked::Coherent(true)),
+    ((0x1000, 0xfffff), ONES, Asked::Coherent(true)),
+    ((0, 0xfffff), SEVENS, Asked::Coherent(true)),
+    ((0x200, 0xfffff), SEVENS, Asked::Coherent(true)),
+    ((0x1000, 0), (0, 7, 9), Asked::Coherent(true)),
+    // The high start is no multiple of 512, or above the code points.
+    ((0x1001, 0xfffff), SEVENS, Asked::Coherent(false)),
+    ((0xFFFF_FFFF, 0xfffff), SEVENS, Asked::Coherent(false)),
+    ((0x11_0200, 0xfffff), SEVENS, Asked::Coherent(false)),
+    // The null block has other values.
+    ((0x1000, 0), SEVENS, Asked::Coherent(false)),
+    // Cells of the index are missing.
+    ((0x1200, 0xfffff), SEVENS, Asked::Coherent(false)),
+    ((0x2000, 0xfffff), ONES, Asked::Coherent(false)),
+    // The fast index goes on above the high start with another value.
+    ((0xE00, 0xfffff), ONES, Asked::Coherent(false)),
+    ((0, 0xfffff), ONES, Asked::Coherent(false)),
+    // A header that claims more than its cells hold gets the error value, and no fault.
+    ((0x1000, 0xfffff), SEVENS, Asked::Value(0, 7)),
+    ((0x1000, 0xfffff), SEVENS, Asked::Value(0x1000, 7)),
+    ((0x1000, 0xfffff), SEVENS, Asked::Value(0x10FFFF, 7)),
+    ((0x1000, 0xfffff), SEVENS, Asked::Value(0x110000, 9)),
+    ((0x1001, 0xfffff), SEVENS, Asked::Value(0x1000, 9)),
+    ((0x1001, 0xfffff), SEVENS, Asked::Value(0x1001, 7)),
+    ((0x1000, 0), SEVENS, Asked::Value(0, 7)),
+    ((0xFFFF_FFFF, 0xfffff), SEVENS, Asked::Value(0, 7)),
+    ((0xFFFF_FFFF, 0xfffff), SEVENS, Asked::Value(0x1000, 9)),
+    ((0x2000, 0xfffff), ONES, Asked::Value(0, 1)),
+    ((0x2000, 0xfffff), ONES, Asked::Value(0x1000, 3)),
+    ((0x2000, 0xfffff), ONES, Asked::Value(0x2000, 2)),
+    // Each code point of a block that is named as null, and is not, is alone.
+    ((0x1000, 0xfffff), SEVENS, Asked::Ranges(1)),
+    ((0x1000, 0), SEVENS, Asked::Ranges(0x1001)),
+    ((0xFFFF_FFFF, 0xfffff), SEVENS, Asked::Ranges(0)),
+    ((0x2000, 0xfffff), ONES, Asked::Ranges(0)),
+    (
+        (0x1000, 0xfffff),
+        SEVENS,
+        Asked::Range(0, Some((0, 0x10FFFF, 7))),
+    ),
+    ((0x1000, 0xfffff), SEVENS, Asked::Range(0x110000, None)),
+    ((0x1000, 0), SEVENS, Asked::Range(0, Some((0, 0, 7)))),
+    (
+        (0x1000, 0),
+        SEVENS,
+        Asked::Range(0xFFF, Some((0xFFF, 0xFFF, 7))),
+    ),
+    (
+        (0x1000, 0),
+        SEVENS,
+        Asked::Range(0x1000, Some((0x1000, 0x10FFFF, 7))),
+    ),
+    ((0xFFFF_FFFF, 0xfffff), SEVENS, Asked::Range(0, None)),
+    ((0x2000, 0xfffff), ONES, Asked::Range(0, None)),
+    ((0x2000, 0xfffff), ONES, Asked::Range(0x1000, None)),
+    (
+        (0x2000, 0xfffff),
+        ONES,
+        Asked::Range(0x2000, Some((0x2000, 0x10FFFF, 2))),
+    ),
+];
+
+/// The range of a trie from `c` on: its first and its last code point, and its value.
+fn range_at(trie: &CodePointTrie<'_, u8>, c: u32) -> Option<(u32, u32, u8)> {
+    match trie.get_range(c) {
+        Some(found) => Some((*found.range.start(), *found.range.end(), found.value)),
+        None => None,
+    }
+}
+
+/// Whether the trie answers so.
+fn answers(trie: CodePointTrie<'_, u8>, asked: &Asked) -> bool {
+    match asked {
+        Asked::Coherent(want) => trie.is_coherent() == *want,
+        Asked::Ranges(want) => trie.iter_ranges().count() == *want,
+        Asked::Value(c, want) => {
+            let packed = trie.get32_ule(*c) == Some([*want].as_slice());
+            packed && trie.get32(*c) == *want
+        }
+        Asked::Range(c, want) => range_at(&trie, *c) == *want,
+    }
+}
+
+/// Calls: `CodePointTrie::try_new`, `CodePointTrie::is_coherent`, `CodePointTrie::get32`,
+/// `CodePointTrie::get32_ule`, `CodePointTrie::get_range`, `CodePointTrie::iter_ranges`,
+/// `CodePointMapRangeIterator::next`.
+#[test]
+fn headers_quiet(rt: HostRuntime) {
+    say(&rt, "call");
+    for (row, (header, cells, asked)) in HEADERS.iter().enumerate() {
+        let cells = data(*cells);
+        let right = answers(small_trie(&rt, *header, &ZEROS, &cells), asked);
+        expect_same(&rt, (row, *header, right), (row, *header, true), "a row");
+    }
+    say(&rt, "done");
+}
+
+/// The first sixteen cells of the null block of 64 are the null value, and the next one isn't.
+#[test]
+fn null_block_of_sixteen_alone(rt: HostRuntime) {
+    let mut cells = data((0, 7, 9));
+    cells[16] = 1;
+    let coherent = small_trie(&rt, (0x1000, 0), &ZEROS, &cells).is_coherent();
+    expect(&rt, !coherent, "the seventeenth cell is another value");
+}
+
+/// The last block ends before its high start, and the index has no cell behind it.
+#[test]
+fn ranges_by_an_unaligned_high_start(rt: HostRuntime) {
+    let mut index = [0; 150];
+    index[128] = 65;
+    index[146] = 74;
+    let sevens = data(SEVENS);
+    for c in [0, 0x1000, 0x1001] {
+        let found = range_at(&small_trie(&rt, (0x1001, 0xfffff), &index, &sevens), c);
+        expect_at(&rt, found, Some((c, 0x10FFFF, 7)), c);
+    }
+}
+
+/// The bytes of an index in which the index-2 block stands at 65, and its ninth cell, for 0x1000,
+/// is this one.
+fn index_of(cell: u16) -> [u8; 280] {
+    let mut index = [0; 280];
+    index[128] = 65;
+    let [low, high] = cell.to_le_bytes();
+    index[146] = low;
+    index[147] = high;
+    index
+}
+
+/// Index-2 cells, the null one, data, and whether the trie is coherent. All data offsets are 0.
+static INDEX_2_CELLS: [(u16, u16, Cells, bool); 10] = [
+    // The block has the value 1 where it isn't named as null, and bit 15 belongs to its name.
+    (100, 0x7fff, ONES, true),
+    (0x8064, 0x7fff, ONES, true),
+    (100, 100, ONES, false),
+    (0x8064, 0x8064, ONES, false),
+    (0x8064, 100, ONES, true),
+    (100, 0x8064, ONES, true),
+    (130, 0x7fff, ONES, false),
+    (0x7ffe, 0x7fff, ONES, false),
+    // The block is named as null, and is.
+    (100, 100, (0, 2, 3), true),
+    (0x8064, 0x8064, (0, 2, 3), true),
+];
+
+/// Small tries with one block of 512 above their fast limit.
+#[test]
+fn coherence_by_index_2_cells(rt: HostRuntime) {
+    for (cell, null_cell, cells, want) in INDEX_2_CELLS.iter() {
+        let (index, cells) = (index_of(*cell), data(*cells));
+        let header = CodePointTrieHeader {
+            index3_null_offset: *null_cell,
+            ..small_header(0x1200, 0)
+        };
+        let coherent = trie_of::<u8>(&rt, header, &index, &cells).is_coherent();
+        expect_at(&rt, coherent, *want, u32::from(*cell));
+    }
+}
+
+/// The packed byte of a code point's cell, if it has one.
+fn packed_at(trie: CodePointTrie<'_, u8>, c: u32) -> Option<u8> {
+    match trie.get32_ule(c) {
+        Some(bytes) => bytes.first().copied(),
+        None => None,
+    }
+}
+
+/// There are no packed bytes where the index leads outside the data.
+#[test]
+fn packed_cells_outside_the_data(rt: HostRuntime) {
+    let mut index = [0; 196];
+    index[128] = 65;
+    index[132] = 51;
+    index[134] = 50;
+    index[146] = 66;
+    let ones = [1; 66];
+    for (c, want) in [(0x100F, None), (0x101F, Some(1))] {
+        let trie = trie_of::<u8>(&rt, small_header(0x1200, 0), &index, &ones);
+        expect_at(&rt, packed_at(trie, c), want, c);
+    }
+}
