@@ -1,15 +1,11 @@
-//! Tries in ICU's binary form: those that ICU wrote, texts, and calls that take no memory.
-use super::binary_tables::{FAST_16_DATA, FAST_16_FRONT, LARGE_8_HEADER, SMALL_8, SMALL_32};
-use super::support::expect_told;
+//! Tries in ICU's binary form: those that ICU wrote.
+use super::binary_tables::{LARGE_8_HEADER, SMALL_8, SMALL_32, fast_16};
 use crate::tests::{expect_same, say};
 use icu_trie::cptrie::CodePointTrie;
-use icu_trie::error::CodePointTrieError;
 use icu_trie::header::{CodePointTrieHeader, TrieType};
 use icu_trie::value::TrieValue;
 use icu_trie_binary::binary::{AnyWidthTrie, BinaryError, from_binary, from_binary_any};
-use std::alloc::Global;
 use std::process::Abort;
-use std::test::Fail;
 
 /// What ICU says of a trie that it opened.
 struct Opened {
@@ -109,25 +105,18 @@ fn expect_opened(rt: &impl Abort, bytes: &[u8], want: &Opened) {
     }
 }
 
-/// The front, and zeros behind it, so many bytes in all.
-fn with_zeros(alloc: Global, front: &[u8], len: usize) -> Result<Vec<u8>, Fail> {
-    let mut bytes = Vec::from_slice(alloc, front)?;
-    bytes.resize(len, 0)?;
-    Ok(bytes)
-}
-
+/// Calls: `binary::from_binary_any`, `binary::from_binary`.
 #[test]
-fn small_tries_of_icu(rt: HostRuntime) {
+fn tries_of_icu_quiet(rt: HostRuntime) {
+    let (fast, large) = (fast_16(), large_8());
+    say(&rt, "call");
     expect_opened(&rt, &SMALL_8, &SMALL_8_OPENED);
+    expect_opened(&rt, &fast, &FAST_16_OPENED);
     expect_opened(&rt, &SMALL_32, &SMALL_32_OPENED);
-}
-
-#[test]
-fn fast_trie_of_icu(rt: HostRuntime) -> Result<(), Fail> {
-    let mut bytes = with_zeros(rt.alloc(), &FAST_16_FRONT, 16 + 2 * 1024)?;
-    bytes.extend_from_slice(&FAST_16_DATA)?;
-    expect_opened(&rt, bytes.as_slice(), &FAST_16_OPENED);
-    Ok(())
+    let lengths = (length_of(&large), length_of(large.split_at(69_943).0));
+    say(&rt, "done");
+    let want = (Ok(69_944), Err(BinaryError::CutOff));
+    expect_same(&rt, lengths, want, "more bytes, and one less");
 }
 
 /// How many bytes a trie of 8 bits takes, or why there is none.
@@ -136,79 +125,9 @@ fn length_of(bytes: &[u8]) -> Result<usize, BinaryError> {
     Ok(len)
 }
 
-/// The length of the data has more than 16 bits.
-#[test]
-fn length_of_a_large_trie(rt: HostRuntime) -> Result<(), Fail> {
-    let bytes = with_zeros(rt.alloc(), &LARGE_8_HEADER, 70_000)?;
-    expect_same(
-        &rt,
-        length_of(bytes.as_slice()),
-        Ok(69_944),
-        "with more bytes",
-    );
-    let short = with_zeros(rt.alloc(), &LARGE_8_HEADER, 69_943)?;
-    let fault = Err(BinaryError::CutOff);
-    expect_same(&rt, length_of(short.as_slice()), fault, "with a byte less");
-    Ok(())
-}
-
-static TEXTS: [(BinaryError, &str); 10] = [
-    (
-        BinaryError::Short,
-        "there are fewer bytes than a header has",
-    ),
-    (BinaryError::Signature, "there is no signature of a trie"),
-    (
-        BinaryError::Swapped,
-        "the trie is of a machine with the other byte order",
-    ),
-    (BinaryError::UnknownType, "the type of the trie is unknown"),
-    (
-        BinaryError::UnknownWidth,
-        "the width of the values is unknown",
-    ),
-    (BinaryError::Reserved, "a reserved bit is not 0"),
-    (BinaryError::OtherWidth, "the values have another width"),
-    (BinaryError::CutOff, "the index or the data are cut off"),
-    (BinaryError::Cell(7), "cell 7 is no value"),
-    (
-        BinaryError::Trie(CodePointTrieError::InvalidNullValue),
-        "The null value is not a valid `T`",
-    ),
-];
-
-#[test]
-fn texts_of_errors(rt: HostRuntime) {
-    for (error, text) in TEXTS.iter() {
-        expect_told(&rt, error, text);
-    }
-}
-
-/// The value of `A` in a trie of 8 bits.
-fn value_of_a(bytes: &[u8]) -> Option<u8> {
-    match from_binary::<u8>(bytes) {
-        Ok((trie, _)) => Some(trie.get('A')),
-        Err(_) => None,
-    }
-}
-
-/// The number of `A`'s value in a trie of whichever width.
-fn number_of_a(bytes: &[u8]) -> Option<u32> {
-    match from_binary_any(bytes) {
-        Ok((AnyWidthTrie::Bits8(trie), _)) => Some(trie.get32_u32(0x41)),
-        Ok((AnyWidthTrie::Bits16(trie), _)) => Some(trie.get32_u32(0x41)),
-        Ok((AnyWidthTrie::Bits32(trie), _)) => Some(trie.get32_u32(0x41)),
-        Err(_) => None,
-    }
-}
-
-/// Calls: `binary::from_binary`, `binary::from_binary_any`.
-#[test]
-fn from_binary_quiet(rt: HostRuntime) {
-    say(&rt, "call");
-    let value = value_of_a(&SMALL_8);
-    let number = number_of_a(&SMALL_8);
-    say(&rt, "done");
-    expect_same(&rt, value, Some(1), "the value");
-    expect_same(&rt, number, Some(1), "its number");
+/// The bytes of a trie whose data's length has more than 16 bits, and more bytes.
+fn large_8() -> [u8; 70_000] {
+    let mut bytes = [0; 70_000];
+    bytes[..16].copy_from_slice(&LARGE_8_HEADER);
+    bytes
 }

@@ -1,6 +1,5 @@
 //! Tries in ICU's binary form with the highest byte of each number first.
 use super::binary_tables::{SMALL_8, SMALL_32};
-use super::support::expect_told;
 use crate::tests::{expect_same, say};
 use icu_trie_binary::binary::{BinaryError, SwappedError, from_binary_swapped, to_binary};
 use std::alloc::Global;
@@ -79,31 +78,18 @@ fn length_of(alloc: Global, bytes: &[u8]) -> Result<usize, SwappedError> {
     Ok(len)
 }
 
-#[test]
-fn bytes_of_no_such_trie(rt: HostRuntime) {
-    let found = length_of(rt.alloc(), &SMALL_8);
-    let swapped = SwappedError::Binary(BinaryError::Swapped);
-    expect_same(&rt, found, Err(swapped), "this machine's order");
-    let found = length_of(rt.alloc(), &FRONT_8[..15]);
-    let short = SwappedError::Binary(BinaryError::Short);
-    expect_same(&rt, found, Err(short), "no header");
-    let found = length_of(rt.alloc(), &FRONT_8);
-    let cut_off = SwappedError::Binary(BinaryError::CutOff);
-    expect_same(&rt, found, Err(cut_off), "a header alone");
-}
-
-static TEXTS: [(SwappedError, &str); 2] = [
-    (
-        SwappedError::Binary(BinaryError::Signature),
-        "there is no signature of a trie",
-    ),
-    (SwappedError::Memory, "no memory"),
+/// Bytes, and why they hold no such trie: in this machine's order, no header, a header alone.
+static FAULTS: [(&[u8], BinaryError); 3] = [
+    (&SMALL_8, BinaryError::Swapped),
+    (&[0x54, 0x72, 0x69], BinaryError::Short),
+    (&FRONT_8, BinaryError::CutOff),
 ];
 
 #[test]
-fn texts_of_errors(rt: HostRuntime) {
-    for (error, text) in TEXTS.iter() {
-        expect_told(&rt, error, text);
+fn bytes_of_no_such_trie(rt: HostRuntime) {
+    for (bytes, fault) in FAULTS.iter() {
+        let found = length_of(rt.alloc(), bytes);
+        expect_same(&rt, found, Err(SwappedError::Binary(*fault)), "no trie");
     }
 }
 

@@ -17,12 +17,12 @@ pub const SMALL_8: [u8; 276] = [
 
 /// Fast, 16 bits: initial value 5, error value 0xBAD; U+0041..005A have 0x1234. These are its first
 /// bytes: the header, and the first two cells of the index. The other 1,022 cells are 0.
-pub const FAST_16_FRONT: [u8; 20] = [
+const FAST_16_FRONT: [u8; 20] = [
     51, 105, 114, 84, 0, 0, 0, 4, 130, 0, 255, 127, 0, 0, 1, 0, 0, 0, 64, 0,
 ];
 
 /// The data of the same trie.
-pub const FAST_16_DATA: [u8; 260] = [
+const FAST_16_DATA: [u8; 260] = [
     5, 0, 5, 0, 5, 0, 5, 0, 5, 0, 5, 0, 5, 0, 5, 0, 5, 0, 5, 0, 5, 0, 5, 0, 5, 0, 5, 0, 5, 0, 5, 0,
     5, 0, 5, 0, 5, 0, 5, 0, 5, 0, 5, 0, 5, 0, 5, 0, 5, 0, 5, 0, 5, 0, 5, 0, 5, 0, 5, 0, 5, 0, 5, 0,
     5, 0, 5, 0, 5, 0, 5, 0, 5, 0, 5, 0, 5, 0, 5, 0, 5, 0, 5, 0, 5, 0, 5, 0, 5, 0, 5, 0, 5, 0, 5, 0,
@@ -33,6 +33,14 @@ pub const FAST_16_DATA: [u8; 260] = [
     5, 0, 5, 0, 5, 0, 5, 0, 5, 0, 5, 0, 5, 0, 5, 0, 5, 0, 5, 0, 5, 0, 5, 0, 5, 0, 5, 0, 5, 0, 5, 0,
     5, 0, 5, 0, 5, 0, 5, 0, 5, 0, 5, 0, 5, 0, 5, 0, 5, 0, 5, 0, 173, 11,
 ];
+
+/// All bytes of the same trie.
+pub fn fast_16() -> [u8; 2324] {
+    let mut bytes = [0; 2324];
+    bytes[..20].copy_from_slice(&FAST_16_FRONT);
+    bytes[2064..].copy_from_slice(&FAST_16_DATA);
+    bytes
+}
 
 /// Small, 32 bits: initial value 1, error value 0xBADBAD; U+0041..005A have 0x12345678,
 /// U+1F600..1F64F have 0xFFFFFFFE. The last cell of the index is there for the data's place alone.

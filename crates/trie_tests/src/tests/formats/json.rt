@@ -1,6 +1,6 @@
 //! Tries in JSON: faults, the way there and back, texts, and refused memory.
-use super::support::{expect_answers, expect_told, joined};
-use crate::tests::{expect, expect_same, say};
+use super::support::{expect_answers, joined};
+use crate::tests::{expect, expect_same, expect_told, say};
 use icu_trie::cptrie::CodePointTrie;
 use icu_trie::error::CodePointTrieError;
 use icu_trie_formats::json::{TrieJsonError, from_json, to_json};
@@ -42,7 +42,8 @@ fn fault_of(alloc: Global, parts: &[&str]) -> Result<Option<TrieJsonError>, Fail
     Ok(from_json::<u8>(alloc, &value).err())
 }
 
-static HEADER_FAULTS: [(&[&str], TrieJsonError); 8] = [
+/// The parts of values, and why they are no trie: by the header, by the arrays, and by both.
+static FAULTS: [(&[&str], TrieJsonError); 15] = [
     (&["[]"], TrieJsonError::Shape("")),
     (&["{}"], TrieJsonError::Shape("header")),
     (&[r#"{"header":[]}"#], TrieJsonError::Shape("header")),
@@ -57,17 +58,6 @@ static HEADER_FAULTS: [(&[&str], TrieJsonError); 8] = [
     ),
     (&[HEADER, r#""Slow"}}"#], TrieJsonError::Shape("trie_type")),
     (&[HEADER, "1}}"], TrieJsonError::Shape("trie_type")),
-];
-
-#[test]
-fn values_refused_by_their_header(rt: HostRuntime) -> Result<(), Fail> {
-    for (parts, fault) in HEADER_FAULTS.iter() {
-        expect_same(&rt, fault_of(rt.alloc(), parts)?, Some(*fault), "the fault");
-    }
-    Ok(())
-}
-
-static ARRAY_FAULTS: [(&[&str], TrieJsonError); 5] = [
     (&[HEADER, r#""Small"}}"#], TrieJsonError::Shape("index")),
     (
         &[HEADER, r#""Small"},"index":[65536]}"#],
@@ -85,41 +75,21 @@ static ARRAY_FAULTS: [(&[&str], TrieJsonError); 5] = [
         &[HEADER, r#""Small"},"#, INDEX, r#","data":[0,0,0,300]}"#],
         TrieJsonError::Value(3),
     ),
-];
-
-#[test]
-fn values_refused_by_their_arrays(rt: HostRuntime) -> Result<(), Fail> {
-    for (parts, fault) in ARRAY_FAULTS.iter() {
-        expect_same(&rt, fault_of(rt.alloc(), parts)?, Some(*fault), "the fault");
-    }
-    Ok(())
-}
-
-static TRIE_FAULTS: [(&[&str], CodePointTrieError); 2] = [
     (
         &[HEADER, r#""Small"},"#, INDEX, r#","data":[]}"#],
-        CodePointTrieError::EmptyDataVector,
+        TrieJsonError::Trie(CodePointTrieError::EmptyDataVector),
     ),
     (
         &[HEADER, r#""Fast"},"#, INDEX, ",", DATA],
-        CodePointTrieError::IndexTooShortForFastAccess,
+        TrieJsonError::Trie(CodePointTrieError::IndexTooShortForFastAccess),
     ),
 ];
 
 #[test]
-fn parts_of_no_trie(rt: HostRuntime) -> Result<(), Fail> {
-    for (parts, fault) in TRIE_FAULTS.iter() {
-        let found = fault_of(rt.alloc(), parts)?;
-        expect_same(&rt, found, Some(TrieJsonError::Trie(*fault)), "the fault");
+fn values_of_no_trie(rt: HostRuntime) -> Result<(), Fail> {
+    for (parts, fault) in FAULTS.iter() {
+        expect_same(&rt, fault_of(rt.alloc(), parts)?, Some(*fault), "the fault");
     }
-    Ok(())
-}
-
-#[test]
-fn a_trie_is_read(rt: HostRuntime) -> Result<(), Fail> {
-    let value = value_of(rt.alloc(), &WHOLE).ok_or("no value")?;
-    let trie = from_json::<u8>(rt.alloc(), &value)?;
-    expect_answers(&rt, trie, &[(0x41, 0), (0x1000, 7), (0x11_0000, 9)]);
     Ok(())
 }
 
@@ -134,19 +104,6 @@ fn there_and_back(rt: HostRuntime) -> Result<(), Fail> {
     let value = value_of(rt.alloc(), &WHOLE).ok_or("no value")?;
     let written = there_and_back_of(rt.alloc(), &value)?;
     expect(&rt, written == value, "the value");
-    Ok(())
-}
-
-/// The trie of the planes, written and read.
-fn planes_read_back(alloc: Global) -> Result<CodePointTrie<'static, u8>, Fail> {
-    let written = to_json(alloc, &get_planes_trie())?;
-    Ok(from_json(alloc, &written)?)
-}
-
-#[test]
-fn planes_there_and_back(rt: HostRuntime) -> Result<(), Fail> {
-    let trie = planes_read_back(rt.alloc())?;
-    expect(&rt, trie == get_planes_trie(), "the trie");
     Ok(())
 }
 
@@ -172,9 +129,7 @@ static TEXTS: [(TrieJsonError, &str); 5] = [
 
 #[test]
 fn texts_of_errors(rt: HostRuntime) {
-    for (error, want) in TEXTS.iter() {
-        expect_told(&rt, error, want);
-    }
+    expect_told(&rt, &TEXTS);
 }
 
 /// The value has data, or the want of memory was told, which is said.
@@ -196,10 +151,10 @@ fn to_json_refused(rt: HostRuntime) {
     expect(&rt, planes == get_planes_trie(), "as it was");
 }
 
-/// The trie has its high value, or the want of memory was told, which is said.
+/// The trie has its values, or the want of memory was told, which is said.
 fn expect_read(rt: &(impl Abort + Print), trie: Result<CodePointTrie<'_, u8>, TrieJsonError>) {
     match trie {
-        Ok(trie) => expect_answers(rt, trie, &[(0x1000, 7)]),
+        Ok(trie) => expect_answers(rt, trie, &[(0x41, 0), (0x1000, 7), (0x11_0000, 9)]),
         Err(error) => {
             expect_same(rt, error, TrieJsonError::Memory, "the fault");
             say(rt, "refused");

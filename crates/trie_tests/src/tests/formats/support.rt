@@ -2,7 +2,6 @@
 use crate::tests::expect_same;
 use icu_trie::cptrie::CodePointTrie;
 use std::alloc::Global;
-use std::fmt::Display;
 use std::process::Abort;
 
 /// The text that the parts make, `None` where memory was refused.
@@ -12,14 +11,6 @@ pub fn joined(alloc: Global, parts: &[&str]) -> Option<String> {
         text.push_str(part).ok()?;
     }
     Some(text)
-}
-
-/// The error is told so, where there was memory for its text.
-pub fn expect_told<E: Display>(rt: &(impl Abort + AllocGlobal), error: &E, want: &str) {
-    match error.to_string(rt.alloc()) {
-        Ok(text) => expect_same(rt, text.as_str(), want, "the text"),
-        Err(_) => rt.panic("no text"),
-    }
 }
 
 /// The trie answers each number with its value.

@@ -1,8 +1,7 @@
-//! Tries in TOML, key by key: each number that is missing or out of its range is named, and what
-//! the type's number says.
+//! Tries in TOML, key by key: each number that is missing or out of its range is named, and the
+//! greatest ones before it are read.
 use super::support::joined;
 use crate::tests::expect_same;
-use icu_trie::header::{CodePointTrieHeader, TrieType};
 use icu_trie_formats::trie_toml::{CodePointTrieToml, TomlError};
 use std::alloc::Global;
 use std::test::Fail;
@@ -58,6 +57,7 @@ fn read_with(
     Ok(CodePointTrieToml::from_table(alloc, &table))
 }
 
+/// One number is missing or too large, and all others are the greatest.
 #[test]
 fn numbers_that_are_missing_or_too_large(rt: HostRuntime) -> Result<(), Fail> {
     for (i, number) in NUMBERS.iter().enumerate() {
@@ -71,27 +71,5 @@ fn numbers_that_are_missing_or_too_large(rt: HostRuntime) -> Result<(), Fail> {
             "too large",
         );
     }
-    Ok(())
-}
-
-/// The header that was read, where the table was not refused.
-fn header_in(read: Result<CodePointTrieToml, TomlError>) -> Option<CodePointTrieHeader> {
-    let read = read.ok()?;
-    CodePointTrieHeader::try_from(&read).ok()
-}
-
-/// The greatest numbers are read, and type 0 is `Fast`.
-#[test]
-fn greatest_numbers(rt: HostRuntime) -> Result<(), Fail> {
-    let want = CodePointTrieHeader {
-        high_start: 0xffff_ffff,
-        shifted12_high_start: 0xffff,
-        index3_null_offset: 0xffff,
-        data_null_offset: 0xffff_ffff,
-        null_value: 0xffff_ffff,
-        trie_type: TrieType::Fast,
-    };
-    let found = header_in(read_with(rt.alloc(), 7, "")?);
-    expect_same(&rt, found, Some(want), "the header");
     Ok(())
 }

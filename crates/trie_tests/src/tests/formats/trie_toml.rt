@@ -1,6 +1,6 @@
 //! Tries in TOML: faults, the data that count, texts, and refused memory.
-use super::support::{expect_answers, expect_told, joined};
-use crate::tests::{expect, expect_same, say};
+use super::support::{expect_answers, joined};
+use crate::tests::{expect, expect_same, expect_told, say};
 use icu_trie::cptrie::CodePointTrie;
 use icu_trie::error::CodePointTrieError;
 use icu_trie::header::{CodePointTrieHeader, TrieType};
@@ -33,11 +33,15 @@ index3NullOffset = 32767
 dataNullOffset = 3
 nullValue = 5\n";
 
-/// The parts of a trie's table with its name.
-const NAMED: [&str; 4] = [INDEX, FIELDS, "type = 1\nname = \"planes\"\ndata_8", CELLS];
-
-/// The parts of a trie's table.
-const WHOLE: [&str; 4] = [INDEX, FIELDS, "type = 1\ndata_8", CELLS];
+/// The parts of a trie's table, which has a name. Of several arrays of data that of the least
+/// numbers counts.
+const WHOLE: [&str; 5] = [
+    INDEX,
+    FIELDS,
+    "type = 1\nname = \"planes\"\n",
+    "data_32 = [1]\ndata_16 = [2]\ndata_8",
+    CELLS,
+];
 
 /// The table of a text in parts, `None` where memory was refused.
 fn table_of(alloc: Global, parts: &[&str]) -> Option<Table> {
@@ -45,150 +49,105 @@ fn table_of(alloc: Global, parts: &[&str]) -> Option<Table> {
     toml::table_from_str(alloc, text.as_str()).ok()
 }
 
-/// What such a table holds.
-fn read_of(alloc: Global, parts: &[&str]) -> Result<CodePointTrieToml, Fail> {
+/// The trie that a table has.
+fn trie_of_table(
+    alloc: Global,
+    table: &Table,
+) -> Result<CodePointTrie<'static, u8>, TrieFromTomlError> {
+    let read = CodePointTrieToml::from_table(alloc, table)?;
+    CodePointTrie::try_from(&read)
+}
+
+/// Why such a table has no trie.
+fn fault_of(alloc: Global, parts: &[&str]) -> Result<Option<TrieFromTomlError>, Fail> {
     let table = table_of(alloc, parts).ok_or("no table")?;
-    Ok(CodePointTrieToml::from_table(alloc, &table)?)
+    Ok(trie_of_table(alloc, &table).err())
 }
 
-#[test]
-fn a_table_is_read(rt: HostRuntime) -> Result<(), Fail> {
-    let read = read_of(rt.alloc(), &NAMED)?;
-    expect_same(&rt, read.index_slice().len(), 64, "cells of the index");
-    let trie = CodePointTrie::<u8>::try_from(&read)?;
-    expect_answers(&rt, trie, &[(0x41, 5), (0x1000, 7), (0x11_0000, 9)]);
-    Ok(())
-}
-
-#[test]
-fn a_header_is_read(rt: HostRuntime) -> Result<(), Fail> {
-    let header = CodePointTrieHeader::try_from(&read_of(rt.alloc(), &NAMED)?)?;
-    let want = CodePointTrieHeader {
-        high_start: 4096,
-        shifted12_high_start: 1,
-        index3_null_offset: 32767,
-        data_null_offset: 3,
-        null_value: 5,
-        trie_type: TrieType::Small,
-    };
-    expect_same(&rt, header, want, "the header");
-    Ok(())
-}
-
-/// The first cell of the data, where they are of 8 bits.
-fn first_byte_in(read: CodePointTrieToml) -> Option<u8> {
-    match read.data_slice() {
-        Ok(CodePointDataSlice::U8(cells)) => cells.first().copied(),
-        _ => None,
-    }
-}
-
-#[test]
-fn first_array_of_data_counts(rt: HostRuntime) -> Result<(), Fail> {
-    let data = "type = 1\ndata_32 = [1]\ndata_16 = [2]\ndata_8 = [3]";
-    let read = read_of(rt.alloc(), &[INDEX, FIELDS, data])?;
-    expect_same(&rt, first_byte_in(read), Some(3), "the first cell");
-    Ok(())
-}
-
-#[test]
-fn first_array_of_data_makes_the_trie(rt: HostRuntime) -> Result<(), Fail> {
-    let data = "type = 1\ndata_16 = [1, 65535]\ndata_8";
-    let read = read_of(rt.alloc(), &[INDEX, FIELDS, data, CELLS])?;
-    let found = CodePointTrie::<u32>::try_from(&read)?.get('A');
-    expect_same(&rt, found, 5, "the value of the letter");
-    Ok(())
-}
-
-/// Why such a table is refused.
-fn fault_of(alloc: Global, parts: &[&str]) -> Result<Option<TomlError>, Fail> {
-    let table = table_of(alloc, parts).ok_or("no table")?;
-    Ok(CodePointTrieToml::from_table(alloc, &table).err())
-}
-
-static TABLE_FAULTS: [(&[&str], TomlError); 13] = [
-    (&[FIELDS, "type = 1\n"], TomlError::Missing("index")),
+/// The parts of tables, and why they have no trie: the first fault of the table, or what is wrong
+/// with what it holds.
+static FAULTS: [(&[&str], TrieFromTomlError); 17] = [
+    (
+        &[FIELDS, "type = 1\n"],
+        TrieFromTomlError::Table(TomlError::Missing("index")),
+    ),
     (
         &["index = [65536]\ndata_8 = [256]"],
-        TomlError::OutOfRange("index"),
+        TrieFromTomlError::Table(TomlError::OutOfRange("index")),
     ),
-    (&["index = 7"], TomlError::OutOfRange("index")),
-    (&["index = [-1]"], TomlError::OutOfRange("index")),
-    (&["index = \"x\""], TomlError::OutOfRange("index")),
-    (&[INDEX, "data_8 = [256]"], TomlError::OutOfRange("data_8")),
+    (
+        &["index = 7"],
+        TrieFromTomlError::Table(TomlError::OutOfRange("index")),
+    ),
+    (
+        &["index = [-1]"],
+        TrieFromTomlError::Table(TomlError::OutOfRange("index")),
+    ),
+    (
+        &["index = \"x\""],
+        TrieFromTomlError::Table(TomlError::OutOfRange("index")),
+    ),
+    (
+        &[INDEX, "data_8 = [256]"],
+        TrieFromTomlError::Table(TomlError::OutOfRange("data_8")),
+    ),
     (
         &[INDEX, "highStart = -1"],
-        TomlError::OutOfRange("highStart"),
+        TrieFromTomlError::Table(TomlError::OutOfRange("highStart")),
     ),
     (
         &[INDEX, "highStart = 4294967296"],
-        TomlError::OutOfRange("highStart"),
+        TrieFromTomlError::Table(TomlError::OutOfRange("highStart")),
     ),
     (
         &[INDEX, "data_8 = [255, 256]"],
-        TomlError::OutOfRange("data_8"),
+        TrieFromTomlError::Table(TomlError::OutOfRange("data_8")),
     ),
     (
         &[INDEX, "data_32 = [4294967296]"],
-        TomlError::OutOfRange("data_32"),
+        TrieFromTomlError::Table(TomlError::OutOfRange("data_32")),
     ),
-    (&[INDEX], TomlError::Missing("highStart")),
-    (&[INDEX, FIELDS], TomlError::Missing("type")),
+    (
+        &[INDEX],
+        TrieFromTomlError::Table(TomlError::Missing("highStart")),
+    ),
+    (
+        &[INDEX, FIELDS],
+        TrieFromTomlError::Table(TomlError::Missing("type")),
+    ),
     (
         &[INDEX, FIELDS, "type = 256"],
-        TomlError::OutOfRange("type"),
+        TrieFromTomlError::Table(TomlError::OutOfRange("type")),
     ),
-];
-
-#[test]
-fn tables_with_a_first_fault(rt: HostRuntime) -> Result<(), Fail> {
-    for (parts, fault) in TABLE_FAULTS.iter() {
-        expect_same(&rt, fault_of(rt.alloc(), parts)?, Some(*fault), "the fault");
-    }
-    Ok(())
-}
-
-/// Why what such a table holds makes no trie.
-fn trie_fault_of(alloc: Global, parts: &[&str]) -> Result<Option<TrieFromTomlError>, Fail> {
-    let read = read_of(alloc, parts)?;
-    Ok(CodePointTrie::<u8>::try_from(&read).err())
-}
-
-static TRIE_FAULTS: [(&[&str], CodePointTrieError); 4] = [
     (
         &[INDEX, FIELDS, "type = 2\n"],
-        CodePointTrieError::FromDeserialized {
+        TrieFromTomlError::Trie(CodePointTrieError::FromDeserialized {
             reason: "Cannot parse value for trie_type",
-        },
+        }),
     ),
     (
         &[INDEX, FIELDS, "type = 1\n"],
-        CodePointTrieError::FromDeserialized {
+        TrieFromTomlError::Trie(CodePointTrieError::FromDeserialized {
             reason: "Did not find data array for CodePointTrie in TOML",
-        },
+        }),
     ),
     (
         &[INDEX, FIELDS, "type = 1\ndata_16 = [300]\n"],
-        CodePointTrieError::FromDeserialized {
+        TrieFromTomlError::Trie(CodePointTrieError::FromDeserialized {
             reason: "Could not parse data array to typed array",
-        },
+        }),
     ),
     (
         &["index = []\n", FIELDS, "type = 1\ndata_16 = [5]\n"],
-        CodePointTrieError::IndexTooShortForFastAccess,
+        TrieFromTomlError::Trie(CodePointTrieError::IndexTooShortForFastAccess),
     ),
 ];
 
+/// A fault of the table is told as such, also by `?` among faults of tries.
 #[test]
 fn tables_of_no_trie(rt: HostRuntime) -> Result<(), Fail> {
-    for (parts, fault) in TRIE_FAULTS.iter() {
-        let found = trie_fault_of(rt.alloc(), parts)?;
-        expect_same(
-            &rt,
-            found,
-            Some(TrieFromTomlError::Trie(*fault)),
-            "the fault",
-        );
+    for (parts, fault) in FAULTS.iter() {
+        expect_same(&rt, fault_of(rt.alloc(), parts)?, Some(*fault), "the fault");
     }
     Ok(())
 }
@@ -214,14 +173,11 @@ static TRIE_TEXTS: [(TrieFromTomlError, &str); 3] = [
     ),
 ];
 
+/// Each error is told as what it is.
 #[test]
 fn texts_of_errors(rt: HostRuntime) {
-    for (error, want) in TABLE_TEXTS.iter() {
-        expect_told(&rt, error, want);
-    }
-    for (error, want) in TRIE_TEXTS.iter() {
-        expect_told(&rt, error, want);
-    }
+    expect_told(&rt, &TABLE_TEXTS);
+    expect_told(&rt, &TRIE_TEXTS);
 }
 
 /// The table was read, or the want of memory was told, which is said.
@@ -254,10 +210,10 @@ fn from_table_refused(rt: HostRuntime) {
     expect(&rt, table == copy, "as it was");
 }
 
-/// The trie has its high value, or the want of memory was told, which is said.
+/// The trie has its values, or the want of memory was told, which is said.
 fn expect_trie(rt: &(impl Abort + Print), trie: Result<CodePointTrie<'_, u8>, TrieFromTomlError>) {
     match trie {
-        Ok(trie) => expect_answers(rt, trie, &[(0x1000, 7)]),
+        Ok(trie) => expect_answers(rt, trie, &[(0x41, 5), (0x1000, 7), (0x11_0000, 9)]),
         Err(error) => {
             expect_same(rt, error, TrieFromTomlError::Memory, "the fault");
             say(rt, "refused");
@@ -284,20 +240,25 @@ fn trie_from_toml_refused(rt: HostRuntime) {
     expect_same(&rt, parts_of(&read), PARTS, "as it was");
 }
 
-/// How many cells the table has, whether the data are bytes, and its header's number of the first
-/// code point of the high value.
-fn parts_of(read: &CodePointTrieToml) -> (usize, bool, Option<u32>) {
+/// How many cells the table has, whether the data are bytes, and its header.
+fn parts_of(read: &CodePointTrieToml) -> (usize, bool, Option<CodePointTrieHeader>) {
     let is_bytes = matches!(read.data_slice(), Ok(CodePointDataSlice::U8(_)));
-    let header = CodePointTrieHeader::try_from(read);
-    (
-        read.index_slice().len(),
-        is_bytes,
-        header.map(|header| header.high_start).ok(),
-    )
+    let header = CodePointTrieHeader::try_from(read).ok();
+    (read.index_slice().len(), is_bytes, header)
 }
 
 /// What they are in the table of a trie.
-const PARTS: (usize, bool, Option<u32>) = (64, true, Some(0x1000));
+const PARTS: (usize, bool, Option<CodePointTrieHeader>) = (64, true, Some(HEADER));
+
+/// The header in the table of a trie.
+const HEADER: CodePointTrieHeader = CodePointTrieHeader {
+    high_start: 4096,
+    shifted12_high_start: 1,
+    index3_null_offset: 32767,
+    data_null_offset: 3,
+    null_value: 5,
+    trie_type: TrieType::Small,
+};
 
 /// Calls: `CodePointTrieToml::index_slice`, `CodePointTrieToml::data_slice`,
 /// `CodePointTrieHeader::try_from`, `TrieType::try_from`.
@@ -312,23 +273,4 @@ fn parts_quiet(rt: HostRuntime) {
     say(&rt, "done");
     expect_same(&rt, found, PARTS, "the parts");
     expect_same(&rt, fast.ok(), Some(TrieType::Fast), "the type");
-}
-
-/// The trie that a table has, by `?` alone.
-fn trie_of_table(
-    alloc: Global,
-    table: &Table,
-) -> Result<CodePointTrie<'static, u8>, TrieFromTomlError> {
-    let read = CodePointTrieToml::from_table(alloc, table)?;
-    let trie = CodePointTrie::try_from(&read)?;
-    Ok(trie)
-}
-
-#[test]
-fn a_refused_table_among_refused_tries(rt: HostRuntime) -> Result<(), Fail> {
-    let table = table_of(rt.alloc(), &["index = [65536]"]).ok_or("no table")?;
-    let fault = trie_of_table(rt.alloc(), &table).err();
-    let told = TrieFromTomlError::Table(TomlError::OutOfRange("index"));
-    expect_same(&rt, fault, Some(told), "told");
-    Ok(())
 }
