@@ -4,9 +4,11 @@
 //! An assert stands in a small helper without a contract, and a value that owns memory is handed to
 //! it: a proof of a test that asserts and holds such values at the same time is long.
 
+mod built_tries;
 mod constants;
 mod error_texts;
 mod formats;
+mod joined_ranges;
 mod lying_headers;
 mod made_of_tries;
 mod packed_vectors;

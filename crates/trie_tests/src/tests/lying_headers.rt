@@ -92,15 +92,25 @@ fn range_at(trie: &CodePointTrie<'_, u8>, c: u32) -> Option<(u32, u32, u8)> {
     }
 }
 
+/// The packed byte of a code point's cell, if it has one.
+fn packed_at(trie: &CodePointTrie<'_, u8>, c: u32) -> Option<u8> {
+    match trie.get32_ule(c) {
+        Some(bytes) => bytes.first().copied(),
+        None => None,
+    }
+}
+
+/// How many ranges come from 0 on.
+fn count_of(trie: &CodePointTrie<'_, u8>) -> usize {
+    trie.iter_ranges().count()
+}
+
 /// Whether the trie answers so.
 fn answers(trie: CodePointTrie<'_, u8>, asked: &Asked) -> bool {
     match asked {
         Asked::Coherent(want) => trie.is_coherent() == *want,
-        Asked::Ranges(want) => trie.iter_ranges().count() == *want,
-        Asked::Value(c, want) => {
-            let packed = trie.get32_ule(*c) == Some([*want].as_slice());
-            packed && trie.get32(*c) == *want
-        }
+        Asked::Ranges(want) => count_of(&trie) == *want,
+        Asked::Value(c, want) => { packed_at(&trie, *c) == Some(*want) && trie.get32(*c) == *want }
         Asked::Range(c, want) => range_at(&trie, *c) == *want,
     }
 }
@@ -182,14 +192,6 @@ fn coherence_by_index_2_cells(rt: HostRuntime) {
     }
 }
 
-/// The packed byte of a code point's cell, if it has one.
-fn packed_at(trie: CodePointTrie<'_, u8>, c: u32) -> Option<u8> {
-    match trie.get32_ule(c) {
-        Some(bytes) => bytes.first().copied(),
-        None => None,
-    }
-}
-
 /// There are no packed bytes where the index leads outside the data.
 #[test]
 fn packed_cells_outside_the_data(rt: HostRuntime) {
@@ -201,6 +203,6 @@ fn packed_cells_outside_the_data(rt: HostRuntime) {
     let ones = [1; 66];
     for (c, want) in [(0x100F, None), (0x101F, Some(1))] {
         let trie = trie_of::<u8>(&rt, small_header(0x1200, 0), &index, &ones);
-        expect_at(&rt, packed_at(trie, c), want, c);
+        expect_at(&rt, packed_at(&trie, c), want, c);
     }
 }

@@ -89,6 +89,14 @@ fn ranges_quiet(rt: HostRuntime) {
 /// What a trie of a known type reads: its values, and those by its fast index.
 type TypedReads = ([u8; 4], u32, [Option<u8>; 2]);
 
+/// What a trie of a known type reads by its fast index: at 0x41, and past its last code point.
+fn fast_reads<'a, X: TypedCodePointTrie<'a, u8>>(trie: &X, past: u32) -> [Option<u8>; 2] {
+    [
+        trie.get32_by_fast_index(0x41),
+        trie.get32_by_fast_index(past),
+    ]
+}
+
 /// What a trie of a known type reads, with the first code point past its fast index.
 fn typed_reads<'a, X: TypedCodePointTrie<'a, u8>>(trie: &X, past: u32) -> TypedReads {
     trie.shown();
@@ -98,26 +106,26 @@ fn typed_reads<'a, X: TypedCodePointTrie<'a, u8>>(trie: &X, past: u32) -> TypedR
         trie.get16(0x42),
         trie.get32_supplementary(0x1_0000),
     ];
-    let fast = [
-        trie.get32_by_fast_index(0x41),
-        trie.get32_by_fast_index(past),
-    ];
-    (values, trie.get32_u32(0x41), fast)
+    (values, trie.get32_u32(0x41), fast_reads(trie, past))
 }
 
-/// The small trie's value at 0x1000, by the trie as its type is told and by a conversion that asks
-/// for it.
-fn small_values(trie: &CodePointTrie<'_, u8>) -> Option<(u8, u8, TypedReads)> {
-    let told = match trie.as_typed_ref() {
+/// The small trie's value at 0x1000, by the trie as its type is told, lent.
+fn lent_value(trie: &CodePointTrie<'_, u8>) -> u8 {
+    match trie.as_typed_ref() {
         Typed::Small(small) => small.to_untyped().get32(0x1000),
         Typed::Fast(_) => 0,
-    };
-    let small = SmallCodePointTrie::try_from(trie).ok()?;
-    Some((
-        told,
-        small.as_untyped_ref().get32(0x1000),
-        typed_reads(&small, 0x1000),
-    ))
+    }
+}
+
+/// The small trie's value at 0x1000, by a conversion that asks for it, and what it reads.
+fn small_values(trie: &CodePointTrie<'_, u8>) -> Option<(u8, TypedReads)> {
+    match SmallCodePointTrie::try_from(trie) {
+        Ok(small) => Some((
+            small.as_untyped_ref().get32(0x1000),
+            typed_reads(&small, 0x1000),
+        )),
+        Err(_) => None,
+    }
 }
 
 /// The value at 0x1000 of a trie, as its type is told, and whether it is no fast one.
@@ -139,12 +147,13 @@ fn typed_tries_quiet(rt: HostRuntime) {
     let cells = data(ONES);
     say(&rt, "call");
     let trie = trie_of_two(&rt, &cells);
+    let lent = lent_value(&trie);
     let small = small_values(&trie);
     let told = told_value(trie);
     say(&rt, "done");
     let reads = ([2, 1, 1, 2], 1, [Some(1), None]);
-    let want = (Some((2, 2, reads)), (2, true));
-    expect_same(&rt, (small, told), want, "a small trie");
+    let want = (Some((2, reads)), (2, 2, true));
+    expect_same(&rt, (small, (lent, told.0, told.1)), want, "a small trie");
 }
 
 /// The value of a fast trie at 0x41, by the trie as a fast one, lent and given, what it reads, and

@@ -87,7 +87,7 @@ const SMALL_32_OPENED: Opened = Opened {
 fn expect_numbers<T: TrieValue>(rt: &impl Abort, trie: CodePointTrie<'_, T>, want: &Opened) {
     let (header, _, _) = trie.parts();
     expect_same(rt, header, want.header, "the header");
-    for (c, number) in &want.answers {
+    for (c, number) in want.answers.iter() {
         expect_same(rt, (*c, trie.get32_u32(*c)), (*c, *number), "an answer");
     }
 }

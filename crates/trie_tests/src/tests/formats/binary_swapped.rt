@@ -65,6 +65,7 @@ fn expect_rewritten(rt: &impl Abort, found: Option<(usize, Vec<u8>)>) {
     }
 }
 
+/// A trie whose cells have several bytes is the one that ICU wrote.
 #[test]
 fn trie_of_32_bits(rt: HostRuntime) -> Result<(), Fail> {
     let bytes = swapped_32(rt.alloc())?;
@@ -78,13 +79,19 @@ fn length_of(alloc: Global, bytes: &[u8]) -> Result<usize, SwappedError> {
     Ok(len)
 }
 
+/// A byte less than a header has.
+const SHORT_8: [u8; 15] = [
+    0x54, 0x72, 0x69, 0x33, 0x0f, 0x42, 0, 64, 0, 132, 0x7f, 0xff, 0xff, 0xff, 0,
+];
+
 /// Bytes, and why they hold no such trie: in this machine's order, no header, a header alone.
 static FAULTS: [(&[u8], BinaryError); 3] = [
     (&SMALL_8, BinaryError::Swapped),
-    (&[0x54, 0x72, 0x69], BinaryError::Short),
+    (&SHORT_8, BinaryError::Short),
     (&FRONT_8, BinaryError::CutOff),
 ];
 
+/// Bytes that hold no such trie are refused by their fault.
 #[test]
 fn bytes_of_no_such_trie(rt: HostRuntime) {
     for (bytes, fault) in FAULTS.iter() {

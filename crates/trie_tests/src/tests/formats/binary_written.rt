@@ -11,17 +11,30 @@ use std::alloc::Global;
 use std::process::Abort;
 use std::test::Fail;
 
+/// How many bytes the trie takes, by both calls, where it is written into this room.
+fn written_length<T: TrieValue>(trie: &CodePointTrie<'_, T>, room: &mut [u8]) -> Option<usize> {
+    let len = write_binary(trie, room).ok()?;
+    if binary_len(trie).ok()? == len {
+        Some(len)
+    } else {
+        None
+    }
+}
+
+/// Whether the trie is refused where there are 275 bytes, which are too few, and these stay.
+fn is_refused<T: TrieValue>(trie: &CodePointTrie<'_, T>) -> bool {
+    let mut few = [7; 275];
+    let refused = matches!(write_binary(trie, &mut few), Err(WriteError::Short));
+    refused && few == [7; 275]
+}
+
 /// Whether the trie takes so many bytes, whether it is written as these where there is room, and
-/// what follows them stays, and whether it is refused where there are too few, which stay.
+/// what follows them stays, and whether it is refused where there are too few.
 fn is_written_as<T: TrieValue>(trie: CodePointTrie<'_, T>, bytes: &[u8]) -> [bool; 3] {
-    let (mut room, mut few) = ([7; 2326], [7; 275]);
-    let written = write_binary(&trie, &mut room);
-    let refused = write_binary(&trie, &mut few);
-    [
-        written == Ok(bytes.len()) && binary_len(&trie) == written,
-        room.starts_with(bytes) && room.get(bytes.len()) == Some(&7),
-        refused == Err(WriteError::Short) && few == [7; 275],
-    ]
+    let mut room = [7; 2326];
+    let len = written_length(&trie, &mut room);
+    let same = room.starts_with(bytes) && room.get(bytes.len()) == Some(&7);
+    [len == Some(bytes.len()), same, is_refused(&trie)]
 }
 
 /// The trie that the bytes begin with is written as these bytes.
@@ -124,6 +137,7 @@ static LENGTHS: [(
     (OTHER_NULL, (64, 64), Err(WriteError::NullValue)),
 ];
 
+/// The form has room for so many cells, and for such headers.
 #[test]
 fn lengths_of_tries(rt: HostRuntime) -> Result<(), Fail> {
     for (header, cells, want) in LENGTHS.iter() {
@@ -133,6 +147,7 @@ fn lengths_of_tries(rt: HostRuntime) -> Result<(), Fail> {
     Ok(())
 }
 
+/// The form has values of one, two and four bytes.
 #[test]
 fn values_of_three_bytes(rt: HostRuntime) {
     let found = binary_len(&trie_of::<char>(&rt, PLAIN, &[0; 2 * 64], &[0; 3 * 64]));

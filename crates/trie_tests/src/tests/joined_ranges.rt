@@ -1,0 +1,33 @@
+//! Ranges that touch are joined.
+use super::expect_same;
+use icu_trie::iterator_utils::RangeListIteratorCoalescer;
+use icu_trie_core::range::CodePointMapRange;
+use std::ops::RangeInclusive;
+use std::process::Abort;
+use std::test::Fail;
+
+/// The range of a value.
+fn with<T>(range: RangeInclusive<u32>, value: T) -> CodePointMapRange<T> {
+    CodePointMapRange { range, value }
+}
+
+/// The ranges found are those wanted, in their order.
+fn expect_ranges(
+    rt: &impl Abort,
+    found: Vec<CodePointMapRange<u8>>,
+    want: &[CodePointMapRange<u8>],
+) {
+    expect_same(rt, found.as_slice(), want, "the ranges");
+}
+
+/// Nothing is behind the greatest number.
+#[test]
+fn joined_ranges(rt: HostRuntime) -> Result<(), Fail> {
+    let ranges = [with(0..=3, 1u8), with(4..=6, 1), with(8..=9, 1)];
+    let joined: Vec<_> = RangeListIteratorCoalescer::new(ranges.into_iter()).collect(rt.alloc())?;
+    expect_ranges(&rt, joined, &[with(0..=6, 1u8), with(8..=9, 1)]);
+    let ranges = [with(5..=u32::MAX, 1u8), with(0..=2, 1)];
+    let joined: Vec<_> = RangeListIteratorCoalescer::new(ranges.into_iter()).collect(rt.alloc())?;
+    expect_ranges(&rt, joined, &[with(5..=u32::MAX, 1u8), with(0..=2, 1)]);
+    Ok(())
+}
