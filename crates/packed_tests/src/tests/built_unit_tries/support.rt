@@ -29,12 +29,20 @@ pub fn expect_added(rt: &impl Abort, builder: &mut Char16TrieBuilder, key: &[u16
     expect_same(rt, add(builder, key, value), Ok(()), "an entry is added");
 }
 
+/// Adds an entry, which has to be there, and new.
+fn expect_entry_added(rt: &impl Abort, builder: &mut Char16TrieBuilder, entry: Option<&Entry<'_>>) {
+    match entry {
+        Some((key, value)) => expect_added(rt, builder, key, *value),
+        None => rt.panic("no entry"),
+    }
+}
+
 /// The trie of these entries, of which the last one is added first.
 pub fn built(rt: &(impl Abort + AllocGlobal), entries: &[Entry<'_>]) -> Char16Trie<'static> {
     let mut builder = new_builder(rt.alloc());
     for i in 0..entries.len() {
-        let (key, value) = entries[entries.len() - 1 - i];
-        expect_added(rt, &mut builder, key, value);
+        let place = entries.len() - 1 - i;
+        expect_entry_added(rt, &mut builder, entries.get(place));
     }
     given(rt, build(builder))
 }

@@ -18,16 +18,23 @@ fn last_of_clone<T: AsULE>(view: ZeroSlice<'_, T>) -> Option<T> {
     clone.as_zerovec().last()
 }
 
-/// What stands at a place of a vector and of its view, and of the view where the place is known to
-/// be one of its.
-fn at_place<T: AsULE>(vector: &ZeroVec<'_, T>, place: usize) -> [Option<T>; 3] {
-    let view = view_of(vector);
-    let known = if place < view.len() {
+/// The value at a place of a view, where the place is known to be one of its.
+fn known_at<T: AsULE>(view: ZeroSlice<'_, T>, place: usize) -> Option<T> {
+    if place < view.len() {
         Some(view.at(place))
     } else {
         None
-    };
-    [vector.get(place), view.get(place), known]
+    }
+}
+
+/// What stands at a place of a vector and of its view, and of the view where the place is known to
+/// be one of its.
+type Found<T> = (Option<T>, Option<T>, Option<T>);
+
+/// The value at a place, by each of these calls.
+fn at_place<T: AsULE>(vector: &ZeroVec<'_, T>, place: usize) -> Found<T> {
+    let view = view_of(vector);
+    (vector.get(place), view.get(place), known_at(view, place))
 }
 
 /// The next value, and how many are to come before it, counted in two ways.
@@ -35,18 +42,28 @@ fn next_of<T: AsULE>(items: &mut Iter<'_, T>) -> (usize, usize, Option<T>) {
     (items.len(), items.size_hint().0, items.next())
 }
 
-/// The values stand at their places and come one after another, and none after them.
+/// The values stand at their places, and none after them.
 fn expect_places<T: AsULE + Debug + PartialEq>(
     rt: &impl Abort,
     vector: &ZeroVec<'_, T>,
     values: &[T],
 ) {
-    let (mut items, mut items_of_view) = (vector.iter(), view_of(vector).iter());
     for place in 0..=values.len() {
-        let (left, want) = (values.len() - place, values.get(place).copied());
-        expect_same(rt, at_place(vector, place), [want; 3], "a place");
-        let next = [next_of(&mut items), next_of(&mut items_of_view)];
-        expect_same(rt, next, [(left, left, want); 2], "values to come");
+        let want = values.get(place).copied();
+        expect_same(rt, at_place(vector, place), (want, want, want), "a place");
+    }
+}
+
+/// The values, one after another.
+fn expect_items<T: AsULE + Debug + PartialEq>(
+    rt: &impl Abort,
+    mut items: Iter<'_, T>,
+    values: &[T],
+) {
+    for place in 0..=values.len() {
+        let left = values.len() - place;
+        let want = (left, left, values.get(place).copied());
+        expect_same(rt, next_of(&mut items), want, "values to come");
     }
 }
 
@@ -54,18 +71,16 @@ fn expect_places<T: AsULE + Debug + PartialEq>(
 fn expect_values<T: AsULE + Debug + PartialEq>(rt: &impl Abort, bytes: &[u8], values: &[T]) {
     let vector = lent_of::<T>(rt, bytes);
     let view = view_of(&vector);
-    let kept = [vector.as_bytes(), view.as_bytes()];
-    expect_same(rt, kept, [bytes; 2], "the bytes");
+    expect_same(rt, vector.as_bytes(), bytes, "the bytes");
+    expect_same(rt, view.as_bytes(), bytes, "the bytes of the view");
     let (first, last) = (values.first().copied(), values.last().copied());
     let want: Ends<T> = (values.len(), values.is_empty(), first, last);
-    let ends = ([ends_of(&vector), ends_of_view(view)], last_of_clone(view));
-    expect_same(
-        rt,
-        ends,
-        ([want; 2], last),
-        "a vector, its view and a clone",
-    );
+    expect_same(rt, ends_of(&vector), want, "a vector");
+    expect_same(rt, ends_of_view(view), want, "a view");
+    expect_same(rt, last_of_clone(view), last, "a clone of the view");
     expect_places(rt, &vector, values);
+    expect_items(rt, vector.iter(), values);
+    expect_items(rt, view.iter(), values);
 }
 
 /// Calls: `ZeroVec::parse_bytes`, `ZeroVec::len`, `ZeroVec::is_empty`, `ZeroVec::get`,
