@@ -240,8 +240,10 @@ fn expect_listed(rt: &impl Abort, list: Option<Vec<(String, i32)>>, wanted: [(&s
     };
     match list.as_slice() {
         [(first, one), (second, two)] => {
-            let found = [(first.as_str(), *one), (second.as_str(), *two)];
-            expect_same(rt, found, wanted, "the texts and their numbers");
+            expect_same(rt, first.as_str(), wanted[0].0, "the first text");
+            expect_same(rt, second.as_str(), wanted[1].0, "the second text");
+            let numbers = [wanted[0].1, wanted[1].1];
+            expect_same(rt, [*one, *two], numbers, "their numbers");
         }
         _ => rt.panic("not two"),
     }
