@@ -3,19 +3,13 @@
 //! binary form into `trie.bin` beside it, with values of 32 bits. Where there is a file `text` too,
 //! whose bytes may be ill-formed UTF-8, the values along them are written into `values`, four bytes
 //! a part, the lowest first. `tests/exported/run.sh` compares all three with what ICU says.
+use crate::tries::trie_table;
 use anyhow::{Context, Result};
 use icu_trie::cptrie::CodePointTrie;
 use icu_trie_binary::binary::to_binary;
 use icu_trie_formats::trie_toml::CodePointTrieToml;
 use icu_trie_text::text::values_of_utf8;
 use std::fs;
-use toml::{Table, Value};
-
-/// The table of the first property's trie.
-fn trie_table(file: &Table) -> Option<&Table> {
-    let property = file.get("enum_property")?.as_array()?.first()?;
-    property.as_table()?.get("code_point_trie")?.as_table()
-}
 
 /// The trie of a file.
 fn trie_of(rt: &HostRuntime) -> Option<CodePointTrie<'static, u32>> {

@@ -29,16 +29,20 @@ pub struct IcuForms {
     set: Vec<u8>,
 }
 
+/// The two bytes of the number at a place, the highest one first. Past the end they are 0.
+fn swapped_at(bytes: &[u8], place: usize) -> [u8; 2] {
+    let first = place.saturating_mul(2);
+    let high = bytes.get(first.saturating_add(1)).copied();
+    [high.unwrap_or(0), bytes.get(first).copied().unwrap_or(0)]
+}
+
 /// A trie with values of one byte and an index of so many cells, with the bytes of each number in
 /// the other order.
 fn in_other_order(alloc: Global, bytes: &[u8], cells: usize) -> Result<Vec<u8>, AllocError> {
     let mut swapped = Vec::new(alloc);
     swapped.extend_from_slice(b"3irT")?;
     for place in 2..8usize.saturating_add(cells) {
-        let first = place.saturating_mul(2);
-        let high = bytes.get(first.saturating_add(1)).copied();
-        swapped.push(high.unwrap_or(0))?;
-        swapped.push(bytes.get(first).copied().unwrap_or(0))?;
+        swapped.extend_from_slice(&swapped_at(bytes, place))?;
     }
     let values = bytes.get(swapped.len()..).unwrap_or(&[]);
     swapped.extend_from_slice(values)?;

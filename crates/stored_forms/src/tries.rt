@@ -191,7 +191,7 @@ pub fn of_json(alloc: Global, text: &[u8]) -> Outcome {
 }
 
 /// The table of the first property's trie, in a file as ICU's `icuexportdata` writes it.
-fn trie_table(file: &Table) -> Option<&Table> {
+pub fn trie_table(file: &Table) -> Option<&Table> {
     let property = file.get("enum_property")?.as_array()?.first()?;
     property.as_table()?.get("code_point_trie")?.as_table()
 }
