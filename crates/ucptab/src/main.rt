@@ -60,8 +60,8 @@ impl<W: Write, L: Ledger> Sink for Output<W, L> {
     }
 }
 
-/// Says why there are no words, and answers the status: where memory was refused its line, and where
-/// a word is no text the usage line.
+/// Says why there are no words, and answers the status: by the line of refused memory, or the usage
+/// line where a word is no text.
 fn without_words<W: Sink>(writer: &mut W, why: ErrorKind) -> u8 {
     if why != ErrorKind::OutOfMemory {
         write_usage(writer);
