@@ -1,4 +1,4 @@
-"""The rows in tests/data/command_lines, for tests/command_lines, which says how they are written."""
+"""The rows in tests/data/command_lines. tests/command_lines says how they are written."""
 import itertools
 import os
 import re
@@ -50,7 +50,8 @@ class Row:
             if kind == "@":
                 found[name] = found.get(name, b"") + bytes_of(rest)
             elif kind == "+":
-                found[name] = found.get(name, b"") + changed(*(lambda x: (x[0], x[1:]))(shlex.split(rest)))
+                source, *changes = shlex.split(rest)
+                found[name] = found.get(name, b"") + changed(source, changes)
         return found
 
     def commands(self):
@@ -86,7 +87,7 @@ class Row:
 
 def rows_of(path):
     """The rows of a file."""
-    for part in re.split(r"\n\n", open(path, encoding="utf-8").read()):
+    for part in open(path, encoding="utf-8").read().split("\n\n"):
         lines = [it.partition(" ")[::2] for it in part.split("\n") if not it.startswith("#")]
         lines = [it for it in lines if it[0]]
         if lines:
