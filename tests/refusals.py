@@ -1,8 +1,6 @@
 """What edits of a crate change, and what a check of it tells of them, for tests/wrong_bodies."""
-import glob
 import os
 import re
-import shutil
 
 # A statement that is open: where it stands, and its name.
 OPEN = re.compile(
@@ -16,12 +14,8 @@ NAMES = re.compile(
 )
 # A function of a module or a type.
 FUNCTION = re.compile(r"^(?P<own>    )?(?:pub(?:\(.*?\))? )?(?:const )?fn (?P<name>\w+)", re.M)
-# A proof that is left open.
-HOLE = """use Rattle.{crate}.proofs.{path}.Statement.{{statement}}
-
-pub {name}_spec : {{M : Type 1}} → statement M
-{name}_spec = ?
-"""
+# Where the body of a function begins.
+OPENS = re.compile(r"^\s*(?:.*\bfn .*|\).*)?\{$", re.M)
 # The files whose functions are of the crate itself.
 ROOTS = ("lib", "main")
 # What only says that a loop has no proof yet.
@@ -45,7 +39,7 @@ def reasons(said):
 def owner_of(text):
     """The type, and the trait, of the `impl` that a text of a file ends in, if it does in one."""
     item = re.findall(r"^(?:impl.*|\})", text, re.M)[-1:]
-    owner = re.match(r"impl(?:<.*?>)? (?:(\w+)(?:<.*>)? for )?&?(\w+)", item[0] if item else "")
+    owner = re.match(r"impl(?:<.*?>)? (?:(?:\w+::)*(\w+)(?:<.*>)? for )?&?(\w+)", item[0] if item else "")
     return (owner[2], owner[1] or "") if owner else ("", "")
 
 
@@ -71,7 +65,7 @@ def is_in_body(text):
     """Whether a text of a file ends inside the body of the last function that it names."""
     lines = re.split(r"^(?=.*\bfn )", text, flags=re.M)[-1].split("\n")
     end = lines[0][: len(lines[0]) - len(lines[0].lstrip())] + "}"
-    opens = [re.fullmatch(r"\s*(?:.*\bfn .*|\).*)?\{", it) for it in lines[:-1]]
+    opens = [OPENS.fullmatch(it) for it in lines[:-1]]
     begins = next((at for at, it in enumerate(opens) if it), len(lines))
     return begins < len(lines) and end not in lines[begins:-1]
 
@@ -89,29 +83,6 @@ def changed(crate, edit):
             found[last_function(path, before)] = None
             bodies = bodies and is_in_body(before) and not re.search(r"\bfn ", text)
     return list(found), bodies
-
-
-def leave_open(crate, folder, functions):
-    """Puts a hole in place of the proof of each function but these, in a copy of the crate: it is
-    not checked then, and those that call it are checked with its contract."""
-    for path in glob.glob(f"{folder}/src/**/*.rt", recursive=True):
-        text = open(path, encoding="utf-8").read()
-        modules = path[len(f"{folder}/src/") : -len(".rt")].split("/")
-        modules = [it for it in modules if it not in ("lib", "main", "mod")]
-        for found in FUNCTION.finditer(text):
-            before = text[: found.end()]
-            owner, of_trait = owner_of(before)
-            is_plain = bool(found["own"]) == bool(owner) and not of_trait
-            body = text[found.end() :].partition(f"\n{found['own'] or ''}}}")[0]
-            is_cycle = "#[cycle" in before.rsplit("\n\n", 1)[-1] or f"{found['name']}(" in body
-            if not is_plain or is_cycle or last_function(path, before) in functions:
-                continue
-            names = [*modules, *([owner] if owner else []), found["name"]]
-            proof = f"{folder}/proofs/{'/'.join(names)}"
-            shutil.rmtree(proof, ignore_errors=True)
-            os.makedirs(proof)
-            with open(f"{proof}/Proof.antt", "w", encoding="utf-8") as file:
-                file.write(HOLE.format(crate=crate.name, path=".".join(names), name=names[-1]))
 
 
 def together(rt, crate, edits):
