@@ -11,7 +11,7 @@ import sys
 
 import public_calls
 from rust_rules import (
-    FORM_MODULES, FORM_RULES, FORMS, LEFT_OUT, NOT_SWEPT, OTHER_NAMES, TEST_NAMES, TEST_RULES, TESTS,
+    FORM_MODULES, FORM_RULES, NOT_SWEPT, OTHER_NAMES, TEST_NAMES, TEST_RULES, TESTS,
     UNKNOWN
 )
 
@@ -21,6 +21,8 @@ README = f"{TOP}/rust/README.md"
 # Sources of serde_json and toml, as Debian has them in librust-serde-json-dev, librust-toml-dev.
 SOURCES = "/usr/share/cargo/registry"
 HAS_FORMATS = all(glob.glob(f"{SOURCES}/{it}-*") for it in ("serde_json", "toml"))
+# What rust_parts has that needs them.
+FORMS = ["stored_forms"] if HAS_FORMATS else []
 
 
 def read(path):
@@ -107,10 +109,9 @@ def cut(folder):
 def add_tests(made, folder):
     """Puts the crates of tests into a crate that was made, as modules of its own, and what lies in
     rust_parts beside them."""
-    crates = [it for it in TESTS if HAS_FORMATS or it not in FORMS]
-    made.LEFT_OUT += LEFT_OUT if HAS_FORMATS else LEFT_OUT + FORM_MODULES
-    made.make(folder, crates, TEST_RULES if HAS_FORMATS else TEST_RULES + FORM_RULES)
-    for crate in crates:
+    made.LEFT_OUT += [] if HAS_FORMATS else FORM_MODULES
+    made.make(folder, TESTS, TEST_RULES if HAS_FORMATS else TEST_RULES + FORM_RULES)
+    for crate in TESTS:
         for path in glob.glob(f"{folder}/src/{crate}/**/*.rs", recursive=True):
             text = read(path)
             place = re.match(r"(?://!.*\n)*\n*", text).end()
@@ -121,7 +122,7 @@ def add_tests(made, folder):
     write(f"{folder}/Cargo.toml", '\n[dev-dependencies]\nrefusing = { path = "refusing" }\n', "a")
     names = "".join(
         f"#[cfg(test)]\n#[allow(dead_code, unused_imports, unused_variables)]\nmod {name};\n"
-        for name in ["runtime", "refusals", "icu_collections", "tables", *crates]
+        for name in ["runtime", "refusals", "icu_collections", "tables", *FORMS, *TESTS]
     )
     write(f"{folder}/src/lib.rs", f"#[cfg(test)]\nextern crate std;\n{names}", "a")
 

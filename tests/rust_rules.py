@@ -2,13 +2,8 @@
 they need that the code doesn't, and forms that rust/make has to refuse."""
 
 # Our crates of tests, and what they test beside the library.
-TESTS = (
-    "packed_tests set_tests trie_tests built_trie_tests ucptab_table uses stored_forms"
-).split()
-# A program's own file, for which tests/rust_parts has another.
-LEFT_OUT = ["stored_forms/main", "stored_forms/exported"]
-# What needs JSON or TOML: crates, and modules of others.
-FORMS = ["stored_forms"]
+TESTS = "packed_tests set_tests trie_tests built_trie_tests ucptab_table uses".split()
+# Modules that need JSON or TOML.
 FORM_MODULES = (
     "set_tests/tests/code_points/json set_tests/tests/texts/json packed_tests/tests/unit_tries/json"
     " packed_tests/tests/unit_tries/written trie_tests/tests/formats/json"
@@ -43,8 +38,7 @@ TEST_RULES = [
     # What is needed beside JSON and TOML.
     (r"\bValue::from_str\((?:alloc, )?", "serde_json::from_str::<Value>("),
     (r"\btoml::table_from_str\(alloc, ", "table_from_str("),
-    (r"use (?:rand_core::Rng|rand_pcg::Pcg32|std::\{fs, io, str\}|std::str);\n", ""),
-    (r"\b(fs::read_to_string\()rt, ", r"\1"),
+    (r"use std::str;\n", ""),
     (r"let alloc = (?:self\.)?rt\.alloc\(\);\s*", ""),
     (r"\balloc: std::alloc::Global\b", "alloc: Global"),
 ]

@@ -4,10 +4,9 @@
 # and, where gcc and ICU 72 or newer (libicu-dev) are at hand, the tries that ICU4C builds and
 # exports here from each NAME.txt with a NAME.runs.txt beside it, of tests/data and of the folder
 # that the variable TABLES names, if it is set. These are written in ICU's binary form too: ICU4C
-# opens it, its answers are those of the trie that was exported, and where values have 32 bits its
-# bytes are those that ICU4C writes. And along a hundred thousand texts of UTF-8 that were damaged
-# the values are those that ICU's macro finds, one a part. The last line is 'all exported tries as
-# expected', with status 0, or says what failed, with status 1.
+# opens it, its answers are those of the trie that was exported, and its bytes are those that ICU4C
+# writes. ucptrie reads and writes them. The last line is 'all exported tries as expected', with
+# status 0, or says what failed, with status 1.
 set -eu
 here=$(dirname -- "$(readlink -f -- "$0")")
 root=$here/../..
@@ -17,16 +16,16 @@ stop() { echo "exported: $1" >&2; exit 70; }
 work=$(mktemp -d)
 trap 'rm -rf "$work"' EXIT
 trap 'exit 130' INT TERM
-program=$("$root/tests/build" stored_forms) || stop "stored_forms is not proved and built"
+"$root/ucptrie" help >/dev/null || stop "ucptrie is not proved and built"
 cd "$work"
 
 failed=
 # compare WHAT RANGES: the ranges of trie.toml are these.
 compare() {
-    if "$program" exported >"$work/out" && cmp -s "$work/out" "$2"; then
+    if "$root/ucptrie" convert trie.toml --as rows >out && cmp -s out "$2"; then
         echo "$1: $(wc -l <"$2") ranges compared"
     else
-        echo "$1: the first other lines:"; diff "$work/out" "$2" | head -n 6
+        echo "$1: the first other lines:"; diff out "$2" | head -n 6
         failed="$failed '$1'"
     fi
 }
@@ -59,12 +58,11 @@ if gcc -O2 -o "$work/export" "$here/export.c" -licuuc 2>/dev/null; then
                 esac
                 # shellcheck disable=SC2086
                 "$work/export" $kind <"$folder/$name.txt" >trie.toml
-                [ "$kind" != "fast 32" ] || "$here/damage" >text
                 compare "$name, $kind bits" "$runs"
+                "$root/ucptrie" convert trie.toml --as icu >trie.bin
                 # shellcheck disable=SC2086
-                "$work/export" $kind trie.bin $([ ! -e values ] || echo text values) \
-                    <"$folder/$name.txt" || failed="$failed '$name, $kind bits, in other forms'"
-                rm -f text values
+                "$work/export" $kind trie.bin <"$folder/$name.txt" ||
+                    failed="$failed '$name, $kind bits, in the binary form'"
             done
         done
     done

@@ -1,5 +1,10 @@
-//! The program stored_forms, erased: it counts of the damaged forms what the proved program counts.
+//! Stored forms of tries, sets and unit tries, damaged, read, and asked where they are taken; and the
+//! values along damaged texts.
+//!
+//! The damage comes from a fixed seed, so each run of one count does the same. What comes of each
+//! form is counted as it was by the proved code, in a program with these modules.
 
+mod along;
 mod damage;
 mod icu_forms;
 mod names;
@@ -9,19 +14,20 @@ mod stored;
 mod tries;
 mod units;
 
-use crate::runtime::{HostRuntime, Pcg32};
+use crate::runtime::Pcg32;
+use crate::support::prelude::{String, Vec};
 use std::path::{Path, PathBuf};
 
-/// The folder of the program.
+/// The folder of the stored forms.
 fn folder() -> PathBuf {
     let top = std::env::var("REPOSITORY").expect("no REPOSITORY");
-    Path::new(&top).join("crates/stored_forms")
+    Path::new(&top).join("tests/data/stored_forms")
 }
 
-/// What the program prints of so many forms, as its `main` does.
-fn printed(count: u32) -> std::string::String {
-    let data = folder().join("data");
-    let texts = stored::texts(&HostRuntime, data.to_str().expect("no name")).expect("no forms");
+/// What is counted of so many forms.
+fn counted(count: u32) -> std::string::String {
+    let read = |file| std::fs::read_to_string(folder().join(file)).expect("no form");
+    let texts: Vec<String> = stored::FILES.into_iter().map(read).collect();
     let small = tries::stored_trie(&texts[0]).expect("no small trie");
     let fast = tries::stored_trie(&texts[1]).expect("no fast trie");
     let set = sets::stored_set(texts[3].as_bytes()).expect("no set");
@@ -42,19 +48,14 @@ fn printed(count: u32) -> std::string::String {
         counts.add(stored.tried(&mut dice, number).expect("no memory")).expect("no memory");
     }
     assert!(counts.is_well());
-    std::format!("{counts}\n")
+    std::format!("{counts}")
 }
 
+/// Of a thousand forms and of a hundred thousand, what the proved code counted.
 #[test]
-fn a_thousand() {
-    let proved = std::fs::read_to_string(folder().join("stdout")).expect("nothing to compare");
-    assert_eq!(printed(1000), proved);
-}
-
-#[test]
-fn all_forms() {
-    let Ok(program) = std::env::var("DAMAGED_FORMS") else { return };
-    let ran = std::process::Command::new(program).arg("100000").current_dir(folder().join("data")).output();
-    let proved = ran.expect("the proved program does not run").stdout;
-    assert_eq!(printed(100_000).as_bytes(), proved);
+fn damaged_forms() {
+    let counts = std::fs::read_to_string(folder().join("counts")).expect("nothing to compare");
+    for (count, proved) in [1000, 100_000].into_iter().zip(counts.lines()) {
+        assert_eq!(counted(count), proved);
+    }
 }

@@ -1,12 +1,15 @@
 //! Sets of code points, and of code points and texts.
-use crate::names::{by_bytes, by_ends, by_set_json, by_text_set_json};
-use crate::outcome::Outcome;
-use crate::stored::value_of;
-use icu_invlist::codepointinvlist::CodePointInversionList;
-use icu_text_sets::codepointinvliststringlist::CodePointInversionListAndStringList;
-use icu_zerovec::ZeroVec;
-use std::alloc::Global;
-use std::ops::RangeInclusive;
+use crate::icu_invlist::codepointinvlist::CodePointInversionList;
+use crate::icu_text_sets::codepointinvliststringlist::CodePointInversionListAndStringList;
+use crate::icu_zerovec::ZeroVec;
+#[allow(unused_imports)]
+use crate::runtime::*;
+use crate::stored_forms::names::{by_bytes, by_ends, by_set_json, by_text_set_json};
+use crate::stored_forms::outcome::Outcome;
+use crate::stored_forms::stored::value_of;
+#[allow(unused_imports)]
+use crate::support::prelude::*;
+use core::ops::RangeInclusive;
 
 /// The range starts after the one before it, and ends within the code points.
 fn follows(range: &RangeInclusive<u32>, start: u32) -> bool {
@@ -68,24 +71,24 @@ pub fn asked(set: &CodePointInversionList<'_>) -> Outcome {
 }
 
 /// What becomes of bytes as the ends of a set.
-pub fn of_bytes(alloc: Global, bytes: &[u8]) -> Outcome {
+pub fn of_bytes(bytes: &[u8]) -> Outcome {
     let ends = match ZeroVec::parse_bytes(bytes) {
         Ok(ends) => ends,
         Err(error) => return by_bytes(error),
     };
-    match CodePointInversionList::try_from_inversion_list(alloc, ends) {
+    match CodePointInversionList::try_from_inversion_list(ends) {
         Ok(set) => asked(&set),
         Err(error) => by_ends(error),
     }
 }
 
 /// What becomes of a text as the JSON of a set.
-pub fn of_json(alloc: Global, text: &[u8]) -> Outcome {
-    let value = match value_of(alloc, text) {
+pub fn of_json(text: &[u8]) -> Outcome {
+    let value = match value_of(text) {
         Ok(value) => value,
         Err(outcome) => return outcome,
     };
-    match CodePointInversionList::from_json(alloc, &value) {
+    match CodePointInversionList::from_json(&value) {
         Ok(set) => asked(&set),
         Err(error) => by_set_json(error),
     }
@@ -109,12 +112,12 @@ fn has_strings(set: &CodePointInversionListAndStringList<'_>) -> bool {
 }
 
 /// What becomes of a text as the JSON of a set with strings.
-pub fn of_text_json(alloc: Global, text: &[u8]) -> Outcome {
-    let value = match value_of(alloc, text) {
+pub fn of_text_json(text: &[u8]) -> Outcome {
+    let value = match value_of(text) {
         Ok(value) => value,
         Err(outcome) => return outcome,
     };
-    match CodePointInversionListAndStringList::from_json(alloc, &value) {
+    match CodePointInversionListAndStringList::from_json(&value) {
         Ok(set) if has_strings(&set) => asked(set.code_points()),
         Ok(_) => Outcome::Wrong("strings that are out of order"),
         Err(error) => by_text_set_json(&error),
@@ -122,7 +125,7 @@ pub fn of_text_json(alloc: Global, text: &[u8]) -> Outcome {
 }
 
 /// The set that a JSON text says, if it says one.
-pub fn stored_set(alloc: Global, text: &[u8]) -> Option<CodePointInversionList<'static>> {
-    let value = value_of(alloc, text).ok()?;
-    CodePointInversionList::from_json(alloc, &value).ok()
+pub fn stored_set(text: &[u8]) -> Option<CodePointInversionList<'static>> {
+    let value = value_of(text).ok()?;
+    CodePointInversionList::from_json(&value).ok()
 }

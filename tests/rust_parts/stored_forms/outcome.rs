@@ -1,6 +1,10 @@
 //! What became of a damaged form, and of how many.
-use std::alloc::{AllocError, Global};
-use std::fmt;
+#[allow(unused_imports)]
+use crate::runtime::*;
+use crate::support::AllocError;
+#[allow(unused_imports)]
+use crate::support::prelude::*;
+use core::fmt;
 
 /// What became of a damaged form.
 #[derive(Clone, Copy, Debug, PartialEq, Eq)]
@@ -16,7 +20,6 @@ pub enum Outcome {
 }
 
 /// How often each outcome came.
-#[derive(Drop)]
 pub struct Counts {
     taken: u32,
     coherent: u32,
@@ -33,12 +36,12 @@ struct Refusals {
 
 impl Counts {
     /// Nothing was tried yet.
-    pub fn new(alloc: Global) -> Counts {
+    pub fn new() -> Counts {
         Counts {
             taken: 0,
             coherent: 0,
             wrong: 0,
-            refused: Vec::new(alloc),
+            refused: Vec::new(),
         }
     }
 
@@ -67,7 +70,7 @@ fn add_refusal(refused: &mut Vec<Refusals>, name: &'static str) -> Result<(), Al
             return Ok(());
         }
     }
-    refused.push(Refusals { name, count: 1 })?;
+    refused.try_push(Refusals { name, count: 1 })?;
     Ok(())
 }
 
@@ -81,7 +84,7 @@ fn refused_in_all(refused: &[Refusals]) -> u32 {
 }
 
 impl fmt::Display for Counts {
-    fn fmt<W: fmt::Write>(&self, f: &mut fmt::Formatter<W>) -> fmt::Result {
+    fn fmt(&self, f: &mut fmt::Formatter<'_>) -> fmt::Result {
         let refused = refused_in_all(&self.refused);
         let taken = self.taken.saturating_add(self.coherent);
         let (coherent, wrong) = (self.coherent, self.wrong);

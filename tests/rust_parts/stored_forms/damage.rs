@@ -1,15 +1,14 @@
 //! Damage to bytes and to headers.
-ghost use Rattle.std.specs.Prelude.{◌<◌};
 
-use icu_trie_core::header::{CodePointTrieHeader, TrieType};
-use rand_core::Rng;
-use rand_pcg::Pcg32;
-use std::alloc::{AllocError, Global};
+use crate::icu_trie_core::header::{CodePointTrieHeader, TrieType};
+#[allow(unused_imports)]
+use crate::runtime::*;
+use crate::support::AllocError;
+#[allow(unused_imports)]
+use crate::support::prelude::*;
 
 /// A number below `count`, 0 where there is none.
-pub fn below(dice: &mut Pcg32, count: usize) -> usize
-    ensures { 0 < count → result < count }
-{
+pub fn below(dice: &mut Pcg32, count: usize) -> usize {
     let drawn = dice.next_u32() as usize;
     if count == 0 { 0 } else { drawn % count }
 }
@@ -58,22 +57,17 @@ fn exchange(bytes: &mut Vec<u8>, place: usize, other: usize) {
 
 /// The bytes from a place on, as far as the next comma or `width` of them where there is none, are
 /// doubled.
-fn double(
-    alloc: Global,
-    bytes: &mut Vec<u8>,
-    place: usize,
-    width: usize,
-) -> Result<(), AllocError> {
-    let mut item = Vec::new(alloc);
+fn double(bytes: &mut Vec<u8>, place: usize, width: usize) -> Result<(), AllocError> {
+    let mut item = Vec::new();
     for byte in bytes.iter().skip(place).take(width) {
-        item.push(*byte)?;
+        item.try_push(*byte)?;
         if *byte == b',' {
             break;
         }
     }
     for byte in item.iter().rev() {
         if place <= bytes.len() {
-            bytes.insert(place, *byte)?;
+            bytes.try_insert(place, *byte)?;
         }
     }
     Ok(())
@@ -89,18 +83,13 @@ pub enum Form {
 }
 
 /// Damages the bytes once.
-fn damage_once(
-    alloc: Global,
-    bytes: &mut Vec<u8>,
-    form: Form,
-    dice: &mut Pcg32,
-) -> Result<(), AllocError> {
+fn damage_once(bytes: &mut Vec<u8>, form: Form, dice: &mut Pcg32) -> Result<(), AllocError> {
     let place = below(dice, bytes.len());
     match below(dice, 8) {
         0 => bytes.truncate(place),
         1 => flip(bytes, place, dice),
         2 => exchange(bytes, place, below(dice, bytes.len())),
-        3 | 4 => double(alloc, bytes, place, 1 + below(dice, 8))?,
+        3 | 4 => double(bytes, place, 1 + below(dice, 8))?,
         _ if form == Form::Text => change_digit(bytes, place, dice),
         5 => put_extreme(bytes, place, dice),
         _ => flip(bytes, place, dice),
@@ -109,15 +98,10 @@ fn damage_once(
 }
 
 /// A copy of the bytes, damaged once to three times.
-pub fn damaged(
-    alloc: Global,
-    bytes: &[u8],
-    form: Form,
-    dice: &mut Pcg32,
-) -> Result<Vec<u8>, AllocError> {
-    let mut copy = Vec::from_slice(alloc, bytes)?;
+pub fn damaged(bytes: &[u8], form: Form, dice: &mut Pcg32) -> Result<Vec<u8>, AllocError> {
+    let mut copy = Vec::from_slice(bytes)?;
     for _ in 0..=below(dice, 3) {
-        damage_once(alloc, &mut copy, form, dice)?;
+        damage_once(&mut copy, form, dice)?;
     }
     Ok(copy)
 }
@@ -159,10 +143,10 @@ pub fn damaged_header(header: CodePointTrieHeader, dice: &mut Pcg32) -> CodePoin
         5 => damaged.data_null_offset = extreme_number(dice),
         6 => damaged.data_null_offset = below(dice, 0x200) as u32,
         7 => damaged.null_value = extreme_number(dice),
-        8 => (damaged.high_start, damaged.data_null_offset) = (
-            header.data_null_offset,
-            header.high_start,
-        ),
+        8 => {
+            (damaged.high_start, damaged.data_null_offset) =
+                (header.data_null_offset, header.high_start)
+        }
         _ => damaged.trie_type = other_type(header.trie_type),
     }
     damaged

@@ -1,14 +1,16 @@
 //! Names of the errors by which forms are refused.
-use crate::outcome::Outcome;
-use icu_char16trie::char16trie::Char16JsonError;
-use icu_invlist::codepointinvlist::{SetError, SetJsonError};
-use icu_invlist_binary::serialized::SerializedSetError;
-use icu_text_sets::codepointinvliststringlist::StringListJsonError;
-use icu_trie::error::CodePointTrieError;
-use icu_trie_binary::binary::{BinaryError, SwappedError};
-use icu_trie_formats::json::TrieJsonError;
-use icu_trie_formats::trie_toml::{TomlError, TrieFromTomlError};
-use icu_zerovec::ule::UleError;
+use crate::icu_char16trie::char16trie::Char16JsonError;
+use crate::icu_invlist::codepointinvlist::{SetError, SetJsonError};
+use crate::icu_invlist_binary::serialized::SerializedSetError;
+use crate::icu_text_sets::codepointinvliststringlist::StringListJsonError;
+use crate::icu_trie::error::CodePointTrieError;
+use crate::icu_trie_binary::binary::{BinaryError, SwappedError};
+use crate::icu_trie_formats::json::TrieJsonError;
+use crate::icu_trie_formats::trie_toml::{TomlError, TrieFromTomlError};
+use crate::icu_zerovec::ule::UleError;
+#[allow(unused_imports)]
+use crate::runtime::*;
+use crate::stored_forms::outcome::Outcome;
 
 /// Refused as bytes.
 pub fn by_bytes(error: UleError) -> Outcome {

@@ -1,20 +1,22 @@
 //! Tries: what a damaged one is refused with, and whether one that is taken answers as it has to.
-use crate::damage::{Form, below, damaged, damaged_header};
-use crate::names::{by_bytes, by_parts, by_table, by_table_parts, by_trie_json};
-use crate::outcome::Outcome;
-use crate::stored::value_of;
-use icu_invlist::codepointinvlist::CodePointInversionList;
-use icu_trie::cptrie::CodePointTrie;
-use icu_trie::ranges::CodePointMapRange;
-use icu_trie_core::header::CodePointTrieHeader;
-use icu_trie_core::value::TrieValue;
-use icu_trie_formats::json::from_json;
-use icu_trie_formats::trie_toml::CodePointTrieToml;
-use icu_zerovec::ZeroVec;
-use rand_pcg::Pcg32;
-use std::alloc::{AllocError, Global};
-use std::str;
-use toml::Table;
+use crate::icu_invlist::codepointinvlist::CodePointInversionList;
+use crate::icu_trie::cptrie::CodePointTrie;
+use crate::icu_trie::ranges::CodePointMapRange;
+use crate::icu_trie_core::header::CodePointTrieHeader;
+use crate::icu_trie_core::value::TrieValue;
+use crate::icu_trie_formats::json::from_json;
+use crate::icu_trie_formats::trie_toml::CodePointTrieToml;
+use crate::icu_zerovec::ZeroVec;
+#[allow(unused_imports)]
+use crate::runtime::*;
+use crate::stored_forms::damage::{Form, below, damaged, damaged_header};
+use crate::stored_forms::names::{by_bytes, by_parts, by_table, by_table_parts, by_trie_json};
+use crate::stored_forms::outcome::Outcome;
+use crate::stored_forms::stored::value_of;
+use crate::support::AllocError;
+#[allow(unused_imports)]
+use crate::support::prelude::*;
+use toml::value::Table;
 
 /// Code points at the ends of what the format tells apart, and numbers above them.
 const SAMPLE: [u32; 14] = [
@@ -108,9 +110,9 @@ fn is_set_of<T: TrieValue>(
 }
 
 /// What is wrong with the set of a value of a coherent trie.
-fn fault_of_set<T: TrieValue>(alloc: Global, trie: &CodePointTrie<'_, T>) -> Option<&'static str> {
+fn fault_of_set<T: TrieValue>(trie: &CodePointTrie<'_, T>) -> Option<&'static str> {
     let value = trie.get32(0x41);
-    match trie.get_set_for_value(alloc, value) {
+    match trie.try_get_set_for_value(value) {
         Ok(set) if is_set_of(&set, trie, value) => None,
         Ok(_) => Some("a set that is not that of the value"),
         Err(_) => Some("memory was refused"),
@@ -118,7 +120,7 @@ fn fault_of_set<T: TrieValue>(alloc: Global, trie: &CodePointTrie<'_, T>) -> Opt
 }
 
 /// Asks a trie for all that it answers.
-pub fn asked<T: TrieValue>(alloc: Global, trie: &CodePointTrie<'_, T>) -> Outcome {
+pub fn asked<T: TrieValue>(trie: &CodePointTrie<'_, T>) -> Outcome {
     for c in SAMPLE {
         if !is_asked_alike(trie, c) {
             return Outcome::Wrong("look-ups that differ");
@@ -131,14 +133,14 @@ pub fn asked<T: TrieValue>(alloc: Global, trie: &CodePointTrie<'_, T>) -> Outcom
     if !is_coherent {
         return Outcome::Taken;
     }
-    match fault_of_set(alloc, trie) {
+    match fault_of_set(trie) {
         None => Outcome::Coherent,
         Some(what) => Outcome::Wrong(what),
     }
 }
 
 /// What becomes of these parts.
-fn of_parts(alloc: Global, header: CodePointTrieHeader, index: &[u8], data: &[u8]) -> Outcome {
+fn of_parts(header: CodePointTrieHeader, index: &[u8], data: &[u8]) -> Outcome {
     let index = match ZeroVec::parse_bytes(index) {
         Ok(index) => index,
         Err(error) => return by_bytes(error),
@@ -148,44 +150,30 @@ fn of_parts(alloc: Global, header: CodePointTrieHeader, index: &[u8], data: &[u8
         Err(error) => return by_bytes(error),
     };
     match CodePointTrie::try_new(header, index, data) {
-        Ok(trie) => asked(alloc, &trie),
+        Ok(trie) => asked(&trie),
         Err(error) => by_parts(error),
     }
 }
 
 /// What becomes of the packed parts of a trie, one of them damaged.
-pub fn tried_parts(
-    alloc: Global,
-    trie: &CodePointTrie<'_, u8>,
-    dice: &mut Pcg32,
-) -> Result<Outcome, AllocError> {
+pub fn tried_parts(trie: &CodePointTrie<'_, u8>, dice: &mut Pcg32) -> Result<Outcome, AllocError> {
     let (header, index, data) = trie.parts();
     let (index, data) = (index.as_bytes(), data.as_bytes());
     Ok(match below(dice, 4) {
-        0 => of_parts(
-            alloc,
-            header,
-            &damaged(alloc, index, Form::Packed, dice)?,
-            data,
-        ),
-        1 => of_parts(
-            alloc,
-            header,
-            index,
-            &damaged(alloc, data, Form::Packed, dice)?,
-        ),
-        _ => of_parts(alloc, damaged_header(header, dice), index, data),
+        0 => of_parts(header, &damaged(index, Form::Packed, dice)?, data),
+        1 => of_parts(header, index, &damaged(data, Form::Packed, dice)?),
+        _ => of_parts(damaged_header(header, dice), index, data),
     })
 }
 
 /// What becomes of a text as the JSON of a trie.
-pub fn of_json(alloc: Global, text: &[u8]) -> Outcome {
-    let value = match value_of(alloc, text) {
+pub fn of_json(text: &[u8]) -> Outcome {
+    let value = match value_of(text) {
         Ok(value) => value,
         Err(outcome) => return outcome,
     };
-    match from_json::<u8>(alloc, &value) {
-        Ok(trie) => asked(alloc, &trie),
+    match from_json::<u8>(&value) {
+        Ok(trie) => asked(&trie),
         Err(error) => by_trie_json(error),
     }
 }
@@ -197,34 +185,34 @@ pub fn trie_table(file: &Table) -> Option<&Table> {
 }
 
 /// What becomes of what a table says of a trie.
-fn of_table(alloc: Global, table: &Table) -> Outcome {
-    let read = match CodePointTrieToml::from_table(alloc, table) {
+fn of_table(table: &Table) -> Outcome {
+    let read = match CodePointTrieToml::from_table(table) {
         Ok(read) => read,
         Err(error) => return by_table(error),
     };
     match CodePointTrie::<u8>::try_from(&read) {
-        Ok(trie) => asked(alloc, &trie),
+        Ok(trie) => asked(&trie),
         Err(error) => by_table_parts(error),
     }
 }
 
 /// What becomes of a text as the file of a trie in TOML.
-pub fn of_toml(alloc: Global, text: &[u8]) -> Outcome {
+pub fn of_toml(text: &[u8]) -> Outcome {
     let Ok(text) = str::from_utf8(text) else {
         return Outcome::Refused("UTF-8");
     };
-    let Ok(file) = toml::table_from_str(alloc, text) else {
+    let Ok(file) = table_from_str(text) else {
         return Outcome::Refused("TOML");
     };
     match trie_table(&file) {
-        Some(table) => of_table(alloc, table),
+        Some(table) => of_table(table),
         None => Outcome::Refused("no table"),
     }
 }
 
 /// The trie that a file in TOML says.
-pub fn stored_trie(alloc: Global, text: &str) -> Option<CodePointTrie<'static, u8>> {
-    let file = toml::table_from_str(alloc, text).ok()?;
-    let read = CodePointTrieToml::from_table(alloc, trie_table(&file)?).ok()?;
+pub fn stored_trie(text: &str) -> Option<CodePointTrie<'static, u8>> {
+    let file = table_from_str(text).ok()?;
+    let read = CodePointTrieToml::from_table(trie_table(&file)?).ok()?;
     CodePointTrie::try_from(&read).ok()
 }
