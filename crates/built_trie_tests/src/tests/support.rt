@@ -39,19 +39,6 @@ pub fn expect_same<T: Copy + Debug + PartialEq>(rt: &impl Abort, found: T, wante
     assert_eq!(rt; found, wanted, "{what}");
 }
 
-/// What was answered is the wanted one, and no error.
-pub fn expect_ok<T: Copy + Debug + PartialEq, E>(
-    rt: &impl Abort,
-    found: Result<T, E>,
-    wanted: T,
-    what: &str,
-) {
-    match found {
-        Ok(found) => expect_same(rt, found, wanted, what),
-        Err(_) => rt.panic("an error"),
-    }
-}
-
 /// The number that is found at this code point is the wanted one.
 pub fn expect_number(rt: &impl Abort, c: u32, found: u32, wanted: u32) {
     expect_same(rt, (c, found), (c, wanted), "a code point and its number");
