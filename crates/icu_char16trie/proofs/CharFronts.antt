@@ -96,7 +96,8 @@ cut_after text k u =
     let bytes : List ℕ = encodes (take k (chars text)) in
     let front : bytes ≡ take (length bytes) text =
     sym (take-append_seam bytes (encodes (drop k (chars text)))) ∙ ap (λ (z : List ℕ). take (length bytes) z) (whole_text text k u) in
-    IsCharBoundary-from_take text _ u (bytes_within text k u) (take k (chars text), (scalars_take (chars text) k (scalars-chars text u), front))
+    IsCharBoundary-from_take text _ u (bytes_within text k u)
+    (take k (chars text), (scalars_take (chars text) k (scalars-chars text u), front))
 
 -- the bytes of one character more
 pub bytes_next : (cs : List ℕ) (c : ℕ) → length (encode_utf8_all (cs ++ c ∷ [])) ≡ length (encode_utf8_all cs) + length (encode_utf8 c)
@@ -111,6 +112,7 @@ longer_bytes cs k n None found e = refl
 longer_bytes cs k n (Some v) found e = ap (λ z. Some (z, v)) e
 
 -- a match in bytes ends where the text may be cut
-pub ends_at_boundary : (text : List ℕ) (found : Option (ℕ × ℤ)) → IsUtf8 text → IfSome (in_bytes (chars text) found) (λ f. IsCharBoundary text f.0)
+pub ends_at_boundary : (text : List ℕ) (found : Option (ℕ × ℤ)) → IsUtf8 text
+    → IfSome (in_bytes (chars text) found) (λ f. IsCharBoundary text f.0)
 ends_at_boundary text None u = tt
 ends_at_boundary text (Some found) u = cut_after text found.0 u

@@ -13,7 +13,8 @@ under_append front (e ∷ m) n = ap (λ z. (front ++ e.0, e.1) ∷ z) (under_app
 
 pub under_under : (front more' : List ℕ) (m : List (List ℕ × ℤ)) → under front (under more' m) ≡ under (front ++ more') m
 under_under front more' [] = refl
-under_under front more' (e ∷ m) = rw (sym (append_assoc front more' e.0)) (ap (λ z. ((front ++ more') ++ e.0, e.1) ∷ z) (under_under front more' m))
+under_under front more' (e ∷ m) = rw (sym (append_assoc front more' e.0))
+    (ap (λ z. ((front ++ more') ++ e.0, e.1) ∷ z) (under_under front more' m))
 
 no_arm : {x : ℕ × ℕ} {l : List (ℕ × ℕ)} → ◌≡◌ {A = List (ℕ × ℕ)} [] (x ∷ l) → ⊥
 no_arm h = cc
@@ -25,7 +26,8 @@ pub record TwoParts (units : List ℕ) (lower upper : List (ℕ × ℕ)) (m : Li
   pub above : Children units upper high
   pub is : m ≡ low ++ high
 
-pub children_split : (units : List ℕ) {arms : List (ℕ × ℕ)} {m : List (List ℕ × ℤ)} → Children units arms m → (lower upper : List (ℕ × ℕ)) → arms ≡ lower ++ upper → TwoParts units lower upper m
+pub children_split : (units : List ℕ) {arms : List (ℕ × ℕ)} {m : List (List ℕ × ℤ)} → Children units arms m → (lower upper : List (ℕ × ℕ))
+    → arms ≡ lower ++ upper → TwoParts units lower upper m
 children_split units {m = m} c [] upper h = record { low = []; high = m; below = none [] [] refl refl; above = rw (sym h) c; is = refl }
 children_split units (none arms m a e) (x ∷ lower) upper h = absurd (no_arm (sym a ∙ h))
 children_split units (more u q rest arms m others all a node c e) (x ∷ lower) upper h =
@@ -47,7 +49,8 @@ pub record FirstAndOthers (units : List ℕ) (q u : ℕ) (rest : List (ℕ × �
   pub children : Children units rest others
   pub is : m ≡ under (u ∷ []) first ++ others
 
-pub children_cons : (units : List ℕ) {arms : List (ℕ × ℕ)} {m : List (List ℕ × ℤ)} → Children units arms m → (u q : ℕ) (rest : List (ℕ × ℕ)) → arms ≡ (u, q) ∷ rest → FirstAndOthers units q u rest m
+pub children_cons : (units : List ℕ) {arms : List (ℕ × ℕ)} {m : List (List ℕ × ℤ)} → Children units arms m → (u q : ℕ) (rest : List (ℕ × ℕ))
+    → arms ≡ (u, q) ∷ rest → FirstAndOthers units q u rest m
 children_cons units (none arms m a e) u q rest h = absurd (no_arm (sym a ∙ h))
 children_cons units (more u' q' rest' arms m others all a node c e) u q rest h =
     let same : rest' ≡ rest = cc (a, h) in
@@ -61,7 +64,8 @@ children_nil units (none arms m a e) h = e
 children_nil units (more u q rest arms m others all a node c e) h = absurd (no_arm (sym h ∙ a))
 
 -- the part of a branch
-pub branch_plain : (units : List ℕ) {p low : ℕ} {m : List (List ℕ × ℤ)} → Matches units p low m → low < 0x30 → 0 < low → ArmsHold units p (low + 1) m
+pub branch_plain : (units : List ℕ) {p low : ℕ} {m : List (List ℕ × ℤ)} → Matches units p low m → low < 0x30 → 0 < low
+    → ArmsHold units p (low + 1) m
 branch_plain units {p = p} {low = low} {m = m} h lt pos =
     let b = matches_branch units h lt in
     let not_zero : nat_eq low 0 ≡ false = ne_eqb low 0 (λ e. absurd (omega arith)) in
@@ -69,7 +73,8 @@ branch_plain units {p = p} {low = low} {m = m} h lt pos =
     let part : Part units p (b.n + 1) b.arms = rw not_zero at b.part in
     (b.arms, subst (λ z. Part units p (z + 1) b.arms) len part, b.children)
 
-pub branch_long : (units : List ℕ) {p low : ℕ} {m : List (List ℕ × ℤ)} → Matches units p low m → low ≤ 0 → (n : ℕ) → slice_get units p ≡ Some n → ArmsHold units (p + 1) (n + 1) m
+pub branch_long : (units : List ℕ) {p low : ℕ} {m : List (List ℕ × ℤ)} → Matches units p low m → low ≤ 0 → (n : ℕ)
+    → slice_get units p ≡ Some n → ArmsHold units (p + 1) (n + 1) m
 branch_long units {p = p} {low = low} {m = m} h zero' n g =
     let b = matches_branch units h (omega arith) in
     let is_zero : nat_eq low 0 ≡ true = eq-eqb low 0 (omega arith) in

@@ -43,8 +43,11 @@ unfolding entry_child number_by end_by
 long_arms = entry 2 2 0x61 0x4000 7 ((0x62, 6) ∷ []) _ (lit< tt) (lit≤ tt) refl refl refl (last 5 1 0x62 _ refl refl refl) refl
 
 long : IsTrieOf long_units ((0x61 ∷ [], pos 1) ∷ (0x62 ∷ [], pos 2) ∷ [])
-long = grammar.node (plain 0 0 _ refl (lit< tt) (branch 1 0 1 ((0x61, 7) ∷ (0x62, 6) ∷ []) _ (lit< tt) refl (lit≤ tt) long_arms ((lit≤ tt, tt), (tt, tt))
-    (more 0x61 7 ((0x62, 6) ∷ []) _ _ ((0x62 ∷ [], pos 2) ∷ []) _ refl long_a (more 0x62 6 [] _ _ [] _ refl long_b (none [] [] refl refl) refl) refl)))
+long =
+    grammar.node
+    (plain 0 0 _ refl (lit< tt) (branch 1 0 1 ((0x61, 7) ∷ (0x62, 6) ∷ []) _ (lit< tt) refl (lit≤ tt) long_arms ((lit≤ tt, tt), (tt, tt))
+    (more 0x61 7 ((0x62, 6) ∷ []) _ _ ((0x62 ∷ [], pos 2) ∷ []) _ refl long_a
+    (more 0x62 6 [] _ _ [] _ refl long_b (none [] [] refl refl) refl) refl)))
 
 -- a jump of three units
 abbrev far_units : List ℕ
@@ -55,7 +58,8 @@ unfolding entry_child number_by end_by
 far_arms = entry 1 2 0x61 0x7FFF 7 ((0x62, 6) ∷ []) _ (lit< tt) (lit≤ tt) refl refl refl (last 5 1 0x62 _ refl refl refl) refl
 
 abbrev delta_two_units : List ℕ
-delta_two_units = 0x5 ∷ 0x64 ∷ 0xFC00 ∷ 0x6 ∷ 0x64 ∷ 0x8004 ∷ 0x65 ∷ 0x8005 ∷ 0x66 ∷ 0x8006 ∷ 0x61 ∷ 0x8001 ∷ 0x62 ∷ 0x8002 ∷ 0x63 ∷ 0x8003 ∷ []
+delta_two_units = 0x5 ∷ 0x64 ∷ 0xFC00 ∷ 0x6 ∷ 0x64 ∷ 0x8004 ∷ 0x65 ∷ 0x8005 ∷ 0x66 ∷ 0x8006 ∷ 0x61 ∷ 0x8001 ∷ 0x62 ∷ 0x8002 ∷ 0x63 ∷ 0x8003
+    ∷ []
 
 delta_two_upper : Part delta_two_units 4 3 ((0x64, 5) ∷ (0x65, 7) ∷ (0x66, 9) ∷ [])
 unfolding entry_child number_by end_by
@@ -69,11 +73,13 @@ delta_two_lower = entry 10 3 0x61 0x8001 11 ((0x62, 13) ∷ (0x63, 15) ∷ []) _
 
 delta_two_arms : Part delta_two_units 1 6 ((0x61, 11) ∷ (0x62, 13) ∷ (0x63, 15) ∷ (0x64, 5) ∷ (0x65, 7) ∷ (0x66, 9) ∷ [])
 unfolding number_by end_by lower_part
-delta_two_arms = split 1 6 0x64 0xFC00 10 ((0x61, 11) ∷ (0x62, 13) ∷ (0x63, 15) ∷ []) ((0x64, 5) ∷ (0x65, 7) ∷ (0x66, 9) ∷ []) _ (lit< tt) refl refl refl delta_two_lower delta_two_upper
+delta_two_arms = split 1 6 0x64 0xFC00 10 ((0x61, 11) ∷ (0x62, 13) ∷ (0x63, 15) ∷ [])
+    ((0x64, 5) ∷ (0x65, 7) ∷ (0x66, 9) ∷ []) _ (lit< tt) refl refl refl delta_two_lower delta_two_upper
     (lit< tt, (lit< tt, (lit< tt, tt))) (lit≤ tt, (lit≤ tt, (lit≤ tt, tt))) refl
 
 abbrev delta_three_units : List ℕ
-delta_three_units = 0x5 ∷ 0x64 ∷ 0xFFFF ∷ 0x0 ∷ 0x6 ∷ 0x64 ∷ 0x8004 ∷ 0x65 ∷ 0x8005 ∷ 0x66 ∷ 0x8006 ∷ 0x61 ∷ 0x8001 ∷ 0x62 ∷ 0x8002 ∷ 0x63 ∷ 0x8003 ∷ []
+delta_three_units = 0x5 ∷ 0x64 ∷ 0xFFFF ∷ 0x0 ∷ 0x6 ∷ 0x64 ∷ 0x8004 ∷ 0x65 ∷ 0x8005 ∷ 0x66 ∷ 0x8006 ∷ 0x61 ∷ 0x8001 ∷ 0x62 ∷ 0x8002 ∷ 0x63 ∷
+    0x8003 ∷ []
 
 delta_three_upper : Part delta_three_units 5 3 ((0x64, 6) ∷ (0x65, 8) ∷ (0x66, 10) ∷ [])
 unfolding entry_child number_by end_by
@@ -87,7 +93,8 @@ delta_three_lower = entry 11 3 0x61 0x8001 12 ((0x62, 14) ∷ (0x63, 16) ∷ [])
 
 delta_three_arms : Part delta_three_units 1 6 ((0x61, 12) ∷ (0x62, 14) ∷ (0x63, 16) ∷ (0x64, 6) ∷ (0x65, 8) ∷ (0x66, 10) ∷ [])
 unfolding number_by end_by lower_part
-delta_three_arms = split 1 6 0x64 0xFFFF 11 ((0x61, 12) ∷ (0x62, 14) ∷ (0x63, 16) ∷ []) ((0x64, 6) ∷ (0x65, 8) ∷ (0x66, 10) ∷ []) _ (lit< tt) refl refl refl delta_three_lower delta_three_upper
+delta_three_arms = split 1 6 0x64 0xFFFF 11 ((0x61, 12) ∷ (0x62, 14) ∷ (0x63, 16) ∷ [])
+    ((0x64, 6) ∷ (0x65, 8) ∷ (0x66, 10) ∷ []) _ (lit< tt) refl refl refl delta_three_lower delta_three_upper
     (lit< tt, (lit< tt, (lit< tt, tt))) (lit≤ tt, (lit≤ tt, (lit≤ tt, tt))) refl
 
 -- the border between a delta of one unit and one of two

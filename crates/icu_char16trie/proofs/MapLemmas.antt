@@ -21,7 +21,9 @@ unfolding after
 after_append u [] n = refl
 after_append u (([], v) ∷ m) n = after_append u m n
 after_append u ((x ∷ key, v) ∷ m) n =
-    rw (after_append u m n) (elim (nat_eq x u) as (λ b. cond b ((key, v) ∷ (after u m ++ after u n)) (after u m ++ after u n) ≡ cond b ((key, v) ∷ after u m) (after u m) ++ after u n) [ true ↦ refl | false ↦ refl ])
+    rw (after_append u m n)
+    (elim (nat_eq x u) as (λ b. cond b ((key, v) ∷ (after u m ++ after u n)) (after u m ++ after u n) ≡ cond b ((key, v) ∷ after u m)
+    (after u m) ++ after u n) [ true ↦ refl | false ↦ refl ])
 
 -- a value is found a unit at a time
 pub value_after : (u : ℕ) (w : List ℕ) (m : List (List ℕ × ℤ)) → value_of m (u ∷ w) ≡ value_of (after u m) w
@@ -29,7 +31,8 @@ unfolding after value_of same_key
 value_after u w [] = refl
 value_after u w (([], v) ∷ m) = value_after u w m
 value_after u w ((x ∷ key, v) ∷ m) =
-    elim (nat_eq x u) as (λ b. cond (b && same_key key w) (Some v) (value_of m (u ∷ w)) ≡ value_of (cond b ((key, v) ∷ after u m) (after u m)) w)
+    elim (nat_eq x u) as (λ b. cond (b && same_key key w) (Some v)
+    (value_of m (u ∷ w)) ≡ value_of (cond b ((key, v) ∷ after u m) (after u m)) w)
     [ true ↦ ap (cond (same_key key w) (Some v)) (value_after u w m) | false ↦ value_after u w m ]
 
 pub value_after_all : (w : List ℕ) (m : List (List ℕ × ℤ)) → value_of m w ≡ value_of (after_all w m) []

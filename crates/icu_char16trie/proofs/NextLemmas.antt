@@ -63,7 +63,8 @@ holds_by units (valued p lead' n m rest g big small s node e) lead h =
       node = λ _. rw (← same) node;
     }
 
-pub stands_by : (units : List ℕ) (p lead : ℕ) (entries : UnitMap) → Stands units (Node p) entries → slice_get units p ≡ Some lead → ByLead units p lead entries
+pub stands_by : (units : List ℕ) (p lead : ℕ) (entries : UnitMap) → Stands units (Node p) entries → slice_get units p ≡ Some lead
+    → ByLead units p lead entries
 stands_by units p lead entries (inl h) g = holds_by units h lead g
 stands_by units p lead entries (inr h) g = absurd (none-some _ (sym h.0 ∙ g))
 
@@ -73,8 +74,10 @@ stands_absent units p entries (inr h) g = h.1
 
 -- ---- items
 
-item_gives : (units : List ℕ) (p lead : ℕ) (s : Spelling) (new : Pending) (item : Option (String Global × ℤ)) (key : List ℕ) (others rest m : UnitMap) → IsItemBy units p lead s item
-    → Spells (bytes_of s) s.held key → m ≡ under key (own (value_by units p lead) ++ rest) ++ others → IsPending new (under key rest ++ others)
+item_gives : (units : List ℕ) (p lead : ℕ) (s : Spelling) (new : Pending) (item : Option (String Global × ℤ)) (key : List ℕ)
+    (others rest m : UnitMap) → IsItemBy units p lead s item
+    → Spells (bytes_of s) s.held key → m ≡ under key (own (value_by units p lead) ++ rest) ++ others
+    → IsPending new (under key rest ++ others)
     → MatchOption item (IsPending new m) (λ x. TakesFirst m (string_bytes x.0) x.1 new)
 item_gives units p lead s new None key others rest m i sp e pend =
     let is : m ≡ under key rest ++ others = rw i at e in rw is pend
@@ -82,7 +85,8 @@ item_gives units p lead s new (Some x) key others rest m i sp e pend =
     let is : m ≡ (key ++ [], x.1) ∷ (under key rest ++ others) = rw i.0 at e in
     (key, under key rest ++ others, is ∙ ap (λ z. (z, x.1) ∷ (under key rest ++ others)) (append-nil key), i.1 key sp, pend)
 
-item_value : (units : List ℕ) (p lead : ℕ) (s : Spelling) (item : Option (String Global × ℤ)) → slice_get units p ≡ Some lead → IsItemBy units (p + 1) lead s item
+item_value : (units : List ℕ) (p lead : ℕ) (s : Spelling) (item : Option (String Global × ℤ)) → slice_get units p ≡ Some lead
+    → IsItemBy units (p + 1) lead s item
     → IfSome item (λ x. IsNodeValue units x.1)
 item_value units p lead s None g i = tt
 item_value units p lead s (Some x) g i = (p, rw g i.0)
@@ -101,7 +105,8 @@ pub record IsWithout (old new : Pending) : Type 0 where
   pub parts : new.parts.items ≡ old.parts.items
   pub node : new.node ≡ None
 
-pub without_entries : (old new : Pending) (key : List ℕ) (others : UnitMap) → IsWithout old new → Spells (bytes_of old.spelling) old.spelling.held key
+pub without_entries : (old new : Pending) (key : List ℕ) (others : UnitMap) → IsWithout old new
+    → Spells (bytes_of old.spelling) old.spelling.held key
     → PartsGive (slice_values old.units) (bytes_of old.spelling) (reverse old.parts.items) others → IsPending new others
 without_entries old new key others w s p = record {
   key = key;
@@ -116,7 +121,8 @@ without_entries old new key others w s p = record {
 pub without_cuts : (old new : Pending) → IsWithout old new → IsCut old → IsCut new
 without_cuts old new w c = rw (w.spelling, w.parts) c
 
-pub without_work : (old new : Pending) (p : ℕ) → IsWithout old new → old.node ≡ Some p → work_left old ≡ weight (length (slice_values old.units)) p + work_left new
+pub without_work : (old new : Pending) (p : ℕ) → IsWithout old new → old.node ≡ Some p
+    → work_left old ≡ weight (length (slice_values old.units)) p + work_left new
 without_work old new p w n = rw (w.units, w.parts, w.node, n) (omega arith)
 
 -- the node that stands from a place on is this one
@@ -143,7 +149,8 @@ past_none old new k n never (inr f) = absurd (never f)
 pub not_both : ◌≡◌ {A = Bool} false true → ⊥
 not_both h = cc
 
-pub absent_opens : (old new : Pending) (p : ℕ) → IsWithout old new → old.node ≡ Some p → slice_get (slice_values old.units) p ≡ None → OpensNode old None new
+pub absent_opens : (old new : Pending) (p : ℕ) → IsWithout old new → old.node ≡ Some p → slice_get (slice_values old.units) p ≡ None
+    → OpensNode old None new
 absent_opens old new p w n g = record {
   units = w.units;
   entries = λ m pend.
@@ -164,14 +171,16 @@ final_item units p lead s None big i e =
     none-some _ (rw (le-ltb lead 0x40 (omega (arith, big)), le-ltb lead 0x8000 big) at (sym i))
 final_item units p lead s (Some x) big i e = none-some _ (sym e)
 
-pub final_opens : (old new : Pending) (p lead : ℕ) (item : Option (String Global × ℤ)) → IsWithout old new → old.node ≡ Some p → slice_get (slice_values old.units) p ≡ Some lead → 0x8000 ≤ lead
+pub final_opens : (old new : Pending) (p lead : ℕ) (item : Option (String Global × ℤ)) → IsWithout old new → old.node ≡ Some p
+    → slice_get (slice_values old.units) p ≡ Some lead → 0x8000 ≤ lead
     → IsItemBy (slice_values old.units) (p + 1) lead old.spelling item → OpensNode old item new
 final_opens old new p lead item w n g big i = record {
   units = w.units;
   entries = λ m pend.
       let at = rw n at pend.node in
       let b = stands_by (slice_values old.units) p lead at.0 at.1 g in
-      let is : m ≡ under pend.key (own (value_by (slice_values old.units) (p + 1) lead) ++ b.rest) ++ pend.others = pend.is ∙ ap (λ z. z ++ pend.others) (at.2 ∙ ap (under pend.key) b.is) in
+      let is : m ≡ under pend.key (own (value_by (slice_values old.units) (p + 1) lead) ++ b.rest) ++ pend.others =
+      pend.is ∙ ap (λ z. z ++ pend.others) (at.2 ∙ ap (under pend.key) b.is) in
       let rest : under pend.key b.rest ++ pend.others ≡ pend.others = ap (λ z. under pend.key z ++ pend.others) (b.last big) in
       item_gives (slice_values old.units) (p + 1) lead old.spelling new item pend.key pend.others b.rest m i pend.spelled is
       (rw rest (without_entries old new pend.key pend.others w pend.spelled pend.parts));
@@ -183,14 +192,17 @@ final_opens old new p lead item w n g big i = record {
       (omega (arith, without_work old new p w n, weight_some (length (slice_values old.units)) p));
 }
 
-pub match_opens : (old mid new : Pending) (p lead q : ℕ) (item : Option (String Global × ℤ)) → IsWithout old mid → old.node ≡ Some p → slice_get (slice_values old.units) p ≡ Some lead → lead < 0x8000
-    → IsItemBy (slice_values old.units) (p + 1) lead old.spelling item → q ≡ node_end (p + 1) lead → p < q → Opens mid q (Matches (slice_values mid.units) q (lead % 64)) new → OpensNode old item new
+pub match_opens : (old mid new : Pending) (p lead q : ℕ) (item : Option (String Global × ℤ)) → IsWithout old mid → old.node ≡ Some p
+    → slice_get (slice_values old.units) p ≡ Some lead → lead < 0x8000
+    → IsItemBy (slice_values old.units) (p + 1) lead old.spelling item → q ≡ node_end (p + 1) lead → p < q
+    → Opens mid q (Matches (slice_values mid.units) q (lead % 64)) new → OpensNode old item new
 match_opens old mid new p lead q item w n g small i at behind o = record {
   units = o.units ∙ w.units;
   entries = λ m pend.
       let here = rw n at pend.node in
       let b = stands_by (slice_values old.units) p lead here.0 here.1 g in
-      let is : m ≡ under pend.key (own (value_by (slice_values old.units) (p + 1) lead) ++ b.rest) ++ pend.others = pend.is ∙ ap (λ z. z ++ pend.others) (here.2 ∙ ap (under pend.key) b.is) in
+      let is : m ≡ under pend.key (own (value_by (slice_values old.units) (p + 1) lead) ++ b.rest) ++ pend.others =
+      pend.is ∙ ap (λ z. z ++ pend.others) (here.2 ∙ ap (under pend.key) b.is) in
       let node : Matches (slice_values mid.units) q (lead % 64) b.rest = rw (w.units, at) (b.node small) in
       item_gives (slice_values old.units) (p + 1) lead old.spelling new item pend.key pend.others b.rest m i pend.spelled is
       (o.entries pend.key b.rest pend.others node (rw w.spelling pend.spelled) (rw (w.units, w.spelling, w.parts) pend.parts));
@@ -201,7 +213,8 @@ match_opens old mid new p lead q item w n g small i at behind o = record {
       past_more old new k p q n behind (o.leads b.rest (rw (w.units, at) (b.node small)));
   cuts = λ c. o.cuts (without_cuts old mid w c);
   work =
-      let less : work_left new < weight (length (slice_values old.units)) q + work_left mid = subst (λ z. work_left new < weight (length (slice_values z)) q + work_left mid) w.units o.work in
+      let less : work_left new < weight (length (slice_values old.units)) q + work_left mid =
+      subst (λ z. work_left new < weight (length (slice_values z)) q + work_left mid) w.units o.work in
       work_by (work_left new) (work_left old) item
       (omega (arith, without_work old mid p w n, less, weight_le (length (slice_values old.units)) p q (omega arith)));
 }
@@ -209,7 +222,13 @@ match_opens old mid new p lead q item w n g small i at behind o = record {
 -- ---- the next node
 
 pub keeps_then : (a b c : Pending) → Keeps a b → Keeps b c → Keeps a c
-keeps_then a b c h k = record { units = k.units ∙ h.units; entries = λ m p. k.entries m (h.entries m p); cuts = k.cuts; work = omega (arith, h.work, k.work) }
+keeps_then a b c h k = record {
+  units = k.units ∙ h.units;
+  entries = λ m p. k.entries m (h.entries m p);
+  cuts = k.cuts;
+  work =
+      omega (arith, h.work, k.work);
+}
 
 -- the next part is taken off, and the text is cut back to its mark
 pub record TakesPart (old : Pending) (part : BranchPart) (mid : Pending) : Type 0 where
@@ -224,15 +243,20 @@ pub part_cut : (old : Pending) (rest : List BranchPart) (part : BranchPart) → 
     → IsCharBoundary (bytes_of old.spelling) part.mark.len × AreCuts (take part.mark.len (bytes_of old.spelling)) (reverse rest)
 part_cut old rest part e c = rw (one_pushed rest old.parts.items part e) at c
 
-taken_work : (old mid : Pending) (part : BranchPart) → TakesPart old part mid → work_left old ≡ weight (length (slice_values old.units)) part.place + work_left mid
-taken_work old mid part t = rw (t.units, t.node, t.parts, t.none) (omega (arith, work_push (length (slice_values old.units)) mid.parts.items part))
+taken_work : (old mid : Pending) (part : BranchPart) → TakesPart old part mid
+    → work_left old ≡ weight (length (slice_values old.units)) part.place + work_left mid
+taken_work old mid part t = rw (t.units, t.node, t.parts, t.none)
+    (omega (arith, work_push (length (slice_values old.units)) mid.parts.items part))
 
-part_work : (old mid new : Pending) (part : BranchPart) → TakesPart old part mid → Opens mid part.place (ArmsHold (slice_values mid.units) part.place part.count) new → work_left new < work_left old
+part_work : (old mid new : Pending) (part : BranchPart) → TakesPart old part mid
+    → Opens mid part.place (ArmsHold (slice_values mid.units) part.place part.count) new → work_left new < work_left old
 part_work old mid new part t o =
-    let less : work_left new < weight (length (slice_values old.units)) part.place + work_left mid = subst (λ z. work_left new < weight (length (slice_values z)) part.place + work_left mid) t.units o.work in
+    let less : work_left new < weight (length (slice_values old.units)) part.place + work_left mid =
+    subst (λ z. work_left new < weight (length (slice_values z)) part.place + work_left mid) t.units o.work in
     omega (arith, taken_work old mid part t, less)
 
-pub part_keeps : (old mid new : Pending) (part : BranchPart) → TakesPart old part mid → Opens mid part.place (ArmsHold (slice_values mid.units) part.place part.count) new → IsCut old → Keeps old new
+pub part_keeps : (old mid new : Pending) (part : BranchPart) → TakesPart old part mid
+    → Opens mid part.place (ArmsHold (slice_values mid.units) part.place part.count) new → IsCut old → Keeps old new
 part_keeps old mid new part t o c = record {
   units = o.units ∙ t.units;
   entries = λ m h.
@@ -294,7 +318,14 @@ more_past first old mid new k i keeps goes o past m h =
     let here = i.entries m h in o.leads refl m (keeps.entries m here) k (goes m here k (past m h))
 
 pub finds_none : (old new : Pending) → Keeps old new → IsOver new → Finds old None new
-finds_none old new k o = record { units = k.units; entries = λ m h. over_gives new m o (k.entries m h); over = o; value = tt; cuts = k.cuts; work = tt }
+finds_none old new k o = record {
+  units = k.units;
+  entries = λ m h. over_gives new m o (k.entries m h);
+  over = o;
+  value = tt;
+  cuts = k.cuts;
+  work = tt;
+}
 
 -- ---- a trie has no more nodes on one path than units
 
@@ -333,13 +364,22 @@ finds_no_more old s new k keeps all past u o = record {
   work = tt;
 }
 
-pub gives_item : (old new : Pending) (item : String Global × ℤ) → Finds old (Some item) new → (IsOver old → ⊥) → Gives old (Some (Ok item)) new
-gives_item old new item f more = record { entries = f.entries; done = λ d. absurd (more d); ended = λ e. absurd (not_both e); value = f.value; units = ap slice_values f.units }
+pub gives_item : (old new : Pending) (item : String Global × ℤ) → Finds old (Some item) new → (IsOver old → ⊥)
+    → Gives old (Some (Ok item)) new
+gives_item old new item f more = record {
+  entries = f.entries;
+  done = λ d. absurd (more d);
+  ended = λ e. absurd (not_both e);
+  value =
+      f.value;
+  units = ap slice_values f.units;
+}
 
 pub gives_none : (old new : Pending) → Finds old None new → Gives old None new
 gives_none old new f = record { entries = f.entries; done = λ d. refl; ended = f.over; value = tt; units = ap slice_values f.units }
 
-pub gives_err : (old new : Pending) (e : MemoryError) → slice_values new.units ≡ slice_values old.units → IsOver new → (IsOver old → ⊥) → Gives old (Some (Err e)) new
+pub gives_err : (old new : Pending) (e : MemoryError) → slice_values new.units ≡ slice_values old.units → IsOver new → (IsOver old → ⊥)
+    → Gives old (Some (Err e)) new
 gives_err old new e u o more = record { entries = λ m h. tt; done = λ d. absurd (more d); ended = λ _. o; value = tt; units = u }
 
 parts_some : (len : ℕ) (parts : List BranchPart) → (parts ≡ [] → ⊥) → 0 < parts_work len parts
@@ -348,7 +388,8 @@ parts_some len [] more = absurd (more refl)
 parts_some len (part ∷ parts) more =
     omega (arith, weight_some len part.place, sum_by-append (λ (t : BranchPart). weight len t.place) (part ∷ []) parts)
 
-work_some : (len : ℕ) (node : Option ℕ) (parts : List BranchPart) → ((node ≡ None) × (parts ≡ []) → ⊥) → 0 < node_work len node + parts_work len parts
+work_some : (len : ℕ) (node : Option ℕ) (parts : List BranchPart) → ((node ≡ None) × (parts ≡ []) → ⊥)
+    → 0 < node_work len node + parts_work len parts
 work_some len None parts more = omega (arith, parts_some len parts (λ e. more (refl, e)))
 work_some len (Some p) parts more = omega (arith, weight_some len p)
 
@@ -359,5 +400,6 @@ parts_none len parts e = ap (parts_work len) e
 -- nothing left is less work than something
 pub over_work : (old new : Pending) → IsOver new → (IsOver old → ⊥) → work_left new < work_left old
 over_work old new o more =
-    let none : parts_work (length (slice_values new.units)) new.parts.items ≡ 0 = parts_none (length (slice_values new.units)) new.parts.items o.1 in
+    let none : parts_work (length (slice_values new.units)) new.parts.items ≡ 0 =
+    parts_none (length (slice_values new.units)) new.parts.items o.1 in
     rw o.0 (omega (arith, none, work_some (length (slice_values old.units)) old.node old.parts.items more))

@@ -26,7 +26,8 @@ arms_joined : (lower upper : List (ℕ × ℕ)) → arm_units (lower ++ upper) �
 arms_joined [] upper = refl
 arms_joined (a ∷ lower) upper = ap (λ z. a.0 ∷ z) (arms_joined lower upper)
 
-row_says : (units : List ℕ) {p n : ℕ} {us : List ℕ} → RowUnits units p n us → {arms : List (ℕ × ℕ)} → Part units p n arms → n ≤ 5 → us ≡ arm_units arms
+row_says : (units : List ℕ) {p n : ℕ} {us : List ℕ} → RowUnits units p n us → {arms : List (ℕ × ℕ)} → Part units p n arms → n ≤ 5
+    → us ≡ arm_units arms
 row_says units (says.gone p n us few g e) part le = absurd (part_begins units part g)
 row_says units (says.last p n u us few g e) part le = e ∙ sym (ap arm_units (last_is units part few u g))
 row_says units (says.cut p n us many g e) part le = absurd (part_goes_on units part many g)
@@ -47,14 +48,16 @@ record IsBig (units : List ℕ) (p n d : ℕ) (arms : List (ℕ × ℕ)) : Type 
   above : Part units (delta_end (p + 2) d) (n - n / 2) upper
 
 -- a part of more than five entries
-big_part : (units : List ℕ) {p n : ℕ} {arms : List (ℕ × ℕ)} → Part units p n arms → 5 < n → (d : ℕ) → slice_get units (p + 1) ≡ Some d → IsBig units p n d arms
+big_part : (units : List ℕ) {p n : ℕ} {arms : List (ℕ × ℕ)} → Part units p n arms → 5 < n → (d : ℕ) → slice_get units (p + 1) ≡ Some d
+    → IsBig units p n d arms
 big_part units (last p n u arms e g a) many d h = absurd (omega (arith, e, many))
 big_part units (entry p n u v child rest arms m few g g' c r a) many d h = absurd (omega (arith, few, many))
 big_part units (split p n s d' low lower upper arms m g g' c l r b f a) many d h =
     let same : d' ≡ d = cc in
     record { low = low; lower = lower; upper = upper; at = rw (← same) c; is = a; below = l; above = rw (← same) r }
 
-part_says : (units : List ℕ) {p n : ℕ} {us : List ℕ} → PartUnits units p n us → {arms : List (ℕ × ℕ)} → Part units p n arms → us ≡ arm_units arms
+part_says : (units : List ℕ) {p n : ℕ} {us : List ℕ} → PartUnits units p n us → {arms : List (ℕ × ℕ)} → Part units p n arms
+    → us ≡ arm_units arms
 part_says units (says.row p n us few r) part = row_says units r part few
 part_says units (says.no_split p n us many g e) part = absurd (part_goes_on units part (omega (arith, many)) g)
 part_says units (says.no_lower p n d us many g none' r) part =
@@ -71,7 +74,8 @@ part_says units (says.both p n d low lower upper us many g c l r e) part =
 first_again : (u : ℕ) (us : List ℕ) → without_first u (u ∷ us) ≡ us
 first_again u us = rw (eq-eqb u u refl) refl
 
-first_under : (u : ℕ) (m others : UnitMap) (us : List ℕ) → first_units others ≡ us → without_first u us ≡ us → HasEntry m → first_units (under (u ∷ []) m ++ others) ≡ u ∷ us
+first_under : (u : ℕ) (m others : UnitMap) (us : List ℕ) → first_units others ≡ us → without_first u us ≡ us → HasEntry m
+    → first_units (under (u ∷ []) m ++ others) ≡ u ∷ us
 unfolding first_units
 first_under u [] others us e w h = absurd cc
 first_under u (x ∷ []) others us e w h = ap (λ z. u ∷ without_first u z) e ∙ ap (λ z. u ∷ z) w
@@ -82,23 +86,28 @@ none_first : (u : ℕ) (arms : List (ℕ × ℕ)) → UnitsFrom (u + 1) arms →
 none_first u [] f = refl
 none_first u (a ∷ arms) f = rw (ne_eqb a.0 u (λ e. absurd (omega (arith, e, f.0)))) refl
 
-children_first : (units : List ℕ) {arms : List (ℕ × ℕ)} {m : UnitMap} → Children units arms m → IsAscending arms → first_units m ≡ arm_units arms
+children_first : (units : List ℕ) {arms : List (ℕ × ℕ)} {m : UnitMap} → Children units arms m → IsAscending arms
+    → first_units m ≡ arm_units arms
 unfolding first_units
 children_first units (none arms m a e) up = rw (a, e) refl
 children_first units (more u q rest arms m others all a node c e) up =
     let up' : UnitsFrom (u + 1) rest × IsAscending rest = rw a at up in
-    ap first_units e ∙ first_under u m others (arm_units rest) (children_first units c up'.1) (none_first u rest up'.0) (holds_has units node) ∙ sym (ap arm_units a)
+    ap first_units e ∙ first_under u m others (arm_units rest) (children_first units c up'.1) (none_first u rest up'.0)
+    (holds_has units node) ∙ sym (ap arm_units a)
 
 run_first_unit : (units : List ℕ) (p k : ℕ) (m : UnitMap) → InRun units p (k + 1) m → unit_list (slice_get units p) ≡ first_units m
 unfolding first_units
 run_first_unit units p k m r =
     let x : ℕ = get_or units p 0 in
     let here : slice_get units p ≡ Some x = slice_get-get_or units p 0 (omega (arith, r.within)) in
-    let keys : m ≡ under (x ∷ []) (under (take k (drop (p + 1) units)) r.rest) ++ [] = run_keys units p k x m r.rest r.keys here ∙ sym (append-nil (under (x ∷ []) (under (take k (drop (p + 1) units)) r.rest))) in
-    let some = under_has (take k (drop (p + 1) units)) r.rest [] (under (take k (drop (p + 1) units)) r.rest) (sym (append-nil (under (take k (drop (p + 1) units)) r.rest))) (holds_has units r.node) in
+    let keys : m ≡ under (x ∷ []) (under (take k (drop (p + 1) units)) r.rest) ++ [] =
+    run_keys units p k x m r.rest r.keys here ∙ sym (append-nil (under (x ∷ []) (under (take k (drop (p + 1) units)) r.rest))) in
+    let some = under_has (take k (drop (p + 1) units)) r.rest [] (under (take k (drop (p + 1) units)) r.rest)
+    (sym (append-nil (under (take k (drop (p + 1) units)) r.rest))) (holds_has units r.node) in
     ap unit_list here ∙ sym (ap first_units keys ∙ first_under x (under (take k (drop (p + 1) units)) r.rest) [] [] refl refl some)
 
-match_first : (units : List ℕ) {p low : ℕ} {us : List ℕ} {m : UnitMap} → MatchUnits units p low us → Matches units p low m → us ≡ first_units m
+match_first : (units : List ℕ) {p low : ℕ} {us : List ℕ} {m : UnitMap} → MatchUnits units p low us → Matches units p low m
+    → us ≡ first_units m
 match_first units {m = m} (says.in_run p low us le e) h =
     let k : (low - 0x2f) ≡ (low - 0x30) + 1 = omega (arith, le) in
     e ∙ run_first_unit units p (low - 0x30) m (rw k at (matches_run units h le))
@@ -136,7 +145,8 @@ node_first units {m = m} (says.at_match p lead us g small part) s =
     match_first units part (b.node small) ∙ sym (ap first_units b.is ∙ own_first _ b.rest)
 
 -- the units with which keys go on from a place, where the grammar holds
-pub place_first : (units : List ℕ) (place : Place) (us : List ℕ) (m : UnitMap) → GoesOnWith units place us → Stands units place m → us ≡ first_units m
+pub place_first : (units : List ℕ) (place : Place) (us : List ℕ) (m : UnitMap) → GoesOnWith units place us → Stands units place m
+    → us ≡ first_units m
 place_first units Nowhere us m g s = g ∙ sym (ap first_units s ∙ no_first)
 place_first units (Node p) us m g s = node_first units g s
 place_first units (Run p left) us m g s = g ∙ run_first_unit units p left m s
@@ -157,11 +167,15 @@ row_end units p n few = by (slice_get units p) refl
     by None g = says.gone p n [] few g refl
     by (Some u) g = says.last p n u (u ∷ []) few g refl
 
-pub both_added : (units : List ℕ) (p n d low high : ℕ) (old mid mid' new : List ℕ) → 5 < n → slice_get units (p + 1) ≡ Some d → lower_part units (p + 2) d ≡ Some low → high ≡ delta_end (p + 2) d
-    → Adds (PartUnits units low (n / 2)) old mid → mid' ≡ mid → Adds (PartUnits units high (n - n / 2)) mid' new → Adds (PartUnits units p n) old new
+pub both_added : (units : List ℕ) (p n d low high : ℕ) (old mid mid' new : List ℕ) → 5 < n → slice_get units (p + 1) ≡ Some d
+    → lower_part units (p + 2) d ≡ Some low → high ≡ delta_end (p + 2) d
+    → Adds (PartUnits units low (n / 2)) old mid → mid' ≡ mid → Adds (PartUnits units high (n - n / 2)) mid' new
+    → Adds (PartUnits units p n) old new
 both_added units p n d low high old mid mid' new many g c e a same b =
     (a.0 ++ b.0, says.both p n d low a.0 b.0 (a.0 ++ b.0) many g c a.1 (rw e at b.1) refl, added_more old a.0 mid' new b.0 (same ∙ a.2) b.2)
 
-pub upper_added : (units : List ℕ) (p n d high : ℕ) (old mid new : List ℕ) → 5 < n → slice_get units (p + 1) ≡ Some d → lower_part units (p + 2) d ≡ None → high ≡ delta_end (p + 2) d
+pub upper_added : (units : List ℕ) (p n d high : ℕ) (old mid new : List ℕ) → 5 < n → slice_get units (p + 1) ≡ Some d
+    → lower_part units (p + 2) d ≡ None → high ≡ delta_end (p + 2) d
     → mid ≡ old → Adds (PartUnits units high (n - n / 2)) mid new → Adds (PartUnits units p n) old new
-upper_added units p n d high old mid new many g c e same b = (b.0, says.no_lower p n d b.0 many g c (rw e at b.1), b.2 ∙ ap (λ z. z ++ b.0) same)
+upper_added units p n d high old mid new many g c e same b =
+    (b.0, says.no_lower p n d b.0 many g c (rw e at b.1), b.2 ∙ ap (λ z. z ++ b.0) same)

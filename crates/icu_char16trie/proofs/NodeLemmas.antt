@@ -20,14 +20,16 @@ cond_some true q r o h = inl (refl, cc)
 cond_some false q r o h = inr (refl, h)
 
 -- nothing of the arms begins with a unit that they lack
-pub children_other : (units : List ℕ) {arms : List (ℕ × ℕ)} {m : List (List ℕ × ℤ)} → Children units arms m → (u : ℕ) → arm_of arms u ≡ None → after u m ≡ []
+pub children_other : (units : List ℕ) {arms : List (ℕ × ℕ)} {m : List (List ℕ × ℤ)} → Children units arms m → (u : ℕ) → arm_of arms u ≡ None
+    → after u m ≡ []
 unfolding arm_of after
 children_other units (none arms m a e) u h = rw e refl
 children_other units (more x q rest arms m others all a node c e) u h =
     let parts = cond_none (nat_eq x u) q (arm_of rest u) (rw a at h) in
     rw (e, after_append u _ others, after_under_other x u m parts.0) (children_other units c u parts.1)
 
-pub children_found : (units : List ℕ) {arms : List (ℕ × ℕ)} {m : List (List ℕ × ℤ)} → Children units arms m → IsAscending arms → (u q : ℕ) → arm_of arms u ≡ Some q → Holds units q (after u m)
+pub children_found : (units : List ℕ) {arms : List (ℕ × ℕ)} {m : List (List ℕ × ℤ)} → Children units arms m → IsAscending arms → (u q : ℕ)
+    → arm_of arms u ≡ Some q → Holds units q (after u m)
 unfolding arm_of
 children_found units (none arms m a e) up u q h = absurd (none-some _ (rw a at h))
 children_found units (more x q' rest arms m others all a node c e) up u q h =
@@ -45,7 +47,8 @@ children_found units (more x q' rest arms m others all a node c e) up u q h =
 
 take_first : (units : List ℕ) (p k x : ℕ) → slice_get units p ≡ Some x → take (k + 1) (drop p units) ≡ x ∷ take k (drop (p + 1) units)
 take_first units p k x g =
-    let here : drop p units ≡ x ∷ drop (p + 1) units = rw (drop-cons units p 0 (slice_get_within units p x g), get_or_from_slice_get units p x 0 g, add-one) refl in
+    let here : drop p units ≡ x ∷ drop (p + 1) units =
+    rw (drop-cons units p 0 (slice_get_within units p x g), get_or_from_slice_get units p x 0 g, add-one) refl in
     rw (here, add-one) refl
 
 under_cons : (x : ℕ) (front : List ℕ) (m : List (List ℕ × ℤ)) → under (x ∷ front) m ≡ under (x ∷ []) (under front m)
@@ -57,13 +60,15 @@ under_nil [] = refl
 under_nil (e ∷ m) = ap (λ t. e ∷ t) (under_nil m)
 
 -- the keys of a run, after its first unit
-pub run_keys : (units : List ℕ) (p k x : ℕ) (m rest : List (List ℕ × ℤ)) → m ≡ under (take (k + 1) (drop p units)) rest → slice_get units p ≡ Some x
+pub run_keys : (units : List ℕ) (p k x : ℕ) (m rest : List (List ℕ × ℤ)) → m ≡ under (take (k + 1) (drop p units)) rest
+    → slice_get units p ≡ Some x
     → m ≡ under (x ∷ []) (under (take k (drop (p + 1) units)) rest)
 run_keys units p k x m rest e g =
     e ∙ ap (λ front. under front rest) (take_first units p k x g) ∙ under_cons x (take k (drop (p + 1) units)) rest
 
 -- the first unit of a run
-pub run_step : (units : List ℕ) (p k u x : ℕ) (m : List (List ℕ × ℤ)) → InRun units p (k + 1) m → slice_get units p ≡ Some x → x ≡ u → InRun units (p + 1) k (after u m)
+pub run_step : (units : List ℕ) (p k u x : ℕ) (m : List (List ℕ × ℤ)) → InRun units p (k + 1) m → slice_get units p ≡ Some x → x ≡ u
+    → InRun units (p + 1) k (after u m)
 run_step units p k u x m r g e =
     let regroup : p + (k + 1) ≡ (p + 1) + k = omega arith in
     record {
@@ -73,7 +78,8 @@ run_step units p k u x m r g e =
       keys = ap (after u) (run_keys units p k x m r.rest r.keys g) ∙ rw e (after_under u (under (take k (drop (p + 1) units)) r.rest));
     }
 
-pub run_other : (units : List ℕ) (p k u x : ℕ) (m : List (List ℕ × ℤ)) → InRun units p (k + 1) m → slice_get units p ≡ Some x → nat_eq x u ≡ false → after u m ≡ []
+pub run_other : (units : List ℕ) (p k u x : ℕ) (m : List (List ℕ × ℤ)) → InRun units p (k + 1) m → slice_get units p ≡ Some x
+    → nat_eq x u ≡ false → after u m ≡ []
 run_other units p k u x m r g e =
     ap (after u) (run_keys units p k x m r.rest r.keys g) ∙ after_under_other x u (under (take k (drop (p + 1) units)) r.rest) e
 
@@ -98,7 +104,8 @@ matches_run units (branch p low n arms m lt len many part up c) le = absurd (ome
 
 pub matches_branch : (units : List ℕ) {p low : ℕ} {m : List (List ℕ × ℤ)} → Matches units p low m → low < 0x30 → IsBranch units p low m
 matches_branch units (run p low m rest h l within node e) lt = absurd (omega arith)
-matches_branch units (branch p low n arms m lt' len many part up c) lt = record { n = n; arms = arms; len = len; part = part; ascending = up; children = c }
+matches_branch units (branch p low n arms m lt' len many part up c) lt =
+    record { n = n; arms = arms; len = len; part = part; ascending = up; children = c }
 
 pub record IsValued (units : List ℕ) (p lead : ℕ) (m : List (List ℕ × ℤ)) : Type 0 where
   pub n : ℕ
@@ -107,18 +114,21 @@ pub record IsValued (units : List ℕ) (p lead : ℕ) (m : List (List ℕ × ℤ
   pub node : Matches units (node_end (p + 1) lead) (lead % 64) rest
   pub is : m ≡ ([], cast_signed w32 n) ∷ rest
 
-pub holds_final : (units : List ℕ) {p : ℕ} {m : List (List ℕ × ℤ)} → Holds units p m → (lead : ℕ) → slice_get units p ≡ Some lead → 0x8000 ≤ lead
+pub holds_final : (units : List ℕ) {p : ℕ} {m : List (List ℕ × ℤ)} → Holds units p m → (lead : ℕ) → slice_get units p ≡ Some lead
+    → 0x8000 ≤ lead
     → (n : ℕ) × (short_number units (p + 1) (lead - 0x8000) ≡ Some n) × (m ≡ ([], cast_signed w32 n) ∷ [])
 holds_final units (final p lead' n m g le s e) lead h big = let same : lead' ≡ lead = cc in (n, rw same at s, e)
 holds_final units (plain p lead' m g lt node) lead h big = let same : lead' ≡ lead = cc in absurd (omega arith)
 holds_final units (valued p lead' n m rest g ge lt s node e) lead h big = let same : lead' ≡ lead = cc in absurd (omega arith)
 
-pub holds_plain : (units : List ℕ) {p : ℕ} {m : List (List ℕ × ℤ)} → Holds units p m → (lead : ℕ) → slice_get units p ≡ Some lead → lead < 0x40 → Matches units (p + 1) lead m
+pub holds_plain : (units : List ℕ) {p : ℕ} {m : List (List ℕ × ℤ)} → Holds units p m → (lead : ℕ) → slice_get units p ≡ Some lead
+    → lead < 0x40 → Matches units (p + 1) lead m
 holds_plain units (final p lead' n m g le s e) lead h small = let same : lead' ≡ lead = cc in absurd (omega arith)
 holds_plain units (plain p lead' m g lt node) lead h small = let same : lead' ≡ lead = cc in rw same at node
 holds_plain units (valued p lead' n m rest g ge lt s node e) lead h small = let same : lead' ≡ lead = cc in absurd (omega arith)
 
-pub holds_valued : (units : List ℕ) {p : ℕ} {m : List (List ℕ × ℤ)} → Holds units p m → (lead : ℕ) → slice_get units p ≡ Some lead → 0x40 ≤ lead → lead < 0x8000 → IsValued units p lead m
+pub holds_valued : (units : List ℕ) {p : ℕ} {m : List (List ℕ × ℤ)} → Holds units p m → (lead : ℕ) → slice_get units p ≡ Some lead
+    → 0x40 ≤ lead → lead < 0x8000 → IsValued units p lead m
 holds_valued units (final p lead' n m g le s e) lead h big small = let same : lead' ≡ lead = cc in absurd (omega arith)
 holds_valued units (plain p lead' m g lt node) lead h big small = let same : lead' ≡ lead = cc in absurd (omega arith)
 holds_valued units (valued p lead' n m rest g ge lt s node e) lead h big small =
@@ -151,7 +161,8 @@ value_under x front (e ∷ m) = value_under x front m
 children_no_root : (units : List ℕ) {arms : List (ℕ × ℕ)} {m : List (List ℕ × ℤ)} → Children units arms m → value_of m [] ≡ None
 unfolding value_of
 children_no_root units (none arms m a e) = rw e refl
-children_no_root units (more x q rest arms m others all a node c e) = rw e (value_append (under (x ∷ []) m) others (value_under x [] m) (children_no_root units c))
+children_no_root units (more x q rest arms m others all a node c e) =
+    rw e (value_append (under (x ∷ []) m) others (value_under x [] m) (children_no_root units c))
 
 pub run_first : (units : List ℕ) (p k : ℕ) → 0 < k → p + k ≤ length units → (x : ℕ) × (front : List ℕ) × (take k (drop p units) ≡ x ∷ front)
 run_first units p k pos within =
@@ -191,7 +202,8 @@ mutual
 
   matches_has : (units : List ℕ) {p low : ℕ} {m : List (List ℕ × ℤ)} → Matches units p low m → HasEntry m
   matches_has units (run p low m rest h l within node e) =
-      under_has (take (low - 0x2f) (drop p units)) rest [] m (e ∙ sym (append-nil (under (take (low - 0x2f) (drop p units)) rest))) (holds_has units node)
+      under_has (take (low - 0x2f) (drop p units)) rest [] m (e ∙ sym (append-nil (under (take (low - 0x2f) (drop p units)) rest)))
+      (holds_has units node)
   matches_has units (branch p low n arms m lt len many part up c) = children_has units c (part_has units part)
 
   children_has : (units : List ℕ) {arms : List (ℕ × ℕ)} {m : List (List ℕ × ℤ)} → Children units arms m → HasArm arms → HasEntry m
@@ -211,7 +223,8 @@ root_or_on m h t = rw t.2 (first_on t.0 t.1 (rw t.2 at h))
 pub matches_on : (units : List ℕ) {p low : ℕ} {m : List (List ℕ × ℤ)} → Matches units p low m → goes_on m [] ≡ true
 matches_on units node = root_or_on _ (matches_no_root units node) (matches_has units node)
 
-pub run_keys_first : (units : List ℕ) (p left : ℕ) (m : List (List ℕ × ℤ)) → (r : InRun units p (left + 1) m) → (x : ℕ) × (front : List ℕ) × (m ≡ under (x ∷ front) r.rest)
+pub run_keys_first : (units : List ℕ) (p left : ℕ) (m : List (List ℕ × ℤ)) → (r : InRun units p (left + 1) m)
+    → (x : ℕ) × (front : List ℕ) × (m ≡ under (x ∷ front) r.rest)
 run_keys_first units p left m r =
     let f = run_first units p (left + 1) (omega arith) r.within in
     (f.0, f.1, r.keys ∙ ap (λ z. under z r.rest) f.2)

@@ -27,13 +27,15 @@ one_pushed old new a e = rw (e, reverse-append old (a ∷ [])) refl
 
 -- ---- where the text grows
 
-parts_longer : (units text tail : List ℕ) (parts : List BranchPart) (m : List (List ℕ × ℤ)) → PartsGive units text parts m → PartsGive units (text ++ tail) parts m
+parts_longer : (units text tail : List ℕ) (parts : List BranchPart) (m : List (List ℕ × ℤ)) → PartsGive units text parts m
+    → PartsGive units (text ++ tail) parts m
 parts_longer units text tail [] m p = p
 parts_longer units text tail (part ∷ parts) m p =
     let same : take part.mark.len (text ++ tail) ≡ take part.mark.len text = take-append-le part.mark.len text tail p.5 in
     (p.0, p.1, p.2, p.3, rw same p.4, omega (arith, length-append text tail, p.5), p.6, rw same p.7)
 
-cuts_longer : (text tail : List ℕ) (parts : List BranchPart) → IsUtf8 text → IsUtf8 (text ++ tail) → AreCuts text parts → AreCuts (text ++ tail) parts
+cuts_longer : (text tail : List ℕ) (parts : List BranchPart) → IsUtf8 text → IsUtf8 (text ++ tail) → AreCuts text parts
+    → AreCuts (text ++ tail) parts
 cuts_longer text tail [] u u' c = tt
 cuts_longer text tail (part ∷ parts) u u' c =
     let same : take part.mark.len (text ++ tail) ≡ take part.mark.len text = take-append-le part.mark.len text tail c.0.0 in
@@ -51,8 +53,10 @@ pub record GoesTo (old : Pending) (run : List ℕ) (q : ℕ) (new : Pending) : T
   pub node : new.node ≡ Some q
   pub parts : new.parts.items ≡ old.parts.items
 
-gone_entries : (old new : Pending) (run : List ℕ) (q : ℕ) → GoesTo old run q new → (key : List ℕ) (entries others : List (List ℕ × ℤ)) → Stands (slice_values old.units) (Node q) entries
-    → Spells (bytes_of old.spelling) old.spelling.held key → PartsGive (slice_values old.units) (bytes_of old.spelling) (reverse old.parts.items) others
+gone_entries : (old new : Pending) (run : List ℕ) (q : ℕ) → GoesTo old run q new → (key : List ℕ) (entries others : List (List ℕ × ℤ))
+    → Stands (slice_values old.units) (Node q) entries
+    → Spells (bytes_of old.spelling) old.spelling.held key
+    → PartsGive (slice_values old.units) (bytes_of old.spelling) (reverse old.parts.items) others
     → IsPending new (under key (under run entries) ++ others)
 gone_entries old new run q g key entries others h s p = record {
   key = key ++ run;
@@ -60,14 +64,16 @@ gone_entries old new run q g key entries others h s p = record {
   others = others;
   spelled = spells_on old.spelling new.spelling run key g.spelling s;
   node = rw (g.units, g.node) (entries, h, refl);
-  parts = rw (g.units, g.spelling.grows, g.parts) (parts_longer (slice_values old.units) (bytes_of old.spelling) g.spelling.tail (reverse old.parts.items) others p);
+  parts = rw (g.units, g.spelling.grows, g.parts)
+      (parts_longer (slice_values old.units) (bytes_of old.spelling) g.spelling.tail (reverse old.parts.items) others p);
   is = ap (λ z. z ++ others) (under_under key run entries);
 }
 
 gone_cuts : (old new : Pending) (run : List ℕ) (q : ℕ) → GoesTo old run q new → IsCut old → IsCut new
 gone_cuts old new run q g c =
     let whole : IsUtf8 (bytes_of old.spelling ++ g.spelling.tail) = rw g.spelling.grows at (IsUtf8-string_bytes new.spelling.text) in
-    rw (g.spelling.grows, g.parts) (cuts_longer (bytes_of old.spelling) g.spelling.tail (reverse old.parts.items) (IsUtf8-string_bytes old.spelling.text) whole c)
+    rw (g.spelling.grows, g.parts) (cuts_longer (bytes_of old.spelling) g.spelling.tail (reverse old.parts.items)
+    (IsUtf8-string_bytes old.spelling.text) whole c)
 
 gone_work : (old new : Pending) (run : List ℕ) (p q : ℕ) → GoesTo old run q new → p < length (slice_values old.units) → p < q
     → work_left new < weight (length (slice_values old.units)) p + work_left old
@@ -77,7 +83,8 @@ gone_leads : (old new : Pending) (run : List ℕ) (p q : ℕ) (entries : List (L
     → Holds (slice_values old.units) q entries → IsFrom (p + 1) new
 gone_leads old new run p q entries g i h = (q, g.node, omega (arith, i), rw g.units (holds_below (slice_values old.units) h))
 
-pub gone_opens : (old new : Pending) (run : List ℕ) (p q : ℕ) (Stood : List (List ℕ × ℤ) → Type 0) → GoesTo old run q new → p < length (slice_values old.units) → p < q
+pub gone_opens : (old new : Pending) (run : List ℕ) (p q : ℕ) (Stood : List (List ℕ × ℤ) → Type 0) → GoesTo old run q new
+    → p < length (slice_values old.units) → p < q
     → ((first : List (List ℕ × ℤ)) → Stood first
     → (entries : List (List ℕ × ℤ)) × Holds (slice_values old.units) q entries × (first ≡ under run entries))
     → Opens old p Stood new
@@ -92,7 +99,8 @@ gone_opens old new run p q Stood g h i is = record {
 
 -- ---- where nothing is there, and where less is said
 
-pub nothing_opens : (old : Pending) (p : ℕ) (Stood : List (List ℕ × ℤ) → Type 0) → ((first : List (List ℕ × ℤ)) → Stood first → ⊥) → Opens old p Stood old
+pub nothing_opens : (old : Pending) (p : ℕ) (Stood : List (List ℕ × ℤ) → Type 0) → ((first : List (List ℕ × ℤ)) → Stood first → ⊥)
+    → Opens old p Stood old
 nothing_opens old p Stood never = record {
   units = refl;
   entries = λ key first others stood s pg. absurd (never first stood);
@@ -101,7 +109,8 @@ nothing_opens old p Stood never = record {
   work = omega (arith, weight_some (length (slice_values old.units)) p);
 }
 
-pub later_opens : (old new : Pending) (p q : ℕ) (Stood Stood' : List (List ℕ × ℤ) → Type 0) → Opens old q Stood' new → p ≤ q → ((first : List (List ℕ × ℤ)) → Stood first → Stood' first) → Opens old p Stood new
+pub later_opens : (old new : Pending) (p q : ℕ) (Stood Stood' : List (List ℕ × ℤ) → Type 0) → Opens old q Stood' new → p ≤ q
+    → ((first : List (List ℕ × ℤ)) → Stood first → Stood' first) → Opens old p Stood new
 later_opens old new p q Stood Stood' o h is = record {
   units = o.units;
   entries = λ key first others stood. o.entries key first others (is first stood);
@@ -120,38 +129,51 @@ arms_here units p n g m (arms, part, c) = part_begins units part g
 pub arms_next : (units : List ℕ) (p n : ℕ) → 1 < n → slice_get units (p + 1) ≡ None → (m : List (List ℕ × ℤ)) → ArmsHold units p n m → ⊥
 arms_next units p n many g m (arms, part, c) = part_goes_on units part many g
 
-pub arms_child : (units : List ℕ) (p n u v : ℕ) → 1 < n → n ≤ 5 → slice_get units p ≡ Some u → slice_get units (p + 1) ≡ Some v → entry_child units (p + 2) v ≡ None
+pub arms_child : (units : List ℕ) (p n u v : ℕ) → 1 < n → n ≤ 5 → slice_get units p ≡ Some u → slice_get units (p + 1) ≡ Some v
+    → entry_child units (p + 2) v ≡ None
     → (m : List (List ℕ × ℤ)) → ArmsHold units p n m → ⊥
 arms_child units p n u v many few hu hv none m (arms, part, c) = no_none (sym (entry_found units part many few u v hu hv).at ∙ none)
 
-pub arms_low : (units : List ℕ) (p n s d : ℕ) → 5 < n → slice_get units p ≡ Some s → slice_get units (p + 1) ≡ Some d → lower_part units (p + 2) d ≡ None
+pub arms_low : (units : List ℕ) (p n s d : ℕ) → 5 < n → slice_get units p ≡ Some s → slice_get units (p + 1) ≡ Some d
+    → lower_part units (p + 2) d ≡ None
     → (m : List (List ℕ × ℤ)) → ArmsHold units p n m → ⊥
 arms_low units p n s d many hs hd none m (arms, part, c) = no_none (sym (split_found units part many s d hs hd).at ∙ none)
 
 -- ---- a part that is put off
 
-off_parts : (old mid : Pending) (p n : ℕ) → PutsOff old p n mid → (key : List ℕ) (first others : List (List ℕ × ℤ)) → ArmsHold (slice_values old.units) p n first
-    → Spells (bytes_of old.spelling) old.spelling.held key → PartsGive (slice_values old.units) (bytes_of old.spelling) (reverse old.parts.items) others
+off_parts : (old mid : Pending) (p n : ℕ) → PutsOff old p n mid → (key : List ℕ) (first others : List (List ℕ × ℤ))
+    → ArmsHold (slice_values old.units) p n first
+    → Spells (bytes_of old.spelling) old.spelling.held key
+    → PartsGive (slice_values old.units) (bytes_of old.spelling) (reverse old.parts.items) others
     → PartsGive (slice_values mid.units) (bytes_of mid.spelling) (reverse mid.parts.items) (under key first ++ others)
 off_parts old mid p n o key first others h s pg =
-    let whole : take o.part.mark.len (bytes_of old.spelling) ≡ bytes_of old.spelling = take_all o.part.mark.len (bytes_of old.spelling) (omega (arith, o.len)) in
+    let whole : take o.part.mark.len (bytes_of old.spelling) ≡ bytes_of old.spelling =
+    take_all o.part.mark.len (bytes_of old.spelling) (omega (arith, o.len)) in
     rw (o.units, o.spelling, one_pushed old.parts.items mid.parts.items o.part o.parts)
     (key, first, others, rw (o.place, o.count) h, rw (whole, o.held) s, omega (arith, o.len), refl, rw whole pg)
 
 off_cuts : (old mid : Pending) (p n : ℕ) → PutsOff old p n mid → IsCut old → IsCut mid
 off_cuts old mid p n o c =
-    let whole : take o.part.mark.len (bytes_of old.spelling) ≡ bytes_of old.spelling = take_all o.part.mark.len (bytes_of old.spelling) (omega (arith, o.len)) in
+    let whole : take o.part.mark.len (bytes_of old.spelling) ≡ bytes_of old.spelling =
+    take_all o.part.mark.len (bytes_of old.spelling) (omega (arith, o.len)) in
     rw (o.spelling, one_pushed old.parts.items mid.parts.items o.part o.parts)
     (rw o.len (IsCharBoundary-end (bytes_of old.spelling)), rw whole c)
 
 off_work : (old mid : Pending) (p n : ℕ) → PutsOff old p n mid → work_left mid ≡ work_left old + weight (length (slice_values old.units)) p
 off_work old mid p n o =
-    rw (o.units, o.node, o.parts) (omega (arith, work_push (length (slice_values old.units)) old.parts.items o.part, ap (weight (length (slice_values old.units))) o.place))
+    rw (o.units, o.node, o.parts)
+    (omega (
+      arith,
+      work_push (length (slice_values old.units)) old.parts.items o.part,
+      ap (weight (length (slice_values old.units))) o.place,
+    ))
 
 -- a part of more than five entries
-pub split_opens : (old mid new : Pending) (p n s d low high : ℕ) → 5 < n → slice_get (slice_values old.units) p ≡ Some s → slice_get (slice_values old.units) (p + 1) ≡ Some d
+pub split_opens : (old mid new : Pending) (p n s d low high : ℕ) → 5 < n → slice_get (slice_values old.units) p ≡ Some s
+    → slice_get (slice_values old.units) (p + 1) ≡ Some d
     → lower_part (slice_values old.units) (p + 2) d ≡ Some low → high ≡ delta_end (p + 2) d → p < low → p < high
-    → PutsOff old high (n - n / 2) mid → Opens mid low (ArmsHold (slice_values mid.units) low (n / 2)) new → Opens old p (ArmsHold (slice_values old.units) p n) new
+    → PutsOff old high (n - n / 2) mid → Opens mid low (ArmsHold (slice_values mid.units) low (n / 2)) new
+    → Opens old p (ArmsHold (slice_values old.units) p n) new
 split_opens old mid new p n s d low high many hs hd hl at lower upper off o = record {
   units = o.units ∙ off.units;
   entries = λ key first others stood sp pg.
@@ -162,7 +184,8 @@ split_opens old mid new p n s d low high many hs hd hl at lower upper off o = re
       let above : ArmsHold (slice_values old.units) high (n - n / 2) c.high = rw at (t.upper, t.above, c.above) in
       let parts = off_parts old mid high (n - n / 2) off key c.high others above sp pg in
       let whole : under key first ++ others ≡ under key c.low ++ (under key c.high ++ others) =
-      ap (λ z. under key z ++ others) c.is ∙ ap (λ z. z ++ others) (under_append key c.low c.high) ∙ append_assoc (under key c.low) (under key c.high) others in
+      ap (λ z. under key z ++ others) c.is ∙ ap (λ z. z ++ others) (under_append key c.low c.high)
+      ∙ append_assoc (under key c.low) (under key c.high) others in
       rw whole (o.entries key c.low (under key c.high ++ others) below (rw off.spelling sp) parts);
   leads = λ first stood.
       let t = split_found (slice_values old.units) stood.1 many s d hs hd in
@@ -174,12 +197,14 @@ split_opens old mid new p n s d low high many hs hd hl at lower upper off o = re
   work =
       let within : p < length (slice_values old.units) = slice_get_within (slice_values old.units) p s hs in
       let two = weight_two (length (slice_values old.units)) p high low within upper lower in
-      let more : work_left new < weight (length (slice_values old.units)) low + work_left mid = subst (λ z. work_left new < weight (length (slice_values z)) low + work_left mid) off.units o.work in
+      let more : work_left new < weight (length (slice_values old.units)) low + work_left mid =
+      subst (λ z. work_left new < weight (length (slice_values z)) low + work_left mid) off.units o.work in
       omega (arith, two, more, off_work old mid high (n - n / 2) off);
 }
 
 -- the first of more than one entry in a row
-pub row_opens : (old mid new : Pending) (p n u v child rest : ℕ) → 1 < n → n ≤ 5 → slice_get (slice_values old.units) p ≡ Some u → slice_get (slice_values old.units) (p + 1) ≡ Some v
+pub row_opens : (old mid new : Pending) (p n u v child rest : ℕ) → 1 < n → n ≤ 5 → slice_get (slice_values old.units) p ≡ Some u
+    → slice_get (slice_values old.units) (p + 1) ≡ Some v
     → entry_child (slice_values old.units) (p + 2) v ≡ Some child → rest ≡ short_end (p + 2) (v % 0x8000) → p < child → p < rest
     → PutsOff old rest (n - 1) mid → GoesTo mid (u ∷ []) child new → Opens old p (ArmsHold (slice_values old.units) p n) new
 row_opens old mid new p n u v child rest many few hu hv hc at here behind off g = record {
@@ -192,7 +217,8 @@ row_opens old mid new p n u v child rest many few hu hv hc at here behind off g 
       let after : ArmsHold (slice_values old.units) rest (n - 1) c.others = rw at (t.rest, t.others, c.children) in
       let parts = off_parts old mid rest (n - 1) off key c.others others after sp pg in
       let whole : under key first ++ others ≡ under key (under (u ∷ []) c.first) ++ (under key c.others ++ others) =
-      ap (λ z. under key z ++ others) c.is ∙ ap (λ z. z ++ others) (under_append key (under (u ∷ []) c.first) c.others) ∙ append_assoc (under key (under (u ∷ []) c.first)) (under key c.others) others in
+      ap (λ z. under key z ++ others) c.is ∙ ap (λ z. z ++ others) (under_append key (under (u ∷ []) c.first) c.others)
+      ∙ append_assoc (under key (under (u ∷ []) c.first)) (under key c.others) others in
       rw whole (gone_entries mid new (u ∷ []) child g key c.first (under key c.others ++ others) node (rw off.spelling sp) parts);
   leads = λ first stood.
       let t = entry_found (slice_values old.units) stood.1 many few u v hu hv in

@@ -29,7 +29,8 @@ text_alone u more (inl h) = text_lone u more (λ p. omega arith)
 text_alone u more (inr h) = text_lone u more (λ p. omega arith)
 
 -- a unit that is no trail surrogate is not the second one
-pub text_apart : (u v : ℕ) (more : List ℕ) → (v < 0xDC00) ⊎ (0xE000 ≤ v) → key_text (u ∷ v ∷ more) ≡ encode_utf8 (lone u) ++ key_text (v ∷ more)
+pub text_apart : (u v : ℕ) (more : List ℕ) → (v < 0xDC00) ⊎ (0xE000 ≤ v)
+    → key_text (u ∷ v ∷ more) ≡ encode_utf8 (lone u) ++ key_text (v ∷ more)
 text_apart u v more (inl h) = text_lone u (v ∷ more) (λ p. omega arith)
 text_apart u v more (inr h) = text_lone u (v ∷ more) (λ p. omega arith)
 
@@ -46,13 +47,16 @@ on_then a b c r s h k = record {
 }
 
 -- a lead surrogate is held
-pub on_held : (a b : Spelling) (lead : LeadSurrogate) (u : ℕ) → a.held ≡ None → b.held ≡ Some lead → bytes_of b ≡ bytes_of a → lead.unit ≡ u → SpellsOn a (u ∷ []) b
+pub on_held : (a b : Spelling) (lead : LeadSurrogate) (u : ℕ) → a.held ≡ None → b.held ≡ Some lead → bytes_of b ≡ bytes_of a → lead.unit ≡ u
+    → SpellsOn a (u ∷ []) b
 on_held a b lead u n h e same = record { next = λ more. rw (n, h, e, same) refl; tail = []; grows = e ∙ sym (append-nil (bytes_of a)) }
 
 -- a unit that is no lead surrogate, where none is held
-pub on_alone : (a b : Spelling) (u : ℕ) → a.held ≡ None → b.held ≡ None → (u < 0xD800) ⊎ (0xDC00 ≤ u) → bytes_of b ≡ bytes_of a ++ encode_utf8 (lone u) → SpellsOn a (u ∷ []) b
+pub on_alone : (a b : Spelling) (u : ℕ) → a.held ≡ None → b.held ≡ None → (u < 0xD800) ⊎ (0xDC00 ≤ u)
+    → bytes_of b ≡ bytes_of a ++ encode_utf8 (lone u) → SpellsOn a (u ∷ []) b
 on_alone a b u n n' alone e = record {
-  next = λ more. rw (n, n', e) (ap (λ z. bytes_of a ++ z) (text_alone u more alone) ∙ sym (append_assoc (bytes_of a) (encode_utf8 (lone u)) (key_text more)));
+  next = λ more. rw (n, n', e) (ap (λ z. bytes_of a ++ z) (text_alone u more alone)
+      ∙ sym (append_assoc (bytes_of a) (encode_utf8 (lone u)) (key_text more)));
   tail = encode_utf8 (lone u);
   grows = e;
 }
@@ -62,7 +66,8 @@ pub on_pair : (a b : Spelling) (lead : LeadSurrogate) (u : ℕ) → a.held ≡ S
     → bytes_of b ≡ bytes_of a ++ encode_utf8 (surrogate_pair_char lead.unit u) → SpellsOn a (u ∷ []) b
 on_pair a b lead u h n from below e = record {
   next = λ more. rw (h, n, e)
-      (ap (λ z. bytes_of a ++ z) (text_pair lead.unit u more (lead.in_range.0, lead.in_range.1, from, below)) ∙ sym (append_assoc (bytes_of a) (encode_utf8 (surrogate_pair_char lead.unit u)) (key_text more)));
+      (ap (λ z. bytes_of a ++ z) (text_pair lead.unit u more (lead.in_range.0, lead.in_range.1, from, below))
+      ∙ sym (append_assoc (bytes_of a) (encode_utf8 (surrogate_pair_char lead.unit u)) (key_text more)));
   tail = encode_utf8 (surrogate_pair_char lead.unit u);
   grows = e;
 }
@@ -71,12 +76,15 @@ lone_lead : (lead : LeadSurrogate) → lone lead.unit ≡ 0xFFFD
 lone_lead lead = ap (λ o. unwrap_or o 0xFFFD) (lone_unit_char_surrogate lead.unit lead.in_range.0 (omega (arith, lead.in_range.1)))
 
 -- another unit after it: the one that was held is a lone surrogate
-pub on_apart : (a b c : Spelling) (lead : LeadSurrogate) (u : ℕ) → a.held ≡ Some lead → b.held ≡ None → (u < 0xDC00) ⊎ (0xE000 ≤ u) → bytes_of b ≡ bytes_of a ++ encode_utf8 0xFFFD
+pub on_apart : (a b c : Spelling) (lead : LeadSurrogate) (u : ℕ) → a.held ≡ Some lead → b.held ≡ None → (u < 0xDC00) ⊎ (0xE000 ≤ u)
+    → bytes_of b ≡ bytes_of a ++ encode_utf8 0xFFFD
     → SpellsOn b (u ∷ []) c → SpellsOn a (u ∷ []) c
 on_apart a b c lead u h n apart e s =
-    let first : (more : List ℕ) → bytes_of a ++ key_text (held_units a.held ++ (u ∷ more)) ≡ bytes_of b ++ key_text (held_units b.held ++ (u ∷ more)) =
+    let first : (more : List ℕ) → bytes_of a ++ key_text (held_units a.held ++ (u ∷ more))
+    ≡ bytes_of b ++ key_text (held_units b.held ++ (u ∷ more)) =
     λ more. rw (h, n, e)
-    (ap (λ z. bytes_of a ++ z) (text_apart lead.unit u more apart ∙ ap (λ z. encode_utf8 z ++ key_text (u ∷ more)) (lone_lead lead)) ∙ sym (append_assoc (bytes_of a) (encode_utf8 0xFFFD) (key_text (u ∷ more)))) in
+    (ap (λ z. bytes_of a ++ z) (text_apart lead.unit u more apart ∙ ap (λ z. encode_utf8 z ++ key_text (u ∷ more)) (lone_lead lead))
+    ∙ sym (append_assoc (bytes_of a) (encode_utf8 0xFFFD) (key_text (u ∷ more)))) in
     record {
       next = λ more. first more ∙ s.next more;
       tail = encode_utf8 0xFFFD ++ s.tail;
@@ -84,7 +92,8 @@ on_apart a b c lead u h n apart e s =
     }
 
 -- the key grows by the same units
-pub spells_on : (a b : Spelling) (run key : List ℕ) → SpellsOn a run b → Spells (bytes_of a) a.held key → Spells (bytes_of b) b.held (key ++ run)
+pub spells_on : (a b : Spelling) (run key : List ℕ) → SpellsOn a run b → Spells (bytes_of a) a.held key
+    → Spells (bytes_of b) b.held (key ++ run)
 spells_on a b run key s h = record { whole = λ more. ap key_text (append_assoc key run more) ∙ h.whole (run ++ more) ∙ s.next more }
 
 -- ---- the whole text, where a unit that is held is a lone surrogate
@@ -96,7 +105,8 @@ spelled_none text key s =
 pub spelled_held : (text key : List ℕ) (lead : LeadSurrogate) → Spells text (Some lead) key → text ++ encode_utf8 0xFFFD ≡ key_text key
 spelled_held text key lead s =
     let last : key_text (lead.unit ∷ []) ≡ encode_utf8 0xFFFD =
-    text_lone lead.unit [] (λ p. omega arith) ∙ ap (λ z. encode_utf8 z ++ key_text []) (lone_lead lead) ∙ ap (λ z. encode_utf8 0xFFFD ++ z) text_nil ∙ append-nil (encode_utf8 0xFFFD) in
+    text_lone lead.unit [] (λ p. omega arith) ∙ ap (λ z. encode_utf8 z ++ key_text []) (lone_lead lead)
+    ∙ ap (λ z. encode_utf8 0xFFFD ++ z) text_nil ∙ append-nil (encode_utf8 0xFFFD) in
     sym (ap key_text (sym (append-nil key)) ∙ s.whole [] ∙ ap (λ z. text ++ z) last)
 
 -- the empty key

@@ -17,7 +17,8 @@ use Rattle.icu_char16trie.proofs.SoundnessLemmas.{short_len, short_start, long_l
 
 -- ---- after one unit
 
-in_run_stands : (units : List ℕ) (p left u : ℕ) (m : UnitMap) (q : Place) → q ≡ run_place p left u (slice_get units p) → InRun units p (left + 1) m
+in_run_stands : (units : List ℕ) (p left u : ℕ) (m : UnitMap) (q : Place) → q ≡ run_place p left u (slice_get units p)
+    → InRun units p (left + 1) m
     → Stands units q (after u m)
 in_run_stands units p left u m q is r = by left refl (nat_eq x u) refl
   where
@@ -67,7 +68,8 @@ in_match_stands units u (no_length p low q zero' g is) h =
     let none : Some b.n ≡ None = sym b.len ∙ long_len units p low None (omega (arith, zero')) g in
     cc
 
-in_node_stands : (units : List ℕ) (u : ℕ) {p : ℕ} {q : Place} {m : UnitMap} → InNode units u p q → Holds units p m → Stands units q (after u m)
+in_node_stands : (units : List ℕ) (u : ℕ) {p : ℕ} {q : Place} {m : UnitMap} → InNode units u p q → Holds units p m
+    → Stands units q (after u m)
 unfolding after
 in_node_stands units u (no_lead p q g is) h = absurd (holds_within units h g)
 in_node_stands units u (at_final p lead q g big is) h =
@@ -98,7 +100,8 @@ along_stand : (units : List ℕ) (from : Place) (w : List ℕ) (q : Place) (m : 
     → Stands units q (after_all w m)
 unfolding after_all
 along_stand units from [] q m steps h = rw steps h
-along_stand units from (u ∷ w) q m steps h = along_stand units steps.0 w q (after u m) steps.2 (steps_stand units from u steps.0 m steps.1 h)
+along_stand units from (u ∷ w) q m steps h =
+    along_stand units steps.0 w q (after u m) steps.2 (steps_stand units from u steps.0 m steps.1 h)
 
 -- the value that the steps of a front lead to is that of the map
 front_is_value : (units : List ℕ) (m : UnitMap) (text : List ℕ) (k : ℕ) (v : Option ℤ) → IsTrieOf units m → HasFrontStepped units text k v

@@ -28,7 +28,8 @@ one_entry : (units : List ℕ) (u p n x : ℕ) (r o : Option ℕ) → n ≤ 1 �
 one_entry units u p n x r None few e = rw (le-ltb 1 n few) e
 one_entry units u p n x r (Some v) few e = rw (le-ltb 1 n few) e
 
-row_says : (units : List ℕ) (u : ℕ) {p n : ℕ} {r : Option ℕ} → InRow units u p n r → RowSays units u p n r (slice_get units p) (slice_get units (p + 1))
+row_says : (units : List ℕ) (u : ℕ) {p n : ℕ} {r : Option ℕ} → InRow units u p n r
+    → RowSays units u p n r (slice_get units p) (slice_get units (p + 1))
 row_says units u (gone p n r g e) = rw g e
 row_says units u (last p n x r few g e) = rw g (one_entry units u p n x r (slice_get units (p + 1)) few e)
 row_says units u (cut p n x r many g g' e) = rw (g, g', lt-ltb 1 n many) e
@@ -41,12 +42,14 @@ one_said units u p n x r (Some v) few s = rw (le-ltb 1 n few) at s
 
 row_one : (units : List ℕ) (u : ℕ) {p n : ℕ} {r r' : Option ℕ} → InRow units u p n r → InRow units u p n r' → r ≡ r'
 row_one units u {r' = r'} (gone p n r g e) y = let s : r' ≡ None = rw g at (row_says units u y) in e ∙ sym s
-row_one units u {r' = r'} (last p n x r few g e) y = e ∙ sym (one_said units u p n x r' (slice_get units (p + 1)) few (rw g at (row_says units u y)))
+row_one units u {r' = r'} (last p n x r few g e) y =
+    e ∙ sym (one_said units u p n x r' (slice_get units (p + 1)) few (rw g at (row_says units u y)))
 row_one units u {r' = r'} (cut p n x r many g g' e) y = let s : r' ≡ None = rw (g, g', lt-ltb 1 n many) at (row_says units u y) in e ∙ sym s
 row_one units u {r' = r'} (here p n v r many g g' e) y =
     let s : r' ≡ entry_child units (p + 2) v = rw (g, g', lt-ltb 1 n many, same_eqb u) at (row_says units u y) in e ∙ sym s
 row_one units u {r' = r'} (on p n x v r many g other g' d) y =
-    let s : InRow units u (short_end (p + 2) (v % 0x8000)) (n - 1) r' = rw (g, g', lt-ltb 1 n many, ne_eqb x u other) at (row_says units u y) in
+    let s : InRow units u (short_end (p + 2) (v % 0x8000)) (n - 1) r' =
+    rw (g, g', lt-ltb 1 n many, ne_eqb x u other) at (row_says units u y) in
     row_one units u d s
 
 -- the same of a part of a branch of more than five entries
@@ -60,7 +63,8 @@ SplitSays units u p n r (Some s) (Some d) =
     LowerSays None = r ≡ None
     LowerSays (Some q) = InPart units u q (n / 2) r
 
-split_says : (units : List ℕ) (u : ℕ) {p n : ℕ} {r : Option ℕ} → InPart units u p n r → 5 < n → SplitSays units u p n r (slice_get units p) (slice_get units (p + 1))
+split_says : (units : List ℕ) (u : ℕ) {p n : ℕ} {r : Option ℕ} → InPart units u p n r → 5 < n
+    → SplitSays units u p n r (slice_get units p) (slice_get units (p + 1))
 split_says units u (row p n r few d) many = absurd (omega arith)
 split_says units u (no_split p n r _ g e) many = rw g e
 split_says units u (no_delta p n s r _ g g' e) many = rw (g, g') e
@@ -85,7 +89,8 @@ part_one units u {r' = r'} (cut_delta p n s d r many g b g' l e) y =
 part_one units u {r' = r'} (lower p n s d q r many g b g' l i) y =
     let s' : InPart units u q (n / 2) r' = rw (g, g', lt-ltb u s b, l) at (split_says units u y many) in part_one units u i s'
 part_one units u {r' = r'} (upper p n s d r many g b g' i) y =
-    let s' : InPart units u (delta_end (p + 2) d) (n - n / 2) r' = rw (g, g', le-ltb u s b) at (split_says units u y many) in part_one units u i s'
+    let s' : InPart units u (delta_end (p + 2) d) (n - n / 2) r' = rw (g, g', le-ltb u s b) at (split_says units u y many) in
+    part_one units u i s'
 
 -- ---- at a match node, at a node, anywhere
 
@@ -119,12 +124,14 @@ node_one units u (at_final p lead to g h e) (at_plain _ lead' to' g' h' i') = le
 node_one units u (at_final p lead to g h e) (at_valued _ lead' to' g' h' l' i') = let same : lead' ≡ lead = cc in absurd (omega arith)
 node_one units u (at_plain p lead to g h i) (no_lead _ to' g' e') = cc
 node_one units u (at_plain p lead to g h i) (at_final _ lead' to' g' h' e') = let same : lead' ≡ lead = cc in absurd (omega arith)
-node_one units u (at_plain p lead to g h i) (at_plain _ lead' to' g' h' i') = let same : lead' ≡ lead = cc in match_one units u i (rw same at i')
+node_one units u (at_plain p lead to g h i) (at_plain _ lead' to' g' h' i') = let same : lead' ≡ lead = cc in
+    match_one units u i (rw same at i')
 node_one units u (at_plain p lead to g h i) (at_valued _ lead' to' g' h' l' i') = let same : lead' ≡ lead = cc in absurd (omega arith)
 node_one units u (at_valued p lead to g h l i) (no_lead _ to' g' e') = cc
 node_one units u (at_valued p lead to g h l i) (at_final _ lead' to' g' h' e') = let same : lead' ≡ lead = cc in absurd (omega arith)
 node_one units u (at_valued p lead to g h l i) (at_plain _ lead' to' g' h' i') = let same : lead' ≡ lead = cc in absurd (omega arith)
-node_one units u (at_valued p lead to g h l i) (at_valued _ lead' to' g' h' l' i') = let same : lead' ≡ lead = cc in match_one units u i (rw same at i')
+node_one units u (at_valued p lead to g h l i) (at_valued _ lead' to' g' h' l' i') = let same : lead' ≡ lead = cc in
+    match_one units u i (rw same at i')
 
 pub steps_one : (units : List ℕ) (from : Place) (u : ℕ) (to to' : Place) → StepsTo units from u to → StepsTo units from u to' → to ≡ to'
 steps_one units Nowhere u to to' h h' = h ∙ sym h'

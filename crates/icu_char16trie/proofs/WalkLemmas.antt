@@ -55,13 +55,15 @@ nothing_read old new w none never less = record {
 less_nowhere : (old new : Pending) (p : ℕ) → IsWithout old new → old.node ≡ Some p → work_from new (At Nowhere) < work_left old
 less_nowhere old new p w n = rw (w.units, w.parts, n) (omega (arith, weight_some (length (slice_values old.units)) p))
 
-pub absent_read : (old new : Pending) (p : ℕ) → IsWithout old new → old.node ≡ Some p → slice_get (slice_values old.units) p ≡ None → ReadsNode old (At Nowhere) None new
+pub absent_read : (old new : Pending) (p : ℕ) → IsWithout old new → old.node ≡ Some p → slice_get (slice_values old.units) p ≡ None
+    → ReadsNode old (At Nowhere) None new
 absent_read old new p w n g =
     nothing_read old new w
     (λ m h. let at = rw n at h.node in at.2 ∙ ap (under h.key) (stands_absent (slice_values old.units) p at.0 at.1 g))
     (λ k. from_gone old k p n g) (omega (arith, less_nowhere old new p w n))
 
-below_gives : (units : List ℕ) (p lead : ℕ) (rest : UnitMap) → (0x8000 ≤ lead → rest ≡ []) → (lead < 0x8000 → Matches units (node_end p lead) (lead % 64) rest) → FrontGives units (below p lead) rest
+below_gives : (units : List ℕ) (p lead : ℕ) (rest : UnitMap) → (0x8000 ≤ lead → rest ≡ [])
+    → (lead < 0x8000 → Matches units (node_end p lead) (lead % 64) rest) → FrontGives units (below p lead) rest
 below_gives units p lead rest last match = by (nat_le 0x8000 lead) refl
   where
     by : (b : Bool) → nat_le 0x8000 lead ≡ b → FrontGives units (below p lead) rest
@@ -101,10 +103,13 @@ node_behind p lead = by (nat_lt (lead / 64 - 1) 0x100) (nat_lt (lead / 64 - 1) 0
     by false false e f = rw (e, f) (omega arith)
 
 -- what a node with or without a value tells
-node_tells : (value : Option ℤ) (key : List ℕ) (rest others m : UnitMap) (front : Front) (new : Pending) → m ≡ under key (own value ++ rest) ++ others
-    → Spells (bytes_of new.spelling) new.spelling.held key → FrontGives (slice_values new.units) front rest → PartsGive (slice_values new.units) (bytes_of new.spelling) (reverse new.parts.items) others
+node_tells : (value : Option ℤ) (key : List ℕ) (rest others m : UnitMap) (front : Front) (new : Pending)
+    → m ≡ under key (own value ++ rest) ++ others
+    → Spells (bytes_of new.spelling) new.spelling.held key → FrontGives (slice_values new.units) front rest
+    → PartsGive (slice_values new.units) (bytes_of new.spelling) (reverse new.parts.items) others
     → TellsNode m value front new
-node_tells None key rest others m front new e s f p = record { key = key; first = rest; others = others; spelled = s; next = f; parts = p; is = e }
+node_tells None key rest others m front new e s f p =
+    record { key = key; first = rest; others = others; spelled = s; next = f; parts = p; is = e }
 node_tells (Some v) key rest others m front new e s f p = (
   key,
   under key rest ++ others,
@@ -113,20 +118,26 @@ node_tells (Some v) key rest others m front new e s f p = (
   record { key = key; first = rest; others = others; spelled = s; next = f; parts = p; is = refl },
 )
 
-node_has : (units : List ℕ) (p lead : ℕ) (value : Option ℤ) → slice_get units p ≡ Some lead → value ≡ value_by units (p + 1) lead → IfSome value (IsNodeValue units)
+node_has : (units : List ℕ) (p lead : ℕ) (value : Option ℤ) → slice_get units p ≡ Some lead → value ≡ value_by units (p + 1) lead
+    → IfSome value (IsNodeValue units)
 node_has units p lead None g e = tt
 node_has units p lead (Some v) g e = (p, rw g (sym e))
 
-pub lead_read : (old new : Pending) (p lead : ℕ) (front : Front) (value : Option ℤ) → IsWithout old new → old.node ≡ Some p → slice_get (slice_values old.units) p ≡ Some lead
-    → front ≡ below (p + 1) lead → IsNearFront front → value ≡ value_by (slice_values old.units) (p + 1) lead → p < node_end (p + 1) lead → ReadsNode old front value new
+pub lead_read : (old new : Pending) (p lead : ℕ) (front : Front) (value : Option ℤ) → IsWithout old new → old.node ≡ Some p
+    → slice_get (slice_values old.units) p ≡ Some lead
+    → front ≡ below (p + 1) lead → IsNearFront front → value ≡ value_by (slice_values old.units) (p + 1) lead → p < node_end (p + 1) lead
+    → ReadsNode old front value new
 lead_read old new p lead front value w n g at near is behind = record {
   units = w.units;
   entries = λ m h.
       let here = rw n at h.node in
       let b = stands_by (slice_values old.units) p lead here.0 here.1 g in
-      let whole : m ≡ under h.key (own value ++ b.rest) ++ h.others = h.is ∙ ap (λ z. z ++ h.others) (here.2 ∙ ap (under h.key) (b.is ∙ ap (λ z. own z ++ b.rest) (sym is))) in
-      let next : FrontGives (slice_values old.units) front b.rest = rw at (below_gives (slice_values old.units) (p + 1) lead b.rest b.last b.node) in
-      node_tells value h.key b.rest h.others m front new whole (rw w.spelling h.spelled) (rw w.units next) (rw (w.units, w.spelling, w.parts) h.parts);
+      let whole : m ≡ under h.key (own value ++ b.rest) ++ h.others =
+      h.is ∙ ap (λ z. z ++ h.others) (here.2 ∙ ap (under h.key) (b.is ∙ ap (λ z. own z ++ b.rest) (sym is))) in
+      let next : FrontGives (slice_values old.units) front b.rest =
+      rw at (below_gives (slice_values old.units) (p + 1) lead b.rest b.last b.node) in
+      node_tells value h.key b.rest h.others m front new whole (rw w.spelling h.spelled) (rw w.units next)
+      (rw (w.units, w.spelling, w.parts) h.parts);
   some_value = node_has (slice_values old.units) p lead value g is;
   cuts = without_cuts old new w;
   leads = λ none k from. rw at (below_past (slice_values old.units) p lead k (sym is ∙ none) (from_le old k p n from) behind);
@@ -146,7 +157,8 @@ plain_ends s h = record {
   text = λ key sp. rw h (spelled_none (bytes_of s.pending.spelling) key (rw h at sp));
 }
 
-pub held_ends : (old new : Walk) (lead : LeadSurrogate) → new.pending ≡ old.pending → new.front ≡ old.front → new.value ≡ old.value → old.pending.spelling.held ≡ Some lead
+pub held_ends : (old new : Walk) (lead : LeadSurrogate) → new.pending ≡ old.pending → new.front ≡ old.front → new.value ≡ old.value
+    → old.pending.spelling.held ≡ Some lead
     → string_bytes new.ended ≡ bytes_of old.pending.spelling ++ encode_utf8 0xFFFD → EndsKey old new
 held_ends old new lead p f v h e = record {
   pending = p;
@@ -189,7 +201,8 @@ entry_found first new old mid v told i k r tv e = record {
   work = λ _. rw (e.pending, e.front) (omega (arith, r.work, k.work, i.work));
 }
 
-pub none_found : (first new : Walk) (old : Pending) → IsOpened first old → Keeps old new.pending → IsOver new.pending → FindsEntry first false new
+pub none_found : (first new : Walk) (old : Pending) → IsOpened first old → Keeps old new.pending → IsOver new.pending
+    → FindsEntry first false new
 none_found first new old i k o = record {
   units = k.units ∙ i.units;
   entries = λ m g. over_gives new.pending m o (k.entries m (i.entries m g));
@@ -210,7 +223,8 @@ no_more_found first new k i all past = record {
 }
 
 -- what stands at a place is still to come, under the empty key
-pub place_gives : (s : Pending) (place : Place) (m : UnitMap) → bytes_of s.spelling ≡ [] → s.spelling.held ≡ None → s.parts.items ≡ [] → Stands (slice_values s.units) place m → GivesFrom s (At place) m
+pub place_gives : (s : Pending) (place : Place) (m : UnitMap) → bytes_of s.spelling ≡ [] → s.spelling.held ≡ None → s.parts.items ≡ []
+    → Stands (slice_values s.units) place m → GivesFrom s (At place) m
 place_gives s place m t h p stood = record {
   key = [];
   first = m;

@@ -34,7 +34,8 @@ pub weight_some : (len p : ℕ) → 0 < weight len p
 unfolding weight
 weight_some len p = one-le-pow (len + 1 - p) 3 (omega arith)
 
-pub work_push : (len : ℕ) (parts : List BranchPart) (part : BranchPart) → parts_work len (parts ++ part ∷ []) ≡ parts_work len parts + weight len part.place
+pub work_push : (len : ℕ) (parts : List BranchPart) (part : BranchPart)
+    → parts_work len (parts ++ part ∷ []) ≡ parts_work len parts + weight len part.place
 unfolding parts_work
 work_push len parts part = omega (arith, sum_by-append (λ (t : BranchPart). weight len t.place) parts (part ∷ []))
 

@@ -54,10 +54,12 @@ ascends_push s u [] b h a = (tt, tt)
 ascends_push s u (x ∷ us) b h a = (from_push x s u us b.0 h a.0, ascends_push s u us b.1 h a.1)
 
 -- one more arm, whose unit is above the others
-pub arm_below_push : (s : ℕ) (arms : List Arm) (a : Arm) → Below s (arm_units arms) → s ≤ a.unit → Below (a.unit + 1) (arm_units (arms ++ a ∷ []))
+pub arm_below_push : (s : ℕ) (arms : List Arm) (a : Arm) → Below s (arm_units arms) → s ≤ a.unit
+    → Below (a.unit + 1) (arm_units (arms ++ a ∷ []))
 arm_below_push s arms a b h = rw (arm_units_append arms (a ∷ [])) (below_push s a.unit (arm_units arms) b h)
 
-pub arm_ascends_push : (s : ℕ) (arms : List Arm) (a : Arm) → Below s (arm_units arms) → s ≤ a.unit → Ascends (arm_units arms) → Ascends (arm_units (arms ++ a ∷ []))
+pub arm_ascends_push : (s : ℕ) (arms : List Arm) (a : Arm) → Below s (arm_units arms) → s ≤ a.unit → Ascends (arm_units arms)
+    → Ascends (arm_units (arms ++ a ∷ []))
 arm_ascends_push s arms a b h k = rw (arm_units_append arms (a ∷ [])) (ascends_push s a.unit (arm_units arms) b h k)
 
 ascends_left : (us vs : List ℕ) → Ascends (us ++ vs) → Ascends us
@@ -94,7 +96,8 @@ pub record SplitArms (lower upper : List Arm) (x : ℕ) : Type 0 where
   pub below : Below x (arm_units lower)
   pub from : From x (arm_units upper)
 
-pub split_arms : (all lower upper rest : List Arm) (a : Arm) → all ≡ lower ++ upper → upper ≡ a ∷ rest → Ascends (arm_units all) → SplitArms lower upper a.unit
+pub split_arms : (all lower upper rest : List Arm) (a : Arm) → all ≡ lower ++ upper → upper ≡ a ∷ rest → Ascends (arm_units all)
+    → SplitArms lower upper a.unit
 split_arms all lower upper rest a e f h =
     let g : Ascends (arm_units lower ++ arm_units upper) = subst (λ z. Ascends z) (ap arm_units e ∙ arm_units_append lower upper) h in
     let up : Ascends (arm_units upper) = ascends_right (arm_units lower) (arm_units upper) g in
@@ -134,15 +137,19 @@ some_count d u es (suc count) h out = omega arith
 -- a first unit is one of the keys' first units
 first_begin : (d u s : ℕ) (es : List Entry) → unit_of es d ≡ Some u → AllBeginFrom s (cut d es) → s ≤ u
 first_begin d u s [] h b = absurd (none-some _ h)
-first_begin d u s (e ∷ es) h b = let c : BeginsFrom s (u ∷ drop (d + 1) e.key.now) = subst (λ z. BeginsFrom s z) (drop_here e.key.now d u h) b.0 in c
+first_begin d u s (e ∷ es) h b = let c : BeginsFrom s (u ∷ drop (d + 1) e.key.now) =
+    subst (λ z. BeginsFrom s z) (drop_here e.key.now d u h) b.0 in c
 
 -- all keys begin from the first one's unit
 all_from_first : (d u : ℕ) (es : List Entry) → unit_of es d ≡ Some u → IsAscendingKeys (cut d es) → AllBeginFrom u (cut d es)
 all_from_first d u [] h a = tt
 all_from_first d u (e ∷ es) h a =
     let same : drop d e.key.now ≡ u ∷ drop (d + 1) e.key.now = drop_here e.key.now d u h in
-    let here : BeginsFrom u (u ∷ drop (d + 1) e.key.now) = omega arith in
-    (subst (λ z. BeginsFrom u z) (sym same) here, begin_above u (drop (d + 1) e.key.now) (cut d es) (subst (λ z. KeyBelowAll z (cut d es)) same a.0))
+    let here : BeginsFrom u (u ∷ drop (d + 1) e.key.now) = omega arith in (
+      subst (λ z. BeginsFrom u z) (sym same) here,
+      begin_above u (drop (d + 1) e.key.now) (cut d es)
+          (subst (λ z. KeyBelowAll z (cut d es)) same a.0),
+    )
 
 not_empty : (d u : ℕ) (es : List Entry) → unit_of es d ≡ Some u → (e : Entry) × (rest : List Entry) × (es ≡ e ∷ rest)
 not_empty d u [] h = absurd (none-some _ h)
@@ -164,16 +171,35 @@ arms_step d u count all rest others arms a so fits first is_u is_group is_others
     let many : 0 < length group' = group_here d u e.0 e.1 group' count some (is_group ∙ ap (take count) e.2) in
     let s_u : so.s ≤ u = first_begin d u so.s rest first so.behind in
     let s_a : so.s ≤ a.unit = omega (arith, s_u, is_u) in
-    let from : AllBeginFrom u (cut d others) = begin_right u (cut d group') (cut d others) (subst (λ z. AllBeginFrom u z) cuts (all_from_first d u rest first so.ascends)) in
+    let from : AllBeginFrom u (cut d others) =
+    begin_right u (cut d group') (cut d others) (subst (λ z. AllBeginFrom u z) cuts (all_from_first d u rest first so.ascends)) in
     let out' : unit_of others d ≡ Some u → ⊥ = λ h. out (subst (λ z. unit_of z d ≡ Some u) is_others h) in
-    let arm_is : arm_map (d + 1) (a ∷ []) ≡ cut d group' = append-nil (under (a.unit ∷ []) (cut (d + 1) group')) ∙ ap (λ z. under (z ∷ []) (cut (d + 1) group')) is_u ∙ sym stands in
-    let maps : arm_map (d + 1) (arms ++ a ∷ []) ≡ arm_map (d + 1) arms ++ cut d group' = arm_map_append (d + 1) arms (a ∷ []) ∙ ap (λ z. arm_map (d + 1) arms ++ z) arm_is in (
+    let arm_is : arm_map (d + 1) (a ∷ []) ≡ cut d group' = append-nil (under (a.unit ∷ []) (cut (d + 1) group'))
+    ∙ ap (λ z. under (z ∷ []) (cut (d + 1) group')) is_u ∙ sym stands in
+    let maps : arm_map (d + 1) (arms ++ a ∷ []) ≡ arm_map (d + 1) arms ++ cut d group' =
+    arm_map_append (d + 1) arms (a ∷ []) ∙ ap (λ z. arm_map (d + 1) arms ++ z) arm_is in (
       many,
       record {
-        map = ap (λ z. z ++ cut d others) maps ∙ append_assoc (arm_map (d + 1) arms) (cut d group') (cut d others) ∙ ap (λ z. arm_map (d + 1) arms ++ z) (sym cuts) ∙ so.map;
-        below = are_below_append (d + 1) arms (a ∷ []) so.below
-            ((many, ascends_strip (u ∷ []) (cut (d + 1) group') (subst (λ z. IsAscendingKeys z) stands (ascends_left_map (cut d group') (cut d others) up))), tt);
-        room = omega (arith, so.room, arm_room_append (d + 1) arms (a ∷ []), length-append arms (a ∷ []), ap (room d) split, room_append d group' others, room_group d u group' is_g, many);
+        map = ap (λ z. z ++ cut d others) maps ∙ append_assoc (arm_map (d + 1) arms) (cut d group') (cut d others)
+            ∙ ap (λ z. arm_map (d + 1) arms ++ z) (sym cuts) ∙ so.map;
+        below = are_below_append (d + 1) arms (a ∷ []) so.below (
+          (
+            many,
+            ascends_strip (u ∷ []) (cut (d + 1) group')
+                (subst (λ z. IsAscendingKeys z) stands (ascends_left_map (cut d group') (cut d others) up)),
+          ),
+          tt,
+        );
+        room = omega (
+          arith,
+          so.room,
+          arm_room_append (d + 1) arms (a ∷ []),
+          length-append arms (a ∷ []),
+          ap (room d) split,
+          room_append d group' others,
+          room_group d u group' is_g,
+          many,
+        );
         longer = longer_right d group' others (subst (λ z. AllLonger d z) split so.longer);
         ascends = ascends_right_map (cut d group') (cut d others) up;
         up = arm_ascends_push so.s arms a so.before s_a so.up;
@@ -193,12 +219,16 @@ longer_some d (e ∷ es) h n = absurd (some_none (get_or e.key.now d 0) (sym (sl
     some_none : (x : ℕ) → ◌≡◌ {A = Option ℕ} (Some x) None → ⊥
     some_none x h = cc
 
-pub arms_step_at : (d u count start : ℕ) (all rest group : List Entry) (arms arms' : List Arm) (a : Arm) (o : Option ℕ) → rest ≡ drop start all
-    → ArmsSoFar d all (drop start all) arms → u < 2 ^ 16 → o ≡ unit_of rest d → o ≡ Some u → a.unit ≡ u → a.entries.now ≡ group → group ≡ take count rest → length group ≡ count
-    → IsGroup d u (take count rest) → (unit_of (drop count rest) d ≡ Some u → ⊥) → arms' ≡ arms ++ a ∷ [] → ArmsSoFar d all (drop (start + length group) all) arms'
+pub arms_step_at : (d u count start : ℕ) (all rest group : List Entry) (arms arms' : List Arm) (a : Arm) (o : Option ℕ)
+    → rest ≡ drop start all
+    → ArmsSoFar d all (drop start all) arms → u < 2 ^ 16 → o ≡ unit_of rest d → o ≡ Some u → a.unit ≡ u → a.entries.now ≡ group
+    → group ≡ take count rest → length group ≡ count
+    → IsGroup d u (take count rest) → (unit_of (drop count rest) d ≡ Some u → ⊥) → arms' ≡ arms ++ a ∷ []
+    → ArmsSoFar d all (drop (start + length group) all) arms'
 arms_step_at d u count start all rest group arms arms' a o e so fits f g is_u is_g is_group len grouped out is_arms =
     let first : unit_of rest d ≡ Some u = sym f ∙ g in
-    let place : drop (start + length group) all ≡ drop count rest = ap (λ z. drop (start + z) all) len ∙ sym (drop-drop count start all) ∙ ap (drop count) (sym e) in
+    let place : drop (start + length group) all ≡ drop count rest = ap (λ z. drop (start + z) all) len ∙ sym (drop-drop count start all)
+    ∙ ap (drop count) (sym e) in
     let so' : ArmsSoFar d all rest arms = subst (λ z. ArmsSoFar d all z arms) (sym e) so in
     subst (λ z. ArmsSoFar d all (drop (start + length group) all) z) (sym is_arms)
     (arms_step d u count all rest (drop (start + length group) all) arms a so' fits first is_u (is_g ∙ is_group) place grouped out).1
@@ -207,12 +237,14 @@ pub part_low : (d : ℕ) (arms lower upper : List Arm) → arms ≡ lower ++ upp
 part_low d arms lower upper e some h = record {
   some = some;
   below = are_below_left d lower upper (subst (λ z. AreBelow d z) e h.below);
-  ascends = ascends_left (arm_units lower) (arm_units upper) (subst (λ z. Ascends z) (ap arm_units e ∙ arm_units_append lower upper) h.ascends);
+  ascends = ascends_left (arm_units lower) (arm_units upper)
+      (subst (λ z. Ascends z) (ap arm_units e ∙ arm_units_append lower upper) h.ascends);
 }
 
 pub part_high : (d : ℕ) (arms lower upper : List Arm) → arms ≡ lower ++ upper → 0 < length upper → IsPart d arms → IsPart d upper
 part_high d arms lower upper e some h = record {
   some = some;
   below = are_below_right d lower upper (subst (λ z. AreBelow d z) e h.below);
-  ascends = ascends_right (arm_units lower) (arm_units upper) (subst (λ z. Ascends z) (ap arm_units e ∙ arm_units_append lower upper) h.ascends);
+  ascends = ascends_right (arm_units lower) (arm_units upper)
+      (subst (λ z. Ascends z) (ap arm_units e ∙ arm_units_append lower upper) h.ascends);
 }

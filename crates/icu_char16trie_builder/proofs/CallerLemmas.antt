@@ -46,10 +46,12 @@ value_by key v e m rest w Equal h r = twice (same_key key w) (same_key e.0 w) (a
     twice false false h = refl
 value_by key v e m rest w Greater h r =
     ap (λ z. cond (same_key e.0 w) (Some e.1) z) r
-    ∙ swapped key e.0 w (Some v) (Some e.1) (value_of m w) (λ a b. not_below key e.0 (same_key_eq key w a ∙ sym (same_key_eq e.0 w b)) (h.greater refl))
+    ∙ swapped key e.0 w (Some v) (Some e.1) (value_of m w)
+    (λ a b. not_below key e.0 (same_key_eq key w a ∙ sym (same_key_eq e.0 w b)) (h.greater refl))
 
 -- each key has the value that it was added with
-pub value_of-with_entry : (key : List ℕ) (v : ℤ) (m : UnitMap) (w : List ℕ) → value_of (with_entry key v m) w ≡ cond (same_key key w) (Some v) (value_of m w)
+pub value_of-with_entry : (key : List ℕ) (v : ℤ) (m : UnitMap) (w : List ℕ)
+    → value_of (with_entry key v m) w ≡ cond (same_key key w) (Some v) (value_of m w)
 unfolding with_entry value_of
 value_of-with_entry key v [] w = refl
 value_of-with_entry key v (e ∷ m) w =
@@ -90,7 +92,8 @@ not_first key e m new =
     both p t f = cc
 
 -- a key that is new takes its own room
-pub most_units-with_entry : (key : List ℕ) (v : ℤ) (m : UnitMap) → value_of m key ≡ None → most_units (with_entry key v m) ≡ 2 * length key + 16 + most_units m
+pub most_units-with_entry : (key : List ℕ) (v : ℤ) (m : UnitMap) → value_of m key ≡ None
+    → most_units (with_entry key v m) ≡ 2 * length key + 16 + most_units m
 unfolding with_entry most_units
 most_units-with_entry key v [] new = refl
 most_units-with_entry key v (e ∷ m) new =

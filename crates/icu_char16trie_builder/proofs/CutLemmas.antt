@@ -52,7 +52,8 @@ ascends_strip front (e ∷ m) h = (below_strip front e.0 m h.0, ascends_strip fr
 
 pub under_append : (a b : List ℕ) (m : UnitMap) → under (a ++ b) m ≡ under a (under b m)
 under_append a b [] = refl
-under_append a b (e ∷ m) = ap (λ z. ((a ++ b) ++ e.0, e.1) ∷ z) (under_append a b m) ∙ ap (λ z. (z, e.1) ∷ under a (under b m)) (append_assoc a b e.0)
+under_append a b (e ∷ m) = ap (λ z. ((a ++ b) ++ e.0, e.1) ∷ z) (under_append a b m)
+    ∙ ap (λ z. (z, e.1) ∷ under a (under b m)) (append_assoc a b e.0)
 
 -- ---- keys that go on beyond d
 
@@ -90,11 +91,14 @@ longer_begin d (e ∷ es) h = (longer_one d e.key.now h.0, longer_begin d es h.1
 drop_on : (d k : ℕ) (key : List ℕ) → drop k (drop d key) ≡ drop (d + k) key
 drop_on d k key = drop-drop k d key
 
-shared_one : (d k : ℕ) (first key : List ℕ) → k ≤ length first → take k (drop d key) ≡ take k first → drop d key ≡ take k first ++ drop (d + k) key
-shared_one d k first key h e = sym (take-append-drop k (drop d key)) ∙ ap (λ z. z ++ drop k (drop d key)) e ∙ ap (λ z. take k first ++ z) (drop_on d k key)
+shared_one : (d k : ℕ) (first key : List ℕ) → k ≤ length first → take k (drop d key) ≡ take k first
+    → drop d key ≡ take k first ++ drop (d + k) key
+shared_one d k first key h e = sym (take-append-drop k (drop d key)) ∙ ap (λ z. z ++ drop k (drop d key)) e
+    ∙ ap (λ z. take k first ++ z) (drop_on d k key)
 
 -- entries whose keys share units stand under these
-pub cut_shared : (d k : ℕ) (first : List ℕ) (es : List Entry) → k ≤ length first → AllShare d k first es → cut d es ≡ under (take k first) (cut (d + k) es)
+pub cut_shared : (d k : ℕ) (first : List ℕ) (es : List Entry) → k ≤ length first → AllShare d k first es
+    → cut d es ≡ under (take k first) (cut (d + k) es)
 cut_shared d k first [] h a = refl
 cut_shared d k first (e ∷ es) h a =
     ap (λ z. (drop d e.key.now, e.value) ∷ z) (cut_shared d k first es h a.1)
@@ -162,10 +166,15 @@ pub begin_above : (x : ℕ) (a : List ℕ) (m : UnitMap) → KeyBelowAll (x ∷ 
 begin_above x a [] h = tt
 begin_above x a (e ∷ m) h = (begins_above x a e.0 h.0, begin_above x a m h.1)
 
-next_by : (u : ℕ) (key : List ℕ) (v : ℤ) (m : UnitMap) → AllBeginFrom u ((key, v) ∷ m) → IsAscendingKeys ((key, v) ∷ m) → (slice_get key 0 ≡ Some u → ⊥) → AllBeginFrom (u + 1) ((key, v) ∷ m)
+next_by : (u : ℕ) (key : List ℕ) (v : ℤ) (m : UnitMap) → AllBeginFrom u ((key, v) ∷ m) → IsAscendingKeys ((key, v) ∷ m)
+    → (slice_get key 0 ≡ Some u → ⊥) → AllBeginFrom (u + 1) ((key, v) ∷ m)
 next_by u [] v m b h out = absurd b.0
 next_by u (x ∷ key) v m b h out =
-    let above : u + 1 ≤ x = elim (cases_lt u x) [ inl lt ↦ omega (arith, lt) | inr le ↦ let same : x ≡ u = omega (arith, le, b.0) in absurd (out (ap Some same)) ] in
+    let above : u + 1 ≤ x = elim (cases_lt u x) [
+      | inl lt ↦ omega (arith, lt)
+      | inr le ↦ let same : x ≡ u = omega (arith, le, b.0) in
+          absurd (out (ap Some same))
+    ] in
     (above, all_begin_more (u + 1) x m above (begin_above x key m h.0))
 
 pub first_at : (key : List ℕ) (d : ℕ) → slice_get (drop d key) 0 ≡ slice_get key d
@@ -174,7 +183,8 @@ first_at [] (suc d) = refl
 first_at (x ∷ key) (suc d) = first_at key d
 
 -- behind a group the keys begin with a greater unit
-pub next_begin : (d u : ℕ) (es : List Entry) → AllBeginFrom u (cut d es) → IsAscendingKeys (cut d es) → (unit_of es d ≡ Some u → ⊥) → AllBeginFrom (u + 1) (cut d es)
+pub next_begin : (d u : ℕ) (es : List Entry) → AllBeginFrom u (cut d es) → IsAscendingKeys (cut d es) → (unit_of es d ≡ Some u → ⊥)
+    → AllBeginFrom (u + 1) (cut d es)
 next_begin d u [] b h out = tt
 next_begin d u (e ∷ es) b h out = next_by u (drop d e.key.now) e.value (cut d es) b h (λ g. out (sym (first_at e.key.now d) ∙ g))
 
@@ -186,7 +196,8 @@ group_more d u zero (e ∷ es) g h = (h, tt)
 group_more d u (suc i) [] g h = tt
 group_more d u (suc i) (e ∷ es) g h = (g.0, group_more d u i es g.1 h)
 
-pub share_more : (d j k i : ℕ) (first : List ℕ) (es : List Entry) → j ≤ k → AllShare d k first (take i es) → AllShare d j first (take 1 (drop i es)) → AllShare d j first (take (suc i) es)
+pub share_more : (d j k i : ℕ) (first : List ℕ) (es : List Entry) → j ≤ k → AllShare d k first (take i es)
+    → AllShare d j first (take 1 (drop i es)) → AllShare d j first (take (suc i) es)
 share_more d j k zero first es h a b = b
 share_more d j k (suc i) first [] h a b = tt
 share_more d j k (suc i) first (e ∷ es) h a b = (take_less j k (drop d e.key.now) first h a.0, share_more d j k i first es h a.1 b)
@@ -208,13 +219,16 @@ is_by o u r e h = option_is o u (cases (option_eq nat_eq o (Some u)) (sym h ∙ 
     cases false h = cc
 
 -- a step of the loop that looks for the units that all keys share
-pub share_step : (d j k i : ℕ) (units part : List ℕ) (es rest : List Entry) → part ≡ take k units → rest ≡ drop i es → k ≤ length units → j ≤ length part
+pub share_step : (d j k i : ℕ) (units part : List ℕ) (es rest : List Entry) → part ≡ take k units → rest ≡ drop i es → k ≤ length units
+    → j ≤ length part
     → AllShare d k units (take i es) → AllShare d j part (take 1 rest) → (j ≤ k) × AllShare d j units (take (i + 1) es)
 share_step d j k i units part es rest e f h l a b =
     let len : length part ≡ k = ap length e ∙ length-take-le k units h in
     let le : j ≤ k = omega (arith, l, len) in
-    let b' : AllShare d j (take k units) (take 1 (drop i es)) = subst (λ z. AllShare d j z (take 1 (drop i es))) e (subst (λ z. AllShare d j part (take 1 z)) f b) in
+    let b' : AllShare d j (take k units) (take 1 (drop i es)) =
+    subst (λ z. AllShare d j z (take 1 (drop i es))) e (subst (λ z. AllShare d j part (take 1 z)) f b) in
     (le, rw add-one (share_more d j k i units es le a (share_part d j k units (take 1 (drop i es)) le b')))
 
-pub group_step : (d u i : ℕ) (es rest : List Entry) (o : Option ℕ) → rest ≡ drop i es → o ≡ unit_of rest d → o ≡ Some u → IsGroup d u (take i es) → IsGroup d u (take (i + 1) es)
+pub group_step : (d u i : ℕ) (es rest : List Entry) (o : Option ℕ) → rest ≡ drop i es → o ≡ unit_of rest d → o ≡ Some u
+    → IsGroup d u (take i es) → IsGroup d u (take (i + 1) es)
 group_step d u i es rest o e f g h = rw add-one (group_more d u i es h (ap (λ z. unit_of z d) (sym e) ∙ sym f ∙ g))

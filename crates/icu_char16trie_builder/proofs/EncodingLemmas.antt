@@ -35,14 +35,25 @@ in_two two three n w units e h =
     let not_one : nat_lt w two ≡ false = le-ltb w two (omega (arith, e)) in
     let is_two : nat_lt w three ≡ true = lt-ltb w three h in
     let high : w - two ≡ n / 0x10000 = omega (arith, e) in
-    record { number = rw (not_one, is_two, high) (ap Some (halves n)); end = λ p. rw (not_one, is_two) refl; within = omega (arith, h); few = omega arith }
+    record {
+      number = rw (not_one, is_two, high) (ap Some (halves n));
+      end = λ p. rw (not_one, is_two) refl;
+      within = omega (arith, h);
+      few = omega arith;
+    }
 
 in_three : (two three n : ℕ) (units : List ℕ) → two < three → IsRead two three units n three ((n / 0x10000) ∷ (n % 0x10000) ∷ [])
 unfolding number_by end_by
 in_three two three n units h =
     let not_one : nat_lt three two ≡ false = le-ltb three two (omega (arith, h)) in
     let not_two : nat_lt three three ≡ false = le-ltb three three (omega arith) in
-    record { number = rw (not_one, not_two) (ap Some (halves n)); end = λ p. rw (not_one, not_two) refl; within = omega arith; few = omega arith }
+    record {
+      number = rw (not_one, not_two) (ap Some (halves n));
+      end = λ p. rw (not_one, not_two) refl;
+      within = omega arith;
+      few =
+          omega arith;
+    }
 
 pub read_back : (two three n : ℕ) (units : List ℕ) → two < three → IsRead two three units n (lead_by two three n) (tail_by two three n)
 unfolding lead_by tail_by

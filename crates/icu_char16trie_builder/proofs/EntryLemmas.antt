@@ -101,7 +101,8 @@ below_trans : (a b : List ℕ) (m : UnitMap) → KeyBelow a b → KeyBelowAll b 
 below_trans a b [] h k = tt
 below_trans a b (e ∷ m) h k = (key_trans a b e.0 h k.0, below_trans a b m h k.1)
 
-below_with_by : (a key : List ℕ) (v : ℤ) (e : List ℕ × ℤ) (m rest : UnitMap) (o : Ordering) → KeyBelow a key → KeyBelow a e.0 → KeyBelowAll a m → KeyBelowAll a rest
+below_with_by : (a key : List ℕ) (v : ℤ) (e : List ℕ × ℤ) (m rest : UnitMap) (o : Ordering) → KeyBelow a key → KeyBelow a e.0
+    → KeyBelowAll a m → KeyBelowAll a rest
     → KeyBelowAll a (match_ordering o ((key, v) ∷ e ∷ m) ((key, v) ∷ m) (e ∷ rest))
 below_with_by a key v e m rest Less h i k l = (h, (i, k))
 below_with_by a key v e m rest Equal h i k l = (h, k)
@@ -110,9 +111,11 @@ below_with_by a key v e m rest Greater h i k l = (i, l)
 below_with : (a key : List ℕ) (v : ℤ) (m : UnitMap) → KeyBelow a key → KeyBelowAll a m → KeyBelowAll a (with_entry key v m)
 unfolding with_entry
 below_with a key v [] h k = (h, tt)
-below_with a key v (e ∷ m) h k = below_with_by a key v e m (with_entry key v m) (slice_cmp nat_cmp key e.0) h k.0 k.1 (below_with a key v m h k.1)
+below_with a key v (e ∷ m) h k = below_with_by a key v e m (with_entry key v m)
+    (slice_cmp nat_cmp key e.0) h k.0 k.1 (below_with a key v m h k.1)
 
-ascends_with_by : (key : List ℕ) (v : ℤ) (e : List ℕ × ℤ) (m rest : UnitMap) (o : Ordering) → IsCompared key e.0 o → IsAscendingKeys (e ∷ m) → IsAscendingKeys rest
+ascends_with_by : (key : List ℕ) (v : ℤ) (e : List ℕ × ℤ) (m rest : UnitMap) (o : Ordering) → IsCompared key e.0 o → IsAscendingKeys (e ∷ m)
+    → IsAscendingKeys rest
     → (KeyBelow e.0 key → KeyBelowAll e.0 rest) → IsAscendingKeys (match_ordering o ((key, v) ∷ e ∷ m) ((key, v) ∷ m) (e ∷ rest))
 ascends_with_by key v e m rest Less h up r f = ((h.less refl, below_trans key e.0 m (h.less refl) up.0), up)
 ascends_with_by key v e m rest Equal h up r f = (subst (λ z. KeyBelowAll z m) (sym (h.equal refl)) up.0, up.1)
@@ -122,37 +125,43 @@ pub ascends_with : (key : List ℕ) (v : ℤ) (m : UnitMap) → IsAscendingKeys 
 unfolding with_entry
 ascends_with key v [] h = (tt, tt)
 ascends_with key v (e ∷ m) h =
-    ascends_with_by key v e m (with_entry key v m) (slice_cmp nat_cmp key e.0) (compared key e.0) h (ascends_with key v m h.1) (λ k. below_with e.0 key v m k h.0)
+    ascends_with_by key v e m (with_entry key v m) (slice_cmp nat_cmp key e.0) (compared key e.0) h (ascends_with key v m h.1)
+    (λ k. below_with e.0 key v m k h.0)
 
 -- ---- as a map keeps them
 
 abbrev pub key_cmp : Vec ℕ Global → Vec ℕ Global → Ordering
 key_cmp a b = slice_cmp nat_cmp a.items b.items
 
-inserted_by : (key : List ℕ) (v : ℤ) (k : Vec ℕ Global) (e : Vec ℕ Global × ℤ) (es rest : List (Vec ℕ Global × ℤ)) (more : UnitMap) (o : Ordering) → k.items ≡ key → IsCompared key e.0.items o → entry_map rest ≡ more
+inserted_by : (key : List ℕ) (v : ℤ) (k : Vec ℕ Global) (e : Vec ℕ Global × ℤ) (es rest : List (Vec ℕ Global × ℤ)) (more : UnitMap)
+    (o : Ordering) → k.items ≡ key → IsCompared key e.0.items o → entry_map rest ≡ more
     → entry_map (match_ordering o ((k, v) ∷ e ∷ es) ((e.0, v) ∷ es) (e ∷ rest))
     ≡ match_ordering o ((key, v) ∷ (e.0.items, e.1) ∷ entry_map es) ((key, v) ∷ entry_map es) ((e.0.items, e.1) ∷ more)
 inserted_by key v k e es rest more Less s h r = ap (λ z. (z, v) ∷ (e.0.items, e.1) ∷ entry_map es) s
 inserted_by key v k e es rest more Equal s h r = ap (λ z. (z, v) ∷ entry_map es) (sym (h.equal refl))
 inserted_by key v k e es rest more Greater s h r = ap (λ z. (e.0.items, e.1) ∷ z) r
 
-pub inserted : (key : List ℕ) (v : ℤ) (k : Vec ℕ Global) (es : List (Vec ℕ Global × ℤ)) → k.items ≡ key → entry_map (insert_entry key_cmp es k v) ≡ with_entry key v (entry_map es)
+pub inserted : (key : List ℕ) (v : ℤ) (k : Vec ℕ Global) (es : List (Vec ℕ Global × ℤ)) → k.items ≡ key
+    → entry_map (insert_entry key_cmp es k v) ≡ with_entry key v (entry_map es)
 unfolding with_entry
 inserted key v k [] s = ap (λ z. (z, v) ∷ []) s
 inserted key v k (e ∷ es) s =
     let one : slice_cmp nat_cmp k.items e.0.items ≡ slice_cmp nat_cmp key e.0.items = ap (λ z. slice_cmp nat_cmp z e.0.items) s in
     ap (λ o. entry_map (match_ordering o ((k, v) ∷ e ∷ es) ((e.0, v) ∷ es) (e ∷ insert_entry key_cmp es k v))) one
-    ∙ inserted_by key v k e es (insert_entry key_cmp es k v) (with_entry key v (entry_map es)) (slice_cmp nat_cmp key e.0.items) s (compared key e.0.items) (inserted key v k es s)
+    ∙ inserted_by key v k e es (insert_entry key_cmp es k v) (with_entry key v (entry_map es))
+    (slice_cmp nat_cmp key e.0.items) s (compared key e.0.items) (inserted key v k es s)
 
 found_by : (b : Bool) (x : ℤ) (p q : Option ℤ) → is_some p ≡ is_some q → is_some (cond b (Some x) p) ≡ is_some (cond b (Some x) q)
 found_by true x p q h = refl
 found_by false x p q h = h
 
-pub found : (key : List ℕ) (es : List (Vec ℕ Global × ℤ)) → is_some (lookup (is_at (λ k. slice_cmp nat_cmp key k.items)) es) ≡ is_some (value_of (entry_map es) key)
+pub found : (key : List ℕ) (es : List (Vec ℕ Global × ℤ))
+    → is_some (lookup (is_at (λ k. slice_cmp nat_cmp key k.items)) es) ≡ is_some (value_of (entry_map es) key)
 unfolding value_of
 found key [] = refl
 found key (e ∷ es) =
-    found_by (is_eq (slice_cmp nat_cmp key e.0.items)) e.1 (lookup (is_at (λ k. slice_cmp nat_cmp key k.items)) es) (value_of (entry_map es) key) (found key es)
+    found_by (is_eq (slice_cmp nat_cmp key e.0.items)) e.1 (lookup (is_at (λ k. slice_cmp nat_cmp key k.items)) es)
+    (value_of (entry_map es) key) (found key es)
     ∙ ap (λ z. is_some (cond z (Some e.1) (value_of (entry_map es) key))) (compared key e.0.items).test
 
 -- ---- the list of the entries
@@ -164,13 +173,15 @@ map_of_cut (e ∷ es) d z =
     let here : drop d e.key.now ≡ e.key.now = ap (λ n. drop n e.key.now) z in
     omega (arith, map_of_cut es d z, z, ap length here)
 
-pub cut_pushed : (list : List Entry) (e : Entry) (x : List ℕ × ℤ) (rest all : UnitMap) → cut 0 list ++ x ∷ rest ≡ all → (e.key.now, e.value) ≡ x → cut 0 (list ++ e ∷ []) ++ rest ≡ all
+pub cut_pushed : (list : List Entry) (e : Entry) (x : List ℕ × ℤ) (rest all : UnitMap) → cut 0 list ++ x ∷ rest ≡ all
+    → (e.key.now, e.value) ≡ x → cut 0 (list ++ e ∷ []) ++ rest ≡ all
 cut_pushed [] e x rest all h s = ap (λ z. z ∷ rest) s ∙ h
 cut_pushed (y ∷ list) e x rest [] h s = absurd (cons_nil h)
   where
     cons_nil : {a : List ℕ × ℤ} {m : UnitMap} → ◌≡◌ {A = UnitMap} (a ∷ m) [] → ⊥
     cons_nil h = cc
-cut_pushed (y ∷ list) e x rest (a ∷ all) h s = ap (λ z. z ∷ (cut 0 (list ++ e ∷ []) ++ rest)) (heads h) ∙ ap (λ z. a ∷ z) (cut_pushed list e x rest all (tails h) s)
+cut_pushed (y ∷ list) e x rest (a ∷ all) h s = ap (λ z. z ∷ (cut 0 (list ++ e ∷ []) ++ rest)) (heads h)
+    ∙ ap (λ z. a ∷ z) (cut_pushed list e x rest all (tails h) s)
   where
     heads : {a b : List ℕ × ℤ} {m n : UnitMap} → ◌≡◌ {A = UnitMap} (a ∷ m) (b ∷ n) → a ≡ b
     heads h = cc
@@ -180,7 +191,8 @@ cut_pushed (y ∷ list) e x rest (a ∷ all) h s = ap (λ z. z ∷ (cut 0 (list 
 
 -- a step of the loop that adds up what the entries take
 pub room_more : (i : ℕ) (es rest : List Entry) → rest ≡ drop i es → room 0 (take (i + 1) es) ≡ room 0 (take i es) + room 0 (take 1 rest)
-room_more i es rest e = rw add-one (ap (room 0) (front i es) ∙ room_append 0 (take i es) (take 1 (drop i es)) ∙ ap (λ z. room 0 (take i es) + room 0 (take 1 z)) (sym e))
+room_more i es rest e = rw add-one (ap (room 0) (front i es) ∙ room_append 0 (take i es) (take 1 (drop i es))
+    ∙ ap (λ z. room 0 (take i es) + room 0 (take 1 z)) (sym e))
   where
     front : (i : ℕ) (es : List Entry) → take (suc i) es ≡ take i es ++ take 1 (drop i es)
     front zero es = refl
@@ -195,7 +207,8 @@ first_room [] other h = absurd (omega arith)
 first_room (e ∷ es) other h = omega arith
 
 -- an entry was added or refused
-pub ascends_added : {A E : Type 0} (r : Result A E) (key : List ℕ) (v : ℤ) (new old : UnitMap) → OnOk r (new ≡ with_entry key v old) → OnErr r (new ≡ old) → IsAscendingKeys old → IsAscendingKeys new
+pub ascends_added : {A E : Type 0} (r : Result A E) (key : List ℕ) (v : ℤ) (new old : UnitMap) → OnOk r (new ≡ with_entry key v old)
+    → OnErr r (new ≡ old) → IsAscendingKeys old → IsAscendingKeys new
 ascends_added (Ok x) key v new old h k up = subst (λ z. IsAscendingKeys z) (sym h) (ascends_with key v old up)
 ascends_added (Err e) key v new old h k up = subst (λ z. IsAscendingKeys z) (sym k) up
 

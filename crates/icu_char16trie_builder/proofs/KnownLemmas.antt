@@ -13,7 +13,8 @@ cut_more : (d i : ℕ) (es : List Entry) → cut d (take (i + 1) es) ≡ cut d (
 cut_more d i es = rw add-one (ap (cut d) (front_more i es) ∙ cut_append d (take i es) (take 1 (drop i es)))
 
 -- one more entry is alike
-pub alike_more : (d e i : ℕ) (a b a' b' : List Entry) → a' ≡ drop i a → b' ≡ drop i b → cut d (take i a) ≡ cut e (take i b) → cut d (take 1 a') ≡ cut e (take 1 b')
+pub alike_more : (d e i : ℕ) (a b a' b' : List Entry) → a' ≡ drop i a → b' ≡ drop i b → cut d (take i a) ≡ cut e (take i b)
+    → cut d (take 1 a') ≡ cut e (take 1 b')
     → cut d (take (i + 1) a) ≡ cut e (take (i + 1) b)
 alike_more d e i a b a' b' f g so here =
     cut_more d i a ∙ ap (λ z. z ++ cut d (take 1 (drop i a))) so

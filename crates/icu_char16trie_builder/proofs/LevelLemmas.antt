@@ -38,7 +38,8 @@ last_level u units m h = record {
 
 -- an arm, its unit and the units of its value or jump, before the other arms of a row
 arm_before : (u w n child : ℕ) (tail units us : List ℕ) (m1 m2 : UnitMap) → 1 < n → n ≤ 5 → PartAt units 0 (n - 1) us m2
-    → entry_child (u ∷ w ∷ (tail ++ units)) 2 w ≡ Some child → short_end 2 (w % 0x8000) ≡ 2 + length tail → Holds (u ∷ w ∷ (tail ++ units)) child m1
+    → entry_child (u ∷ w ∷ (tail ++ units)) 2 w ≡ Some child → short_end 2 (w % 0x8000) ≡ 2 + length tail
+    → Holds (u ∷ w ∷ (tail ++ units)) child m1
     → PartAt (u ∷ w ∷ (tail ++ units)) 0 n (u ∷ us) (under (u ∷ []) m1 ++ m2)
 unfolding heads
 arm_before u w n child tail units us m1 m2 many few rest leads end node =
@@ -52,14 +53,16 @@ arm_before u w n child tail units us m1 m2 many few rest leads end node =
     }
 
 -- an arm that jumps to a node further on
-pub entry_level : (u j n : ℕ) (units mid new us : List ℕ) (m1 m2 : UnitMap) → 1 < n → n ≤ 5 → Holds units j m1 → PartAt units 0 (n - 1) us m2
+pub entry_level : (u j n : ℕ) (units mid new us : List ℕ) (m1 m2 : UnitMap) → 1 < n → n ≤ 5 → Holds units j m1
+    → PartAt units 0 (n - 1) us m2
     → mid ≡ short_units j ++ units → new ≡ u ∷ mid → PartAt new 0 n (u ∷ us) (under (u ∷ []) m1 ++ m2)
 unfolding entry_child
 entry_level u j n units mid new us m1 m2 many few node rest e f =
     let r = read_back 0x4000 0x7fff j units (omega arith) in
     let w : ℕ = lead_by 0x4000 0x7fff j in
     let tail : List ℕ = tail_by 0x4000 0x7fff j in
-    let number : short_number (u ∷ w ∷ (tail ++ units)) 2 w ≡ Some j = number_moved 0x4000 0x7fff _ _ 1 _ ∙ number_moved 0x4000 0x7fff _ _ 0 _ ∙ r.number in
+    let number : short_number (u ∷ w ∷ (tail ++ units)) 2 w ≡ Some j =
+    number_moved 0x4000 0x7fff _ _ 1 _ ∙ number_moved 0x4000 0x7fff _ _ 0 _ ∙ r.number in
     let child : 2 + length tail + j ≡ length (u ∷ w ∷ tail) + j = omega arith in
     let leads : entry_child (u ∷ w ∷ (tail ++ units)) 2 w ≡ Some (length (u ∷ w ∷ tail) + j) =
     pick (nat_lt w 0x8000) _ _ (lt-ltb w 0x8000 (omega (arith, r.within))) ∙ rw (number, r.end 2) (ap Some child) in
@@ -67,14 +70,16 @@ entry_level u j n units mid new us m1 m2 many few node rest e f =
     rw (f, e) (arm_before u w n _ tail units us m1 m2 many few rest leads (rw low (r.end 2)) (holds_behind (u ∷ w ∷ tail) units node))
 
 -- an arm whose key ends there, with its value
-pub value_level : (u : ℕ) (v : ℤ) (k n : ℕ) (units mid new us : List ℕ) (m : UnitMap) → cast_signed w32 k ≡ v → 1 < n → n ≤ 5 → PartAt units 0 (n - 1) us m
+pub value_level : (u : ℕ) (v : ℤ) (k n : ℕ) (units mid new us : List ℕ) (m : UnitMap) → cast_signed w32 k ≡ v → 1 < n → n ≤ 5
+    → PartAt units 0 (n - 1) us m
     → mid ≡ final_units k ++ units → new ≡ u ∷ mid → PartAt new 0 n (u ∷ us) ((u ∷ [], v) ∷ m)
 unfolding entry_child
 value_level u v k n units mid new us m e many few rest f g =
     let r = read_back 0x4000 0x7fff k units (omega arith) in
     let w : ℕ = 0x8000 + lead_by 0x4000 0x7fff k in
     let low : w % 0x8000 ≡ lead_by 0x4000 0x7fff k = omega (arith, r.within) in
-    rw (g, f) (arm_before u w n 1 (tail_by 0x4000 0x7fff k) units us (([], v) ∷ []) m many few rest (skip (nat_lt w 0x8000) _ _ (le-ltb w 0x8000 (omega arith))) (rw low (r.end 2))
+    rw (g, f) (arm_before u w n 1 (tail_by 0x4000 0x7fff k) units us (([], v) ∷ []) m many few rest
+    (skip (nat_lt w 0x8000) _ _ (le-ltb w 0x8000 (omega arith))) (rw low (r.end 2))
     (holds_moved u (final_units k ++ units) (final_level v k units _ e refl)))
 
 heads_below : (s : ℕ) (arms : List (ℕ × ℕ)) → Below s (heads arms) → UnitsBelow s arms
@@ -97,13 +102,16 @@ unfolding heads
 heads_append [] b = refl
 heads_append (x ∷ a) b = ap (λ z. x.0 ∷ z) (heads_append a b)
 
-children_append : (units : List ℕ) {a b : List (ℕ × ℕ)} {m n : UnitMap} → Children units a m → Children units b n → Children units (a ++ b) (m ++ n)
+children_append : (units : List ℕ) {a b : List (ℕ × ℕ)} {m n : UnitMap} → Children units a m → Children units b n
+    → Children units (a ++ b) (m ++ n)
 children_append units (none a m e i) c = rw (e, i) c
 children_append units {b = b} {n = n} (more u q rest arms m others all a node d e) c =
-    more u q (rest ++ b) (arms ++ b) m (others ++ n) (all ++ n) (ap (λ z. z ++ b) a) node (children_append units d c) (ap (λ z. z ++ n) e ∙ append_assoc (under (u ∷ []) m) others n)
+    more u q (rest ++ b) (arms ++ b) m (others ++ n) (all ++ n) (ap (λ z. z ++ b) a) node (children_append units d c)
+    (ap (λ z. z ++ n) e ∙ append_assoc (under (u ∷ []) m) others n)
 
 -- a split, before the part of the upper arms
-pub split_level : (s j n : ℕ) (units mid new us1 us2 : List ℕ) (m1 m2 : UnitMap) → 5 < n → PartAt units j (n / 2) us1 m1 → PartAt units 0 (n - n / 2) us2 m2
+pub split_level : (s j n : ℕ) (units mid new us1 us2 : List ℕ) (m1 m2 : UnitMap) → 5 < n → PartAt units j (n / 2) us1 m1
+    → PartAt units 0 (n - n / 2) us2 m2
     → Below s us1 → From s us2 → mid ≡ delta_units j ++ units → new ≡ s ∷ mid → PartAt new 0 n (us1 ++ us2) (m1 ++ m2)
 unfolding lower_part
 split_level s j n units mid new us1 us2 m1 m2 many lower upper below from e f =
@@ -112,36 +120,43 @@ split_level s j n units mid new us1 us2 m1 m2 many lower upper below from e f =
     let front : List ℕ = s ∷ delta_units j in
     let up : PartAt (front ++ units) (length front + 0) (n - n / 2) us2 m2 = part_at_behind front units upper in
     let low : PartAt (front ++ units) (length front + j) (n / 2) us1 m1 = part_at_behind front units lower in
-    let number : delta_number (front ++ units) 2 w ≡ Some j = number_moved 0xfc00 0xffff _ _ 1 _ ∙ number_moved 0xfc00 0xffff _ _ 0 _ ∙ r.number in
+    let number : delta_number (front ++ units) 2 w ≡ Some j = number_moved 0xfc00 0xffff _ _ 1 _ ∙ number_moved 0xfc00 0xffff _ _ 0 _
+    ∙ r.number in
     let place : length front + 0 ≡ delta_end 2 w = rw (r.end 2) (omega arith) in
     let there : delta_end 2 w + j ≡ length front + j = rw (r.end 2) (omega arith) in
     rw (f, e) (record {
       arms = low.arms ++ up.arms;
       part = split 0 n s w (length front + j) low.arms up.arms _ many refl refl (rw number (ap Some there)) low.part (rw place at up.part)
-          (heads_below s low.arms (subst (λ z. Below s z) (sym low.heads) below)) (heads_from s up.arms (subst (λ z. From s z) (sym up.heads) from)) refl;
+          (heads_below s low.arms (subst (λ z. Below s z) (sym low.heads) below))
+          (heads_from s up.arms (subst (λ z. From s z) (sym up.heads) from)) refl;
       heads = heads_append low.arms up.arms ∙ rw (low.heads, up.heads) refl;
       children = children_append _ low.children up.children;
     })
 
 -- ---- match nodes, from behind their lead on
 
-pub run_level : (low : ℕ) (front units mid : List ℕ) (m : UnitMap) → low ≡ 0x2f + length front → mid ≡ front ++ units → 0 < length front → length front ≤ 16 → Holds units 0 m
+pub run_level : (low : ℕ) (front units mid : List ℕ) (m : UnitMap) → low ≡ 0x2f + length front → mid ≡ front ++ units → 0 < length front
+    → length front ≤ 16 → Holds units 0 m
     → Matches mid 0 low (under front m)
 run_level low front units mid m e f some few h =
     let count : low - 0x2f ≡ length front = omega (arith, e) in
     let place : length front + 0 ≡ 0 + (low - 0x2f) = omega (arith, count) in
-    rw f (run 0 low (under front m) m (omega (arith, e, some)) (omega (arith, e, few)) (rw count (rw (length-append front units) (omega arith)))
+    rw f (run 0 low (under front m) m (omega (arith, e, some)) (omega (arith, e, few))
+    (rw count (rw (length-append front units) (omega arith)))
     (rw place at (holds_behind front units h)) (rw count (ap (λ z. under z m) (sym (take-append_seam front units)))))
 
-pub branch_level : (n : ℕ) (units us : List ℕ) (m : UnitMap) → 2 ≤ n → n ≤ 0x30 → PartAt units 0 n us m → Ascends us → Matches units 0 (n - 1) m
+pub branch_level : (n : ℕ) (units us : List ℕ) (m : UnitMap) → 2 ≤ n → n ≤ 0x30 → PartAt units 0 n us m → Ascends us
+    → Matches units 0 (n - 1) m
 branch_level n units us m some few p up =
     let count : n ≡ (n - 1) + 1 = omega (arith, some) in
     let no : nat_eq (n - 1) 0 ≡ false = ne_eqb (n - 1) 0 (λ e. absurd (omega (arith, e, some))) in
     let start : 0 ≡ branch_start 0 (n - 1) = sym (skip (nat_eq (n - 1) 0) _ _ no) in
-    branch 0 (n - 1) (n - 1) p.arms m (omega (arith, few, some)) (skip (nat_eq (n - 1) 0) _ _ no) (omega (arith, some)) (rw (count, start) at p.part)
+    branch 0 (n - 1) (n - 1) p.arms m (omega (arith, few, some)) (skip (nat_eq (n - 1) 0) _ _ no) (omega (arith, some))
+    (rw (count, start) at p.part)
     (heads_ascend p.arms (subst (λ z. Ascends z) (sym p.heads) up)) p.children
 
-pub long_branch_level : (n : ℕ) (units us : List ℕ) (m : UnitMap) → 2 ≤ n → PartAt units 0 n us m → Ascends us → Matches ((n - 1) ∷ units) 0 0 m
+pub long_branch_level : (n : ℕ) (units us : List ℕ) (m : UnitMap) → 2 ≤ n → PartAt units 0 n us m → Ascends us
+    → Matches ((n - 1) ∷ units) 0 0 m
 long_branch_level n units us m some p up =
     let count : n ≡ (n - 1) + 1 = omega (arith, some) in
     let q : PartAt ((n - 1) ∷ units) 1 n us m = part_at_moved (n - 1) units p in
@@ -153,7 +168,8 @@ long_branch_level n units us m some p up =
 pub plain_level : (low : ℕ) (units : List ℕ) (m : UnitMap) → low < 0x40 → Matches units 0 low m → Holds (low ∷ units) 0 m
 plain_level low units m h node = plain 0 low m refl h (matches_behind (low ∷ []) units node)
 
-pub valued_level : (v : ℤ) (n low : ℕ) (units new : List ℕ) (m : UnitMap) → cast_signed w32 n ≡ v → low < 0x40 → new ≡ node_units n low ++ units
+pub valued_level : (v : ℤ) (n low : ℕ) (units new : List ℕ) (m : UnitMap) → cast_signed w32 n ≡ v → low < 0x40
+    → new ≡ node_units n low ++ units
     → Matches units 0 low m → Holds new 0 (([], v) ∷ m)
 valued_level v n low units new m e h f node =
     let r = read_back 0x100 0x1fe n units (omega arith) in
@@ -164,7 +180,9 @@ valued_level v n low units new m e h f node =
     let number : node_number (node_units n low ++ units) 1 w ≡ Some n = rw lead (number_moved 0x100 0x1fe _ _ 0 _ ∙ r.number) in
     let end : length (node_units n low) + 0 ≡ node_end 1 w = rw (lead, r.end 1) (omega arith) in
     let behind : Matches (node_units n low ++ units) (node_end 1 w) low m = rw end at (matches_behind (node_units n low) units node) in
-    rw f (valued 0 w n _ m refl (omega arith) (omega (arith, h, r.within)) number (subst (λ z. Matches (node_units n low ++ units) (node_end 1 w) z m) bits behind) (ap (λ z. ([], z) ∷ m) (sym e)))
+    rw f (valued 0 w n _ m refl (omega arith)
+    (omega (arith, h, r.within)) number (subst (λ z. Matches (node_units n low ++ units) (node_end 1 w) z m) bits behind)
+    (ap (λ z. ([], z) ∷ m) (sym e)))
 
 -- ---- how many units were written
 
@@ -188,11 +206,14 @@ grew_last u units new f = (u ∷ [], f, omega arith)
 pub grew_number : (two three w n : ℕ) (units new : List ℕ) → two < three → new ≡ w ∷ (tail_by two three n ++ units) → Grew 3 units new
 grew_number two three w n units new h f = (w ∷ tail_by two three n, f, omega (arith, (read_back two three n units h).few))
 
-pub grew_arm : (two three u w n : ℕ) (units mid new : List ℕ) → two < three → mid ≡ w ∷ (tail_by two three n ++ units) → new ≡ u ∷ mid → Grew 4 units new
-grew_arm two three u w n units mid new h e f = grew_twice 1 3 units mid new (grew_number two three w n units mid h e) (grew_last u mid new f)
+pub grew_arm : (two three u w n : ℕ) (units mid new : List ℕ) → two < three → mid ≡ w ∷ (tail_by two three n ++ units) → new ≡ u ∷ mid
+    → Grew 4 units new
+grew_arm two three u w n units mid new h e f =
+    grew_twice 1 3 units mid new (grew_number two three w n units mid h e) (grew_last u mid new f)
 
 -- a chunk of a list before what is behind it
-pub chunk_before : (start left : ℕ) (units : List ℕ) → start ≤ left → take (left - start) (drop start units) ++ drop left units ≡ drop start units
+pub chunk_before : (start left : ℕ) (units : List ℕ) → start ≤ left
+    → take (left - start) (drop start units) ++ drop left units ≡ drop start units
 chunk_before start left units h =
     let place : start + (left - start) ≡ left = omega (arith, h) in
     ap (λ z. take (left - start) (drop start units) ++ drop z units) (sym place)

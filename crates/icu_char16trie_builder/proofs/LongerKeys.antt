@@ -13,7 +13,8 @@ goes_on_by : (key : List ℕ) (v : ℤ) (e : List ℕ × ℤ) (m rest : UnitMap)
     → goes_on (match_ordering o ((key, v) ∷ e ∷ m) ((key, v) ∷ m) (e ∷ rest)) w ≡ (key_goes_on key w || goes_on (e ∷ m) w)
 unfolding goes_on
 goes_on_by key v e m rest w Less h r = refl
-goes_on_by key v e m rest w Equal h r = twice (key_goes_on key w) (key_goes_on e.0 w) (goes_on m w) (ap (λ z. key_goes_on z w) (h.equal refl))
+goes_on_by key v e m rest w Equal h r = twice (key_goes_on key w) (key_goes_on e.0 w) (goes_on m w)
+    (ap (λ z. key_goes_on z w) (h.equal refl))
   where
     twice : (p q b : Bool) → p ≡ q → (p || b) ≡ (p || (q || b))
     twice true q b s = refl
@@ -29,7 +30,8 @@ goes_on_by key v e m rest w Greater h r =
     swapped false false b = refl
 
 -- a key goes on among the entries with one more, where it does among the others or is the one
-pub goes_on-with_entry : (key : List ℕ) (v : ℤ) (m : UnitMap) (w : List ℕ) → goes_on (with_entry key v m) w ≡ (key_goes_on key w || goes_on m w)
+pub goes_on-with_entry : (key : List ℕ) (v : ℤ) (m : UnitMap) (w : List ℕ)
+    → goes_on (with_entry key v m) w ≡ (key_goes_on key w || goes_on m w)
 unfolding with_entry goes_on
 goes_on-with_entry key v [] w = refl
 goes_on-with_entry key v (e ∷ m) w =

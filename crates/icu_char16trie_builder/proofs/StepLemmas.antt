@@ -23,7 +23,11 @@ saved_behind : (front units : List ℕ) (e : ℕ) (x : Piece) → IsSaved units 
 saved_behind front units e x h =
     let len : length (front ++ units) ≡ length front + length units = length-append front units in
     let place : length front + (length units - e) ≡ length (front ++ units) - e = omega (arith, len, h.within) in
-    record { within = omega (arith, len, h.within); stands = subst (λ p. Stands (front ++ units) p x) place (stands_behind front units (length units - e) x h.stands) }
+    record {
+      within = omega (arith, len, h.within);
+      stands =
+          subst (λ p. Stands (front ++ units) p x) place (stands_behind front units (length units - e) x h.stands);
+    }
 
 all_saved_behind : (front units places : List ℕ) (saved : List Piece) → AreSaved units places saved → AreSaved (front ++ units) places saved
 all_saved_behind front units [] [] h = tt
@@ -36,7 +40,8 @@ all_known_behind front units [] h = tt
 all_known_behind front units (k ∷ known) h =
     (saved_behind front units k.place (node (cut k.depth k.entries.now)) h.0, all_known_behind front units known h.1)
 
-known_more : (units : List ℕ) (known : List KnownNode) (k : KnownNode) → AreKnown units known → IsSaved units k.place (node (cut k.depth k.entries.now)) → AreKnown units (known ++ k ∷ [])
+known_more : (units : List ℕ) (known : List KnownNode) (k : KnownNode) → AreKnown units known
+    → IsSaved units k.place (node (cut k.depth k.entries.now)) → AreKnown units (known ++ k ∷ [])
 known_more units [] k h i = (i, tt)
 known_more units (x ∷ known) k h i = (h.0, known_more units known k h.1 i)
 
@@ -45,7 +50,8 @@ abbrev pub Makes : List ℕ → List ℕ → List ℕ → State → Type 0
 Makes units new places t = Stands new 0 t.front × AreSaved units places t.saved
 
 -- one step was taken
-pub led : (k : ℕ) (units new places kept : List ℕ) (known : List KnownNode) (x : Step) (others : List Step) (goal : UnitMap) → Grew k units new
+pub led : (k : ℕ) (units new places kept : List ℕ) (known : List KnownNode) (x : Step) (others : List Step) (goal : UnitMap)
+    → Grew k units new
     → ((s t : State) → Stands units 0 s.front → AreSaved units places s.saved → Takes x s t → Makes units new kept t)
     → Leads units places known (x ∷ others) goal → Leads new kept known others goal
 led k units new places kept known x others goal g f h =
@@ -63,7 +69,8 @@ module _ (units new places : List ℕ) where
       → (s t : State) → Stands units 0 s.front → AreSaved units places s.saved → TakesLast u s t → Makes units new places t
   last_takes u f s t h k a = subst (λ z. Makes units new places z) (sym a.is) (f a.m (subst (λ z. Stands units 0 z) a.was h), k)
 
-  pub value_takes : (u : ℕ) (v : ℤ) → ((n : ℕ) (us : List ℕ) (m : UnitMap) → 1 < n → n ≤ 5 → PartAt units 0 (n - 1) us m → PartAt new 0 n (u ∷ us) ((u ∷ [], v) ∷ m))
+  pub value_takes : (u : ℕ) (v : ℤ) → ((n : ℕ) (us : List ℕ) (m : UnitMap) → 1 < n → n ≤ 5 → PartAt units 0 (n - 1) us m
+      → PartAt new 0 n (u ∷ us) ((u ∷ [], v) ∷ m))
       → (s t : State) → Stands units 0 s.front → AreSaved units places s.saved → TakesValue u v s t → Makes units new places t
   value_takes u v f s t h k a =
       subst (λ z. Makes units new places z) (sym a.is) (f a.n a.us a.m a.many a.few (subst (λ z. Stands units 0 z) a.was h), k)
@@ -72,12 +79,14 @@ module _ (units new places : List ℕ) where
       → (s t : State) → Stands units 0 s.front → AreSaved units places s.saved → TakesRun front value s t → Makes units new places t
   run_takes front value f s t h k a = subst (λ z. Makes units new places z) (sym a.is) (f a.m (subst (λ z. Stands units 0 z) a.was h), k)
 
-  pub branch_takes : (count : ℕ) (value : Option ℤ) → ((us : List ℕ) (m : UnitMap) → PartAt units 0 count us m → Ascends us → Holds new 0 (own_entry value ++ m))
+  pub branch_takes : (count : ℕ) (value : Option ℤ)
+      → ((us : List ℕ) (m : UnitMap) → PartAt units 0 count us m → Ascends us → Holds new 0 (own_entry value ++ m))
       → (s t : State) → Stands units 0 s.front → AreSaved units places s.saved → TakesBranch count value s t → Makes units new places t
   branch_takes count value f s t h k a =
       subst (λ z. Makes units new places z) (sym a.is) (f a.us a.m (subst (λ z. Stands units 0 z) a.was h) a.ascends, k)
 
-  pub jump_takes : (u p len : ℕ) → len ≡ length units → ((n : ℕ) (us : List ℕ) (m1 m2 : UnitMap) → 1 < n → n ≤ 5 → Holds units (len - p) m1 → PartAt units 0 (n - 1) us m2
+  pub jump_takes : (u p len : ℕ) → len ≡ length units
+      → ((n : ℕ) (us : List ℕ) (m1 m2 : UnitMap) → 1 < n → n ≤ 5 → Holds units (len - p) m1 → PartAt units 0 (n - 1) us m2
       → PartAt new 0 n (u ∷ us) (under (u ∷ []) m1 ++ m2))
       → (s t : State) → Stands units 0 s.front → AreSaved units (p ∷ places) s.saved → TakesJump u s t → Makes units new places t
   jump_takes u p len same f s t h k a =
@@ -86,16 +95,20 @@ module _ (units new places : List ℕ) where
       let at : Holds units (len - p) a.m1 = subst (λ z. Holds units (z - p) a.m1) (sym same) saved.0.stands in
       subst (λ z. Makes units new places z) (sym a.is) (f a.n a.us a.m1 a.m2 a.many a.few at front, saved.1)
 
-  pub split_takes : (u p len : ℕ) → len ≡ length units → ((n : ℕ) (us1 us2 : List ℕ) (m1 m2 : UnitMap) → 5 < n → PartAt units (len - p) (n / 2) us1 m1
+  pub split_takes : (u p len : ℕ) → len ≡ length units
+      → ((n : ℕ) (us1 us2 : List ℕ) (m1 m2 : UnitMap) → 5 < n → PartAt units (len - p) (n / 2) us1 m1
       → PartAt units 0 (n - n / 2) us2 m2 → Below u us1 → From u us2 → PartAt new 0 n (us1 ++ us2) (m1 ++ m2))
       → (s t : State) → Stands units 0 s.front → AreSaved units (p ∷ places) s.saved → TakesSplit u s t → Makes units new places t
   split_takes u p len same f s t h k a =
       let front : PartAt units 0 (a.n - a.n / 2) a.us2 a.m2 = subst (λ z. Stands units 0 z.front) a.was h in
-      let saved : IsSaved units p (part (a.n / 2) a.us1 a.m1) × AreSaved units places a.rest = subst (λ z. AreSaved units (p ∷ places) z.saved) a.was k in
-      let at : PartAt units (len - p) (a.n / 2) a.us1 a.m1 = subst (λ z. PartAt units (z - p) (a.n / 2) a.us1 a.m1) (sym same) saved.0.stands in
+      let saved : IsSaved units p (part (a.n / 2) a.us1 a.m1) × AreSaved units places a.rest =
+      subst (λ z. AreSaved units (p ∷ places) z.saved) a.was k in
+      let at : PartAt units (len - p) (a.n / 2) a.us1 a.m1 =
+      subst (λ z. PartAt units (z - p) (a.n / 2) a.us1 a.m1) (sym same) saved.0.stands in
       subst (λ z. Makes units new places z) (sym a.is) (f a.n a.us1 a.us2 a.m1 a.m2 a.many at front a.below a.from, saved.1)
 
-pub no_split : (units : List ℕ) (known : List KnownNode) (u : ℕ) (others : List Step) (goal : UnitMap) → Leads units [] known (steps.Split u ∷ others) goal → ⊥
+pub no_split : (units : List ℕ) (known : List KnownNode) (u : ℕ) (others : List Step) (goal : UnitMap)
+    → Leads units [] known (steps.Split u ∷ others) goal → ⊥
 no_split units known u others goal h = subst (λ z. AreSaved units [] z.saved) h.3.1.was h.2
 
 saved_here : (units : List ℕ) (len : ℕ) (x : Piece) → len ≡ length units → Stands units 0 x → IsSaved units len x
@@ -112,12 +125,14 @@ save_led units places known len others goal same h =
     (t, subst (λ z. Stands units 0 z.front) (sym h.3.1) h.1, subst (λ z. AreSaved units (len ∷ places) z.saved) (sym h.3.1) now, h.3.2, h.4)
 
 -- the node that stands in front is known and saved
-pub keep_led : (units places : List ℕ) (known known' : List KnownNode) (len d : ℕ) (es : Bor (List Entry)) (others : List Step) (goal : UnitMap) → len ≡ length units
+pub keep_led : (units places : List ℕ) (known known' : List KnownNode) (len d : ℕ) (es : Bor (List Entry)) (others : List Step)
+    (goal : UnitMap) → len ≡ length units
     → known' ≡ known ++ record { entries = es; depth = d; place = len } ∷ []
     → Leads units places known (steps.Keep es d ∷ others) goal → Leads units (len ∷ places) known' others goal
 keep_led units places known known' len d es others goal same more h =
     let t : State = h.3.0 in
-    let is : IsSaved units len (node (cut d es.now)) = saved_here units len (node (cut d es.now)) same (subst (λ z. Stands units 0 z) h.3.1.0 h.1) in
+    let is : IsSaved units len (node (cut d es.now)) =
+    saved_here units len (node (cut d es.now)) same (subst (λ z. Stands units 0 z) h.3.1.0 h.1) in
     let now : AreSaved units (len ∷ places) (node (cut d es.now) ∷ h.0.saved) = (is, h.2) in (
       t,
       subst (λ z. Stands units 0 z.front) (sym h.3.1.1) tt,
@@ -138,7 +153,8 @@ pub turned : {A : Type 0} (new old : List A) (a : A) → old ≡ new ++ a ∷ []
 turned new old a e = ap reverse e ∙ reverse-append new (a ∷ [])
 
 -- a step was pushed
-pub pushed : (old new : List Step) (x : Step) (s t : State) (goal : UnitMap) → new ≡ old ++ x ∷ [] → Takes x s t → Gives (reverse old) t goal → Gives (reverse new) s goal
+pub pushed : (old new : List Step) (x : Step) (s t : State) (goal : UnitMap) → new ≡ old ++ x ∷ [] → Takes x s t
+    → Gives (reverse old) t goal → Gives (reverse new) s goal
 pushed old new x s t goal e h g = rw (turned old new x e) (t, h, g)
 
 pub cost_append : (a b : List Step) → cost (a ++ b) ≡ cost a + cost b
@@ -160,13 +176,16 @@ start_leads es below =
     (record { front = nothing; saved = [] }, tt, tt, (record { front = node (cut 0 es.now); saved = [] }, (below, refl), refl), tt)
 
 -- a node of a list of known ones
-pub known_at : (units : List ℕ) (known : List KnownNode) (i : ℕ) (k : KnownNode) (m : UnitMap) → AreKnown units known → slice_get known i ≡ Some k → cut k.depth k.entries.now ≡ m → IsSaved units k.place (node m)
+pub known_at : (units : List ℕ) (known : List KnownNode) (i : ℕ) (k : KnownNode) (m : UnitMap) → AreKnown units known
+    → slice_get known i ≡ Some k → cut k.depth k.entries.now ≡ m → IsSaved units k.place (node m)
 known_at units [] i k m h g e = absurd (none-some _ g)
 known_at units (x ∷ known) zero k m h g e =
-    subst (λ z. IsSaved units k.place (node z)) e (subst (λ z. IsSaved units z.place (node (cut z.depth z.entries.now))) (same_Some _ _ g) h.0)
+    subst (λ z. IsSaved units k.place (node z)) e
+    (subst (λ z. IsSaved units z.place (node (cut z.depth z.entries.now))) (same_Some _ _ g) h.0)
 known_at units (x ∷ known) (suc i) k m h g e = known_at units known i k m h.1 g e
 
-pub ready : (units places : List ℕ) (known : List KnownNode) (x : Step) (others : List Step) (goal : UnitMap) → Leads units places known (x ∷ others) goal → IsReady x
+pub ready : (units places : List ℕ) (known : List KnownNode) (x : Step) (others : List Step) (goal : UnitMap)
+    → Leads units places known (x ∷ others) goal → IsReady x
 ready units places known (steps.Node entries d) others goal h = h.3.1.0
 ready units places known steps.Save others goal h = tt
 ready units places known (steps.Place entries d) others goal h = h.3.1.0

@@ -41,27 +41,35 @@ padding-one width cells = one_cell 0xffee (nat_eq width 4 && nat_eq (cells % 2) 
 
 module _ {T : Type 0} (number : T → ℕ) (d : T) (ws : List (Write T)) where
   -- so many writes leave few different ones of so many blocks
-  few-blocks : (n k first blocks : ℕ) → length ws ≤ n → 0 < k → count_different (block_of k (λ c. number (value_after ws d c))) first blocks ≤ most_blocks n blocks
+  few-blocks : (n k first blocks : ℕ) → length ws ≤ n → 0 < k
+      → count_different (block_of k (λ c. number (value_after ws d c))) first blocks ≤ most_blocks n blocks
   few-blocks n k first blocks l pos =
       min-above _ _ _ (omega (arith, l, count_different-few number d ws k first blocks pos, count_by-le-length (is_accepted) ws))
       (count_different-le_count (block_of k (λ c. number (value_after ws d c))) first blocks)
 
-  few-data : (kind : TrieType) (n cells : ℕ) → length ws ≤ n → cells ≤ data_bound kind (λ c. number (value_after ws d c)) → cells ≤ most_data n (fast_end (type_number kind))
-  few-data Fast n cells l h = data-below cells _ _ _ _ h (few-blocks n 64 0 1024 l (omega arith)) (few-blocks n 16 4096 65536 l (omega arith))
+  few-data : (kind : TrieType) (n cells : ℕ) → length ws ≤ n → cells ≤ data_bound kind (λ c. number (value_after ws d c))
+      → cells ≤ most_data n (fast_end (type_number kind))
+  few-data Fast n cells l h = data-below cells _ _ _ _ h (few-blocks n 64 0 1024 l (omega arith))
+      (few-blocks n 16 4096 65536 l (omega arith))
   few-data Small n cells l h = data-below cells _ _ _ _ h (few-blocks n 64 0 64 l (omega arith)) (few-blocks n 16 256 69376 l (omega arith))
 
-  few-index : (kind : TrieType) (n cells : ℕ) → length ws ≤ n → cells ≤ index_bound kind (λ c. number (value_after ws d c)) → cells ≤ most_index n (fast_end (type_number kind))
+  few-index : (kind : TrieType) (n cells : ℕ) → length ws ≤ n → cells ≤ index_bound kind (λ c. number (value_after ws d c))
+      → cells ≤ most_index n (fast_end (type_number kind))
   few-index Fast n cells l h = index-below cells _ _ h (few-blocks n 512 128 2048 l (omega arith))
   few-index Small n cells l h = index-below cells _ _ h (few-blocks n 512 8 2168 l (omega arith))
 
   -- a trie that is well built of the writes of rows takes no more bytes than those rows may
-  pub size-of_rows : (rows : List Row) → AreWritesOf number rows ws → (of_number : ℕ → Option T) (t : Parts T) (kind : TrieType) → t.header.trie_type ≡ kind
+  pub size-of_rows : (rows : List Row) → AreWritesOf number rows ws → (of_number : ℕ → Option T) (t : Parts T) (kind : TrieType)
+      → t.header.trie_type ≡ kind
       → IsWellBuilt of_number (λ c. number (value_after ws d c)) t
       → (width n : ℕ) → n ≡ written_length width number t → n ≤ most_bytes (length rows) (type_number kind) width
   size-of_rows rows is of_number t kind k well width n e =
       let many : length rows ≡ length ws = ap length (sym is) ∙ length-map ws (row_of number) in
       let l : length ws ≤ length rows = omega (arith, many) in
-      let cells = few-data kind (length rows) (length t.values) l (subst (λ x. length t.values ≤ data_bound x (λ c. number (value_after ws d c))) k well.data_cells) in
-      let index = few-index kind (length rows) (length t.index) l (subst (λ x. length t.index ≤ index_bound x (λ c. number (value_after ws d c))) k well.index_cells) in
-      let below = bytes-below width (length t.index) _ (length (padding width (length t.index))) (length t.values) _ index (padding-one width (length t.index)) cells in
+      let cells = few-data kind (length rows) (length t.values) l
+      (subst (λ x. length t.values ≤ data_bound x (λ c. number (value_after ws d c))) k well.data_cells) in
+      let index = few-index kind (length rows) (length t.index) l
+      (subst (λ x. length t.index ≤ index_bound x (λ c. number (value_after ws d c))) k well.index_cells) in
+      let below = bytes-below width (length t.index) _ (length (padding width (length t.index)))
+      (length t.values) _ index (padding-one width (length t.index)) cells in
       omega (arith, e, below, length-append t.index (padding width (length t.index)))

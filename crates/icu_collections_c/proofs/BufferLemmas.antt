@@ -25,7 +25,8 @@ module _ {A B : Type 0} (f : A → B) where
   filled_all xs ys n e = elim (cases_lt (length ys) (length xs)) [
     | inl h ↦
         let many : n ≡ length ys = omega arith in
-        rw (many, take-map f (length ys) xs, drop_all (length ys) ys (omega arith), length-map xs f, drop_all (length xs) ys (omega arith)) refl
+        rw (many, take-map f (length ys) xs, drop_all (length ys) ys (omega arith), length-map xs f, drop_all (length xs) ys (omega arith))
+        refl
     | inr h ↦
         let many : n ≡ length xs = omega arith in
         rw (many, take_all (length xs) xs (omega arith), length-map xs f, take_all (length ys) (map f xs) (rw (length-map xs f) h)) refl

@@ -34,7 +34,8 @@ use Rattle.icu_collections_c.specs.declared.building.Refusal.TheVariants as refu
 use Rattle.icu_collections_c.specs.declared.building.Row.{Row}
 
 -- ---- rows and writes
-covers-same : (f l c : ℕ) → (nat_le f 0x10FFFF && (nat_le f c && nat_le c l)) ≡ ((nat_le f l && nat_le f 0x10FFFF) && (nat_le f c && nat_le c l))
+covers-same : (f l c : ℕ) → (nat_le f 0x10FFFF && (nat_le f c && nat_le c l))
+    ≡ ((nat_le f l && nat_le f 0x10FFFF) && (nat_le f c && nat_le c l))
 covers-same f l c = grind (arith, nat_tests)
 
 module _ {T : Type 0} (number : T → ℕ) where
@@ -48,7 +49,8 @@ module _ {T : Type 0} (number : T → ℕ) where
   last_row-of [] c = refl
   last_row-of (w ∷ ws) c =
       ap (λ o. option_or o (cond (covers (row_of number w) c) (Some (number (value_of w))) None)) (last_row-of ws c)
-      ∙ ap (λ b. option_or (option_map number (last_written ws c)) (cond b (Some (number (value_of w))) None)) (covers-same (first_of w) (last_of w) c)
+      ∙ ap (λ b. option_or (option_map number (last_written ws c)) (cond b (Some (number (value_of w))) None))
+      (covers-same (first_of w) (last_of w) c)
       ∙ joined (value_of w) (write_covers w c) (last_written ws c)
 
   unwrapped : (d : T) (default : ℕ) → number d ≡ default → (o : Option T) → unwrap_or (option_map number o) default ≡ number (unwrap_or o d)
@@ -60,7 +62,8 @@ above-none : {A B : Type 0} (b : Bool) (o : Option A) (f : A → Option B) → b
 above-none true o f e = refl
 above-none false o f e = absurd (cc)
 
-answer-above : {T : Type 0} (h : CodePointTrieHeader) (index : List ℕ) (values : List T) (u : ℕ) → 0x10FFFF < u → answer h index values u ≡ None
+answer-above : {T : Type 0} (h : CodePointTrieHeader) (index : List ℕ) (values : List T) (u : ℕ) → 0x10FFFF < u
+    → answer h index values u ≡ None
 unfolding answer
 answer-above h index values u l =
     let yes : nat_lt 0x10FFFF u ≡ true = grind (arith, nat_tests) in
@@ -104,7 +107,8 @@ module _ {T : Type 0} (number : T → ℕ) (rows : List Row) (ws : List (Write T
     }
 
   -- a trie that is well built of the writes' map is so of the rows'
-  pub well-of_rows : (of_number : ℕ → Option T) (t : Parts T) → IsWellBuilt of_number (λ c. number (value_after ws d c)) t → IsWellBuilt of_number (row_value rows default) t
+  pub well-of_rows : (of_number : ℕ → Option T) (t : Parts T) → IsWellBuilt of_number (λ c. number (value_after ws d c)) t
+      → IsWellBuilt of_number (row_value rows default) t
   well-of_rows of_number t well =
       let same : (λ c. number (value_after ws d c)) ≡ row_value rows default = λ i c. sym (row_value-of c) i in
       subst (λ f. IsWellBuilt of_number f t) same well
@@ -126,7 +130,8 @@ is_some-from : {A : Type 0} (o : Option A) (x : A) → o ≡ Some x → IsSome o
 is_some-from (Some y) x e = refl
 is_some-from None x e = absurd (cc)
 
-pub AreFitting-from : {T : Type 0} (of_number : ℕ → Option T) (rows : List Row) (default error : ℕ) (d e : T) → All (λ row. IsSome (of_number row.value)) rows
+pub AreFitting-from : {T : Type 0} (of_number : ℕ → Option T) (rows : List Row) (default error : ℕ) (d e : T)
+    → All (λ row. IsSome (of_number row.value)) rows
     → of_number default ≡ Some d → of_number error ≡ Some e → AreFitting of_number rows default error
 AreFitting-from of_number rows default error d e all d-of e-of = record {
   of_rows = all;
@@ -134,19 +139,22 @@ AreFitting-from of_number rows default error d e all d-of e-of = record {
   of_error = is_some-from (of_number error) e e-of;
 }
 
-module _ {T : Type 0} (number : T → ℕ) (of_number : ℕ → Option T) (width : ℕ) (rows : List Row) (default error : ℕ) (kind : TrieType) (F : Type 0) (fits : F) where
+module _ {T : Type 0} (number : T → ℕ) (of_number : ℕ → Option T) (width : ℕ) (rows : List Row) (default error : ℕ) (kind : TrieType)
+    (F : Type 0) (fits : F) where
   pub why-build : (x : BuildError) → (x ≡ build.TooLarge → (256 < length rows) × IsTooLarge (row_value rows default))
       → IsWhyNotBuilt (Unit {0}) F (IsTooLargeOf number of_number width rows default error kind) (of_build x)
   why-build build.TooLarge large = (tt, fits, inl (large refl))
   why-build build.Memory large = (tt, fits)
 
-  module _ (t : Parts T) (of : IsTrieOfNumbers number rows default error kind t) (well : IsWellBuilt of_number (row_value rows default) t) where
+  module _ (t : Parts T) (of : IsTrieOfNumbers number rows default error kind t)
+      (well : IsWellBuilt of_number (row_value rows default) t) where
     no_room : (x : WriteError) → (why_not_written width number t ≡ Some x) ⊎ ((x ≡ write.Memory) × (why_not_written width number t ≡ None))
         → (x ≡ write.Memory → ⊥) → (Unit {0}) × F × IsTooLargeOf number of_number width rows default error kind
     no_room x (inl w) other = (tt, fits, inr (t, of, well, x, w))
     no_room x (inr m) other = absurd (other m.0)
 
-    pub why-write : (x : WriteError) → (why_not_written width number t ≡ Some x) ⊎ ((x ≡ write.Memory) × (why_not_written width number t ≡ None))
+    pub why-write : (x : WriteError) → (why_not_written width number t ≡ Some x)
+        ⊎ ((x ≡ write.Memory) × (why_not_written width number t ≡ None))
         → IsWhyNotBuilt (Unit {0}) F (IsTooLargeOf number of_number width rows default error kind) (of_write x)
     why-write write.UnknownWidth h = no_room write.UnknownWidth h (λ e. absurd (cc))
     why-write write.LongIndex h = no_room write.LongIndex h (λ e. absurd (cc))
@@ -176,7 +184,8 @@ module _ (width : ℕ) (rows : List Row) (default error : ℕ) (kind : TrieType)
   pub form-known : value_width width ≡ width → IsForm n width
   form-known w = (rw n-is (type-below kind), w)
 
-  built-numbers : (bytes : List ℕ) → IsBuiltOf (λ x. x) (λ cell. Some (number_of width cell)) width (fitting (2 ^ (8 * width))) rows default error kind bytes
+  built-numbers : (bytes : List ℕ) → IsBuiltOf (λ x. x)
+      (λ cell. Some (number_of width cell)) width (fitting (2 ^ (8 * width))) rows default error kind bytes
       → IsBuilt rows default error n width bytes
   built-numbers bytes b = record {
     trie = b.trie;
@@ -187,12 +196,14 @@ module _ (width : ℕ) (rows : List Row) (default error : ℕ) (kind : TrieType)
   }
 
   pub if_ok-numbers : {V : Type 0} (items : V → List ℕ) (r : Result V Refusal)
-      → IfOk r (λ v. IsBuiltOf (λ x. x) (λ cell. Some (number_of width cell)) width (fitting (2 ^ (8 * width))) rows default error kind (items v))
+      → IfOk r (λ v. IsBuiltOf (λ x. x) (λ cell. Some (number_of width cell)) width (fitting (2 ^ (8 * width))) rows default error kind
+      (items v))
       → IfOk r (λ v. IsBuilt rows default error n width (items v))
   if_ok-numbers items (Ok v) h = built-numbers (items v) h
   if_ok-numbers items (Err e) h = tt
 
-  why-numbers : (F : Type 0) → value_width width ≡ width → (e : Refusal) → IsWhyNotBuilt (Unit {0}) F (IsTooLargeOf (λ x. x) (fitting (2 ^ (8 * width))) width rows default error kind) e
+  why-numbers : (F : Type 0) → value_width width ≡ width → (e : Refusal)
+      → IsWhyNotBuilt (Unit {0}) F (IsTooLargeOf (λ x. x) (fitting (2 ^ (8 * width))) width rows default error kind) e
       → IsWhyNotBuilt (IsForm n width) F (IsTooLargeFor rows default error n width) e
   why-numbers F w refused.Form h = absurd (h tt)
   why-numbers F w refused.Value h = (form-known w, h.1)

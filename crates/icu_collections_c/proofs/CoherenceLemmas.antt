@@ -33,7 +33,8 @@ keeps_second index behind i j x e = by (slice_get index i) refl e
     by None is h = absurd (cc)
     by (Some block) is h = rw (keeps_cell index behind i block is) (keeps_cell index behind (block + j) x h)
 
-keeps_index2 : (kind : TrieType) (index behind : List ℕ) (u x : ℕ) → index2_cell kind index u ≡ Some x → index2_cell kind (index ++ behind) u ≡ Some x
+keeps_index2 : (kind : TrieType) (index behind : List ℕ) (u x : ℕ) → index2_cell kind index u ≡ Some x
+    → index2_cell kind (index ++ behind) u ≡ Some x
 keeps_index2 kind index behind u x e = keeps_second index behind (u / 0x4000 + index1_start kind) (u / 0x200 % 32) x e
 
 -- no cell stands behind the data
@@ -47,16 +48,23 @@ limit-most Fast = omega arith
 limit-most Small = omega arith
 
 module _ {T : Type 0} (h : CodePointTrieHeader) (index : List ℕ) (values : List T) (u : ℕ) where
-  small_none : u < 0x110000 → fast_limit h.trie_type ≤ u → u < h.high_start → small_offset h.trie_type index u ≡ None → answer h index values u ≡ None
+  small_none : u < 0x110000 → fast_limit h.trie_type ≤ u → u < h.high_start → small_offset h.trie_type index u ≡ None
+      → answer h index values u ≡ None
   unfolding answer
-  small_none within from below is = rw (le-ltb 1114111 u (omega (arith, within)), le-ltb u (fast_limit h.trie_type) from, lt-ltb u h.high_start below, is) refl
+  small_none within from below is = rw (
+    le-ltb 1114111 u (omega (arith, within)),
+    le-ltb u (fast_limit h.trie_type) from,
+    lt-ltb u h.high_start below,
+    is,
+  ) refl
 
   no_offset : index2_cell h.trie_type index u ≡ None → small_offset h.trie_type index u ≡ None
   unfolding small_offset
   no_offset is = rw is refl
 
   -- where there is an answer, there is an index-2 cell
-  has_index2 : (x : T) → u < 0x110000 → fast_limit h.trie_type ≤ u → u < h.high_start → answer h index values u ≡ Some x → (n : ℕ) × (index2_cell h.trie_type index u ≡ Some n)
+  has_index2 : (x : T) → u < 0x110000 → fast_limit h.trie_type ≤ u → u < h.high_start → answer h index values u ≡ Some x
+      → (n : ℕ) × (index2_cell h.trie_type index u ≡ Some n)
   has_index2 x within from below e = by (index2_cell h.trie_type index u) refl
     where
       by : (o : Option ℕ) → index2_cell h.trie_type index u ≡ o → (n : ℕ) × (index2_cell h.trie_type index u ≡ Some n)
@@ -76,14 +84,16 @@ module _ {T : Type 0} (of_number : ℕ → Option T) (number : T → ℕ) (width
   in_stored u l = answers-stored width number t u (f u) (in_trie u l)
 
   -- no block of the data stands at an offset outside them
-  module _ (p : Parts T) (in_parts : (u : ℕ) → u < 0x110000 → answers p u ≡ Some (f u)) (far : length p.values ≤ p.header.data_null_offset) where
+  module _ (p : Parts T) (in_parts : (u : ℕ) → u < 0x110000 → answers p u ≡ Some (f u))
+      (far : length p.values ≤ p.header.data_null_offset) where
     no_fast : (u : ℕ) → u < fast_limit p.header.trie_type → fast_offset p.index u ≡ Some p.header.data_null_offset → ⊥
     no_fast u l is =
         let within : u < 0x110000 = omega (arith, l, limit-most p.header.trie_type) in
         outside p.values p.header.data_null_offset (u % 64) (f u) far
         (sym (fast_answer p.header p.index p.values u p.header.data_null_offset within l is) ∙ in_parts u within)
 
-    no_small : (u : ℕ) → u < 0x110000 → fast_limit p.header.trie_type ≤ u → u < p.header.high_start → small_offset p.header.trie_type p.index u ≡ Some p.header.data_null_offset → ⊥
+    no_small : (u : ℕ) → u < 0x110000 → fast_limit p.header.trie_type ≤ u → u < p.header.high_start
+        → small_offset p.header.trie_type p.index u ≡ Some p.header.data_null_offset → ⊥
     no_small u within from below is =
         outside p.values p.header.data_null_offset (u % 16) (f u) far
         (sym (small_answer p.header p.index p.values u p.header.data_null_offset within from below is) ∙ in_parts u within)
@@ -125,14 +135,16 @@ module _ {T : Type 0} (of_number : ℕ → Option T) (number : T → ℕ) (width
         null_64 = λ b l m is. absurd (no_fast stored in_stored far (b * 64) l is);
         null_16 = λ b l m is. absurd (no_small stored in_stored far (b * 16) (below (b * 16) m) l m is);
         null_512 = λ b l m is.
-            let cell = has_index2 t.header t.index t.values (b * 512) (f (b * 512)) (below (b * 512) m) l m (in_trie (b * 512) (below (b * 512) m)) in
+            let cell = has_index2 t.header t.index t.values (b * 512) (f (b * 512))
+            (below (b * 512) m) l m (in_trie (b * 512) (below (b * 512) m)) in
             let kept : index2_cell t.header.trie_type (t.index ++ padding width (length t.index)) (b * 512) ≡ Some cell.0 =
             keeps_index2 t.header.trie_type t.index (padding width (length t.index)) (b * 512) cell.0 cell.1 in
             let both : Some cell.0 ≡ Some t.header.index3_null_offset = sym kept ∙ is in
             absurd (no_512 far b l m (cell.1 ∙ both));
       }
 
-  pub coherent-stored_form : why_not_written width number t ≡ None → fault of_number t.header t.index t.values ≡ None → IsCoherentTrie of_number (stored_form width number t)
+  pub coherent-stored_form : why_not_written width number t ≡ None → fault of_number t.header t.index t.values ≡ None
+      → IsCoherentTrie of_number (stored_form width number t)
   coherent-stored_form room whole = elim (cases_lt t.header.data_null_offset (length t.values)) [
     | inl named ↦ coherent-stored width number t of_number room named whole well.coherent
     | inr far ↦ coherent-far far

@@ -17,14 +17,16 @@ Item = List ℕ × ℤ
 abbrev has_room : ℕ → ℕ → List Item → Item → Bool
 has_room words bytes es e = nat_lt (length es) words && nat_le (length (texts_of es) + length e.0) bytes
 
-room-first : (words bytes : ℕ) (e : Item) → (nat_lt 0 words && nat_le (length e.0) bytes) ≡ (nat_lt 0 words && nat_le (0 + length e.0) bytes)
+room-first : (words bytes : ℕ) (e : Item) → (nat_lt 0 words && nat_le (length e.0) bytes)
+    ≡ (nat_lt 0 words && nat_le (0 + length e.0) bytes)
 room-first words bytes e = ap (λ n. nat_lt 0 words && nat_le n bytes) (omega arith)
 
 tests_more : (words bytes x n t e : ℕ) → 0 < words → x ≤ bytes
     → (nat_lt n (words - 1) && nat_le (t + e) (bytes - x)) ≡ (nat_lt (suc n) words && nat_le (x + t + e) bytes)
 tests_more words bytes x n t e l m = grind (arith, nat_tests)
 
-tests_none : (words bytes x n t e : ℕ) → (nat_lt 0 words && nat_le x bytes) ≡ false → (nat_lt (suc n) words && nat_le (x + t + e) bytes) ≡ false
+tests_none : (words bytes x n t e : ℕ) → (nat_lt 0 words && nat_le x bytes) ≡ false
+    → (nat_lt (suc n) words && nat_le (x + t + e) bytes) ≡ false
 tests_none words bytes x n t e h = grind (arith, nat_tests)
 
 tests_yes : (words bytes x : ℕ) → (nat_lt 0 words && nat_le x bytes) ≡ true → (0 < words) × (x ≤ bytes)
@@ -44,7 +46,8 @@ long_texts x es e = omega (arith, length-append x.0 (texts_of es))
 fitting-push : (words bytes : ℕ) (es : List Item) (e : Item)
     → fitting words bytes (es ++ e ∷ []) ≡ fitting words bytes es ++ cond (has_room words bytes es e) (e ∷ []) []
 fitting-push words bytes [] e = ap (λ b. cond b (e ∷ []) []) (room-first words bytes e)
-fitting-push words bytes (x ∷ es) e = by (nat_lt 0 words && nat_le (length x.0) bytes) refl (fitting-push (words - 1) (bytes - length x.0) es e)
+fitting-push words bytes (x ∷ es) e = by (nat_lt 0 words && nat_le (length x.0) bytes) refl
+    (fitting-push (words - 1) (bytes - length x.0) es e)
   where
     by : (b : Bool) → (nat_lt 0 words && nat_le (length x.0) bytes) ≡ b
         → fitting (words - 1) (bytes - length x.0) (es ++ e ∷ [])
@@ -75,11 +78,14 @@ fitting-all words bytes (x ∷ es) l m =
 abbrev word_at : ℕ → Item → Word
 word_at start e = record { start = start; size = length e.0; value = e.1 }
 
-words-push : (start : ℕ) (es : List Item) (e : Item) → words_from start (es ++ e ∷ []) ≡ words_from start es ++ word_at (start + length (texts_of es)) e ∷ []
+words-push : (start : ℕ) (es : List Item) (e : Item)
+    → words_from start (es ++ e ∷ []) ≡ words_from start es ++ word_at (start + length (texts_of es)) e ∷ []
 words-push start [] e = ap (λ n. word_at n e ∷ []) (omega arith)
 words-push start (x ∷ es) e =
-    let there : start + length x.0 + length (texts_of es) ≡ start + length (texts_of (x ∷ es)) = omega (arith, length-append x.0 (texts_of es)) in
-    ap (λ zs. word_at start x ∷ zs) (words-push (start + length x.0) es e ∙ ap (λ n. words_from (start + length x.0) es ++ word_at n e ∷ []) there)
+    let there : start + length x.0 + length (texts_of es) ≡ start + length (texts_of (x ∷ es)) =
+    omega (arith, length-append x.0 (texts_of es)) in
+    ap (λ zs. word_at start x ∷ zs) (words-push (start + length x.0) es e
+    ∙ ap (λ n. words_from (start + length x.0) es ++ word_at n e ∷ []) there)
 
 pub texts-push : (es : List Item) (e : Item) → texts_of (es ++ e ∷ []) ≡ texts_of es ++ e.0
 texts-push es e = flat_map-append (λ (x : Item). x.0) es (e ∷ []) ∙ ap (λ t. texts_of es ++ t) (append-nil e.0)
@@ -89,13 +95,15 @@ module _ (words bytes : ℕ) (es : List Item) (e : Item) where
     fits_more : fitting words bytes (es ++ e ∷ []) ≡ es ++ e ∷ []
     fits_more =
         fitting-push words bytes es e
-        ∙ ap (λ b. fitting words bytes es ++ cond b (e ∷ []) []) (tests_true words bytes (length es) (length (texts_of es) + length e.0) l m)
+        ∙ ap (λ b. fitting words bytes es ++ cond b (e ∷ []) [])
+        (tests_true words bytes (length es) (length (texts_of es) + length e.0) l m)
         ∙ ap (λ zs. zs ++ e ∷ []) (fitting-all words bytes es (omega (arith, l)) (omega (arith, m)))
 
     fits_before : fitting words bytes es ≡ es
     fits_before = fitting-all words bytes es (omega (arith, l)) (omega (arith, m))
 
-    pub words-fit : words_from 0 (fitting words bytes (es ++ e ∷ [])) ≡ words_from 0 (fitting words bytes es) ++ word_at (length (texts_of es)) e ∷ []
+    pub words-fit : words_from 0 (fitting words bytes (es ++ e ∷ [])) ≡ words_from 0 (fitting words bytes es) ++ word_at
+        (length (texts_of es)) e ∷ []
     words-fit =
         ap (words_from 0) fits_more ∙ words-push 0 es e
         ∙ ap (λ n. words_from 0 es ++ word_at n e ∷ []) (omega arith)
@@ -105,7 +113,8 @@ module _ (words bytes : ℕ) (es : List Item) (e : Item) where
     texts-fit = ap texts_of fits_more ∙ texts-push es e ∙ ap (λ zs. texts_of zs ++ e.0) (sym fits_before)
 
   -- where there is no room, what fits is as it was
-  pub fitting-full : (words ≤ length es) ⊎ (bytes < length (texts_of es) + length e.0) → fitting words bytes (es ++ e ∷ []) ≡ fitting words bytes es
+  pub fitting-full : (words ≤ length es) ⊎ (bytes < length (texts_of es) + length e.0)
+      → fitting words bytes (es ++ e ∷ []) ≡ fitting words bytes es
   fitting-full h =
       fitting-push words bytes es e
       ∙ ap (λ b. fitting words bytes es ++ cond b (e ∷ []) []) (tests_false words bytes (length es) (length (texts_of es) + length e.0) h)
@@ -114,13 +123,15 @@ module _ (words bytes : ℕ) (es : List Item) (e : Item) where
 -- ---- the counts
 
 module _ (W B : ℕ) (items : List Item) (e : Item) (l m l' : Listing) (end : ℕ) (few : B < 2 ^ 63) (short : W < 2 ^ 63)
-    (was : IsListingOf items W B l) (end-is : end ≡ min (l.size + length e.0) (2 ^ 64 - 1)) (same : HasSameRoom l m) (w : l'.words ≡ m.words) (t : l'.texts ≡ m.texts)
+    (was : IsListingOf items W B l) (end-is : end ≡ min (l.size + length e.0) (2 ^ 64 - 1)) (same : HasSameRoom l m)
+    (w : l'.words ≡ m.words) (t : l'.texts ≡ m.texts)
     (words_room : l'.most_words ≡ m.most_words) (bytes_room : l'.most_bytes ≡ m.most_bytes)
     (count : l'.count ≡ min (m.count + 1) (2 ^ 64 - 1)) (size : l'.size ≡ end) where
   long : length (texts_of (items ++ e ∷ [])) ≡ length (texts_of items) + length e.0
   long = ap length (texts-push items e) ∙ length-append (texts_of items) e.0
 
-  with_words : l'.words.items ≡ words_from 0 (fitting W B (items ++ e ∷ [])) → l'.texts.items ≡ texts_of (fitting W B (items ++ e ∷ [])) → IsListingOf (items ++ e ∷ []) W B l'
+  with_words : l'.words.items ≡ words_from 0 (fitting W B (items ++ e ∷ [])) → l'.texts.items ≡ texts_of (fitting W B (items ++ e ∷ []))
+      → IsListingOf (items ++ e ∷ []) W B l'
   with_words ws ts = record {
     words_room = words_room ∙ same.words_room ∙ was.words_room;
     bytes_room = bytes_room ∙ same.bytes_room ∙ was.bytes_room;
@@ -151,7 +162,8 @@ module _ (W B : ℕ) (items : List Item) (e : Item) (l m l' : Listing) (end : �
       past (inl h) = inl (omega (arith, h, was.count_is))
       past (inr h) = inr (omega (arith, h, end-is, was.size_is))
 
-  pub listing-more : (l.count < W → end ≤ B → IsKept l e.0 e.1 m) → ((W ≤ l.count) ⊎ (B < end) → IsKeptOut l m) → IsListingOf (items ++ e ∷ []) W B l'
+  pub listing-more : (l.count < W → end ≤ B → IsKept l e.0 e.1 m) → ((W ≤ l.count) ⊎ (B < end) → IsKeptOut l m)
+      → IsListingOf (items ++ e ∷ []) W B l'
   listing-more fits full = by (cases_lt l.count W) (cases_lt B end)
     where
       by : (l.count < W) ⊎ (W ≤ l.count) → (B < end) ⊎ (end ≤ B) → IsListingOf (items ++ e ∷ []) W B l'

@@ -39,7 +39,8 @@ module _ {H : Type 0} where
   abbrev tests : Bool → Bool → H × ℕ → Result (H × ℕ) BinaryError
   tests x y p = if x then (if y then Err CutOff else Ok p) else Err OtherWidth
 
-  tested : (width_of stored : H → ℕ) (x y : Bool) (g h : H) (n w : ℕ) (b : List ℕ) → nat_eq (width_of g) w ≡ x → nat_lt (length b) (stored g) ≡ y
+  tested : (width_of stored : H → ℕ) (x y : Bool) (g h : H) (n w : ℕ) (b : List ℕ) → nat_eq (width_of g) w ≡ x
+      → nat_lt (length b) (stored g) ≡ y
       → tests x y (g, stored g) ≡ Ok (h, n) → Reads width_of stored w b h n
   unfolding first_of second_of
   tested width_of stored false y g h n w b p q e = cc
@@ -73,14 +74,16 @@ module _ {T : Type 0} (unpack : List ℕ → Option T) (w : ℕ) (number : T →
       let reads = reads_of (read_header b) (λ g. width_bytes g.value_width) stored_length w n b h s.reads in
       let is = ap (λ (p : Parts T). p.index) s.trie in
       let has = ap (λ (p : Parts T). p.values) s.trie in
-      let long : length (index_bytes h b) ≡ index_size h = length-take-le (index_size h) (drop 16 b) (omega (arith, reads.within, length-drop 16 b)) in
+      let long : length (index_bytes h b) ≡ index_size h =
+      length-take-le (index_size h) (drop 16 b) (omega (arith, reads.within, length-drop 16 b)) in
       let count : length t.index ≡ index_size h / 2 =
       ap length is ∙ length-values_of (λ c. Some (number_of 2 c)) 2 (λ _. refl) (index_bytes h b) ∙ ap (λ k. k / 2) long in
       let whole : 2 * length t.index ≡ index_size h = omega (arith, count) in
       let from : 16 + 2 * length t.index - 16 ≡ index_size h = omega (arith, whole) in
       let left : n - (16 + 2 * length t.index) ≡ data_size h = omega (arith, reads.size, whole) in
       let far : 16 + 2 * length t.index ≡ index_size h + 16 = omega (arith, whole) in
-      let past : drop (index_size h) (drop 16 b) ≡ drop (index_size h + 16) b = drop-drop (index_size h) 16 b ∙ ap (λ k. drop k b) (omega arith) in
+      let past : drop (index_size h) (drop 16 b) ≡ drop (index_size h + 16) b =
+      drop-drop (index_size h) 16 b ∙ ap (λ k. drop k b) (omega arith) in
       record {
         within = omega (arith, reads.size, whole);
         fits = omega (arith, reads.size, reads.within);
@@ -103,6 +106,8 @@ type-of_limit Fast = refl
 type-of_limit Small = refl
 
 -- a trie is told by its parts
-pub parts-told : {T : Type 0} (unpack : List ℕ → Option T) (w : ℕ) (header : CodePointTrieHeader) (index values : List ℕ) (t : Parts T) → header ≡ t.header → cells_of 2 index ≡ t.index
-    → values_of unpack w values ≡ t.values → (let p : Parts T = record { header = header; index = cells_of 2 index; values = values_of unpack w values } in p) ≡ t
+pub parts-told : {T : Type 0} (unpack : List ℕ → Option T) (w : ℕ) (header : CodePointTrieHeader) (index values : List ℕ) (t : Parts T)
+    → header ≡ t.header → cells_of 2 index ≡ t.index
+    → values_of unpack w values ≡ t.values
+    → (let p : Parts T = record { header = header; index = cells_of 2 index; values = values_of unpack w values } in p) ≡ t
 parts-told unpack w header index values t h i v = rw (h, i, v) refl

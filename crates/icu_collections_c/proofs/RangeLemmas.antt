@@ -44,7 +44,8 @@ put xs ys v n e l = rw add-one (put_suc xs ys v n e l)
 
 module _ {A : Type 0} (of_number : ℕ → Option A) (number : A → ℕ) (t : Parts A) where
   given_more : (c : ℕ) (rs : List (CodePointMapRange A)) (next : ℕ) (r : CodePointMapRange A)
-      → AreRangesTo of_number t c rs next → GivesWalk of_number t.header t.index t.values next (Some r) → AreRangesTo of_number t c (rs ++ r ∷ []) (last_of r + 1)
+      → AreRangesTo of_number t c rs next → GivesWalk of_number t.header t.index t.values next (Some r)
+      → AreRangesTo of_number t c (rs ++ r ∷ []) (last_of r + 1)
   given_more c [] next r e w = (subst (λ n. GivesWalk of_number t.header t.index t.values n (Some r)) (sym e) w, refl)
   given_more c (x ∷ xs) next r h w = (h.0, given_more (last_of x + 1) xs next r h.1 w)
 

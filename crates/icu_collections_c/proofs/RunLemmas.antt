@@ -18,7 +18,8 @@ pub record HasGone (items : List (Result (String Global × ℤ) MemoryError)) (m
   pub kept : IsListingOf (map shown entries) most_words most_bytes l
 
 -- one more
-module _ (items : List (Result (String Global × ℤ) MemoryError)) (W B : ℕ) (l m : Listing) (text : String Global) (v : ℤ) (was : HasGone items W B l)
+module _ (items : List (Result (String Global × ℤ) MemoryError)) (W B : ℕ) (l m : Listing) (text : String Global) (v : ℤ)
+    (was : HasGone items W B l)
     (t : List ℕ) (n : ℤ) (t-is : t ≡ string_bytes text) (n-is : n ≡ v)
     (step : (shown_so_far : List (List ℕ × ℤ)) → IsListingOf shown_so_far l.most_words l.most_bytes l
     → IsListingOf (shown_so_far ++ (t, n) ∷ []) l.most_words l.most_bytes m) where

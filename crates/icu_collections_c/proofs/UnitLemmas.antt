@@ -36,7 +36,8 @@ whole_units b even = let cells = length-values_of (λ cell. Some (number_of 2 ce
 
 -- ---- steps
 -- one more unit
-pub along_push : (units : List ℕ) (from mid to : Place) (w : List ℕ) (u : ℕ) → StepsAlong units from w mid → StepsTo units mid u to → StepsAlong units from (w ++ u ∷ []) to
+pub along_push : (units : List ℕ) (from mid to : Place) (w : List ℕ) (u : ℕ) → StepsAlong units from w mid → StepsTo units mid u to
+    → StepsAlong units from (w ++ u ∷ []) to
 along_push units from mid to [] u h k = (to, subst (λ z. StepsTo units z u to) h k, refl)
 along_push units from mid to (x ∷ w) u h k = (h.0, h.1, along_push units h.0 mid to w u h.2 k)
 

@@ -30,7 +30,8 @@ unfolding code_points_of
 code_points_pair u v us e f = rw (e, f) refl
 
 -- there are no more code points than units
-length_by_pair : (u v : ℕ) (us : List ℕ) (b : Bool) → (is_high_surrogate u && is_low_surrogate v) ≡ b → length (code_points_of us) ≤ length us
+length_by_pair : (u v : ℕ) (us : List ℕ) (b : Bool) → (is_high_surrogate u && is_low_surrogate v) ≡ b
+    → length (code_points_of us) ≤ length us
     → length (code_points_of (v ∷ us)) ≤ length (v ∷ us) → length (code_points_of (u ∷ v ∷ us)) ≤ length (u ∷ v ∷ us)
 unfolding code_points_of
 length_by_pair u v us true e after rest = rw e (omega arith)
@@ -40,16 +41,19 @@ pub length-code_points : (us : List ℕ) → length (code_points_of us) ≤ leng
 unfolding code_points_of
 length-code_points [] = omega arith
 length-code_points (u ∷ []) = omega arith
-length-code_points (u ∷ v ∷ us) = length_by_pair u v us (is_high_surrogate u && is_low_surrogate v) refl (length-code_points us) (length-code_points (v ∷ us))
+length-code_points (u ∷ v ∷ us) = length_by_pair u v us (is_high_surrogate u && is_low_surrogate v) refl (length-code_points us)
+    (length-code_points (v ∷ us))
 
 -- ---- what is left behind those that were gone through
-next_of : (pts : List ℕ) (n c : ℕ) (after : List ℕ) → drop n pts ≡ c ∷ after → (n < length pts) × ((d : ℕ) → get_or pts n d ≡ c) × (drop (suc n) pts ≡ after)
+next_of : (pts : List ℕ) (n c : ℕ) (after : List ℕ) → drop n pts ≡ c ∷ after → (n < length pts) × ((d : ℕ) → get_or pts n d ≡ c)
+    × (drop (suc n) pts ≡ after)
 next_of [] zero c after e = absurd (cc)
 next_of [] (suc n) c after e = absurd (cc)
 next_of (x ∷ pts) zero c after e = (omega arith, λ d. cc, cc)
 next_of (x ∷ pts) (suc n) c after e = let more = next_of pts n c after e in (omega (arith, more.0), more.1, more.2)
 
-pub next-drop : (pts : List ℕ) (n c : ℕ) (after : List ℕ) → drop n pts ≡ c ∷ after → (n < length pts) × ((d : ℕ) → get_or pts n d ≡ c) × (drop (n + 1) pts ≡ after)
+pub next-drop : (pts : List ℕ) (n c : ℕ) (after : List ℕ) → drop n pts ≡ c ∷ after → (n < length pts) × ((d : ℕ) → get_or pts n d ≡ c)
+    × (drop (n + 1) pts ≡ after)
 next-drop pts n c after e = rw add-one (next_of pts n c after e)
 
 -- where nothing is left, all were gone through

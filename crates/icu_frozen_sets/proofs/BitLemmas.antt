@@ -83,7 +83,8 @@ module _ (block : List ℕ) (from to c : ℕ) (some : from < to) (one_word : to 
   with_mask = bit_or (get_or block (from / 64 % 4) 0) (mask (from % 64) ((to - 1) % 64))
 
   -- in the word itself
-  same_word : c / 64 ≡ from / 64 → nat_eq (bit_at with_mask (c % 64)) 1 ≡ (nat_eq (bit_at (get_or block (from / 64 % 4) 0) (c % 64)) 1 || between from to c)
+  same_word : c / 64 ≡ from / 64 → nat_eq (bit_at with_mask (c % 64)) 1
+      ≡ (nat_eq (bit_at (get_or block (from / 64 % 4) 0) (c % 64)) 1 || between from to c)
   same_word e = elim (cases_lt c from) [
     | inl l ↦ or_none _ _ (c % 64) (mask_before (from % 64) ((to - 1) % 64) (c % 64) (omega arith) (omega arith) (omega arith))
         ∙ rw (between_before from to c l) (sym (or_false _))
@@ -105,8 +106,12 @@ module _ (block : List ℕ) (from to c : ℕ) (some : from < to) (one_word : to 
   ]
 
   pub bits_set : length block ≡ 4 → c / 256 ≡ from / 256
-      → block_bit (set block (from / 64 % 4) (bit_or (get_or block (from / 64 % 4) 0) (mask (from % 64) ((to - 1) % 64)))) c ≡ (block_bit block c || between from to c)
+      → block_bit (set block (from / 64 % 4) (bit_or (get_or block (from / 64 % 4) 0) (mask (from % 64) ((to - 1) % 64)))) c
+      ≡ (block_bit block c || between from to c)
   bits_set four e = elim (cases_eq (c / 64) (from / 64)) [
     | inl q ↦ rw (q, get_or-set_same block (from / 64 % 4) with_mask 0 (omega arith)) (same_word q)
-    | inr n ↦ rw (get_or-set_other block (from / 64 % 4) (c / 64 % 4) with_mask 0 (λ (p : c / 64 % 4 ≡ from / 64 % 4). n (omega arith)), outside n) (sym (or_false _))
+    | inr n ↦ rw (
+      get_or-set_other block (from / 64 % 4) (c / 64 % 4) with_mask 0 (λ (p : c / 64 % 4 ≡ from / 64 % 4). n (omega arith)),
+      outside n,
+    ) (sym (or_false _))
   ]

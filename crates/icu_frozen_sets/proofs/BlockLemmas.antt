@@ -43,7 +43,8 @@ pub bit_of_uniform : (value : Bool) (word k : ℕ) → word ≡ cond value (2 ^ 
 bit_of_uniform true word k e h = rw (e, bit_at_ones 64 k h) refl
 bit_of_uniform false word k e h = rw (e, bit_at-zero k) refl
 
-shared_word : (t : BitTables) (value : Bool) (j : ℕ) → AreTables t → j < 4 → get_or t.words (cond value 4 0 + j) 0 ≡ cond value (2 ^ 64 - 1) 0
+shared_word : (t : BitTables) (value : Bool) (j : ℕ) → AreTables t → j < 4
+    → get_or t.words (cond value 4 0 + j) 0 ≡ cond value (2 ^ 64 - 1) 0
 shared_word t true j a h = a.all j h
 shared_word t false j a h = rw zero-add (a.none j h)
 
@@ -100,12 +101,14 @@ module _ (t : BitTables) (block : List ℕ) (a : AreTables t) (four : length blo
         all = λ k h. get_or_append_left t.words block 0 (4 + k) (let m = a.least in omega arith) ∙ a.all k h;
       }
 
-  own_kept : (c : ℕ) → c / 256 < length t.index → has_bit (record { index = t.index ++ length t.words ∷ []; words = t.words ++ block }) c ≡ has_bit t c
+  own_kept : (c : ℕ) → c / 256 < length t.index
+      → has_bit (record { index = t.index ++ length t.words ∷ []; words = t.words ++ block }) c ≡ has_bit t c
   own_kept c h =
       let p = a.placed (c / 256) h in
       rw (old_place (c / 256) h, get_or_append_left t.words block 0 (get_or t.index (c / 256) 0 + c / 64 % 4) (omega arith)) refl
 
-  own_added : (c : ℕ) → length t.index ≤ c / 256 → c / 256 < length t.index + 1 → has_bit (record { index = t.index ++ length t.words ∷ []; words = t.words ++ block }) c ≡ block_bit block c
+  own_added : (c : ℕ) → length t.index ≤ c / 256 → c / 256 < length t.index + 1
+      → has_bit (record { index = t.index ++ length t.words ∷ []; words = t.words ++ block }) c ≡ block_bit block c
   own_added c l h = rw (own_place (c / 256) (omega arith), get_or-append-add t.words block (c / 64 % 4) 0) refl
 
   pub own_more : AddsBlocks t (record { index = t.index ++ length t.words ∷ []; words = t.words ++ block }) 1 (block_bit block)
@@ -117,7 +120,8 @@ module _ (t : BitTables) (block : List ℕ) (a : AreTables t) (four : length blo
   }
 
 -- ---- a block whose words are all alike
-pub uniform_block : (t new : BitTables) (block : List ℕ) (value : Bool) → AddsBlocks t new 1 (λ c. value) → ((k : ℕ) → k < 4 → get_or block k 0 ≡ cond value (2 ^ 64 - 1) 0) → AddsBlocks t new 1 (block_bit block)
+pub uniform_block : (t new : BitTables) (block : List ℕ) (value : Bool) → AddsBlocks t new 1 (λ c. value)
+    → ((k : ℕ) → k < 4 → get_or block k 0 ≡ cond value (2 ^ 64 - 1) 0) → AddsBlocks t new 1 (block_bit block)
 uniform_block t new block value a all = record {
   tables = a.tables;
   more = a.more;

@@ -43,7 +43,8 @@ through c end = elim (cases_lt end c) [
   | inr l ↦ lt-ltb c (end + 1) (omega arith) ∙ sym (le-leb c end l)
 ]
 
-pub freezes_none : (ends : List ℕ) (left : List (RangeInclusive ℕ)) (t : BitTables) (block : List ℕ) (reached : ℕ) → IsFilling t block reached → reached ≡ 0 → length t.index ≡ 0
+pub freezes_none : (ends : List ℕ) (left : List (RangeInclusive ℕ)) (t : BitTables) (block : List ℕ) (reached : ℕ)
+    → IsFilling t block reached → reached ≡ 0 → length t.index ≡ 0
     → AreApart left → All IsOfCodePoints left → ((c : ℕ) → in_ranges left c ≡ holds ends c) → Freezes ends left t block reached
 freezes_none ends left t block reached f z l apart within held = record {
   filling = f;
@@ -54,7 +55,8 @@ freezes_none ends left t block reached f z l apart within held = record {
   held = λ c. sym (rw (filled_past t block reached c (omega arith)) (held c));
 }
 
-module _ (ends : List ℕ) (left rest : List (RangeInclusive ℕ)) (r : RangeInclusive ℕ) (step : left ≡ r ∷ rest) (t : BitTables) (block : List ℕ) (reached : ℕ)
+module _ (ends : List ℕ) (left rest : List (RangeInclusive ℕ)) (r : RangeInclusive ℕ) (step : left ≡ r ∷ rest) (t : BitTables)
+    (block : List ℕ) (reached : ℕ)
     (f : Freezes ends left t block reached) where
   pub range_from : reached ≤ r.start
   range_from = let P : List (RangeInclusive ℕ) → Type 0 = λ rs. StartsFrom reached rs in rw step at f.from
@@ -71,7 +73,8 @@ module _ (ends : List ℕ) (left rest : List (RangeInclusive ℕ)) (r : RangeInc
   pub range_within : r.end < code_point_limit
   range_within = (inside 0 r (omega arith)).1
 
-  pub freezes_more : (t1 : BitTables) (block1 : List ℕ) (t2 : BitTables) (block2 : List ℕ) (end : ℕ) → end ≡ r.end + 1 → Fills t block reached t1 block1 r.start false → Fills t1 block1 r.start t2 block2 end true
+  pub freezes_more : (t1 : BitTables) (block1 : List ℕ) (t2 : BitTables) (block2 : List ℕ) (end : ℕ) → end ≡ r.end + 1
+      → Fills t block reached t1 block1 r.start false → Fills t1 block1 r.start t2 block2 end true
       → length t2.index ≡ end / 256 → Freezes ends rest t2 block2 end
   freezes_more t1 block1 t2 block2 end e a b settled = record {
     filling = b.filling;
@@ -81,14 +84,18 @@ module _ (ends : List ℕ) (left rest : List (RangeInclusive ℕ)) (r : RangeInc
     from = rw e (starts_from (r.end + 1) rest here.0);
     held = λ c. f.held c ∙ (ap (λ (rs : List (RangeInclusive ℕ)). filled t block reached c || in_ranges rs c) step
         ∙ (or_assoc (filled t block reached c) (nat_le r.start c && nat_le c r.end) (in_ranges rest c)
-        ∙ ap (λ (b : Bool). b || in_ranges rest c) (sym (b.bits c ∙ (ap (λ (x : Bool). x || between r.start end c) (a.bits c ∙ or_false (filled t block reached c))
+        ∙ ap (λ (b : Bool). b || in_ranges rest c)
+        (sym (b.bits c ∙ (ap (λ (x : Bool). x || between r.start end c) (a.bits c ∙ or_false (filled t block reached c))
         ∙ ap (λ (x : Bool). filled t block reached c || (nat_le r.start c && x)) (ap (λ (n : ℕ). nat_lt c n) e ∙ through c r.end))))));
   }
 
 -- the same, as the calls name the numbers
-pub freezes_range : (ends : List ℕ) (left rest : List (RangeInclusive ℕ)) (r : RangeInclusive ℕ) → left ≡ r ∷ rest → (t : BitTables) (block : List ℕ) (reached : ℕ) → Freezes ends left t block reached
-    → (t1 : BitTables) (block1 : List ℕ) (start mid : ℕ) (t2 : BitTables) (block2 : List ℕ) (end new : ℕ) → start ≡ r.start → mid ≡ start → end ≡ r.end + 1 → new ≡ end
-    → Fills t block reached t1 block1 start false → Fills t1 block1 mid t2 block2 end true → length t2.index ≡ end / 256 → Freezes ends rest t2 block2 new
+pub freezes_range : (ends : List ℕ) (left rest : List (RangeInclusive ℕ)) (r : RangeInclusive ℕ) → left ≡ r ∷ rest
+    → (t : BitTables) (block : List ℕ) (reached : ℕ) → Freezes ends left t block reached
+    → (t1 : BitTables) (block1 : List ℕ) (start mid : ℕ) (t2 : BitTables) (block2 : List ℕ) (end new : ℕ) → start ≡ r.start → mid ≡ start
+    → end ≡ r.end + 1 → new ≡ end
+    → Fills t block reached t1 block1 start false → Fills t1 block1 mid t2 block2 end true → length t2.index ≡ end / 256
+    → Freezes ends rest t2 block2 new
 freezes_range ends left rest r step t block reached f t1 block1 start mid t2 block2 end new e1 e2 e3 e4 a b settled =
     let a2 : Fills t block reached t1 block1 r.start false = rw (← e1) a in
     let b2 : Fills t1 block1 r.start t2 block2 end true = rw (← e1, ← e2) b in

@@ -78,7 +78,8 @@ passed_both p text start mid end u s order b e = record {
 
 -- ---- by bytes
 -- a byte of ASCII is a character
-ascii_step : (text : List ℕ) (n : ℕ) → n < length text → slice_index text n < 128 → drop n text ≡ encode_utf8 (slice_index text n) ++ drop (n + 1) text
+ascii_step : (text : List ℕ) (n : ℕ) → n < length text → slice_index text n < 128
+    → drop n text ≡ encode_utf8 (slice_index text n) ++ drop (n + 1) text
 ascii_step text n h a = drop_more text n 0 h ∙ ap (λ (bs : List ℕ). bs ++ drop (n + 1) text) (sym (encode_ascii (slice_index text n) a))
 
 pub passed_ascii : (p : ℕ → Bool) (text : List ℕ) (start n : ℕ) → Passed p text start n → n < length text → slice_index text n < 128
@@ -98,7 +99,8 @@ pub record SpannedBack (p : ℕ → Bool) (text rest : List ℕ) : Type 0 where
   pub parts : text ≡ rest ++ behind
   pub so_far : length rest + tail p text ≡ length text + tail p rest
 
-module _ (p : ℕ → Bool) (text rest less : List ℕ) (c : ℕ) (s : SpannedBack p text rest) (scalar : IsScalar c) (step : rest ≡ less ++ encode_utf8 c) where
+module _ (p : ℕ → Bool) (text rest less : List ℕ) (c : ℕ) (s : SpannedBack p text rest) (scalar : IsScalar c)
+    (step : rest ≡ less ++ encode_utf8 c) where
   less_utf8 : IsUtf8 less
   less_utf8 =
       let b = IsCharBoundary-at_seam rest less (encode_utf8 c) step (IsUtf8-encode c scalar) in
@@ -119,9 +121,11 @@ module _ (p : ℕ → Bool) (text rest less : List ℕ) (c : ℕ) (s : SpannedBa
 
   pub back_past : p c ≡ true → SpannedBack p text less
   back_past y =
-      let e : take_while p (reverse (chars rest)) ≡ c ∷ take_while p (reverse (chars less)) = rw last_first (take_while-cons p c (reverse (chars less)) ∙ cond-true _ _ _ y) in
+      let e : take_while p (reverse (chars rest)) ≡ c ∷ take_while p (reverse (chars less)) =
+      rw last_first (take_while-cons p c (reverse (chars less)) ∙ cond-true _ _ _ y) in
       let f : tail p rest ≡ length (encode_utf8 c) + tail p less =
-      ap (λ (cs : List ℕ). length (encode_utf8_all cs)) e ∙ length-append (encode_utf8 c) (encode_utf8_all (take_while p (reverse (chars less)))) in
+      ap (λ (cs : List ℕ). length (encode_utf8_all cs)) e
+      ∙ length-append (encode_utf8 c) (encode_utf8_all (take_while p (reverse (chars less)))) in
       let a = s.so_far in let b = lengths in
       record {
         utf8 = less_utf8;

@@ -99,7 +99,8 @@ module _ (set text : List ℕ) (u : IsUtf8 text) (is_held : Bool) where
 
   text_parts : text ≡ front_of set is_held text ++ encode_utf8_all behind
   text_parts =
-      sym (encodes-chars text u) ∙ ap (λ (cs : List ℕ). encode_utf8_all cs) is_cut.parts ∙ encodes-append (take_while passes (chars text)) behind
+      sym (encodes-chars text u) ∙ ap (λ (cs : List ℕ). encode_utf8_all cs) is_cut.parts
+      ∙ encodes-append (take_while passes (chars text)) behind
 
   pub take_front : take (length (front_of set is_held text)) text ≡ front_of set is_held text
   take_front =

@@ -16,7 +16,8 @@ pub record Checked (xs ys rest : List ℕ) (next : ℕ) : Type 0 where
   pub small : next ≤ suc code_point_limit
   pub tight : Tight ys next
 
-pub checked_more : (xs ys rest more : List ℕ) (next e : ℕ) → Checked xs ys rest next → rest ≡ e ∷ more → next ≤ e → e ≤ code_point_limit → Checked xs (ys ++ e ∷ []) more (e + 1)
+pub checked_more : (xs ys rest more : List ℕ) (next e : ℕ) → Checked xs ys rest next → rest ≡ e ∷ more → next ≤ e → e ≤ code_point_limit
+    → Checked xs (ys ++ e ∷ []) more (e + 1)
 checked_more xs ys rest more next e c r h l = record {
   all = append_assoc ys (e ∷ []) more ∙ (ap (λ (zs : List ℕ). ys ++ zs) (sym r) ∙ c.all);
   run = run-append 0 next (e + 1) ys (e ∷ []) (omega arith) (omega arith) c.run (h, omega arith, tt);
@@ -36,7 +37,8 @@ checked_low xs ys rest more next e c r h v = elim c.tight [
       omega (arith, t.2)
 ]
 
-pub checked_high : (xs ys rest more : List ℕ) (next e : ℕ) → Checked xs ys rest next → rest ≡ e ∷ more → code_point_limit < e → IsValid xs → ⊥
+pub checked_high : (xs ys rest more : List ℕ) (next e : ℕ) → Checked xs ys rest next → rest ≡ e ∷ more → code_point_limit < e → IsValid xs
+    → ⊥
 checked_high xs ys rest more next e c r h v =
     let w : IsValid (ys ++ e ∷ more) = subst (λ (zs : List ℕ). IsValid zs) (sym c.all ∙ ap (λ (zs : List ℕ). ys ++ zs) r) v in
     let n = length-append ys (e ∷ more) in
@@ -46,4 +48,5 @@ checked_high xs ys rest more next e c r h v =
 pub checked_all : (xs ys rest : List ℕ) (next : ℕ) → Checked xs ys rest next → rest ≡ [] → length xs % 2 ≡ 0 → IsValid xs
 checked_all xs ys rest next c r e =
     let a : ys ≡ xs = sym (append-nil ys) ∙ (ap (λ (zs : List ℕ). ys ++ zs) (sym r) ∙ c.all) in
-    subst (λ (zs : List ℕ). IsValid zs) a (valid_from_run ys (run-wider 0 next 0 (suc code_point_limit) ys (omega arith) c.small c.run) (ap (λ (zs : List ℕ). length zs % 2) a ∙ e))
+    subst (λ (zs : List ℕ). IsValid zs) a (valid_from_run ys (run-wider 0 next 0 (suc code_point_limit) ys (omega arith) c.small c.run)
+    (ap (λ (zs : List ℕ). length zs % 2) a ∙ e))

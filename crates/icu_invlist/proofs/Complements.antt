@@ -23,7 +23,8 @@ none_above : (xs : List ℕ) → Run (suc code_point_limit) (suc code_point_limi
 none_above [] r = refl
 none_above (x ∷ xs) r = absurd (omega (arith, r.0, r.1))
 
-back-run : (lo : ℕ) (xs : List ℕ) → lo ≤ code_point_limit → Run lo (suc code_point_limit) xs → Run lo (suc code_point_limit) (toggle_back xs)
+back-run : (lo : ℕ) (xs : List ℕ) → lo ≤ code_point_limit → Run lo (suc code_point_limit) xs
+    → Run lo (suc code_point_limit) (toggle_back xs)
 back-run lo [] h r = (h, omega arith, tt)
 back-run lo (e ∷ xs) h r = elim (cases_eq e code_point_limit) [
   | inl k ↦ rw (back_is e xs k) tt
@@ -37,10 +38,12 @@ back-length lo (e ∷ xs) r = elim (cases_eq e code_point_limit) [
   | inr k ↦ rw (back_more e xs k) (let n = back-length (suc e) xs r.2 in omega arith)
 ]
 
-back-ends_below : (lo c : ℕ) (xs : List ℕ) → c < code_point_limit → Run lo (suc code_point_limit) xs → ends_below (toggle_back xs) (suc c) ≡ ends_below xs (suc c)
+back-ends_below : (lo c : ℕ) (xs : List ℕ) → c < code_point_limit → Run lo (suc code_point_limit) xs
+    → ends_below (toggle_back xs) (suc c) ≡ ends_below xs (suc c)
 back-ends_below lo c [] h r = ends_below-no code_point_limit (suc c) [] (omega arith)
 back-ends_below lo c (e ∷ xs) h r = elim (cases_eq e code_point_limit) [
-  | inl k ↦ rw (back_is e xs k, ends_below-no e (suc c) xs (omega arith)) (sym (ends_below-before (suc e) (suc code_point_limit) xs (suc c) r.2 (omega arith)))
+  | inl k ↦ rw (back_is e xs k, ends_below-no e (suc c) xs (omega arith))
+      (sym (ends_below-before (suc e) (suc code_point_limit) xs (suc c) r.2 (omega arith)))
   | inr k ↦ rw (back_more e xs k) (elim (cases_lt e (suc c)) [
     | inl l ↦ rw (ends_below-yes e (suc c) (toggle_back xs) l, ends_below-yes e (suc c) xs l) (ap suc (back-ends_below (suc e) c xs h r.2))
     | inr l ↦ rw (ends_below-no e (suc c) (toggle_back xs) l, ends_below-no e (suc c) xs l) (back-ends_below (suc e) c xs h r.2)
@@ -71,8 +74,10 @@ front-length (e ∷ xs) = elim (cases_eq e 0) [
 front-holds : (c : ℕ) (xs : List ℕ) → is_odd (ends_below (toggle_front xs) (suc c)) ≡ not (is_odd (ends_below xs (suc c)))
 front-holds c [] = rw (ends_below-yes 0 (suc c) [] (omega arith)) (odd_next 0)
 front-holds c (e ∷ xs) = elim (cases_eq e 0) [
-  | inl k ↦ rw (front_is e xs k, ends_below-yes e (suc c) xs (omega arith)) (odd_before (ends_below xs (suc c)) ∙ ap (λ (n : ℕ). not (is_odd n)) (omega arith))
-  | inr k ↦ rw (front_more e xs k, ends_below-yes 0 (suc c) (e ∷ xs) (omega arith)) (ap is_odd (omega arith) ∙ odd_next (ends_below (e ∷ xs) (suc c)))
+  | inl k ↦ rw (front_is e xs k, ends_below-yes e (suc c) xs (omega arith))
+      (odd_before (ends_below xs (suc c)) ∙ ap (λ (n : ℕ). not (is_odd n)) (omega arith))
+  | inr k ↦ rw (front_more e xs k, ends_below-yes 0 (suc c) (e ∷ xs) (omega arith))
+      (ap is_odd (omega arith) ∙ odd_next (ends_below (e ∷ xs) (suc c)))
 ]
 
 -- ---- both
@@ -99,7 +104,8 @@ gap_behind lo ys zs (Some x) h up m = elim (cases_order x code_point_limit) [
 
 -- the gap that comes next, and the gaps behind it
 pub next_gap : (start e : ℕ) (ends ys zs : List ℕ) (o r s : Option ℕ) → IsValid (gaps_left o ends) → o ≡ Some start → ends ≡ e ∷ ys
-    → MatchOption r ((ys ≡ []) × (zs ≡ [])) (λ x. ys ≡ x ∷ zs) → s ≡ start_at r → IsValid (gaps_left s zs) × (gaps_left o ends ≡ start ∷ e ∷ gaps_left s zs)
+    → MatchOption r ((ys ≡ []) × (zs ≡ [])) (λ x. ys ≡ x ∷ zs) → s ≡ start_at r
+    → IsValid (gaps_left s zs) × (gaps_left o ends ≡ start ∷ e ∷ gaps_left s zs)
 next_gap start e ends ys zs o r s v a b m t = elim (cases_eq e code_point_limit) [
   | inl k ↦ absurd (no_single start (rw (a, b, back_is e ys k) at v))
   | inr k ↦
@@ -117,16 +123,21 @@ next_gap start e ends ys zs o r s v a b m t = elim (cases_eq e code_point_limit)
 zero_first : (x : ℕ) (ys : List ℕ) → Run 0 (suc code_point_limit) (x ∷ ys) → holds (x ∷ ys) 0 ≡ true → x ≡ 0
 zero_first x ys r h = elim (cases_eq x 0) [
   | inl e ↦ e
-  | inr e ↦ absurd (both_ways _ (ap is_odd (ends_below-no x 1 ys (omega arith) ∙ ends_below-before (suc x) (suc code_point_limit) ys 1 r.2 (omega arith))) (sym (holds-ends_below (x ∷ ys) 0) ∙ h))
+  | inr e ↦
+      absurd
+      (both_ways _ (ap is_odd (ends_below-no x 1 ys (omega arith)
+      ∙ ends_below-before (suc x) (suc code_point_limit) ys 1 r.2 (omega arith))) (sym (holds-ends_below (x ∷ ys) 0) ∙ h))
 ]
 
-pub gaps_from_zero : (xs ys zs : List ℕ) (q r : Option ℕ) → IsValid xs → holds xs 0 ≡ true → MatchOption q ((xs ≡ []) × (ys ≡ [])) (λ x. xs ≡ x ∷ ys)
+pub gaps_from_zero : (xs ys zs : List ℕ) (q r : Option ℕ) → IsValid xs → holds xs 0 ≡ true
+    → MatchOption q ((xs ≡ []) × (ys ≡ [])) (λ x. xs ≡ x ∷ ys)
     → MatchOption r ((ys ≡ []) × (zs ≡ [])) (λ x. ys ≡ x ∷ zs) → gaps_left (start_at r) zs ≡ complement_of xs
 gaps_from_zero xs ys zs None r v h m n = absurd (both_ways _ (holds-ends_below [] 0) (rw m.0 at h))
 gaps_from_zero xs ys zs (Some x) r v h m n =
     let up : Run 0 (suc code_point_limit) (x ∷ ys) = rw m at (run_from_valid xs v) in
     let e : x ≡ 0 = zero_first x ys up (rw m at h) in
-    let b : Run 0 (suc code_point_limit) (x ∷ toggle_back ys) = rw (back_more x ys (λ k. omega arith)) at (back-run 0 (x ∷ ys) (omega arith) up) in
+    let b : Run 0 (suc code_point_limit) (x ∷ toggle_back ys) =
+    rw (back_more x ys (λ k. omega arith)) at (back-run 0 (x ∷ ys) (omega arith) up) in
     let some : 0 < length ys = some_behind ys (rw m at v.even) in
     gap_behind (suc x) ys zs r some b.2 n ∙ sym (rw (m, back_more x ys (λ k. omega arith)) (front_is x (toggle_back ys) e))
   where
@@ -141,5 +152,7 @@ gaps_from_start (e ∷ xs) v h = elim (cases_eq e code_point_limit) [
   | inl k ↦ rw (back_is e xs k) refl
   | inr k ↦ rw (back_more e xs k) (sym (front_more e (toggle_back xs) (λ z.
       let r = run_from_valid (e ∷ xs) v in
-      both_ways _ h (holds-ends_below (e ∷ xs) 0 ∙ ap is_odd (ends_below-yes e 1 xs (omega arith) ∙ ap suc (ends_below-before (suc e) (suc code_point_limit) xs 1 r.2 (omega arith)))))))
+      both_ways _ h (holds-ends_below (e ∷ xs) 0
+      ∙ ap is_odd (ends_below-yes e 1 xs (omega arith)
+      ∙ ap suc (ends_below-before (suc e) (suc code_point_limit) xs 1 r.2 (omega arith)))))))
 ]

@@ -35,7 +35,8 @@ same lo hi (x ∷ xs) (y ∷ ys) r s a = elim (cases_order x y) [
 
 -- past the code space a valid list holds nothing
 pub holds-past : (xs : List ℕ) (c : ℕ) → IsValid xs → code_point_limit ≤ c → ends_below xs (suc c) % 2 ≡ 0
-holds-past xs c v h = let a = ends_below-past 0 (suc code_point_limit) xs (suc c) (run_from_valid xs v) (omega arith) in let b = v.even in omega arith
+holds-past xs c v h = let a = ends_below-past 0 (suc code_point_limit) xs (suc c) (run_from_valid xs v) (omega arith) in let b = v.even in
+    omega arith
 
 pub parity : (m n : ℕ) → is_odd m ≡ is_odd n → m % 2 ≡ n % 2
 parity m n e = elim (cases_eq (m % 2) 1) [

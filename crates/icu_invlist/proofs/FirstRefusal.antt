@@ -21,27 +21,32 @@ abbrev FailsFrom : (Data → Type 0) → ℕ → ℕ → Items → Type 0
 FailsFrom Fault k i items = (j : ℕ) × (i ≡ k + j) × FailsFirst Fault j items
 
 -- ---- the first string that spells no range
-no_range_in : (k i : ℕ) (t : List ℕ) (items : Items) (r : Option (ℕ × ℕ)) (others : Result (List (ℕ × ℕ)) SetJsonError) → range_at (chars t) ≡ r
+no_range_in : (k i : ℕ) (t : List ℕ) (items : Items) (r : Option (ℕ × ℕ)) (others : Result (List (ℕ × ℕ)) SetJsonError)
+    → range_at (chars t) ≡ r
     → (others ≡ Err (errors.NotARange i) → FailsFrom SpellsNoRange (k + 1) i items)
     → before (ok_or r (errors.NotARange k)) others ≡ Err (errors.NotARange i) → FailsFrom SpellsNoRange k i (item (string t) items)
-no_range_in k i t items None others e go h = let p : k ≡ i = cc in (0, omega arith, (t, refl, λ a b r. let q = range_only (chars t) a b r in absurd cc))
+no_range_in k i t items None others e go h = let p : k ≡ i = cc in
+    (0, omega arith, (t, refl, λ a b r. let q = range_only (chars t) a b r in absurd cc))
 no_range_in k i t items (Some x) (Ok rest) e go h = absurd cc
 no_range_in k i t items (Some x) (Err f) e go h =
     let g : ◌≡◌ {A = Result (List (ℕ × ℕ)) SetJsonError} (Err f) (Err (errors.NotARange i)) = cc in
     let later = go g in (suc later.0, (let p = later.1 in omega arith), ((t, x.0, x.1, refl, range_found (chars t) x.0 x.1 e), later.2))
 
-no_range_from : (k i : ℕ) (items : Items) → read_from range_or k (list_of items) ≡ Err (errors.NotARange i) → FailsFrom SpellsNoRange k i items
+no_range_from : (k i : ℕ) (items : Items) → read_from range_or k (list_of items) ≡ Err (errors.NotARange i)
+    → FailsFrom SpellsNoRange k i items
 unfolding read_from
 no_range_from k i no_items h = absurd cc
 no_range_from k i (item null items) h = absurd cc
 no_range_from k i (item (boolean b) items) h = absurd cc
 no_range_from k i (item (number n) items) h = absurd cc
-no_range_from k i (item (string t) items) h = no_range_in k i t items (range_at (chars t)) (read_from range_or (k + 1) (list_of items)) refl (λ g. no_range_from (k + 1) i items g) h
+no_range_from k i (item (string t) items) h =
+    no_range_in k i t items (range_at (chars t)) (read_from range_or (k + 1) (list_of items)) refl (λ g. no_range_from (k + 1) i items g) h
 no_range_from k i (item (array ds) items) h = absurd cc
 no_range_from k i (item (object ms) items) h = absurd cc
 
 -- ---- the first item that is no string
-string_in : (k i : ℕ) (t : List ℕ) (items : Items) (r : Option (ℕ × ℕ)) (others : Result (List (ℕ × ℕ)) SetJsonError) → range_at (chars t) ≡ r
+string_in : (k i : ℕ) (t : List ℕ) (items : Items) (r : Option (ℕ × ℕ)) (others : Result (List (ℕ × ℕ)) SetJsonError)
+    → range_at (chars t) ≡ r
     → (others ≡ Err (errors.NotAString i) → FailsFrom NoString (k + 1) i items)
     → before (ok_or r (errors.NotARange k)) others ≡ Err (errors.NotAString i) → FailsFrom NoString k i (item (string t) items)
 string_in k i t items None others e go h = absurd cc
@@ -56,12 +61,14 @@ no_string_from k i no_items h = absurd cc
 no_string_from k i (item null items) h = let p : k ≡ i = cc in (0, omega arith, λ t e. absurd cc)
 no_string_from k i (item (boolean b) items) h = let p : k ≡ i = cc in (0, omega arith, λ t e. absurd cc)
 no_string_from k i (item (number n) items) h = let p : k ≡ i = cc in (0, omega arith, λ t e. absurd cc)
-no_string_from k i (item (string t) items) h = string_in k i t items (range_at (chars t)) (read_from range_or (k + 1) (list_of items)) refl (λ g. no_string_from (k + 1) i items g) h
+no_string_from k i (item (string t) items) h =
+    string_in k i t items (range_at (chars t)) (read_from range_or (k + 1) (list_of items)) refl (λ g. no_string_from (k + 1) i items g) h
 no_string_from k i (item (array ds) items) h = let p : k ≡ i = cc in (0, omega arith, λ t e. absurd cc)
 no_string_from k i (item (object ms) items) h = let p : k ≡ i = cc in (0, omega arith, λ t e. absurd cc)
 
 -- ---- an array is told from other values
-array_in : (k : ℕ) (r : Option (ℕ × ℕ)) (others : Result (List (ℕ × ℕ)) SetJsonError) → (others ≡ Err errors.NotAnArray → ⊥) → before (ok_or r (errors.NotARange k)) others ≡ Err errors.NotAnArray → ⊥
+array_in : (k : ℕ) (r : Option (ℕ × ℕ)) (others : Result (List (ℕ × ℕ)) SetJsonError) → (others ≡ Err errors.NotAnArray → ⊥)
+    → before (ok_or r (errors.NotARange k)) others ≡ Err errors.NotAnArray → ⊥
 array_in k None others go h = absurd cc
 array_in k (Some x) (Ok rest) go h = absurd cc
 array_in k (Some x) (Err f) go h = let g : ◌≡◌ {A = Result (List (ℕ × ℕ)) SetJsonError} (Err f) (Err errors.NotAnArray) = cc in go g
@@ -72,11 +79,13 @@ items_of_array k no_items h = absurd cc
 items_of_array k (item null items) h = absurd cc
 items_of_array k (item (boolean b) items) h = absurd cc
 items_of_array k (item (number n) items) h = absurd cc
-items_of_array k (item (string t) items) h = array_in k (range_at (chars t)) (read_from range_or (k + 1) (list_of items)) (λ g. items_of_array (k + 1) items g) h
+items_of_array k (item (string t) items) h =
+    array_in k (range_at (chars t)) (read_from range_or (k + 1) (list_of items)) (λ g. items_of_array (k + 1) items g) h
 items_of_array k (item (array ds) items) h = absurd cc
 items_of_array k (item (object ms) items) h = absurd cc
 
-is_array : (d : Data) (r : Result (List ℕ) SetJsonError) → ends_of d ≡ r → (r ≡ Err errors.NotAnArray → ⊥) → (items : Items) × (d ≡ array items)
+is_array : (d : Data) (r : Result (List ℕ) SetJsonError) → ends_of d ≡ r → (r ≡ Err errors.NotAnArray → ⊥)
+    → (items : Items) × (d ≡ array items)
 is_array null r h n = absurd (n (sym h))
 is_array (boolean b) r h n = absurd (n (sym h))
 is_array (number k) r h n = absurd (n (sym h))

@@ -27,7 +27,8 @@ more_members s e ends = refl
 all_in_row : (low a n : ℕ) → low ≤ a → All (λ c. (low ≤ c) × (c < a + n)) (range_with_len a n)
 all_in_row low a zero h = All-nil (λ (c : ℕ). (low ≤ c) × (c < a + 0))
 all_in_row low a (suc n) h = All-cons (λ (c : ℕ). (low ≤ c) × (c < a + suc n)) a (range_with_len (a + 1) n) (h, omega arith)
-    (All-weaker (λ (c : ℕ). (low ≤ c) × (c < a + 1 + n)) (λ (c : ℕ). (low ≤ c) × (c < a + suc n)) (λ c p. (p.0, omega (arith, p.1))) (range_with_len (a + 1) n) (all_in_row low (a + 1) n (omega arith)))
+    (All-weaker (λ (c : ℕ). (low ≤ c) × (c < a + 1 + n)) (λ (c : ℕ). (low ≤ c) × (c < a + suc n)) (λ c p. (p.0, omega (arith, p.1)))
+    (range_with_len (a + 1) n) (all_in_row low (a + 1) n (omega arith)))
 
 from_row : (a n c : ℕ) → Contains (range_with_len a n) c → (a ≤ c) × (c < a + n)
 from_row a n c h = All-contains (λ (x : ℕ). (a ≤ x) × (x < a + n)) (range_with_len a n) c (all_in_row a a n (omega arith)) h
@@ -40,7 +41,12 @@ in_row a n c h k =
 
 row_rises : (a n : ℕ) → Run a (a + n) (range_with_len a n)
 row_rises a zero = tt
-row_rises a (suc n) = (omega arith, omega arith, run-wider (a + 1) (a + 1 + n) (suc a) (a + suc n) (range_with_len (a + 1) n) (omega arith) (omega arith) (row_rises (a + 1) n))
+row_rises a (suc n) = (
+  omega arith,
+  omega arith,
+  run-wider (a + 1) (a + 1 + n) (suc a) (a + suc n) (range_with_len (a + 1) n) (omega arith)
+      (omega arith) (row_rises (a + 1) n),
+)
 
 none_contained : (c : ℕ) → Contains [] c → ⊥
 none_contained c (k, h, e) = omega (arith, h)
@@ -113,11 +119,13 @@ kept p (x ∷ xs) c t h = elim (Contains-append_cases (x ∷ []) xs c h) [
 ]
 
 -- ---- the characters of a set
-pub characters_are_held : (ends : List ℕ) → IsValid ends → (c : ℕ) → Contains (characters ends) c ↔ (scalar c ≡ true) × (holds ends c ≡ true)
+pub characters_are_held : (ends : List ℕ) → IsValid ends → (c : ℕ) → Contains (characters ends) c ↔ (scalar c ≡ true)
+    × (holds ends c ≡ true)
 characters_are_held ends v c = (
   (λ h. let p = passed scalar (members ends) c h in (p.0, held 0 (suc code_point_limit) c ends (run_from_valid ends v) v.even p.1)),
   (λ h. kept scalar (members ends) c h.0 (found 0 (suc code_point_limit) c ends (run_from_valid ends v) v.even h.1)),
 )
 
 pub characters_rise : (ends : List ℕ) → IsValid ends → IsStrictlyIncreasing (characters ends)
-characters_rise ends v = IsStrictlyIncreasing-filter scalar (members ends) (rises 0 (suc code_point_limit) (members ends) (members_rise 0 (suc code_point_limit) ends (run_from_valid ends v) v.even))
+characters_rise ends v = IsStrictlyIncreasing-filter scalar (members ends)
+    (rises 0 (suc code_point_limit) (members ends) (members_rise 0 (suc code_point_limit) ends (run_from_valid ends v) v.even))

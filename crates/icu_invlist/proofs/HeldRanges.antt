@@ -8,14 +8,27 @@ use Rattle.icu_invlist.proofs.RunLemmas.{ends_below-before, ends_below-yes, ends
 use Rattle.icu_invlist.proofs.Parity.{holds-ends_below, odd_same}
 use Rattle.icu_invlist.proofs.ValidLists.{run_from_valid}
 
-in_ranges-ends_below : (lo : ℕ) (xs : List ℕ) (c : ℕ) → Run lo (suc code_point_limit) xs → length xs % 2 ≡ 0 → in_ranges (ranges_of xs) c ≡ is_odd (ends_below xs (suc c))
+in_ranges-ends_below : (lo : ℕ) (xs : List ℕ) (c : ℕ) → Run lo (suc code_point_limit) xs → length xs % 2 ≡ 0
+    → in_ranges (ranges_of xs) c ≡ is_odd (ends_below xs (suc c))
 in_ranges-ends_below lo [] c r even = refl
 in_ranges-ends_below lo (x ∷ []) c r even = absurd (omega arith)
 in_ranges-ends_below lo (x ∷ y ∷ xs) c r even = let rest = in_ranges-ends_below (suc y) xs c r.2.2 (omega arith) in elim (cases_lt c x) [
   | inl l ↦ rw (lt-leb x c l, ends_below-no x (suc c) (y ∷ xs) l, ends_below-no y (suc c) xs (omega (arith, r.2.0)), rest) refl
   | inr l ↦ elim (cases_lt c y) [
-    | inl k ↦ rw (le-leb x c l, le-leb c (y - 1) (omega arith), ends_below-yes x (suc c) (y ∷ xs) (omega arith), ends_below-no y (suc c) xs k, ends_below-before (suc y) (suc code_point_limit) xs (suc c) r.2.2 (omega arith)) refl
-    | inr k ↦ rw (le-leb x c l, lt-leb c (y - 1) (omega (arith, r.2.0)), ends_below-yes x (suc c) (y ∷ xs) (omega arith), ends_below-yes y (suc c) xs (omega arith), rest)
+    | inl k ↦ rw (
+      le-leb x c l,
+      le-leb c (y - 1) (omega arith),
+      ends_below-yes x (suc c) (y ∷ xs) (omega arith),
+      ends_below-no y (suc c) xs k,
+      ends_below-before (suc y) (suc code_point_limit) xs (suc c) r.2.2 (omega arith),
+    ) refl
+    | inr k ↦ rw (
+      le-leb x c l,
+      lt-leb c (y - 1) (omega (arith, r.2.0)),
+      ends_below-yes x (suc c) (y ∷ xs) (omega arith),
+      ends_below-yes y (suc c) xs (omega arith),
+      rest,
+    )
         (odd_same (ends_below xs (suc c)) (suc (suc (ends_below xs (suc c)))) (omega arith))
   ]
 ]

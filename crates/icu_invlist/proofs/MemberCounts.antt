@@ -27,7 +27,8 @@ pub held_within : (xs : List ℕ) (c : ℕ) → IsValid xs → holds xs c ≡ tr
 held_within xs c v h = elim (cases_lt c code_point_limit) [ inl l ↦ l | inr g ↦ absurd (both_ways _ (not_past_limit xs c v g) h) ]
 
 -- the place of a member is below the size
-pub place-within : (xs : List ℕ) (c place : ℕ) → IsValid xs → holds xs c ≡ true → Some place ≡ cond (holds xs c) (Some (members_below xs c)) None → place < members_below xs code_point_limit
+pub place-within : (xs : List ℕ) (c place : ℕ) → IsValid xs → holds xs c ≡ true
+    → Some place ≡ cond (holds xs c) (Some (members_below xs c)) None → place < members_below xs code_point_limit
 place-within xs c place v h e =
     let is : Some place ≡ Some (members_below xs c) = e ∙ cond-true _ _ _ h in
     let same : place ≡ members_below xs c = cc in
@@ -39,7 +40,8 @@ flags true b e = rw e refl
 flags false b e = rw e refl
 
 -- where the one set holds what the other does not, all numbers are counted
-pub counts_of_complements : (xs ys : List ℕ) (n : ℕ) → ((c : ℕ) → c < n → holds ys c ≡ not (holds xs c)) → members_below xs n + members_below ys n ≡ n
+pub counts_of_complements : (xs ys : List ℕ) (n : ℕ) → ((c : ℕ) → c < n → holds ys c ≡ not (holds xs c))
+    → members_below xs n + members_below ys n ≡ n
 unfolding members_below
 counts_of_complements xs ys zero h = refl
 counts_of_complements xs ys (suc n) h =
@@ -47,5 +49,6 @@ counts_of_complements xs ys (suc n) h =
     let f = flags (holds xs n) (holds ys n) (h n (omega arith)) in omega arith
 
 -- the size of a set and that of its complement make the code space
-pub sizes_of_complements : (xs : List ℕ) → IsValid xs → members_below xs code_point_limit + members_below (complement_of xs) code_point_limit ≡ code_point_limit
+pub sizes_of_complements : (xs : List ℕ) → IsValid xs
+    → members_below xs code_point_limit + members_below (complement_of xs) code_point_limit ≡ code_point_limit
 sizes_of_complements xs v = counts_of_complements xs (complement_of xs) code_point_limit (λ c l. complement-holds xs c v l)

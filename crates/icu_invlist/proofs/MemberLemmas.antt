@@ -21,7 +21,8 @@ length-ranges (x ∷ y ∷ xs) = let e = length-ranges xs in omega arith
 -- what is left after a range
 pub rest_valid : (x y : ℕ) (xs : List ℕ) → IsValid (x ∷ y ∷ xs) → IsValid xs
 rest_valid x y xs v = let r = run_from_valid (x ∷ y ∷ xs) v in
-    valid_from_run xs (run-wider (suc y) (suc code_point_limit) 0 (suc code_point_limit) xs (omega arith) (omega arith) r.2.2) (let e = v.even in omega arith)
+    valid_from_run xs (run-wider (suc y) (suc code_point_limit) 0 (suc code_point_limit) xs (omega arith) (omega arith) r.2.2)
+    (let e = v.even in omega arith)
 
 -- each range of a set has a code point, and none that is no code point
 pub ranges_within : (xs : List ℕ) → IsValid xs → All IsOfCodePoints (ranges_of xs)
@@ -29,7 +30,8 @@ ranges_within [] v = All-nil IsOfCodePoints
 ranges_within (x ∷ []) v = All-nil IsOfCodePoints
 ranges_within (x ∷ y ∷ xs) v =
     let r = run_from_valid (x ∷ y ∷ xs) v in
-    All-cons IsOfCodePoints (record { start = x; end = y - 1; exhausted = false }) (ranges_of xs) (omega (arith, r.2.0), omega (arith, r.2.0, r.2.1)) (ranges_within xs (rest_valid x y xs v))
+    All-cons IsOfCodePoints (record { start = x; end = y - 1; exhausted = false }) (ranges_of xs)
+    (omega (arith, r.2.0), omega (arith, r.2.0, r.2.1)) (ranges_within xs (rest_valid x y xs v))
 
 pub no_single : (x : ℕ) → IsValid (x ∷ []) → ⊥
 no_single x v = let e = v.even in omega arith
@@ -55,7 +57,8 @@ first_pair lo hi s e c xs r = elim (cases_lt c s) [
   ]
 ]
 
-pub members-pair : (lo hi s e m : ℕ) (xs : List ℕ) → Run lo hi (s ∷ e ∷ xs) → members_below (s ∷ e ∷ xs) m ≡ (min e m - min s m) + members_below xs m
+pub members-pair : (lo hi s e m : ℕ) (xs : List ℕ) → Run lo hi (s ∷ e ∷ xs)
+    → members_below (s ∷ e ∷ xs) m ≡ (min e m - min s m) + members_below xs m
 unfolding members_below
 members-pair lo hi s e zero xs r = omega arith
 members-pair lo hi s e (suc m) xs r =
@@ -85,8 +88,10 @@ size_is lo hi m (s ∷ y ∷ xs) r h e = let i = size_is (suc y) hi m xs r.2.2 h
 pub size-valid : (xs : List ℕ) → IsValid xs → members_below xs code_point_limit ≡ total xs
 size-valid xs v = size_is 0 (suc code_point_limit) code_point_limit xs (run_from_valid xs v) (omega arith) v.even
 
-pub total-more : (xs : List ℕ) (i : ℕ) → i % 2 ≡ 0 → i + 1 < length xs → total (drop i xs) ≡ (get_or xs (i + 1) 0 - get_or xs i 0) + total (drop (i + 2) xs)
-total-more xs i e h = rw (drop_more xs i 0 (omega arith), drop_more xs (i + 1) 0 h) (ap (λ (n : ℕ). (get_or xs (i + 1) 0 - get_or xs i 0) + total (drop n xs)) (omega arith))
+pub total-more : (xs : List ℕ) (i : ℕ) → i % 2 ≡ 0 → i + 1 < length xs
+    → total (drop i xs) ≡ (get_or xs (i + 1) 0 - get_or xs i 0) + total (drop (i + 2) xs)
+total-more xs i e h = rw (drop_more xs i 0 (omega arith), drop_more xs (i + 1) 0 h)
+    (ap (λ (n : ℕ). (get_or xs (i + 1) 0 - get_or xs i 0) + total (drop n xs)) (omega arith))
 
 pub total-le : (lo hi : ℕ) (xs : List ℕ) → lo ≤ hi → Run lo hi xs → total xs + lo ≤ hi
 total-le lo hi [] h r = omega arith
@@ -97,7 +102,8 @@ empty_valid : IsValid []
 empty_valid = valid_from_run [] tt refl
 
 -- two ends taken off the front
-pub left_valid : (xs ys zs : List ℕ) (r q : Option ℕ) → IsValid xs → MatchOption r ((xs ≡ []) × (ys ≡ [])) (λ x. xs ≡ x ∷ ys) → MatchOption q ((ys ≡ []) × (zs ≡ [])) (λ y. ys ≡ y ∷ zs) → IsValid zs
+pub left_valid : (xs ys zs : List ℕ) (r q : Option ℕ) → IsValid xs → MatchOption r ((xs ≡ []) × (ys ≡ [])) (λ x. xs ≡ x ∷ ys)
+    → MatchOption q ((ys ≡ []) × (zs ≡ [])) (λ y. ys ≡ y ∷ zs) → IsValid zs
 left_valid xs ys zs None None v a b = rw (b.1, ← a.0) v
 left_valid xs ys zs None (Some y) v a b = absurd (let e = sym a.1 ∙ b in cc)
 left_valid xs ys zs (Some x) None v a b = rw (b.1) (empty_valid)
@@ -116,7 +122,8 @@ run-drop lo hi (suc i) [] r = tt
 run-drop lo hi (suc i) (x ∷ xs) r = run-wider (suc x) hi lo hi (drop i xs) (omega (arith, r.0)) (omega arith) (run-drop (suc x) hi i xs r.2)
 
 pub drop_pair : (xs : List ℕ) (i : ℕ) → i + 1 < length xs → drop i xs ≡ get_or xs i 0 ∷ get_or xs (i + 1) 0 ∷ drop (i + 2) xs
-drop_pair xs i h = rw (drop_more xs i 0 (omega arith), drop_more xs (i + 1) 0 h) (ap (λ (n : ℕ). get_or xs i 0 ∷ get_or xs (i + 1) 0 ∷ drop n xs) (omega arith))
+drop_pair xs i h = rw (drop_more xs i 0 (omega arith), drop_more xs (i + 1) 0 h)
+    (ap (λ (n : ℕ). get_or xs i 0 ∷ get_or xs (i + 1) 0 ∷ drop n xs) (omega arith))
 
 -- ---- where a point stands against the first range
 module _ (lo hi s e c : ℕ) (xs : List ℕ) (r : Run lo hi (s ∷ e ∷ xs)) where
@@ -135,7 +142,8 @@ module _ (lo hi s e c : ℕ) (xs : List ℕ) (r : Run lo hi (s ∷ e ∷ xs)) wh
   )
 
   pub pair_before : c < s → holds (s ∷ e ∷ xs) c ≡ false
-  pair_before h = holds-ends_below (s ∷ e ∷ xs) c ∙ ne_eqb _ _ (λ k. let z = ends_below-before s hi (s ∷ e ∷ xs) (suc c) (omega arith, r.1, r.2) h in omega arith)
+  pair_before h = holds-ends_below (s ∷ e ∷ xs) c
+      ∙ ne_eqb _ _ (λ k. let z = ends_below-before s hi (s ∷ e ∷ xs) (suc c) (omega arith, r.1, r.2) h in omega arith)
 
 -- what a walk over the ranges knows at place i
 pub record Walked (xs : List ℕ) (i c before : ℕ) : Type 0 where
@@ -147,7 +155,8 @@ pub record Walked (xs : List ℕ) (i c before : ℕ) : Type 0 where
 pub answer : List ℕ → ℕ → Option ℕ
 answer xs c = cond (holds xs c) (Some (members_below xs c)) None
 
-module _ (xs : List ℕ) (i c before s e : ℕ) (v : IsValid xs) (w : Walked xs i c before) (h : i + 1 < length xs) (a : s ≡ get_or xs i 0) (b : e ≡ get_or xs (i + 1) 0) where
+module _ (xs : List ℕ) (i c before s e : ℕ) (v : IsValid xs) (w : Walked xs i c before) (h : i + 1 < length xs) (a : s ≡ get_or xs i 0)
+    (b : e ≡ get_or xs (i + 1) 0) where
   parts : drop i xs ≡ s ∷ e ∷ drop (i + 2) xs
   parts = drop_pair xs i h ∙ rw (a, b) refl
 
@@ -155,7 +164,8 @@ module _ (xs : List ℕ) (i c before s e : ℕ) (v : IsValid xs) (w : Walked xs 
   rises = rw parts at (run-drop 0 (suc code_point_limit) i xs (run_from_valid xs v))
 
   pub walked_room : before + (e - s) ≤ suc code_point_limit
-  walked_room = let t = ap total parts in let q = total-le 0 (suc code_point_limit) xs (omega arith) (run_from_valid xs v) in let u = w.small in omega arith
+  walked_room = let t = ap total parts in let q = total-le 0 (suc code_point_limit) xs (omega arith) (run_from_valid xs v) in
+      let u = w.small in omega arith
 
   pub walked_in : s ≤ c → c < e → (holds xs c ≡ true) × (members_below xs c ≡ before + (c - s))
   walked_in k l = let p = pair_in 0 (suc code_point_limit) s e c (drop (i + 2) xs) rises k l in
@@ -180,5 +190,6 @@ nth (x ∷ y ∷ xs) (suc k) h =
     let b : suc k * 2 + 1 ≡ suc (suc (k * 2 + 1)) = omega arith in
     rw (b, a) (nth xs k (omega arith))
 
-pub same_range : (r : RangeInclusive ℕ) (s e : ℕ) → r.start ≡ s → r.end ≡ e → r.exhausted ≡ false → r ≡ record { start = s; end = e; exhausted = false }
+pub same_range : (r : RangeInclusive ℕ) (s e : ℕ) → r.start ≡ s → r.end ≡ e → r.exhausted ≡ false
+    → r ≡ record { start = s; end = e; exhausted = false }
 same_range r s e a b x = rw (← a, ← b, ← x) refl

@@ -28,7 +28,8 @@ none_yet f a b e = record {
 }
 
 module _ (f : Bool → Bool → Bool) (a b out r : List ℕ) (passed i j n p q : ℕ) (m : Merging f a b out passed i j)
-    (after : passed ≤ n) (within : n ≤ code_point_limit) (ia : i ≡ ends_below a n) (jb : j ≡ ends_below b n) (pa : p ≡ ends_below a (suc n)) (qb : q ≡ ends_below b (suc n))
+    (after : passed ≤ n) (within : n ≤ code_point_limit) (ia : i ≡ ends_below a n) (jb : j ≡ ends_below b n) (pa : p ≡ ends_below a (suc n))
+    (qb : q ≡ ends_below b (suc n))
     (inside : Run n (suc n) r) (odd : is_odd (length (out ++ r)) ≡ f (is_odd p) (is_odd q)) where
   grown-run : Run 0 (suc n) (out ++ r)
   grown-run = run-append 0 n (suc n) out r (omega arith) (omega arith) (run-wider 0 passed 0 n out (omega arith) after m.run) inside
@@ -43,8 +44,10 @@ module _ (f : Bool → Bool → Bool) (a b out r : List ℕ) (passed i j n p q :
     | inr k ↦ elim (cases_lt c n) [
       | inl l ↦ out_at c l ∙ (rw (holds-ends_below out c, holds-ends_below a c, holds-ends_below b c)
           (let x : ends_below out (suc c) ≡ length out = ends_below-past 0 passed out (suc c) m.run (omega arith) in
-          let y : ends_below a (suc c) ≡ i = (let s = ends_below-mono a passed (suc c) (omega arith) in let t = ends_below-mono a (suc c) n (omega arith) in let u = m.first in omega arith) in
-          let z : ends_below b (suc c) ≡ j = (let s = ends_below-mono b passed (suc c) (omega arith) in let t = ends_below-mono b (suc c) n (omega arith) in let u = m.second in omega arith) in
+          let y : ends_below a (suc c) ≡ i = (let s = ends_below-mono a passed (suc c) (omega arith) in
+          let t = ends_below-mono a (suc c) n (omega arith) in let u = m.first in omega arith) in
+          let z : ends_below b (suc c) ≡ j = (let s = ends_below-mono b passed (suc c) (omega arith) in
+          let t = ends_below-mono b (suc c) n (omega arith) in let u = m.second in omega arith) in
           rw (x, y, z) m.parity))
       | inr l ↦ rw (holds-ends_below (out ++ r) c, holds-ends_below a c, holds-ends_below b c)
           (let e : c ≡ n = omega arith in
@@ -56,7 +59,8 @@ module _ (f : Bool → Bool → Bool) (a b out r : List ℕ) (passed i j n p q :
   merged_more = record { first = pa; second = qb; run = grown-run; small = omega arith; parity = odd; set = set_at }
 
 -- a list whose ends below `passed` are i, over an end n that is not below `passed`
-over : (xs : List ℕ) (i passed n p : ℕ) → IsValid xs → i ≡ ends_below xs passed → i < length xs → passed ≤ n → MovesOver n xs i p → (i ≡ ends_below xs n) × (p ≡ ends_below xs (suc n))
+over : (xs : List ℕ) (i passed n p : ℕ) → IsValid xs → i ≡ ends_below xs passed → i < length xs → passed ≤ n → MovesOver n xs i p
+    → (i ≡ ends_below xs n) × (p ≡ ends_below xs (suc n))
 over xs i passed n p v e h l o =
     let s : i ≡ ends_below xs n = stays_at xs i passed n v e l (λ _. o.least) in (
       s,
@@ -67,7 +71,8 @@ over xs i passed n p v e h l o =
     )
 
 -- one step: the end n is written or not, as the answer past it asks
-pub merged_step : (f : Bool → Bool → Bool) (a b out r : List ℕ) (passed i j n p q : ℕ) → Merging f a b out passed i j → IsValid a → IsValid b
+pub merged_step : (f : Bool → Bool → Bool) (a b out r : List ℕ) (passed i j n p q : ℕ) → Merging f a b out passed i j → IsValid a
+    → IsValid b
     → i < length a → j < length b → MovesOver n a i p → MovesOver n b j q → i + j < p + q
     → Run n (suc n) r → is_odd (length (out ++ r)) ≡ f (is_odd p) (is_odd q) → Merging f a b (out ++ r) (suc n) p q
 merged_step f a b out r passed i j n p q m v w hi hj s t on inside odd =
@@ -89,8 +94,10 @@ odd_more n true h = eq-eqb _ _ (let k = eqb-false _ _ h in omega arith)
 odd_more n false h = ne_eqb _ _ (λ u. let k = eqb-true _ _ h in omega arith)
 
 -- one step, with what is written to place k of a longer list
-written_step : (f : Bool → Bool → Bool) (a b out : List ℕ) (k i j n p q : ℕ) (held now : Bool) → Merged f a b (take k out) i j → held ≡ f (is_odd i) (is_odd j)
-    → now ≡ f (is_odd p) (is_odd q) → k < length out → IsValid a → IsValid b → i < length a → j < length b → MovesOver n a i p → MovesOver n b j q → i + j < p + q
+written_step : (f : Bool → Bool → Bool) (a b out : List ℕ) (k i j n p q : ℕ) (held now : Bool) → Merged f a b (take k out) i j
+    → held ≡ f (is_odd i) (is_odd j)
+    → now ≡ f (is_odd p) (is_odd q) → k < length out → IsValid a → IsValid b → i < length a → j < length b → MovesOver n a i p
+    → MovesOver n b j q → i + j < p + q
     → Merged f a b (take (k + bool_byte (not (beq now held))) (set out k n)) p q
 written_step f a b out k i j n p q held now m e o h v w hi hj s t on =
     let x = merged_step f a b (take k out) [] m.passed i j n p q m.so_far v w hi hj s t on tt in
@@ -100,12 +107,20 @@ written_step f a b out k i j n p q held now m e o h v w hi hj s t on =
     stays : (v : Bool) → is_odd (length (take k out)) ≡ v → v ≡ f (is_odd p) (is_odd q)
         → (is_odd (length (take k out ++ [])) ≡ f (is_odd p) (is_odd q) → Merging f a b (take k out ++ []) (suc n) p q)
         → Merged f a b (take (k + 0) (set out k n)) p q
-    stays v z c x = record { passed = suc n; so_far = rw (add-zero k, take-set out k n, ← append-nil (take k out)) (x (rw (append-nil (take k out)) (z ∙ c))) }
+    stays v z c x = record {
+      passed = suc n;
+      so_far =
+          rw (add-zero k, take-set out k n, ← append-nil (take k out)) (x (rw (append-nil (take k out)) (z ∙ c)));
+    }
 
     grows : (v : Bool) → is_odd (length (take k out)) ≡ not v → v ≡ f (is_odd p) (is_odd q)
         → (is_odd (length (take k out ++ n ∷ [])) ≡ f (is_odd p) (is_odd q) → Merging f a b (take k out ++ n ∷ []) (suc n) p q)
         → Merged f a b (take (k + 1) (set out k n)) p q
-    grows v z c y = record { passed = suc n; so_far = rw (take_more_set out k n h) (y (ap is_odd (length_push (take k out) n) ∙ (odd_more _ v z ∙ c))) }
+    grows v z c y = record {
+      passed = suc n;
+      so_far =
+          rw (take_more_set out k n h) (y (ap is_odd (length_push (take k out) n) ∙ (odd_more _ v z ∙ c)));
+    }
 
     both : (held now : Bool) → is_odd (length (take k out)) ≡ held
         → (is_odd (length (take k out ++ [])) ≡ f (is_odd p) (is_odd q) → Merging f a b (take k out ++ []) (suc n) p q)
@@ -125,7 +140,8 @@ moves_within : (n : ℕ) (xs : List ℕ) (i p : ℕ) → MovesOver n xs i p → 
 moves_within n xs i p o h = elim o.place [ inl k ↦ omega (arith, k.1) | inr k ↦ omega (arith, k.1) ]
 
 -- ---- the walk, with what it has written
-pub walks_none : (f : Bool → Bool → Bool) (a b out : List ℕ) → f false false ≡ false → IsValid a → IsValid b → length a + length b ≤ length out → Walks f a b out 0 0 0
+pub walks_none : (f : Bool → Bool → Bool) (a b out : List ℕ) → f false false ≡ false → IsValid a → IsValid b
+    → length a + length b ≤ length out → Walks f a b out 0 0 0
 walks_none f a b out e v w r = record {
   valid = (v, w);
   room = r;
@@ -136,7 +152,8 @@ walks_none f a b out e v w r = record {
 }
 
 -- one step, which writes the end if the answer changes there
-walks_step : (f : Bool → Bool → Bool) (a b out : List ℕ) (w i j n p q : ℕ) → Walks f a b out i j w → i < length a → j < length b → MovesOver n a i p → MovesOver n b j q → i + j < p + q
+walks_step : (f : Bool → Bool → Bool) (a b out : List ℕ) (w i j n p q : ℕ) → Walks f a b out i j w → i < length a → j < length b
+    → MovesOver n a i p → MovesOver n b j q → i + j < p + q
     → Walks f a b (set out w n) p q (w + bool_byte (not (beq (f (is_odd p) (is_odd q)) (f (is_odd i) (is_odd j)))))
 walks_step f a b out w i j n p q s hi hj x y on = record {
   valid = s.valid;
@@ -144,7 +161,8 @@ walks_step f a b out w i j n p q s hi hj x y on = record {
   first = moves_within n a i p x hi;
   second = moves_within n b j q y hj;
   written = (let k = s.written in omega (arith, byte_small));
-  merged = written_step f a b out w i j n p q _ _ s.merged refl refl (let k = s.written in let r = s.room in omega arith) s.valid.0 s.valid.1 hi hj x y on;
+  merged = written_step f a b out w i j n p q _ _ s.merged refl refl (let k = s.written in let r = s.room in
+      omega arith) s.valid.0 s.valid.1 hi hj x y on;
 }
 
 exchanged_differ : (x y : Bool) → not (beq x y) ≡ not (beq y x)
@@ -164,32 +182,39 @@ turned f i = elim (cases_Bool (is_odd i)) [
 abbrev pub TurnsAtBoth : (Bool → Bool → Bool) → Bool → Bool → Bool
 TurnsAtBoth f x y = not (beq (f x y) (f (not x) (not y)))
 
-turned_both : (f : Bool → Bool → Bool) (i j : ℕ) → not (beq (f (is_odd (i + 1)) (is_odd (j + 1))) (f (is_odd i) (is_odd j))) ≡ TurnsAtBoth f (is_odd i) (is_odd j)
+turned_both : (f : Bool → Bool → Bool) (i j : ℕ)
+    → not (beq (f (is_odd (i + 1)) (is_odd (j + 1))) (f (is_odd i) (is_odd j))) ≡ TurnsAtBoth f (is_odd i) (is_odd j)
 turned_both f i j = rw (odd_next i, odd_next j) (exchanged_differ (f (not (is_odd i)) (not (is_odd j))) (f (is_odd i) (is_odd j)))
 
 pub turned_next : (f : Bool → Bool → Bool) (i j : ℕ) → TurnsAtBoth f (is_odd i) (is_odd j) ≡ TurnsAtBoth f (is_odd (i + 1)) (is_odd (j + 1))
-turned_next f i j = rw (odd_next i, odd_next j, not-not (is_odd i), not-not (is_odd j)) (exchanged_differ (f (is_odd i) (is_odd j)) (f (not (is_odd i)) (not (is_odd j))))
+turned_next f i j = rw (odd_next i, odd_next j, not-not (is_odd i), not-not (is_odd j))
+    (exchanged_differ (f (is_odd i) (is_odd j)) (f (not (is_odd i)) (not (is_odd j))))
 
-pub walks_first : (f : Bool → Bool → Bool) (a b out : List ℕ) (w i j : ℕ) → Walks f a b out i j w → i < length a → j < length b → get_or a i 0 < get_or b j 0
+pub walks_first : (f : Bool → Bool → Bool) (a b out : List ℕ) (w i j : ℕ) → Walks f a b out i j w → i < length a → j < length b
+    → get_or a i 0 < get_or b j 0
     → Walks f a b (set out w (get_or a i 0)) (i + 1) j (w + bool_byte (not (beq (f true (is_odd j)) (f false (is_odd j)))))
 walks_first f a b out w i j s hi hj h = rw (← turned (λ x. f x (is_odd j)) i)
     (walks_step f a b out w i j (get_or a i 0) (i + 1) j s hi hj
     (record { least = omega arith; place = inl (refl, refl) }) (record { least = omega arith; place = inr (h, refl) }) (omega arith))
 
-pub walks_second : (f : Bool → Bool → Bool) (a b out : List ℕ) (w i j : ℕ) → Walks f a b out i j w → i < length a → j < length b → get_or b j 0 < get_or a i 0
+pub walks_second : (f : Bool → Bool → Bool) (a b out : List ℕ) (w i j : ℕ) → Walks f a b out i j w → i < length a → j < length b
+    → get_or b j 0 < get_or a i 0
     → Walks f a b (set out w (get_or b j 0)) i (j + 1) (w + bool_byte (not (beq (f (is_odd i) true) (f (is_odd i) false))))
 walks_second f a b out w i j s hi hj h = rw (← turned (λ y. f (is_odd i) y) j)
     (walks_step f a b out w i j (get_or b j 0) i (j + 1) s hi hj
     (record { least = omega arith; place = inr (h, refl) }) (record { least = omega arith; place = inl (refl, refl) }) (omega arith))
 
-pub walks_both : (f : Bool → Bool → Bool) (a b out : List ℕ) (w i j : ℕ) → Walks f a b out i j w → i < length a → j < length b → get_or a i 0 ≡ get_or b j 0
+pub walks_both : (f : Bool → Bool → Bool) (a b out : List ℕ) (w i j : ℕ) → Walks f a b out i j w → i < length a → j < length b
+    → get_or a i 0 ≡ get_or b j 0
     → Walks f a b (set out w (get_or a i 0)) (i + 1) (j + 1) (w + bool_byte (TurnsAtBoth f (is_odd i) (is_odd j)))
 walks_both f a b out w i j s hi hj e = rw (← turned_both f i j)
     (walks_step f a b out w i j (get_or a i 0) (i + 1) (j + 1) s hi hj
     (record { least = omega arith; place = inl (refl, refl) }) (record { least = omega arith; place = inl (sym e, refl) }) (omega arith))
 
--- the ends of the first up to the next of the second, those of both, and those of the second up to the next of the first: at least one is passed
-pub some_passed : (a b : List ℕ) (i j p q s t : ℕ) → i < length a → j < length b → i ≤ p → (p < length a → get_or b j 0 ≤ get_or a p 0) → p ≤ q → j ≤ s
+-- the ends of the first up to the next of the second, those of both, and those of the second up to
+-- the next of the first: at least one is passed
+pub some_passed : (a b : List ℕ) (i j p q s t : ℕ) → i < length a → j < length b → i ≤ p → (p < length a → get_or b j 0 ≤ get_or a p 0)
+    → p ≤ q → j ≤ s
     → (q < length a → s < length b → get_or a q 0 ≡ get_or b s 0 → ⊥) → s ≤ t → (t < length b → get_or a q 0 ≤ get_or b t 0) → i + j < q + t
 some_passed a b i j p q s t hi hj ip first pq js both st second = elim (cases_lt (i + j) (q + t)) [
   | inl h ↦ h
@@ -213,7 +238,8 @@ holds_none xs i passed c v e h l = holds-ends_below xs c ∙ is_even xs (ends_be
     (let s = ends_below-mono xs passed (suc c) (omega arith) in let t = ends_below-le xs (suc c) in omega arith)
 
 -- the second list is passed, and the operation leaves the rest of the first out
-rest_left : (f : Bool → Bool → Bool) (a b out : List ℕ) (passed i j : ℕ) → Merging f a b out passed i j → IsValid a → IsValid b → j ≡ length b
+rest_left : (f : Bool → Bool → Bool) (a b out : List ℕ) (passed i j : ℕ) → Merging f a b out passed i j → IsValid a → IsValid b
+    → j ≡ length b
     → ((x : Bool) → f x false ≡ false) → IsValid out × Acts f a (holds b) out
 rest_left f a b out passed i j m v w e none =
     let eo : is_odd (length out) ≡ false = m.parity ∙ rw (is_even b j w e) (none (is_odd i)) in (
@@ -229,7 +255,8 @@ rest_left f a b out passed i j m v w e none =
     even_from xs h = let k = eqb-false _ _ h in omega arith
 
 -- the second list is passed, and the operation keeps the rest of the first
-rest_kept : (f : Bool → Bool → Bool) (a b out : List ℕ) (passed i j : ℕ) → Merging f a b out passed i j → IsValid a → IsValid b → j ≡ length b
+rest_kept : (f : Bool → Bool → Bool) (a b out : List ℕ) (passed i j : ℕ) → Merging f a b out passed i j → IsValid a → IsValid b
+    → j ≡ length b
     → ((x : Bool) → f x false ≡ x) → IsValid (out ++ drop i a) × Acts f a (holds b) (out ++ drop i a)
 rest_kept f a b out passed i j m v w e keep =
     let r = run_from_valid a v in
@@ -241,25 +268,38 @@ rest_kept f a b out passed i j m v w e keep =
     let ld : length (drop i a) + i ≡ length a = (let t = length-drop i a in omega arith) in
     let po : length out % 2 ≡ i % 2 = parity _ _ (m.parity ∙ rw (is_even b j w e) (keep (is_odd i))) in
     let lo = length-append out (drop i a) in
-    let whole : Run 0 (suc code_point_limit) (out ++ drop i a) = run-append 0 passed (suc code_point_limit) out (drop i a) (omega arith) m.small m.run back in (
+    let whole : Run 0 (suc code_point_limit) (out ++ drop i a) =
+    run-append 0 passed (suc code_point_limit) out (drop i a) (omega arith) m.small m.run back in (
       valid_from_run (out ++ drop i a) whole (let t = v.even in omega arith),
       λ c l. elim (cases_lt c passed) [
         | inl p ↦ rw (holds-ends_below (out ++ drop i a) c) (ap is_odd
-            (let s = ends_below-append out (drop i a) (suc c) in let t = ends_below-before passed (suc code_point_limit) (drop i a) (suc c) back (omega arith) in
-            let z : ends_below (out ++ drop i a) (suc c) ≡ ends_below out (suc c) = omega arith in z) ∙ (sym (holds-ends_below out c) ∙ m.set c p))
+            (let s = ends_below-append out (drop i a) (suc c) in
+            let t = ends_below-before passed (suc code_point_limit) (drop i a) (suc c) back (omega arith) in
+            let z : ends_below (out ++ drop i a) (suc c) ≡ ends_below out (suc c) = omega arith in z)
+            ∙ (sym (holds-ends_below out c) ∙ m.set c p))
         | inr p ↦ rw (holds_none b j passed c w m.second e p, keep (holds a c), holds-ends_below (out ++ drop i a) c, holds-ends_below a c)
             (odd_same _ _
             (let s = ends_below-append out (drop i a) (suc c) in
             let t = ends_below-past 0 passed out (suc c) m.run (omega arith) in
             let u : ends_below a (suc c) ≡ ends_below (take i a) (suc c) + ends_below (drop i a) (suc c) =
-            subst (λ (xs : List ℕ). ends_below xs (suc c) ≡ ends_below (take i a) (suc c) + ends_below (drop i a) (suc c)) (take-append-drop i a) (ends_below-append (take i a) (drop i a) (suc c)) in
+            subst (λ (xs : List ℕ). ends_below xs (suc c) ≡ ends_below (take i a) (suc c) + ends_below (drop i a) (suc c))
+            (take-append-drop i a) (ends_below-append (take i a) (drop i a) (suc c)) in
             let x = ends_below-past 0 passed (take i a) (suc c) front (omega arith) in omega arith))
       ],
     )
 
 -- an operation with its sides exchanged
-exchanged : (f : Bool → Bool → Bool) (a b out : List ℕ) (passed i j : ℕ) → Merging f a b out passed i j → Merging (λ x y. f y x) b a out passed j i
-exchanged f a b out passed i j m = record { first = m.second; second = m.first; run = m.run; small = m.small; parity = m.parity; set = m.set }
+exchanged : (f : Bool → Bool → Bool) (a b out : List ℕ) (passed i j : ℕ) → Merging f a b out passed i j
+    → Merging (λ x y. f y x) b a out passed j i
+exchanged f a b out passed i j m = record {
+  first = m.second;
+  second = m.first;
+  run = m.run;
+  small = m.small;
+  parity = m.parity;
+  set =
+      m.set;
+}
 
 keeps : (f : Bool → Bool) → f false ≡ false → f true ≡ true → (x : Bool) → f x ≡ x
 keeps f n h false = n
@@ -270,11 +310,13 @@ leaves f n h false = n
 leaves f n h true = h
 
 -- the second list is passed
-after_second : (f : Bool → Bool → Bool) (a b out : List ℕ) (i j p : ℕ) → f false false ≡ false → Merged f a b out i j → IsValid a → IsValid b → i ≤ length a → j ≡ length b
+after_second : (f : Bool → Bool → Bool) (a b out : List ℕ) (i j p : ℕ) → f false false ≡ false → Merged f a b out i j → IsValid a
+    → IsValid b → i ≤ length a → j ≡ length b
     → p ≡ (if f true false then i else length a) → IsValid (out ++ drop p a) × Acts f a (holds b) (out ++ drop p a)
 after_second f a b out i j p none m v w h e k = elim (cases_Bool (f true false)) [
   | inl t ↦ rw (k ∙ cond-true _ _ _ t) (rest_kept f a b out m.passed i j m.so_far v w e (keeps (λ x. f x false) none t))
-  | inr t ↦ rw (k ∙ cond-false _ _ _ t, drop_all (length a) a (omega arith), append-nil out) (rest_left f a b out m.passed i j m.so_far v w e (leaves (λ x. f x false) none t))
+  | inr t ↦ rw (k ∙ cond-false _ _ _ t, drop_all (length a) a (omega arith), append-nil out)
+      (rest_left f a b out m.passed i j m.so_far v w e (leaves (λ x. f x false) none t))
 ]
 
 same_cond : (t : Bool) (x y : ℕ) → x ≡ y → (if t then x else y) ≡ y
@@ -282,26 +324,31 @@ same_cond true x y e = e
 same_cond false x y e = refl
 
 -- one of the lists is passed, and what is wanted of the rest of either is appended
-rests : (f : Bool → Bool → Bool) (a b out : List ℕ) (i j p q : ℕ) → f false false ≡ false → Merged f a b out i j → IsValid a → IsValid b → i ≤ length a → j ≤ length b
+rests : (f : Bool → Bool → Bool) (a b out : List ℕ) (i j p q : ℕ) → f false false ≡ false → Merged f a b out i j → IsValid a → IsValid b
+    → i ≤ length a → j ≤ length b
     → (i ≡ length a) ⊎ (j ≡ length b)
     → p ≡ (if f true false then i else length a) → q ≡ (if f false true then j else length b)
     → IsValid ((out ++ drop p a) ++ drop q b) × Acts f a (holds b) ((out ++ drop p a) ++ drop q b)
 rests f a b out i j p q none m v w x y (inl h) k l =
     let z : p ≡ length a = k ∙ same_cond (f true false) i (length a) h in
     rw (z, drop_all (length a) a (omega arith), append-nil out)
-    (after_second (λ x y. f y x) b a out j i q none (record { passed = m.passed; so_far = exchanged f a b out m.passed i j m.so_far }) w v y h l)
+    (after_second (λ x y. f y x) b a out j i q none (record { passed = m.passed; so_far = exchanged f a b out m.passed i j m.so_far }) w v y
+    h l)
 rests f a b out i j p q none m v w x y (inr h) k l =
     let z : q ≡ length b = l ∙ same_cond (f false true) j (length b) h in
     rw (z, drop_all (length b) b (omega arith), append-nil (out ++ drop p a))
     (after_second f a b out i j p none m v w x h k)
 
-pub merged_all : (f : Bool → Bool → Bool) (a b out : List ℕ) (n i j p q : ℕ) → f false false ≡ false → Walks f a b out i j n → (i ≡ length a) ⊎ (j ≡ length b)
+pub merged_all : (f : Bool → Bool → Bool) (a b out : List ℕ) (n i j p q : ℕ) → f false false ≡ false → Walks f a b out i j n
+    → (i ≡ length a) ⊎ (j ≡ length b)
     → p ≡ (if f true false then i else length a) → q ≡ (if f false true then j else length b)
     → IsValid ((take n out ++ drop p a) ++ drop q b) × Acts f a (holds b) ((take n out ++ drop p a) ++ drop q b)
-merged_all f a b out n i j p q none s passed k l = rests f a b (take n out) i j p q none s.merged s.valid.0 s.valid.1 s.first s.second passed k l
+merged_all f a b out n i j p q none s passed k l =
+    rests f a b (take n out) i j p q none s.merged s.valid.0 s.valid.1 s.first s.second passed k l
 
 -- what a list is after its rests are appended
-pub joined : (a b out cut more whole : List ℕ) (p q : ℕ) → cut ≡ out → more ≡ cut ++ take (length a - p) (drop p a) → whole ≡ more ++ drop q b → whole ≡ (out ++ drop p a) ++ drop q b
+pub joined : (a b out cut more whole : List ℕ) (p q : ℕ) → cut ≡ out → more ≡ cut ++ take (length a - p) (drop p a)
+    → whole ≡ more ++ drop q b → whole ≡ (out ++ drop p a) ++ drop q b
 joined a b out cut more whole p q x y z =
     z ∙ ap (λ (ys : List ℕ). ys ++ drop q b) (y ∙ (ap (λ (ys : List ℕ). ys ++ take (length a - p) (drop p a)) x
     ∙ ap (λ (ys : List ℕ). out ++ ys) (take_all (length a - p) (drop p a) (omega (arith, length-drop p a)))))
@@ -309,10 +356,13 @@ joined a b out cut more whole p q x y z =
 -- ---- sets whose ends stand apart
 -- before its own ends begin, the second list holds nothing
 second_none : (a b : List ℕ) (s : StandBefore a b) (c : ℕ) → c < s.end → holds b c ≡ false
-second_none a b s c h = holds-ends_below b c ∙ ap is_odd (let k = ends_below-mono b (suc c) s.end (omega arith) in let n = s.second in let z : ends_below b (suc c) ≡ 0 = omega arith in z)
+second_none a b s c h = holds-ends_below b c
+    ∙ ap is_odd (let k = ends_below-mono b (suc c) s.end (omega arith) in let n = s.second in
+    let z : ends_below b (suc c) ≡ 0 = omega arith in z)
 
 -- all ends of the first list are passed and none of the second; the operation keeps the first, or leaves it out
-stood : (f : Bool → Bool → Bool) (a b out : List ℕ) → f false false ≡ false → IsValid a → (s : StandBefore a b) → (f true false ≡ true) × (out ≡ a) ⊎ (f true false ≡ false) × (out ≡ [])
+stood : (f : Bool → Bool → Bool) (a b out : List ℕ) → f false false ≡ false → IsValid a → (s : StandBefore a b)
+    → (f true false ≡ true) × (out ≡ a) ⊎ (f true false ≡ false) × (out ≡ [])
     → Merging f a b out s.end (length a) 0
 stood f a b out none v s (inl (t, e)) = rw e (record {
   first = s.first;
@@ -324,7 +374,8 @@ stood f a b out none v s (inl (t, e)) = rw e (record {
 })
   where
     whole_front : Run 0 s.end a
-    whole_front = let front : Run 0 s.end (take (length a) a) = rw s.first (run-front 0 (suc code_point_limit) s.end a (run_from_valid a v)) in
+    whole_front = let front : Run 0 s.end (take (length a) a) =
+        rw s.first (run-front 0 (suc code_point_limit) s.end a (run_from_valid a v)) in
         subst (λ (xs : List ℕ). Run 0 s.end xs) (take_all (length a) a (omega arith)) front
 stood f a b out none v s (inr (t, e)) = rw e (record {
   first = s.first;
@@ -336,38 +387,56 @@ stood f a b out none v s (inr (t, e)) = rw e (record {
 })
 
 -- the operation keeps both
-pub stood_both : (f : Bool → Bool → Bool) (a b : List ℕ) → f false false ≡ false → IsValid a → IsValid b → StandBefore a b → f true false ≡ true → f false true ≡ true
+pub stood_both : (f : Bool → Bool → Bool) (a b : List ℕ) → f false false ≡ false → IsValid a → IsValid b → StandBefore a b
+    → f true false ≡ true → f false true ≡ true
     → IsValid (a ++ b) × Acts f a (holds b) (a ++ b)
 stood_both f a b none v w s t u =
     let m = stood f a b a none v s (inl (t, refl)) in
-    let all = rests f a b a (length a) 0 (length a) 0 none (record { passed = s.end; so_far = m }) v w (omega arith) (omega arith) (inl refl)
+    let all = rests f a b a (length a) 0 (length a) 0 none (record { passed = s.end; so_far = m }) v w (omega arith) (omega arith)
+    (inl refl)
     (sym (cond-true _ _ _ t)) (sym (cond-true _ _ _ u)) in
     rw (drop_all (length a) a (omega arith), append-nil a) at all
 
 -- the operation keeps none of the second
-pub stood_first : (f : Bool → Bool → Bool) (a b out : List ℕ) → f false false ≡ false → IsValid a → IsValid b → StandBefore a b → f false true ≡ false → out ≡ (if f true false then a else [])
+pub stood_first : (f : Bool → Bool → Bool) (a b out : List ℕ) → f false false ≡ false → IsValid a → IsValid b → StandBefore a b
+    → f false true ≡ false → out ≡ (if f true false then a else [])
     → IsValid out × Acts f a (holds b) out
 stood_first f a b out none v w s u e =
-    let o : (f true false ≡ true) × (out ≡ a) ⊎ (f true false ≡ false) × (out ≡ []) = elim (cases_Bool (f true false)) [ inl t ↦ inl (t, e ∙ cond-true _ _ _ t) | inr t ↦ inr (t, e ∙ cond-false _ _ _ t) ] in
+    let o : (f true false ≡ true) × (out ≡ a) ⊎ (f true false ≡ false) × (out ≡ []) =
+    elim (cases_Bool (f true false)) [ inl t ↦ inl (t, e ∙ cond-true _ _ _ t) | inr t ↦ inr (t, e ∙ cond-false _ _ _ t) ] in
     let m = stood f a b out none v s o in
-    let all = rests f a b out (length a) 0 (length a) (length b) none (record { passed = s.end; so_far = m }) v w (omega arith) (omega arith) (inl refl)
+    let all = rests f a b out (length a) 0 (length a) (length b) none (record { passed = s.end; so_far = m }) v w (omega arith)
+    (omega arith) (inl refl)
     (sym (same_cond (f true false) (length a) (length a) refl)) (sym (cond-false _ _ _ u)) in
     rw (drop_all (length a) a (omega arith), append-nil out, drop_all (length b) b (omega arith), append-nil out) at all
 
 -- the same where the ends of the second stand before those of the first
-pub stood_second : (f : Bool → Bool → Bool) (a b out : List ℕ) → f false false ≡ false → IsValid a → IsValid b → StandBefore b a → f false true ≡ false → out ≡ (if f true false then a else [])
+pub stood_second : (f : Bool → Bool → Bool) (a b out : List ℕ) → f false false ≡ false → IsValid a → IsValid b → StandBefore b a
+    → f false true ≡ false → out ≡ (if f true false then a else [])
     → IsValid out × Acts f a (holds b) out
 stood_second f a b out none v w s u e =
     let m = stood (λ x y. f y x) b a [] none w s (inr (u, refl)) in
-    let all = rests f a b [] 0 (length b) (if f true false then 0 else length a) (length b) none (record { passed = s.end; so_far = exchanged (λ x y. f y x) b a [] s.end (length b) 0 m }) v w (omega arith) (omega arith) (inr refl)
+    let all = rests f a b [] 0 (length b) (if f true false then 0 else length a)
+    (length b) none (record { passed = s.end; so_far = exchanged (λ x y. f y x) b a [] s.end (length b) 0 m }) v w (omega arith)
+    (omega arith) (inr refl)
     refl (sym (same_cond (f false true) (length b) (length b) refl)) in
     elim (cases_Bool (f true false)) [
-      | inl t ↦ rw (e ∙ cond-true _ _ _ t) (rw (drop_all (length b) b (omega arith), append-nil (drop (if f true false then 0 else length a) a), cond-true _ _ _ t) at all)
-      | inr t ↦ rw (e ∙ cond-false _ _ _ t) (rw (drop_all (length b) b (omega arith), append-nil (drop (if f true false then 0 else length a) a), cond-false _ _ _ t, drop_all (length a) a (omega arith)) at all)
+      | inl t ↦
+          rw (e ∙ cond-true _ _ _ t)
+          (rw (drop_all (length b) b (omega arith), append-nil (drop (if f true false then 0 else length a) a), cond-true _ _ _ t) at all)
+      | inr t ↦
+          rw (e ∙ cond-false _ _ _ t)
+          (rw (
+            drop_all (length b) b (omega arith),
+            append-nil (drop (if f true false then 0 else length a) a),
+            cond-false _ _ _ t,
+            drop_all (length a) a (omega arith),
+          ) at all)
     ]
 
 -- where all ends of a list stand, by its last one and the other's first
-pub stand_by_ends : (a b : List ℕ) (n : ℕ) → IsValid a → IsValid b → n ≡ length a → 0 < n → 0 < length b → get_or a (n - 1) 0 < get_or b 0 0 → StandBefore a b
+pub stand_by_ends : (a b : List ℕ) (n : ℕ) → IsValid a → IsValid b → n ≡ length a → 0 < n → 0 < length b → get_or a (n - 1) 0 < get_or b 0 0
+    → StandBefore a b
 stand_by_ends a b n v w e some least h = record {
   end = get_or b 0 0;
   within = (let k = w.within 0 0 least in omega arith);

@@ -14,12 +14,14 @@ small_ends : (xs : List ℕ) → IsValid xs → AllByRecursion (λ x. x < 2 ^ 24
 small_ends xs v = recursion_from_All (λ x. x < 2 ^ 24) xs (λ k d h. let a = v.within k d h in omega arith)
 
 packed_ends : (xs : List ℕ) → IsValid xs → IsPacked (λ b. Some (number_of 3 b)) 3 (flat_map (low_bytes 3) xs)
-packed_ends xs v = IsPacked-flat_map (λ b. Some (number_of 3 b)) 3 (low_bytes 3) (λ x. x < 2 ^ 24) (lit< tt) (λ x h. refl) (λ x h. ap Some (number_of-3 x h))
+packed_ends xs v = IsPacked-flat_map (λ b. Some (number_of 3 b)) 3 (low_bytes 3) (λ x. x < 2 ^ 24) (lit< tt) (λ x h. refl)
+    (λ x h. ap Some (number_of-3 x h))
     xs (small_ends xs v) (λ x h. low_bytes-small 3 x)
 
 -- they give the ends back
 pub values_packed : (xs : List ℕ) → IsValid xs → values_of (λ b. Some (number_of 3 b)) 3 (flat_map (low_bytes 3) xs) ≡ xs
-values_packed xs v = values_of-flat_map (λ b. Some (number_of 3 b)) 3 (low_bytes 3) (λ x. x < 2 ^ 24) (lit< tt) (λ x h. refl) (λ x h. ap Some (number_of-3 x h))
+values_packed xs v = values_of-flat_map (λ b. Some (number_of 3 b)) 3 (low_bytes 3) (λ x. x < 2 ^ 24) (lit< tt) (λ x h. refl)
+    (λ x h. ap Some (number_of-3 x h))
     xs (small_ends xs v)
 
 -- and are not refused
@@ -33,5 +35,7 @@ drop_place (y ∷ ys) zero x e = let k : y ≡ x = cc in rw k refl
 drop_place (y ∷ ys) (suc i) x e = let k : suc i + 1 ≡ suc (i + 1) = omega arith in rw k (drop_place ys i x e)
 
 -- one end more is unpacked
-pub unpacked_more : (xs front whole : List ℕ) (i x : ℕ) → slice_get xs i ≡ Some x → front ++ drop i xs ≡ whole → (front ++ x ∷ []) ++ drop (i + 1) xs ≡ whole
-unpacked_more xs front whole i x e w = append_assoc front (x ∷ []) (drop (i + 1) xs) ∙ (ap (λ (ys : List ℕ). front ++ ys) (sym (drop_place xs i x e)) ∙ w)
+pub unpacked_more : (xs front whole : List ℕ) (i x : ℕ) → slice_get xs i ≡ Some x → front ++ drop i xs ≡ whole
+    → (front ++ x ∷ []) ++ drop (i + 1) xs ≡ whole
+unpacked_more xs front whole i x e w = append_assoc front (x ∷ []) (drop (i + 1) xs)
+    ∙ (ap (λ (ys : List ℕ). front ++ ys) (sym (drop_place xs i x e)) ∙ w)

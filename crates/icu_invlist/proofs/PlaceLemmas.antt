@@ -12,16 +12,20 @@ use Rattle.icu_invlist.proofs.ValidLists.{run_from_valid}
 pub least_at : (xs : List ℕ) (i m : ℕ) → IsValid xs → i ≡ ends_below xs m → i < length xs → m ≤ get_or xs i 0
 least_at xs i m v e h = run-back-least 0 (suc code_point_limit) m xs (run_from_valid xs v) i (omega arith) h
 
-pub stays_at : (xs : List ℕ) (i m n : ℕ) → IsValid xs → i ≡ ends_below xs m → m ≤ n → (i < length xs → n ≤ get_or xs i 0) → i ≡ ends_below xs n
+pub stays_at : (xs : List ℕ) (i m n : ℕ) → IsValid xs → i ≡ ends_below xs m → m ≤ n → (i < length xs → n ≤ get_or xs i 0)
+    → i ≡ ends_below xs n
 stays_at xs i m n v e h next = e ∙ ends_below-stays 0 (suc code_point_limit) m n xs (run_from_valid xs v) h (rw e at next)
 
 -- the place moves on over n
-pub moves_over : (xs : List ℕ) (i n : ℕ) → IsValid xs → i ≡ ends_below xs n → i < length xs → get_or xs i 0 ≡ n → i + 1 ≡ ends_below xs (suc n)
+pub moves_over : (xs : List ℕ) (i n : ℕ) → IsValid xs → i ≡ ends_below xs n → i < length xs → get_or xs i 0 ≡ n
+    → i + 1 ≡ ends_below xs (suc n)
 moves_over xs i n v e h k = below_is xs (i + 1) (suc n) (omega arith)
     (λ j p. let q = run-rises 0 (suc code_point_limit) xs (run_from_valid xs v) j i 0 (omega arith) h in omega arith)
-    (λ j p q. let a = v.ascending i (omega arith) in let b = run-rises 0 (suc code_point_limit) xs (run_from_valid xs v) (i + 1) j 0 p q in omega arith)
+    (λ j p q. let a = v.ascending i (omega arith) in let b = run-rises 0 (suc code_point_limit) xs (run_from_valid xs v) (i + 1) j 0 p q in
+    omega arith)
 
-pub stays_over : (xs : List ℕ) (i n : ℕ) → IsValid xs → i ≡ ends_below xs n → (i < length xs → get_or xs i 0 ≡ n → ⊥) → i ≡ ends_below xs (suc n)
+pub stays_over : (xs : List ℕ) (i n : ℕ) → IsValid xs → i ≡ ends_below xs n → (i < length xs → get_or xs i 0 ≡ n → ⊥)
+    → i ≡ ends_below xs (suc n)
 stays_over xs i n v e h = stays_at xs i n (suc n) v e (omega arith)
     (λ k. let a = least_at xs i n v e k in elim (cases_eq (get_or xs i 0) n) [ inl p ↦ absurd (h k p) | inr p ↦ omega arith ])
 
@@ -34,7 +38,8 @@ valid-length xs v = let a = run-length 0 (suc code_point_limit) xs (omega arith)
 
 -- what an end says of the place of c
 pub place_behind : (xs : List ℕ) (m c : ℕ) → IsValid xs → m < length xs → get_or xs m 0 ≤ c → m + 1 ≤ ends_below xs (suc c)
-place_behind xs m c v l h = let b = ends_below-more 0 (suc code_point_limit) (suc c) xs (run_from_valid xs v) m (omega arith) l in omega arith
+place_behind xs m c v l h = let b = ends_below-more 0 (suc code_point_limit) (suc c) xs (run_from_valid xs v) m (omega arith) l in
+    omega arith
 
 pub place_front : (xs : List ℕ) (m c : ℕ) → IsValid xs → c < get_or xs m 0 → ends_below xs (suc c) ≤ m
 place_front xs m c v h = elim (cases_lt m (ends_below xs (suc c))) [
@@ -42,19 +47,23 @@ place_front xs m c v h = elim (cases_lt m (ends_below xs (suc c))) [
   | inr k ↦ k
 ]
 
-pub all_below : (xs : List ℕ) (n c : ℕ) → Run 0 (suc code_point_limit) xs → n ≡ length xs → 0 < n → get_or xs (n - 1) 0 < c → n ≡ ends_below xs c
+pub all_below : (xs : List ℕ) (n c : ℕ) → Run 0 (suc code_point_limit) xs → n ≡ length xs → 0 < n → get_or xs (n - 1) 0 < c
+    → n ≡ ends_below xs c
 all_below xs n c r e some h = below_is xs n c (omega arith)
     (λ k p. let q = run-rises 0 (suc code_point_limit) xs r k (n - 1) 0 (omega arith) (omega arith) in omega arith)
     (λ k p q. absurd (omega arith))
 
 -- a point in a run of the set
-pub covers_all : (xs : List ℕ) (i s e : ℕ) → IsValid xs → i ≡ ends_below xs (suc s) → i % 2 ≡ 1 → i < length xs → e ≤ get_or xs i 0 → HoldsAll xs s e
-covers_all xs i s e v p odd h l c a b = rw (holds-ends_below xs c, ← stays_at xs i (suc s) (suc c) v p (omega arith) (λ k. omega arith)) (eq-eqb _ _ odd)
+pub covers_all : (xs : List ℕ) (i s e : ℕ) → IsValid xs → i ≡ ends_below xs (suc s) → i % 2 ≡ 1 → i < length xs → e ≤ get_or xs i 0
+    → HoldsAll xs s e
+covers_all xs i s e v p odd h l c a b = rw (holds-ends_below xs c, ← stays_at xs i (suc s) (suc c) v p (omega arith) (λ k. omega arith))
+    (eq-eqb _ _ odd)
 
 pub not_even : (xs : List ℕ) (i s e : ℕ) → i ≡ ends_below xs (suc s) → s < e → HoldsAll xs s e → (i % 2 ≡ 1 → ⊥) → ⊥
 not_even xs i s e p h all n = n (rw p (eqb-true _ _ (sym (holds-ends_below xs s) ∙ all s (omega arith) h)))
 
-pub not_past : (xs : List ℕ) (i s e : ℕ) → IsValid xs → i ≡ ends_below xs (suc s) → i % 2 ≡ 1 → i < length xs → HoldsAll xs s e → get_or xs i 0 < e → ⊥
+pub not_past : (xs : List ℕ) (i s e : ℕ) → IsValid xs → i ≡ ends_below xs (suc s) → i % 2 ≡ 1 → i < length xs → HoldsAll xs s e
+    → get_or xs i 0 < e → ⊥
 not_past xs i s e v p odd h all l =
     let n = get_or xs i 0 in
     let a = least_at xs i (suc s) v p h in
@@ -63,13 +72,15 @@ not_past xs i s e v p odd h all l =
     let u = eqb-true _ _ (sym (holds-ends_below xs n) ∙ all n (omega arith) l) in omega arith
 
 pub within-place : (xs : List ℕ) (i c : ℕ) → IsValid xs → i ≡ ends_below xs c → i % 2 ≡ 1 → i < length xs
-within-place xs i c v p odd = let a = ends_below-le xs c in let b = v.even in elim (cases_eq i (length xs)) [ inl e ↦ absurd (omega arith) | inr e ↦ omega arith ]
+within-place xs i c v p odd = let a = ends_below-le xs c in let b = v.even in
+    elim (cases_eq i (length xs)) [ inl e ↦ absurd (omega arith) | inr e ↦ omega arith ]
 
 pub not_past_limit : (xs : List ℕ) (c : ℕ) → IsValid xs → code_point_limit ≤ c → holds xs c ≡ false
 not_past_limit xs c v h = let e = holds-past xs c v h in holds-ends_below xs c ∙ ne_eqb _ _ (λ k. omega arith)
 
 -- the points of a run are held, and each held point is in a run
-pub in_pair : (xs : List ℕ) (k c : ℕ) → IsValid xs → k % 2 ≡ 0 → k + 1 < length xs → get_or xs k 0 ≤ c → c < get_or xs (k + 1) 0 → holds xs c ≡ true
+pub in_pair : (xs : List ℕ) (k c : ℕ) → IsValid xs → k % 2 ≡ 0 → k + 1 < length xs → get_or xs k 0 ≤ c → c < get_or xs (k + 1) 0
+    → holds xs c ≡ true
 in_pair xs k c v even l a b =
     let e : k + 1 ≡ ends_below xs (suc c) = below_is xs (k + 1) (suc c) (omega arith)
     (λ i h. let q = run-rises 0 (suc code_point_limit) xs (run_from_valid xs v) i k 0 (omega arith) (omega arith) in omega arith)
@@ -97,7 +108,8 @@ pub subset_from : (part whole : List ℕ) (n : ℕ) → IsValid part → length 
     → ((k : ℕ) → k + 1 < n → k % 2 ≡ 0 → HoldsAll whole (get_or part k 0) (get_or part (k + 1) 0)) → IsSubset part whole
 subset_from part whole n v l all c h t = let p = pair_of part c v t in all p.place (let a = p.inside in omega arith) p.even c p.from p.to
 
-pub all_from_subset : (part whole : List ℕ) (k : ℕ) → IsValid part → k % 2 ≡ 0 → k + 1 < length part → IsSubset part whole → HoldsAll whole (get_or part k 0) (get_or part (k + 1) 0)
+pub all_from_subset : (part whole : List ℕ) (k : ℕ) → IsValid part → k % 2 ≡ 0 → k + 1 < length part → IsSubset part whole
+    → HoldsAll whole (get_or part k 0) (get_or part (k + 1) 0)
 all_from_subset part whole k v even l sub c a b = sub c (let w = v.within (k + 1) 0 l in omega arith) (in_pair part k c v even l a b)
 
 -- ---- parts of a set
@@ -109,7 +121,8 @@ pub record HoldsBefore (part whole : List ℕ) (i : ℕ) : Type 0 where
 pub holds_before_any : (part whole : List ℕ) → HoldsBefore part whole 0
 holds_before_any part whole = record { even = omega arith; ranges = λ k h. absurd (omega arith) }
 
-pub holds_more : (part whole : List ℕ) (i : ℕ) → HoldsBefore part whole i → HoldsAll whole (get_or part i 0) (get_or part (i + 1) 0) → HoldsBefore part whole (i + 2)
+pub holds_more : (part whole : List ℕ) (i : ℕ) → HoldsBefore part whole i → HoldsAll whole (get_or part i 0) (get_or part (i + 1) 0)
+    → HoldsBefore part whole (i + 2)
 holds_more part whole i b all = record {
   even = (let e = b.even in omega arith);
   ranges = λ k h e. elim (cases_lt (k + 1) i) [
@@ -133,7 +146,8 @@ no_part_of_none part whole v some none sub =
     not_even whole 0 (get_or part 0 0) (get_or part 1 0) p a r (λ e. omega arith)
 
 -- a part has its first start and its last end within those of the whole
-pub first_within : (part whole : List ℕ) → IsValid part → IsValid whole → 0 < length part → IsSubset part whole → get_or whole 0 0 ≤ get_or part 0 0
+pub first_within : (part whole : List ℕ) → IsValid part → IsValid whole → 0 < length part → IsSubset part whole
+    → get_or whole 0 0 ≤ get_or part 0 0
 first_within part whole v w some sub = elim (cases_lt (get_or part 0 0) (get_or whole 0 0)) [
   | inl h ↦ absurd
       (let r = all_from_subset part whole 0 v refl (last_of_pair part 0 v refl some) sub in
@@ -143,7 +157,8 @@ first_within part whole v w some sub = elim (cases_lt (get_or part 0 0) (get_or 
   | inr h ↦ h
 ]
 
-pub last_within : (part whole : List ℕ) (m n : ℕ) → IsValid part → IsValid whole → m ≡ length part → n ≡ length whole → 0 < m → 0 < n → IsSubset part whole
+pub last_within : (part whole : List ℕ) (m n : ℕ) → IsValid part → IsValid whole → m ≡ length part → n ≡ length whole → 0 < m → 0 < n
+    → IsSubset part whole
     → get_or part (m - 1) 0 ≤ get_or whole (n - 1) 0
 last_within part whole m n v w pm pn some more sub = elim (cases_lt (get_or whole (n - 1) 0) (get_or part (m - 1) 0)) [
   | inl h ↦ absurd
@@ -152,7 +167,8 @@ last_within part whole m n v w pm pn some more sub = elim (cases_lt (get_or whol
       let second : (m - 2) + 1 ≡ m - 1 = (let d = v.even in omega arith) in
       let inside : (m - 2) + 1 < length part = (let d = v.even in omega arith) in
       let a : get_or part (m - 2) 0 < get_or part (m - 1) 0 = rw second at (v.ascending (m - 2) inside) in
-      let r : HoldsAll whole (get_or part (m - 2) 0) (get_or part (m - 1) 0) = rw second at (all_from_subset part whole (m - 2) v even inside sub) in
+      let r : HoldsAll whole (get_or part (m - 2) 0) (get_or part (m - 1) 0) =
+      rw second at (all_from_subset part whole (m - 2) v even inside sub) in
       let held : holds whole c ≡ true = r c (omega arith) (omega arith) in
       let p : n ≡ ends_below whole (suc c) = all_below whole n (suc c) (run_from_valid whole w) pn more (omega arith) in
       let odd = eqb-true _ _ (sym (holds-ends_below whole c) ∙ held) in
@@ -167,8 +183,14 @@ one_range (x ∷ y ∷ []) c s e v l p q =
     rw (p, q, holds-ends_below (x ∷ y ∷ []) c) (elim (cases_lt c x) [
       | inl h ↦ rw (lt-leb x c h, ends_below-no x (suc c) (y ∷ []) (omega arith), ends_below-no y (suc c) [] (omega arith)) refl
       | inr h ↦ elim (cases_lt c y) [
-        | inl k ↦ rw (le-leb x c h, lt-ltb c y k, ends_below-yes x (suc c) (y ∷ []) (omega arith), ends_below-no y (suc c) [] (omega arith)) refl
-        | inr k ↦ rw (le-leb x c h, le-ltb c y k, ends_below-yes x (suc c) (y ∷ []) (omega arith), ends_below-yes y (suc c) [] (omega arith)) refl
+        | inl k ↦ rw (le-leb x c h, lt-ltb c y k, ends_below-yes x (suc c) (y ∷ []) (omega arith), ends_below-no y (suc c) [] (omega arith))
+            refl
+        | inr k ↦ rw (
+          le-leb x c h,
+          le-ltb c y k,
+          ends_below-yes x (suc c) (y ∷ []) (omega arith),
+          ends_below-yes y (suc c) [] (omega arith),
+        ) refl
       ]
     ])
 one_range [] c s e v l p q = absurd (omega arith)

@@ -14,7 +14,8 @@ pub ends_below-no : (x c : ℕ) (xs : List ℕ) → c ≤ x → ends_below (x �
 ends_below-no x c xs h = cond-false _ _ _ (le-ltb x c h)
 
 -- the number of ends not above c
-count_cons : (x c n : ℕ) (xs : List ℕ) → count_by (λ e. nat_le e c) xs ≡ n → count_by (λ e. nat_le e c) (x ∷ xs) ≡ cond (nat_lt x (suc c)) (suc n) n
+count_cons : (x c n : ℕ) (xs : List ℕ) → count_by (λ e. nat_le e c) xs ≡ n
+    → count_by (λ e. nat_le e c) (x ∷ xs) ≡ cond (nat_lt x (suc c)) (suc n) n
 count_cons x c n xs e = elim (cases_lt c x) [
   | inl h ↦ rw (sum_by-cons (λ y. cond (nat_le y c) 1 0) x xs, e, lt-leb x c h, le-ltb x (suc c) (omega arith)) (omega arith)
   | inr h ↦ rw (sum_by-cons (λ y. cond (nat_le y c) 1 0) x xs, e, le-leb x c h, lt-ltb x (suc c) (omega arith)) (omega arith)
@@ -34,7 +35,8 @@ ends_below-append (x ∷ xs) ys c = elim (cases_lt x c) [
 
 pub ends_below-before : (lo hi : ℕ) (xs : List ℕ) (c : ℕ) → Run lo hi xs → c ≤ lo → ends_below xs c ≡ 0
 ends_below-before lo hi [] c r h = refl
-ends_below-before lo hi (x ∷ xs) c r h = rw (ends_below-no x c xs (omega (arith, r.0))) (ends_below-before (suc x) hi xs c r.2 (omega (arith, r.0)))
+ends_below-before lo hi (x ∷ xs) c r h = rw (ends_below-no x c xs (omega (arith, r.0)))
+    (ends_below-before (suc x) hi xs c r.2 (omega (arith, r.0)))
 
 pub ends_below-past : (lo hi : ℕ) (xs : List ℕ) (c : ℕ) → Run lo hi xs → hi ≤ c → ends_below xs c ≡ length xs
 ends_below-past lo hi [] c r h = refl
@@ -81,10 +83,13 @@ ends_below-mono (x ∷ xs) c d h = let k = ends_below-mono xs c d h in elim (cas
 ]
 
 -- the first i numbers are below c, and the others are not
-pub below_is : (xs : List ℕ) (i c : ℕ) → i ≤ length xs → ((k : ℕ) → k < i → get_or xs k 0 < c) → ((k : ℕ) → i ≤ k → k < length xs → c ≤ get_or xs k 0) → i ≡ ends_below xs c
+pub below_is : (xs : List ℕ) (i c : ℕ) → i ≤ length xs → ((k : ℕ) → k < i → get_or xs k 0 < c)
+    → ((k : ℕ) → i ≤ k → k < length xs → c ≤ get_or xs k 0) → i ≡ ends_below xs c
 below_is [] i c h a b = omega arith
-below_is (x ∷ xs) zero c h a b = rw (ends_below-no x c xs (b 0 (omega arith) (omega arith))) (below_is xs zero c (omega arith) (λ k p. absurd (omega arith)) (λ k p q. b (suc k) (omega arith) (omega arith)))
-below_is (x ∷ xs) (suc i) c h a b = rw (ends_below-yes x c xs (a 0 (omega arith))) (ap suc (below_is xs i c (omega arith) (λ k p. a (suc k) (omega arith)) (λ k p q. b (suc k) (omega arith) (omega arith))))
+below_is (x ∷ xs) zero c h a b = rw (ends_below-no x c xs (b 0 (omega arith) (omega arith)))
+    (below_is xs zero c (omega arith) (λ k p. absurd (omega arith)) (λ k p q. b (suc k) (omega arith) (omega arith)))
+below_is (x ∷ xs) (suc i) c h a b = rw (ends_below-yes x c xs (a 0 (omega arith)))
+    (ap suc (below_is xs i c (omega arith) (λ k p. a (suc k) (omega arith)) (λ k p q. b (suc k) (omega arith) (omega arith))))
 
 pub run-least : (lo hi : ℕ) (xs : List ℕ) → Run lo hi xs → (k d : ℕ) → k < length xs → lo ≤ get_or xs k d
 run-least lo hi [] r k d h = absurd (omega arith)
@@ -111,7 +116,8 @@ ends_below-front lo hi m (x ∷ xs) r (suc k) h = elim (cases_lt x m) [
 ]
 
 -- the place stays up to the next number
-pub ends_below-stays : (lo hi m n : ℕ) (xs : List ℕ) → Run lo hi xs → m ≤ n → (ends_below xs m < length xs → n ≤ get_or xs (ends_below xs m) 0) → ends_below xs m ≡ ends_below xs n
+pub ends_below-stays : (lo hi m n : ℕ) (xs : List ℕ) → Run lo hi xs → m ≤ n
+    → (ends_below xs m < length xs → n ≤ get_or xs (ends_below xs m) 0) → ends_below xs m ≡ ends_below xs n
 ends_below-stays lo hi m n xs r h next = below_is xs (ends_below xs m) n (ends_below-le xs m)
     (λ k p. let q = ends_below-front lo hi m xs r k p in omega arith)
     (λ k p q. let a = run-rises lo hi xs r (ends_below xs m) k 0 p q in let b = next (omega arith) in omega arith)
@@ -135,9 +141,11 @@ ends_below-zero (x ∷ xs) = rw (ends_below-no x 0 xs (omega arith)) (ends_below
 pub ends_below-step : (lo hi x : ℕ) (xs : List ℕ) → Run lo hi xs → ends_below xs (suc x) ≤ ends_below xs x + 1
 ends_below-step lo hi x [] r = omega arith
 ends_below-step lo hi x (y ∷ ys) r = elim (cases_lt y x) [
-  | inl h ↦ let k = ends_below-step (suc y) hi x ys r.2 in rw (ends_below-yes y (suc x) ys (omega arith), ends_below-yes y x ys h) (omega arith)
+  | inl h ↦ let k = ends_below-step (suc y) hi x ys r.2 in
+      rw (ends_below-yes y (suc x) ys (omega arith), ends_below-yes y x ys h) (omega arith)
   | inr h ↦ elim (cases_lt x y) [
-    | inl k ↦ rw (ends_below-no y (suc x) ys k, ends_below-no y x ys h, ends_below-before (suc y) hi ys (suc x) r.2 (omega arith)) (omega arith)
+    | inl k ↦ rw (ends_below-no y (suc x) ys k, ends_below-no y x ys h, ends_below-before (suc y) hi ys (suc x) r.2 (omega arith))
+        (omega arith)
     | inr k ↦ rw (ends_below-yes y (suc x) ys (omega arith), ends_below-before (suc y) hi ys (suc x) r.2 (omega arith)) (omega arith)
   ]
 ]

@@ -18,7 +18,8 @@ told : (x : Bool) (k p : ℕ) → (IsTrue x ↔ (k < p)) → Tells x k p
 told true k p h = h.0 refl
 told false k p h = elim (cases_lt k p) [ inl l ↦ absurd (false≢true (h.1 l)) | inr l ↦ l ]
 
-counted : (p low step : ℕ) (x y z : Bool) → 0 < step → low ≤ p → Tells x (low + step - 1) p → Tells y (low + 2 * step - 1) p → Tells z (low + 3 * step - 1) p
+counted : (p low step : ℕ) (x y z : Bool) → 0 < step → low ≤ p → Tells x (low + step - 1) p → Tells y (low + 2 * step - 1) p
+    → Tells z (low + 3 * step - 1) p
     → AreStepsBelow p low step (bool_byte x + bool_byte y + bool_byte z)
 counted p low step true true true s f a b c = record { within = omega arith; reached = omega arith; past = inl (omega arith) }
 counted p low step true true false s f a b c = record { within = omega arith; reached = omega arith; past = inr (omega arith) }
@@ -29,11 +30,13 @@ counted p low step false true true s f a b c = absurd (omega arith)
 counted p low step false true false s f a b c = absurd (omega arith)
 counted p low step false false true s f a b c = absurd (omega arith)
 
-pub steps_counted : (p low step : ℕ) (x y z : Bool) → 0 < step → low ≤ p → (IsTrue x ↔ (low + step - 1 < p)) → (IsTrue y ↔ (low + 2 * step - 1 < p)) → (IsTrue z ↔ (low + 3 * step - 1 < p))
+pub steps_counted : (p low step : ℕ) (x y z : Bool) → 0 < step → low ≤ p → (IsTrue x ↔ (low + step - 1 < p))
+    → (IsTrue y ↔ (low + 2 * step - 1 < p)) → (IsTrue z ↔ (low + 3 * step - 1 < p))
     → AreStepsBelow p low step (bool_byte x + bool_byte y + bool_byte z)
 steps_counted p low step x y z s f a b c = counted p low step x y z s f (told x _ p a) (told y _ p b) (told z _ p c)
 
 -- one end that was looked at
-pub one_counted : (p low size : ℕ) (x : Bool) → 0 < size → low ≤ p → p ≤ low + size → (IsTrue x ↔ (low < p)) → (low + bool_byte x ≤ p) × (p ≤ low + bool_byte x + (size - 1)) × (low + bool_byte x + (size - 1) ≤ low + size)
+pub one_counted : (p low size : ℕ) (x : Bool) → 0 < size → low ≤ p → p ≤ low + size → (IsTrue x ↔ (low < p))
+    → (low + bool_byte x ≤ p) × (p ≤ low + bool_byte x + (size - 1)) × (low + bool_byte x + (size - 1) ≤ low + size)
 one_counted p low size true s f t h = let k = h.0 refl in (omega arith, omega arith, omega arith)
 one_counted p low size false s f t h = let k : p ≤ low = told false low p h in (omega arith, omega arith, omega arith)

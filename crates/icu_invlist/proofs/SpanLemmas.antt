@@ -31,15 +31,18 @@ module _ (p : ℕ → Bool) (text rest more : List ℕ) (n c : ℕ) (s : Spanned
 
   pub span_past : p c ≡ true → Spanned p text more (n + length (encode_utf8 c))
   span_past y =
-      let e : take_while p (chars rest) ≡ c ∷ take_while p (chars more) = rw characters (take_while-cons p c (chars more) ∙ cond-true _ _ _ y) in
+      let e : take_while p (chars rest) ≡ c ∷ take_while p (chars more) =
+      rw characters (take_while-cons p c (chars more) ∙ cond-true _ _ _ y) in
       let f : front p rest ≡ length (encode_utf8 c) + front p more =
       ap (λ (cs : List ℕ). length (encode_utf8_all cs)) e ∙ length-append (encode_utf8 c) (encode_utf8_all (take_while p (chars more))) in
-      let g : length rest ≡ length (encode_utf8 c) + length more = ap (λ (bs : List ℕ). length bs) step ∙ length-append (encode_utf8 c) more in
+      let g : length rest ≡ length (encode_utf8 c) + length more =
+      ap (λ (bs : List ℕ). length bs) step ∙ length-append (encode_utf8 c) more in
       let a = s.all in let b = s.so_far in
       record { utf8 = IsUtf8-past_char rest more c s.utf8 step; left = left_past; all = omega arith; so_far = omega arith }
 
   pub span_room : n + length (encode_utf8 c) + length more ≡ length text
-  span_room = let g : length rest ≡ length (encode_utf8 c) + length more = ap (λ (bs : List ℕ). length bs) step ∙ length-append (encode_utf8 c) more in let a = s.all in omega arith
+  span_room = let g : length rest ≡ length (encode_utf8 c) + length more =
+      ap (λ (bs : List ℕ). length bs) step ∙ length-append (encode_utf8 c) more in let a = s.all in omega arith
 
   pub span_stops : p c ≡ false → n ≡ front p text
   span_stops y =
@@ -69,7 +72,8 @@ pub record SpannedBack (p : ℕ → Bool) (text rest : List ℕ) : Type 0 where
   pub parts : text ≡ rest ++ behind
   pub so_far : length rest + tail p text ≡ length text + tail p rest
 
-module _ (p : ℕ → Bool) (text rest less : List ℕ) (c : ℕ) (s : SpannedBack p text rest) (scalar : IsScalar c) (step : rest ≡ less ++ encode_utf8 c) where
+module _ (p : ℕ → Bool) (text rest less : List ℕ) (c : ℕ) (s : SpannedBack p text rest) (scalar : IsScalar c)
+    (step : rest ≡ less ++ encode_utf8 c) where
   less_utf8 : IsUtf8 less
   less_utf8 =
       let b = IsCharBoundary-at_seam rest less (encode_utf8 c) step (IsUtf8-encode c scalar) in
@@ -90,9 +94,11 @@ module _ (p : ℕ → Bool) (text rest less : List ℕ) (c : ℕ) (s : SpannedBa
 
   pub back_past : p c ≡ true → SpannedBack p text less
   back_past y =
-      let e : take_while p (reverse (chars rest)) ≡ c ∷ take_while p (reverse (chars less)) = rw last_first (take_while-cons p c (reverse (chars less)) ∙ cond-true _ _ _ y) in
+      let e : take_while p (reverse (chars rest)) ≡ c ∷ take_while p (reverse (chars less)) =
+      rw last_first (take_while-cons p c (reverse (chars less)) ∙ cond-true _ _ _ y) in
       let f : tail p rest ≡ length (encode_utf8 c) + tail p less =
-      ap (λ (cs : List ℕ). length (encode_utf8_all cs)) e ∙ length-append (encode_utf8 c) (encode_utf8_all (take_while p (reverse (chars less)))) in
+      ap (λ (cs : List ℕ). length (encode_utf8_all cs)) e
+      ∙ length-append (encode_utf8 c) (encode_utf8_all (take_while p (reverse (chars less)))) in
       let a = s.so_far in let b = lengths in
       record {
         utf8 = less_utf8;

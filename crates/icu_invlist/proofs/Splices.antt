@@ -34,10 +34,12 @@ spliced xs s e r = splice xs (ends_below xs s) (ends_below xs (suc e)) r
 
 module _ (xs : List ℕ) (s e hi : ℕ) (r : List ℕ) (up : Run 0 hi xs) (less : s ≤ e) (within : e < hi) (inside : Run s (suc e) r) where
   pub spliced-run : Run 0 hi (spliced xs s e r)
-  spliced-run = run-append 0 s hi (take (ends_below xs s) xs) (r ++ drop (ends_below xs (suc e)) xs) (omega arith) (omega arith) (run-front 0 hi s xs up)
+  spliced-run = run-append 0 s hi (take (ends_below xs s) xs) (r ++ drop (ends_below xs (suc e)) xs) (omega arith) (omega arith)
+      (run-front 0 hi s xs up)
       (run-append s (suc e) hi r (drop (ends_below xs (suc e)) xs) (omega arith) (omega arith) inside (run-back 0 hi (suc e) xs up))
 
-  pub spliced-ends_below : (c : ℕ) → ends_below (spliced xs s e r) c ≡ ends_below (take (ends_below xs s) xs) c + (ends_below r c + ends_below (drop (ends_below xs (suc e)) xs) c)
+  pub spliced-ends_below : (c : ℕ) → ends_below (spliced xs s e r) c
+      ≡ ends_below (take (ends_below xs s) xs) c + (ends_below r c + ends_below (drop (ends_below xs (suc e)) xs) c)
   spliced-ends_below c = ends_below-append (take (ends_below xs s) xs) (r ++ drop (ends_below xs (suc e)) xs) c
       ∙ ap (λ (n : ℕ). ends_below (take (ends_below xs s) xs) c + n) (ends_below-append r (drop (ends_below xs (suc e)) xs) c)
 
@@ -59,7 +61,8 @@ module _ (xs : List ℕ) (s e hi : ℕ) (r : List ℕ) (up : Run 0 hi xs) (less 
       let g = ends_below-before (suc e) hi (drop (ends_below xs (suc e)) xs) (suc c) (run-back 0 hi (suc e) xs up) (omega arith) in
       omega arith
 
-  pub spliced-past : (c : ℕ) → e ≤ c → ends_below (spliced xs s e r) (suc c) + ends_below xs (suc e) ≡ ends_below xs (suc c) + (ends_below xs s + length r)
+  pub spliced-past : (c : ℕ) → e ≤ c → ends_below (spliced xs s e r)
+      (suc c) + ends_below xs (suc e) ≡ ends_below xs (suc c) + (ends_below xs s + length r)
   spliced-past c h =
       let a = spliced-ends_below (suc c) in
       let b = ends_below-past 0 s (take (ends_below xs s) xs) (suc c) (run-front 0 hi s xs up) (omega arith) in
@@ -104,20 +107,26 @@ borders-in false false s e c h k = refl
 module _ (xs : List ℕ) (s e : ℕ) (value f g : Bool) (valid : IsValid xs) (less : s < e) (within : e ≤ code_point_limit)
     (first : (ends_below xs s + cond f 1 0) % 2 ≡ cond value 1 0) (second : (ends_below xs (suc e) + cond g 1 0) % 2 ≡ cond value 1 0) where
   pub filled-valid : IsValid (spliced xs s e (borders f g s e))
-  filled-valid = valid_from_run _ (spliced-run xs s e (suc code_point_limit) (borders f g s e) (run_from_valid xs valid) (omega arith) (omega arith) (borders-run f g s e less))
-      (let a = spliced-length xs s e (suc code_point_limit) (borders f g s e) (run_from_valid xs valid) (omega arith) (omega arith) (borders-run f g s e less) in
+  filled-valid = valid_from_run _ (spliced-run xs s e (suc code_point_limit) (borders f g s e) (run_from_valid xs valid) (omega arith)
+      (omega arith) (borders-run f g s e less))
+      (let a = spliced-length xs s e (suc code_point_limit) (borders f g s e) (run_from_valid xs valid) (omega arith) (omega arith)
+      (borders-run f g s e less) in
       let b = borders-length f g s e in
       let d = valid.even in omega arith)
 
   pub filled-holds : IsFilled xs s e value (spliced xs s e (borders f g s e))
   filled-holds c = elim (cases_lt c s) [
-    | inl h ↦ rw (before_range s e c h, holds-ends_below, holds-ends_below xs c) (ap is_odd (spliced-before xs s e (suc code_point_limit) (borders f g s e) (run_from_valid xs valid) (omega arith) (omega arith) (borders-run f g s e less) c h))
+    | inl h ↦ rw (before_range s e c h, holds-ends_below, holds-ends_below xs c)
+        (ap is_odd (spliced-before xs s e (suc code_point_limit) (borders f g s e) (run_from_valid xs valid) (omega arith) (omega arith)
+        (borders-run f g s e less) c h))
     | inr h ↦ elim (cases_lt c e) [
       | inl k ↦ rw (in_range s e c h k, holds-ends_below) (odd_is _ value
-          (let a = spliced-in xs s e (suc code_point_limit) (borders f g s e) (run_from_valid xs valid) (omega arith) (omega arith) (borders-run f g s e less) c h k in
+          (let a = spliced-in xs s e (suc code_point_limit) (borders f g s e) (run_from_valid xs valid) (omega arith) (omega arith)
+          (borders-run f g s e less) c h k in
           let b = borders-in f g s e c h k in omega arith))
       | inr k ↦ rw (past_range s e c k, holds-ends_below, holds-ends_below xs c) (odd_same _ _
-          (let a = spliced-past xs s e (suc code_point_limit) (borders f g s e) (run_from_valid xs valid) (omega arith) (omega arith) (borders-run f g s e less) c k in
+          (let a = spliced-past xs s e (suc code_point_limit) (borders f g s e) (run_from_valid xs valid) (omega arith) (omega arith)
+          (borders-run f g s e less) c k in
           let b = borders-length f g s e in omega arith))
     ]
   ]
@@ -140,7 +149,8 @@ needed-parity n value = elim (cases_eq (n % 2) 1) [
     by_value_even n true h = omega arith
     by_value_even n false h = omega arith
 
-pub filled : (xs ys : List ℕ) (i j s e : ℕ) (value f g : Bool) → IsValid xs → s < e → e ≤ code_point_limit → i ≡ ends_below xs s → j ≡ ends_below xs (e + 1)
+pub filled : (xs ys : List ℕ) (i j s e : ℕ) (value f g : Bool) → IsValid xs → s < e → e ≤ code_point_limit → i ≡ ends_below xs s
+    → j ≡ ends_below xs (e + 1)
     → f ≡ needed i value → g ≡ needed j value → ys ≡ splice xs i j (borders f g s e) → IsValid ys × IsFilled xs s e value ys
 filled xs ys i j s e value f g v h l a b p q y = rw (y, p, q, a, b, add-one) (
   filled-valid xs s e value _ _ v h l (needed-parity _ value) (needed-parity _ value),
@@ -156,7 +166,8 @@ room_for i j value false false h a b n = omega arith
 
 pub room : (xs : List ℕ) (i j s e : ℕ) (value : Bool) → s < e → i ≡ ends_below xs s → j ≡ ends_below xs (e + 1)
     → (needed i value ≡ true → needed j value ≡ true → i ≡ j → ⊥) → i + (cond (needed i value) 1 0 + cond (needed j value) 1 0) ≤ j
-room xs i j s e value h a b n = room_for i j value _ _ (let k = ends_below-mono xs s (e + 1) (omega arith) in omega arith) (needed-parity i value) (needed-parity j value) n
+room xs i j s e value h a b n = room_for i j value _ _ (let k = ends_below-mono xs s (e + 1) (omega arith) in omega arith)
+    (needed-parity i value) (needed-parity j value) n
 
 pub plain : (n : ℕ) → nat_eq (n % 2) 1 ≡ needed n false
 plain n = same_flag (nat_eq (n % 2) 1)
@@ -165,16 +176,21 @@ plain n = same_flag (nat_eq (n % 2) 1)
     same_flag true = refl
     same_flag false = refl
 
-pub side_room : (xs : List ℕ) (i j s e : ℕ) → IsValid xs → s < e → e ≤ code_point_limit → i ≡ ends_below xs s → j ≡ ends_below xs (e + 1) → ((s ≡ 0) ⊎ (e ≡ code_point_limit))
+pub side_room : (xs : List ℕ) (i j s e : ℕ) → IsValid xs → s < e → e ≤ code_point_limit → i ≡ ends_below xs s → j ≡ ends_below xs (e + 1)
+    → ((s ≡ 0) ⊎ (e ≡ code_point_limit))
     → i + (cond (nat_eq (i % 2) 1) 1 0 + cond (nat_eq (j % 2) 1) 1 0) ≤ j
 side_room xs i j s e v h w a b side = rw (plain i, plain j) (room xs i j s e false h a b (λ p q r.
     let x = eqb-true _ _ (plain i ∙ p) in let y = eqb-true _ _ (plain j ∙ q) in elim side [
       | inl z ↦ absurd (let t : i ≡ 0 = a ∙ rw z (ends_below-zero xs) in omega arith)
-      | inr z ↦ absurd (let t : j ≡ length xs = b ∙ ends_below-past 0 (suc code_point_limit) xs (e + 1) (run_from_valid xs v) (omega arith) in let u = v.even in omega arith)
+      | inr z ↦
+          absurd (let t : j ≡ length xs = b ∙ ends_below-past 0 (suc code_point_limit) xs (e + 1) (run_from_valid xs v) (omega arith) in
+          let u = v.even in omega arith)
     ]))
 
-pub emptied : (xs : List ℕ) (s e last c : ℕ) → last ≡ min e code_point_limit → last ≤ s → c < code_point_limit → holds [] c ≡ (holds xs c && between s e c)
-emptied xs s e last c l h k = let n : between s e c ≡ false = elim (cases_lt c s) [ inl a ↦ before_range s e c a | inr a ↦ past_range s e c (omega arith) ] in
+pub emptied : (xs : List ℕ) (s e last c : ℕ) → last ≡ min e code_point_limit → last ≤ s → c < code_point_limit
+    → holds [] c ≡ (holds xs c && between s e c)
+emptied xs s e last c l h k = let n : between s e c ≡ false =
+    elim (cases_lt c s) [ inl a ↦ before_range s e c a | inr a ↦ past_range s e c (omega arith) ] in
     holds-ends_below [] c ∙ rw n (sym (and_no (holds xs c)))
   where
     and_no : (b : Bool) → (b && false) ≡ false
@@ -188,22 +204,26 @@ two_first (a ∷ []) h = absurd (omega arith)
 two_first (a ∷ b ∷ ys) h = (a, b, refl)
 
 -- two places more at the end, the ends from p on moved there, and two written over what they leave
-pub two_put_in : (xs zs : List ℕ) (p n s e : ℕ) → n ≡ length xs → p ≤ n → length zs ≡ 2 → set (set (copy_within (xs ++ zs) p n (p + 2)) p s) (p + 1) e ≡ splice xs p p (s ∷ e ∷ [])
+pub two_put_in : (xs zs : List ℕ) (p n s e : ℕ) → n ≡ length xs → p ≤ n → length zs ≡ 2
+    → set (set (copy_within (xs ++ zs) p n (p + 2)) p s) (p + 1) e ≡ splice xs p p (s ∷ e ∷ [])
 two_put_in xs zs p n s e pn h two =
     let front = take p xs in
     let back = drop p xs in
     let f : length front ≡ p = length-take-le p xs (omega arith) in
-    let whole : xs ++ zs ≡ front ++ (back ++ zs) = ap (λ (ys : List ℕ). ys ++ zs) (sym (take-append-drop p xs)) ∙ append_assoc front back zs in
+    let whole : xs ++ zs ≡ front ++ (back ++ zs) = ap (λ (ys : List ℕ). ys ++ zs) (sym (take-append-drop p xs))
+    ∙ append_assoc front back zs in
     let w = two_first (back ++ zs) (omega (arith, length-append back zs)) in
     let t : take (p + 2) (xs ++ zs) ≡ front ++ w.0 ∷ w.1 ∷ [] =
     ap (take (p + 2)) whole ∙ ((rw f at (take-append-add front (back ++ zs) 2)) ∙ ap (λ (ys : List ℕ). front ++ ys) w.2) in
     let k : n - p ≡ length back = omega (arith, length-drop p xs) in
     let m : take (n - p) (drop p (xs ++ zs)) ≡ back = rw (drop-append-le p xs zs (omega arith), k) (take-append_seam back zs) in
     let l : drop ((p + 2) + (n - p)) (xs ++ zs) ≡ [] = drop_all ((p + 2) + (n - p)) (xs ++ zs) (omega (arith, length-append xs zs)) in
-    let moved : copy_within (xs ++ zs) p n (p + 2) ≡ front ++ w.0 ∷ w.1 ∷ back = rw (t, m, l, append-nil ((front ++ w.0 ∷ w.1 ∷ []) ++ back), append_assoc front (w.0 ∷ w.1 ∷ []) back) refl in
+    let moved : copy_within (xs ++ zs) p n (p + 2) ≡ front ++ w.0 ∷ w.1 ∷ back =
+    rw (t, m, l, append-nil ((front ++ w.0 ∷ w.1 ∷ []) ++ back), append_assoc front (w.0 ∷ w.1 ∷ []) back) refl in
     let one : (p + 1) - p ≡ 1 = omega arith in
     let first : set (front ++ w.0 ∷ w.1 ∷ back) p s ≡ front ++ s ∷ w.1 ∷ back = rw f at (set-append_seam front w.0 (w.1 ∷ back) s) in
-    let second : set (front ++ s ∷ w.1 ∷ back) (p + 1) e ≡ front ++ set (s ∷ w.1 ∷ back) ((p + 1) - p) e = set-append_right front (s ∷ w.1 ∷ back) p (p + 1) e f (omega arith) in
+    let second : set (front ++ s ∷ w.1 ∷ back) (p + 1) e ≡ front ++ set (s ∷ w.1 ∷ back) ((p + 1) - p) e =
+    set-append_right front (s ∷ w.1 ∷ back) p (p + 1) e f (omega arith) in
     rw (moved, first, second, one) refl
 
 -- the count stays where the next end is not below

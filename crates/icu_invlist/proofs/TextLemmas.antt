@@ -25,7 +25,8 @@ digit_again : (n c : ℕ) (cs : List ℕ) → digit_value c < 16 → digit_at n 
 unfolding digit_at
 digit_again n c cs h = rw (lt-ltb (digit_value c) 16 h) refl
 
-bind_some : {A B : Type 0} (r : Option A) (f : A → Option B) (y : B) → option_and_then f r ≡ Some y → (x : A) × (r ≡ Some x) × (f x ≡ Some y)
+bind_some : {A B : Type 0} (r : Option A) (f : A → Option B) (y : B) → option_and_then f r ≡ Some y
+    → (x : A) × (r ≡ Some x) × (f x ≡ Some y)
 bind_some None f y h = absurd cc
 bind_some (Some x) f y h = (x, refl, h)
 
@@ -55,14 +56,20 @@ hex_takes cs x h =
         d = d.c;
         is = refl;
         digits = (a.digit, b.digit, c.digit, d.digit);
-        value = d.value ∙ ap (λ z. z * 16 + digit_value d.c) (c.value ∙ ap (λ z. z * 16 + digit_value c.c) (b.value ∙ ap (λ z. z * 16 + digit_value b.c) (a.value ∙ omega arith)));
+        value = d.value ∙ ap (λ z. z * 16 + digit_value d.c)
+            (c.value ∙ ap (λ z. z * 16 + digit_value c.c) (b.value ∙ ap (λ z. z * 16 + digit_value b.c) (a.value ∙ omega arith)));
       };
     }
 
 hex_again : (digits rest : List ℕ) (n : ℕ) → IsHex digits n → hex_at (digits ++ rest) ≡ Some (n, rest)
 unfolding hex_at
 hex_again digits rest n h =
-    rw h.is (rw (digit_again 0 h.a _ h.digits.0, digit_again _ h.b _ h.digits.1, digit_again _ h.c _ h.digits.2, digit_again _ h.d rest h.digits.3) (ap (λ z. Some (z, rest)) (omega (arith, h.value))))
+    rw h.is (rw (
+      digit_again 0 h.a _ h.digits.0,
+      digit_again _ h.b _ h.digits.1,
+      digit_again _ h.c _ h.digits.2,
+      digit_again _ h.d rest h.digits.3,
+    ) (ap (λ z. Some (z, rest)) (omega (arith, h.value))))
 
 record TakesPoint (cs : List ℕ) (x : ℕ × List ℕ) : Type 0 where
   front : List ℕ
@@ -114,7 +121,8 @@ point_again front [] p (inl e) f = rw e refl
 point_again front (c ∷ rest) p (inl e) f = rw (e, f) (either (nat_eq p 0x55) (Some (p, c ∷ rest)))
 point_again front rest p (inr (digits, e, h)) f = rw e (hex_again digits rest p h)
 
-from_back : (cs front middle rest : List ℕ) (a x b : ℕ) (r : Option (ℕ × List ℕ)) → ((y : ℕ × List ℕ) → r ≡ Some y → TakesPoint rest y) → cs ≡ front ++ (middle ++ rest) → IsPoint front x
+from_back : (cs front middle rest : List ℕ) (a x b : ℕ) (r : Option (ℕ × List ℕ)) → ((y : ℕ × List ℕ) → r ≡ Some y → TakesPoint rest y)
+    → cs ≡ front ++ (middle ++ rest) → IsPoint front x
     → IsPoint middle 0x2D → last_point x r ≡ Some (a, b) → IsRange cs a b
 from_back cs front middle rest a x b None t e p m h = absurd cc
 from_back cs front middle rest a x b (Some (y, [])) t e p m h =
@@ -125,15 +133,18 @@ from_back cs front middle rest a x b (Some (y, [])) t e p m h =
     inr (front, middle, rest, e, pa, m, pb)
 from_back cs front middle rest a x b (Some (y, d ∷ more)) t e p m h = absurd cc
 
-from_second : (cs front rest : List ℕ) (a x b : ℕ) (r : Option (ℕ × List ℕ)) → ((y : ℕ × List ℕ) → r ≡ Some y → TakesPoint rest y) → cs ≡ front ++ rest → IsPoint front x
+from_second : (cs front rest : List ℕ) (a x b : ℕ) (r : Option (ℕ × List ℕ)) → ((y : ℕ × List ℕ) → r ≡ Some y → TakesPoint rest y)
+    → cs ≡ front ++ rest → IsPoint front x
     → second_point x r ≡ Some (a, b) → IsRange cs a b
 from_second cs front rest a x b None t e p h = absurd cc
 from_second cs front rest a x b (Some (m, back)) t e p h =
     let k = t (m, back) refl in
     let g = chosen (nat_eq m 0x2D) (last_point x (point_at back)) (a, b) h in
-    from_back cs front k.front back a x b (point_at back) (point_takes back) (e ∙ ap (λ z. front ++ z) k.is) p (subst (IsPoint k.front) (eqb-true m 0x2D g.0) k.point) g.1
+    from_back cs front k.front back a x b (point_at back) (point_takes back)
+    (e ∙ ap (λ z. front ++ z) k.is) p (subst (IsPoint k.front) (eqb-true m 0x2D g.0) k.point) g.1
 
-from_point : (cs : List ℕ) (r : Option (ℕ × List ℕ)) → ((y : ℕ × List ℕ) → r ≡ Some y → TakesPoint cs y) → (a b : ℕ) → range_from r ≡ Some (a, b) → IsRange cs a b
+from_point : (cs : List ℕ) (r : Option (ℕ × List ℕ)) → ((y : ℕ × List ℕ) → r ≡ Some y → TakesPoint cs y) → (a b : ℕ)
+    → range_from r ≡ Some (a, b) → IsRange cs a b
 from_point cs None t a b h = absurd cc
 from_point cs (Some (x, [])) t a b h =
     let both : ◌≡◌ {A = ℕ × ℕ} (x, x) (a, b) = some_same h in
@@ -160,18 +171,24 @@ back_at back b pb = ap point_at (sym (append-nil back)) ∙ point_again back [] 
 tail_minus : (back : List ℕ) (a b : ℕ) → IsPoint back b → range_from (Some (a, 0x2D ∷ back)) ≡ Some (a, b)
 tail_minus back a b pb = ap (second_point a) (minus_again (0x2D ∷ []) back (inl refl)) ∙ ap (last_point a) (back_at back b pb)
 
-tail_hex : (digits back : List ℕ) (a b : ℕ) → IsHex digits 0x2D → IsPoint back b → range_from (Some (a, 0x55 ∷ 0x2B ∷ (digits ++ back))) ≡ Some (a, b)
-tail_hex digits back a b h pb = ap (second_point a) (minus_again (0x55 ∷ 0x2B ∷ digits) back (inr (digits, refl, h))) ∙ ap (last_point a) (back_at back b pb)
+tail_hex : (digits back : List ℕ) (a b : ℕ) → IsHex digits 0x2D → IsPoint back b
+    → range_from (Some (a, 0x55 ∷ 0x2B ∷ (digits ++ back))) ≡ Some (a, b)
+tail_hex digits back a b h pb = ap (second_point a) (minus_again (0x55 ∷ 0x2B ∷ digits) back (inr (digits, refl, h)))
+    ∙ ap (last_point a) (back_at back b pb)
 
-after_front : (front middle back : List ℕ) (a b : ℕ) → IsPoint front a → IsPoint middle 0x2D → IsPoint back b → range_from (point_at (front ++ (middle ++ back))) ≡ Some (a, b)
+after_front : (front middle back : List ℕ) (a b : ℕ) → IsPoint front a → IsPoint middle 0x2D → IsPoint back b
+    → range_from (point_at (front ++ (middle ++ back))) ≡ Some (a, b)
 after_front front middle back a b pa (inl e) pb =
-    ap (λ z. range_from (point_at (front ++ (z ++ back)))) e ∙ ap range_from (point_again front (0x2D ∷ back) a pa refl) ∙ tail_minus back a b pb
+    ap (λ z. range_from (point_at (front ++ (z ++ back)))) e ∙ ap range_from (point_again front (0x2D ∷ back) a pa refl)
+    ∙ tail_minus back a b pb
 after_front front middle back a b pa (inr (digits, e, h)) pb =
-    ap (λ z. range_from (point_at (front ++ (z ++ back)))) e ∙ ap range_from (point_again front (0x55 ∷ 0x2B ∷ (digits ++ back)) a pa refl) ∙ tail_hex digits back a b h pb
+    ap (λ z. range_from (point_at (front ++ (z ++ back)))) e ∙ ap range_from (point_again front (0x55 ∷ 0x2B ∷ (digits ++ back)) a pa refl)
+    ∙ tail_hex digits back a b h pb
 
 pub range_only : (cs : List ℕ) (a b : ℕ) → IsRange cs a b → range_at cs ≡ Some (a, b)
 unfolding range_at
 range_only cs a b (inl h) =
     let e : point_at cs ≡ Some (a, []) = ap point_at (sym (append-nil cs)) ∙ point_again cs [] a h.0 tt in
     rw (e, h.1) refl
-range_only cs a b (inr (front, middle, back, e, pa, pm, pb)) = ap (λ z. range_from (point_at z)) e ∙ after_front front middle back a b pa pm pb
+range_only cs a b (inr (front, middle, back, e, pa, pm, pb)) =
+    ap (λ z. range_from (point_at z)) e ∙ after_front front middle back a b pa pm pb

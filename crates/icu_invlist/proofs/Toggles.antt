@@ -28,22 +28,28 @@ odd_before n = rw odd_next (sym (not-not (is_odd n)))
 abbrev pub Toggled : List ℕ → ℕ → List ℕ → Type 0
 Toggled xs x ys = Run 0 (suc code_point_limit) ys × ((c : ℕ) → holds ys c ≡ one_of (nat_le x c) (holds xs c))
 
-pub put_in : (xs ys : List ℕ) (x i j : ℕ) → Run 0 (suc code_point_limit) xs → x ≤ code_point_limit → i ≡ ends_below xs x → j ≡ ends_below xs (x + 1) → i ≡ j → ys ≡ insert xs i x → Toggled xs x ys
+pub put_in : (xs ys : List ℕ) (x i j : ℕ) → Run 0 (suc code_point_limit) xs → x ≤ code_point_limit → i ≡ ends_below xs x
+    → j ≡ ends_below xs (x + 1) → i ≡ j → ys ≡ insert xs i x → Toggled xs x ys
 put_in xs ys x i j up w a b e y =
-    let q : ys ≡ splice xs (ends_below xs x) (ends_below xs (suc x)) (x ∷ []) = y ∙ (let k : ends_below xs (suc x) ≡ i = (rw (← add-one) (sym b ∙ sym e)) in rw (k, ← a) refl) in
+    let q : ys ≡ splice xs (ends_below xs x) (ends_below xs (suc x)) (x ∷ []) =
+    y ∙ (let k : ends_below xs (suc x) ≡ i = (rw (← add-one) (sym b ∙ sym e)) in rw (k, ← a) refl) in
     rw q (
       spliced-run xs x x (suc code_point_limit) (x ∷ []) up (omega arith) (omega arith) (omega arith, omega arith, tt),
       λ c. elim (cases_lt c x) [
-        | inl h ↦ rw (lt-leb x c h, holds-ends_below, holds-ends_below xs c) (ap is_odd (spliced-before xs x x (suc code_point_limit) (x ∷ []) up (omega arith) (omega arith) (omega arith, omega arith, tt) c h))
+        | inl h ↦ rw (lt-leb x c h, holds-ends_below, holds-ends_below xs c)
+            (ap is_odd (spliced-before xs x x (suc code_point_limit) (x ∷ []) up (omega arith) (omega arith)
+            (omega arith, omega arith, tt) c h))
         | inr h ↦ rw (le-leb x c h, holds-ends_below, holds-ends_below xs c)
-            (let t = spliced-past xs x x (suc code_point_limit) (x ∷ []) up (omega arith) (omega arith) (omega arith, omega arith, tt) c h in
+            (let t = spliced-past xs x x (suc code_point_limit) (x ∷ []) up (omega arith) (omega arith)
+            (omega arith, omega arith, tt) c h in
             let u : ends_below (splice xs (ends_below xs x) (ends_below xs (suc x)) (x ∷ [])) (suc c) ≡ ends_below xs (suc c) + 1 =
             (let k : ends_below xs (suc x) ≡ ends_below xs x = (rw (← add-one) (sym b ∙ (sym e ∙ a))) in omega arith) in
             ap is_odd u ∙ odd_next (ends_below xs (suc c)))
       ],
     )
 
-pub take_out : (xs ys : List ℕ) (x i j : ℕ) → Run 0 (suc code_point_limit) xs → x ≤ code_point_limit → i ≡ ends_below xs x → j ≡ ends_below xs (x + 1) → (i ≡ j → ⊥) → ys ≡ remove xs i → Toggled xs x ys
+pub take_out : (xs ys : List ℕ) (x i j : ℕ) → Run 0 (suc code_point_limit) xs → x ≤ code_point_limit → i ≡ ends_below xs x
+    → j ≡ ends_below xs (x + 1) → (i ≡ j → ⊥) → ys ≡ remove xs i → Toggled xs x ys
 take_out xs ys x i j up w a b n y =
     let m = ends_below-mono xs x (suc x) (omega arith) in
     let s = ends_below-step 0 (suc code_point_limit) x xs up in
@@ -52,7 +58,8 @@ take_out xs ys x i j up w a b n y =
     rw q (
       spliced-run xs x x (suc code_point_limit) [] up (omega arith) (omega arith) tt,
       λ c. elim (cases_lt c x) [
-        | inl h ↦ rw (lt-leb x c h, holds-ends_below, holds-ends_below xs c) (ap is_odd (spliced-before xs x x (suc code_point_limit) [] up (omega arith) (omega arith) tt c h))
+        | inl h ↦ rw (lt-leb x c h, holds-ends_below, holds-ends_below xs c)
+            (ap is_odd (spliced-before xs x x (suc code_point_limit) [] up (omega arith) (omega arith) tt c h))
         | inr h ↦ rw (le-leb x c h, holds-ends_below, holds-ends_below xs c)
             (let t = spliced-past xs x x (suc code_point_limit) [] up (omega arith) (omega arith) tt c h in
             let u : ends_below (splice xs (ends_below xs x) (ends_below xs (suc x)) []) (suc c) + 1 ≡ ends_below xs (suc c) = omega arith in
@@ -65,21 +72,25 @@ abbrev pub EndFound : List ℕ → ℕ → Result ℕ ℕ → Type 0
 EndFound xs x r = MatchResult r (λ i. (i ≡ ends_below xs x) × (i < length xs) × (ends_below xs x ≡ ends_below xs (x + 1) → ⊥))
     (λ i. (i ≡ ends_below xs x) × (ends_below xs x ≡ ends_below xs (x + 1)))
 
-pub end_found : (xs : List ℕ) (x : ℕ) (r : Result ℕ ℕ) → Run 0 (suc code_point_limit) xs → IsBinarySearchResult (λ y. nat_cmp y x) xs r → EndFound xs x r
+pub end_found : (xs : List ℕ) (x : ℕ) (r : Result ℕ ℕ) → Run 0 (suc code_point_limit) xs → IsBinarySearchResult (λ y. nat_cmp y x) xs r
+    → EndFound xs x r
 end_found xs x (Ok i) up s =
     let p = searched xs x (Ok i) s (λ a b. run-rises 0 (suc code_point_limit) xs up a b 0) in
     let e : i ≡ ends_below xs x = below_is xs i x (omega (arith, p.0))
-    (λ k h. let q = run-rises 0 (suc code_point_limit) xs up (k + 1) i 0 (omega arith) p.0 in let u = rises 0 (suc code_point_limit) xs up k (omega (arith, p.0)) in omega (arith, p.1))
+    (λ k h. let q = run-rises 0 (suc code_point_limit) xs up (k + 1) i 0 (omega arith) p.0 in
+    let u = rises 0 (suc code_point_limit) xs up k (omega (arith, p.0)) in omega (arith, p.1))
     (λ k h l. let q = run-rises 0 (suc code_point_limit) xs up i k 0 h l in omega (arith, p.1)) in
     let m : i < ends_below xs (x + 1) = ends_below-more 0 (suc code_point_limit) (x + 1) xs up i (omega (arith, p.1)) p.0 in
     (e, p.0, λ k. absurd (omega arith))
 end_found xs x (Err i) up s =
     let p = searched xs x (Err i) s (λ a b. run-rises 0 (suc code_point_limit) xs up a b 0) in
     let e : i ≡ ends_below xs x = below_is xs i x p.0 (λ k h. let q = p.1 k h in omega arith) (λ k h l. let q = p.2 k h l in omega arith) in
-    let f : i ≡ ends_below xs (x + 1) = below_is xs i (x + 1) p.0 (λ k h. let q = p.1 k h in omega arith) (λ k h l. let q = p.2 k h l in omega arith) in
+    let f : i ≡ ends_below xs (x + 1) = below_is xs i (x + 1) p.0 (λ k h. let q = p.1 k h in omega arith)
+    (λ k h l. let q = p.2 k h l in omega arith) in
     (e, sym e ∙ f)
 
-pub new_found : (xs : List ℕ) (x : ℕ) (r : Result ℕ ℕ) (t : Bool) → EndFound xs x r → t ≡ is_err r → Decides t (ends_below xs x ≡ ends_below xs (x + 1))
+pub new_found : (xs : List ℕ) (x : ℕ) (r : Result ℕ ℕ) (t : Bool) → EndFound xs x r → t ≡ is_err r
+    → Decides t (ends_below xs x ≡ ends_below xs (x + 1))
 new_found xs x (Ok i) t f e = (λ y. absurd (false≢true (sym e ∙ y)), λ k. absurd (f.2 k))
 new_found xs x (Err i) t f e = (λ y. f.1, λ k. e)
 
@@ -89,5 +100,7 @@ flipped xs ys v r e = valid_from_run ys r (elim (cases_eq (length ys % 2) 1) [
   | inr h ↦ omega arith
 ])
 
-pub flipped_twice : (xs zs ws ys : List ℕ) → IsValid xs → zs ≡ xs → is_odd (length ws) ≡ not (is_odd (length zs)) → Run 0 (suc code_point_limit) ys → is_odd (length ys) ≡ not (is_odd (length ws)) → IsValid ys
-flipped_twice xs zs ws ys v z a r b = flipped xs ys v r (b ∙ (ap not a ∙ (not-not (is_odd (length zs)) ∙ ap (λ (us : List ℕ). is_odd (length us)) z)))
+pub flipped_twice : (xs zs ws ys : List ℕ) → IsValid xs → zs ≡ xs → is_odd (length ws) ≡ not (is_odd (length zs))
+    → Run 0 (suc code_point_limit) ys → is_odd (length ys) ≡ not (is_odd (length ws)) → IsValid ys
+flipped_twice xs zs ws ys v z a r b = flipped xs ys v r
+    (b ∙ (ap not a ∙ (not-not (is_odd (length zs)) ∙ ap (λ (us : List ℕ). is_odd (length us)) z)))

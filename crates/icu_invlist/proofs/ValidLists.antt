@@ -6,13 +6,15 @@ use Rattle.icu_zerovec.specs.CodePoints.{code_point_limit}
 use Rattle.icu_invlist.specs.InversionList.{IsValid}
 use Rattle.icu_invlist.specs.Inside.Places.{Run}
 
-run_from : (lo hi : ℕ) (xs : List ℕ) → IsStrictlyIncreasing xs → (0 < length xs → lo ≤ get_or xs 0 0) → ((k : ℕ) → k < length xs → get_or xs k 0 < hi) → Run lo hi xs
+run_from : (lo hi : ℕ) (xs : List ℕ) → IsStrictlyIncreasing xs → (0 < length xs → lo ≤ get_or xs 0 0)
+    → ((k : ℕ) → k < length xs → get_or xs k 0 < hi) → Run lo hi xs
 run_from lo hi [] up low high = tt
 run_from lo hi (x ∷ xs) up low high = (
   low (omega arith),
   high 0 (omega arith),
   run_from (suc x) hi xs
-      (λ k h. let e : suc k + 1 ≡ suc (k + 1) = omega arith in subst (λ (n : ℕ). get_or xs k 0 < get_or (x ∷ xs) n 0) e (up (suc k) (omega arith)))
+      (λ k h. let e : suc k + 1 ≡ suc (k + 1) = omega arith in
+      subst (λ (n : ℕ). get_or xs k 0 < get_or (x ∷ xs) n 0) e (up (suc k) (omega arith)))
       (λ h. up 0 (omega arith))
       (λ k h. high (suc k) (omega arith)),
 )

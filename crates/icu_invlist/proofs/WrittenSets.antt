@@ -40,7 +40,16 @@ hex_spelled p h =
     let b = hex_value (p / 256 % 16) (omega arith) in
     let c = hex_value (p / 16 % 16) (omega arith) in
     let d = hex_value (p % 16) (omega arith) in
-    record { a = _; b = _; c = _; d = _; is = refl; digits = (omega arith, omega arith, omega arith, omega arith); value = rw (a, b, c, d) (omega arith) }
+    record {
+      a = _;
+      b = _;
+      c = _;
+      d = _;
+      is = refl;
+      digits = (omega arith, omega arith, omega arith, omega arith);
+      value =
+          rw (a, b, c, d) (omega arith);
+    }
 
 point_spelled : (p : ℕ) → IsPoint (spelling_of p) p
 point_spelled p = elim (cases_lt p 0xD800) [
@@ -56,8 +65,14 @@ point_scalars p l = elim (cases_lt p 0xD800) [
   | inl h ↦ rw (lt-leb 0xD800 p h) (and_from (scalar p) true (rw (lt-ltb p 0xD800 h) refl) refl)
   | inr h ↦ elim (cases_lt p 0xE000) [
     | inl k ↦ rw (le-leb 0xD800 p h, lt-ltb p 0xE000 k)
-        (rw (hex_scalar (p / 4096 % 16) (omega arith), hex_scalar (p / 256 % 16) (omega arith), hex_scalar (p / 16 % 16) (omega arith), hex_scalar (p % 16) (omega arith)) refl)
-    | inr k ↦ rw (le-leb 0xD800 p h, le-ltb p 0xE000 k) (and_from (scalar p) true (rw (le-ltb p 0xD800 h, le-leb 0xE000 p k, lt-ltb p 0x110000 l) refl) refl)
+        (rw (
+          hex_scalar (p / 4096 % 16) (omega arith),
+          hex_scalar (p / 256 % 16) (omega arith),
+          hex_scalar (p / 16 % 16) (omega arith),
+          hex_scalar (p % 16) (omega arith),
+        ) refl)
+    | inr k ↦ rw (le-leb 0xD800 p h, le-ltb p 0xE000 k)
+        (and_from (scalar p) true (rw (le-ltb p 0xD800 h, le-leb 0xE000 p k, lt-ltb p 0x110000 l) refl) refl)
   ]
 ]
 
@@ -70,12 +85,14 @@ range_spelled a b = elim (cases_eq a b) [
 
 scalars-append : (xs ys : List ℕ) → scalars xs ≡ true → scalars ys ≡ true → scalars (xs ++ ys) ≡ true
 scalars-append [] ys h k = k
-scalars-append (x ∷ xs) ys h k = let p = and_parts (scalar x) (scalars xs) h in and_from (scalar x) (scalars (xs ++ ys)) p.0 (scalars-append xs ys p.1 k)
+scalars-append (x ∷ xs) ys h k = let p = and_parts (scalar x) (scalars xs) h in
+    and_from (scalar x) (scalars (xs ++ ys)) p.0 (scalars-append xs ys p.1 k)
 
 range_scalars : (a b : ℕ) → a < code_point_limit → b < code_point_limit → scalars (range_text a b) ≡ true
 range_scalars a b h k = elim (cases_eq a b) [
   | inl e ↦ rw (eq-eqb a b e) (point_scalars a h)
-  | inr e ↦ rw (ne_eqb a b e) (scalars-append (spelling_of a) (0x2D ∷ spelling_of b) (point_scalars a h) (and_from true (scalars (spelling_of b)) refl (point_scalars b k)))
+  | inr e ↦ rw (ne_eqb a b e) (scalars-append (spelling_of a) (0x2D ∷ spelling_of b) (point_scalars a h)
+      (and_from true (scalars (spelling_of b)) refl (point_scalars b k)))
 ]
 
 -- ---- sets
@@ -83,29 +100,40 @@ range_scalars a b h k = elim (cases_eq a b) [
 abbrev pub text_data : List ℕ → Data
 text_data t = string (encode_utf8_all t)
 
-said_from_run : (lo : ℕ) (ends : List ℕ) → Run lo (suc code_point_limit) ends → length ends % 2 ≡ 0 → SayEnds (items_of (map text_data (texts_of ends))) ends
+said_from_run : (lo : ℕ) (ends : List ℕ) → Run lo (suc code_point_limit) ends → length ends % 2 ≡ 0
+    → SayEnds (items_of (map text_data (texts_of ends))) ends
 said_from_run lo [] r e = refl
 said_from_run lo (s ∷ []) r e = absurd (omega arith)
 said_from_run lo (s ∷ t ∷ ends) r e =
-    let z = chars-encodes (range_text s (t - 1)) (range_scalars s (t - 1) (omega (arith, r.2.0, r.2.1)) (omega (arith, r.2.0, r.2.1))) in
-    (s, t - 1, ends, rw z (range_spelled s (t - 1)), ap (λ (n : ℕ). s ∷ n ∷ ends) (omega (arith, r.2.0)), said_from_run (suc t) ends r.2.2 (omega arith))
+    let z = chars-encodes (range_text s (t - 1)) (range_scalars s (t - 1) (omega (arith, r.2.0, r.2.1)) (omega (arith, r.2.0, r.2.1))) in (
+      s,
+      t - 1,
+      ends,
+      rw z (range_spelled s (t - 1)),
+      ap (λ (n : ℕ). s ∷ n ∷ ends) (omega (arith, r.2.0)),
+      said_from_run (suc t) ends r.2.2 (omega arith),
+    )
 
 pub written_back : (ends : List ℕ) → IsValid ends → ends_of (written_of ends) ≡ Ok ends
 written_back ends v = ends_only _ ends (said_from_run 0 ends (run_from_valid ends v) v.even)
 
-pub texts_more : (xs : List ℕ) (i : ℕ) → i + 1 < length xs → texts_of (drop i xs) ≡ range_text (get_or xs i 0) (get_or xs (i + 1) 0 - 1) ∷ texts_of (drop (i + 2) xs)
+pub texts_more : (xs : List ℕ) (i : ℕ) → i + 1 < length xs
+    → texts_of (drop i xs) ≡ range_text (get_or xs i 0) (get_or xs (i + 1) 0 - 1) ∷ texts_of (drop (i + 2) xs)
 texts_more xs i h = rw (drop_pair xs i h) refl
 
-pub texts_step : (xs : List ℕ) (vs ws : List Value) (v : Value) (i s e : ℕ) → i + 1 < length xs → s ≡ get_or xs i 0 → e ≡ get_or xs (i + 1) 0 → ws ≡ vs ++ v ∷ []
+pub texts_step : (xs : List ℕ) (vs ws : List Value) (v : Value) (i s e : ℕ) → i + 1 < length xs → s ≡ get_or xs i 0
+    → e ≡ get_or xs (i + 1) 0 → ws ≡ vs ++ v ∷ []
     → view v ≡ text_data (range_text s (e - 1)) → map view vs ++ map text_data (texts_of (drop i xs)) ≡ map text_data (texts_of xs)
     → map view ws ++ map text_data (texts_of (drop (i + 2) xs)) ≡ map text_data (texts_of xs)
 texts_step xs vs ws v i s e h a b w x so_far =
     let rest = map text_data (texts_of (drop (i + 2) xs)) in
     let t : map text_data (texts_of (drop i xs)) ≡ text_data (range_text s (e - 1)) ∷ rest = rw (texts_more xs i h, a, b) refl in
     let m : map view ws ≡ map view vs ++ text_data (range_text s (e - 1)) ∷ [] = rw (w, map-append, x) refl in
-    ap (λ ds. ds ++ rest) m ∙ (append_assoc (map view vs) (text_data (range_text s (e - 1)) ∷ []) rest ∙ (ap (λ ds. map view vs ++ ds) (sym t) ∙ so_far))
+    ap (λ ds. ds ++ rest) m ∙ (append_assoc (map view vs) (text_data (range_text s (e - 1)) ∷ []) rest
+    ∙ (ap (λ ds. map view vs ++ ds) (sym t) ∙ so_far))
 
-pub texts_all : (xs : List ℕ) (vs : List Value) (i : ℕ) → length xs ≤ i → map view vs ++ map text_data (texts_of (drop i xs)) ≡ map text_data (texts_of xs) → map view vs ≡ map text_data (texts_of xs)
+pub texts_all : (xs : List ℕ) (vs : List Value) (i : ℕ) → length xs ≤ i
+    → map view vs ++ map text_data (texts_of (drop i xs)) ≡ map text_data (texts_of xs) → map view vs ≡ map text_data (texts_of xs)
 texts_all xs vs i h so_far = sym (append-nil (map view vs)) ∙ rw (drop_all i xs h) at so_far
 
 -- ---- what is read
@@ -120,7 +148,8 @@ said (object ms) ends h = absurd cc
 pub said_alone : (d : Data) (items : Items) (xs ends : List ℕ) → ends_of d ≡ Ok xs → d ≡ array items → SayEnds items ends → xs ≡ ends
 said_alone d items xs ends h e s = same_ok xs ends (sym h ∙ (ap ends_of e ∙ ends_only items ends s))
 
-pub refused_alone : (d : Data) (items : Items) (ends : List ℕ) (e : SetJsonError) → GivesEnds (Err e) (ends_of d) → d ≡ array items → SayEnds items ends → e ≡ errors.Memory
+pub refused_alone : (d : Data) (items : Items) (ends : List ℕ) (e : SetJsonError) → GivesEnds (Err e) (ends_of d) → d ≡ array items
+    → SayEnds items ends → e ≡ errors.Memory
 refused_alone d items ends errors.Memory g e s = refl
 refused_alone d items ends errors.NotAnArray g e s = absurd (let k : ends_of d ≡ Ok ends = ap ends_of e ∙ ends_only items ends s in cc)
 refused_alone d items ends (errors.NotAString i) g e s = absurd (let k : ends_of d ≡ Ok ends = ap ends_of e ∙ ends_only items ends s in cc)

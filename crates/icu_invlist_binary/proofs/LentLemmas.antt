@@ -12,7 +12,8 @@ length-pairs [] = refl
 length-pairs (u ∷ []) = refl
 length-pairs (u ∷ w ∷ us) = let a = length-pairs us in omega arith
 
-pub pair_at : (us : List ℕ) (k : ℕ) → k < length (ends_of_pairs us) → get_or (ends_of_pairs us) k 0 ≡ get_or us (2 * k) 0 * 0x10000 + get_or us (2 * k + 1) 0
+pub pair_at : (us : List ℕ) (k : ℕ) → k < length (ends_of_pairs us)
+    → get_or (ends_of_pairs us) k 0 ≡ get_or us (2 * k) 0 * 0x10000 + get_or us (2 * k + 1) 0
 pair_at [] k h = absurd (omega arith)
 pair_at (u ∷ []) k h = absurd (omega arith)
 pair_at (u ∷ w ∷ us) zero h = refl
@@ -71,7 +72,8 @@ pub record Walked (xs : List ℕ) (i next : ℕ) : Type 0 where
 pub walked_none : (xs : List ℕ) → Walked xs 0 0
 walked_none xs = record { rises = λ k h. absurd (omega arith); below = λ k h. absurd (omega arith); small = omega arith; tight = inl refl }
 
-rises_more : (xs : List ℕ) (i next e : ℕ) → Walked xs i next → get_or xs i 0 ≡ e → next ≤ e → (k : ℕ) → k + 1 < i + 1 → get_or xs k 0 < get_or xs (k + 1) 0
+rises_more : (xs : List ℕ) (i next e : ℕ) → Walked xs i next → get_or xs i 0 ≡ e → next ≤ e → (k : ℕ) → k + 1 < i + 1
+    → get_or xs k 0 < get_or xs (k + 1) 0
 rises_more xs i next e w a h k l = elim (cases_lt (k + 1) i) [
   | inl m ↦ w.rises k m
   | inr m ↦
@@ -88,7 +90,8 @@ below_more xs i next e w a h k l = elim (cases_lt k i) [
       let c : get_or xs k 0 ≡ e = subst (λ (n : ℕ). get_or xs n 0 ≡ e) s a in omega arith
 ]
 
-pub walked_more : (xs : List ℕ) (i next e : ℕ) → Walked xs i next → get_or xs i 0 ≡ e → next ≤ e → e ≤ code_point_limit → Walked xs (i + 1) (e + 1)
+pub walked_more : (xs : List ℕ) (i next e : ℕ) → Walked xs i next → get_or xs i 0 ≡ e → next ≤ e → e ≤ code_point_limit
+    → Walked xs (i + 1) (e + 1)
 walked_more xs i next e w a h l = record {
   rises = rises_more xs i next e w a h;
   below = below_more xs i next e w a h;
@@ -124,7 +127,8 @@ valid_even xs next w e = record {
   within = λ k d h. let a = get_or_default xs k d 0 h in let b = w.below k h in let c = w.small in omega arith;
 }
 
-odd_rises : (xs : List ℕ) (next : ℕ) → Walked xs (length xs) next → next ≤ code_point_limit → (k : ℕ) → k + 1 < length (xs ++ code_point_limit ∷ [])
+odd_rises : (xs : List ℕ) (next : ℕ) → Walked xs (length xs) next → next ≤ code_point_limit → (k : ℕ)
+    → k + 1 < length (xs ++ code_point_limit ∷ [])
     → get_or (xs ++ code_point_limit ∷ []) k 0 < get_or (xs ++ code_point_limit ∷ []) (k + 1) 0
 odd_rises xs next w h k l =
     let n = length_push xs code_point_limit in
@@ -137,20 +141,23 @@ odd_rises xs next w h k l =
           let c = get_or_at xs code_point_limit [] 0 (k + 1) s in omega arith
     ]
 
-odd_within : (xs : List ℕ) (next : ℕ) → Walked xs (length xs) next → (k : ℕ) → k < length (xs ++ code_point_limit ∷ []) → get_or (xs ++ code_point_limit ∷ []) k 0 ≤ code_point_limit
+odd_within : (xs : List ℕ) (next : ℕ) → Walked xs (length xs) next → (k : ℕ) → k < length (xs ++ code_point_limit ∷ [])
+    → get_or (xs ++ code_point_limit ∷ []) k 0 ≤ code_point_limit
 odd_within xs next w k l = let n = length_push xs code_point_limit in elim (cases_lt k (length xs)) [
   | inl m ↦ let b = w.below k m in let c = w.small in let a = get_or_append_left xs (code_point_limit ∷ []) 0 k m in omega arith
   | inr m ↦ let c = get_or_at xs code_point_limit [] 0 k (omega arith) in omega arith
 ]
 
-valid_odd : (xs : List ℕ) (next : ℕ) → Walked xs (length xs) next → length xs % 2 ≡ 1 → next ≤ code_point_limit → IsValid (xs ++ code_point_limit ∷ [])
+valid_odd : (xs : List ℕ) (next : ℕ) → Walked xs (length xs) next → length xs % 2 ≡ 1 → next ≤ code_point_limit
+    → IsValid (xs ++ code_point_limit ∷ [])
 valid_odd xs next w e h = record {
   even = let n = length_push xs code_point_limit in omega arith;
   ascending = odd_rises xs next w h;
   within = λ k d l. let a = get_or_default (xs ++ code_point_limit ∷ []) k d 0 l in let b = odd_within xs next w k l in omega arith;
 }
 
-last_low : (xs : List ℕ) (next : ℕ) → Walked xs (length xs) next → length xs % 2 ≡ 1 → IsValid (xs ++ code_point_limit ∷ []) → next ≤ code_point_limit
+last_low : (xs : List ℕ) (next : ℕ) → Walked xs (length xs) next → length xs % 2 ≡ 1 → IsValid (xs ++ code_point_limit ∷ [])
+    → next ≤ code_point_limit
 last_low xs next w e v = elim w.tight [
   | inl z ↦ omega arith
   | inr t ↦

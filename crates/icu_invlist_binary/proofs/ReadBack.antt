@@ -15,13 +15,15 @@ abbrev Rising : ℕ → List ℕ → Type 0
 Rising lo [] = Unit {0}
 Rising lo (e ∷ ends) = (lo ≤ e) × (e ≤ code_point_limit) × Rising (suc e) ends
 
-rising_from : (lo : ℕ) (xs : List ℕ) → IsStrictlyIncreasing xs → (0 < length xs → lo ≤ get_or xs 0 0) → ((k : ℕ) → k < length xs → get_or xs k 0 ≤ code_point_limit) → Rising lo xs
+rising_from : (lo : ℕ) (xs : List ℕ) → IsStrictlyIncreasing xs → (0 < length xs → lo ≤ get_or xs 0 0)
+    → ((k : ℕ) → k < length xs → get_or xs k 0 ≤ code_point_limit) → Rising lo xs
 rising_from lo [] up low high = tt
 rising_from lo (x ∷ xs) up low high = (
   low (omega arith),
   high 0 (omega arith),
   rising_from (suc x) xs
-      (λ k h. let e : suc k + 1 ≡ suc (k + 1) = omega arith in subst (λ (n : ℕ). get_or xs k 0 < get_or (x ∷ xs) n 0) e (up (suc k) (omega arith)))
+      (λ k h. let e : suc k + 1 ≡ suc (k + 1) = omega arith in
+      subst (λ (n : ℕ). get_or xs k 0 < get_or (x ∷ xs) n 0) e (up (suc k) (omega arith)))
       (λ h. up 0 (omega arith))
       (λ k h. high (suc k) (omega arith)),
 )
@@ -91,15 +93,19 @@ pairs_back [] p = refl
 pairs_back (e ∷ ends) p = elim (cases_lt e code_point_limit) [
   | inl h ↦
       let s : e / 0x10000 * 0x10000 + e % 0x10000 ≡ e = omega arith in
-      ap (λ (us : List ℕ). ends_of_pairs (us ++ units_of_ends ends)) (units_of_pair e p.0 h) ∙ (rw (s, pairs_back ends p.1) (sym (written_yes e ends h)))
-  | inr h ↦ ap (λ (us : List ℕ). ends_of_pairs (us ++ units_of_ends ends)) (units_of_limit e h) ∙ (pairs_back ends p.1 ∙ sym (written_no e ends h))
+      ap (λ (us : List ℕ). ends_of_pairs (us ++ units_of_ends ends)) (units_of_pair e p.0 h)
+      ∙ (rw (s, pairs_back ends p.1) (sym (written_yes e ends h)))
+  | inr h ↦ ap (λ (us : List ℕ). ends_of_pairs (us ++ units_of_ends ends)) (units_of_limit e h)
+      ∙ (pairs_back ends p.1 ∙ sym (written_no e ends h))
 ]
 
 pairs_even : (ends : List ℕ) → Pairs ends → length (units_of_ends ends) % 2 ≡ 0
 pairs_even [] p = refl
 pairs_even (e ∷ ends) p = let b = pairs_even ends p.1 in elim (cases_lt e code_point_limit) [
-  | inl h ↦ let a : length (units_of_ends (e ∷ ends)) ≡ suc (suc (length (units_of_ends ends))) = ap (λ (us : List ℕ). length (us ++ units_of_ends ends)) (units_of_pair e p.0 h) in omega arith
-  | inr h ↦ let a : length (units_of_ends (e ∷ ends)) ≡ length (units_of_ends ends) = ap (λ (us : List ℕ). length (us ++ units_of_ends ends)) (units_of_limit e h) in omega arith
+  | inl h ↦ let a : length (units_of_ends (e ∷ ends)) ≡ suc (suc (length (units_of_ends ends))) =
+      ap (λ (us : List ℕ). length (us ++ units_of_ends ends)) (units_of_pair e p.0 h) in omega arith
+  | inr h ↦ let a : length (units_of_ends (e ∷ ends)) ≡ length (units_of_ends ends) =
+      ap (λ (us : List ℕ). length (us ++ units_of_ends ends)) (units_of_limit e h) in omega arith
 ]
 
 -- the units of ends, of which so many are an end each, give the ends back
@@ -126,7 +132,8 @@ split_units lo [] r = split_pairs [] tt
 split_units lo (e ∷ ends) r = elim (cases_lt e 0x10000) [
   | inl h ↦
       let s = split_single e (count_of_singles ends) ends (units_of_ends ends) h (split_units (suc e) ends r.2) in
-      let t : Split (e ∷ ends) (e ∷ units_of_ends ends) (count_of_singles (e ∷ ends)) = subst (λ (n : ℕ). Split (e ∷ ends) (e ∷ units_of_ends ends) n) (sym (one_single e ends h)) s in
+      let t : Split (e ∷ ends) (e ∷ units_of_ends ends) (count_of_singles (e ∷ ends)) =
+      subst (λ (n : ℕ). Split (e ∷ ends) (e ∷ units_of_ends ends) n) (sym (one_single e ends h)) s in
       subst (λ (us : List ℕ). Split (e ∷ ends) (us ++ units_of_ends ends) (count_of_singles (e ∷ ends))) (sym (units_of_single e h)) t
   | inr h ↦
       let p : Pairs (e ∷ ends) = (h, pairs_past (suc e) ends (omega arith) r.2) in
@@ -145,7 +152,12 @@ says_singles body h =
     let m : length body % 0x8000 ≡ length body = omega arith in
     let w : suc (length body) ≡ 1 + length body = omega arith in
     record {
-      ends = rw (lt-leb 0x8000 (length body) (omega arith), m, le-ltb (suc (length body)) (1 + length body) (omega arith), take_all (length body) body (omega arith)) refl;
+      ends = rw (
+        lt-leb 0x8000 (length body) (omega arith),
+        m,
+        le-ltb (suc (length body)) (1 + length body) (omega arith),
+        take_all (length body) body (omega arith),
+      ) refl;
       singles = rw (lt-leb 0x8000 (length body) (omega arith), m) refl;
       whole = rw (lt-leb 0x8000 (length body) (omega arith), m) (sym w);
     }
@@ -155,7 +167,12 @@ says_both body n h =
     let m : (0x8000 + length body) % 0x8000 ≡ length body = omega arith in
     let w : suc (suc (length body)) ≡ 2 + length body = omega arith in
     record {
-      ends = rw (le-leb 0x8000 (0x8000 + length body) (omega arith), m, le-ltb (suc (suc (length body))) (2 + length body) (omega arith), take_all (length body) body (omega arith)) refl;
+      ends = rw (
+        le-leb 0x8000 (0x8000 + length body) (omega arith),
+        m,
+        le-ltb (suc (suc (length body))) (2 + length body) (omega arith),
+        take_all (length body) body (omega arith),
+      ) refl;
       singles = rw (le-leb 0x8000 (0x8000 + length body) (omega arith)) refl;
       whole = rw (le-leb 0x8000 (0x8000 + length body) (omega arith), m) (sym w);
     }
@@ -181,7 +198,8 @@ read_back_units ends v f =
     let p = split_units 0 ends (rising ends v) in
     let s = says_head (units_of_ends ends) (count_of_singles ends) f p.fits in
     record {
-      says = ends_said ends (units_of ends) (units_of_ends ends) (count_of_singles ends) s p ∙ ap (λ (ys : List ℕ). Ok ys) (closed_back ends v);
+      says = ends_said ends (units_of ends) (units_of_ends ends) (count_of_singles ends) s p
+          ∙ ap (λ (ys : List ℕ). Ok ys) (closed_back ends v);
       valid = v;
       takes = sym s.whole;
       within = omega arith;

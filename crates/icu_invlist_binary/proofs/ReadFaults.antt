@@ -11,13 +11,16 @@ one_fault : (b : Bool) (f e : SerializedSetError) (x : List ℕ) → (if b then 
 one_fault true f e x h = cc
 one_fault false f e x h = cc
 
-two_faults : (b : Bool) (units : List ℕ) (n : ℕ) (e : SerializedSetError) → and_then (if b then Err Short else Ok units) (ends_of_units n) ≡ Err e → (Short ≡ e) ⊎ (Count ≡ e)
+two_faults : (b : Bool) (units : List ℕ) (n : ℕ) (e : SerializedSetError)
+    → and_then (if b then Err Short else Ok units) (ends_of_units n) ≡ Err e → (Short ≡ e) ⊎ (Count ≡ e)
 two_faults true units n e h = inl cc
-two_faults false units n e h = inr (one_fault (nat_lt (length units) n || is_odd (length units - n)) Count e (closed (take n units ++ ends_of_pairs (drop n units))) h)
+two_faults false units n e h =
+    inr (one_fault (nat_lt (length units) n || is_odd (length units - n)) Count e (closed (take n units ++ ends_of_pairs (drop n units))) h)
 
 head_fault : (u : List ℕ) (e : SerializedSetError) → ends_in u ≡ Err e → (Short ≡ e) ⊎ (Count ≡ e)
 unfolding ends_in
-head_fault u e h = two_faults (nat_lt (length u) (serialized_length u)) (take (ends_length u) (drop (head_length u) u)) (singles_length u) e h
+head_fault u e h = two_faults (nat_lt (length u) (serialized_length u)) (take (ends_length u) (drop (head_length u) u))
+    (singles_length u) e h
 
 told : (u : List ℕ) (e : SerializedSetError) → (Short ≡ e) ⊎ (Count ≡ e) → ends_in u ≡ Err e → IsWhyNotRead u e
 told u Short k h = h

@@ -22,16 +22,19 @@ drop_place (y ∷ ys) zero x e = let k : y ≡ x = cc in rw k refl
 drop_place (y ∷ ys) (suc i) x e = let k : suc i + 1 ≡ suc (i + 1) = omega arith in rw k (drop_place ys i x e)
 
 -- how many units are left
-pub left_more : (xs more : List ℕ) (i x : ℕ) → slice_get xs i ≡ Some x → units_of_end x ≡ more → length (units_of_ends (drop i xs)) ≡ length more + length (units_of_ends (drop (i + 1) xs))
+pub left_more : (xs more : List ℕ) (i x : ℕ) → slice_get xs i ≡ Some x → units_of_end x ≡ more
+    → length (units_of_ends (drop i xs)) ≡ length more + length (units_of_ends (drop (i + 1) xs))
 left_more xs more i x e u =
     ap (λ (ys : List ℕ). length (units_of_ends ys)) (drop_place xs i x e)
     ∙ (ap (λ (ys : List ℕ). length (ys ++ units_of_ends (drop (i + 1) xs))) u ∙ length-append more (units_of_ends (drop (i + 1) xs)))
 
 -- ---- ends that are counted
-single_more : (xs : List ℕ) (i x : ℕ) → slice_get xs i ≡ Some x → x < 0x10000 → count_of_singles (drop i xs) ≡ suc (count_of_singles (drop (i + 1) xs))
+single_more : (xs : List ℕ) (i x : ℕ) → slice_get xs i ≡ Some x → x < 0x10000
+    → count_of_singles (drop i xs) ≡ suc (count_of_singles (drop (i + 1) xs))
 single_more xs i x e h = ap count_of_singles (drop_place xs i x e) ∙ ap length (cond-true _ _ _ (lt-ltb x 0x10000 h))
 
-no_single_more : (xs : List ℕ) (i x : ℕ) → slice_get xs i ≡ Some x → 0x10000 ≤ x → count_of_singles (drop i xs) ≡ count_of_singles (drop (i + 1) xs)
+no_single_more : (xs : List ℕ) (i x : ℕ) → slice_get xs i ≡ Some x → 0x10000 ≤ x
+    → count_of_singles (drop i xs) ≡ count_of_singles (drop (i + 1) xs)
 no_single_more xs i x e h = ap count_of_singles (drop_place xs i x e) ∙ ap length (cond-false _ _ _ (le-ltb x 0x10000 h))
 
 -- the first i ends take so many units, and so many of them take one
@@ -44,13 +47,15 @@ pub record Counted (xs : List ℕ) (i u s : ℕ) : Type 0 where
 pub counted_none : (xs : List ℕ) → Counted xs 0 0 0
 counted_none xs = record { units = omega arith; singles = omega arith; few_units = omega arith; few_singles = omega arith }
 
-pub counted_single : (xs : List ℕ) (i u s x : ℕ) → slice_get xs i ≡ Some x → x < 0x10000 → Counted xs i u s → Counted xs (i + 1) (u + 1) (s + 1)
+pub counted_single : (xs : List ℕ) (i u s x : ℕ) → slice_get xs i ≡ Some x → x < 0x10000 → Counted xs i u s
+    → Counted xs (i + 1) (u + 1) (s + 1)
 counted_single xs i u s x e h c =
     let a = left_more xs (x ∷ []) i x e (units_of_single x h) in
     let b = single_more xs i x e h in
     record { units = omega arith; singles = omega arith; few_units = omega arith; few_singles = omega arith }
 
-pub counted_pair : (xs : List ℕ) (i u s x : ℕ) → slice_get xs i ≡ Some x → 0x10000 ≤ x → x < code_point_limit → Counted xs i u s → Counted xs (i + 1) (u + 2) s
+pub counted_pair : (xs : List ℕ) (i u s x : ℕ) → slice_get xs i ≡ Some x → 0x10000 ≤ x → x < code_point_limit → Counted xs i u s
+    → Counted xs (i + 1) (u + 2) s
 counted_pair xs i u s x e h l c =
     let a = left_more xs (x / 0x10000 ∷ x % 0x10000 ∷ []) i x e (units_of_pair x h l) in
     let b = no_single_more xs i x e h in
@@ -63,7 +68,9 @@ counted_limit xs i u s x e h c =
     record { units = omega arith; singles = omega arith; few_units = omega arith; few_singles = omega arith }
 
 pub counted_units : (xs : List ℕ) (i u s : ℕ) → length xs ≤ i → Counted xs i u s → u ≡ length (units_of_ends xs)
-counted_units xs i u s h c = let a : length (units_of_ends (drop i xs)) ≡ 0 = ap (λ (ys : List ℕ). length (units_of_ends ys)) (drop_all i xs h) in let b = c.units in omega arith
+counted_units xs i u s h c = let a : length (units_of_ends (drop i xs)) ≡ 0 =
+    ap (λ (ys : List ℕ). length (units_of_ends ys)) (drop_all i xs h) in let b = c.units in omega arith
 
 pub counted_singles : (xs : List ℕ) (i u s : ℕ) → length xs ≤ i → Counted xs i u s → s ≡ count_of_singles xs
-counted_singles xs i u s h c = let a : count_of_singles (drop i xs) ≡ 0 = ap count_of_singles (drop_all i xs h) in let b = c.singles in omega arith
+counted_singles xs i u s h c = let a : count_of_singles (drop i xs) ≡ 0 = ap count_of_singles (drop_all i xs h) in let b = c.singles in
+    omega arith

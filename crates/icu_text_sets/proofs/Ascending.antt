@@ -27,7 +27,8 @@ turned : (a b : List ℕ) → text_cmp a b ≡ Greater → text_cmp b a ≡ Less
 turned a b h = total.antisymm b a ∙ ap ordering_reverse h
 
 -- the greater of two texts compares no lower with a third
-ranks_as : (a b x : List ℕ) (o : Ordering) → text_cmp b x ≡ o → text_cmp a b ≡ Less → ordering_index (text_cmp a x) ≤ ordering_index (text_cmp b x)
+ranks_as : (a b x : List ℕ) (o : Ordering) → text_cmp b x ≡ o → text_cmp a b ≡ Less
+    → ordering_index (text_cmp a x) ≤ ordering_index (text_cmp b x)
 ranks_as a b x Less e h = let k : text_cmp a x ≡ Less = total.trans a b x h e in rw (k, e) (omega arith)
 ranks_as a b x Equal e h = let k : text_cmp a x ≡ Less = sym (alike_right total b x a e) ∙ h in rw (k, e) (omega arith)
 ranks_as a b x Greater e h = rw e (at_most_two (text_cmp a x))
@@ -41,7 +42,8 @@ ranks : (a b x : List ℕ) → text_cmp a b ≡ Less → ordering_index (text_cm
 ranks a b x h = ranks_as a b x (text_cmp b x) refl h
 
 -- ---- neighbours
-next_to : (ts : List (List ℕ)) → IsStringList ts → (k : ℕ) (d : List ℕ) → suc k < length ts → text_cmp (get_or ts k d) (get_or ts (suc k) d) ≡ Less
+next_to : (ts : List (List ℕ)) → IsStringList ts → (k : ℕ) (d : List ℕ) → suc k < length ts
+    → text_cmp (get_or ts k d) (get_or ts (suc k) d) ≡ Less
 next_to [] s k d h = absurd (omega arith)
 next_to (t ∷ []) s k d h = absurd (omega arith)
 next_to (t ∷ u ∷ ts) s zero d h = s.1
@@ -51,23 +53,29 @@ length-texts : (strings : List (String Global)) → length (texts_of strings) �
 length-texts [] = refl
 length-texts (s ∷ strings) = ap suc (length-texts strings)
 
-rises : (strings : List (String Global)) (text : List ℕ) → IsStringList (texts_of strings) → IsNonDecreasingBy (λ s. ordering_index (text_cmp (string_bytes s) text)) strings
+rises : (strings : List (String Global)) (text : List ℕ) → IsStringList (texts_of strings)
+    → IsNonDecreasingBy (λ s. ordering_index (text_cmp (string_bytes s) text)) strings
 rises strings text s =
     IsNonDecreasingBy-from_all_adjacent (λ s. ordering_index (text_cmp (string_bytes s) text)) strings
     (λ k d h.
     let l = length-texts strings in
-    let step : text_cmp (get_or (texts_of strings) k (string_bytes d)) (get_or (texts_of strings) (suc k) (string_bytes d)) ≡ Less = next_to (texts_of strings) s k (string_bytes d) (omega arith) in
-    let here : get_or (texts_of strings) k (string_bytes d) ≡ string_bytes (get_or strings k d) = get_or-map (λ s. string_bytes s) strings k d (string_bytes d) (omega arith) in
-    let next : get_or (texts_of strings) (suc k) (string_bytes d) ≡ string_bytes (get_or strings (suc k) d) = get_or-map (λ s. string_bytes s) strings (suc k) d (string_bytes d) (omega arith) in
+    let step : text_cmp (get_or (texts_of strings) k (string_bytes d)) (get_or (texts_of strings) (suc k) (string_bytes d)) ≡ Less =
+    next_to (texts_of strings) s k (string_bytes d) (omega arith) in
+    let here : get_or (texts_of strings) k (string_bytes d) ≡ string_bytes (get_or strings k d) =
+    get_or-map (λ s. string_bytes s) strings k d (string_bytes d) (omega arith) in
+    let next : get_or (texts_of strings) (suc k) (string_bytes d) ≡ string_bytes (get_or strings (suc k) d) =
+    get_or-map (λ s. string_bytes s) strings (suc k) d (string_bytes d) (omega arith) in
     rw add-one (ranks (string_bytes (get_or strings k d)) (string_bytes (get_or strings (suc k) d)) text (rw (here, next) at step)))
 
 -- ---- the search
 -- what holds of the string at k, whatever stands past the end, holds of the text there
-at_text : (P : List ℕ → Type 0) (strings : List (String Global)) (k : ℕ) → k < length strings → ((d : String Global) → P (string_bytes (get_or strings k d))) → P (get_or (texts_of strings) k [])
+at_text : (P : List ℕ → Type 0) (strings : List (String Global)) (k : ℕ) → k < length strings
+    → ((d : String Global) → P (string_bytes (get_or strings k d))) → P (get_or (texts_of strings) k [])
 at_text P [] k h p = absurd (omega arith)
 at_text P (s ∷ strings) k h p = rw (get_or-map (λ z. string_bytes z) (s ∷ strings) k s [] h) (p s)
 
-pub found_place : (strings : List (String Global)) (text : List ℕ) (r : Result ℕ ℕ) → IsStringList (texts_of strings) → IsSearchInRange r (length strings)
+pub found_place : (strings : List (String Global)) (text : List ℕ) (r : Result ℕ ℕ) → IsStringList (texts_of strings)
+    → IsSearchInRange r (length strings)
     → IsBinarySearchResult (λ s. text_cmp (string_bytes s) text) strings r → IsPlaceOf (texts_of strings) text r
 found_place strings text (Ok i) s b p = (rw (length-texts strings) b, at_text (λ t. text_cmp t text ≡ Equal) strings i b p)
 found_place strings text (Err i) s b p =
@@ -81,7 +89,8 @@ found_place strings text (Err i) s b p =
 same_as : (t text : List ℕ) (o : Ordering) → text_cmp t text ≡ o → bytes_eq t text ≡ is_eq o
 same_as t text o h = texts_ties t text ∙ ap is_eq h
 
-before_or_after : (ts : List (List ℕ)) (text : List ℕ) (i k : ℕ) → k < length ts → IsPlaceOf ts text (Err i) → bytes_eq (get_or ts k []) text ≡ false
+before_or_after : (ts : List (List ℕ)) (text : List ℕ) (i k : ℕ) → k < length ts → IsPlaceOf ts text (Err i)
+    → bytes_eq (get_or ts k []) text ≡ false
 before_or_after ts text i k h p = elim (cases_lt k i) [
   | inl g ↦ same_as (get_or ts k []) text Less (p.1 k g)
   | inr g ↦ same_as (get_or ts k []) text Greater (p.2 k g h)
@@ -89,12 +98,15 @@ before_or_after ts text i k h p = elim (cases_lt k i) [
 
 pub found_among : (ts : List (List ℕ)) (text : List ℕ) (r : Result ℕ ℕ) → IsPlaceOf ts text r → is_ok r ≡ is_among ts text
 found_among ts text (Ok i) p = sym (list_any_at (λ t. bytes_eq t text) ts i [] p.0 (same_as (get_or ts i []) text Equal p.1))
-found_among ts text (Err i) p = sym (list_any_none (λ t. bytes_eq t text) ts (λ k d h. rw (get_or_default ts k d [] h) (before_or_after ts text i k h p)))
+found_among ts text (Err i) p =
+    sym (list_any_none (λ t. bytes_eq t text) ts (λ k d h. rw (get_or_default ts k d [] h) (before_or_after ts text i k h p)))
 
 -- ---- a closure that each call leaves as it was
-each_call : {F X R : Type 0} (g : Mut F X R) (P : X → R → Type 0) (f : F) → ((a : X) (r : R) (f' : F) → Called g f a r f' → P a r × (f' ≡ f)) → (xs : List X) → ReturnsEach g P f xs
+each_call : {F X R : Type 0} (g : Mut F X R) (P : X → R → Type 0) (f : F)
+    → ((a : X) (r : R) (f' : F) → Called g f a r f' → P a r × (f' ≡ f)) → (xs : List X) → ReturnsEach g P f xs
 each_call g P f h [] = tt
 each_call g P f h (a ∷ xs) = λ r f' k. let p = h a r f' k in (p.0, subst (λ z. ReturnsEach g P z xs) (sym p.1) (each_call g P f h xs))
 
-pub always_same : {F X R : Type 0} (g : Mut F X R) (P : X → R → Type 0) (f : F) → ((a : X) (r : R) (f' : F) → Called g f a r f' → P a r × (f' ≡ f)) → AlwaysReturns g P f
+pub always_same : {F X R : Type 0} (g : Mut F X R) (P : X → R → Type 0) (f : F)
+    → ((a : X) (r : R) (f' : F) → Called g f a r f' → P a r × (f' ≡ f)) → AlwaysReturns g P f
 always_same g P f h = record { at = λ xs. each_call g P f h xs }

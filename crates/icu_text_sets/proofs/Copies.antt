@@ -3,14 +3,17 @@ use Rattle.std.proofs.Common.{◌≡◌, ℕ, ◌+◌, ◌<◌, ◌≤◌, List,
 use Rattle.std.proofs.lemmas.List.{drop_all}
 
 -- what g makes of the strings from i on stands after what was made so far, and h makes the next
-pub copy_step : {Y : Type 0} (g : List (String Global) → List Y) (h : String Global → Y) → ((x : String Global) (xs : List (String Global)) → g (x ∷ xs) ≡ h x ∷ g xs)
-    → (strings : List (String Global)) (i : ℕ) (x : String Global) (front front' whole : List Y) → i < length strings → x ≡ get_or strings i x
+pub copy_step : {Y : Type 0} (g : List (String Global) → List Y) (h : String Global → Y)
+    → ((x : String Global) (xs : List (String Global)) → g (x ∷ xs) ≡ h x ∷ g xs)
+    → (strings : List (String Global)) (i : ℕ) (x : String Global) (front front' whole : List Y) → i < length strings
+    → x ≡ get_or strings i x
     → front ++ g (drop i strings) ≡ whole → front' ≡ front ++ h x ∷ [] → front' ++ g (drop (i + 1) strings) ≡ whole
 copy_step g h c strings i x front front' whole l e w f =
     let here : drop i strings ≡ x ∷ drop (i + 1) strings = rw (drop-cons strings i x l, ← e, add-one) refl in
     ap (λ z. z ++ g (drop (i + 1) strings)) f ∙ append_assoc front (h x ∷ []) (g (drop (i + 1) strings))
     ∙ ap (λ z. front ++ z) (sym (c x (drop (i + 1) strings)) ∙ sym (ap g here)) ∙ w
 
-pub copy_end : {Y : Type 0} (g : List (String Global) → List Y) → g [] ≡ [] → (strings : List (String Global)) (i : ℕ) (front whole : List Y) → length strings ≤ i
+pub copy_end : {Y : Type 0} (g : List (String Global) → List Y) → g [] ≡ []
+    → (strings : List (String Global)) (i : ℕ) (front whole : List Y) → length strings ≤ i
     → front ++ g (drop i strings) ≡ whole → front ≡ whole
 copy_end g n strings i front whole l w = sym (append-nil front) ∙ ap (λ z. front ++ z) (sym n ∙ sym (ap g (drop_all i strings l))) ∙ w

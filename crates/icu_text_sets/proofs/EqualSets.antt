@@ -46,11 +46,13 @@ not_before x y ys s h a = elim (or_cases (bytes_eq y x) (is_among ys x) a) [
 ]
 
 -- ---- equal lists
-same_rest : (x : List ℕ) (xs ys : List (List ℕ)) → IsStringList (x ∷ xs) → IsStringList (x ∷ ys) → ((t : List ℕ) → is_among (x ∷ xs) t ≡ is_among (x ∷ ys) t) → (t : List ℕ) (b : Bool)
+same_rest : (x : List ℕ) (xs ys : List (List ℕ)) → IsStringList (x ∷ xs) → IsStringList (x ∷ ys)
+    → ((t : List ℕ) → is_among (x ∷ xs) t ≡ is_among (x ∷ ys) t) → (t : List ℕ) (b : Bool)
     → bytes_eq x t ≡ b → is_among xs t ≡ is_among ys t
 same_rest x xs ys s r a t true e =
     let gone : (zs : List (List ℕ)) → IsStringList (x ∷ zs) → is_among zs t ≡ false =
-    λ zs q. false_from_ne_true (is_among zs t) (λ h. no_less_equal x t (leads x zs t q h) (ap (text_cmp x) (sym (equal x t e)) ∙ tied_itself total x)) in
+    λ zs q. false_from_ne_true (is_among zs t)
+    (λ h. no_less_equal x t (leads x zs t q h) (ap (text_cmp x) (sym (equal x t e)) ∙ tied_itself total x)) in
     gone xs s ∙ sym (gone ys r)
 same_rest x xs ys s r a t false e = sym (ap (λ z. z || is_among xs t) e) ∙ a t ∙ ap (λ z. z || is_among ys t) e
 
@@ -68,7 +70,8 @@ same_strings (x ∷ xs) (y ∷ ys) s r a =
     let e : x ≡ y = same_first x xs y ys s r a (text_cmp x y) refl in
     rw e (ap (λ (zs : List (List ℕ)). y ∷ zs)
     (same_strings xs ys (tail x xs s) (tail y ys r)
-    (λ t. same_rest y xs ys (subst (λ z. IsStringList (z ∷ xs)) e s) r (λ u. subst (λ z. is_among (z ∷ xs) u ≡ is_among (y ∷ ys) u) e (a u)) t (bytes_eq y t) refl)))
+    (λ t. same_rest y xs ys (subst (λ z. IsStringList (z ∷ xs)) e s) r (λ u. subst (λ z. is_among (z ∷ xs) u ≡ is_among (y ∷ ys) u) e (a u))
+    t (bytes_eq y t) refl)))
 
 -- ---- equal sets
 pub texts_decide : (xs ys : List (List ℕ)) → Decides (pointwise bytes_eq xs ys) (xs ≡ ys)
@@ -76,8 +79,11 @@ texts_decide xs ys = pointwise_decides (λ x y. bytes_eq-Decides x y) xs ys
 
 pub sets_decide : (a b : TextSet) → Decides (same_set a b) (a ≡ b)
 sets_decide a b =
-    let parts = Decides-and (pointwise nat_eq a.code_points b.code_points) (pointwise bytes_eq a.strings b.strings) (bytes_eq-Decides a.code_points b.code_points) (texts_decide a.strings b.strings) in
-    (λ h. let p = parts.0 h in λ i. record { code_points = p.0 i; strings = p.1 i }, λ e. parts.1 (ap (λ s. s.code_points) e, ap (λ s. s.strings) e))
+    let parts = Decides-and (pointwise nat_eq a.code_points b.code_points) (pointwise bytes_eq a.strings b.strings)
+    (bytes_eq-Decides a.code_points b.code_points) (texts_decide a.strings b.strings) in (
+      λ h. let p = parts.0 h in λ i. record { code_points = p.0 i; strings = p.1 i },
+      λ e. parts.1 (ap (λ s. s.code_points) e, ap (λ s. s.strings) e),
+    )
 
 -- equal sets hold the same texts
 pub equal_sets_hold_alike : (a b : TextSet) (text : List ℕ) → same_set a b ≡ true → member a text ≡ member b text

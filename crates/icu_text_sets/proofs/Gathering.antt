@@ -78,28 +78,34 @@ among_more : (given : List (List ℕ)) (x t : List ℕ) → is_among (given ++ x
 among_more given x t = list_any-append (λ y. bytes_eq y t) given (x ∷ []) ∙ ap (λ z. is_among given t || z) (among_one x t)
 
 -- a text among strings and one more that is no character
-plain_more : (texts : List (List ℕ)) (x t : List ℕ) → ((t : List ℕ) → is_among texts t ≡ true → only_char t ≡ None) → only_char x ≡ None → is_among (texts ++ x ∷ []) t ≡ true → only_char t ≡ None
+plain_more : (texts : List (List ℕ)) (x t : List ℕ) → ((t : List ℕ) → is_among texts t ≡ true → only_char t ≡ None) → only_char x ≡ None
+    → is_among (texts ++ x ∷ []) t ≡ true → only_char t ≡ None
 plain_more texts x t p o h = elim (or_cases (is_among texts t) (bytes_eq x t) (sym (among_more texts x t) ∙ h)) [
   | inl a ↦ p t a
   | inr e ↦ sym (ap only_char ((bytes_eq-Decides x t).0 e)) ∙ o
 ]
 
-pub with_string : (given : List (List ℕ)) (ends : List ℕ) (texts : List (List ℕ)) (x : List ℕ) → IsGathered given ends texts → only_char x ≡ None
+pub with_string : (given : List (List ℕ)) (ends : List ℕ) (texts : List (List ℕ)) (x : List ℕ) → IsGathered given ends texts
+    → only_char x ≡ None
     → IsGathered (given ++ x ∷ []) ends (texts ++ x ∷ [])
 with_string given ends texts x g o = record {
   plain = λ t. plain_more texts x t g.plain o;
   strings = λ t n. among_more texts x t ∙ ap (λ z. z || bytes_eq x t) (g.strings t n) ∙ sym (among_more given x t);
-  points = λ t c u n. g.points t c u n ∙ sym (among_more given x t ∙ or_none (is_among given t) (bytes_eq x t) (other_kind x t 0 None (Some c) o n (λ e. cc)));
+  points = λ t c u n. g.points t c u n ∙ sym
+      (among_more given x t ∙ or_none (is_among given t) (bytes_eq x t) (other_kind x t 0 None (Some c) o n (λ e. cc)));
   scalars = g.scalars;
 }
 
-pub with_char : (given : List (List ℕ)) (ends ends' : List ℕ) (texts : List (List ℕ)) (x : List ℕ) (d : ℕ) → IsGathered given ends texts → IsUtf8 x → only_char x ≡ Some d
+pub with_char : (given : List (List ℕ)) (ends ends' : List ℕ) (texts : List (List ℕ)) (x : List ℕ) (d : ℕ) → IsGathered given ends texts
+    → IsUtf8 x → only_char x ≡ Some d
     → Acts either ends (λ n. n == d) ends' → IsGathered (given ++ x ∷ []) ends' texts
 with_char given ends ends' texts x d g v o a = record {
   plain = g.plain;
-  strings = λ t n. g.strings t n ∙ sym (among_more given x t ∙ or_none (is_among given t) (bytes_eq x t) (other_kind x t d (Some d) None o n (λ e. cc)));
+  strings = λ t n. g.strings t n ∙ sym (among_more given x t
+      ∙ or_none (is_among given t) (bytes_eq x t) (other_kind x t d (Some d) None o n (λ e. cc)));
   points = λ t c u n.
-      a c (scalar_small c (scalar_of t c u n)) ∙ ap (λ z. z || (c == d)) (g.points t c u n) ∙ ap (λ z. is_among given t || z) (sym (same_char x t d c v u o n)) ∙ sym (among_more given x t);
+      a c (scalar_small c (scalar_of t c u n)) ∙ ap (λ z. z || (c == d)) (g.points t c u n)
+      ∙ ap (λ z. is_among given t || z) (sym (same_char x t d c v u o n)) ∙ sym (among_more given x t);
   scalars = λ c h n. added c d (holds ends c) (sym (a c h) ∙ n) (g.scalars c h) (scalar_of x d v o);
 }
   where

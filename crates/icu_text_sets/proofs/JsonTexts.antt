@@ -26,10 +26,13 @@ said_back : (set : TextSet) → texts_said (json_of set) ≡ Ok set.strings
 unfolding serde_json_on_literals
 said_back set = ap (read_from text_or 0) (list_of-items_of (map (λ t. string t) set.strings)) ∙ texts_read 0 set.strings
 
-read_with : (ends : List ℕ) (texts : List (List ℕ)) (points : Result (List ℕ) SetJsonError) (said : Result (List (List ℕ)) JsonFault) → points ≡ Ok ends → said ≡ Ok texts → IsValid ends → fault texts ≡ None
+read_with : (ends : List ℕ) (texts : List (List ℕ)) (points : Result (List ℕ) SetJsonError) (said : Result (List (List ℕ)) JsonFault)
+    → points ≡ Ok ends → said ≡ Ok texts → IsValid ends → fault texts ≡ None
     → IsReadWith points said (Ok (record { code_points = ends; strings = texts }))
 read_with ends texts points said e t v n = rw (e, t) (inl (v, sym (ap (set_unless ends texts) n)))
 
-pub json_read : (set : TextSet) → IsValid set.code_points → IsStringList set.strings → ends_of (written_of set.code_points) ≡ Ok set.code_points → IsRead (json_of set) (Ok set)
+pub json_read : (set : TextSet) → IsValid set.code_points → IsStringList set.strings
+    → ends_of (written_of set.code_points) ≡ Ok set.code_points → IsRead (json_of set) (Ok set)
 unfolding serde_json_on_literals
-json_read set v s e = read_with set.code_points set.strings (ends_of (written_of set.code_points)) (texts_said (json_of set)) e (said_back set) v (no_fault set.strings s)
+json_read set v s e = read_with set.code_points set.strings (ends_of (written_of set.code_points))
+    (texts_said (json_of set)) e (said_back set) v (no_fault set.strings s)

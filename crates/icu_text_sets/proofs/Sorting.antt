@@ -22,7 +22,8 @@ later : (t u : List ℕ) (ts : List (List ℕ)) → is_among ts u ≡ true → i
 later t u ts h = ap (λ z. bytes_eq t u || z) h ∙ or-true (bytes_eq t u)
 
 -- strings that ascend, none of them one character, are those of a set
-pub strict_list : (xs : List (String Global)) → ((t : List ℕ) → is_among (texts_of xs) t ≡ true → only_char t ≡ None) → IsStrictlySortedBy string_cmp xs → IsStringList (texts_of xs)
+pub strict_list : (xs : List (String Global)) → ((t : List ℕ) → is_among (texts_of xs) t ≡ true → only_char t ≡ None)
+    → IsStrictlySortedBy string_cmp xs → IsStringList (texts_of xs)
 unfolding IsStrictlySortedBy
 strict_list [] p s = tt
 strict_list (x ∷ []) p s = p (string_bytes x) (first (string_bytes x) [])
@@ -33,7 +34,8 @@ strict_list (x ∷ y ∷ xs) p s = (
 )
 
 -- ---- the members
-among_strings : (xs : List (String Global)) (t : List ℕ) → is_among (texts_of xs) t ≡ list_any (λ (s : String Global). bytes_eq (string_bytes s) t) xs
+among_strings : (xs : List (String Global)) (t : List ℕ)
+    → is_among (texts_of xs) t ≡ list_any (λ (s : String Global). bytes_eq (string_bytes s) t) xs
 among_strings [] t = refl
 among_strings (x ∷ xs) t = ap (λ z. bytes_eq (string_bytes x) t || z) (among_strings xs t)
 
@@ -48,12 +50,14 @@ kept_step p k x xs true r h g = h ∙ or_again (p k) (p x) (list_any p xs) (r re
 kept_step p k x xs false r h g = ap (λ z. p k || z) g
 
 -- a test that equal strings answer alike holds of one that is left exactly if it held of one before
-kept_from : (p : String Global → Bool) → ((x y : String Global) → string_eq x y ≡ true → p x ≡ p y) → (k : String Global) (xs : List (String Global))
+kept_from : (p : String Global → Bool) → ((x y : String Global) → string_eq x y ≡ true → p x ≡ p y)
+    → (k : String Global) (xs : List (String Global))
     → list_any p (dedup_from string_eq k xs) ≡ (p k || list_any p xs)
 kept_from p r k [] = refl
 kept_from p r k (x ∷ xs) = kept_step p k x xs (string_eq x k) (r x k) (kept_from p r k xs) (kept_from p r x xs)
 
-kept : (p : String Global → Bool) → ((x y : String Global) → string_eq x y ≡ true → p x ≡ p y) → (xs : List (String Global)) → list_any p (dedup string_eq xs) ≡ list_any p xs
+kept : (p : String Global → Bool) → ((x y : String Global) → string_eq x y ≡ true → p x ≡ p y) → (xs : List (String Global))
+    → list_any p (dedup string_eq xs) ≡ list_any p xs
 kept p r [] = refl
 kept p r (x ∷ xs) = kept_from p r x xs
 
@@ -61,7 +65,8 @@ alike : (t : List ℕ) (x y : String Global) → string_eq x y ≡ true → byte
 alike t x y h = ap (λ z. bytes_eq z t) ((bytes_eq-Decides (string_bytes x) (string_bytes y)).0 h)
 
 -- the members of strings that were sorted
-pub same_among : (xs ys : List (String Global)) → IsPermutation xs ys → (t : List ℕ) → is_among (texts_of (dedup string_eq ys)) t ≡ is_among (texts_of xs) t
+pub same_among : (xs ys : List (String Global)) → IsPermutation xs ys → (t : List ℕ)
+    → is_among (texts_of (dedup string_eq ys)) t ≡ is_among (texts_of xs) t
 same_among xs ys m t =
     among_strings (dedup string_eq ys) t ∙ kept (λ s. bytes_eq (string_bytes s) t) (alike t) ys
     ∙ sym (list_any-IsPermutation (λ (s : String Global). bytes_eq (string_bytes s) t) xs ys m) ∙ sym (among_strings xs t)

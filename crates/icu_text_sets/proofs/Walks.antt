@@ -35,7 +35,8 @@ alone_on : (t : List ℕ) (o : Option ℕ) → kind_as t None o ≡ None → fau
 alone_on t None h = refl
 alone_on t (Some c) h = absurd cc
 
-before_on : (t u : List ℕ) (o : Option ℕ) (later : Option TextFault) → kind_as t (Some u) o ≡ None → fault_of_one t o (fault_of_two t u (text_cmp t u) later) ≡ later
+before_on : (t u : List ℕ) (o : Option ℕ) (later : Option TextFault) → kind_as t (Some u) o ≡ None
+    → fault_of_one t o (fault_of_two t u (text_cmp t u) later) ≡ later
 before_on t u None later h = neighbours_on t u (text_cmp t u) later h
 before_on t u (Some c) later h = absurd cc
 
@@ -45,12 +46,14 @@ on t [] h = alone_on t (only_char t) h
 on t (s ∷ rest) h = before_on t (string_bytes s) (only_char t) (fault (texts_of (s ∷ rest))) h
 
 -- a fault
-neighbours_at : (t u : List ℕ) (o : Ordering) (later : Option TextFault) (f : Fault) → next_kind o ≡ Some f → (fault_of_two t u o later ≡ Some (shown t u f)) × (fault_length f ≤ 2)
+neighbours_at : (t u : List ℕ) (o : Ordering) (later : Option TextFault) (f : Fault) → next_kind o ≡ Some f
+    → (fault_of_two t u o later ≡ Some (shown t u f)) × (fault_length f ≤ 2)
 neighbours_at t u Less later f h = absurd cc
 neighbours_at t u Equal later f h = let e = same_Some Repeated f h in rw (← e) (refl, omega arith)
 neighbours_at t u Greater later f h = let e = same_Some Unsorted f h in rw (← e) (refl, omega arith)
 
-alone_at : (t : List ℕ) (o : Option ℕ) (f : Fault) → kind_as t None o ≡ Some f → (fault_of_one t o None ≡ Some (shown t [] f)) × (fault_length f ≤ 1)
+alone_at : (t : List ℕ) (o : Option ℕ) (f : Fault) → kind_as t None o ≡ Some f → (fault_of_one t o None ≡ Some (shown t [] f))
+    × (fault_length f ≤ 1)
 alone_at t None f h = absurd cc
 alone_at t (Some c) f h = let e = same_Some OneCodePoint f h in rw (← e) (refl, omega arith)
 
@@ -66,10 +69,12 @@ stop t [] f h = alone_at t (only_char t) f h
 stop t (s ∷ rest) f h = let p = before_at t (string_bytes s) (only_char t) (fault (texts_of (s ∷ rest))) f h in (p.0, omega (arith, p.1))
 
 -- ---- a place of the list
-here : (strings : List (String Global)) (i : ℕ) (x : String Global) → i < length strings → x ≡ get_or strings i x → drop i strings ≡ x ∷ drop (suc i) strings
+here : (strings : List (String Global)) (i : ℕ) (x : String Global) → i < length strings → x ≡ get_or strings i x
+    → drop i strings ≡ x ∷ drop (suc i) strings
 here strings i x h e = rw (drop-cons strings i x h, ← e) refl
 
-next_text : (strings : List (String Global)) (i : ℕ) (r : Option (Bor (String Global))) → IsItemAt strings i r → option_map (λ s. string_bytes s.now) r ≡ first_text (drop i strings)
+next_text : (strings : List (String Global)) (i : ℕ) (r : Option (Bor (String Global))) → IsItemAt strings i r
+    → option_map (λ s. string_bytes s.now) r ≡ first_text (drop i strings)
 next_text strings i None p = rw (drop_all i strings p.3) refl
 next_text strings i (Some x) p = rw (here strings i x.now p.3.0 p.1) refl
 
@@ -85,28 +90,38 @@ shown_at texts i Repeated = refl
 shown_at texts i Unsorted = refl
 
 -- the kind of fault that stands at i, from what `get` gives of the next place
-pub kind_here : (strings : List (String Global)) (i : ℕ) (x : String Global) (next : Option (Bor (String Global))) (r : Option Fault) → IsItemAt strings (i + 1) next
-    → r ≡ kind_of (string_bytes x) (option_map (λ s. string_bytes s.now) next) → kind_of (string_bytes x) (first_text (drop (suc i) strings)) ≡ r
+pub kind_here : (strings : List (String Global)) (i : ℕ) (x : String Global) (next : Option (Bor (String Global))) (r : Option Fault)
+    → IsItemAt strings (i + 1) next
+    → r ≡ kind_of (string_bytes x) (option_map (λ s. string_bytes s.now) next)
+    → kind_of (string_bytes x) (first_text (drop (suc i) strings)) ≡ r
 kind_here strings i x next r p e =
-    let q : option_map (λ s. string_bytes s.now) next ≡ first_text (drop (suc i) strings) = next_text strings (suc i) next (rw add-one at p) in
+    let q : option_map (λ s. string_bytes s.now) next ≡ first_text (drop (suc i) strings) =
+    next_text strings (suc i) next (rw add-one at p) in
     sym (e ∙ ap (kind_of (string_bytes x)) q)
 
-pub goes_on : (strings : List (String Global)) (i : ℕ) (x : String Global) (next : Option (Bor (String Global))) (whole : Option TextFault) → i < length strings → x ≡ get_or strings i x
+pub goes_on : (strings : List (String Global)) (i : ℕ) (x : String Global) (next : Option (Bor (String Global))) (whole : Option TextFault)
+    → i < length strings → x ≡ get_or strings i x
     → IsItemAt strings (i + 1) next → None ≡ kind_of (string_bytes x) (option_map (λ s. string_bytes s.now) next)
     → fault (texts_of (drop i strings)) ≡ whole → fault (texts_of (drop (i + 1) strings)) ≡ whole
 goes_on strings i x next whole h e p k w =
-    rw add-one (sym (on (string_bytes x) (drop (suc i) strings) (kind_here strings i x next None p k)) ∙ sym (ap (λ z. fault (texts_of z)) (here strings i x h e)) ∙ w)
+    rw add-one (sym (on (string_bytes x) (drop (suc i) strings) (kind_here strings i x next None p k))
+    ∙ sym (ap (λ z. fault (texts_of z)) (here strings i x h e)) ∙ w)
 
-pub stops : (strings : List (String Global)) (i : ℕ) (x : String Global) (next : Option (Bor (String Global))) (whole : Option TextFault) (f : Fault) → i < length strings → x ≡ get_or strings i x
+pub stops : (strings : List (String Global)) (i : ℕ) (x : String Global) (next : Option (Bor (String Global))) (whole : Option TextFault)
+    (f : Fault) → i < length strings → x ≡ get_or strings i x
     → IsItemAt strings (i + 1) next → Some f ≡ kind_of (string_bytes x) (option_map (λ s. string_bytes s.now) next)
     → fault (texts_of (drop i strings)) ≡ whole → whole ≡ Some (fault_at (texts_of strings) i f)
 stops strings i x next whole f h e p k w =
     let first : string_bytes x ≡ get_or (texts_of strings) i [] = sym (ap text_or_empty (here strings i x h e)) ∙ text_at strings i in
-    let second : text_or_empty (drop (suc i) strings) ≡ get_or (texts_of strings) (i + 1) [] = text_at strings (suc i) ∙ ap (λ k. get_or (texts_of strings) k []) (sym (add-one i)) in
+    let second : text_or_empty (drop (suc i) strings) ≡ get_or (texts_of strings) (i + 1) [] =
+    text_at strings (suc i) ∙ ap (λ k. get_or (texts_of strings) k []) (sym (add-one i)) in
     let found = (stop (string_bytes x) (drop (suc i) strings) f (kind_here strings i x next (Some f) p k)).0 in
-    sym w ∙ ap (λ z. fault (texts_of z)) (here strings i x h e) ∙ found ∙ ap (λ z. Some z) (ap (λ t. shown t (text_or_empty (drop (suc i) strings)) f) first ∙ ap (λ u. shown (get_or (texts_of strings) i []) u f) second ∙ shown_at (texts_of strings) i f)
+    sym w ∙ ap (λ z. fault (texts_of z)) (here strings i x h e) ∙ found
+    ∙ ap (λ z. Some z) (ap (λ t. shown t (text_or_empty (drop (suc i) strings)) f) first
+    ∙ ap (λ u. shown (get_or (texts_of strings) i []) u f) second ∙ shown_at (texts_of strings) i f)
 
-pub at_end : (strings : List (String Global)) (i : ℕ) (whole : Option TextFault) → length strings ≤ i → fault (texts_of (drop i strings)) ≡ whole → whole ≡ None
+pub at_end : (strings : List (String Global)) (i : ℕ) (whole : Option TextFault) → length strings ≤ i
+    → fault (texts_of (drop i strings)) ≡ whole → whole ≡ None
 unfolding fault
 at_end strings i whole h w = sym w ∙ ap (λ z. fault (texts_of z)) (drop_all i strings h)
 

@@ -27,5 +27,6 @@ module _ {T : Type 0} (f : List ℕ → Option T) (w : ℕ) (b : List ℕ) (p : 
   value-cell = ap f cell_is ∙ sym (get-values_of f w b i p within)
 
   -- and are what it packs to, where each value has one encoding
-  pub pack-cell : (pack : T → List ℕ) → IsCanonical pack f w → Some (slice_range b (i * w) (i * w + w)) ≡ option_map pack (slice_get (values_of f w b) i)
+  pub pack-cell : (pack : T → List ℕ) → IsCanonical pack f w
+      → Some (slice_range b (i * w) (i * w + w)) ≡ option_map pack (slice_get (values_of f w b) i)
   pack-cell pack one = ap Some cell_is ∙ sym (pack-get f w pack one b i p within)

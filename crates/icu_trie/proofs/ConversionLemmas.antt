@@ -8,13 +8,15 @@ use Rattle.icu_trie.specs.Parts.{fault}
 use Rattle.icu_trie_core.specs.declared.header.CodePointTrieHeader.{CodePointTrieHeader}
 
 -- as many values as before
-pub length-converted : {T P : Type 0} (f : List ℕ → Option T) (g : List ℕ → Option P) (w v : ℕ) (xs : List T) (ys : List P) → w ≡ v → IsConverted f w g v xs (Ok ys) → length ys ≡ length xs
+pub length-converted : {T P : Type 0} (f : List ℕ → Option T) (g : List ℕ → Option P) (w v : ℕ) (xs : List T) (ys : List P) → w ≡ v
+    → IsConverted f w g v xs (Ok ys) → length ys ≡ length xs
 length-converted f g w v xs ys same c =
     let before : length xs ≡ length (values_of f w c.bytes) = ap length (sym c.values) in
     let after : length ys ≡ length (values_of g v c.bytes) = ap length c.ok.1 in
     after ∙ (length-values_of g v c.bytes c.ok.0 ∙ (rw same refl ∙ (sym (length-values_of f w c.bytes c.packed) ∙ sym before)))
 
 -- parts with no fault have none with as many other values and another null value that is one
-pub fault-kept : {T P : Type 0} (of_number : ℕ → Option T) (of_other : ℕ → Option P) (h : CodePointTrieHeader) (index : List ℕ) (xs : List T) (ys : List P) (n : ℕ) (p : P)
+pub fault-kept : {T P : Type 0} (of_number : ℕ → Option T) (of_other : ℕ → Option P) (h : CodePointTrieHeader) (index : List ℕ)
+    (xs : List T) (ys : List P) (n : ℕ) (p : P)
     → fault of_number h index xs ≡ None → length ys ≡ length xs → of_other n ≡ Some p → fault of_other (with_null_value h n) index ys ≡ None
 fault-kept of_number of_other h index xs ys n p sound same is = grind (arith, nat_tests)

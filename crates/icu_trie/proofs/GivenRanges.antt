@@ -15,7 +15,8 @@ abbrev pub AreOfCodePoints : {A : Type 0} → List (CodePointMapRange A) → Typ
 AreOfCodePoints [] = ⊤
 AreOfCodePoints (x ∷ xs) = IsRangeOfCodePoints x × AreOfCodePoints xs
 
-pub AreOfCodePoints-from_ranges : {A : Type 0} (of_number : ℕ → Option A) (p : Parts A) (c : ℕ) (xs : List (CodePointMapRange A)) → AreRangesFrom of_number p c xs → AreOfCodePoints xs
+pub AreOfCodePoints-from_ranges : {A : Type 0} (of_number : ℕ → Option A) (p : Parts A) (c : ℕ) (xs : List (CodePointMapRange A))
+    → AreRangesFrom of_number p c xs → AreOfCodePoints xs
 AreOfCodePoints-from_ranges of_number p c [] given = tt
 AreOfCodePoints-from_ranges of_number p c (x ∷ xs) given =
     let shape = given.0.shape in
@@ -27,7 +28,8 @@ All-are [] are = All-nil IsRangeOfCodePoints
 All-are (x ∷ xs) are = All-cons IsRangeOfCodePoints x xs are.0 (All-are xs are.1)
 
 -- all that are given
-pub All-given : {A : Type 0} (of_number : ℕ → Option A) (p : Parts A) (xs : List (CodePointMapRange A)) → AreRangesFrom of_number p 0 xs → All IsRangeOfCodePoints xs
+pub All-given : {A : Type 0} (of_number : ℕ → Option A) (p : Parts A) (xs : List (CodePointMapRange A)) → AreRangesFrom of_number p 0 xs
+    → All IsRangeOfCodePoints xs
 All-given of_number p xs given = All-are xs (AreOfCodePoints-from_ranges of_number p 0 xs given)
 
 module _ {A : Type 0} (eq : A → A → Bool) (v : A) where
@@ -41,5 +43,6 @@ module _ {A : Type 0} (eq : A → A → Bool) (v : A) where
   All-with_value (x ∷ xs) are = All-next x xs (eq x.value v) refl are.0 (All-with_value xs are.1)
 
   -- all that have a value
-  pub All-selected : (of_number : ℕ → Option A) (p : Parts A) (ranges : List (RangeInclusive ℕ)) → AreRangesOfValue eq of_number p v ranges → All HasCodePoints ranges
+  pub All-selected : (of_number : ℕ → Option A) (p : Parts A) (ranges : List (RangeInclusive ℕ)) → AreRangesOfValue eq of_number p v ranges
+      → All HasCodePoints ranges
   All-selected of_number p ranges of = rw of.selected (All-with_value of.all (AreOfCodePoints-from_ranges of_number p 0 of.all of.given))

@@ -21,12 +21,15 @@ module _ {A : Type 0} {m : _} (of_number : ℕ → Option A) (trie : Parts A) wh
       let step = y.1 in
       (rw (sym of) step.gives, rw (sym step.moves) (AreRangesFrom-from_run xs y.0 t u (ap (λ p. p.now) step.same ∙ of) y.2 none))
 
-  pub AreRangesFrom-from_drained : (xs : List (CodePointMapRange A)) (s : CodePointMapRangeIterator A m) → iterator_trie s ≡ trie → iterator_next s ≡ 0
+  pub AreRangesFrom-from_drained : (xs : List (CodePointMapRange A)) (s : CodePointMapRangeIterator A m) → iterator_trie s ≡ trie
+      → iterator_next s ≡ 0
       → Drains (GivesNextRange of_number) s xs → AreRangesFrom of_number trie 0 xs
   AreRangesFrom-from_drained xs s of start d = rw (sym start) (AreRangesFrom-from_run xs s d.1.0 d.0 of d.1.1 d.1.2)
 
 -- the ranges of a coherent trie are its runs
-pub AreRunsFrom-from_ranges : {A : Type 0} (of_number : ℕ → Option A) (trie : Parts A) → IsCoherentTrie of_number trie → (c : ℕ) (xs : List (CodePointMapRange A)) → c ≤ 0x110000 → AreRangesFrom of_number trie c xs → AreRunsFrom (answers trie) c (map run_of xs)
+pub AreRunsFrom-from_ranges : {A : Type 0} (of_number : ℕ → Option A) (trie : Parts A) → IsCoherentTrie of_number trie
+    → (c : ℕ) (xs : List (CodePointMapRange A)) → c ≤ 0x110000 → AreRangesFrom of_number trie c xs
+    → AreRunsFrom (answers trie) c (map run_of xs)
 AreRunsFrom-from_ranges of_number trie coherent c [] within gives = elim (cases_lt c 0x110000) [
   | inl p ↦ absurd (LongestRun-from_gives of_number trie.header trie.index trie.values c coherent None gives p)
   | inr p ↦ omega (arith, p, within)
@@ -34,5 +37,6 @@ AreRunsFrom-from_ranges of_number trie coherent c [] within gives = elim (cases_
 AreRunsFrom-from_ranges of_number trie coherent c (x ∷ xs) within ranges =
     let shape = ranges.0.shape in
     let first = shape.0 in let up = shape.1 in let last = shape.2 in
-    let longest = LongestRun-from_gives of_number trie.header trie.index trie.values c coherent (Some x) ranges.0 (omega (arith, up, last)) in
+    let longest = LongestRun-from_gives of_number trie.header trie.index trie.values c coherent (Some x) ranges.0
+    (omega (arith, up, last)) in
     (first, rw first longest, AreRunsFrom-from_ranges of_number trie coherent (last_of x + 1) xs (omega (arith, last)) ranges.1)

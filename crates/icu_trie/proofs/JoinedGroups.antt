@@ -14,7 +14,8 @@ module _ {A : Type 0} (eq : A → A → Bool) where
     pub stops : StopsAt eq (group_of eq r others) rest
     pub first : joined_ranges_from eq r xs ≡ group_of eq r others ∷ joined_ranges eq rest
 
-  group_with : (r x : CodePointMapRange A) (xs : List (CodePointMapRange A)) (b : Bool) → continues eq r x ≡ b → FirstGroup (merged_range eq r x) xs → FirstGroup r (x ∷ xs)
+  group_with : (r x : CodePointMapRange A) (xs : List (CodePointMapRange A)) (b : Bool) → continues eq r x ≡ b
+      → FirstGroup (merged_range eq r x) xs → FirstGroup r (x ∷ xs)
   group_with r x xs true e g = record {
     others = x ∷ g.others;
     rest = g.rest;

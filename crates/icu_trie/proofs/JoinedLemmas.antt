@@ -8,7 +8,8 @@ use Rattle.icu_trie.specs.JoinedRanges.{continues, joined_ranges_from}
 
 module _ {A : Type 0} (eq : A → A → Bool) where
   -- a range with the ends of the merged one stands for it
-  pub joined_ranges_from-continued : (r x : CodePointMapRange A) (q : RangeInclusive ℕ) (rest : List (CodePointMapRange A)) → continues eq r x ≡ true
+  pub joined_ranges_from-continued : (r x : CodePointMapRange A) (q : RangeInclusive ℕ) (rest : List (CodePointMapRange A))
+      → continues eq r x ≡ true
       → range_inclusive_start q ≡ first_of r → range_inclusive_end q ≡ last_of x → range_inclusive_exhausted q ≡ false
       → joined_ranges_from eq r (x ∷ rest) ≡ joined_ranges_from eq (record { range = q; value = r.value }) rest
   joined_ranges_from-continued r x q rest on start end fresh = rw (on, sym start, sym end, sym fresh) refl

@@ -35,7 +35,11 @@ module _ {X : Type 0} (P : X → Type 0) where
 
   any-front : (xs : List X) (y : X) → Any P xs → Any P (xs ++ y ∷ [])
   any-front [] y a = let lt = a.2 in absurd (omega (arith, lt))
-  any-front (x ∷ xs) y a = elim (any-cases x xs a) [ inl p ↦ any-here x (xs ++ y ∷ []) p | inr q ↦ any-there x (xs ++ y ∷ []) (any-front xs y q) ]
+  any-front (x ∷ xs) y a = elim (any-cases x xs a) [
+    | inl p ↦ any-here x (xs ++ y ∷ []) p
+    | inr q ↦
+        any-there x (xs ++ y ∷ []) (any-front xs y q)
+  ]
 
   any-last : (xs : List X) (y : X) → P y → Any P (xs ++ y ∷ [])
   any-last [] y p = any-here y [] p
@@ -94,7 +98,8 @@ pub record Gathers {A : Type 0} (value : A) (ranges : List (CodePointMapRange A)
   pub before : (c : ℕ) → IsInRangeOf value ranges c → c < next
   pub members : (c : ℕ) → c < next → (holds ends c ≡ true) ↔ IsInRangeOf value ranges c
 
-module _ {A : Type 0} {value : A} {ranges : List (CodePointMapRange A)} {next : ℕ} {ends : List ℕ} (gathers : Gathers value ranges next ends) (x : CodePointMapRange A) (first : first_of x ≡ next) (order : next ≤ last_of x) where
+module _ {A : Type 0} {value : A} {ranges : List (CodePointMapRange A)} {next : ℕ} {ends : List ℕ}
+    (gathers : Gathers value ranges next ends) (x : CodePointMapRange A) (first : first_of x ≡ next) (order : next ≤ last_of x) where
   more : (ys : List ℕ) → IsStrictlyIncreasing ys → All (λ e. e ≤ next) ys → ((c : ℕ) → c < next → holds ys c ≡ holds ends c)
       → (is_odd (length ys) ≡ true) ↔ (x.value ≡ value) → Gathers value (ranges ++ x ∷ []) (last_of x + 1) ys
   more ys up low same odd = record {
@@ -106,14 +111,16 @@ module _ {A : Type 0} {value : A} {ranges : List (CodePointMapRange A)} {next : 
     ];
     members = λ c lt. elim (cases_lt c next) [
       | inl p ↦ (
-        λ h. any-front (λ r. (r.value ≡ value) × (first_of r ≤ c) × (c ≤ last_of r)) ranges x ((gathers.members c p).0 (sym (same c p) ∙ h)),
+        λ h. any-front (λ r. (r.value ≡ value) × (first_of r ≤ c) × (c ≤ last_of r)) ranges x
+            ((gathers.members c p).0 (sym (same c p) ∙ h)),
         λ a. elim (any-push_cases (λ r. (r.value ≡ value) × (first_of r ≤ c) × (c ≤ last_of r)) ranges x a) [
           | inl q ↦ same c p ∙ (gathers.members c p).1 q
           | inr q ↦ let le = q.1 in absurd (omega (arith, le, first, p))
         ],
       )
       | inr p ↦ (
-        λ h. any-last (λ r. (r.value ≡ value) × (first_of r ≤ c) × (c ≤ last_of r)) ranges x (odd.0 (sym (behind c p) ∙ h), omega (arith, first, p), omega (arith, lt)),
+        λ h. any-last (λ r. (r.value ≡ value) × (first_of r ≤ c) × (c ≤ last_of r)) ranges x
+            (odd.0 (sym (behind c p) ∙ h), omega (arith, first, p), omega (arith, lt)),
         λ a. elim (any-push_cases (λ r. (r.value ≡ value) × (first_of r ≤ c) × (c ≤ last_of r)) ranges x a) [
           | inl q ↦ let early = gathers.before c q in absurd (omega (arith, early, p))
           | inr q ↦ behind c p ∙ odd.1 q.0
@@ -130,11 +137,15 @@ module _ {A : Type 0} {value : A} {ranges : List (CodePointMapRange A)} {next : 
   Gathers-kept odd = more ends gathers.rises (λ k d h. let l = gathers.low k d h in omega (arith, l)) (λ c lt. refl) odd
 
   -- it has the value where the last one didn't, or doesn't where it did
-  pub Gathers-turned : (is_odd (length ends) ≡ false) ↔ (x.value ≡ value) → Gathers value (ranges ++ x ∷ []) (last_of x + 1) (ends ++ next ∷ [])
+  pub Gathers-turned : (is_odd (length ends) ≡ false) ↔ (x.value ≡ value)
+      → Gathers value (ranges ++ x ∷ []) (last_of x + 1) (ends ++ next ∷ [])
   Gathers-turned even = more (ends ++ next ∷ []) (rises-push ends next gathers.rises gathers.low)
       (All-push (λ e. e ≤ next) ends next (λ k d h. let l = gathers.low k d h in omega (arith, l)) (omega arith))
-      (λ c lt. holds-push ends next c lt)
-      (λ o. even.0 (even_before (length ends) (sym (ap is_odd (length_push ends next)) ∙ o)), λ v. ap is_odd (length_push ends next) ∙ even_next (length ends) (even.1 v))
+      (λ c lt. holds-push ends next c lt) (
+        λ o. even.0 (even_before (length ends) (sym (ap is_odd (length_push ends next)) ∙ o)),
+        λ v. ap is_odd (length_push ends next)
+            ∙ even_next (length ends) (even.1 v),
+      )
 
 -- what the two tests tell: the range has the value or not, as the last one or not
 pub kept_tells : {P : Type 0} (has is_inside : Bool) → MatchBool has P (P → ⊥) → not (beq has is_inside) ≡ false → (is_inside ≡ true) ↔ P
@@ -150,7 +161,8 @@ turned_tells false true m e = (λ k. absurd (true≢false k), λ p. absurd (m p)
 turned_tells false false m e = absurd (true≢false (sym e))
 
 -- ---- all ranges
-module _ {A : Type 0} {value : A} {ranges : List (CodePointMapRange A)} {next : ℕ} {ends : List ℕ} (gathers : Gathers value ranges next ends) (within : next ≤ 0x110000) where
+module _ {A : Type 0} {value : A} {ranges : List (CodePointMapRange A)} {next : ℕ} {ends : List ℕ}
+    (gathers : Gathers value ranges next ends) (within : next ≤ 0x110000) where
   all : (ys : List ℕ) → All (λ e. e ≤ next) ys → ((c : ℕ) → c < next → holds ys c ≡ holds ends c) → is_odd (length ys) ≡ false
       → (c : ℕ) → (holds ys c ≡ true) ↔ IsInRangeOf value ranges c
   all ys low same even c = elim (cases_lt c next) [
@@ -163,7 +175,12 @@ module _ {A : Type 0} {value : A} {ranges : List (CodePointMapRange A)} {next : 
 
   -- the last range doesn't have the value
   pub IsValid-closed : is_odd (length ends) ≡ false → IsValid ends
-  IsValid-closed even = record { even = even_is (length ends) even; ascending = gathers.rises; within = λ k d h. let l = gathers.low k d h in omega (arith, l, within) }
+  IsValid-closed even = record {
+    even = even_is (length ends) even;
+    ascending = gathers.rises;
+    within =
+        λ k d h. let l = gathers.low k d h in omega (arith, l, within);
+  }
 
   pub members-closed : is_odd (length ends) ≡ false → (c : ℕ) → (holds ends c ≡ true) ↔ IsInRangeOf value ranges c
   members-closed even = all ends (λ k d h. let l = gathers.low k d h in omega (arith, l)) (λ c lt. refl) even
@@ -177,22 +194,26 @@ module _ {A : Type 0} {value : A} {ranges : List (CodePointMapRange A)} {next : 
   }
 
   pub members-opened : is_odd (length ends) ≡ true → (c : ℕ) → (holds (ends ++ next ∷ []) c ≡ true) ↔ IsInRangeOf value ranges c
-  members-opened odd = all (ends ++ next ∷ []) (All-push (λ e. e ≤ next) ends next (λ k d h. let l = gathers.low k d h in omega (arith, l)) (omega arith))
+  members-opened odd = all (ends ++ next ∷ [])
+      (All-push (λ e. e ≤ next) ends next (λ k d h. let l = gathers.low k d h in omega (arith, l)) (omega arith))
       (λ c lt. holds-push ends next c lt) (ap is_odd (length_push ends next) ∙ odd_next (length ends) odd)
 
 -- ---- over a coherent trie the ranges with a value are the code points that have it
 module _ {A : Type 0} (answers : ℕ → Option A) (value : A) where
-  has_value : (from : ℕ) (xs : List (CodePointMapRange A)) → AreRunsFrom answers from (map run_of xs) → (c : ℕ) → IsInRangeOf value xs c → answers c ≡ Some value
+  has_value : (from : ℕ) (xs : List (CodePointMapRange A)) → AreRunsFrom answers from (map run_of xs) → (c : ℕ) → IsInRangeOf value xs c
+      → answers c ≡ Some value
   has_value from [] runs c a = let lt = a.2 in absurd (omega (arith, lt))
   has_value from (x ∷ xs) runs c a = elim (any-cases (λ r. (r.value ≡ value) × (first_of r ≤ c) × (c ≤ last_of r)) x xs a) [
     | inl p ↦ runs.1.equal c p.1 p.2 ∙ ap (λ v. Some v) p.0
     | inr p ↦ has_value (last_of x + 1) xs runs.2 c p
   ]
 
-  in_range : (from : ℕ) (xs : List (CodePointMapRange A)) → AreRunsFrom answers from (map run_of xs) → (c : ℕ) → from ≤ c → c < 0x110000 → answers c ≡ Some value → IsInRangeOf value xs c
+  in_range : (from : ℕ) (xs : List (CodePointMapRange A)) → AreRunsFrom answers from (map run_of xs) → (c : ℕ) → from ≤ c → c < 0x110000
+      → answers c ≡ Some value → IsInRangeOf value xs c
   in_range from [] runs c begun within is = absurd (omega (arith, runs, begun, within))
   in_range from (x ∷ xs) runs c begun within is = elim (cases_lt (last_of x) c) [
-    | inl p ↦ any-there (λ r. (r.value ≡ value) × (first_of r ≤ c) × (c ≤ last_of r)) x xs (in_range (last_of x + 1) xs runs.2 c (omega (arith, p)) within is)
+    | inl p ↦ any-there (λ r. (r.value ≡ value) × (first_of r ≤ c) × (c ≤ last_of r)) x xs
+        (in_range (last_of x + 1) xs runs.2 c (omega (arith, p)) within is)
     | inr p ↦
         let first = runs.0 in
         let low : first_of x ≤ c = omega (arith, first, begun) in
@@ -200,5 +221,6 @@ module _ {A : Type 0} (answers : ℕ → Option A) (value : A) where
         any-here (λ r. (r.value ≡ value) × (first_of r ≤ c) × (c ≤ last_of r)) x xs (same_Some x.value value e, low, p)
   ]
 
-  pub IsInRangeOf-from_runs : (xs : List (CodePointMapRange A)) → AreRunsFrom answers 0 (map run_of xs) → (c : ℕ) → c < 0x110000 → IsInRangeOf value xs c ↔ (answers c ≡ Some value)
+  pub IsInRangeOf-from_runs : (xs : List (CodePointMapRange A)) → AreRunsFrom answers 0 (map run_of xs) → (c : ℕ) → c < 0x110000
+      → IsInRangeOf value xs c ↔ (answers c ≡ Some value)
   IsInRangeOf-from_runs xs runs c within = (has_value 0 xs runs c, in_range 0 xs runs c (omega arith) within)

@@ -7,7 +7,8 @@ use Rattle.icu_zerovec.specs.Cells.{values_from, values_of}
 
 module _ {T : Type 0} (f : List ℕ → Option T) (w : ℕ) (positive : 0 < w) where
   -- those of n cells, and of m cells behind them
-  values_from-append : (a b : List ℕ) (n m : ℕ) → length a ≡ n * w → values_from f w (a ++ b) (n + m) ≡ values_from f w a n ++ values_from f w b m
+  values_from-append : (a b : List ℕ) (n m : ℕ) → length a ≡ n * w
+      → values_from f w (a ++ b) (n + m) ≡ values_from f w a n ++ values_from f w b m
   values_from-append a b zero m e =
       let none : a ≡ [] = nil_from_length a (e ∙ zero-mul w) in
       rw (none, zero-add' m) refl
@@ -19,10 +20,12 @@ module _ {T : Type 0} (f : List ℕ → Option T) (w : ℕ) (positive : 0 < w) w
       let rest : length (drop w a) ≡ n * w = omega (arith, length-drop w a, suc-mul n w) in
       let count : suc n + m ≡ suc (n + m) = omega arith in
       ap (values_from f w (a ++ b)) count
-      ∙ rw (take-append-le w a b fits, drop-append-le w a b fits, values_from-append (drop w a) b n m rest) (sym (append_assoc (option_to_list (f (take w a))) _ _))
+      ∙ rw (take-append-le w a b fits, drop-append-le w a b fits, values_from-append (drop w a) b n m rest)
+      (sym (append_assoc (option_to_list (f (take w a))) _ _))
 
   -- those of whole cells, and of whole cells behind them
-  pub values_of-append : (a b : List ℕ) (n m : ℕ) → length a ≡ n * w → length b ≡ m * w → values_of f w (a ++ b) ≡ values_of f w a ++ values_of f w b
+  pub values_of-append : (a b : List ℕ) (n m : ℕ) → length a ≡ n * w → length b ≡ m * w
+      → values_of f w (a ++ b) ≡ values_of f w a ++ values_of f w b
   unfolding values_of
   values_of-append a b n m e h =
       let count : (k : ℕ) (c : List ℕ) → length c ≡ k * w → length c / w ≡ k = λ k c g. ap (λ x. x / w) g ∙ mul-div_cancel k positive in

@@ -17,7 +17,8 @@ keeps_if : {A : Type 0} (b : Bool) (o p q r : Option A) → Keeps o p → Keeps 
 keeps_if true o p q r h g = h
 keeps_if false o p q r h g = g
 
-keeps_then : {A B : Type 0} (f g : A → Option B) (o p : Option A) → ((x : A) → Keeps (f x) (g x)) → Keeps o p → Keeps (option_and_then f o) (option_and_then g p)
+keeps_then : {A B : Type 0} (f g : A → Option B) (o p : Option A) → ((x : A) → Keeps (f x) (g x)) → Keeps o p
+    → Keeps (option_and_then f o) (option_and_then g p)
 keeps_then f g None p h k y e = cc
 keeps_then f g (Some x) p h k y e = rw (k x refl) (h x y e)
 
@@ -32,11 +33,13 @@ module _ (index behind : List ℕ) where
       let group = cell - 0x8000 + 9 * (p / 8) in
       let first = nat_lt cell 0x8000 in
       keeps_if first _ _ _ _ (keeps_cell index behind (cell + p))
-      (keeps_then _ _ _ _ (λ high. keeps_then _ _ _ _ (λ low. keeps_all (Some (long_offset high low (p % 8)))) (keeps_cell index behind (group + 1 + p % 8))) (keeps_cell index behind group))
+      (keeps_then _ _ _ _ (λ high. keeps_then _ _ _ _ (λ low. keeps_all (Some (long_offset high low (p % 8))))
+      (keeps_cell index behind (group + 1 + p % 8))) (keeps_cell index behind group))
 
   pub keeps_index2 : (kind : TrieType) (u : ℕ) → Keeps (index2_cell kind index u) (index2_cell kind (index ++ behind) u)
   keeps_index2 kind u =
-      keeps_then _ _ _ _ (λ block. keeps_cell index behind (block + u / 0x200 % 32)) (keeps_cell index behind (u / 0x4000 + index1_start kind))
+      keeps_then _ _ _ _ (λ block. keeps_cell index behind (block + u / 0x200 % 32))
+      (keeps_cell index behind (u / 0x4000 + index1_start kind))
 
   pub keeps_small : (kind : TrieType) (u : ℕ) → Keeps (small_offset kind index u) (small_offset kind (index ++ behind) u)
   unfolding small_offset
@@ -46,11 +49,13 @@ module _ (index behind : List ℕ) where
       → Keeps (place h index len u) (place g (index ++ behind) len u)
   keeps_place h g len u same_type same_start =
       rw (same_type, same_start) (keeps_if (nat_lt 0x10FFFF u) _ _ _ _ (keeps_all None)
-      (keeps_if (nat_lt u (fast_limit h.trie_type)) _ _ _ _ (keeps_then _ _ _ _ (λ o. keeps_all (Some (o + u % 64))) (keeps_cell index behind (u / 64)))
+      (keeps_if (nat_lt u (fast_limit h.trie_type)) _ _ _ _
+      (keeps_then _ _ _ _ (λ o. keeps_all (Some (o + u % 64))) (keeps_cell index behind (u / 64)))
       (keeps_if (nat_lt u h.high_start) _ _ _ _ (keeps_then _ _ _ _ (λ o. keeps_all (Some (o + u % 16))) (keeps_small h.trie_type u))
       (keeps_all (high_cell len)))))
 
-  pub keeps_answer : {T : Type 0} (h g : CodePointTrieHeader) (values : List T) (u : ℕ) → g.trie_type ≡ h.trie_type → g.high_start ≡ h.high_start
+  pub keeps_answer : {T : Type 0} (h g : CodePointTrieHeader) (values : List T) (u : ℕ) → g.trie_type ≡ h.trie_type
+      → g.high_start ≡ h.high_start
       → Keeps (answer h index values u) (answer g (index ++ behind) values u)
   unfolding answer
   keeps_answer h g values u same_type same_start =

@@ -24,7 +24,8 @@ module _ {T : Type 0} (unpack : List ℕ → Option T) (width : ℕ) (number : T
   long_index = ap (λ b. length (index ++ b)) is_behind ∙ length-stored_index width t.index index packed_index gives_index
 
   of_index : values_of (λ c. Some (number_of 2 c)) 2 (index ++ behind) ≡ stored_index width t.index
-  of_index = ap (λ b. values_of (λ c. Some (number_of 2 c)) 2 (index ++ b)) is_behind ∙ values_of-stored_index width t.index index packed_index gives_index
+  of_index = ap (λ b. values_of (λ c. Some (number_of 2 c)) 2 (index ++ b)) is_behind
+      ∙ values_of-stored_index width t.index index packed_index gives_index
 
   long_cells : length cells ≡ width * length t.values
   long_cells = length-packed unpack width cells t.values packed gives ∙ mul_comm (length t.values) width
@@ -35,10 +36,12 @@ module _ {T : Type 0} (unpack : List ℕ → Option T) (width : ℕ) (number : T
   pub parts-header : length header ≡ 16
   parts-header = ap length is_header ∙ header_size (header_for width number t)
 
-  pub parts-stored : (rest : List ℕ) → IsStored unpack width number of_number (header ++ ((index ++ behind) ++ (cells ++ rest))) (stored_form width number t) (16 + length index + length behind + length cells)
+  pub parts-stored : (rest : List ℕ) → IsStored unpack width number of_number (header ++ ((index ++ behind) ++ (cells ++ rest)))
+      (stored_form width number t) (16 + length index + length behind + length cells)
   parts-stored rest =
       rw (parts-length, is_header)
-      (stored unpack width number of_number t room small_null3 whole valued (index ++ behind) cells rest long_index of_index long_cells packed (sym gives))
+      (stored unpack width number of_number t room small_null3 whole valued (index ++ behind) cells rest long_index of_index long_cells
+      packed (sym gives))
 
   pub parts-front : index ≡ flat_map (low_bytes 2) t.index → header ++ (index ++ behind) ≡ front_bytes width number t
   parts-front plain =

@@ -24,7 +24,8 @@ header_or h (Err e) = h
 module _ {T : Type 0} (width : ℕ) (number : T → ℕ) (t : Parts T) where
   -- what the trie answers, its stored form answers
   pub answers-stored : (c : ℕ) (x : T) → answers t c ≡ Some x → answers (stored_form width number t) c ≡ Some x
-  answers-stored c x e = keeps_answer t.index (padding width (length t.index)) t.header (stored_form width number t).header t.values c refl refl x e
+  answers-stored c x e = keeps_answer t.index (padding width (length t.index)) t.header (stored_form width number t).header t.values c refl
+      refl x e
 
   -- what bytes are read as that begin with the stored form answers what the trie answers
   pub answers-read : (unpack : List ℕ → Option T) (of_number : ℕ → Option T) (b : List ℕ) (u : Parts T) (m n : ℕ)
@@ -32,14 +33,17 @@ module _ {T : Type 0} (width : ℕ) (number : T → ℕ) (t : Parts T) where
       → (c : ℕ) (x : T) → answers t c ≡ Some x → answers u c ≡ Some x
   answers-read unpack of_number b u m n stored read c x e =
       let header : stored.header ≡ read.header = ap (header_or stored.header) (sym stored.reads ∙ read.reads) in
-      let same : stored_form width number t ≡ u = stored.trie ∙ ap (λ h. trie_in unpack width number of_number h b) header ∙ sym read.trie in
+      let same : stored_form width number t ≡ u = stored.trie ∙ ap (λ h. trie_in unpack width number of_number h b) header
+      ∙ sym read.trie in
       ap (λ v. answers v c) (sym same) ∙ answers-stored c x e
 
   -- where the header names a block of the data, the stored form of a coherent trie is coherent
   pub coherent-stored : (of_number : ℕ → Option T) → why_not_written width number t ≡ None → t.header.data_null_offset < length t.values
-      → fault of_number t.header t.index t.values ≡ None → IsCoherentTrie of_number t → IsCoherentTrie of_number (stored_form width number t)
+      → fault of_number t.header t.index t.values ≡ None → IsCoherentTrie of_number t
+      → IsCoherentTrie of_number (stored_form width number t)
   coherent-stored of_number room named whole good =
-      coherent-padded of_number t.header (stored_form width number t).header t.index (padding width (length t.index)) t.values refl refl refl refl
+      coherent-padded of_number t.header (stored_form width number t).header t.index (padding width (length t.index)) t.values refl refl
+      refl refl
       (sym (null_fits width number t room named)) (some_from_none _ (first_faults _ _ _ _ whole).1) good
 
   -- it is the trie itself where nothing is put behind the index, and the header says what the form says

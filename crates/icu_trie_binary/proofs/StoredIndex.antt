@@ -12,23 +12,28 @@ use Rattle.icu_trie_binary.specs.WrittenTrie.{padding, stored_index}
 use Rattle.icu_trie_binary.proofs.CellsAppended.{values_of-append}
 
 -- packed bytes are w for each value
-pub length-packed : {T : Type 0} (f : List ℕ → Option T) (w : ℕ) (b : List ℕ) (xs : List T) → IsPacked f w b → xs ≡ values_of f w b → length b ≡ length xs * w
+pub length-packed : {T : Type 0} (f : List ℕ → Option T) (w : ℕ) (b : List ℕ) (xs : List T) → IsPacked f w b → xs ≡ values_of f w b
+    → length b ≡ length xs * w
 length-packed f w b xs p e =
     let n : length xs ≡ length b / w = ap length e ∙ length-values_of f w b p in
     omega (arith, div-add-mod' (length b) w, p.whole, ap (λ k. k * w) n)
 
 -- the bytes of one cell, or of none, give it back
-padding-values : (b : Bool) → values_of (λ c. Some (number_of 2 c)) 2 (flat_map (low_bytes 2) (if b then 0xffee ∷ [] else [])) ≡ (if b then 0xffee ∷ [] else [])
+padding-values : (b : Bool) → values_of (λ c. Some (number_of 2 c)) 2 (flat_map (low_bytes 2) (if b then 0xffee ∷ [] else []))
+    ≡ (if b then 0xffee ∷ [] else [])
 unfolding values_of
 padding-values true = refl
 padding-values false = refl
 
-padding-length : (b : Bool) → length (flat_map (low_bytes 2) (if b then 0xffee ∷ [] else [])) ≡ length {A = ℕ} (if b then 0xffee ∷ [] else []) * 2
+padding-length : (b : Bool) → length (flat_map (low_bytes 2) (if b then 0xffee ∷ [] else []))
+    ≡ length {A = ℕ} (if b then 0xffee ∷ [] else []) * 2
 padding-length true = refl
 padding-length false = refl
 
-module _ (width : ℕ) (index bytes : List ℕ) (packed : IsPacked (λ c. Some (number_of 2 c)) 2 bytes) (gives : index ≡ values_of (λ c. Some (number_of 2 c)) 2 bytes) where
-  pub values_of-stored_index : values_of (λ c. Some (number_of 2 c)) 2 (bytes ++ flat_map (low_bytes 2) (padding width (length index))) ≡ stored_index width index
+module _ (width : ℕ) (index bytes : List ℕ) (packed : IsPacked (λ c. Some (number_of 2 c)) 2 bytes)
+    (gives : index ≡ values_of (λ c. Some (number_of 2 c)) 2 bytes) where
+  pub values_of-stored_index : values_of (λ c. Some (number_of 2 c)) 2 (bytes ++ flat_map (low_bytes 2) (padding width (length index)))
+      ≡ stored_index width index
   values_of-stored_index =
       let behind = padding-values (nat_eq width 4 && nat_eq (length index % 2) 1) in
       values_of-append (λ c. Some (number_of 2 c)) 2 (lit< tt) bytes _ (length index) (length (padding width (length index)))
@@ -45,5 +50,7 @@ module _ (width : ℕ) (index bytes : List ℕ) (packed : IsPacked (λ c. Some (
         length-append index (padding width (length index)),
       )
 
-  pub flat_map-stored_index : bytes ≡ flat_map (low_bytes 2) index → bytes ++ flat_map (low_bytes 2) (padding width (length index)) ≡ flat_map (low_bytes 2) (stored_index width index)
-  flat_map-stored_index e = ap (λ b. b ++ flat_map (low_bytes 2) (padding width (length index))) e ∙ sym (flat_map-append (low_bytes 2) index (padding width (length index)))
+  pub flat_map-stored_index : bytes ≡ flat_map (low_bytes 2) index
+      → bytes ++ flat_map (low_bytes 2) (padding width (length index)) ≡ flat_map (low_bytes 2) (stored_index width index)
+  flat_map-stored_index e = ap (λ b. b ++ flat_map (low_bytes 2) (padding width (length index))) e
+      ∙ sym (flat_map-append (low_bytes 2) index (padding width (length index)))

@@ -23,7 +23,14 @@ length-swapped_groups : (k n : ℕ) (b : List ℕ) → n * k ≤ length b → le
 length-swapped_groups k zero b l = sym (zero-mul k)
 length-swapped_groups k (suc n) b l =
     let again = length-swapped_groups k n (drop k b) (omega (arith, l, length-drop k b, suc-mul n k)) in
-    omega (arith, length-append (reverse (take k b)) (swapped_groups k n (drop k b)), length-reverse (take k b), length-take-le k b (omega (arith, l, suc-mul n k)), again, suc-mul n k)
+    omega (
+      arith,
+      length-append (reverse (take k b)) (swapped_groups k n (drop k b)),
+      length-reverse (take k b),
+      length-take-le k b (omega (arith, l, suc-mul n k)),
+      again,
+      suc-mul n k,
+    )
 
 pub length-swap_units : (k : ℕ) (b : List ℕ) → length (swap_units k b) ≡ length b / k * k
 unfolding swap_units
@@ -43,7 +50,8 @@ length-swapped_header b l =
     )
 
 -- a trie takes no more bytes in the other order than there are
-pub length-swapped : (width : ℕ) (header b : List ℕ) → length header ≡ 16 → 16 ≤ length b → length (header ++ swapped_cells width header (drop 16 b)) ≤ length b
+pub length-swapped : (width : ℕ) (header b : List ℕ) → length header ≡ 16 → 16 ≤ length b
+    → length (header ++ swapped_cells width header (drop 16 b)) ≤ length b
 length-swapped width header b h l =
     let rest = drop 16 b in
     let front = take (index_said header) rest in
@@ -71,4 +79,5 @@ either false b c n h g = g refl
 pub length-in_other_order : (width : ℕ) (b : List ℕ) → length (in_other_order width b) ≤ length b
 length-in_other_order width b =
     either (nat_lt (length b) 16) _ _ (length b) (λ e. omega arith)
-    (λ e. let long : 16 ≤ length b = grind (arith, common_steps) in length-swapped width (swapped_header b) b (length-swapped_header b long) long)
+    (λ e. let long : 16 ≤ length b = grind (arith, common_steps) in
+    length-swapped width (swapped_header b) b (length-swapped_header b long) long)

@@ -73,7 +73,8 @@ unfolding header_bytes
 drop-header_bytes h rest = refl
 
 module _ (h : BinaryHeader) (rest : List ℕ) (small_index : h.index_length < 2 ^ 16) (small_data : h.data_length < 2 ^ 20)
-    (small_null3 : h.index3_null_offset < 2 ^ 16) (small_null : h.data_null_offset < 2 ^ 20) (small_start : h.shifted_high_start < 2 ^ 16) where
+    (small_null3 : h.index3_null_offset < 2 ^ 16) (small_null : h.data_null_offset < 2 ^ 20)
+    (small_start : h.shifted_high_start < 2 ^ 16) where
   null_bits : h.data_null_offset / 0x10000 < 0x10
   null_bits = omega (arith, small_null)
 
@@ -115,7 +116,8 @@ module _ (h : BinaryHeader) (rest : List ℕ) (small_index : h.index_length < 2 
       rw (options-back, null-back, options-null (h.data_length / 0x10000) _ _ _ null_bits t w) (omega arith) in
       all_fields h _ _ _ _ _ index-back data_cells null3-back null start-back
     where
-      all_fields : (g : BinaryHeader) (i d m n s : ℕ) → i ≡ g.index_length → d ≡ g.data_length → m ≡ g.index3_null_offset → n ≡ g.data_null_offset
+      all_fields : (g : BinaryHeader) (i d m n s : ℕ) → i ≡ g.index_length → d ≡ g.data_length → m ≡ g.index3_null_offset
+          → n ≡ g.data_null_offset
           → s ≡ g.shifted_high_start
           → let made : BinaryHeader = record {
             trie_type = g.trie_type;
@@ -134,16 +136,21 @@ module _ (h : BinaryHeader) (rest : List ℕ) (small_index : h.index_length < 2 
       let t = type_code-small h.trie_type in let w = width_code-small h.value_width in
       let b = header_bytes h ++ rest in
       let long : 16 ≤ length b = omega (arith, length-header_bytes h rest) in
-      let kind : options_of b / 0x40 % 4 ≡ type_code h.trie_type = rw options-back (options-type (h.data_length / 0x10000) _ _ _ null_bits t w) in
-      let width : options_of b % 8 ≡ width_code h.value_width = rw options-back (options-width (h.data_length / 0x10000) _ _ _ null_bits t w) in
+      let kind : options_of b / 0x40 % 4 ≡ type_code h.trie_type =
+      rw options-back (options-type (h.data_length / 0x10000) _ _ _ null_bits t w) in
+      let width : options_of b % 8 ≡ width_code h.value_width =
+      rw options-back (options-width (h.data_length / 0x10000) _ _ _ null_bits t w) in
       let reserved : options_of b / 8 % 8 ≡ 0 = rw options-back (options-reserved (h.data_length / 0x10000) _ _ _ null_bits t w) in
-      header_of-ok b h.trie_type h.value_width long (signature-back h rest) (type_of-code (options_of b) _ kind) (width_of-code (options_of b) _ width) reserved
+      header_of-ok b h.trie_type h.value_width long (signature-back h rest) (type_of-code (options_of b) _ kind)
+      (width_of-code (options_of b) _ width) reserved
       ∙ ap Ok fields-back
 
   -- and how many bytes it says, where they are there
-  pub stored_header-written : stored_length h ≤ 16 + length rest → stored_header (width_bytes h.value_width) (header_bytes h ++ rest) ≡ Ok (h, stored_length h)
+  pub stored_header-written : stored_length h ≤ 16 + length rest
+      → stored_header (width_bytes h.value_width) (header_bytes h ++ rest) ≡ Ok (h, stored_length h)
   unfolding stored_header
   stored_header-written fits =
-      let here : nat_lt (length (header_bytes h ++ rest)) (stored_length h) ≡ false = rw (length-header_bytes h rest) (grind (arith, common_steps)) in
+      let here : nat_lt (length (header_bytes h ++ rest)) (stored_length h) ≡ false =
+      rw (length-header_bytes h rest) (grind (arith, common_steps)) in
       let same : nat_eq (width_bytes h.value_width) (width_bytes h.value_width) ≡ true = grind (arith, common_steps) in
       rw (header_of-written, same, here) refl

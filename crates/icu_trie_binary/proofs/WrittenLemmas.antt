@@ -61,20 +61,24 @@ first_causes false false false false false false h = (refl, refl, refl, refl, re
 
 module _ {T : Type 0} (width : ℕ) (number : T → ℕ) (t : Parts T) (room : why_not_written width number t ≡ None) where
   pub same_width : width_bytes (width_for width) ≡ width
-  same_width = let f : not (nat_eq (width_bytes (width_for width)) width) ≡ false = (first_causes _ _ _ _ _ _ room).0 in grind (arith, common_steps)
+  same_width = let f : not (nat_eq (width_bytes (width_for width)) width) ≡ false = (first_causes _ _ _ _ _ _ room).0 in
+      grind (arith, common_steps)
 
   pub index_fits : length (stored_index width t.index) < 2 ^ 16
-  index_fits = let f : nat_lt 0xFFFF (length (stored_index width t.index)) ≡ false = (first_causes _ _ _ _ _ _ room).1 in grind (arith, common_steps)
+  index_fits = let f : nat_lt 0xFFFF (length (stored_index width t.index)) ≡ false = (first_causes _ _ _ _ _ _ room).1 in
+      grind (arith, common_steps)
 
   pub data_fit : length t.values < 2 ^ 20
   data_fit = let f : nat_lt 0xFFFFF (length t.values) ≡ false = (first_causes _ _ _ _ _ _ room).2 in grind (arith, common_steps)
 
   pub null_offset_fits : t.header.data_null_offset < 2 ^ 20
-  null_offset_fits = let f : nat_lt 0xFFFFF t.header.data_null_offset ≡ false = (first_causes _ _ _ _ _ _ room).3 in grind (arith, common_steps)
+  null_offset_fits = let f : nat_lt 0xFFFFF t.header.data_null_offset ≡ false = (first_causes _ _ _ _ _ _ room).3 in
+      grind (arith, common_steps)
 
   pub high_start_fits : (t.header.high_start / 0x200 * 0x200 ≡ t.header.high_start) × (t.header.high_start / 0x200 < 2 ^ 16)
   high_start_fits =
-      let f : (not (nat_eq (t.header.high_start % 0x200) 0) || nat_lt 0x1FFFFFF t.header.high_start) ≡ false = (first_causes _ _ _ _ _ _ room).4 in
+      let f : (not (nat_eq (t.header.high_start % 0x200) 0) || nat_lt 0x1FFFFFF t.header.high_start) ≡ false =
+      (first_causes _ _ _ _ _ _ room).4 in
       let both = neither _ _ f in
       let a : not (nat_eq (t.header.high_start % 0x200) 0) ≡ false = both.0 in
       let b : nat_lt 0x1FFFFFF t.header.high_start ≡ false = both.1 in
@@ -89,7 +93,8 @@ module _ {T : Type 0} (width : ℕ) (number : T → ℕ) (t : Parts T) (room : w
   -- where the header names a block, the null value is that of the form
   pub null_fits : t.header.data_null_offset < length t.values → t.header.null_value ≡ null_number width number t
   null_fits l =
-      let f : (nat_lt t.header.data_null_offset (length t.values) && not (nat_eq t.header.null_value (null_number width number t))) ≡ false = (first_causes _ _ _ _ _ _ room).5 in
+      let f : (nat_lt t.header.data_null_offset (length t.values) && not (nat_eq t.header.null_value (null_number width number t)))
+      ≡ false = (first_causes _ _ _ _ _ _ room).5 in
       grind (arith, common_steps)
 
 -- ---- the trie
@@ -98,7 +103,8 @@ module _ {T : Type 0} (unpack : List ℕ → Option T) (width : ℕ) (number : T
     (whole : fault of_number t.header t.index t.values ≡ None) (valued : is_none (of_number (null_number width number t)) ≡ false)
     (index cells rest : List ℕ) (long_index : length index ≡ 2 * length (stored_index width t.index))
     (of_index : values_of (λ c. Some (number_of 2 c)) 2 index ≡ stored_index width t.index)
-    (long_cells : length cells ≡ width * length t.values) (packed : IsPacked unpack width cells) (of_cells : values_of unpack width cells ≡ t.values) where
+    (long_cells : length cells ≡ width * length t.values) (packed : IsPacked unpack width cells)
+    (of_cells : values_of unpack width cells ≡ t.values) where
   here_index : index_bytes (header_for width number t) (header_bytes (header_for width number t) ++ (index ++ (cells ++ rest))) ≡ index
   here_index = index_bytes-written (header_for width number t) index cells rest long_index
 
@@ -108,21 +114,25 @@ module _ {T : Type 0} (unpack : List ℕ → Option T) (width : ℕ) (number : T
   length-written : stored_length (header_for width number t) ≡ written_length width number t
   length-written = ap (λ w. 16 + 2 * length (stored_index width t.index) + w * length t.values) (same_width width number t room)
 
-  header-written : stored_header width (header_bytes (header_for width number t) ++ (index ++ (cells ++ rest))) ≡ Ok (header_for width number t, written_length width number t)
+  header-written : stored_header width (header_bytes (header_for width number t) ++ (index ++ (cells ++ rest)))
+      ≡ Ok (header_for width number t, written_length width number t)
   header-written =
       let fits : stored_length (header_for width number t) ≤ 16 + length (index ++ (cells ++ rest)) =
       omega (arith, length-written, length-append index (cells ++ rest), length-append cells rest, long_index, long_cells) in
       let start = high_start_fits width number t room in
-      let said = stored_header-written (header_for width number t) (index ++ (cells ++ rest)) (index_fits width number t room) (data_fit width number t room) small_null3
+      let said = stored_header-written (header_for width number t) (index ++ (cells ++ rest)) (index_fits width number t room)
+      (data_fit width number t room) small_null3
       (null_offset_fits width number t room) start.1 fits in
       rw (same_width width number t room) at said
 
-  pub stored : IsStored unpack width number of_number (header_bytes (header_for width number t) ++ (index ++ (cells ++ rest))) (stored_form width number t) (written_length width number t)
+  pub stored : IsStored unpack width number of_number (header_bytes (header_for width number t) ++ (index ++ (cells ++ rest)))
+      (stored_form width number t) (written_length width number t)
   stored = record {
     header = header_for width number t;
     reads = header-written;
     packed = rw here_data packed;
     no_fault = rw (here_data, here_index, of_index, of_cells)
-        (fault-padded of_number t.header (trie_header unpack width number of_number (header_for width number t) t.values) t.index (padding width (length t.index)) t.values refl valued whole);
+        (fault-padded of_number t.header (trie_header unpack width number of_number (header_for width number t) t.values) t.index
+        (padding width (length t.index)) t.values refl valued whole);
     trie = rw (here_data, here_index, of_index, of_cells, (high_start_fits width number t room).0) refl;
   }

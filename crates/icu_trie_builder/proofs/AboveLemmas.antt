@@ -5,6 +5,7 @@ use Rattle.icu_trie_core.specs.declared.header.CodePointTrieHeader.{CodePointTri
 use Rattle.icu_trie_core.specs.Format.{answer}
 
 -- so the error value stands for it
-pub above : {T : Type 0} (h : CodePointTrieHeader) (index : List ℕ) (values : List T) (u : ℕ) → 0x110000 ≤ u → answer h index values u ≡ None
+pub above : {T : Type 0} (h : CodePointTrieHeader) (index : List ℕ) (values : List T) (u : ℕ) → 0x110000 ≤ u
+    → answer h index values u ≡ None
 unfolding answer
 above h index values u beyond = rw (lt-ltb 1114111 u (omega (arith, beyond))) refl

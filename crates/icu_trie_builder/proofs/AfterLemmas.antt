@@ -16,13 +16,15 @@ pub value_after-filled : {T : Type 0} (w : Write T) (old new : T) (c : ℕ)
 value_after-filled w old new c h k l inside before after = grind (arith, nat_tests)
 
 -- numbers in which the range of an accepted write is filled with the number of its value
-pub IsAfter-filled : {T : Type 0} (of_number : ℕ → Option T) (w : Write T) (numbers filled : List ℕ) (n : ℕ) (d error : T) (trie_type : TrieType) (end : ℕ)
+pub IsAfter-filled : {T : Type 0} (of_number : ℕ → Option T) (w : Write T) (numbers filled : List ℕ) (n : ℕ) (d error : T)
+    (trie_type : TrieType) (end : ℕ)
     → first_of w ≤ end → end ≡ min (last_of w) 0x10FFFF
     → length numbers ≡ 0x110000 → length filled ≡ 0x110000 → value_of_number of_number d n ≡ value_of w
     → ((k : ℕ) → first_of w ≤ k → k < end + 1 → get_or filled k 0 ≡ n)
     → ((k : ℕ) → k < first_of w → get_or filled k 0 ≡ get_or numbers k 0)
     → ((k : ℕ) → end + 1 ≤ k → get_or filled k 0 ≡ get_or numbers k 0)
-    → IsAfter (w ∷ []) (record { values = values_of_numbers of_number d numbers; default = d; error = error; trie_type = trie_type }) (record { values = values_of_numbers of_number d filled; default = d; error = error; trie_type = trie_type })
+    → IsAfter (w ∷ []) (record { values = values_of_numbers of_number d numbers; default = d; error = error; trie_type = trie_type })
+    (record { values = values_of_numbers of_number d filled; default = d; error = error; trie_type = trie_type })
 IsAfter-filled of_number w numbers filled n d error trie_type end h m len len' is inside before after = record {
   values = λ c lt.
       let V = value_of_number of_number d in
@@ -47,14 +49,17 @@ unwrap_or-option_or None b d = refl
 unwrap_or-option_or (Some x) b d = refl
 
 -- the last of two lists of writes is asked first
-pub last_written-append : {T : Type 0} (ws vs : List (Write T)) (c : ℕ) → last_written (ws ++ vs) c ≡ option_or (last_written vs c) (last_written ws c)
+pub last_written-append : {T : Type 0} (ws vs : List (Write T)) (c : ℕ)
+    → last_written (ws ++ vs) c ≡ option_or (last_written vs c) (last_written ws c)
 last_written-append [] vs c = sym (option_or-none (last_written vs c))
 last_written-append (w ∷ ws) vs c = rw (last_written-append ws vs c) (option_or_assoc (last_written vs c) (last_written ws c) _)
 
-pub value_after-append : {T : Type 0} (ws vs : List (Write T)) (old : T) (c : ℕ) → value_after (ws ++ vs) old c ≡ value_after vs (value_after ws old c) c
+pub value_after-append : {T : Type 0} (ws vs : List (Write T)) (old : T) (c : ℕ)
+    → value_after (ws ++ vs) old c ≡ value_after vs (value_after ws old c) c
 value_after-append ws vs old c = rw (last_written-append ws vs c) (unwrap_or-option_or (last_written vs c) (last_written ws c) old)
 
-pub IsAfter-append : {T : Type 0} (ws vs : List (Write T)) (a b e : CodePointMap T) → IsAfter ws a b → IsAfter vs b e → IsAfter (ws ++ vs) a e
+pub IsAfter-append : {T : Type 0} (ws vs : List (Write T)) (a b e : CodePointMap T) → IsAfter ws a b → IsAfter vs b e
+    → IsAfter (ws ++ vs) a e
 IsAfter-append ws vs a b e p q = record {
   values = λ c l. q.values c l ∙ (ap (λ v. value_after vs v c) (p.values c l) ∙ sym (value_after-append ws vs (map_value a c) c));
   default = q.default ∙ p.default;

@@ -23,13 +23,17 @@ pub map_answer-above : {T : Type 0} (m : CodePointMap T) (u : ℕ) → 0x110000 
 map_answer-above m u l = grind (arith, nat_tests)
 
 -- the value of a code point whose number is that of v
-pub number_value-is : {T : Type 0} (of_number : ℕ → Option T) (default : T) (numbers : List ℕ) (c n : ℕ) (v : T) → c < length numbers → get_or numbers c 0 ≡ n → of_number n ≡ Some v → number_value of_number default numbers c ≡ v
-number_value-is of_number default numbers c n v l e is = number_value-at of_number default numbers c l ∙ ap (λ x. unwrap_or (of_number x) default) e ∙ ap (λ o. unwrap_or o default) is
+pub number_value-is : {T : Type 0} (of_number : ℕ → Option T) (default : T) (numbers : List ℕ) (c n : ℕ) (v : T) → c < length numbers
+    → get_or numbers c 0 ≡ n → of_number n ≡ Some v → number_value of_number default numbers c ≡ v
+number_value-is of_number default numbers c n v l e is =
+    number_value-at of_number default numbers c l ∙ ap (λ x. unwrap_or (of_number x) default) e ∙ ap (λ o. unwrap_or o default) is
 
 -- code points of one number, up to one of another, are the longest run of its value
-pub longest-of_numbers : {T : Type 0} (V : T → Type 0) (number : T → ℕ) (of_number : ℕ → Option T) → ((x : T) → V x → of_number (number x) ≡ Some x)
+pub longest-of_numbers : {T : Type 0} (V : T → Type 0) (number : T → ℕ) (of_number : ℕ → Option T)
+    → ((x : T) → V x → of_number (number x) ≡ Some x)
     → (numbers : List ℕ) (default error : T) → IsBuilder V number numbers default error
-    → (first last end n : ℕ) (v : T) → last ≡ end - 1 → get_or numbers first 0 ≡ n → of_number n ≡ Some v → first < 0x110000 → first ≤ end → end ≤ 0x110000
+    → (first last end n : ℕ) (v : T) → last ≡ end - 1 → get_or numbers first 0 ≡ n → of_number n ≡ Some v → first < 0x110000 → first ≤ end
+    → end ≤ 0x110000
     → ((c : ℕ) → first ≤ c → c < end → get_or numbers c 0 ≡ n) → (end < 0x110000 → get_or numbers end 0 ≢ n)
     → LongestRun (number_value of_number default numbers) first last v
 longest-of_numbers V number of_number back numbers default error sound first last end n v is_last here is below from within same other =
@@ -37,11 +41,13 @@ longest-of_numbers V number of_number back numbers default error sound first las
     let more : first ≢ end = λ e. other (omega (arith, below, e)) (rw (← e) here) in
     let next : last + 1 ≡ end = omega (arith, from, more, is_last) in
     let at = number-of_value V number of_number back numbers default error sound in
-    let own : n ≡ number v = sym here ∙ at first below ∙ ap number (number_value-is of_number default numbers first n v (omega (arith, below, whole)) here is) in
+    let own : n ≡ number v = sym here ∙ at first below
+    ∙ ap number (number_value-is of_number default numbers first n v (omega (arith, below, whole)) here is) in
     record {
       ordered = omega (arith, from, more, next);
       within = omega (arith, within, next);
-      equal = λ u a b. number_value-is of_number default numbers u n v (omega (arith, b, within, next, whole)) (same u a (omega (arith, b, next))) is;
+      equal = λ u a b. number_value-is of_number default numbers u n v (omega (arith, b, within, next, whole))
+          (same u a (omega (arith, b, next))) is;
       ends = λ l e. let inside : end < 0x110000 = omega (arith, l, next) in
           other inside (at end inside ∙ ap number (ap (number_value of_number default numbers) (sym next) ∙ e) ∙ sym own);
     }
@@ -51,13 +57,17 @@ module _ {T : Type 0} (r : RangeInclusive ℕ) (v : T) (old new : CodePointMap T
     (ordered : range_inclusive_start r ≤ range_inclusive_end r) (within : range_inclusive_end r < 0x110000) where
   pub IsAfter-inside : (c : ℕ) → range_inclusive_start r ≤ c → c ≤ range_inclusive_end r → map_value new c ≡ v
   IsAfter-inside c low high =
-      after.values c (omega (arith, high, within)) ∙ sym (value_after-filled (Range r v) (map_value old c) v c ordered (omega (arith, ordered, within)) (omega (arith, high, within))
+      after.values c (omega (arith, high, within))
+      ∙ sym (value_after-filled (Range r v) (map_value old c) v c ordered (omega (arith, ordered, within)) (omega (arith, high, within))
       (λ a b. refl) (λ a. absurd (omega (arith, a, low))) (λ a. absurd (omega (arith, a, high))))
 
-  pub IsAfter-outside : (c : ℕ) → c < 0x110000 → (c < range_inclusive_start r) ⊎ (range_inclusive_end r < c) → map_value new c ≡ map_value old c
+  pub IsAfter-outside : (c : ℕ) → c < 0x110000 → (c < range_inclusive_start r) ⊎ (range_inclusive_end r < c)
+      → map_value new c ≡ map_value old c
   IsAfter-outside c l out =
-      after.values c (omega (arith, l)) ∙ sym (value_after-filled (Range r v) (map_value old c) (map_value old c) c ordered (omega (arith, ordered, within)) (omega (arith, l))
-      (λ a b. elim out [ inl below ↦ absurd (omega (arith, below, a)) | inr past ↦ absurd (omega (arith, past, b)) ]) (λ a. refl) (λ a. refl))
+      after.values c (omega (arith, l)) ∙ sym (value_after-filled (Range r v) (map_value old c)
+      (map_value old c) c ordered (omega (arith, ordered, within)) (omega (arith, l))
+      (λ a b. elim out [ inl below ↦ absurd (omega (arith, below, a)) | inr past ↦ absurd (omega (arith, past, b)) ]) (λ a. refl)
+      (λ a. refl))
 
 -- a map with the values of a trie and its error value answers as the trie does
 pub answers-of_trie : {T : Type 0} (m : CodePointMap T) (t : Parts T) → ((u : ℕ) → u < 0x110000 → trie_value t u ≡ Some (map_value m u))
@@ -66,4 +76,5 @@ answers-of_trie m t values error u = by (nat_le u 0x10FFFF) refl
   where
     by : (b : Bool) → nat_le u 0x10FFFF ≡ b → Some (cond b (map_value m u) m.error) ≡ trie_value t u
     by true h = let l : u < 0x110000 = grind (arith, nat_tests) in sym (values u l)
-    by false h = let l : 0x110000 ≤ u = grind (arith, nat_tests) in error ∙ sym (ap (λ o. option_or o (last_cell t.values)) (above t.header t.index t.values u l))
+    by false h = let l : 0x110000 ≤ u = grind (arith, nat_tests) in
+        error ∙ sym (ap (λ o. option_or o (last_cell t.values)) (above t.header t.index t.values u l))

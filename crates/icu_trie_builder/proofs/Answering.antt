@@ -25,52 +25,65 @@ some-is : (o : Option ℕ) (x : ℕ) → o ≡ Some x → IsSome o
 some-is o x e = rw e refl
 
 -- the answer from the high start on
-high_answer : (h : CodePointTrieHeader) (index values : List ℕ) (u : ℕ) → u < 1114112 → fast_limit h.trie_type ≤ u → h.high_start ≤ u → answer h index values u ≡ high_value values
+high_answer : (h : CodePointTrieHeader) (index values : List ℕ) (u : ℕ) → u < 1114112 → fast_limit h.trie_type ≤ u → h.high_start ≤ u
+    → answer h index values u ≡ high_value values
 unfolding answer
-high_answer h index values u within from above = rw (le-ltb 1114111 u (omega (arith, within)), le-ltb u (fast_limit h.trie_type) from, le-ltb u h.high_start above) refl
+high_answer h index values u within from above =
+    rw (le-ltb 1114111 u (omega (arith, within)), le-ltb u (fast_limit h.trie_type) from, le-ltb u h.high_start above) refl
 
 -- a number of a block of a map
 block_read : (f : ℕ → ℕ) (k b d n : ℕ) → n < k → block_of k f b ≡ block_of k f d → f (b * k + n) ≡ f (d * k + n)
 unfolding block_of
 block_read f k b d n l e =
     let z = f 0 in
-    ap f (omega arith) ∙ (sym (get_or-map-range_with_len f (k * b) k n (k * b + n) z l refl) ∙ (ap (λ xs. get_or xs n z) e ∙ (get_or-map-range_with_len f (k * d) k n (k * d + n) z l refl ∙ ap f (omega arith))))
+    ap f (omega arith) ∙ (sym (get_or-map-range_with_len f (k * b) k n (k * b + n) z l refl)
+    ∙ (ap (λ xs. get_or xs n z) e ∙ (get_or-map-range_with_len f (k * d) k n (k * d + n) z l refl ∙ ap f (omega arith))))
 
 -- the fast index has a cell for each block of 64 below the fast limit
 pub fast_index_len-limit : (trie_type : TrieType) → fast_index_len trie_type ≡ fast_limit trie_type / 64
 fast_index_len-limit Fast = refl
 fast_index_len-limit Small = refl
 
-module _ (trie_type : TrieType) (high null value : ℕ) (f : ℕ → ℕ) (fast small values : List ℕ) (aligned : high % 512 ≡ 0) (within : high ≤ 1114112)
+module _ (trie_type : TrieType) (high null value : ℕ) (f : ℕ → ℕ) (fast small values : List ℕ) (aligned : high % 512 ≡ 0)
+    (within : high ≤ 1114112)
     (p : IsData trie_type high null value f fast small values) where
   -- blocks of 512 with the same numbers have the same offsets
-  pub offsets_same : (b d : ℕ) → fast_limit trie_type ≤ b * 512 → b * 512 < high → fast_limit trie_type ≤ d * 512 → d * 512 < high → SameNumbers f 512 b d
+  pub offsets_same : (b d : ℕ) → fast_limit trie_type ≤ b * 512 → b * 512 < high → fast_limit trie_type ≤ d * 512 → d * 512 < high
+      → SameNumbers f 512 b d
       → window 32 (32 * (b - fast_limit trie_type / 512)) small ≡ window 32 (32 * (d - fast_limit trie_type / 512)) small
   offsets_same b d b0 b1 d0 d1 same =
       let t = parts trie_type in
       let first : ℕ = fast_limit trie_type / 512 in
       let long = p.small_len in
-      let lb : length (window 32 (32 * (b - first)) small) ≡ 32 = length-window 32 (32 * (b - first)) small (omega (arith, long, t.1, b0, b1, aligned)) in
-      let ld : length (window 32 (32 * (d - first)) small) ≡ 32 = length-window 32 (32 * (d - first)) small (omega (arith, long, t.1, d0, d1, aligned)) in
+      let lb : length (window 32 (32 * (b - first)) small) ≡ 32 =
+      length-window 32 (32 * (b - first)) small (omega (arith, long, t.1, b0, b1, aligned)) in
+      let ld : length (window 32 (32 * (d - first)) small) ≡ 32 =
+      length-window 32 (32 * (d - first)) small (omega (arith, long, t.1, d0, d1, aligned)) in
       same_lists (window 32 (32 * (b - first)) small) (window 32 (32 * (d - first)) small) (lb ∙ sym ld)
       (λ q z l.
       let lt : q < 32 = omega (arith, l, lb) in
-      let one = p.shared_small (32 * b + q) (32 * d + q) (omega (arith, b0, t.1)) (omega (arith, d0, t.1)) (omega (arith, b1, aligned, lt)) (omega (arith, d1, aligned, lt))
+      let one = p.shared_small (32 * b + q) (32 * d + q) (omega (arith, b0, t.1)) (omega (arith, d0, t.1)) (omega (arith, b1, aligned, lt))
+      (omega (arith, d1, aligned, lt))
       (λ i li. ap f (omega arith) ∙ (same (16 * q + i) (omega (arith, lt, li)) ∙ ap f (omega arith))) in
-      window-read 32 (32 * (b - first)) q small z lt ∙ (get_or_default small (32 * (b - first) + q) z 0 (omega (arith, long, t.1, b0, b1, aligned, lt))
+      window-read 32 (32 * (b - first)) q small z lt
+      ∙ (get_or_default small (32 * (b - first) + q) z 0 (omega (arith, long, t.1, b0, b1, aligned, lt))
       ∙ (ap (λ n. get_or small n 0) (omega (arith, t.1, b0)) ∙ (one ∙ (ap (λ n. get_or small n 0) (omega (arith, t.1, d0))
-      ∙ (get_or_default small (32 * (d - first) + q) 0 z (omega (arith, long, t.1, d0, d1, aligned, lt)) ∙ sym (window-read 32 (32 * (d - first)) q small z lt)))))))
+      ∙ (get_or_default small (32 * (d - first) + q) 0 z (omega (arith, long, t.1, d0, d1, aligned, lt))
+      ∙ sym (window-read 32 (32 * (d - first)) q small z lt)))))))
 
   -- the different lists of 32 offsets are no more than the different blocks of 512 from the fast limit on
-  pub few_offsets : count_different (block 32 small) 0 (length small / 32) ≤ count_different (block_of 512 f) (fast_limit trie_type / 512) (2176 - fast_limit trie_type / 512)
+  pub few_offsets : count_different (block 32 small) 0 (length small / 32) ≤ count_different (block_of 512 f) (fast_limit trie_type / 512)
+      (2176 - fast_limit trie_type / 512)
   few_offsets =
       let t = parts trie_type in
       let first : ℕ = fast_limit trie_type / 512 in
       let long = p.small_len in
-      count_different-by (block 32 small) (block_of 512 f) 0 first (length small / 32) (2176 - first) (omega (arith, long, within, aligned, t.1, t.2))
+      count_different-by (block 32 small) (block_of 512 f) 0 first (length small / 32) (2176 - first)
+      (omega (arith, long, within, aligned, t.1, t.2))
       (λ i j li lj e.
       let same : SameNumbers f 512 (first + i) (first + j) = λ n l. block_read f 512 (first + i) (first + j) n l e in
-      let one = offsets_same (first + i) (first + j) (omega (arith, t.1)) (omega (arith, li, long, aligned, t.1)) (omega (arith, t.1)) (omega (arith, lj, long, aligned, t.1)) same in
+      let one = offsets_same (first + i) (first + j) (omega (arith, t.1)) (omega (arith, li, long, aligned, t.1)) (omega (arith, t.1))
+      (omega (arith, lj, long, aligned, t.1)) same in
       ap (λ n. window 32 (32 * n) small) (omega arith) ∙ (one ∙ ap (λ n. window 32 (32 * n) small) (omega arith)))
 
   -- nor than all different blocks of 512
@@ -78,7 +91,12 @@ module _ (trie_type : TrieType) (high null value : ℕ) (f : ℕ → ℕ) (fast 
   few_all =
       let t = parts trie_type in
       let first : ℕ = fast_limit trie_type / 512 in
-      omega (arith, few_offsets, count_different-within (block_of 512 f) (block_of 512 f) first (2176 - first) 0 2176 (λ j l l'. (j, omega arith, omega (arith, l', t.2), refl)))
+      omega (
+        arith,
+        few_offsets,
+        count_different-within (block_of 512 f)
+            (block_of 512 f) first (2176 - first) 0 2176 (λ j l l'. (j, omega arith, omega (arith, l', t.2), refl)),
+      )
 
   -- blocks of 16 lie within the data
   pub small_inside : (j : ℕ) → j < length small → get_or small j 0 + 16 ≤ length values
@@ -95,19 +113,23 @@ module _ (trie_type : TrieType) (high null value : ℕ) (f : ℕ → ℕ) (fast 
   pub small_low : length values ≤ 0x10000 → AllBelow 0x10000 small
   small_low le = λ j l. omega (arith, small_inside j l, le)
 
-module _ (h : CodePointTrieHeader) (f : ℕ → ℕ) (fast small index values : List ℕ) (aligned : h.high_start % 512 ≡ 0) (within : h.high_start ≤ 1114112)
-    (x : IsIndex h.trie_type h.high_start fast small index) (p : IsData h.trie_type h.high_start h.data_null_offset h.null_value f fast small values) where
+module _ (h : CodePointTrieHeader) (f : ℕ → ℕ) (fast small index values : List ℕ) (aligned : h.high_start % 512 ≡ 0)
+    (within : h.high_start ≤ 1114112)
+    (x : IsIndex h.trie_type h.high_start fast small index)
+    (p : IsData h.trie_type h.high_start h.data_null_offset h.null_value f fast small values) where
   pub answers : (c : ℕ) → c < 1114112 → answer h index values c ≡ Some (f c)
   answers c lt = elim (cases_lt c (fast_limit h.trie_type)) [
     | inl below ↦ fast_answer h index values c (get_or fast (c / 64) 0) lt below (x.on_fast c below) ∙ p.on_fast c below
     | inr from ↦ elim (cases_lt c h.high_start) [
-      | inl below ↦ small_answer h index values c (get_or small (c / 16 - fast_limit h.trie_type / 16) 0) lt from below (x.gives.on_small c from below) ∙ p.on_small c from below
+      | inl below ↦ small_answer h index values c (get_or small (c / 16 - fast_limit h.trie_type / 16) 0) lt from below
+          (x.gives.on_small c from below) ∙ p.on_small c from below
       | inr above ↦ high_answer h index values c lt from above ∙ p.on_high c above lt
     ]
   ]
 
   numbers_same : (k b d : ℕ) → b * k + k ≤ 1114112 → d * k + k ≤ 1114112 → SameAnswers h index values k b d → SameNumbers f k b d
-  numbers_same k b d b1 d1 same i l = some-injective (f (b * k + i)) (f (d * k + i)) (sym (answers (b * k + i) (omega (arith, l, b1))) ∙ (same i l ∙ answers (d * k + i) (omega (arith, l, d1))))
+  numbers_same k b d b1 d1 same i l = some-injective (f (b * k + i)) (f (d * k + i))
+      (sym (answers (b * k + i) (omega (arith, l, b1))) ∙ (same i l ∙ answers (d * k + i) (omega (arith, l, d1))))
 
   -- blocks at the null offset hold the null value
   pub coherent : IsNullIndex h.trie_type h.high_start h.data_null_offset small index h.index3_null_offset → IsCoherent Some h index values
@@ -121,11 +143,15 @@ module _ (h : CodePointTrieHeader) (f : ℕ → ℕ) (fast small index values : 
         null_64 = λ b low below is i l.
             let at = some-injective (get_or fast (b * 64 / 64) 0) h.data_null_offset (sym (x.on_fast (b * 64) low) ∙ is) in
             let same : b * 64 / 64 ≡ b = omega arith in
-            answers (b * 64 + i) (omega (arith, low, l, t.1, t.2)) ∙ ap (λ n. Some n) (p.null_fast b i (omega (arith, low, t.1)) l (ap (λ j. get_or fast j 0) (sym same) ∙ at));
+            answers (b * 64 + i) (omega (arith, low, l, t.1, t.2))
+            ∙ ap (λ n. Some n) (p.null_fast b i (omega (arith, low, t.1)) l (ap (λ j. get_or fast j 0) (sym same) ∙ at));
         null_16 = λ b from below is i l.
-            let at = some-injective (get_or small (b * 16 / 16 - fast_limit h.trie_type / 16) 0) h.data_null_offset (sym (x.gives.on_small (b * 16) from below) ∙ is) in
+            let at = some-injective (get_or small (b * 16 / 16 - fast_limit h.trie_type / 16) 0) h.data_null_offset
+            (sym (x.gives.on_small (b * 16) from below) ∙ is) in
             let same : b * 16 / 16 ≡ b = omega arith in
-            answers (b * 16 + i) (omega (arith, below, l, aligned, within)) ∙ ap (λ n. Some n) (p.null_small b i (omega (arith, from, t.1)) below l (ap (λ j. get_or small (j - fast_limit h.trie_type / 16) 0) (sym same) ∙ at));
+            answers (b * 16 + i) (omega (arith, below, l, aligned, within))
+            ∙ ap (λ n. Some n) (p.null_small b i (omega (arith, from, t.1)) below l
+            (ap (λ j. get_or small (j - fast_limit h.trie_type / 16) 0) (sym same) ∙ at));
         null_512 = λ b from below is i l.
             let c : ℕ = 32 * b + i / 16 in
             let at : get_or small (c - fast_limit h.trie_type / 16) 0 ≡ h.data_null_offset =
@@ -143,7 +169,14 @@ module _ (h : CodePointTrieHeader) (f : ℕ → ℕ) (fast small index values : 
         inl (w.0, w.1, w.2, x.on_fast (w.0 * 64) w.1 ∙ ap (λ n. Some n) (ap (λ j. get_or fast j 0) same ∙ w.3))
     | inr w ↦
         let same : w.0 * 16 / 16 ≡ w.0 = omega arith in
-        inr (w.0, w.1, w.2, w.3, x.gives.on_small (w.0 * 16) w.1 w.2 ∙ ap (λ n. Some n) (ap (λ j. get_or small (j - fast_limit h.trie_type / 16) 0) same ∙ w.4))
+        inr (
+          w.0,
+          w.1,
+          w.2,
+          w.3,
+          x.gives.on_small (w.0 * 16) w.1 w.2
+              ∙ ap (λ n. Some n) (ap (λ j. get_or small (j - fast_limit h.trie_type / 16) 0) same ∙ w.4),
+        )
   ]
 
   -- blocks of 512 that are null throughout have one cell
@@ -154,7 +187,8 @@ module _ (h : CodePointTrieHeader) (f : ℕ → ℕ) (fast small index values : 
       cells.has b from below (λ q l.
       let u : ℕ = b * 512 + 16 * q in
       let cell = x.gives.on_small u (omega (arith, from)) (omega (arith, below, l, aligned)) in
-      ap (λ n. get_or small n 0) (omega (arith, from, t.1)) ∙ some-injective (get_or small (u / 16 - fast_limit h.trie_type / 16) 0) h.data_null_offset (sym cell ∙ all q l))
+      ap (λ n. get_or small n 0) (omega (arith, from, t.1))
+      ∙ some-injective (get_or small (u / 16 - fast_limit h.trie_type / 16) 0) h.data_null_offset (sym cell ∙ all q l))
 
   pub shared : IsShared h index values
   shared = record {
@@ -162,12 +196,15 @@ module _ (h : CodePointTrieHeader) (f : ℕ → ℕ) (fast small index values : 
         let t = parts h.trie_type in
         let one = p.shared_fast b d (omega (arith, sb.0)) (omega (arith, sd.0)) (omega (arith, sb.1, t.1)) (omega (arith, sd.1, t.1))
         (numbers_same 64 b d (omega (arith, sb.1, t.2)) (omega (arith, sd.1, t.2)) same) in
-        x.on_fast (b * 64) sb.1 ∙ (ap (λ n. Some (get_or fast n 0)) (omega arith) ∙ (ap (λ n. Some n) one ∙ (ap (λ n. Some (get_or fast n 0)) (omega arith) ∙ sym (x.on_fast (d * 64) sd.1))));
+        x.on_fast (b * 64) sb.1 ∙ (ap (λ n. Some (get_or fast n 0)) (omega arith)
+        ∙ (ap (λ n. Some n) one ∙ (ap (λ n. Some (get_or fast n 0)) (omega arith) ∙ sym (x.on_fast (d * 64) sd.1))));
     small = λ b d sb sd same.
         let one = p.shared_small b d (omega (arith, sb.0)) (omega (arith, sd.0)) sb.2 sd.2
         (numbers_same 16 b d (omega (arith, sb.2, aligned, within)) (omega (arith, sd.2, aligned, within)) same) in
-        x.gives.on_small (b * 16) sb.0 sb.2 ∙ (ap (λ n. Some (get_or small n 0)) (omega arith) ∙ (ap (λ n. Some n) one ∙ (ap (λ n. Some (get_or small n 0)) (omega arith) ∙ sym (x.gives.on_small (d * 16) sd.0 sd.2))));
-    index2 = λ b d sb sd same. x.gives.on_cells b d sb.0 sb.2 sd.0 sd.2 (offsets_same h.trie_type h.high_start h.data_null_offset h.null_value f fast small values aligned within p b d sb.0 sb.2 sd.0 sd.2
+        x.gives.on_small (b * 16) sb.0 sb.2 ∙ (ap (λ n. Some (get_or small n 0)) (omega arith)
+        ∙ (ap (λ n. Some n) one ∙ (ap (λ n. Some (get_or small n 0)) (omega arith) ∙ sym (x.gives.on_small (d * 16) sd.0 sd.2))));
+    index2 = λ b d sb sd same. x.gives.on_cells b d sb.0 sb.2 sd.0 sd.2
+        (offsets_same h.trie_type h.high_start h.data_null_offset h.null_value f fast small values aligned within p b d sb.0 sb.2 sd.0 sd.2
         (numbers_same 512 b d (omega (arith, sb.2, aligned, within)) (omega (arith, sd.2, aligned, within)) same));
   }
 
@@ -182,7 +219,10 @@ module _ (h : CodePointTrieHeader) (f : ℕ → ℕ) (fast small index values : 
       let there : k < length index = omega (arith, l, length-take n index) in
       let at : 64 * k / 64 ≡ k = omega arith in
       let cell = x.on_fast (64 * k) (omega (arith, lt, limit, t.1)) in
-      let same : get_or index k 0 ≡ get_or fast k 0 = some-injective (get_or index k 0) (get_or fast k 0) (sym (slice_get-get_or index k 0 there) ∙ (ap (λ i. slice_get index i) (sym at) ∙ (cell ∙ ap (λ i. Some (get_or fast i 0)) at))) in
+      let same : get_or index k 0 ≡ get_or fast k 0 =
+      some-injective (get_or index k 0) (get_or fast k 0)
+      (sym (slice_get-get_or index k 0 there)
+      ∙ (ap (λ i. slice_get index i) (sym at) ∙ (cell ∙ ap (λ i. Some (get_or fast i 0)) at))) in
       let read : get_or (take n index) k d ≡ get_or fast k 0 = get_or-take n index k d lt ∙ (get_or_default index k d 0 there ∙ same) in
       let inside = p.fast_inside k (omega (arith, lt, limit, p.fast_len)) in
       le-ltb (length values) (get_or (take n index) k d + 64) (omega (arith, read, inside)))

@@ -12,20 +12,25 @@ module _ {T : Type 0} (V : T → Type 0) (number : T → ℕ) (of_number : ℕ �
   pub number-of_value : (k : ℕ) → k < 0x110000 → slice_index numbers k ≡ number (number_value of_number default numbers k)
   number-of_value k l =
       let lt : k < length numbers = omega (arith, l, sound.whole) in
-      sym (ap number (number_value-at of_number default numbers k lt) ∙ number-back of_number default V number back (slice_index numbers k) (sound.all_numbers k 0 lt))
+      sym (ap number (number_value-at of_number default numbers k lt)
+      ∙ number-back of_number default V number back (slice_index numbers k) (sound.all_numbers k 0 lt))
 
   -- the number of a code point's value gives it back
-  pub gives_back : (k : ℕ) → k < 0x110000 → of_number (number (number_value of_number default numbers k)) ≡ Some (number_value of_number default numbers k)
+  pub gives_back : (k : ℕ) → k < 0x110000 → of_number (number (number_value of_number default numbers k))
+      ≡ Some (number_value of_number default numbers k)
   gives_back k l =
       let lt : k < length numbers = omega (arith, l, sound.whole) in
-      back (number_value of_number default numbers k) (rw (number_value-at of_number default numbers k lt) (value-back of_number default V number back (slice_index numbers k) (sound.all_numbers k 0 lt)))
+      back (number_value of_number default numbers k)
+      (rw (number_value-at of_number default numbers k lt)
+      (value-back of_number default V number back (slice_index numbers k) (sound.all_numbers k 0 lt)))
 
   -- each number is a value's
   pub all_numbers : AllPass (λ n. is_some (of_number n)) numbers
   all_numbers = λ k d l. let w = sound.all_numbers k d l in rw (← w.2, back w.0 w.1) refl
 
 -- three facts of what a call answered, together
-pub IfOk-three : {X Y : Type 0} (r : Result X Y) (A B C Q : X → Type 0) → ((x : X) → A x → B x → C x → Q x) → IfOk r A → IfOk r B → IfOk r C → IfOk r Q
+pub IfOk-three : {X Y : Type 0} (r : Result X Y) (A B C Q : X → Type 0) → ((x : X) → A x → B x → C x → Q x) → IfOk r A → IfOk r B → IfOk r C
+    → IfOk r Q
 IfOk-three (Ok x) A B C Q h a b c = h x a b c
 IfOk-three (Err e) A B C Q h a b c = tt
 

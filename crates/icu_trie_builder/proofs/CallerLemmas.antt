@@ -37,7 +37,8 @@ map_answer-after default error ws blank written values e after u = by (nat_le u 
     by false h = after.error ∙ e
 
 -- The ranges that a trie of a map gives are the map's maximal runs
-pub ranges-of-map : {T : Type 0} (f : ℕ → T) (t : Parts T) → HasRangesOf f t → (xs : List (CodePointMapRange T)) → AreMaximalRuns (answers t) (map run_of xs) → AreMaximalRuns f (map value_run xs)
+pub ranges-of-map : {T : Type 0} (f : ℕ → T) (t : Parts T) → HasRangesOf f t → (xs : List (CodePointMapRange T))
+    → AreMaximalRuns (answers t) (map run_of xs) → AreMaximalRuns f (map value_run xs)
 ranges-of-map f t of xs runs = (of.runs (map value_run xs)).0 (rw (value_runs-some xs) at runs)
 
 module _ {T : Type 0} (f : ℕ → T) (error : T) (t : Parts T) where

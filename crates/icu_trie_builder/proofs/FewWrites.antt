@@ -42,7 +42,9 @@ find-between : (low high : ℕ) (bs : List ℕ) → ((p : ℕ) × Has bs p × (l
 find-between low high [] = inr (λ p h. absurd h)
 find-between low high (b ∷ bs) = by (cases_lt low b) (cases_lt b high) (find-between low high bs)
   where
-    by : ((low < b) ⊎ (b ≤ low)) → ((b < high) ⊎ (high ≤ b)) → (((p : ℕ) × Has bs p × (low < p) × (p < high)) ⊎ ((p : ℕ) → Has bs p → low < p → p < high → ⊥)) → ((p : ℕ) × Has (b ∷ bs) p × (low < p) × (p < high)) ⊎ ((p : ℕ) → Has (b ∷ bs) p → low < p → p < high → ⊥)
+    by : ((low < b) ⊎ (b ≤ low)) → ((b < high) ⊎ (high ≤ b))
+        → (((p : ℕ) × Has bs p × (low < p) × (p < high)) ⊎ ((p : ℕ) → Has bs p → low < p → p < high → ⊥))
+        → ((p : ℕ) × Has (b ∷ bs) p × (low < p) × (p < high)) ⊎ ((p : ℕ) → Has (b ∷ bs) p → low < p → p < high → ⊥)
     by (inl m) (inl n) r = inl (b, inl refl, m, n)
     by m n (inl w) = inl (w.0, inr w.1, w.2, w.3)
     by (inr m) n (inr none) = inr (λ p h l l'. elim h [ inl e ↦ omega (arith, e, m, l) | inr t ↦ none p t l l' ])
@@ -65,9 +67,11 @@ module _ {T : Type 0} (number : T → ℕ) (d : T) where
   length-borders : (ws : List (Write T)) → length (borders ws) ≡ 2 * count_by (is_accepted) ws
   unfolding borders
   length-borders [] = refl
-  length-borders (w ∷ ws) = by (is_accepted w) (length-borders ws) ∙ ap (λ n. 2 * n) (sym (sum_by-cons (λ x. cond (is_accepted x) 1 0) w ws))
+  length-borders (w ∷ ws) = by (is_accepted w) (length-borders ws)
+      ∙ ap (λ n. 2 * n) (sym (sum_by-cons (λ x. cond (is_accepted x) 1 0) w ws))
     where
-      by : (b : Bool) → length (borders ws) ≡ 2 * count_by (is_accepted) ws → length (cond b (first_of w ∷ (last_of w + 1) ∷ borders ws) (borders ws)) ≡ 2 * (cond b 1 0 + count_by (is_accepted) ws)
+      by : (b : Bool) → length (borders ws) ≡ 2 * count_by (is_accepted) ws
+          → length (cond b (first_of w ∷ (last_of w + 1) ∷ borders ws) (borders ws)) ≡ 2 * (cond b 1 0 + count_by (is_accepted) ws)
       by true h = omega (arith, h)
       by false h = omega (arith, h)
 
@@ -76,7 +80,8 @@ module _ {T : Type 0} (number : T → ℕ) (d : T) where
   length-written [] = refl
   length-written (w ∷ ws) = by (is_accepted w) (length-written ws) ∙ sym (sum_by-cons (λ x. cond (is_accepted x) 1 0) w ws)
     where
-      by : (b : Bool) → length (written ws) ≡ count_by (is_accepted) ws → length (cond b (value_of w ∷ written ws) (written ws)) ≡ (cond b 1 0 + count_by (is_accepted) ws)
+      by : (b : Bool) → length (written ws) ≡ count_by (is_accepted) ws
+          → length (cond b (value_of w ∷ written ws) (written ws)) ≡ (cond b 1 0 + count_by (is_accepted) ws)
       by true h = omega (arith, h)
       by false h = omega (arith, h)
 
@@ -86,14 +91,19 @@ module _ {T : Type 0} (number : T → ℕ) (d : T) where
   steady [] c h = refl
   steady (w ∷ ws) c h = by (is_accepted w) refl h (steady ws c)
     where
-      by : (b : Bool) → is_accepted w ≡ b → (Has (cond b (first_of w ∷ (last_of w + 1) ∷ borders ws) (borders ws)) (c + 1) → ⊥) → ((Has (borders ws) (c + 1) → ⊥) → last_written ws (c + 1) ≡ last_written ws c)
+      by : (b : Bool) → is_accepted w ≡ b → (Has (cond b (first_of w ∷ (last_of w + 1) ∷ borders ws) (borders ws)) (c + 1) → ⊥)
+          → ((Has (borders ws) (c + 1) → ⊥) → last_written ws (c + 1) ≡ last_written ws c)
           → last_written (w ∷ ws) (c + 1) ≡ last_written (w ∷ ws) c
       by true a h r =
-          let e : covers w (c + 1) ≡ covers w c = ap (λ x. is_accepted w && x) (covers-same (first_of w) (last_of w) c (λ e. h (inl e)) (λ e. h (inr (inl e)))) in
-          ap (λ o. option_or o (cond (covers w (c + 1)) (Some (value_of w)) None)) (r (λ t. h (inr (inr t)))) ∙ ap (λ x. option_or (last_written ws c) (cond x (Some (value_of w)) None)) e
+          let e : covers w (c + 1) ≡ covers w c =
+          ap (λ x. is_accepted w && x) (covers-same (first_of w) (last_of w) c (λ e. h (inl e)) (λ e. h (inr (inl e)))) in
+          ap (λ o. option_or o (cond (covers w (c + 1)) (Some (value_of w)) None)) (r (λ t. h (inr (inr t))))
+          ∙ ap (λ x. option_or (last_written ws c) (cond x (Some (value_of w)) None)) e
       by false a h r =
-          let e : covers w (c + 1) ≡ covers w c = ap (λ x. x && (nat_le (first_of w) (c + 1) && nat_le (c + 1) (last_of w))) a ∙ sym (ap (λ x. x && (nat_le (first_of w) c && nat_le c (last_of w))) a) in
-          ap (λ o. option_or o (cond (covers w (c + 1)) (Some (value_of w)) None)) (r h) ∙ ap (λ x. option_or (last_written ws c) (cond x (Some (value_of w)) None)) e
+          let e : covers w (c + 1) ≡ covers w c = ap (λ x. x && (nat_le (first_of w) (c + 1) && nat_le (c + 1) (last_of w))) a
+          ∙ sym (ap (λ x. x && (nat_le (first_of w) c && nat_le c (last_of w))) a) in
+          ap (λ o. option_or o (cond (covers w (c + 1)) (Some (value_of w)) None)) (r h)
+          ∙ ap (λ x. option_or (last_written ws c) (cond x (Some (value_of w)) None)) e
 
   -- each value is the old one or one that was written
   value_after-written : (ws : List (Write T)) (old : T) (c : ℕ) → Has (old ∷ written ws) (value_after ws old c)
@@ -103,10 +113,12 @@ module _ {T : Type 0} (number : T → ℕ) (d : T) where
       by (is_accepted w) (covers w c) (value_after (w ∷ ws) old c) refl refl
       (unwrap_or-option_or (last_written ws c) (cond (covers w c) (Some (value_of w)) None) old) (λ o. value_after-written ws o c)
     where
-      by : (acc cov : Bool) (x : T) → is_accepted w ≡ acc → covers w c ≡ cov → x ≡ value_after ws (unwrap_or (cond (covers w c) (Some (value_of w)) None) old) c
+      by : (acc cov : Bool) (x : T) → is_accepted w ≡ acc → covers w c ≡ cov
+          → x ≡ value_after ws (unwrap_or (cond (covers w c) (Some (value_of w)) None) old) c
           → ((o : T) → Has (o ∷ written ws) (value_after ws o c)) → Has (old ∷ cond acc (value_of w ∷ written ws) (written ws)) x
       by true true x a v e r = inr (subst (λ y. Has (value_of w ∷ written ws) y) (sym (rw v at e)) (r (value_of w)))
-      by true false x a v e r = let h = subst (λ y. Has (old ∷ written ws) y) (sym (rw v at e)) (r old) in elim h as (λ _. Has (old ∷ value_of w ∷ written ws) x) [ inl q ↦ inl q | inr t ↦ inr (inr t) ]
+      by true false x a v e r = let h = subst (λ y. Has (old ∷ written ws) y) (sym (rw v at e)) (r old) in
+          elim h as (λ _. Has (old ∷ value_of w ∷ written ws) x) [ inl q ↦ inl q | inr t ↦ inr (inr t) ]
       by false true x a v e r = absurd (true≢false (sym v ∙ ap (λ y. y && (nat_le (first_of w) c && nat_le c (last_of w))) a))
       by false false x a v e r = subst (λ y. Has (old ∷ written ws) y) (sym (rw v at e)) (r old)
 
@@ -116,7 +128,8 @@ module _ {T : Type 0} (number : T → ℕ) (d : T) where
     of c = number (value_after ws d c)
 
     -- no change within a block that has no border inside
-    steady-block : (low high : ℕ) → ((p : ℕ) → Has (borders ws) p → low < p → p < high → ⊥) → (i : ℕ) → low + i < high → of (low + i) ≡ of low
+    steady-block : (low high : ℕ) → ((p : ℕ) → Has (borders ws) p → low < p → p < high → ⊥) → (i : ℕ) → low + i < high
+        → of (low + i) ≡ of low
     unfolding of
     steady-block low high h zero l = ap (λ c. number (value_after ws d c)) (add-zero low)
     steady-block low high h (suc i) l =
@@ -137,7 +150,14 @@ module _ {T : Type 0} (number : T → ℕ) (d : T) where
 
     length-candidates : (k : ℕ) → length (candidates k) ≡ 3 * count_by (is_accepted) ws + 1
     unfolding candidates
-    length-candidates k = omega (arith, length-append (map (flat k) (d ∷ written ws)) (map (around k) (borders ws)), length-map (d ∷ written ws) (flat k), length-map (borders ws) (around k), length-borders ws, length-written ws)
+    length-candidates k = omega (
+      arith,
+      length-append (map (flat k) (d ∷ written ws)) (map (around k) (borders ws)),
+      length-map (d ∷ written ws) (flat k),
+      length-map (borders ws) (around k),
+      length-borders ws,
+      length-written ws,
+    )
 
     -- every block is among the candidates
     has-block : (k j : ℕ) → 0 < k → Contains (candidates k) (block_of k (λ c. number (value_after ws d c)) j)
@@ -150,17 +170,26 @@ module _ {T : Type 0} (number : T → ℕ) (d : T) where
           let up : p / k < j → ⊥ = λ l. omega (arith, times-below k (p / k) j l, whole, rest, w.2) in
           let down : j < p / k → ⊥ = λ l. omega (arith, times-below k j (p / k) l, whole, rest, w.3) in
           let same : p / k ≡ j = omega (arith, up, down) in
-          Contains-right (map (flat k) (d ∷ written ws)) (map (around k) (borders ws)) _ (subst (λ i. Contains (map (around k) (borders ws)) (block_of k (λ c. number (value_after ws d c)) i)) same (Contains-map-Has (around k) (borders ws) p w.1))
+          Contains-right (map (flat k) (d ∷ written ws))
+          (map (around k) (borders ws)) _ (subst
+          (λ i. Contains (map (around k) (borders ws)) (block_of k (λ c. number (value_after ws d c)) i)) same
+          (Contains-map-Has (around k) (borders ws) p w.1))
       | inr none ↦
           let f : ℕ → ℕ = λ c. number (value_after ws d c) in
-          let level : replicate k (f (k * j)) ≡ map f (range_with_len (k * j) k) = same_lists (replicate k (f (k * j))) (map f (range_with_len (k * j) k)) (length-replicate k (f (k * j)) ∙ sym (length-map-range_with_len f (k * j) k))
+          let level : replicate k (f (k * j)) ≡ map f (range_with_len (k * j) k) =
+          same_lists (replicate k (f (k * j))) (map f (range_with_len (k * j) k))
+          (length-replicate k (f (k * j)) ∙ sym (length-map-range_with_len f (k * j) k))
           (λ i e l. let lt : i < k = omega (arith, l, length-replicate k (f (k * j))) in
-          get_or-replicate k i (f (k * j)) e lt ∙ sym (steady-block (k * j) (k * j + k) none i (omega (arith, lt))) ∙ sym (get_or-map-range_with_len f (k * j) k i (k * j + i) e lt refl)) in
-          Contains-left (map (flat k) (d ∷ written ws)) (map (around k) (borders ws)) _ (subst (λ b. Contains (map (flat k) (d ∷ written ws)) b) level (Contains-map-Has (flat k) (d ∷ written ws) (value_after ws d (k * j)) (value_after-written ws d (k * j))))
+          get_or-replicate k i (f (k * j)) e lt ∙ sym (steady-block (k * j) (k * j + k) none i (omega (arith, lt)))
+          ∙ sym (get_or-map-range_with_len f (k * j) k i (k * j + i) e lt refl)) in
+          Contains-left (map (flat k) (d ∷ written ws))
+          (map (around k) (borders ws)) _ (subst (λ b. Contains (map (flat k) (d ∷ written ws)) b) level
+          (Contains-map-Has (flat k) (d ∷ written ws) (value_after ws d (k * j)) (value_after-written ws d (k * j))))
     ]
 
     -- n accepted writes leave at most 3 n + 1 different blocks of any one length
-    pub count_different-few : (k first count : ℕ) → 0 < k → count_different (block_of k (λ c. number (value_after ws d c))) first count ≤ 3 * count_by (is_accepted) ws + 1
+    pub count_different-few : (k first count : ℕ) → 0 < k
+        → count_different (block_of k (λ c. number (value_after ws d c))) first count ≤ 3 * count_by (is_accepted) ws + 1
     unfolding count_different
     count_different-few k first count pos =
         let b : ℕ → List ℕ = block_of k (λ c. number (value_after ws d c)) in
@@ -168,7 +197,8 @@ module _ {T : Type 0} (number : T → ℕ) (d : T) where
           arith,
           distinct_count-mono list_laws list_decides (map b (range_with_len first count)) (candidates k)
               (λ q w. let lt : w.0 < count = omega (arith, w.1, length-map-range_with_len b first count) in
-              subst (λ x. Contains (candidates k) x) (sym (get_or-map-range_with_len b first count w.0 (first + w.0) q lt refl) ∙ w.2) (has-block k (first + w.0) pos)),
+              subst (λ x. Contains (candidates k) x) (sym (get_or-map-range_with_len b first count w.0 (first + w.0) q lt refl) ∙ w.2)
+              (has-block k (first + w.0) pos)),
           distinct_count-le (pointwise nat_eq) (candidates k),
           length-candidates k,
         )

@@ -33,7 +33,8 @@ module _ {T : Type 0} (f : ℕ → T) (error : T) (t : Parts T) (of : AnswersMap
   no_answer-of-map u l = grind (arith, nat_tests, of.look_up u)
 
   -- the longest run of the answers, which a walk gives, is the map's
-  pub longest_of_map : (first last : ℕ) (v : T) → LongestRun (answer t.header t.index t.values) first last (Some v) → LongestRun f first last v
+  pub longest_of_map : (first last : ℕ) (v : T) → LongestRun (answer t.header t.index t.values) first last (Some v)
+      → LongestRun f first last v
   longest_of_map first last v run = record {
     ordered = run.ordered;
     within = run.within;
@@ -45,7 +46,8 @@ module _ {T : Type 0} (f : ℕ → T) (error : T) (t : Parts T) (of : AnswersMap
       some_same e = cc
 
 -- maps that are equal on the code points have the same ranges and value sets
-pub HasRangesOf-alike : {T : Type 0} (f g : ℕ → T) → ((k : ℕ) → k < 0x110000 → f k ≡ g k) → (t : Parts T) → HasRangesOf f t → HasRangesOf g t
+pub HasRangesOf-alike : {T : Type 0} (f g : ℕ → T) → ((k : ℕ) → k < 0x110000 → f k ≡ g k) → (t : Parts T) → HasRangesOf f t
+    → HasRangesOf g t
 HasRangesOf-alike f g same t h = record {
   runs = λ rs.
       let one = h.runs rs in

@@ -20,12 +20,14 @@ shared-same cells places at x y (inr (e, none)) (inl (f, (k, lk, pk, vk, nk))) =
 shared-same cells places at x y (inr (e, none)) (inr (d, other)) = e ∙ sym d
 
 -- and the cells stand there too
-pub shared-window : (cells places : List ℕ) (at x : ℕ) → AreFilledPlaces cells places → at + 16 ≤ length cells → IsSharedPlace cells places at x
+pub shared-window : (cells places : List ℕ) (at x : ℕ) → AreFilledPlaces cells places → at + 16 ≤ length cells
+    → IsSharedPlace cells places at x
     → (x + 16 ≤ length cells) × (window 16 x cells ≡ window 16 at cells)
 unfolding IsSharedPlace
 shared-window cells places at x all inside (inl (f, (k, lk, pk, vk, nk))) =
     let room : x + 16 ≤ length cells = omega (arith, all.inside k lk, pk) in
-    let g : IsFilled (get_or cells at 0) 16 x cells = λ i l. ap (λ n. get_or cells (n + i) 0) (sym pk) ∙ all.filled k lk i (omega (arith, l)) ∙ ap (λ n. get_or cells n 0) pk ∙ vk in
+    let g : IsFilled (get_or cells at 0) 16 x cells = λ i l. ap (λ n. get_or cells (n + i) 0) (sym pk)
+    ∙ all.filled k lk i (omega (arith, l)) ∙ ap (λ n. get_or cells n 0) pk ∙ vk in
     (room, filled-windows 16 x at (get_or cells at 0) cells cells g f room inside)
 shared-window cells places at x all inside (inr (e, none)) = (omega (arith, inside, e), ap (λ n. window 16 n cells) e)
 
@@ -35,7 +37,9 @@ pub moved-shared : (cells places old new : List ℕ) → AreFilledPlaces cells p
     → ((j : ℕ) → j < length old → IsSharedPlace cells places (get_or old j 0) (get_or new j 0)) → IsMoved cells cells old new
 moved-shared cells places old new all count inside shared = record {
   count = count;
-  inside = λ j l. let lt : j < length old = omega (arith, l, count) in (shared-window cells places (get_or old j 0) (get_or new j 0) all (inside j lt) (shared j lt)).0;
-  copies = λ j l. let lt : j < length old = omega (arith, l, count) in (shared-window cells places (get_or old j 0) (get_or new j 0) all (inside j lt) (shared j lt)).1;
+  inside = λ j l. let lt : j < length old = omega (arith, l, count) in
+      (shared-window cells places (get_or old j 0) (get_or new j 0) all (inside j lt) (shared j lt)).0;
+  copies = λ j l. let lt : j < length old = omega (arith, l, count) in
+      (shared-window cells places (get_or old j 0) (get_or new j 0) all (inside j lt) (shared j lt)).1;
   same = λ i j li lj e. shared-same cells places (get_or old j 0) (get_or new i 0) (get_or new j 0) (rw (← e) (shared i li)) (shared j lj);
 }

@@ -17,21 +17,25 @@ use Rattle.icu_trie_compaction.proofs.CallerLemmas.{count_different_but-within, 
 
 -- the lone small blocks are no more than all small ones
 pub lone_blocks-le : (trie_type : TrieType) (f : ℕ → ℕ) → lone_small_blocks trie_type f ≤ small_blocks trie_type f
-lone_blocks-le trie_type f = count_different_but-le (stands_below (block_of 64 f) (fast_limit trie_type / 64)) (block_of 16 f) (fast_limit trie_type / 16) (69632 - fast_limit trie_type / 16)
+lone_blocks-le trie_type f = count_different_but-le (stands_below (block_of 64 f) (fast_limit trie_type / 64)) (block_of 16 f)
+    (fast_limit trie_type / 16) (69632 - fast_limit trie_type / 16)
 
 module _ (trie_type : TrieType) (numbers : List ℕ) (all : length numbers ≡ 0x110000) where
   same : (k j : ℕ) → k * j + k ≤ 0x110000 → block k numbers j ≡ block_of k (λ c. get_or numbers c 0) j
   same k j h = block-block_of (λ c. get_or numbers c 0) k j numbers (omega (arith, all, h)) (λ c d l. get_or_default numbers c d 0 l)
 
   -- the different blocks of 64 below the fast limit, those of the first 128 code points left out
-  pub fast_blocks-list : count_different (block 64 numbers) 2 (fast_limit trie_type / 64 - 2) ≤ fast_blocks trie_type (λ c. get_or numbers c 0)
+  pub fast_blocks-list : count_different (block 64 numbers) 2 (fast_limit trie_type / 64 - 2)
+      ≤ fast_blocks trie_type (λ c. get_or numbers c 0)
   fast_blocks-list =
       let t = parts trie_type in
-      count_different-within (block 64 numbers) (block_of 64 (λ c. get_or numbers c 0)) 2 (fast_limit trie_type / 64 - 2) 0 (fast_limit trie_type / 64)
+      count_different-within (block 64 numbers)
+      (block_of 64 (λ c. get_or numbers c 0)) 2 (fast_limit trie_type / 64 - 2) 0 (fast_limit trie_type / 64)
       (λ j l l'. (j, omega arith, omega (arith, l', l), same 64 j (omega (arith, l, l', t.2))))
 
   -- 16 numbers that stand in a block of 64 that is copied stand where it is copied to
-  in-block : (stored fast : List ℕ) (j : ℕ) (x : List ℕ) → IsCopied 64 0 (block 64 numbers) stored fast → j < length fast → 64 * j + 64 ≤ 0x110000
+  in-block : (stored fast : List ℕ) (j : ℕ) (x : List ℕ) → IsCopied 64 0 (block 64 numbers) stored fast → j < length fast
+      → 64 * j + 64 ≤ 0x110000
       → stands_in x (block 64 numbers j) ≡ true → (q : ℕ) × (window 16 q stored ≡ x)
   in-block stored fast j x p l fits t =
       let ys : List ℕ = block 64 numbers j in
@@ -62,19 +66,23 @@ module _ (trie_type : TrieType) (numbers : List ℕ) (all : length numbers ≡ 0
 
   module _ (high : ℕ) (within : high ≤ 0x110000) where
     -- the lone blocks of 16 from the fast limit on to before the high start
-    pub lone_blocks-list : count_different_but (stands_below (block_of 64 (λ c. get_or numbers c 0)) (fast_limit trie_type / 64)) (block 16 numbers) (fast_limit trie_type / 16) ((high - fast_limit trie_type) / 16)
+    pub lone_blocks-list : count_different_but (stands_below (block_of 64 (λ c. get_or numbers c 0)) (fast_limit trie_type / 64))
+        (block 16 numbers) (fast_limit trie_type / 16) ((high - fast_limit trie_type) / 16)
         ≤ lone_small_blocks trie_type (λ c. get_or numbers c 0)
     lone_blocks-list =
         let t = parts trie_type in
         let test : List ℕ → Bool = stands_below (block_of 64 (λ c. get_or numbers c 0)) (fast_limit trie_type / 64) in
-        count_different_but-within test test (block 16 numbers) (block_of 16 (λ c. get_or numbers c 0)) (fast_limit trie_type / 16) ((high - fast_limit trie_type) / 16) (fast_limit trie_type / 16) (69632 - fast_limit trie_type / 16)
+        count_different_but-within test test (block 16 numbers) (block_of 16 (λ c. get_or numbers c 0)) (fast_limit trie_type / 16)
+        ((high - fast_limit trie_type) / 16) (fast_limit trie_type / 16) (69632 - fast_limit trie_type / 16)
         (λ j l l' out.
         let e = same 16 j (omega (arith, l, l', within, t.1, t.2)) in
         (j, l, omega (arith, l', within, t.1, t.2), e, ap test (sym e) ∙ out))
 
     -- all of them are no more than all different blocks of 16
-    pub small_blocks-all : count_different (block 16 numbers) (fast_limit trie_type / 16) ((high - fast_limit trie_type) / 16) ≤ count_different (block_of 16 (λ c. get_or numbers c 0)) 0 69632
+    pub small_blocks-all : count_different (block 16 numbers) (fast_limit trie_type / 16)
+        ((high - fast_limit trie_type) / 16) ≤ count_different (block_of 16 (λ c. get_or numbers c 0)) 0 69632
     small_blocks-all =
         let t = parts trie_type in
-        count_different-within (block 16 numbers) (block_of 16 (λ c. get_or numbers c 0)) (fast_limit trie_type / 16) ((high - fast_limit trie_type) / 16) 0 69632
+        count_different-within (block 16 numbers) (block_of 16 (λ c. get_or numbers c 0)) (fast_limit trie_type / 16)
+        ((high - fast_limit trie_type) / 16) 0 69632
         (λ j l l'. (j, omega arith, omega (arith, l, l', within, t.1, t.2), same 16 j (omega (arith, l, l', within, t.1, t.2))))

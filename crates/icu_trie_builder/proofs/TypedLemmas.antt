@@ -19,7 +19,8 @@ use Rattle.icu_trie_builder.specs.Bounds.{data_bound, compact_data_bound}
 use Rattle.icu_trie_builder.proofs.AboveLemmas.{above}
 use Rattle.icu_trie_builder.proofs.SameMapLemmas.{data_bound-alike, compact_data_bound-alike, index_bound-alike, tight-alike, NamesNull-alike}
 
-option_map-Some : {A B : Type 0} (f : A → Option B) (v : Option B) (n : Option A) → option_map Some v ≡ option_map f n → v ≡ option_and_then f n
+option_map-Some : {A B : Type 0} (f : A → Option B) (v : Option B) (n : Option A) → option_map Some v ≡ option_map f n
+    → v ≡ option_and_then f n
 option_map-Some f None None e = refl
 option_map-Some f None (Some n) e = absurd (cc e)
 option_map-Some f (Some v) None e = absurd (cc e)
@@ -32,16 +33,19 @@ module _ {T : Type 0} (of_number : ℕ → Option T) (numbers : List ℕ) (value
 
   -- a value is that of the number at its place
   pub get-values : (i : ℕ) → slice_get values i ≡ option_and_then of_number (slice_get numbers i)
-  get-values i = option_map-Some of_number (slice_get values i) (slice_get numbers i) (sym (slice_get-map Some values i) ∙ ap (λ xs. slice_get xs i) same ∙ slice_get-map of_number numbers i)
+  get-values i = option_map-Some of_number (slice_get values i) (slice_get numbers i)
+      (sym (slice_get-map Some values i) ∙ ap (λ xs. slice_get xs i) same ∙ slice_get-map of_number numbers i)
 
   at_place : (p : Option ℕ) → option_and_then (slice_get values) p ≡ option_and_then of_number (option_and_then (slice_get numbers) p)
   at_place None = refl
   at_place (Some i) = get-values i
 
   -- the trie of values answers the value of what the trie of numbers answers
-  pub answer-values : (h : CodePointTrieHeader) (index : List ℕ) (u : ℕ) → answer h index values u ≡ option_and_then of_number (answer h index numbers u)
+  pub answer-values : (h : CodePointTrieHeader) (index : List ℕ) (u : ℕ)
+      → answer h index values u ≡ option_and_then of_number (answer h index numbers u)
   unfolding answer
-  answer-values h index u = ap (λ n. option_and_then (slice_get values) (place h index n u)) length-values ∙ at_place (place h index (length numbers) u)
+  answer-values h index u = ap (λ n. option_and_then (slice_get values) (place h index n u)) length-values
+      ∙ at_place (place h index (length numbers) u)
 
   high_value-values : high_value values ≡ option_and_then of_number (high_value numbers)
   high_value-values = ap (λ n. option_and_then (slice_get values) (high_cell n)) length-values ∙ at_place (high_cell (length numbers))
@@ -64,7 +68,8 @@ not-none (Some x) e = refl
 module _ {T : Type 0} (of_number : ℕ → Option T) (number : T → ℕ) (g : ℕ → T) (error : T) (f : ℕ → ℕ)
     (h : CodePointTrieHeader) (index numbers : List ℕ) (values : List T) (same : AreValuesOf of_number numbers values)
     (back : (c : ℕ) → c < 0x110000 → of_number (number (g c)) ≡ Some (g c)) (error_back : of_number (number error) ≡ Some error)
-    (is : (c : ℕ) → c < 0x110000 → f c ≡ number (g c)) (built : IsNumberTrie f (number error) h index numbers) (null_is : is_some (of_number h.null_value) ≡ true) where
+    (is : (c : ℕ) → c < 0x110000 → f c ≡ number (g c)) (built : IsNumberTrie f (number error) h index numbers)
+    (null_is : is_some (of_number h.null_value) ≡ true) where
   -- the number of a code point's value is what the trie of the numbers answers
   number_answer : (c : ℕ) → c < 0x110000 → answer h index numbers c ≡ Some (number (g c))
   number_answer c l = built.answers c l ∙ ap (λ n. Some n) (is c l)
@@ -96,8 +101,10 @@ module _ {T : Type 0} (of_number : ℕ → Option T) (number : T → ℕ) (g : �
   no_fault =
       let len : nat_lt (length values) 1 ≡ false = le-ltb (length values) 1 (omega (arith, some_length values error error_cell)) in
       let null : is_none (of_number h.null_value) ≡ false = not-none (of_number h.null_value) null_is in
-      let fast : nat_lt (length index) (fast_index_len h.trie_type) ≡ false = le-ltb (length index) (fast_index_len h.trie_type) built.fast_index in
-      let inside : passes_data h.trie_type index (length values) ≡ false = ap (passes_data h.trie_type index) (length-values of_number numbers values same) ∙ built.fast_data in
+      let fast : nat_lt (length index) (fast_index_len h.trie_type) ≡ false =
+      le-ltb (length index) (fast_index_len h.trie_type) built.fast_index in
+      let inside : passes_data h.trie_type index (length values) ≡ false =
+      ap (passes_data h.trie_type index) (length-values of_number numbers values same) ∙ built.fast_data in
       rw (len, null, fast, inside) refl
 
   -- null blocks and the high value are as with the numbers
@@ -109,7 +116,8 @@ module _ {T : Type 0} (of_number : ℕ → Option T) (number : T → ℕ) (g : �
         aligned = numbers_coherent.aligned;
         within = numbers_coherent.within;
         high = λ c from below.
-            let high : high_value values ≡ answer h index values c = high_value-values of_number numbers values same ∙ ap (option_and_then of_number) (sym (numbers_coherent.high c from below).0) ∙ sym (by c) in
+            let high : high_value values ≡ answer h index values c = high_value-values of_number numbers values same
+            ∙ ap (option_and_then of_number) (sym (numbers_coherent.high c from below).0) ∙ sym (by c) in
             (sym high, is_some-of (high_value values) (g c) (high ∙ value_answer c below));
         inside = λ c below. is_some-of (answer h index values c) (g c) (value_answer c (omega (arith, below, numbers_coherent.within)));
         null_64 = λ b low below at i l. by (b * 64 + i) ∙ ap (option_and_then of_number) (numbers_coherent.null_64 b low below at i l);
@@ -118,11 +126,13 @@ module _ {T : Type 0} (of_number : ℕ → Option T) (number : T → ℕ) (g : �
       }
 
   -- blocks with equal values have equal numbers
-  same_numbers : (k b d : ℕ) → b * k + k ≤ 0x110000 → d * k + k ≤ 0x110000 → SameAnswers h index values k b d → SameAnswers h index numbers k b d
+  same_numbers : (k b d : ℕ) → b * k + k ≤ 0x110000 → d * k + k ≤ 0x110000 → SameAnswers h index values k b d
+      → SameAnswers h index numbers k b d
   same_numbers k b d inside_b inside_d alike i l =
       let left : b * k + i < 0x110000 = omega (arith, l, inside_b) in
       let right : d * k + i < 0x110000 = omega (arith, l, inside_d) in
-      let one : g (b * k + i) ≡ g (d * k + i) = same_Some _ _ (sym (value_answer (b * k + i) left) ∙ alike i l ∙ value_answer (d * k + i) right) in
+      let one : g (b * k + i) ≡ g (d * k + i) =
+      same_Some _ _ (sym (value_answer (b * k + i) left) ∙ alike i l ∙ value_answer (d * k + i) right) in
       number_answer (b * k + i) left ∙ ap (λ x. Some (number x)) one ∙ sym (number_answer (d * k + i) right)
 
   pub shared_values : IsShared h index values
@@ -131,21 +141,26 @@ module _ {T : Type 0} (of_number : ℕ → Option T) (number : T → ℕ) (g : �
       let aligned = built.well_built.header.aligned in
       let within = built.well_built.header.within in
       record {
-        fast = λ b d sb sd alike. numbers_shared.fast b d sb sd (same_numbers 64 b d (omega (arith, sb.2, aligned, within)) (omega (arith, sd.2, aligned, within)) alike);
-        small = λ b d sb sd alike. numbers_shared.small b d sb sd (same_numbers 16 b d (omega (arith, sb.2, aligned, within)) (omega (arith, sd.2, aligned, within)) alike);
-        index2 = λ b d sb sd alike. numbers_shared.index2 b d sb sd (same_numbers 512 b d (omega (arith, sb.2, aligned, within)) (omega (arith, sd.2, aligned, within)) alike);
+        fast = λ b d sb sd alike. numbers_shared.fast b d sb sd
+            (same_numbers 64 b d (omega (arith, sb.2, aligned, within)) (omega (arith, sd.2, aligned, within)) alike);
+        small = λ b d sb sd alike. numbers_shared.small b d sb sd
+            (same_numbers 16 b d (omega (arith, sb.2, aligned, within)) (omega (arith, sd.2, aligned, within)) alike);
+        index2 = λ b d sb sd alike. numbers_shared.index2 b d sb sd
+            (same_numbers 512 b d (omega (arith, sb.2, aligned, within)) (omega (arith, sd.2, aligned, within)) alike);
       }
 
   pub well_built : IsWellBuilt of_number (λ c. number (g c)) (record { header = h; index = index; values = values })
   well_built =
-      let bound : length numbers ≤ data_bound h.trie_type (λ c. number (g c)) = subst (λ n. length numbers ≤ n) (data_bound-alike f (λ c. number (g c)) is h.trie_type) built.well_built.data_cells in
+      let bound : length numbers ≤ data_bound h.trie_type (λ c. number (g c)) =
+      subst (λ n. length numbers ≤ n) (data_bound-alike f (λ c. number (g c)) is h.trie_type) built.well_built.data_cells in
       record {
         header = built.well_built.header;
         coherent = coherent_values;
         shared = shared_values;
         data_cells = subst (λ n. n ≤ data_bound h.trie_type (λ c. number (g c))) (sym (length-values of_number numbers values same)) bound;
         index_cells = subst (λ n. length index ≤ n) (index_bound-alike f (λ c. number (g c)) is h.trie_type) built.well_built.index_cells;
-        compact_data = subst (λ n. n ≤ compact_data_bound h.trie_type (λ c. number (g c))) (sym (length-values of_number numbers values same))
+        compact_data = subst (λ n. n ≤ compact_data_bound h.trie_type (λ c. number (g c)))
+            (sym (length-values of_number numbers values same))
             (subst (λ n. length numbers ≤ n) (compact_data_bound-alike f (λ c. number (g c)) is h.trie_type) built.well_built.compact_data);
         null_block = NamesNull-alike f (λ c. number (g c)) is h index built.well_built.header.within built.well_built.null_block;
         null_index = built.well_built.null_index;
@@ -153,7 +168,8 @@ module _ {T : Type 0} (of_number : ℕ → Option T) (number : T → ℕ) (g : �
       }
 
 -- what is well built of one map is so of a map that agrees with it in the code space
-pub IsWellBuilt-alike : {T : Type 0} (of_number : ℕ → Option T) (f g : ℕ → ℕ) → ((c : ℕ) → c < 0x110000 → f c ≡ g c) → (t : Parts T) → IsWellBuilt of_number f t → IsWellBuilt of_number g t
+pub IsWellBuilt-alike : {T : Type 0} (of_number : ℕ → Option T) (f g : ℕ → ℕ) → ((c : ℕ) → c < 0x110000 → f c ≡ g c) → (t : Parts T)
+    → IsWellBuilt of_number f t → IsWellBuilt of_number g t
 IsWellBuilt-alike of_number f g same t w = record {
   header = w.header;
   coherent = w.coherent;

@@ -14,7 +14,8 @@ use Rattle.icu_trie_builder.proofs.TypedLemmas.{answers_map, no_fault, well_buil
 
 module _ {T : Type 0} (V : T → Type 0) (number : T → ℕ) (of_number : ℕ → Option T) (back : (x : T) → V x → of_number (number x) ≡ Some x)
     (numbers : List ℕ) (default error : T) (sound : IsBuilder V number numbers default error)
-    (h : CodePointTrieHeader) (index cells : List ℕ) (error_number default_number : ℕ) (is_error : error_number ≡ number error) (is_default : default_number ≡ number default)
+    (h : CodePointTrieHeader) (index cells : List ℕ) (error_number default_number : ℕ) (is_error : error_number ≡ number error)
+    (is_default : default_number ≡ number default)
     (built : IsNumberTrie (λ c. slice_index numbers c) error_number h index cells)
     (null : (p : ℕ → Bool) → AllPass p numbers → p default_number ≡ true → p h.null_value ≡ true) where
   abbrev f : ℕ → T
@@ -22,7 +23,8 @@ module _ {T : Type 0} (V : T → Type 0) (number : T → ℕ) (of_number : ℕ �
 
   -- the null value is a value's number
   null_is : is_some (of_number h.null_value) ≡ true
-  null_is = null (λ n. is_some (of_number n)) (all_numbers V number of_number back numbers default error sound) (rw (is_default, back default sound.default_value) refl)
+  null_is = null (λ n. is_some (of_number n)) (all_numbers V number of_number back numbers default error sound)
+      (rw (is_default, back default sound.default_value) refl)
 
   is : (c : ℕ) → c < 0x110000 → slice_index numbers c ≡ number (f c)
   is = number-of_value V number of_number back numbers default error sound
@@ -34,22 +36,28 @@ module _ {T : Type 0} (V : T → Type 0) (number : T → ℕ) (of_number : ℕ �
   back_is = gives_back V number of_number back numbers default error sound
 
   -- what holds of the parts holds of the trie that they are of
-  by_parts : (Q : Parts T → Type 0) → ((values : List T) → AreValuesOf of_number cells values → Q (record { header = h; index = index; values = values }))
+  by_parts : (Q : Parts T → Type 0) → ((values : List T) → AreValuesOf of_number cells values
+      → Q (record { header = h; index = index; values = values }))
       → (t : Parts T) → t.header ≡ h → t.index ≡ index → AreValuesOf of_number cells t.values → Q t
   by_parts Q q t e i v =
-      let whole : record { header = h; index = index; values = t.values } ≡ t = λ j. record { header = sym e j; index = sym i j; values = t.values } in
+      let whole : record { header = h; index = index; values = t.values } ≡ t =
+      λ j. record { header = sym e j; index = sym i j; values = t.values } in
       subst Q whole (q t.values v)
 
   -- it answers the map
   pub map_answers : (t : Parts T) → t.header ≡ h → t.index ≡ index → AreValuesOf of_number cells t.values → AnswersMap f error t
   map_answers = by_parts (AnswersMap f error) (λ values v.
-      answers_map of_number number f error (λ c. slice_index numbers c) h index cells values v back_is (back error sound.error_value) is built_is null_is)
+      answers_map of_number number f error (λ c. slice_index numbers c) h index cells values v back_is (back error sound.error_value) is
+      built_is null_is)
 
   -- and is well built
-  pub map_built : (t : Parts T) → t.header ≡ h → t.index ≡ index → AreValuesOf of_number cells t.values → IsWellBuilt of_number (λ c. number (f c)) t
+  pub map_built : (t : Parts T) → t.header ≡ h → t.index ≡ index → AreValuesOf of_number cells t.values
+      → IsWellBuilt of_number (λ c. number (f c)) t
   map_built = by_parts (IsWellBuilt of_number (λ c. number (f c))) (λ values v.
-      well_built of_number number f error (λ c. slice_index numbers c) h index cells values v back_is (back error sound.error_value) is built_is null_is)
+      well_built of_number number f error (λ c. slice_index numbers c) h index cells values v back_is (back error sound.error_value) is
+      built_is null_is)
 
   -- its parts have no fault
   pub map_no_fault : (values : List T) → AreValuesOf of_number cells values → fault of_number h index values ≡ None
-  map_no_fault values v = no_fault of_number number f error (λ c. slice_index numbers c) h index cells values v back_is (back error sound.error_value) is built_is null_is
+  map_no_fault values v = no_fault of_number number f error (λ c. slice_index numbers c) h index cells values v back_is
+      (back error sound.error_value) is built_is null_is

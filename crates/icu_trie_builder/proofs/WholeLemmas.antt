@@ -8,7 +8,8 @@ use Rattle.icu_trie_builder.specs.Inside.ValuesOfNumbers.{number_value}
 
 module _ {T : Type 0} (of_number : ℕ → Option T) (default : T) where
   -- the value of a code point is that of its number
-  pub number_value-at : (numbers : List ℕ) (c : ℕ) → c < length numbers → number_value of_number default numbers c ≡ value_of_number of_number default (get_or numbers c 0)
+  pub number_value-at : (numbers : List ℕ) (c : ℕ) → c < length numbers
+      → number_value of_number default numbers c ≡ value_of_number of_number default (get_or numbers c 0)
   unfolding values_of_numbers
   number_value-at numbers c l = get_or-map (value_of_number of_number default) numbers c 0 default l
 
@@ -31,10 +32,11 @@ pub All-filled : (P : ℕ → Type 0) (made filled : List ℕ) (start end n : �
     → ((k : ℕ) → k < start → get_or filled k 0 ≡ get_or made k 0)
     → ((k : ℕ) → end ≤ k → get_or filled k 0 ≡ get_or made k 0)
     → All P filled
-All-filled P made filled start end n h value len inside before after = λ k e l. subst P (get_or_default filled k 0 e l) (elim (cases_lt k start) [
-  | inl low ↦ subst P (sym (before k low)) (h k 0 (omega (arith, l, len)))
-  | inr from ↦ elim (cases_lt k end) [
-    | inl below ↦ subst P (sym (inside k from below)) value
-    | inr past ↦ subst P (sym (after k past)) (h k 0 (omega (arith, l, len)))
-  ]
-])
+All-filled P made filled start end n h value len inside before after =
+    λ k e l. subst P (get_or_default filled k 0 e l) (elim (cases_lt k start) [
+      | inl low ↦ subst P (sym (before k low)) (h k 0 (omega (arith, l, len)))
+      | inr from ↦ elim (cases_lt k end) [
+        | inl below ↦ subst P (sym (inside k from below)) value
+        | inr past ↦ subst P (sym (after k past)) (h k 0 (omega (arith, l, len)))
+      ]
+    ])

@@ -31,50 +31,68 @@ and-parts false b h = absurd (true≢false (sym h))
 abbrev left_out : (List ℕ → Bool) → (ℕ → List ℕ) → ℕ → ℕ → List (List ℕ)
 left_out p b first count = filter (λ x. not (p x)) (map b (range_with_len first count))
 
-filtered : (p : List ℕ → Bool) (xs : List (List ℕ)) (q : List ℕ) → is_member (pointwise nat_eq) (filter (λ x. not (p x)) xs) q ≡ (is_member (pointwise nat_eq) xs q && not (p q))
+filtered : (p : List ℕ → Bool) (xs : List (List ℕ)) (q : List ℕ)
+    → is_member (pointwise nat_eq) (filter (λ x. not (p x)) xs) q ≡ (is_member (pointwise nat_eq) xs q && not (p q))
 filtered p xs q = is_member-filter list_laws (λ x. not (p x)) q (λ x e. ap (λ y. not (p y)) ((list_decides q x).0 e)) xs
 
-in-left_out : (p : List ℕ → Bool) (b : ℕ → List ℕ) (first count j : ℕ) → first ≤ j → j < first + count → p (b j) ≡ false → is_member (pointwise nat_eq) (left_out p b first count) (b j) ≡ true
+in-left_out : (p : List ℕ → Bool) (b : ℕ → List ℕ) (first count j : ℕ) → first ≤ j → j < first + count → p (b j) ≡ false
+    → is_member (pointwise nat_eq) (left_out p b first count) (b j) ≡ true
 in-left_out p b first count j le lt h =
     let i : ℕ = j - first in
     let is : first + i ≡ j = omega (arith, le) in
     let l : i < count = omega (arith, le, lt) in
-    let there : Contains (map b (range_with_len first count)) (b j) = (i, omega (arith, l, length-map-range_with_len b first count), get_or-map-range_with_len b first count i j (b j) l is) in
+    let there : Contains (map b (range_with_len first count)) (b j) =
+    (i, omega (arith, l, length-map-range_with_len b first count), get_or-map-range_with_len b first count i j (b j) l is) in
     let m = (is_member-Decides list_decides (map b (range_with_len first count)) (b j)).1 there in
-    filtered p (map b (range_with_len first count)) (b j) ∙ and-both (is_member (pointwise nat_eq) (map b (range_with_len first count)) (b j)) (p (b j)) m h
+    filtered p (map b (range_with_len first count)) (b j)
+    ∙ and-both (is_member (pointwise nat_eq) (map b (range_with_len first count)) (b j)) (p (b j)) m h
 
 -- one that is in it
-of-left_out : (p : List ℕ → Bool) (b : ℕ → List ℕ) (first count : ℕ) (q : List ℕ) → is_member (pointwise nat_eq) (left_out p b first count) q ≡ true → (j : ℕ) × (first ≤ j) × (j < first + count) × (b j ≡ q) × (p q ≡ false)
+of-left_out : (p : List ℕ → Bool) (b : ℕ → List ℕ) (first count : ℕ) (q : List ℕ)
+    → is_member (pointwise nat_eq) (left_out p b first count) q ≡ true → (j : ℕ) × (first ≤ j) × (j < first + count) × (b j ≡ q)
+    × (p q ≡ false)
 of-left_out p b first count q h =
-    let both = and-parts (is_member (pointwise nat_eq) (map b (range_with_len first count)) q) (p q) (sym (filtered p (map b (range_with_len first count)) q) ∙ h) in
+    let both = and-parts (is_member (pointwise nat_eq) (map b (range_with_len first count)) q) (p q)
+    (sym (filtered p (map b (range_with_len first count)) q) ∙ h) in
     let w = (is_member-Decides list_decides (map b (range_with_len first count)) q).0 both.0 in
     let l : w.0 < count = omega (arith, w.1, length-map-range_with_len b first count) in
     (first + w.0, omega arith, omega (arith, l), sym (get_or-map-range_with_len b first count w.0 (first + w.0) q l refl) ∙ w.2, both.1)
 
 -- fewer blocks, or the same ones by another name, none of which p leaves out and p' does not
 pub count_different_but-within : (p p' : List ℕ → Bool) (b b' : ℕ → List ℕ) (first count first' count' : ℕ)
-    → ((j : ℕ) → first ≤ j → j < first + count → p (b j) ≡ false → (j' : ℕ) × (first' ≤ j') × (j' < first' + count') × (b j ≡ b' j') × (p' (b' j') ≡ false))
+    → ((j : ℕ) → first ≤ j → j < first + count → p (b j) ≡ false → (j' : ℕ) × (first' ≤ j') × (j' < first' + count') × (b j ≡ b' j')
+    × (p' (b' j') ≡ false))
     → count_different_but p b first count ≤ count_different_but p' b' first' count'
 unfolding count_different_but
-count_different_but-within p p' b b' first count first' count' h = distinct_count-mono list_laws list_decides (left_out p b first count) (left_out p' b' first' count')
+count_different_but-within p p' b b' first count first' count' h =
+    distinct_count-mono list_laws list_decides (left_out p b first count) (left_out p' b' first' count')
     (λ q m.
     let w = of-left_out p b first count q ((is_member-Decides list_decides (left_out p b first count) q).1 m) in
     let v = h w.0 w.1 w.2 (ap p w.3 ∙ w.4) in
-    (is_member-Decides list_decides (left_out p' b' first' count') q).0 (subst (λ x. is_member (pointwise nat_eq) (left_out p' b' first' count') x ≡ true) (sym v.3 ∙ w.3) (in-left_out p' b' first' count' v.0 v.1 v.2 v.4)))
+    (is_member-Decides list_decides (left_out p' b' first' count') q).0
+    (subst (λ x. is_member (pointwise nat_eq) (left_out p' b' first' count') x ≡ true) (sym v.3 ∙ w.3)
+    (in-left_out p' b' first' count' v.0 v.1 v.2 v.4)))
 
 -- those that p leaves are no more than all
-pub count_different_but-le : (p : List ℕ → Bool) (b : ℕ → List ℕ) (first count : ℕ) → count_different_but p b first count ≤ count_different b first count
+pub count_different_but-le : (p : List ℕ → Bool) (b : ℕ → List ℕ) (first count : ℕ)
+    → count_different_but p b first count ≤ count_different b first count
 unfolding count_different_but count_different
-count_different_but-le p b first count = distinct_count-mono list_laws list_decides (left_out p b first count) (map b (range_with_len first count))
+count_different_but-le p b first count = distinct_count-mono list_laws list_decides (left_out p b first count)
+    (map b (range_with_len first count))
     (λ q m.
     let t = (is_member-Decides list_decides (left_out p b first count) q).1 m in
-    (is_member-Decides list_decides (map b (range_with_len first count)) q).0 (and-parts (is_member (pointwise nat_eq) (map b (range_with_len first count)) q) (p q) (sym (filtered p (map b (range_with_len first count)) q) ∙ t)).0)
+    (is_member-Decides list_decides (map b (range_with_len first count)) q).0
+    (and-parts (is_member (pointwise nat_eq) (map b (range_with_len first count)) q) (p q)
+    (sym (filtered p (map b (range_with_len first count)) q) ∙ t)).0)
 
-pub count_different_but-mono : (p : List ℕ → Bool) (b : ℕ → List ℕ) (first count count' : ℕ) → count ≤ count' → count_different_but p b first count ≤ count_different_but p b first count'
-count_different_but-mono p b first count count' le = count_different_but-within p p b b first count first count' (λ j l l' h. (j, l, omega (arith, l', le), refl, h))
+pub count_different_but-mono : (p : List ℕ → Bool) (b : ℕ → List ℕ) (first count count' : ℕ) → count ≤ count'
+    → count_different_but p b first count ≤ count_different_but p b first count'
+count_different_but-mono p b first count count' le =
+    count_different_but-within p p b b first count first count' (λ j l l' h. (j, l, omega (arith, l', le), refl, h))
 
 -- a block that p does not leave out and that is unlike the earlier ones
-pub count_different_but-more : (p : List ℕ → Bool) (b : ℕ → List ℕ) (first j : ℕ) → p (b (first + j)) ≡ false → ((i : ℕ) → i < j → b (first + i) ≢ b (first + j)) → count_different_but p b first j < count_different_but p b first (j + 1)
+pub count_different_but-more : (p : List ℕ → Bool) (b : ℕ → List ℕ) (first j : ℕ) → p (b (first + j)) ≡ false
+    → ((i : ℕ) → i < j → b (first + i) ≢ b (first + j)) → count_different_but p b first j < count_different_but p b first (j + 1)
 unfolding count_different_but IsDistinct
 count_different_but-more p b first j h fresh =
     let x : List ℕ = b (first + j) in
@@ -85,11 +103,14 @@ count_different_but-more p b first j h fresh =
     let w = of-left_out p b first j x (unique_keys-member list_laws list_decides xs x t) in
     let is : first + (w.0 - first) ≡ w.0 = omega (arith, w.1) in
     fresh (w.0 - first) (omega (arith, w.1, w.2)) (ap b is ∙ w.3)) in
-    length-le-distinct_count list_laws list_decides (x ∷ us) ys (absent-apart list_laws list_decides x us absent, unique_keys-apart list_laws list_decides xs)
+    length-le-distinct_count list_laws list_decides (x ∷ us) ys
+    (absent-apart list_laws list_decides x us absent, unique_keys-apart list_laws list_decides xs)
     (λ q m. elim (or_cases (pointwise nat_eq q x) (is_member (pointwise nat_eq) us q) m) [
-      | inl t ↦ subst (λ y. is_member (pointwise nat_eq) ys y ≡ true) (sym ((list_decides q x).0 t)) (in-left_out p b first (j + 1) (first + j) (omega arith) (omega arith) h)
+      | inl t ↦ subst (λ y. is_member (pointwise nat_eq) ys y ≡ true) (sym ((list_decides q x).0 t))
+          (in-left_out p b first (j + 1) (first + j) (omega arith) (omega arith) h)
       | inr t ↦ let w = of-left_out p b first j q (unique_keys-member list_laws list_decides xs q t) in
-          subst (λ y. is_member (pointwise nat_eq) ys y ≡ true) w.3 (in-left_out p b first (j + 1) w.0 w.1 (omega (arith, w.2)) (ap p w.3 ∙ w.4))
+          subst (λ y. is_member (pointwise nat_eq) ys y ≡ true) w.3
+          (in-left_out p b first (j + 1) w.0 w.1 (omega (arith, w.2)) (ap p w.3 ∙ w.4))
     ])
 
 -- j blocks of k cells, which b gives to the numbers from `first` on, stand in `stored`, each at the first place
@@ -112,18 +133,21 @@ compacting-none k first b before offsets none = record {
 }
 
 -- a block that stands in the cells still stands there when they have grown
-stands-kept : (k q : ℕ) (before stored x : List ℕ) → take (length before) stored ≡ before → length x ≡ k → 0 < k → window k q before ≡ x → window k q stored ≡ x
+stands-kept : (k q : ℕ) (before stored x : List ℕ) → take (length before) stored ≡ before → length x ≡ k → 0 < k → window k q before ≡ x
+    → window k q stored ≡ x
 stands-kept k q before stored x h len pos is =
     let fits : q + k ≤ length before = omega (arith, ap length is, length-take k (drop q before), length-drop q before, len, pos) in
     sym (ap (λ ys. window k q ys) (append-kept before stored h)) ∙ window-append k q before (drop (length before) stored) fits ∙ is
 
-module _ (k first j : ℕ) (b : ℕ → List ℕ) (before stored offsets : List ℕ) (l : Compacting k first j b before stored offsets) (pos : 0 < k) (len : length (b (first + j)) ≡ k) where
+module _ (k first j : ℕ) (b : ℕ → List ℕ) (before stored offsets : List ℕ) (l : Compacting k first j b before stored offsets) (pos : 0 < k)
+    (len : length (b (first + j)) ≡ k) where
   -- a block that stands nowhere counts
   compacting-fresh : ((q : ℕ) → window k q stored ≢ b (first + j))
       → (p : List ℕ → Bool) → AllStandIn k before p → length stored + k ≤ length before + k * count_different_but p b first (j + 1)
   compacting-fresh none p st =
       let x : List ℕ = b (first + j) in
-      let out : p x ≡ false = false_from_ne_true (p x) (λ t. let w = st x t in none w.0 (stands-kept k w.0 before stored x l.kept len pos w.1)) in
+      let out : p x ≡ false = false_from_ne_true (p x)
+      (λ t. let w = st x t in none w.0 (stands-kept k w.0 before stored x l.kept len pos w.1)) in
       let more = count_different_but-more p b first j out (λ i lt e. none (get_or offsets i 0) ((l.least i lt).here ∙ e)) in
       omega (arith, l.short p st, times-below k (count_different_but p b first j) (count_different_but p b first (j + 1)) more)
 
@@ -138,7 +162,8 @@ module _ (k first j : ℕ) (b : ℕ → List ℕ) (before stored offsets : List 
         kept = sym (take-take (length before) (length stored) stored' longer) ∙ ap (λ xs. take (length before) xs) kept ∙ l.kept;
         count = omega (arith, ap length o, length-append offsets (at ∷ []), l.count);
         least = below_more (λ i. IsLeast k (get_or offsets' i 0) stored' (b (first + i))) j
-            (λ i lt. rw (ap (λ os. get_or os i 0) o, get_or_append_left offsets (at ∷ []) 0 i (omega (arith, lt, l.count))) (least-kept k (get_or offsets i 0) stored stored' (b (first + i)) kept (l.least i lt)))
+            (λ i lt. rw (ap (λ os. get_or os i 0) o, get_or_append_left offsets (at ∷ []) 0 i (omega (arith, lt, l.count)))
+            (least-kept k (get_or offsets i 0) stored stored' (b (first + i)) kept (l.least i lt)))
             (rw (ap (λ os. get_or os j 0) o, get_or_at offsets at [] 0 j l.count) here);
         short = λ p st. elim (cases_lt (length stored) (length stored')) [
           | inl lt ↦ let g = grown lt in omega (arith, g.0, compacting-fresh g.1 p st)
@@ -151,7 +176,8 @@ module _ (k first j : ℕ) (b : ℕ → List ℕ) (before stored offsets : List 
       }
 
   -- where the limit is passed
-  pub compacting-full : (m limit : ℕ) → j < m → ((q : ℕ) → window k q stored ≢ b (first + j)) → limit < length stored → limit + k < length before + k * count_different b first m
+  pub compacting-full : (m limit : ℕ) → j < m → ((q : ℕ) → window k q stored ≢ b (first + j)) → limit < length stored
+      → limit + k < length before + k * count_different b first m
   compacting-full m limit lt none over =
       let no : List ℕ → Bool = λ x. false in
       let one = compacting-fresh none no (λ x t. absurd (true≢false (sym t))) in
@@ -160,7 +186,8 @@ module _ (k first j : ℕ) (b : ℕ → List ℕ) (before stored offsets : List 
       omega (arith, one, a, c, over)
 
 -- every block of the range is placed
-pub compacting-done : (k first j : ℕ) (b : ℕ → List ℕ) (before stored offsets : List ℕ) → Compacting k first j b before stored offsets → IsPlaced k first b before stored offsets
+pub compacting-done : (k first j : ℕ) (b : ℕ → List ℕ) (before stored offsets : List ℕ) → Compacting k first j b before stored offsets
+    → IsPlaced k first b before stored offsets
 compacting-done k first j b before stored offsets l = record {
   kept = l.kept;
   copied = record {
@@ -168,12 +195,14 @@ compacting-done k first j b before stored offsets l = record {
     copies = λ i h. (l.least i (omega (arith, h, l.count))).here;
   };
   shared = λ i i' h h' e. least-same k (get_or offsets i 0) (get_or offsets i' 0) stored (b (first + i'))
-      (subst (λ x. IsLeast k (get_or offsets i 0) stored x) e (l.least i (omega (arith, h, l.count)))) (l.least i' (omega (arith, h', l.count)));
+      (subst (λ x. IsLeast k (get_or offsets i 0) stored x) e (l.least i (omega (arith, h, l.count))))
+      (l.least i' (omega (arith, h', l.count)));
   drawn = λ p all. l.drawn p (λ i lt. all i (omega (arith, lt, l.count)));
 }
 
 -- no more cells are added than different blocks have
-pub compacting-short : (k first j : ℕ) (b : ℕ → List ℕ) (before stored offsets : List ℕ) → Compacting k first j b before stored offsets → length stored ≤ length before + k * count_different b first j
+pub compacting-short : (k first j : ℕ) (b : ℕ → List ℕ) (before stored offsets : List ℕ) → Compacting k first j b before stored offsets
+    → length stored ≤ length before + k * count_different b first j
 compacting-short k first j b before stored offsets l =
     let none : List ℕ → Bool = λ x. false in
     let m = mul-le-mul_left k (count_different_but-le none b first j) in

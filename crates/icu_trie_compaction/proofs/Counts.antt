@@ -13,24 +13,28 @@ module _ {K : Type 0} {eq : K → K → Bool} (laws : IsEquivalence eq) (same : 
   is_member-unique_keys [] q h = h
   is_member-unique_keys (x ∷ xs) q h = by (is_member eq xs x) (eq q x) refl refl (is_member-unique_keys xs q) h
     where
-      by : (b c : Bool) → is_member eq xs x ≡ b → eq q x ≡ c → (is_member eq xs q ≡ true → is_member eq (unique_keys eq xs) q ≡ true) → (c || is_member eq xs q) ≡ true → is_member eq (cond b (unique_keys eq xs) (x ∷ unique_keys eq xs)) q ≡ true
+      by : (b c : Bool) → is_member eq xs x ≡ b → eq q x ≡ c → (is_member eq xs q ≡ true → is_member eq (unique_keys eq xs) q ≡ true)
+          → (c || is_member eq xs q) ≡ true → is_member eq (cond b (unique_keys eq xs) (x ∷ unique_keys eq xs)) q ≡ true
       by true true m t r g = r (ap (is_member eq xs) ((same q x).0 t) ∙ m)
       by true false m t r g = r g
       by false true m t r g = rw t refl
       by false false m t r g = rw t (r g)
 
   -- distinct keys, each of which a list has, are no more than the list's different keys
-  pub length-le-distinct_count : (ns xs : List K) → IsDistinct eq ns → ((q : K) → is_member eq ns q ≡ true → is_member eq xs q ≡ true) → length ns ≤ distinct_count eq xs
+  pub length-le-distinct_count : (ns xs : List K) → IsDistinct eq ns → ((q : K) → is_member eq ns q ≡ true → is_member eq xs q ≡ true)
+      → length ns ≤ distinct_count eq xs
   length-le-distinct_count ns xs d h = length-le_from_is_member laws ns (unique_keys eq xs) d (λ q m. is_member-unique_keys xs q (h q m))
 
   -- n values of f that are apart, and each of which g has on the range
-  pub apart-le-distinct_count : (f g : ℕ → K) (n a m : ℕ) → ((p q : ℕ) → p < q → q < n → f p ≢ f q) → ((p : ℕ) → p < n → (i : ℕ) × (i < m) × (f p ≡ g (a + i))) → n ≤ distinct_count eq (map g (range_with_len a m))
+  pub apart-le-distinct_count : (f g : ℕ → K) (n a m : ℕ) → ((p q : ℕ) → p < q → q < n → f p ≢ f q)
+      → ((p : ℕ) → p < n → (i : ℕ) × (i < m) × (f p ≡ g (a + i))) → n ≤ distinct_count eq (map g (range_with_len a m))
   apart-le-distinct_count f g n a m apart known =
       let ns : List K = map f (range_with_len 0 n) in
       let xs : List K = map g (range_with_len a m) in
       let len : length ns ≡ n = length-map-range_with_len f 0 n in
       let pairs : AllPairs (λ x y. x ≢ y) ns = λ p q d l h e. apart p q l (omega (arith, len))
-      (sym (get_or-map-range_with_len f 0 n p p d (omega (arith, len)) (omega arith)) ∙ e ∙ get_or-map-range_with_len f 0 n q q d (omega (arith, len)) (omega arith)) in
+      (sym (get_or-map-range_with_len f 0 n p p d (omega (arith, len)) (omega arith)) ∙ e
+      ∙ get_or-map-range_with_len f 0 n q q d (omega (arith, len)) (omega arith)) in
       let member : (q : K) → is_member eq ns q ≡ true → is_member eq xs q ≡ true = λ q t.
       let has = (is_member-Decides same ns q).0 t in
       let p : ℕ = has.0 in
@@ -46,7 +50,9 @@ module _ {K : Type 0} {eq : K → K → Bool} (laws : IsEquivalence eq) (same : 
   absent-apart q [] h = tt
   absent-apart q (y ∷ ys) h = at (eq q y) refl h (absent-apart q ys)
     where
-      at : (c : Bool) → eq q y ≡ c → (c || is_member eq ys q) ≡ false → (is_member eq ys q ≡ false → AllByRecursion (λ y. eq q y ≡ false) ys) → (eq q y ≡ false) × AllByRecursion (λ y. eq q y ≡ false) ys
+      at : (c : Bool) → eq q y ≡ c → (c || is_member eq ys q) ≡ false
+          → (is_member eq ys q ≡ false → AllByRecursion (λ y. eq q y ≡ false) ys)
+          → (eq q y ≡ false) × AllByRecursion (λ y. eq q y ≡ false) ys
       at true t g r = absurd (true≢false g)
       at false t g r = (t, r g)
 
@@ -54,7 +60,8 @@ module _ {K : Type 0} {eq : K → K → Bool} (laws : IsEquivalence eq) (same : 
   unique_keys-member [] q h = h
   unique_keys-member (x ∷ xs) q h = by (is_member eq xs x) (eq q x) refl h (unique_keys-member xs q)
     where
-      by : (b c : Bool) → eq q x ≡ c → is_member eq (cond b (unique_keys eq xs) (x ∷ unique_keys eq xs)) q ≡ true → (is_member eq (unique_keys eq xs) q ≡ true → is_member eq xs q ≡ true) → (c || is_member eq xs q) ≡ true
+      by : (b c : Bool) → eq q x ≡ c → is_member eq (cond b (unique_keys eq xs) (x ∷ unique_keys eq xs)) q ≡ true
+          → (is_member eq (unique_keys eq xs) q ≡ true → is_member eq xs q ≡ true) → (c || is_member eq xs q) ≡ true
       by b true t g r = refl
       by true false t g r = r g
       by false false t g r = r (rw t at g)
@@ -71,7 +78,8 @@ module _ {K : Type 0} {eq : K → K → Bool} (laws : IsEquivalence eq) (same : 
   unique_keys-apart [] = tt
   unique_keys-apart (x ∷ xs) = by (is_member eq xs x) refl (unique_keys-apart xs)
     where
-      by : (b : Bool) → is_member eq xs x ≡ b → IsDistinct eq (unique_keys eq xs) → IsDistinct eq (cond b (unique_keys eq xs) (x ∷ unique_keys eq xs))
+      by : (b : Bool) → is_member eq xs x ≡ b → IsDistinct eq (unique_keys eq xs)
+          → IsDistinct eq (cond b (unique_keys eq xs) (x ∷ unique_keys eq xs))
       by true m r = r
       by false m r = (absent-apart x (unique_keys eq xs) (unique_keys-absent x xs m), r)
 

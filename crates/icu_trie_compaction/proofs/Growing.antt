@@ -10,10 +10,12 @@ pub grown-none : (f : ℕ → ℕ) (old : List ℕ) → IsGrown 0 f old old
 grown-none f old = record { len = omega arith; kept = λ i l. refl; more = λ j l. absurd (omega (arith, l)) }
 
 -- one more cell
-pub grown-push : (n x : ℕ) (f : ℕ → ℕ) (old now new : List ℕ) → IsGrown n f old now → new ≡ now ++ x ∷ [] → x ≡ f n → IsGrown (n + 1) f old new
+pub grown-push : (n x : ℕ) (f : ℕ → ℕ) (old now new : List ℕ) → IsGrown n f old now → new ≡ now ++ x ∷ [] → x ≡ f n
+    → IsGrown (n + 1) f old new
 grown-push n x f old now new g is value =
     let len : length new ≡ length now + 1 = omega (arith, ap length is, length-append now (x ∷ [])) in
-    let same : (i : ℕ) → i < length now → get_or new i 0 ≡ get_or now i 0 = λ i l. ap (λ xs. get_or xs i 0) is ∙ get_or_append_left now (x ∷ []) 0 i l in
+    let same : (i : ℕ) → i < length now → get_or new i 0 ≡ get_or now i 0 =
+    λ i l. ap (λ xs. get_or xs i 0) is ∙ get_or_append_left now (x ∷ []) 0 i l in
     record {
       len = omega (arith, len, g.len);
       kept = λ i l. same i (omega (arith, l, g.len)) ∙ g.kept i l;
@@ -23,13 +25,15 @@ grown-push n x f old now new g is value =
     }
 
 -- m more cells after n more
-pub grown-more : (n m : ℕ) (f g : ℕ → ℕ) (old now new : List ℕ) → IsGrown n f old now → IsGrown m g now new → ((j : ℕ) → j < m → g j ≡ f (n + j)) → IsGrown (n + m) f old new
+pub grown-more : (n m : ℕ) (f g : ℕ → ℕ) (old now new : List ℕ) → IsGrown n f old now → IsGrown m g now new
+    → ((j : ℕ) → j < m → g j ≡ f (n + j)) → IsGrown (n + m) f old new
 grown-more n m f g old now new a b same = record {
   len = omega (arith, a.len, b.len);
   kept = λ i l. b.kept i (omega (arith, l, a.len)) ∙ a.kept i l;
   more = λ j l. elim (cases_lt j n) [
     | inl lt ↦ b.kept (length old + j) (omega (arith, lt, a.len)) ∙ a.more j lt
-    | inr from ↦ ap (λ i. get_or new i 0) (omega (arith, from, a.len)) ∙ (b.more (j - n) (omega (arith, from, l)) ∙ (same (j - n) (omega (arith, from, l)) ∙ ap f (omega (arith, from))))
+    | inr from ↦ ap (λ i. get_or new i 0) (omega (arith, from, a.len))
+        ∙ (b.more (j - n) (omega (arith, from, l)) ∙ (same (j - n) (omega (arith, from, l)) ∙ ap f (omega (arith, from))))
   ];
 }
 

@@ -40,7 +40,9 @@ sum-first : (x : ℕ) (xs : List ℕ) (p : ℕ) → 0x9e3779b1 ^ length xs * 0x9
 sum-first x xs p e = sum-parts ((0 + x) * 0x9e3779b1) xs ∙ ap (λ n. n + sum_from 0 xs) (shift x 0x9e3779b1 (0x9e3779b1 ^ length xs) p e)
 
 -- a cell leaves, and another one comes
-roll : (x y v p : ℕ) → ((((x * p + v) % 4294967296 + (x * (0xffffffff * p % 4294967296)) % 4294967296) % 4294967296 + y) % 4294967296 * 0x9e3779b1) % 4294967296 ≡ ((v + y) * 0x9e3779b1) % 4294967296
+roll : (x y v p : ℕ)
+    → ((((x * p + v) % 4294967296 + (x * (0xffffffff * p % 4294967296)) % 4294967296) % 4294967296 + y) % 4294967296 * 0x9e3779b1) %
+    4294967296 ≡ ((v + y) * 0x9e3779b1) % 4294967296
 roll x y v p =
     let m : ℕ = 4294967296 in
     let out : ((x * p + v) % 4294967296 + (x * (0xffffffff * p % 4294967296)) % 4294967296) % 4294967296 ≡ v % 4294967296 =
@@ -52,7 +54,9 @@ roll x y v p =
 
 -- the window after another one
 pub hash-roll : (n at : ℕ) (cells : List ℕ) → at + suc n < length cells
-    → (((cells_hash (window (suc n) at cells) + (get_or cells at 0 * leaving_factor (suc n)) % 4294967296) % 4294967296 + get_or cells (at + suc n) 0) % 4294967296 * 0x9e3779b1) % 4294967296
+    →
+    (((cells_hash (window (suc n) at cells) + (get_or cells at 0 * leaving_factor (suc n)) % 4294967296) % 4294967296 + get_or cells
+    (at + suc n) 0) % 4294967296 * 0x9e3779b1) % 4294967296
     ≡ cells_hash (window (suc n) (at + 1) cells)
 unfolding cells_hash leaving_factor
 hash-roll n at cells below =
@@ -67,11 +71,14 @@ hash-roll n at cells below =
     let after : suc at ≡ at + 1 = omega arith in
     let next : at + 1 + n ≡ at + suc n = omega arith in
     let more : n + 1 ≡ suc n = omega arith in
-    let first : window (suc n) at cells ≡ x ∷ xs = ap (take (suc n)) (drop-cons cells at 0 here) ∙ ap (λ i. x ∷ take n (drop i cells)) after in
+    let first : window (suc n) at cells ≡ x ∷ xs = ap (take (suc n)) (drop-cons cells at 0 here)
+    ∙ ap (λ i. x ∷ take n (drop i cells)) after in
     let last : xs ++ y ∷ [] ≡ window (suc n) (at + 1) cells =
     ap (λ z. xs ++ z ∷ []) (ap (λ i. get_or cells i 0) (sym next) ∙ sym (get_or-drop (at + 1) cells n 0))
     ∙ (sym (take_more (drop (at + 1) cells) n 0 rest) ∙ ap (λ i. take i (drop (at + 1) cells)) more) in
     let power : 0x9e3779b1 ^ length xs * 0x9e3779b1 ≡ p = ap (λ i. 0x9e3779b1 ^ i * 0x9e3779b1) len ∙ sym (power-suc n) in
     let sum : sum_from 0 (x ∷ xs) ≡ x * p + v = sum-first x xs p power in
-    ap (λ h. ((h % 4294967296 + (x * (0xffffffff * p % 4294967296)) % 4294967296) % 4294967296 + y) % 4294967296 * 0x9e3779b1 % 4294967296) (ap (sum_from 0) first ∙ sum)
-    ∙ (roll x y v p ∙ (ap (λ s. s % 4294967296) (sym (fold-append (λ sum x. (sum + x) * 0x9e3779b1) 0 xs (y ∷ []))) ∙ ap (λ zs. sum_from 0 zs % 4294967296) last))
+    ap (λ h. ((h % 4294967296 + (x * (0xffffffff * p % 4294967296)) % 4294967296) % 4294967296 + y) % 4294967296 * 0x9e3779b1 % 4294967296)
+    (ap (sum_from 0) first ∙ sum)
+    ∙ (roll x y v p ∙ (ap (λ s. s % 4294967296) (sym (fold-append (λ sum x. (sum + x) * 0x9e3779b1) 0 xs (y ∷ [])))
+    ∙ ap (λ zs. sum_from 0 zs % 4294967296) last))

@@ -7,11 +7,14 @@ use Rattle.icu_trie_compaction.specs.Layout.{IsIndex}
 use Rattle.icu_trie_compaction.specs.Inside.IndexParts.{IsGrown, IsUpper}
 use Rattle.icu_trie_compaction.proofs.Growing.{cell_there}
 
-pub parts : (trie_type : TrieType) → (index1_start trie_type + fast_limit trie_type / 16384 ≡ fast_limit trie_type / 64) × (fast_limit trie_type ≡ 16384 * (fast_limit trie_type / 16384) + 512 * (fast_limit trie_type % 16384 / 512)) × (fast_limit trie_type ≤ 65536) × (4096 ≤ fast_limit trie_type)
+pub parts : (trie_type : TrieType) → (index1_start trie_type + fast_limit trie_type / 16384 ≡ fast_limit trie_type / 64)
+    × (fast_limit trie_type ≡ 16384 * (fast_limit trie_type / 16384) + 512 * (fast_limit trie_type % 16384 / 512))
+    × (fast_limit trie_type ≤ 65536) × (4096 ≤ fast_limit trie_type)
 parts Fast = (omega arith, omega arith, omega arith, omega arith)
 parts Small = (omega arith, omega arith, omega arith, omega arith)
 
-module _ (trie_type : TrieType) (high : ℕ) (fast small empty old : List ℕ) (none : length empty ≡ 0) (len : length fast ≡ fast_limit trie_type / 64)
+module _ (trie_type : TrieType) (high : ℕ) (fast small empty old : List ℕ) (none : length empty ≡ 0)
+    (len : length fast ≡ fast_limit trie_type / 64)
     (g : IsGrown (length fast) (λ i. get_or fast i 0) empty old) where
   -- the whole index, where the cells after the fast index are laid out too
   pub index-upper : (index : List ℕ) → IsUpper trie_type high small old index → IsIndex trie_type high fast small index
@@ -20,6 +23,7 @@ module _ (trie_type : TrieType) (high : ℕ) (fast small empty old : List ℕ) (
       record {
         longer = omega (arith, g.len, u.longer);
         on_fast = λ c l. cell_there index (c / 64) (get_or fast (c / 64) 0) (omega (arith, g.len, len, l, p.1, u.longer))
-            (u.kept (c / 64) (omega (arith, g.len, len, l, p.1)) ∙ (ap (λ i. get_or old i 0) (omega (arith, none)) ∙ g.more (c / 64) (omega (arith, len, l, p.1))));
+            (u.kept (c / 64) (omega (arith, g.len, len, l, p.1))
+            ∙ (ap (λ i. get_or old i 0) (omega (arith, none)) ∙ g.more (c / 64) (omega (arith, len, l, p.1))));
         gives = u.gives;
       }

@@ -11,7 +11,8 @@ use Rattle.icu_trie_compaction.proofs.Laying.{parts}
 use Rattle.icu_trie_compaction.proofs.Windows.{length-window, window-read}
 
 -- the index-2 cell of a block of 512 gives each of its 32 offsets
-pub offset_of : (t : TrieType) (index : List ℕ) (b q cell : ℕ) → q < 32 → index2_cell t index (b * 512) ≡ Some cell → small_offset t index (b * 512 + 16 * q) ≡ offset_in_block index cell q
+pub offset_of : (t : TrieType) (index : List ℕ) (b q cell : ℕ) → q < 32 → index2_cell t index (b * 512) ≡ Some cell
+    → small_offset t index (b * 512 + 16 * q) ≡ offset_in_block index cell q
 unfolding small_offset
 offset_of t index b q cell l two =
     let e1 : (b * 512 + 16 * q) / 0x4000 ≡ b * 512 / 0x4000 = omega (arith, l) in
@@ -20,7 +21,8 @@ offset_of t index b q cell l two =
     rw (e1, e2, two, e3) refl
 
 -- two blocks of 32 offsets that are all null are equal
-pub null-blocks : (null : ℕ) (small : List ℕ) (i j : ℕ) → 32 * i + 32 ≤ length small → 32 * j + 32 ≤ length small → IsNullBlock null small i → IsNullBlock null small j → block 32 small i ≡ block 32 small j
+pub null-blocks : (null : ℕ) (small : List ℕ) (i j : ℕ) → 32 * i + 32 ≤ length small → 32 * j + 32 ≤ length small → IsNullBlock null small i
+    → IsNullBlock null small j → block 32 small i ≡ block 32 small j
 null-blocks null small i j fits fits' a b =
     let li : length (block 32 small i) ≡ 32 = length-window 32 (32 * i) small fits in
     let lj : length (block 32 small j) ≡ 32 = length-window 32 (32 * j) small fits' in
@@ -37,10 +39,12 @@ module _ (t : TrieType) (high null : ℕ) (small index : List ℕ) (aligned : hi
       → offset_in_block index cell q ≡ Some (get_or small (32 * (b - fast_limit t / 512) + q) 0)
   offset_is b q cell l from below two =
       let p = parts t in
-      sym (offset_of t index b q cell l two) ∙ (g.on_small (b * 512 + 16 * q) (omega (arith, from)) (omega (arith, below, aligned, l)) ∙ ap (λ n. Some (get_or small n 0)) (omega (arith, p.1, from, l)))
+      sym (offset_of t index b q cell l two) ∙ (g.on_small (b * 512 + 16 * q) (omega (arith, from)) (omega (arith, below, aligned, l))
+      ∙ ap (λ n. Some (get_or small n 0)) (omega (arith, p.1, from, l)))
 
   -- the cell of one of them
-  pub null_index : (w cell : ℕ) → w < length small / 32 → IsNullBlock null small w → index2_cell t index ((w + fast_limit t / 512) * 512) ≡ Some cell → IsNullIndex t high null small index cell
+  pub null_index : (w cell : ℕ) → w < length small / 32 → IsNullBlock null small w
+      → index2_cell t index ((w + fast_limit t / 512) * 512) ≡ Some cell → IsNullIndex t high null small index cell
   null_index w cell lt all two =
       let p = parts t in
       let d : ℕ = w + fast_limit t / 512 in
@@ -50,7 +54,8 @@ module _ (t : TrieType) (high null : ℕ) (small index : List ℕ) (aligned : hi
       record {
         has = λ b from below null_b.
             let fits : 32 * (b - fast_limit t / 512) + 32 ≤ length small = omega (arith, from, below, aligned, len, p.1) in
-            let same = null-blocks null small (b - fast_limit t / 512) (d - fast_limit t / 512) fits (omega (arith, lt)) null_b (rw wd all) in
+            let same = null-blocks null small (b - fast_limit t / 512)
+            (d - fast_limit t / 512) fits (omega (arith, lt)) null_b (rw wd all) in
             g.on_cells b d from below d0 d1 same ∙ two;
         only = λ b from below is q l.
             let one = same_Some (get_or small (32 * (b - fast_limit t / 512) + q) 0) (get_or small (32 * (d - fast_limit t / 512) + q) 0)
@@ -68,11 +73,13 @@ module _ (t : TrieType) (high null : ℕ) (small index : List ℕ) (aligned : hi
       }
 
   -- where f gives each block of 512 its index-2 cell
-  pub null_index-by : (f : ℕ → ℕ) (cell : ℕ) → ((b : ℕ) → fast_limit t ≤ b * 512 → b * 512 < high → index2_cell t index (b * 512) ≡ Some (f (b - fast_limit t / 512)))
+  pub null_index-by : (f : ℕ → ℕ) (cell : ℕ)
+      → ((b : ℕ) → fast_limit t ≤ b * 512 → b * 512 < high → index2_cell t index (b * 512) ≡ Some (f (b - fast_limit t / 512)))
       → IsNullCell null small f cell → IsNullIndex t high null small index cell
   unfolding IsNullCell
   null_index-by f cell cells (inl w) =
       let p = parts t in
       let wd : w.0 + fast_limit t / 512 - fast_limit t / 512 ≡ w.0 = omega arith in
-      null_index w.0 cell w.1 w.2 (cells (w.0 + fast_limit t / 512) (omega (arith, p.1)) (omega (arith, w.1, len, p.1, aligned)) ∙ ap (λ n. Some n) (ap f wd ∙ sym w.3))
+      null_index w.0 cell w.1 w.2 (cells (w.0 + fast_limit t / 512) (omega (arith, p.1)) (omega (arith, w.1, len, p.1, aligned))
+      ∙ ap (λ n. Some n) (ap f wd ∙ sym w.3))
   null_index-by f cell cells (inr none) = rw none.0 (no_null_index none.1)

@@ -25,10 +25,46 @@ long_back xs at q room fit l = by q l
     f0 = fit at (omega (arith, room))
 
     by : (q : ℕ) → q < 8 → long_offset (high_bits xs at) (get_or xs (at + q) 0 % 65536) q ≡ get_or xs (at + q) 0
-    by zero l = omega (arith, z, f0, f 1 (omega arith), f 2 (omega arith), f 3 (omega arith), f 4 (omega arith), f 5 (omega arith), f 6 (omega arith), f 7 (omega arith))
-    by (suc zero) l = omega (arith, f0, f 1 (omega arith), f 2 (omega arith), f 3 (omega arith), f 4 (omega arith), f 5 (omega arith), f 6 (omega arith), f 7 (omega arith))
-    by (suc (suc zero)) l = omega (arith, f 2 (omega arith), f 3 (omega arith), f 4 (omega arith), f 5 (omega arith), f 6 (omega arith), f 7 (omega arith))
-    by (suc (suc (suc zero))) l = omega (arith, f 3 (omega arith), f 4 (omega arith), f 5 (omega arith), f 6 (omega arith), f 7 (omega arith))
+    by zero l = omega (
+      arith,
+      z,
+      f0,
+      f 1 (omega arith),
+      f 2 (omega arith),
+      f 3 (omega arith),
+      f 4 (omega arith),
+      f 5 (omega arith),
+      f 6 (omega arith),
+      f 7 (omega arith),
+    )
+    by (suc zero) l = omega (
+      arith,
+      f0,
+      f 1 (omega arith),
+      f 2 (omega arith),
+      f 3 (omega arith),
+      f 4 (omega arith),
+      f 5 (omega arith),
+      f 6 (omega arith),
+      f 7 (omega arith),
+    )
+    by (suc (suc zero)) l = omega (
+      arith,
+      f 2 (omega arith),
+      f 3 (omega arith),
+      f 4 (omega arith),
+      f 5 (omega arith),
+      f 6 (omega arith),
+      f 7 (omega arith),
+    )
+    by (suc (suc (suc zero))) l = omega (
+      arith,
+      f 3 (omega arith),
+      f 4 (omega arith),
+      f 5 (omega arith),
+      f 6 (omega arith),
+      f 7 (omega arith),
+    )
     by (suc (suc (suc (suc zero)))) l = omega (arith, f 4 (omega arith), f 5 (omega arith), f 6 (omega arith), f 7 (omega arith))
     by (suc (suc (suc (suc (suc zero))))) l = omega (arith, f 5 (omega arith), f 6 (omega arith), f 7 (omega arith))
     by (suc (suc (suc (suc (suc (suc zero)))))) l = omega (arith, f 6 (omega arith), f 7 (omega arith))
@@ -83,7 +119,8 @@ pub packed-all : (xs ys : List ℕ) → IsGrown (9 * (length xs / 8)) (packed_ce
 packed-all xs ys g =
     let len : length ys ≡ 9 * (length xs / 8) = omega (arith, g.len) in
     same_lists ys (packed_cells xs) (len ∙ sym (packed-len xs))
-    (λ i d l. get_or_default ys i d 0 l ∙ (ap (λ n. get_or ys n 0) (omega arith) ∙ (g.more i (omega (arith, l, len)) ∙ sym (packed-read xs i d (omega (arith, l, len))))))
+    (λ i d l. get_or_default ys i d 0 l ∙ (ap (λ n. get_or ys n 0) (omega arith)
+    ∙ (g.more i (omega (arith, l, len)) ∙ sym (packed-read xs i d (omega (arith, l, len))))))
 
 -- the cells of the 18-bit form have 16 bits
 pub packed-below : (small : List ℕ) → AllBelow 0x40000 small → AllBelow 0x10000 (packed_cells small)
@@ -107,10 +144,13 @@ offset_packed index small at p l room inside fit cells =
     let g : ℕ = p / 8 in
     let q : ℕ = p % 8 in
     let group : ℕ = 0x8000 + at - 0x8000 + 9 * (p / 8) in
-    let high : slice_get index group ≡ Some (high_bits small (8 * g)) = cell_there index group (high_bits small (8 * g)) (omega (arith, l, inside))
+    let high : slice_get index group ≡ Some (high_bits small (8 * g)) =
+    cell_there index group (high_bits small (8 * g)) (omega (arith, l, inside))
     (ap (λ n. get_or index n 0) (omega arith) ∙ (cells (9 * (p / 8)) (omega (arith, l)) ∙ cell_high small g (9 * (p / 8)) (omega arith))) in
-    let low : slice_get index (group + 1 + p % 8) ≡ Some (get_or small (8 * g + q) 0 % 65536) = cell_there index (group + 1 + p % 8) (get_or small (8 * g + q) 0 % 65536) (omega (arith, l, inside))
-    (ap (λ n. get_or index n 0) (omega arith) ∙ (cells (9 * (p / 8) + 1 + p % 8) (omega (arith, l)) ∙ cell_low small g q (9 * (p / 8) + 1 + p % 8) (omega arith) (omega arith))) in
+    let low : slice_get index (group + 1 + p % 8) ≡ Some (get_or small (8 * g + q) 0 % 65536) =
+    cell_there index (group + 1 + p % 8) (get_or small (8 * g + q) 0 % 65536) (omega (arith, l, inside))
+    (ap (λ n. get_or index n 0) (omega arith)
+    ∙ (cells (9 * (p / 8) + 1 + p % 8) (omega (arith, l)) ∙ cell_low small g q (9 * (p / 8) + 1 + p % 8) (omega arith) (omega arith))) in
     let back = long_back small (8 * g) q (omega (arith, l, room)) fit (omega arith) in
     let there : get_or small (8 * g + q) 0 ≡ get_or small p 0 = ap (λ n. get_or small n 0) (omega arith) in
     rw (le-ltb (0x8000 + at) 0x8000 (omega arith), high, low) (ap (λ n. Some n) (back ∙ there))

@@ -28,7 +28,8 @@ pub append-kept : (before after : List ℕ) → take (length before) after ≡ b
 append-kept before after h = ap (λ ys. ys ++ drop (length before) after) (sym h) ∙ take-append-drop (length before) after
 
 pub least-kept : (k at : ℕ) (cells more x : List ℕ) → take (length cells) more ≡ cells → IsLeast k at cells x → IsLeast k at more x
-least-kept k at cells more x h l = subst (λ ys. IsLeast k at ys x) (append-kept cells more h) (least-append k at cells (drop (length cells) more) x l)
+least-kept k at cells more x h l = subst (λ ys. IsLeast k at ys x) (append-kept cells more h)
+    (least-append k at cells (drop (length cells) more) x l)
 
 -- a list appended over the longest tail that equals its front, where it stands nowhere
 pub least-overlap : (k c : ℕ) (cells wanted : List ℕ) → length wanted ≡ k → c < length wanted → c ≤ length cells
@@ -40,7 +41,8 @@ least-overlap k c cells wanted len below within tail longest none =
     let n : ℕ = length cells in
     let rest : List ℕ = drop c wanted in
     let at : ℕ = n - c in
-    let whole : drop at (cells ++ rest) ≡ wanted = drop-append-le at cells rest (omega arith) ∙ ap (λ ys. ys ++ rest) tail ∙ take-append-drop c wanted in
+    let whole : drop at (cells ++ rest) ≡ wanted = drop-append-le at cells rest (omega arith) ∙ ap (λ ys. ys ++ rest) tail
+    ∙ take-append-drop c wanted in
     record {
       inside = omega (arith, length-append cells rest, length-drop c wanted, len, below, within);
       here = ap (λ ys. take k ys) whole ∙ take_all k wanted (omega (arith, len));
@@ -49,9 +51,12 @@ least-overlap k c cells wanted len below within tail longest none =
         | inr gt ↦
             let m : ℕ = n - q in
             let lm : length (drop q cells) ≡ m = length-drop q cells in
-            let one : take m (window k q (cells ++ rest)) ≡ drop q cells = take-take m k (drop q (cells ++ rest)) (omega (arith, gt, lt)) ∙ ap (λ ys. take m ys) (drop-append-le q cells rest (omega (arith, lt))) ∙ take-append-le m (drop q cells) rest (omega (arith, lm)) ∙ take_all m (drop q cells) (omega (arith, lm)) in
+            let one : take m (window k q (cells ++ rest)) ≡ drop q cells = take-take m k (drop q (cells ++ rest)) (omega (arith, gt, lt))
+            ∙ ap (λ ys. take m ys) (drop-append-le q cells rest (omega (arith, lt)))
+            ∙ take-append-le m (drop q cells) rest (omega (arith, lm)) ∙ take_all m (drop q cells) (omega (arith, lm)) in
             let back : n - m ≡ q = omega (arith, lt) in
-            longest m (omega (arith, lt, within)) (omega (arith, gt, len, lt)) (omega arith) (ap (λ i. drop i cells) back ∙ sym one ∙ ap (λ ys. take m ys) e)
+            longest m (omega (arith, lt, within)) (omega (arith, gt, len, lt)) (omega arith)
+            (ap (λ i. drop i cells) back ∙ sym one ∙ ap (λ ys. take m ys) e)
       ];
     }
   where
@@ -72,7 +77,8 @@ module _ (h : List ℕ → ℕ) where
   }
 
   -- the same lists by another name
-  chained-alike : (b b' : ℕ → List ℕ) (n : ℕ) (heads next : List ℕ) → IsChained h b n heads next → ((p : ℕ) → p < n → b' p ≡ b p) → IsChained h b' n heads next
+  chained-alike : (b b' : ℕ → List ℕ) (n : ℕ) (heads next : List ℕ) → IsChained h b n heads next → ((p : ℕ) → p < n → b' p ≡ b p)
+      → IsChained h b' n heads next
   chained-alike b b' n heads next l e = record {
     links = l.links;
     head_bound = l.head_bound;
@@ -84,13 +90,16 @@ module _ (h : List ℕ → ℕ) where
   }
 
   -- list n comes to the head of its chain
-  chained-added : (b : ℕ → List ℕ) (n i : ℕ) (heads next : List ℕ) → IsChained h b n heads next → i ≡ h (b n) → i < length heads → IsChained h b (n + 1) (set heads i (n + 1)) (next ++ (get_or heads i 0) ∷ [])
+  chained-added : (b : ℕ → List ℕ) (n i : ℕ) (heads next : List ℕ) → IsChained h b n heads next → i ≡ h (b n) → i < length heads
+      → IsChained h b (n + 1) (set heads i (n + 1)) (next ++ (get_or heads i 0) ∷ [])
   chained-added b n i heads next l is lt =
       let old : ℕ = get_or heads i 0 in
       let heads' : List ℕ = set heads i (n + 1) in
       let next' : List ℕ = next ++ old ∷ [] in
-      let here : (j : ℕ) → ((j ≡ i) × (get_or heads' j 0 ≡ n + 1)) ⊎ ((j ≡ i → ⊥) × (get_or heads' j 0 ≡ get_or heads j 0)) = λ j. look j (cases_eq j i) in
-      let before : (p : ℕ) → p < n → get_or next' p 0 ≡ get_or next p 0 = λ p a. get_or_append_left next (old ∷ []) 0 p (omega (arith, a, l.links)) in
+      let here : (j : ℕ) → ((j ≡ i) × (get_or heads' j 0 ≡ n + 1)) ⊎ ((j ≡ i → ⊥) × (get_or heads' j 0 ≡ get_or heads j 0)) =
+      λ j. look j (cases_eq j i) in
+      let before : (p : ℕ) → p < n → get_or next' p 0 ≡ get_or next p 0 =
+      λ p a. get_or_append_left next (old ∷ []) 0 p (omega (arith, a, l.links)) in
       let newest : get_or next' n 0 ≡ old = get_or_at next old [] 0 n l.links in
       record {
         links = omega (arith, length-append next (old ∷ []), l.links);
@@ -119,12 +128,14 @@ module _ (h : List ℕ → ℕ) where
         ];
       }
     where
-      look : (j : ℕ) → (j ≡ i) ⊎ (j ≡ i → ⊥) → ((j ≡ i) × (get_or (set heads i (n + 1)) j 0 ≡ n + 1)) ⊎ ((j ≡ i → ⊥) × (get_or (set heads i (n + 1)) j 0 ≡ get_or heads j 0))
+      look : (j : ℕ) → (j ≡ i) ⊎ (j ≡ i → ⊥) → ((j ≡ i) × (get_or (set heads i (n + 1)) j 0 ≡ n + 1))
+          ⊎ ((j ≡ i → ⊥) × (get_or (set heads i (n + 1)) j 0 ≡ get_or heads j 0))
       look j (inl e) = inl (e, ap (λ x. get_or (set heads i (n + 1)) x 0) e ∙ get_or-set_same heads i (n + 1) 0 (omega (arith, lt)))
       look j (inr ne) = inr (ne, get_or-set_other heads i j (n + 1) 0 ne)
 
 -- a table of no window
-pub table-none : (cells : List ℕ) (t : WindowTable) → 0 < t.size → t.leaving ≡ leaving_factor t.size → 0 < length t.heads.items → length t.heads.items ≤ 2 ^ 24
+pub table-none : (cells : List ℕ) (t : WindowTable) → 0 < t.size → t.leaving ≡ leaving_factor t.size → 0 < length t.heads.items
+    → length t.heads.items ≤ 2 ^ 24
     → ((i : ℕ) → get_or t.heads.items i 0 ≡ 0) → t.entered ≡ 0 → t.starts.items ≡ [] → t.next.items ≡ [] → IsTable cells t
 table-none cells t pos factor some few zero none starts next =
     let len : length t.starts.items ≡ 0 = ap length starts in
@@ -142,7 +153,8 @@ table-none cells t pos factor some few zero none starts next =
     }
 
 -- a window that is in the table already
-pub table-again : (cells : List ℕ) (t : WindowTable) (entered : ℕ) → IsTable cells t → entered ≡ t.entered + 1 → t.entered + t.size ≤ length cells
+pub table-again : (cells : List ℕ) (t : WindowTable) (entered : ℕ) → IsTable cells t → entered ≡ t.entered + 1
+    → t.entered + t.size ≤ length cells
     → (e : ℕ) × (e < entry_count t) × (entry t.size t.starts.items cells e ≡ window t.size t.entered cells)
     → IsTable cells (record t { entered = entered })
 table-again cells t entered l is fits w = record {
@@ -155,12 +167,15 @@ table-again cells t entered l is fits w = record {
   chained = l.chained;
   below = λ e lt. omega (arith, is, l.below e lt);
   least = l.least;
-  all = λ q lt. below_more (λ q. (e : ℕ) × (e < entry_count t) × (entry t.size t.starts.items cells e ≡ window t.size q cells)) t.entered l.all w q (omega (arith, lt, is));
+  all = λ q lt. below_more (λ q. (e : ℕ) × (e < entry_count t) × (entry t.size t.starts.items cells e ≡ window t.size q cells)) t.entered
+      l.all w q (omega (arith, lt, is));
 }
 
 -- a window that no earlier one is equal to
-pub table-added : (cells : List ℕ) (t t' : WindowTable) (i : ℕ) → IsTable cells t → t'.size ≡ t.size → t'.leaving ≡ t.leaving → t'.entered ≡ t.entered + 1
-    → t'.starts.items ≡ t.starts.items ++ t.entered ∷ [] → t'.heads.items ≡ set t.heads.items i (entry_count t + 1) → t'.next.items ≡ t.next.items ++ (get_or t.heads.items i 0) ∷ []
+pub table-added : (cells : List ℕ) (t t' : WindowTable) (i : ℕ) → IsTable cells t → t'.size ≡ t.size → t'.leaving ≡ t.leaving
+    → t'.entered ≡ t.entered + 1
+    → t'.starts.items ≡ t.starts.items ++ t.entered ∷ [] → t'.heads.items ≡ set t.heads.items i (entry_count t + 1)
+    → t'.next.items ≡ t.next.items ++ (get_or t.heads.items i 0) ∷ []
     → t.entered + t.size ≤ length cells → ((q : ℕ) → q < t.entered → window t.size q cells ≢ window t.size t.entered cells)
     → i ≡ bucket (length t.heads.items) (window t.size t.entered cells) → i < length t.heads.items → IsTable cells t'
 table-added cells t t' i l size leaving entered starts heads next fits fresh is lt =
@@ -170,11 +185,15 @@ table-added cells t t' i l size leaving entered starts heads next fits fresh is 
     let h : List ℕ → ℕ = bucket (length t.heads.items) in
     let m' : entry_count t' ≡ m + 1 = omega (arith, ap length starts, length-append t.starts.items (n ∷ [])) in
     let buckets : length t'.heads.items ≡ length t.heads.items = ap length heads ∙ length-set t.heads.items i (m + 1) in
-    let old : (e : ℕ) → e < m → get_or t'.starts.items e 0 ≡ get_or t.starts.items e 0 = λ e a. ap (λ xs. get_or xs e 0) starts ∙ get_or_append_left t.starts.items (n ∷ []) 0 e a in
+    let old : (e : ℕ) → e < m → get_or t'.starts.items e 0 ≡ get_or t.starts.items e 0 =
+    λ e a. ap (λ xs. get_or xs e 0) starts ∙ get_or_append_left t.starts.items (n ∷ []) 0 e a in
     let new : get_or t'.starts.items m 0 ≡ n = ap (λ xs. get_or xs m 0) starts ∙ get_or_at t.starts.items n [] 0 m refl in
-    let same : (e : ℕ) → e < m → entry k t'.starts.items cells e ≡ entry k t.starts.items cells e = λ e a. ap (λ x. window k x cells) (old e a) in
+    let same : (e : ℕ) → e < m → entry k t'.starts.items cells e ≡ entry k t.starts.items cells e =
+    λ e a. ap (λ x. window k x cells) (old e a) in
     let end : entry k t'.starts.items cells m ≡ window k n cells = ap (λ x. window k x cells) new in
-    let chain = chained-added h (entry k t'.starts.items cells) m i t.heads.items t.next.items (chained-alike h (entry t.size t.starts.items cells) (entry k t'.starts.items cells) m t.heads.items t.next.items l.chained same) (is ∙ sym (ap h end)) lt in
+    let chain = chained-added h (entry k t'.starts.items cells) m i t.heads.items t.next.items
+    (chained-alike h (entry t.size t.starts.items cells) (entry k t'.starts.items cells) m t.heads.items t.next.items l.chained same)
+    (is ∙ sym (ap h end)) lt in
     let chain' : IsChained h (entry k t'.starts.items cells) (entry_count t') t'.heads.items t'.next.items = rw (m', heads, next) chain in
     record {
       some_cells = omega (arith, size, l.some_cells);
@@ -183,13 +202,16 @@ table-added cells t t' i l size leaving entered starts heads next fits fresh is 
       few_buckets = omega (arith, buckets, l.few_buckets);
       within = omega (arith, entered, size, fits);
       few = omega (arith, entered, m', l.few);
-      chained = subst (λ b. IsChained (bucket b) (entry t'.size t'.starts.items cells) (entry_count t') t'.heads.items t'.next.items) (sym buckets)
+      chained = subst (λ b. IsChained (bucket b) (entry t'.size t'.starts.items cells) (entry_count t') t'.heads.items t'.next.items)
+          (sym buckets)
           (subst (λ k. IsChained h (entry k t'.starts.items cells) (entry_count t') t'.heads.items t'.next.items) (sym size) chain');
-      below = λ e a. below_more (λ e. get_or t'.starts.items e 0 < t'.entered) m (λ e a. omega (arith, old e a, l.below e a, entered)) (omega (arith, new, entered)) e (omega (arith, a, m'));
+      below = λ e a. below_more (λ e. get_or t'.starts.items e 0 < t'.entered) m (λ e a. omega (arith, old e a, l.below e a, entered))
+          (omega (arith, new, entered)) e (omega (arith, a, m'));
       least = λ e a. subst (λ k. IsLeast k (get_or t'.starts.items e 0) cells (window k (get_or t'.starts.items e 0) cells)) (sym size)
           (below_more (λ e. IsLeast k (get_or t'.starts.items e 0) cells (window k (get_or t'.starts.items e 0) cells)) m
           (λ e a. subst (λ x. IsLeast k x cells (window k x cells)) (sym (old e a)) (l.least e a))
-          (subst (λ x. IsLeast k x cells (window k x cells)) (sym new) (record { inside = fits; here = refl; least = fresh })) e (omega (arith, a, m')));
+          (subst (λ x. IsLeast k x cells (window k x cells)) (sym new) (record { inside = fits; here = refl; least = fresh })) e
+          (omega (arith, a, m')));
       all = λ q a. subst (λ k. (e : ℕ) × (e < entry_count t') × (entry k t'.starts.items cells e ≡ window k q cells)) (sym size)
           (below_more (λ q. (e : ℕ) × (e < entry_count t') × (entry k t'.starts.items cells e ≡ window k q cells)) n
           (λ q a. let w = l.all q a in (w.0, omega (arith, w.1, m'), same w.0 w.1 ∙ w.2))
@@ -200,7 +222,8 @@ table-added cells t t' i l size leaving entered starts heads next fits fresh is 
 pub table-append : (cells ys : List ℕ) (t : WindowTable) → IsTable cells t → IsTable (cells ++ ys) t
 table-append cells ys t l =
     let k : ℕ = t.size in
-    let same : (e : ℕ) → e < entry_count t → entry t.size t.starts.items (cells ++ ys) e ≡ entry t.size t.starts.items cells e = λ e a. window-append k (get_or t.starts.items e 0) cells ys (l.least e a).inside in
+    let same : (e : ℕ) → e < entry_count t → entry t.size t.starts.items (cells ++ ys) e ≡ entry t.size t.starts.items cells e =
+    λ e a. window-append k (get_or t.starts.items e 0) cells ys (l.least e a).inside in
     record {
       some_cells = l.some_cells;
       factor = l.factor;
@@ -208,10 +231,13 @@ table-append cells ys t l =
       few_buckets = l.few_buckets;
       within = omega (arith, l.within, length-append cells ys);
       few = l.few;
-      chained = chained-alike (bucket (length t.heads.items)) (entry t.size t.starts.items cells) (entry t.size t.starts.items (cells ++ ys)) (entry_count t) t.heads.items t.next.items l.chained same;
+      chained = chained-alike (bucket (length t.heads.items)) (entry t.size t.starts.items cells)
+          (entry t.size t.starts.items (cells ++ ys)) (entry_count t) t.heads.items t.next.items l.chained same;
       below = l.below;
-      least = λ e a. rw (same e a) (least-append k (get_or t.starts.items e 0) cells ys (entry t.size t.starts.items cells e) (l.least e a));
-      all = λ q a. let w = l.all q a in (w.0, w.1, same w.0 w.1 ∙ w.2 ∙ sym (window-append k q cells ys (omega (arith, a, l.within, l.some_cells))));
+      least = λ e a. rw (same e a) (least-append k (get_or t.starts.items e 0) cells ys (entry t.size t.starts.items cells e)
+          (l.least e a));
+      all = λ q a. let w = l.all q a in
+          (w.0, w.1, same w.0 w.1 ∙ w.2 ∙ sym (window-append k q cells ys (omega (arith, a, l.within, l.some_cells))));
     }
 
 -- the bucket of some cells by their hash

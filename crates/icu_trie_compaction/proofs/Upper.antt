@@ -16,10 +16,12 @@ use Rattle.icu_trie_compaction.proofs.Shared.{cell_by, gives_by}
 module _ (t : TrieType) (high blocks start z : ℕ) (small stored3 stored numbers cells places a b e : List ℕ)
     (aligned : high % 512 ≡ 0) (above : fast_limit t < high) (within : high ≤ 1114112)
     (len_small : length small ≡ (high - fast_limit t) / 16) (fit : AllBelow 0x40000 small) (len_a : length a ≡ fast_limit t / 64)
-    (is_blocks : blocks ≡ div_ceil high 0x4000 - fast_limit t / 0x4000) (is_start : start ≡ fast_limit t / 64 + blocks) (is_z : z ≡ fast_limit t % 0x4000 / 512)
+    (is_blocks : blocks ≡ div_ceil high 0x4000 - fast_limit t / 0x4000) (is_start : start ≡ fast_limit t / 64 + blocks)
+    (is_z : z ≡ fast_limit t % 0x4000 / 512)
     (ix : IsIndexed start a small stored3 numbers) (count : length numbers ≡ length small / 32)
     (len_cells : length cells ≡ z + length numbers) (at_cells : (i : ℕ) → i < length numbers → get_or cells (z + i) 0 ≡ get_or numbers i 0)
-    (kept : take (length stored3) stored ≡ stored3) (placed : Index2At cells stored places) (places_count : length places ≡ div_ceil (length cells) 32)
+    (kept : take (length stored3) stored ≡ stored3) (placed : Index2At cells stored places)
+    (places_count : length places ≡ div_ceil (length cells) 32)
     (g1 : IsGrown (length places) (λ j. start + get_or places j 0) a b) (g2 : IsGrown (length stored) (λ i. get_or stored i 0) b e) where
   len_blocks : length places ≡ blocks
   len_blocks =
@@ -35,13 +37,15 @@ module _ (t : TrieType) (high blocks start z : ℕ) (small stored3 stored number
       omega (arith, is_start, is_blocks, within, p.2)
 
   at_one : (j : ℕ) → j < blocks → get_or e (fast_limit t / 64 + j) 0 ≡ start + get_or places j 0
-  at_one j l = g2.kept (fast_limit t / 64 + j) (omega (arith, len_b, is_start, l)) ∙ (ap (λ n. get_or b n 0) (omega (arith, len_a)) ∙ g1.more j (omega (arith, l, len_blocks)))
+  at_one j l = g2.kept (fast_limit t / 64 + j) (omega (arith, len_b, is_start, l))
+      ∙ (ap (λ n. get_or b n 0) (omega (arith, len_a)) ∙ g1.more j (omega (arith, l, len_blocks)))
 
   one : (j : ℕ) → j < div_ceil high 0x4000 - fast_limit t / 0x4000 → fast_limit t / 64 + j < length e
   one j l = omega (arith, l, is_blocks, is_start, len_b, g2.len)
 
   two : (j q : ℕ) → q < 32 → fast_limit t / 512 ≤ 32 * (fast_limit t / 0x4000 + j) + q → 32 * (fast_limit t / 0x4000 + j) + q < high / 512
-      → (get_or e (fast_limit t / 64 + j) 0 + q < length e) × (get_or e (get_or e (fast_limit t / 64 + j) 0 + q) 0 ≡ get_or numbers (32 * (fast_limit t / 0x4000 + j) + q - fast_limit t / 512) 0)
+      → (get_or e (fast_limit t / 64 + j) 0 + q < length e)
+      × (get_or e (get_or e (fast_limit t / 64 + j) 0 + q) 0 ≡ get_or numbers (32 * (fast_limit t / 0x4000 + j) + q - fast_limit t / 512) 0)
   two j q lq from below =
       let p = parts t in
       let inside : 32 * j + q < length cells = omega (arith, len_cells, count, len_small, aligned, above, is_z, p.1, from, below) in
@@ -60,7 +64,8 @@ module _ (t : TrieType) (high blocks start z : ℕ) (small stored3 stored number
   shorter = omega (arith, ap length kept, length-take (length stored3) stored)
 
   at_stored : (x : ℕ) → x < length stored3 → get_or e (start + x) 0 ≡ get_or stored3 x 0
-  at_stored x l = ap (λ n. get_or e n 0) (omega (arith, len_b)) ∙ (g2.more x (omega (arith, l, shorter)) ∙ (sym (get_or-take (length stored3) stored x 0 l) ∙ ap (λ xs. get_or xs x 0) kept))
+  at_stored x l = ap (λ n. get_or e n 0) (omega (arith, len_b))
+      ∙ (g2.more x (omega (arith, l, shorter)) ∙ (sym (get_or-take (length stored3) stored x 0 l) ∙ ap (λ xs. get_or xs x 0) kept))
 
   at_fast : (x : ℕ) → x < length a → get_or e x 0 ≡ get_or a x 0
   at_fast x l = g2.kept x (omega (arith, l, g1.len)) ∙ g1.kept x l
@@ -68,12 +73,15 @@ module _ (t : TrieType) (high blocks start z : ℕ) (small stored3 stored number
   in_numbers : (i : ℕ) → i < (high - fast_limit t) / 512 → (i < length numbers) × (32 * i + 32 ≤ length small)
   in_numbers i l = (omega (arith, l, count, len_small), omega (arith, l, len_small))
 
-  gives : (i p : ℕ) → i < (high - fast_limit t) / 512 → p < 32 → offset_in_block e (get_or numbers i 0) p ≡ Some (get_or small (32 * i + p) 0)
+  gives : (i p : ℕ) → i < (high - fast_limit t) / 512 → p < 32
+      → offset_in_block e (get_or numbers i 0) p ≡ Some (get_or small (32 * i + p) 0)
   gives i p li lp =
       let w = in_numbers i li in
-      cell-gives start a small stored3 e fit low (omega (arith, len_a, is_start)) (omega (arith, len_b, g2.len, shorter)) at_fast at_stored i p (get_or numbers i 0) w.1 lp (ix.cell i w.0)
+      cell-gives start a small stored3 e fit low (omega (arith, len_a, is_start))
+      (omega (arith, len_b, g2.len, shorter)) at_fast at_stored i p (get_or numbers i 0) w.1 lp (ix.cell i w.0)
 
-  alike : (i j : ℕ) → i < (high - fast_limit t) / 512 → j < (high - fast_limit t) / 512 → block 32 small i ≡ block 32 small j → get_or numbers i 0 ≡ get_or numbers j 0
+  alike : (i j : ℕ) → i < (high - fast_limit t) / 512 → j < (high - fast_limit t) / 512 → block 32 small i ≡ block 32 small j
+      → get_or numbers i 0 ≡ get_or numbers j 0
   alike i j li lj same =
       let w = in_numbers i li in
       let v = in_numbers j lj in
@@ -81,7 +89,8 @@ module _ (t : TrieType) (high blocks start z : ℕ) (small stored3 stored number
       (subst (λ x. IsIndex3Cell start a stored3 x (get_or numbers i 0)) same (ix.cell i w.0)) (ix.cell j v.0)
 
   never : (i : ℕ) → i < (high - fast_limit t) / 512 → get_or numbers i 0 ≢ 0x7fff
-  never i l = cell-never start a stored3 (block 32 small i) (get_or numbers i 0) low (omega (arith, len_a, is_start)) (ix.cell i (in_numbers i l).0)
+  never i l = cell-never start a stored3 (block 32 small i) (get_or numbers i 0) low (omega (arith, len_a, is_start))
+      (ix.cell i (in_numbers i l).0)
 
   gives_all : GivesSmall t high small e
   gives_all = gives_by t high small e (λ i. get_or numbers i 0) aligned one two gives alike never

@@ -11,7 +11,12 @@ use Rattle.icu_trie_core.specs.Blocks.{window}
 
 -- `==` of numbers is an equivalence
 nat_laws : IsEquivalence nat_eq
-nat_laws = record { refl = λ x. grind (arith, nat_tests); symm = λ x y. grind (arith, nat_tests); congr = λ x y z e. grind (arith, nat_tests, e) }
+nat_laws = record {
+  refl = λ x. grind (arith, nat_tests);
+  symm = λ x y. grind (arith, nat_tests);
+  congr =
+      λ x y z e. grind (arith, nat_tests, e);
+}
 
 -- `==` of numbers decides whether they are the same
 nat_decides : (a b : ℕ) → Decides (nat_eq a b) (a ≡ b)
@@ -26,7 +31,8 @@ pub list_decides : (xs ys : List ℕ) → Decides (pointwise nat_eq xs ys) (xs �
 list_decides xs ys = slice_eq-Decides nat_decides xs ys (pointwise nat_eq xs ys) refl
 
 -- what `==` says of a part of a slice
-pub part-decides : (xs wanted : List ℕ) (at end k : ℕ) (r : Bool) → r ≡ pointwise nat_eq (take (end - at) (drop at xs)) wanted → end ≡ at + k
+pub part-decides : (xs wanted : List ℕ) (at end k : ℕ) (r : Bool) → r ≡ pointwise nat_eq (take (end - at) (drop at xs)) wanted
+    → end ≡ at + k
     → Decides r (window k at xs ≡ wanted)
 part-decides xs wanted at end k r e h =
     let n : end - at ≡ k = omega (arith, h) in
@@ -52,7 +58,8 @@ pub times-below : (k p n : ℕ) → p < n → k * p + k ≤ k * n
 times-below k p n h = grind arith
 
 -- what `==` says of a tail of a slice
-pub tail-decides : (xs ys : List ℕ) (at : ℕ) (r : Bool) → r ≡ pointwise nat_eq (take (length xs - at) (drop at xs)) ys → Decides r (drop at xs ≡ ys)
+pub tail-decides : (xs ys : List ℕ) (at : ℕ) (r : Bool) → r ≡ pointwise nat_eq (take (length xs - at) (drop at xs)) ys
+    → Decides r (drop at xs ≡ ys)
 tail-decides xs ys at r e =
     let all : take (length xs - at) (drop at xs) ≡ drop at xs = take_all (length xs - at) (drop at xs) (omega (arith, length-drop at xs)) in
     slice_eq-Decides nat_decides (drop at xs) ys r (e ∙ ap (λ x. pointwise nat_eq x ys) all)
@@ -61,4 +68,6 @@ tail-decides xs ys at r e =
 pub window-window : (k i m at : ℕ) (xs : List ℕ) → i + k ≤ m → window k i (window m at xs) ≡ window k (at + i) xs
 window-window k i m at xs h =
     let is : i + (m - i) ≡ m = omega (arith, h) in
-    ap (λ n. take k (drop i (take n (drop at xs)))) (sym is) ∙ (ap (λ ys. take k ys) (drop-take i (m - i) (drop at xs)) ∙ (take-take k (m - i) (drop i (drop at xs)) (omega (arith, h)) ∙ ap (λ ys. take k ys) (drop-drop i at xs)))
+    ap (λ n. take k (drop i (take n (drop at xs)))) (sym is)
+    ∙ (ap (λ ys. take k ys) (drop-take i (m - i) (drop at xs))
+    ∙ (take-take k (m - i) (drop i (drop at xs)) (omega (arith, h)) ∙ ap (λ ys. take k ys) (drop-drop i at xs)))

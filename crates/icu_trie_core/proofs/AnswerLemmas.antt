@@ -20,7 +20,8 @@ fast_limit_most Fast = (omega arith, refl)
 fast_limit_most Small = (omega arith, refl)
 
 module _ {A : Type 0} (h : CodePointTrieHeader) (index : List ℕ) (values : List A) (u : ℕ) where
-  pub fast_answer : (offset : ℕ) → u < 1114112 → u < fast_limit h.trie_type → slice_get index (u / 64) ≡ Some offset → answer h index values u ≡ slice_get values (offset + u % 64)
+  pub fast_answer : (offset : ℕ) → u < 1114112 → u < fast_limit h.trie_type → slice_get index (u / 64) ≡ Some offset
+      → answer h index values u ≡ slice_get values (offset + u % 64)
   unfolding answer
   fast_answer offset within below is = rw (le-ltb 1114111 u (omega (arith, within)), lt-ltb u (fast_limit h.trie_type) below, is) refl
 
@@ -28,18 +29,21 @@ module _ {A : Type 0} (h : CodePointTrieHeader) (index : List ℕ) (values : Lis
   unfolding answer
   fast_none within below is = rw (le-ltb 1114111 u (omega (arith, within)), lt-ltb u (fast_limit h.trie_type) below, is) refl
 
-  pub small_answer : (offset : ℕ) → u < 1114112 → fast_limit h.trie_type ≤ u → u < h.high_start → small_offset h.trie_type index u ≡ Some offset → answer h index values u ≡ slice_get values (offset + u % 16)
+  pub small_answer : (offset : ℕ) → u < 1114112 → fast_limit h.trie_type ≤ u → u < h.high_start
+      → small_offset h.trie_type index u ≡ Some offset → answer h index values u ≡ slice_get values (offset + u % 16)
   unfolding answer
   small_answer offset within from below is =
       rw (le-ltb 1114111 u (omega (arith, within)), le-ltb u (fast_limit h.trie_type) from, lt-ltb u h.high_start below, is) refl
 
-  pub small_none : u < 1114112 → fast_limit h.trie_type ≤ u → u < h.high_start → small_offset h.trie_type index u ≡ None → answer h index values u ≡ None
+  pub small_none : u < 1114112 → fast_limit h.trie_type ≤ u → u < h.high_start → small_offset h.trie_type index u ≡ None
+      → answer h index values u ≡ None
   unfolding answer
   small_none within from below is =
       rw (le-ltb 1114111 u (omega (arith, within)), le-ltb u (fast_limit h.trie_type) from, lt-ltb u h.high_start below, is) refl
 
 -- the data offset at a place of a block of 512
-pub small_offset_at : (kind : TrieType) (index : List ℕ) (base block i : ℕ) → base % 512 ≡ 0 → i < 512 → index2_cell kind index base ≡ Some block
+pub small_offset_at : (kind : TrieType) (index : List ℕ) (base block i : ℕ) → base % 512 ≡ 0 → i < 512
+    → index2_cell kind index base ≡ Some block
     → small_offset kind index (base + i) ≡ offset_in_block index block (i / 16)
 unfolding small_offset
 small_offset_at kind index base block i aligned in_block two =
@@ -59,7 +63,8 @@ small_offset_in kind index c block two =
     let here : index2_cell kind index c ≡ Some block = rw (a, b) at two in
     rw (here, p) refl
 
-pub small_offset_missing : (kind : TrieType) (index : List ℕ) (c : ℕ) → index2_cell kind index (c / 512 * 512) ≡ None → small_offset kind index c ≡ None
+pub small_offset_missing : (kind : TrieType) (index : List ℕ) (c : ℕ) → index2_cell kind index (c / 512 * 512) ≡ None
+    → small_offset kind index c ≡ None
 unfolding small_offset
 small_offset_missing kind index c none =
     let a : c / 512 * 512 / 512 ≡ c / 512 = omega arith in
@@ -67,6 +72,7 @@ small_offset_missing kind index c none =
     let here : index2_cell kind index c ≡ None = rw (a, b) at none in
     rw here refl
 
-pub small_offset_none : (kind : TrieType) (index : List ℕ) (base : ℕ) → index2_cell kind index base ≡ None → small_offset kind index base ≡ None
+pub small_offset_none : (kind : TrieType) (index : List ℕ) (base : ℕ) → index2_cell kind index base ≡ None
+    → small_offset kind index base ≡ None
 unfolding small_offset
 small_offset_none kind index base none = rw none refl

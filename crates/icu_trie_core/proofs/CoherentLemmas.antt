@@ -31,7 +31,8 @@ within xs i e = elim (none_or_some (slice_get xs i)) [
 ]
 
 -- a block of 16 has one data offset
-small_offset_in : (kind : TrieType) (index : List ℕ) (b i : ℕ) → i < 16 → small_offset kind index (b * 16 + i) ≡ small_offset kind index (b * 16)
+small_offset_in : (kind : TrieType) (index : List ℕ) (b i : ℕ) → i < 16
+    → small_offset kind index (b * 16 + i) ≡ small_offset kind index (b * 16)
 unfolding small_offset
 small_offset_in kind index b i lt =
     let two : (b * 16 + i) / 512 ≡ b * 16 / 512 = omega (arith, lt) in
@@ -47,7 +48,8 @@ module _ {A : Type 0} (of_number : ℕ → Option A) (h : CodePointTrieHeader) (
       let lt = slice_get_within values (offset + (k - 1)) n.0 (n.2 (k - 1) (omega (arith, some))) in
       omega (arith, lt, some)
 
-  IsNullBlock-from_cells : (k offset : ℕ) → 0 < k → offset + k ≤ length values → ((i : ℕ) → i < k → slice_get values (offset + i) ≡ of_number h.null_value) → IsNullBlock of_number h values k offset
+  IsNullBlock-from_cells : (k offset : ℕ) → 0 < k → offset + k ≤ length values
+      → ((i : ℕ) → i < k → slice_get values (offset + i) ≡ of_number h.null_value) → IsNullBlock of_number h values k offset
   IsNullBlock-from_cells k offset some fits all = elim (none_or_some (of_number h.null_value)) [
     | inl none ↦
         elim (slice_get_cases values (offset + 0)).1 [
@@ -73,7 +75,8 @@ module _ {A : Type 0} (of_number : ℕ → Option A) (h : CodePointTrieHeader) (
       ]
 
 -- the null index-2 cell is as it has to be where its blocks are null
-pub null_cell_is : {A : Type 0} (of_number : ℕ → Option A) (h : CodePointTrieHeader) (index : List ℕ) (values : List A) (cell : ℕ) → cell ≡ h.index3_null_offset
+pub null_cell_is : {A : Type 0} (of_number : ℕ → Option A) (h : CodePointTrieHeader) (index : List ℕ) (values : List A) (cell : ℕ)
+    → cell ≡ h.index3_null_offset
     → NamesOffsets index h.index3_null_offset (IsNullBlock of_number h values 16) → IsCell of_number h index values cell
 null_cell_is of_number h index values cell is null = rw is (
   λ p lt. blocks (offset_in_block index h.index3_null_offset p) (null p lt),
@@ -85,7 +88,8 @@ null_cell_is of_number h index values cell is null = rw is (
     blocks (Some offset) e = (IsNullBlock-fits of_number h values 16 offset (omega arith) e, λ _. e)
 
 -- the blocks up to the next one, of which the cell is known
-pub blocks_next : (low block cell : ℕ) (f : ℕ → Option ℕ) (P : ℕ → Type 0) → ((b : ℕ) → low ≤ b * 512 → b < block → IsSomeAnd (f b) P) → f block ≡ Some cell → P cell
+pub blocks_next : (low block cell : ℕ) (f : ℕ → Option ℕ) (P : ℕ → Type 0) → ((b : ℕ) → low ≤ b * 512 → b < block → IsSomeAnd (f b) P)
+    → f block ≡ Some cell → P cell
     → (b : ℕ) → low ≤ b * 512 → b < block + 1 → IsSomeAnd (f b) P
 blocks_next low block cell f P before is holds b from lt = elim (cases_lt b block) [
   | inl p ↦ before b from p
@@ -103,12 +107,14 @@ same_option (Some y) x e = ap (λ n. Some n) (eqb-true y x (not_false (nat_eq y 
 
 module _ {A : Type 0} (h : CodePointTrieHeader) (index : List ℕ) (values : List A) where
   -- a place of a block of 64 below the fast limit
-  answer-fast : (b offset i : ℕ) → b * 64 < fast_limit h.trie_type → slice_get index b ≡ Some offset → i < 64 → answer h index values (b * 64 + i) ≡ slice_get values (offset + i)
+  answer-fast : (b offset i : ℕ) → b * 64 < fast_limit h.trie_type → slice_get index b ≡ Some offset → i < 64
+      → answer h index values (b * 64 + i) ≡ slice_get values (offset + i)
   answer-fast b offset i fast is lt =
       let most = fast_limit_most h.trie_type in
       let here : (b * 64 + i) / 64 ≡ b = omega (arith, lt) in
       let place : (b * 64 + i) % 64 ≡ i = omega (arith, lt) in
-      fast_answer h index values (b * 64 + i) offset (omega (arith, most, fast, lt)) (omega (arith, most, fast, lt)) (rw here is) ∙ ap (λ n. slice_get values (offset + n)) place
+      fast_answer h index values (b * 64 + i) offset (omega (arith, most, fast, lt)) (omega (arith, most, fast, lt)) (rw here is)
+      ∙ ap (λ n. slice_get values (offset + n)) place
 
   answer-fast_missing : (b : ℕ) → b * 64 < fast_limit h.trie_type → slice_get index b ≡ None → answer h index values (b * 64) ≡ None
   answer-fast_missing b fast is =
@@ -119,27 +125,35 @@ module _ {A : Type 0} (h : CodePointTrieHeader) (index : List ℕ) (values : Lis
   -- from the fast limit and the high start on
   answer-high : (u : ℕ) → u < 0x110000 → fast_limit h.trie_type ≤ u → h.high_start ≤ u → answer h index values u ≡ high_value values
   unfolding answer
-  answer-high u lt from high = rw (le-ltb 1114111 u (omega (arith, lt)), le-ltb u (fast_limit h.trie_type) from, le-ltb u h.high_start high) refl
+  answer-high u lt from high = rw (le-ltb 1114111 u (omega (arith, lt)), le-ltb u (fast_limit h.trie_type) from, le-ltb u h.high_start high)
+      refl
 
-  module _ (aligned : h.high_start % 512 ≡ 0) (most : h.high_start ≤ 0x110000) (b : ℕ) (from : fast_limit h.trie_type ≤ b * 512) (below : b * 512 < h.high_start) where
+  module _ (aligned : h.high_start % 512 ≡ 0) (most : h.high_start ≤ 0x110000) (b : ℕ) (from : fast_limit h.trie_type ≤ b * 512)
+      (below : b * 512 < h.high_start) where
     answer-cell_missing : index2_cell h.trie_type index (b * 512) ≡ None → answer h index values (b * 512) ≡ None
-    answer-cell_missing none = small_none h index values (b * 512) (omega (arith, below, most)) from below (small_offset_none h.trie_type index (b * 512) none)
+    answer-cell_missing none = small_none h index values (b * 512)
+        (omega (arith, below, most)) from below (small_offset_none h.trie_type index (b * 512) none)
 
     module _ (cell : ℕ) (two : index2_cell h.trie_type index (b * 512) ≡ Some cell) (p : ℕ) (in_cell : p < 32) where
       -- the data offset of a block of 16
       offset-at : (i : ℕ) → i < 16 → small_offset h.trie_type index (b * 512 + (p * 16 + i)) ≡ offset_in_block index cell p
       offset-at i lt =
           let here : (p * 16 + i) / 16 ≡ p = omega (arith, lt) in
-          small_offset_at h.trie_type index (b * 512) cell (p * 16 + i) (omega arith) (omega (arith, lt, in_cell)) two ∙ ap (λ n. offset_in_block index cell n) here
+          small_offset_at h.trie_type index (b * 512) cell (p * 16 + i) (omega arith) (omega (arith, lt, in_cell)) two
+          ∙ ap (λ n. offset_in_block index cell n) here
 
-      answer-small : (offset i : ℕ) → offset_in_block index cell p ≡ Some offset → i < 16 → answer h index values (b * 512 + (p * 16 + i)) ≡ slice_get values (offset + i)
+      answer-small : (offset i : ℕ) → offset_in_block index cell p ≡ Some offset → i < 16
+          → answer h index values (b * 512 + (p * 16 + i)) ≡ slice_get values (offset + i)
       answer-small offset i three lt =
           let place : (b * 512 + (p * 16 + i)) % 16 ≡ i = omega (arith, lt) in
-          small_answer h index values (b * 512 + (p * 16 + i)) offset (omega (arith, below, most, aligned, in_cell, lt)) (omega (arith, from)) (omega (arith, below, aligned, in_cell, lt)) (offset-at i lt ∙ three) ∙ ap (λ n. slice_get values (offset + n)) place
+          small_answer h index values (b * 512 + (p * 16 + i)) offset (omega (arith, below, most, aligned, in_cell, lt))
+          (omega (arith, from)) (omega (arith, below, aligned, in_cell, lt)) (offset-at i lt ∙ three)
+          ∙ ap (λ n. slice_get values (offset + n)) place
 
       answer-offset_missing : offset_in_block index cell p ≡ None → answer h index values (b * 512 + (p * 16 + 0)) ≡ None
       answer-offset_missing none =
-          small_none h index values (b * 512 + (p * 16 + 0)) (omega (arith, below, most, aligned, in_cell)) (omega (arith, from)) (omega (arith, below, aligned, in_cell)) (offset-at 0 (omega arith) ∙ none)
+          small_none h index values (b * 512 + (p * 16 + 0)) (omega (arith, below, most, aligned, in_cell)) (omega (arith, from))
+          (omega (arith, below, aligned, in_cell)) (offset-at 0 (omega arith) ∙ none)
 
 module _ {A : Type 0} (of_number : ℕ → Option A) (h : CodePointTrieHeader) (index : List ℕ) (values : List A) where
   module _ (c : IsCoherent of_number h index values) where
@@ -154,7 +168,8 @@ module _ {A : Type 0} (of_number : ℕ → Option A) (h : CodePointTrieHeader) (
                     let is = c.high (b * 64) from (omega (arith, most, fast)) in
                     absurd (not_there (high_value values) (sym is.0 ∙ answer-fast_missing h index values b fast none) is.1)
                 | inr o ↦ and_some (slice_get index b) (λ offset. AreAll values 64 offset v.0) o.0 o.1 (λ i in_block.
-                    sym (answer-fast h index values b o.0 i fast o.1 in_block) ∙ (c.high (b * 64 + i) (omega (arith, from)) (omega (arith, most, fast, in_block))).0 ∙ v.1)
+                    sym (answer-fast h index values b o.0 i fast o.1 in_block)
+                    ∙ (c.high (b * 64 + i) (omega (arith, from)) (omega (arith, most, fast, in_block))).0 ∙ v.1)
               ])
         ]
 
@@ -162,9 +177,12 @@ module _ {A : Type 0} (of_number : ℕ → Option A) (h : CodePointTrieHeader) (
     AreFastBlocks-from_coherent b fast below =
         let aligned = c.aligned in
         elim (none_or_some (slice_get index b)) [
-          | inl none ↦ absurd (not_there (answer h index values (b * 64)) (answer-fast_missing h index values b fast none) (c.inside (b * 64) below))
+          | inl none ↦ absurd (not_there (answer h index values (b * 64)) (answer-fast_missing h index values b fast none)
+              (c.inside (b * 64) below))
           | inr o ↦
-              let last = within values (o.0 + 63) (rw (answer-fast h index values b o.0 63 fast o.1 (omega arith)) at (c.inside (b * 64 + 63) (omega (arith, below, aligned)))) in
+              let last =
+              within values (o.0 + 63) (rw (answer-fast h index values b o.0 63 fast o.1 (omega arith)) at
+              (c.inside (b * 64 + 63) (omega (arith, below, aligned)))) in
               let fits : o.0 + 64 ≤ length values = omega (arith, last) in
               and_some (slice_get index b) (IsBlock of_number h values 64) o.0 o.1 (
                 fits,
@@ -179,24 +197,37 @@ module _ {A : Type 0} (of_number : ℕ → Option A) (h : CodePointTrieHeader) (
     AreSmallBlocks-from_coherent : AreSmallBlocks of_number h index values
     AreSmallBlocks-from_coherent b from below =
         elim (none_or_some (index2_cell h.trie_type index (b * 512))) [
-          | inl none ↦ absurd (not_there (answer h index values (b * 512)) (answer-cell_missing h index values c.aligned c.within b from below none) (c.inside (b * 512) below))
-          | inr two ↦ and_some (index2_cell h.trie_type index (b * 512)) (IsCell of_number h index values) two.0 two.1 (blocks two.0 two.1, null_blocks two.0 two.1)
+          | inl none ↦
+              absurd (not_there (answer h index values (b * 512)) (answer-cell_missing h index values c.aligned c.within b from below none)
+              (c.inside (b * 512) below))
+          | inr two ↦ and_some (index2_cell h.trie_type index (b * 512))
+              (IsCell of_number h index values) two.0 two.1 (blocks two.0 two.1, null_blocks two.0 two.1)
         ]
       where
         aligned : h.high_start % 512 ≡ 0
         aligned = c.aligned
 
-        small : (cell : ℕ) → index2_cell h.trie_type index (b * 512) ≡ Some cell → (p offset i : ℕ) → p < 32 → offset_in_block index cell p ≡ Some offset → i < 16 → answer h index values (b * 512 + (p * 16 + i)) ≡ slice_get values (offset + i)
-        small cell two p offset i in_cell three lt = answer-small h index values c.aligned c.within b from below cell two p in_cell offset i three lt
+        small : (cell : ℕ) → index2_cell h.trie_type index (b * 512) ≡ Some cell → (p offset i : ℕ) → p < 32
+            → offset_in_block index cell p ≡ Some offset → i < 16
+            → answer h index values (b * 512 + (p * 16 + i)) ≡ slice_get values (offset + i)
+        small cell two p offset i in_cell three lt =
+            answer-small h index values c.aligned c.within b from below cell two p in_cell offset i three lt
 
-        fits : (cell : ℕ) → index2_cell h.trie_type index (b * 512) ≡ Some cell → (p offset : ℕ) → p < 32 → offset_in_block index cell p ≡ Some offset → offset + 16 ≤ length values
+        fits : (cell : ℕ) → index2_cell h.trie_type index (b * 512) ≡ Some cell → (p offset : ℕ) → p < 32
+            → offset_in_block index cell p ≡ Some offset → offset + 16 ≤ length values
         fits cell two p offset in_cell three =
-            let last = within values (offset + 15) (rw (small cell two p offset 15 in_cell three (omega arith)) at (c.inside (b * 512 + (p * 16 + 15)) (omega (arith, below, aligned, in_cell)))) in
+            let last =
+            within values (offset + 15) (rw (small cell two p offset 15 in_cell three (omega arith)) at
+            (c.inside (b * 512 + (p * 16 + 15)) (omega (arith, below, aligned, in_cell)))) in
             omega (arith, last)
 
-        offset_there : (cell : ℕ) → index2_cell h.trie_type index (b * 512) ≡ Some cell → (p : ℕ) → p < 32 → (offset : ℕ) × (offset_in_block index cell p ≡ Some offset)
+        offset_there : (cell : ℕ) → index2_cell h.trie_type index (b * 512) ≡ Some cell → (p : ℕ) → p < 32
+            → (offset : ℕ) × (offset_in_block index cell p ≡ Some offset)
         offset_there cell two p in_cell = elim (none_or_some (offset_in_block index cell p)) [
-          | inl none ↦ absurd (not_there (answer h index values (b * 512 + (p * 16 + 0))) (answer-offset_missing h index values c.aligned c.within b from below cell two p in_cell none) (c.inside (b * 512 + (p * 16 + 0)) (omega (arith, below, aligned, in_cell))))
+          | inl none ↦
+              absurd (not_there (answer h index values (b * 512 + (p * 16 + 0)))
+              (answer-offset_missing h index values c.aligned c.within b from below cell two p in_cell none)
+              (c.inside (b * 512 + (p * 16 + 0)) (omega (arith, below, aligned, in_cell))))
           | inr three ↦ three
         ]
 
@@ -211,41 +242,63 @@ module _ {A : Type 0} (of_number : ℕ → Option A) (h : CodePointTrieHeader) (
                   IsNullBlock-from_cells of_number h values 16 three.0 (omega arith) whole (λ i lt.
                   let here : (b * 32 + p) * 16 ≡ b * 512 + (p * 16 + 0) = omega arith in
                   let there_is : (b * 32 + p) * 16 + i ≡ b * 512 + (p * 16 + i) = omega arith in
-                  let named : small_offset h.trie_type index ((b * 32 + p) * 16) ≡ Some h.data_null_offset = rw here (offset-at h index values c.aligned c.within b from below cell two p in_cell 0 (omega arith) ∙ three.1 ∙ ap (λ n. Some n) null) in
-                  sym (small cell two p three.0 i in_cell three.1 lt) ∙ (ap (λ n. answer h index values n) (sym there_is) ∙ c.null_16 (b * 32 + p) (omega (arith, from)) (omega (arith, below, aligned, in_cell)) named i lt)),
+                  let named : small_offset h.trie_type index ((b * 32 + p) * 16) ≡ Some h.data_null_offset =
+                  rw here (offset-at h index values c.aligned c.within b from below cell two p in_cell 0 (omega arith) ∙ three.1
+                  ∙ ap (λ n. Some n) null) in
+                  sym (small cell two p three.0 i in_cell three.1 lt)
+                  ∙ (ap (λ n. answer h index values n) (sym there_is)
+                  ∙ c.null_16 (b * 32 + p) (omega (arith, from)) (omega (arith, below, aligned, in_cell)) named i lt)),
             )
 
-        null_blocks : (cell : ℕ) → index2_cell h.trie_type index (b * 512) ≡ Some cell → cell ≡ h.index3_null_offset → NamesOffsets index cell (IsNullBlock of_number h values 16)
+        null_blocks : (cell : ℕ) → index2_cell h.trie_type index (b * 512) ≡ Some cell → cell ≡ h.index3_null_offset
+            → NamesOffsets index cell (IsNullBlock of_number h values 16)
         null_blocks cell two null p in_cell =
             let three = offset_there cell two p in_cell in
             and_some (offset_in_block index cell p) (IsNullBlock of_number h values 16) three.0 three.1
             (IsNullBlock-from_cells of_number h values 16 three.0 (omega arith) (fits cell two p three.0 in_cell three.1) (λ i lt.
-            sym (small cell two p three.0 i in_cell three.1 lt) ∙ c.null_512 b from below (two ∙ ap (λ n. Some n) null) (p * 16 + i) (omega (arith, in_cell, lt))))
+            sym (small cell two p three.0 i in_cell three.1 lt)
+            ∙ c.null_512 b from below (two ∙ ap (λ n. Some n) null) (p * 16 + i) (omega (arith, in_cell, lt))))
 
   module _ (aligned : h.high_start % 512 ≡ 0) (most : h.high_start ≤ 0x110000) where
     -- below the fast limit and the high start: the block, and the answer in it
     fast_block : AreFastBlocks of_number h index values → (u : ℕ) → u < fast_limit h.trie_type → u < h.high_start
-        → (offset : ℕ) × (slice_get index (u / 64) ≡ Some offset) × IsBlock of_number h values 64 offset × (answer h index values u ≡ slice_get values (offset + u % 64))
+        → (offset : ℕ) × (slice_get index (u / 64) ≡ Some offset) × IsBlock of_number h values 64 offset
+        × (answer h index values u ≡ slice_get values (offset + u % 64))
     fast_block fast u l k =
         let o = some_and (slice_get index (u / 64)) (IsBlock of_number h values 64) (fast (u / 64) (omega (arith, l)) (omega (arith, k))) in
         let m = fast_limit_most h.trie_type in
         (o.0, o.1, o.2, fast_answer h index values u o.0 (omega (arith, l, m)) l o.1)
 
     small_block : AreSmallBlocks of_number h index values → (u : ℕ) → fast_limit h.trie_type ≤ u → u < h.high_start
-        → (cell : ℕ) × (offset : ℕ) × (index2_cell h.trie_type index (u / 512 * 512) ≡ Some cell) × (small_offset h.trie_type index u ≡ Some offset) × IsBlock of_number h values 16 offset
-        × (cell ≡ h.index3_null_offset → IsNullBlock of_number h values 16 offset) × (answer h index values u ≡ slice_get values (offset + u % 16))
+        → (cell : ℕ) × (offset : ℕ) × (index2_cell h.trie_type index (u / 512 * 512) ≡ Some cell)
+        × (small_offset h.trie_type index u ≡ Some offset) × IsBlock of_number h values 16 offset
+        × (cell ≡ h.index3_null_offset → IsNullBlock of_number h values 16 offset)
+        × (answer h index values u ≡ slice_get values (offset + u % 16))
     small_block small u l k =
         let m = fast_limit_most h.trie_type in
-        let two = some_and (index2_cell h.trie_type index (u / 512 * 512)) (IsCell of_number h index values) (small (u / 512) (omega (arith, l, m)) (omega (arith, k))) in
-        let three = some_and (offset_in_block index two.0 (u % 512 / 16)) (IsBlock of_number h values 16) (two.2.0 (u % 512 / 16) (omega arith)) in
+        let two = some_and (index2_cell h.trie_type index (u / 512 * 512)) (IsCell of_number h index values)
+        (small (u / 512) (omega (arith, l, m)) (omega (arith, k))) in
+        let three = some_and (offset_in_block index two.0 (u % 512 / 16)) (IsBlock of_number h values 16)
+        (two.2.0 (u % 512 / 16) (omega arith)) in
         let whole : u / 512 * 512 + u % 512 ≡ u = omega arith in
-        let off : small_offset h.trie_type index u ≡ Some three.0 = ap (λ n. small_offset h.trie_type index n) (sym whole) ∙ (small_offset_at h.trie_type index (u / 512 * 512) two.0 (u % 512) (omega arith) (omega arith) two.1 ∙ three.1) in
-        (two.0, three.0, two.1, off, three.2, λ null. null_of two.0 three.0 (u % 512 / 16) three.1 (two.2.1 null (u % 512 / 16) (omega arith)), small_answer h index values u three.0 (omega (arith, k, most)) l k off)
+        let off : small_offset h.trie_type index u ≡ Some three.0 = ap (λ n. small_offset h.trie_type index n) (sym whole)
+        ∙ (small_offset_at h.trie_type index (u / 512 * 512) two.0 (u % 512) (omega arith) (omega arith) two.1 ∙ three.1) in (
+          two.0,
+          three.0,
+          two.1,
+          off,
+          three.2,
+          λ null.
+              null_of two.0 three.0 (u % 512 / 16) three.1 (two.2.1 null (u % 512 / 16) (omega arith)),
+          small_answer h index values u three.0 (omega (arith, k, most)) l k off,
+        )
       where
-        null_of : (cell offset p : ℕ) → offset_in_block index cell p ≡ Some offset → IsSomeAnd (offset_in_block index cell p) (IsNullBlock of_number h values 16) → IsNullBlock of_number h values 16 offset
+        null_of : (cell offset p : ℕ) → offset_in_block index cell p ≡ Some offset
+            → IsSomeAnd (offset_in_block index cell p) (IsNullBlock of_number h values 16) → IsNullBlock of_number h values 16 offset
         null_of cell offset p is e = rw is at e
 
-    IsCoherent-from_blocks : HasHighValue h index values → AreFastBlocks of_number h index values → AreSmallBlocks of_number h index values → IsCoherent of_number h index values
+    IsCoherent-from_blocks : HasHighValue h index values → AreFastBlocks of_number h index values → AreSmallBlocks of_number h index values
+        → IsCoherent of_number h index values
     IsCoherent-from_blocks high fast small = record {
       aligned = aligned;
       within = most;
@@ -253,7 +306,8 @@ module _ {A : Type 0} (of_number : ℕ → Option A) (h : CodePointTrieHeader) (
           let v = some_and (high_value values) (AreHighBlocks h index values) (high (omega (arith, from, lt))) in
           elim (cases_lt u (fast_limit h.trie_type)) [
             | inl p ↦
-                let o = some_and (slice_get index (u / 64)) (λ offset. AreAll values 64 offset v.0) (v.2 (u / 64) (omega (arith, from, aligned)) (omega (arith, p))) in
+                let o = some_and (slice_get index (u / 64)) (λ offset. AreAll values 64 offset v.0)
+                (v.2 (u / 64) (omega (arith, from, aligned)) (omega (arith, p))) in
                 (fast_answer h index values u o.0 lt p o.1 ∙ (o.2 (u % 64) (omega arith) ∙ sym v.1), there (high_value values) v.0 v.1)
             | inr p ↦ (answer-high h index values u lt p from, there (high_value values) v.0 v.1)
           ];
@@ -280,7 +334,8 @@ module _ {A : Type 0} (of_number : ℕ → Option A) (h : CodePointTrieHeader) (
           o.6 ∙ cell-null of_number h values 16 o.1 ((b * 512 + i) % 16) (omega arith) (o.5 null);
     }
 
-    pub coherent_by_blocks : (AreCoherentBlocks of_number h index values → IsCoherent of_number h index values) × (IsCoherent of_number h index values → AreCoherentBlocks of_number h index values)
+    pub coherent_by_blocks : (AreCoherentBlocks of_number h index values → IsCoherent of_number h index values)
+        × (IsCoherent of_number h index values → AreCoherentBlocks of_number h index values)
     coherent_by_blocks = (
       λ e. IsCoherent-from_blocks e.high e.fast e.small,
       λ c. record { high = HasHighValue-from_coherent c; fast = AreFastBlocks-from_coherent c; small = AreSmallBlocks-from_coherent c },

@@ -14,13 +14,15 @@ in_fast_index Fast c below = omega arith
 in_fast_index Small c below = omega arith
 
 -- a block of 64 that the fast index names lies inside the data
-pub block_inside : (kind : TrieType) (index : List ℕ) (len i offset : ℕ) → passes_data kind index len ≡ false → slice_get index i ≡ Some offset
+pub block_inside : (kind : TrieType) (index : List ℕ) (len i offset : ℕ) → passes_data kind index len ≡ false
+    → slice_get index i ≡ Some offset
     → i < fast_index_len kind → offset + 64 ≤ len
 block_inside kind index len i offset whole at within =
     ltb-false len (offset + 64) (not_found (λ o. nat_lt len (o + 64)) index i (fast_index_len kind) offset whole at within)
 
 -- so the data have a block of 64 at least
-pub data_at_least : (kind : TrieType) (index : List ℕ) (len : ℕ) → passes_data kind index len ≡ false → fast_index_len kind ≤ length index → 64 ≤ len
+pub data_at_least : (kind : TrieType) (index : List ℕ) (len : ℕ) → passes_data kind index len ≡ false → fast_index_len kind ≤ length index
+    → 64 ≤ len
 data_at_least kind index len whole fits = elim (slice_get_cases index 0).1 [
   | inl p ↦ let inside = block_inside kind index len 0 p.0 whole p.2 (some kind) in omega (arith, inside)
   | inr p ↦ let past = p.0 in let lt = some kind in absurd (omega (arith, past, lt, fits))

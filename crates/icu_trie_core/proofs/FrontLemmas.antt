@@ -27,18 +27,21 @@ module _ {T : Type 0} (p : T → Bool) where
   not_found (y ∷ xs) zero (suc n) x none at l = sym (ap p (same_Some y x at)) ∙ (or_false (p y) (list_any p (take n xs)) none).0
   not_found (y ∷ xs) (suc i) (suc n) x none at l = not_found xs i n x (or_false (p y) (list_any p (take n xs)) none).1 at (omega arith)
 
-  none_suc : (xs : List T) (i : ℕ) → list_any p (take i xs) ≡ false → IfSome (slice_get xs i) (λ x. p x ≡ false) → list_any p (take (suc i) xs) ≡ false
+  none_suc : (xs : List T) (i : ℕ) → list_any p (take i xs) ≡ false → IfSome (slice_get xs i) (λ x. p x ≡ false)
+      → list_any p (take (suc i) xs) ≡ false
   none_suc [] i none next = refl
   none_suc (y ∷ xs) zero none next = ap (λ b. b || false) next
   none_suc (y ∷ xs) (suc i) none next =
       let both = or_false (p y) (list_any p (take i xs)) none in
       ap (λ b. b || list_any p (take (suc i) xs)) both.0 ∙ none_suc xs i both.1 next
 
-  none_next : (xs : List T) (i : ℕ) → list_any p (take i xs) ≡ false → IfSome (slice_get xs i) (λ x. p x ≡ false) → list_any p (take (i + 1) xs) ≡ false
+  none_next : (xs : List T) (i : ℕ) → list_any p (take i xs) ≡ false → IfSome (slice_get xs i) (λ x. p x ≡ false)
+      → list_any p (take (i + 1) xs) ≡ false
   none_next xs i none next = ap (λ n. list_any p (take n xs)) (add-one i) ∙ none_suc xs i none next
 
   -- none so far, and not the next one
-  pub none_more : (xs : List T) (i : ℕ) (x : T) → list_any p (take i xs) ≡ false → slice_get xs i ≡ Some x → p x ≡ false → list_any p (take (i + 1) xs) ≡ false
+  pub none_more : (xs : List T) (i : ℕ) (x : T) → list_any p (take i xs) ≡ false → slice_get xs i ≡ Some x → p x ≡ false
+      → list_any p (take (i + 1) xs) ≡ false
   none_more xs i x none at t = none_next xs i none (rw at t)
 
   -- none so far, and there is no next one

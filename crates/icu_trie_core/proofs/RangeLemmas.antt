@@ -15,7 +15,9 @@ use Rattle.icu_trie_core.specs.Range.{GivesWalk, last_of}
 use Rattle.icu_trie_core.proofs.AnswerLemmas.{none_or_some}
 use Rattle.icu_trie_core.proofs.SeenLemmas.{seen-from_high, seen-below, seen-high}
 
-module _ {A : Type 0} (of_number : ℕ → Option A) (h : CodePointTrieHeader) (index : List ℕ) (values : List A) {start limit end : ℕ} {value : A} (from : h.high_start ≤ limit) (ends : EndsAt (seen of_number h index values) start limit value end) (whole : limit ≤ end) where
+module _ {A : Type 0} (of_number : ℕ → Option A) (h : CodePointTrieHeader) (index : List ℕ)
+    (values : List A) {start limit end : ℕ} {value : A} (from : h.high_start ≤ limit)
+    (ends : EndsAt (seen of_number h index values) start limit value end) (whole : limit ≤ end) where
   -- a walk has come to the high start, and there is no high value
   pub BreaksOff-at_high : limit < 0x110000 → high_value values ≡ None → BreaksOff (seen of_number h index values) start 0x110000 value
   BreaksOff-at_high lt none =
@@ -29,7 +31,8 @@ module _ {A : Type 0} (of_number : ℕ → Option A) (h : CodePointTrieHeader) (
       }
 
   -- it goes on over the high value
-  pub EndsAt-over_high : limit ≤ 0x110000 → IsSomeAnd (high_value values) (λ y. y ≡ value) → EndsAt (seen of_number h index values) start 0x110000 value 0x110000
+  pub EndsAt-over_high : limit ≤ 0x110000 → IsSomeAnd (high_value values) (λ y. y ≡ value)
+      → EndsAt (seen of_number h index values) start 0x110000 value 0x110000
   EndsAt-over_high le same =
       let b = ends.begun in let w = ends.within in
       record {
@@ -47,7 +50,8 @@ module _ {A : Type 0} (of_number : ℕ → Option A) (h : CodePointTrieHeader) (
       some_is (Some x) e = ap (λ y. Some y) e
 
   -- it ends there
-  pub EndsAt-at_high : limit ≤ 0x110000 → IsSomeAnd (high_value values) (λ y. y ≢ value) → EndsAt (seen of_number h index values) start 0x110000 value limit
+  pub EndsAt-at_high : limit ≤ 0x110000 → IsSomeAnd (high_value values) (λ y. y ≢ value)
+      → EndsAt (seen of_number h index values) start 0x110000 value limit
   EndsAt-at_high le other =
       let b = ends.begun in let w = ends.within in
       record {
@@ -59,7 +63,8 @@ module _ {A : Type 0} (of_number : ℕ → Option A) (h : CodePointTrieHeader) (
 
 module _ {A : Type 0} (of_number : ℕ → Option A) (h : CodePointTrieHeader) (index : List ℕ) (values : List A) (c : ℕ) where
   -- a walk gives a range where it comes to its end
-  pub GivesWalk-from_ends : (range : RangeInclusive ℕ) (value : A) (end : ℕ) → range_inclusive_start range ≡ c → range_inclusive_end range ≡ max end (c + 1) - 1 → range_inclusive_exhausted range ≡ false
+  pub GivesWalk-from_ends : (range : RangeInclusive ℕ) (value : A) (end : ℕ) → range_inclusive_start range ≡ c
+      → range_inclusive_end range ≡ max end (c + 1) - 1 → range_inclusive_exhausted range ≡ false
       → answer h index values c ≡ Some value → c < h.high_start → c < 0x110000 → EndsAt (seen of_number h index values) c 0x110000 value end
       → GivesWalk of_number h index values c (Some (record { range = range; value = value }))
   GivesWalk-from_ends range value end first last fresh is below lt e =
@@ -96,7 +101,8 @@ module _ {A : Type 0} (of_number : ℕ → Option A) (h : CodePointTrieHeader) (
   }
 
   -- it gives none where it breaks off
-  pub GivesWalk-from_break : (value : A) → answer h index values c ≡ Some value → c < h.high_start → BreaksOff (seen of_number h index values) c 0x110000 value → GivesWalk of_number h index values c None
+  pub GivesWalk-from_break : (value : A) → answer h index values c ≡ Some value → c < h.high_start
+      → BreaksOff (seen of_number h index values) c 0x110000 value → GivesWalk of_number h index values c None
   GivesWalk-from_break value is below e = record {
     shape = search rules;
     high = λ _. search rules;
@@ -108,7 +114,8 @@ module _ {A : Type 0} (of_number : ℕ → Option A) (h : CodePointTrieHeader) (
   }
 
   -- over a coherent trie it gives the longest run
-  pub LongestRun-from_gives : IsCoherent of_number h index values → (r : Option (CodePointMapRange A)) → GivesWalk of_number h index values c r → c < 0x110000
+  pub LongestRun-from_gives : IsCoherent of_number h index values → (r : Option (CodePointMapRange A))
+      → GivesWalk of_number h index values c r → c < 0x110000
       → IsSomeAnd r (λ x. LongestRun (answer h index values) c (last_of x) (Some x.value))
   LongestRun-from_gives coherent None gives lt = elim (none_or_some (answer h index values c)) [
     | inl none ↦ absurd (no_missing c lt none)
@@ -118,7 +125,11 @@ module _ {A : Type 0} (of_number : ℕ → Option A) (h : CodePointTrieHeader) (
   ]
     where
       saw : (u : ℕ) → u < 0x110000 → seen of_number h index values u ≡ answer h index values u
-      saw u w = elim (cases_lt u h.high_start) [ inl p ↦ seen-below of_number h index values coherent u p | inr p ↦ seen-high of_number h index values coherent u p w ]
+      saw u w = elim (cases_lt u h.high_start) [
+        | inl p ↦ seen-below of_number h index values coherent u p
+        | inr p ↦
+            seen-high of_number h index values coherent u p w
+      ]
 
       no_missing : (u : ℕ) → u < 0x110000 → answer h index values u ≡ None → ⊥
       no_missing u w none = elim (cases_lt u h.high_start) [
@@ -147,4 +158,8 @@ module _ {A : Type 0} (of_number : ℕ → Option A) (h : CodePointTrieHeader) (
       ]
     where
       saw : (u : ℕ) → u < 0x110000 → seen of_number h index values u ≡ answer h index values u
-      saw u w = elim (cases_lt u h.high_start) [ inl p ↦ seen-below of_number h index values coherent u p | inr p ↦ seen-high of_number h index values coherent u p w ]
+      saw u w = elim (cases_lt u h.high_start) [
+        | inl p ↦ seen-below of_number h index values coherent u p
+        | inr p ↦
+            seen-high of_number h index values coherent u p w
+      ]

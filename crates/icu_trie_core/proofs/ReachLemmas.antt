@@ -4,11 +4,13 @@ use Rattle.std.proofs.lemmas.Bool.{cases_lt}
 use Rattle.icu_trie_core.specs.Inside.Walk.{Holds, EndsAt, BreaksOff, Reaches}
 
 -- up to a place below the limit
-pub Holds-below_limit : {A : Type 0} {f : ℕ → Option A} {start : ℕ} {value : A} (base limit : ℕ) → base ≤ limit → Holds f start (min base limit) value → Holds f start base value
+pub Holds-below_limit : {A : Type 0} {f : ℕ → Option A} {start : ℕ} {value : A} (base limit : ℕ) → base ≤ limit
+    → Holds f start (min base limit) value → Holds f start base value
 Holds-below_limit base limit le holds u a b = holds u a (omega (arith, b, le))
 
 -- a block of len places at base, in which f is g. The value came up to the block, and place `from` is where it goes on
-module _ {A : Type 0} {f g : ℕ → Option A} {start base len from : ℕ} {value : A} (before : Holds f start base value) (agree : (i : ℕ) → i < len → f (base + i) ≡ g i) (from_is : from ≡ start - base) where
+module _ {A : Type 0} {f g : ℕ → Option A} {start base len from : ℕ} {value : A} (before : Holds f start base value)
+    (agree : (i : ℕ) → i < len → f (base + i) ≡ g i) (from_is : from ≡ start - base) where
   -- it goes on to place k of the block
   Holds-in_block : (k : ℕ) → k ≤ len → Holds g from k value → Holds f start (base + k) value
   Holds-in_block k most inside u a b = elim (cases_lt u base) [
@@ -25,7 +27,8 @@ module _ {A : Type 0} {f g : ℕ → Option A} {start base len from : ℕ} {valu
       Holds-in_block len (omega arith) (λ i c d. e.equal i c (omega (arith, whole, d))) u a (omega (arith, b, fits))
 
   -- it ends in the block, or at the limit where the block does
-  pub EndsAt-by_block : (limit reach : ℕ) → base + len ≤ limit → (len ≤ reach → limit ≤ base + len) → EndsAt g from len value reach → EndsAt f start limit value (base + reach)
+  pub EndsAt-by_block : (limit reach : ℕ) → base + len ≤ limit → (len ≤ reach → limit ≤ base + len) → EndsAt g from len value reach
+      → EndsAt f start limit value (base + reach)
   EndsAt-by_block limit reach fits last e =
       let b = e.begun in
       let w = e.within in
@@ -40,7 +43,8 @@ module _ {A : Type 0} {f g : ℕ → Option A} {start base len from : ℕ} {valu
       }
 
   -- it ends in the block
-  pub EndsAt-in_block : (limit reach : ℕ) → base + len ≤ limit → reach < len → EndsAt g from len value reach → EndsAt f start limit value (base + reach)
+  pub EndsAt-in_block : (limit reach : ℕ) → base + len ≤ limit → reach < len → EndsAt g from len value reach
+      → EndsAt f start limit value (base + reach)
   EndsAt-in_block limit reach fits lt e = EndsAt-by_block limit reach fits (λ no. absurd (omega (arith, no, lt))) e
 
   -- it breaks off in the block
@@ -57,7 +61,8 @@ module _ {A : Type 0} {f g : ℕ → Option A} {start base len from : ℕ} {valu
       }
 
 -- nothing is seen in a block of len places at base, to which the value came
-pub BreaksOff-at_block : {A : Type 0} {f : ℕ → Option A} {start base : ℕ} {value : A} (len limit : ℕ) → Holds f start base value → 0 < len → start < base + len → base + len ≤ limit → ((i : ℕ) → i < len → f (base + i) ≡ None) → BreaksOff f start limit value
+pub BreaksOff-at_block : {A : Type 0} {f : ℕ → Option A} {start base : ℕ} {value : A} (len limit : ℕ) → Holds f start base value → 0 < len
+    → start < base + len → base + len ≤ limit → ((i : ℕ) → i < len → f (base + i) ≡ None) → BreaksOff f start limit value
 BreaksOff-at_block {A} {f} {start} {base} {value} len limit before some begun fits none = record {
   place = base + (start - base);
   begun = omega arith;
@@ -70,7 +75,8 @@ BreaksOff-at_block {A} {f} {start} {base} {value} len limit before some begun fi
 }
 
 -- how far the value goes from mid on is how far it goes from start on, where it came up to mid
-pub Reaches-after : {A : Type 0} (f : ℕ → Option A) (start mid limit : ℕ) (value : A) (r : Option ℕ) → Holds f start mid value → start ≤ mid → Reaches f mid limit value r → Reaches f start limit value r
+pub Reaches-after : {A : Type 0} (f : ℕ → Option A) (start mid limit : ℕ) (value : A) (r : Option ℕ) → Holds f start mid value → start ≤ mid
+    → Reaches f mid limit value r → Reaches f start limit value r
 Reaches-after f start mid limit value None before le e =
     let b = e.begun in
     record {

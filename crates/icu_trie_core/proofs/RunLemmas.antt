@@ -53,7 +53,8 @@ module _ {A : Type 0} (f g : ℕ → A) (same : (u : ℕ) → u < 0x110000 → f
   AreRunsFrom-along c (r ∷ rs) h = (h.0, LongestRun-along r.first r.last r.value h.1, AreRunsFrom-along (r.last + 1) rs h.2)
 
 -- maps that are equal on the code points have the same maximal runs
-pub AreMaximalRuns-same : {A : Type 0} (f g : ℕ → A) → ((u : ℕ) → u < 0x110000 → f u ≡ g u) → (rs : List (Run A)) → AreMaximalRuns f rs ↔ AreMaximalRuns g rs
+pub AreMaximalRuns-same : {A : Type 0} (f g : ℕ → A) → ((u : ℕ) → u < 0x110000 → f u ≡ g u) → (rs : List (Run A))
+    → AreMaximalRuns f rs ↔ AreMaximalRuns g rs
 AreMaximalRuns-same f g same rs = (AreRunsFrom-along f g same 0 rs, AreRunsFrom-along g f (λ u lt. sym (same u lt)) 0 rs)
 
 module _ {A : Type 0} (g : ℕ → A) where
@@ -86,7 +87,8 @@ module _ {A : Type 0} (g : ℕ → A) where
       )
 
 -- a map that has each value of another one as Some has the same maximal runs
-pub AreMaximalRuns-some : {A : Type 0} (f : ℕ → Option A) (g : ℕ → A) → ((u : ℕ) → u < 0x110000 → f u ≡ Some (g u)) → (rs : List (Run A)) → AreMaximalRuns f (map some_run rs) ↔ AreMaximalRuns g rs
+pub AreMaximalRuns-some : {A : Type 0} (f : ℕ → Option A) (g : ℕ → A) → ((u : ℕ) → u < 0x110000 → f u ≡ Some (g u)) → (rs : List (Run A))
+    → AreMaximalRuns f (map some_run rs) ↔ AreMaximalRuns g rs
 AreMaximalRuns-some f g same rs =
     let along = AreMaximalRuns-same f (λ u. Some (g u)) same (map some_run rs) in
     (λ h. AreRunsFrom-from_some g 0 rs (along.0 h), λ h. along.1 (AreRunsFrom-to_some g 0 rs h))

@@ -16,24 +16,37 @@ module _ {A : Type 0} (of_number : ℕ → Option A) (h : CodePointTrieHeader) (
   unfolding seen
   fast_seen u offset fast below is =
       let most = (fast_limit_most h.trie_type).0 in
-      rw (lt-ltb u h.high_start below, lt-ltb u (fast_limit h.trie_type) fast, is, fast_answer h index values u offset (omega (arith, most, fast)) fast is) refl
+      rw (
+        lt-ltb u h.high_start below,
+        lt-ltb u (fast_limit h.trie_type) fast,
+        is,
+        fast_answer h index values u offset (omega (arith, most, fast)) fast is,
+      ) refl
 
   fast_missing : (u : ℕ) → u < fast_limit h.trie_type → u < h.high_start → slice_get index (u / 64) ≡ None
       → seen of_number h index values u ≡ None
   unfolding seen
   fast_missing u fast below is =
       let most = (fast_limit_most h.trie_type).0 in
-      rw (lt-ltb u h.high_start below, lt-ltb u (fast_limit h.trie_type) fast, is, fast_none h index values u (omega (arith, most, fast)) fast is) refl
+      rw (
+        lt-ltb u h.high_start below,
+        lt-ltb u (fast_limit h.trie_type) fast,
+        is,
+        fast_none h index values u (omega (arith, most, fast)) fast is,
+      ) refl
 
   -- in the first len places of a block of 64 that ends at the limit or below it
-  pub seen-fast_block : (b offset len limit : ℕ) → limit ≤ fast_limit h.trie_type → limit ≤ h.high_start → b * 64 + len ≤ limit → len ≤ 64 → slice_get index b ≡ Some offset
+  pub seen-fast_block : (b offset len limit : ℕ) → limit ≤ fast_limit h.trie_type → limit ≤ h.high_start → b * 64 + len ≤ limit → len ≤ 64
+      → slice_get index b ≡ Some offset
       → (i : ℕ) → i < len → seen of_number h index values (b * 64 + i) ≡ block_seen of_number h values offset i
   seen-fast_block b offset len limit fast below fits short is i lt =
       let block : (b * 64 + i) / 64 ≡ b = omega (arith, lt, short) in
       let place : (b * 64 + i) % 64 ≡ i = omega (arith, lt, short) in
-      fast_seen (b * 64 + i) offset (omega (arith, lt, fits, fast)) (omega (arith, lt, fits, below)) (rw block is) ∙ ap (λ k. block_seen of_number h values offset k) place
+      fast_seen (b * 64 + i) offset (omega (arith, lt, fits, fast)) (omega (arith, lt, fits, below)) (rw block is)
+      ∙ ap (λ k. block_seen of_number h values offset k) place
 
-  pub seen-fast_missing : (b len limit : ℕ) → limit ≤ fast_limit h.trie_type → limit ≤ h.high_start → b * 64 + len ≤ limit → len ≤ 64 → slice_get index b ≡ None
+  pub seen-fast_missing : (b len limit : ℕ) → limit ≤ fast_limit h.trie_type → limit ≤ h.high_start → b * 64 + len ≤ limit → len ≤ 64
+      → slice_get index b ≡ None
       → (i : ℕ) → i < len → seen of_number h index values (b * 64 + i) ≡ None
   seen-fast_missing b len limit fast below fits short is i lt =
       let block : (b * 64 + i) / 64 ≡ b = omega (arith, lt, short) in
@@ -41,7 +54,8 @@ module _ {A : Type 0} (of_number : ℕ → Option A) (h : CodePointTrieHeader) (
 
   -- from the fast limit on
   small_seen : (u cell : ℕ) → u < 0x110000 → fast_limit h.trie_type ≤ u → u < h.high_start → index2_cell h.trie_type index u ≡ Some cell
-      → small_offset h.trie_type index u ≡ offset_in_block index cell (u / 16 % 32) → seen of_number h index values u ≡ cell_seen of_number h index values cell (u % 512)
+      → small_offset h.trie_type index u ≡ offset_in_block index cell (u / 16 % 32)
+      → seen of_number h index values u ≡ cell_seen of_number h index values cell (u % 512)
   unfolding seen cell_seen
   small_seen u cell within from below two three =
       let p : u % 512 / 16 ≡ u / 16 % 32 = omega arith in
@@ -61,25 +75,35 @@ module _ {A : Type 0} (of_number : ℕ → Option A) (h : CodePointTrieHeader) (
       → small_offset h.trie_type index u ≡ None → seen of_number h index values u ≡ None
   unfolding seen
   small_missing u within from below two three =
-      rw (lt-ltb u h.high_start below, le-ltb u (fast_limit h.trie_type) from, two, three, small_none h index values u within from below three) refl
+      rw (
+        lt-ltb u h.high_start below,
+        le-ltb u (fast_limit h.trie_type) from,
+        two,
+        three,
+        small_none h index values u within from below three,
+      ) refl
 
   -- in the first len places of a block of 512 that ends at the limit or below it
-  pub seen-cell : (base cell len limit : ℕ) → base % 512 ≡ 0 → fast_limit h.trie_type ≤ base → limit ≤ 0x110000 → limit ≤ h.high_start → base + len ≤ limit → len ≤ 512 → index2_cell h.trie_type index base ≡ Some cell
+  pub seen-cell : (base cell len limit : ℕ) → base % 512 ≡ 0 → fast_limit h.trie_type ≤ base → limit ≤ 0x110000 → limit ≤ h.high_start
+      → base + len ≤ limit → len ≤ 512 → index2_cell h.trie_type index base ≡ Some cell
       → (i : ℕ) → i < len → seen of_number h index values (base + i) ≡ cell_seen of_number h index values cell i
   unfolding small_offset
   seen-cell base cell len limit aligned from within below fits short two i lt =
       let a : (base + i) / 512 ≡ base / 512 = omega (arith, aligned, lt, short) in
       let b : (base + i) / 16384 ≡ base / 16384 = omega (arith, aligned, lt, short) in
       let place : (base + i) % 512 ≡ i = omega (arith, aligned, lt, short) in
-      small_seen (base + i) cell (omega (arith, lt, fits, within)) (omega (arith, from)) (omega (arith, lt, fits, below)) (rw (a, b) two) (rw (a, b, two) refl) ∙ ap (λ k. cell_seen of_number h index values cell k) place
+      small_seen (base + i) cell (omega (arith, lt, fits, within)) (omega (arith, from)) (omega (arith, lt, fits, below)) (rw (a, b) two)
+      (rw (a, b, two) refl) ∙ ap (λ k. cell_seen of_number h index values cell k) place
 
-  pub seen-cell_missing : (base len limit : ℕ) → base % 512 ≡ 0 → fast_limit h.trie_type ≤ base → limit ≤ 0x110000 → limit ≤ h.high_start → base + len ≤ limit → len ≤ 512 → index2_cell h.trie_type index base ≡ None
+  pub seen-cell_missing : (base len limit : ℕ) → base % 512 ≡ 0 → fast_limit h.trie_type ≤ base → limit ≤ 0x110000 → limit ≤ h.high_start
+      → base + len ≤ limit → len ≤ 512 → index2_cell h.trie_type index base ≡ None
       → (i : ℕ) → i < len → seen of_number h index values (base + i) ≡ None
   unfolding small_offset
   seen-cell_missing base len limit aligned from within below fits short two i lt =
       let a : (base + i) / 512 ≡ base / 512 = omega (arith, aligned, lt, short) in
       let b : (base + i) / 16384 ≡ base / 16384 = omega (arith, aligned, lt, short) in
-      small_missing (base + i) (omega (arith, lt, fits, within)) (omega (arith, from)) (omega (arith, lt, fits, below)) (rw (a, b) two) (rw (a, b, two) refl)
+      small_missing (base + i) (omega (arith, lt, fits, within)) (omega (arith, from)) (omega (arith, lt, fits, below)) (rw (a, b) two)
+      (rw (a, b, two) refl)
 
   -- in the first len places of block p of 16 of a block of 512 that is not named as null
   pub cell_seen-block : (cell p offset len : ℕ) → cell ≢ h.index3_null_offset → len ≤ 16 → offset_in_block index cell p ≡ Some offset
@@ -112,15 +136,18 @@ cell_is : (n : ℕ) (o : Option ℕ) → is_cell n o ≡ true → o ≡ Some n
 cell_is n None e = cc
 cell_is n (Some x) e = grind (arith, nat_tests)
 
-module _ {A : Type 0} (of_number : ℕ → Option A) (h : CodePointTrieHeader) (index : List ℕ) (values : List A) (c : IsCoherent of_number h index values) where
-  fast_null : (u : ℕ) → u < fast_limit h.trie_type → u < h.high_start → fast_offset index u ≡ Some h.data_null_offset → answer h index values u ≡ of_number h.null_value
+module _ {A : Type 0} (of_number : ℕ → Option A) (h : CodePointTrieHeader) (index : List ℕ) (values : List A)
+    (c : IsCoherent of_number h index values) where
+  fast_null : (u : ℕ) → u < fast_limit h.trie_type → u < h.high_start → fast_offset index u ≡ Some h.data_null_offset
+      → answer h index values u ≡ of_number h.null_value
   fast_null u l k e =
       let a : u / 64 * 64 / 64 ≡ u / 64 = omega arith in
       let d : fast_offset index (u / 64 * 64) ≡ Some h.data_null_offset = rw a e in
       let b : u / 64 * 64 + u % 64 ≡ u = omega arith in
       rw (sym b) (c.null_64 (u / 64) (omega (arith, l)) (omega (arith, k)) d (u % 64) (omega arith))
 
-  small_null : (u : ℕ) → fast_limit h.trie_type ≤ u → u < h.high_start → small_offset h.trie_type index u ≡ Some h.data_null_offset → answer h index values u ≡ of_number h.null_value
+  small_null : (u : ℕ) → fast_limit h.trie_type ≤ u → u < h.high_start → small_offset h.trie_type index u ≡ Some h.data_null_offset
+      → answer h index values u ≡ of_number h.null_value
   unfolding small_offset
   small_null u l k e =
       let f = fast_limit_most h.trie_type in
@@ -131,7 +158,8 @@ module _ {A : Type 0} (of_number : ℕ → Option A) (h : CodePointTrieHeader) (
       let b : u / 16 * 16 + u % 16 ≡ u = omega arith in
       rw (sym b) (c.null_16 (u / 16) (omega (arith, l, f)) (omega (arith, k)) d (u % 16) (omega arith))
 
-  null_cell : (u : ℕ) → fast_limit h.trie_type ≤ u → u < h.high_start → index2_cell h.trie_type index u ≡ Some h.index3_null_offset → answer h index values u ≡ of_number h.null_value
+  null_cell : (u : ℕ) → fast_limit h.trie_type ≤ u → u < h.high_start → index2_cell h.trie_type index u ≡ Some h.index3_null_offset
+      → answer h index values u ≡ of_number h.null_value
   null_cell u l k e =
       let f = fast_limit_most h.trie_type in
       let a2 : u / 512 * 512 / 0x200 % 32 ≡ u / 0x200 % 32 = omega arith in
@@ -141,7 +169,16 @@ module _ {A : Type 0} (of_number : ℕ → Option A) (h : CodePointTrieHeader) (
       rw (sym b) (c.null_512 (u / 512) (omega (arith, l, f)) (omega (arith, k)) d (u % 512) (omega arith))
 
   answer-null : (u : ℕ) → u < h.high_start → names_null h index u ≡ true → answer h index values u ≡ of_number h.null_value
-  answer-null u k e = grind (arith, nat_tests, fast_null u, small_null u, null_cell u, cell_is h.data_null_offset (fast_offset index u), cell_is h.data_null_offset (small_offset h.trie_type index u), cell_is h.index3_null_offset (index2_cell h.trie_type index u))
+  answer-null u k e = grind (
+    arith,
+    nat_tests,
+    fast_null u,
+    small_null u,
+    null_cell u,
+    cell_is h.data_null_offset (fast_offset index u),
+    cell_is h.data_null_offset (small_offset h.trie_type index u),
+    cell_is h.index3_null_offset (index2_cell h.trie_type index u),
+  )
 
   pub seen-below : (u : ℕ) → u < h.high_start → seen of_number h index values u ≡ answer h index values u
   unfolding seen

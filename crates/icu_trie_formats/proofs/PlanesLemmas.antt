@@ -32,7 +32,8 @@ pub no_fault_of_DATA : (e : UleError) → IsFault (λ b. Some (number_of 1 b)) 1
 no_fault_of_DATA Length h = h refl
 no_fault_of_DATA (Cell i) h = absurd (true≢false h.2)
 
-pub never_refused : (index values : List ℕ) (e : CodePointTrieError) → index ≡ planes_index → values ≡ planes_data → fault (fitting (2 ^ 8)) planes_header index values ≡ Some e → ⊥
+pub never_refused : (index values : List ℕ) (e : CodePointTrieError) → index ≡ planes_index → values ≡ planes_data
+    → fault (fitting (2 ^ 8)) planes_header index values ≡ Some e → ⊥
 never_refused index values e i v h =
     let n : fault (fitting (2 ^ 8)) planes_header index values ≡ None = rw (i, v) no_fault in
     let s : ◌≡◌ {A = Option CodePointTrieError} None (Some e) = sym n ∙ h in

@@ -20,16 +20,20 @@ type_of_number Fast n e = rw e
 type_of_number Small n e = rw e
 
 -- after the header and the values, the trie is that of these parts
-pub same_trie : {T : Type 0} (range : ℕ → Option T) (t : TomlParts) (h : CodePointTrieHeader) (values : List T) (index : List ℕ) (cells : List T) → GivesHeader t (Ok h) → typed_data range t ≡ Ok values → index ≡ t.index → cells ≡ values
+pub same_trie : {T : Type 0} (range : ℕ → Option T) (t : TomlParts) (h : CodePointTrieHeader) (values : List T) (index : List ℕ)
+    (cells : List T) → GivesHeader t (Ok h) → typed_data range t ≡ Ok values → index ≡ t.index → cells ≡ values
     → trie_of range t ≡ trie_with range h index cells
 same_trie range t h values index cells g d i v =
-    ap (λ z. and_then z (λ kind. and_then (typed_data range t) (λ vs. trie_with range (header_with t.fields kind) t.index vs))) (type_of_number h.trie_type t.fields.trie_type g.1)
+    ap (λ z. and_then z (λ kind. and_then (typed_data range t) (λ vs. trie_with range (header_with t.fields kind) t.index vs)))
+    (type_of_number h.trie_type t.fields.trie_type g.1)
     ∙ ap (λ z. and_then z (λ vs. trie_with range (header_with t.fields h.trie_type) t.index vs)) d
     ∙ ap (λ z. trie_with range z t.index values) (sym g.0)
     ∙ ap (λ z. trie_with range h z values) (sym i)
     ∙ ap (λ z. trie_with range h index z) (sym v)
 
-pub gives_trie : {T : Type 0} (range : ℕ → Option T) (t : TomlParts) (w : Result (Parts T) TrieFault) (r : Result (Parts T) TrieFromTomlError) → trie_of range t ≡ w → IfOk r (λ x. w ≡ Ok x) → IfErr r (IsRefusedTrie w) → GivesTrie range t r
+pub gives_trie : {T : Type 0} (range : ℕ → Option T) (t : TomlParts) (w : Result (Parts T) TrieFault)
+    (r : Result (Parts T) TrieFromTomlError) → trie_of range t ≡ w → IfOk r (λ x. w ≡ Ok x) → IfErr r (IsRefusedTrie w)
+    → GivesTrie range t r
 gives_trie range t w (Ok x) same ok err = same ∙ ok
 gives_trie {T} range t w (Err e) same ok err =
     let P : Result (Parts T) TrieFault → Type 0 = λ z. IsRefusedTrie z e in

@@ -16,7 +16,8 @@ module _ {T : Type 0} (t : Parts T) (first : slice_get t.index 0 ≡ Some 0) (se
     (there : 128 ≤ length t.values) where
   place_of : (c : ℕ) → c < 128 → place t.header t.index (length t.values) c ≡ Some c
   place_of c h =
-      rw (le-ltb 0x10FFFF c (omega arith), lt-ltb c (fast_limit t.header.trie_type) (below_limit t.header.trie_type c h)) (elim (cases_lt c 64) [
+      rw (le-ltb 0x10FFFF c (omega arith), lt-ltb c (fast_limit t.header.trie_type) (below_limit t.header.trie_type c h))
+      (elim (cases_lt c 64) [
         | inl low ↦ let block : c / 64 ≡ 0 = omega arith in let same : 0 + c % 64 ≡ c = omega arith in rw (block, first) (ap Some same)
         | inr high ↦ let block : c / 64 ≡ 1 = omega arith in let same : 64 + c % 64 ≡ c = omega arith in rw (block, second) (ap Some same)
       ])
@@ -35,6 +36,7 @@ module _ {T : Type 0} (t : Parts T) (first : slice_get t.index 0 ≡ Some 0) (se
 pub ascii_known : {T : Type 0} (t : Parts T) (index : List ℕ) (values : List T) (end : ℕ) → index ≡ t.index → values ≡ t.values → end ≤ 128
     → (0 < end → slice_get index 0 ≡ Some 0) → (0 < end → slice_get index 1 ≡ Some 64) → (0 < end → 128 ≤ length values)
     → HasAsciiInPlace t values end
-ascii_known t index values zero i v e first second there = record { ascii = omega arith; there = omega arith; in_place = λ c h. absurd (omega (arith, h)) }
+ascii_known t index values zero i v e first second there =
+    record { ascii = omega arith; there = omega arith; in_place = λ c h. absurd (omega (arith, h)) }
 ascii_known t index values (suc n) i v e first second there =
     rw v (ascii_in_place t (rw i at (first (omega arith))) (rw i at (second (omega arith))) (rw v at (there (omega arith))) (suc n) e)

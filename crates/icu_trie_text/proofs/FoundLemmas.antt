@@ -32,7 +32,8 @@ pub boundary_between : (text before after : List ℕ) → IsUtf8 text → chars 
 boundary_between text before after u e =
     let seam : text ≡ encode_utf8_all before ++ encode_utf8_all after =
     sym (encodes-chars text u) ∙ ap (λ (cs : List ℕ). encode_utf8_all cs) e ∙ encodes-append before after in
-    let scalars : all_scalars after ≡ true = later_scalars before after (ap (λ (cs : List ℕ). all_scalars cs) (sym e) ∙ scalars-chars text u) in
+    let scalars : all_scalars after ≡ true = later_scalars before after (ap (λ (cs : List ℕ). all_scalars cs) (sym e)
+    ∙ scalars-chars text u) in
     IsCharBoundary-at_seam text (encode_utf8_all before) (encode_utf8_all after) seam (after, (scalars, refl))
 
 -- ---- the walk
@@ -46,7 +47,14 @@ module _ {F T : Type 0} (post : F → T → Bool → Type 0) (f : F) (trie : Par
     pub left_is : left ≡ with_indices trie (size before) after
 
   pub passed_none : IsPassed (with_indices trie 0 (chars text))
-  passed_none = record { before = []; after = chars text; characters = refl; answered = All-nil (AnswersOf post f trie answer); left_is = refl }
+  passed_none = record {
+    before = [];
+    after = chars text;
+    characters = refl;
+    answered = All-nil (AnswersOf post f trie answer);
+    left_is =
+        refl;
+  }
 
   -- an item of what is left stands between the characters before it and others
   record IsBetween (before : List ℕ) (item : ℕ × ℕ × T) (rest : List (ℕ × ℕ × Option T)) : Type 0 where

@@ -49,7 +49,8 @@ module _ {T : Type 0} (trie : Parts T) where
       → AreIndicesOf trie cs items
   indices_of_drained cs items d =
       let r = listed_indices 0 cs items
-      (items_from_drains items (d.1.0, d.1.1, λ _. (d.0, d.1.2)) (YieldsList-from_first index_item (λ left. left) (with_indices trie 0 cs) refl)) in
+      (items_from_drains items (d.1.0, d.1.1, λ _. (d.0, d.1.2))
+      (YieldsList-from_first index_item (λ left. left) (with_indices trie 0 cs) refl)) in
       record { offsets = r.offsets; values = r.values }
 
   -- each run gives the front of what was left

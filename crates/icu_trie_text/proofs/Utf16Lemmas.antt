@@ -30,7 +30,8 @@ unfolding code_points_of
 code_points_pair u v us e f = rw (e, f) refl
 
 -- there are no more code points than units
-length_by_pair : (u v : ℕ) (us : List ℕ) (b : Bool) → (is_high_surrogate u && is_low_surrogate v) ≡ b → length (code_points_of us) ≤ length us
+length_by_pair : (u v : ℕ) (us : List ℕ) (b : Bool) → (is_high_surrogate u && is_low_surrogate v) ≡ b
+    → length (code_points_of us) ≤ length us
     → length (code_points_of (v ∷ us)) ≤ length (v ∷ us) → length (code_points_of (u ∷ v ∷ us)) ≤ length (u ∷ v ∷ us)
 unfolding code_points_of
 length_by_pair u v us true e after rest = rw e (omega arith)
@@ -40,4 +41,5 @@ pub length-code_points : (us : List ℕ) → length (code_points_of us) ≤ leng
 unfolding code_points_of
 length-code_points [] = omega arith
 length-code_points (u ∷ []) = omega arith
-length-code_points (u ∷ v ∷ us) = length_by_pair u v us (is_high_surrogate u && is_low_surrogate v) refl (length-code_points us) (length-code_points (v ∷ us))
+length-code_points (u ∷ v ∷ us) = length_by_pair u v us (is_high_surrogate u && is_low_surrogate v) refl (length-code_points us)
+    (length-code_points (v ∷ us))

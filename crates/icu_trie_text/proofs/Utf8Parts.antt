@@ -22,7 +22,8 @@ pub part_of_ascii : (bytes : List ℕ) → 0 < length bytes → get_or bytes 0 0
 part_of_ascii [] n h = absurd (omega arith)
 part_of_ascii (x ∷ rest) n h = let f = found x (x ∷ []) rest (one x h) in (f.0, sym f.1, f.2)
 
-pub two_found : (bytes : List ℕ) (a b : ℕ) → get_or bytes 0 0 ≡ 192 + a → 2 ≤ a → a < 32 → IsTrail bytes 1 b → IsFirstPart bytes (Some (a * 64 + b)) 2
+pub two_found : (bytes : List ℕ) (a b : ℕ) → get_or bytes 0 0 ≡ 192 + a → 2 ≤ a → a < 32 → IsTrail bytes 1 b
+    → IsFirstPart bytes (Some (a * 64 + b)) 2
 two_found [] a b e l h t = let n = t.there in absurd (omega arith)
 two_found (x ∷ []) a b e l h t = let n = t.there in absurd (omega arith)
 two_found (x ∷ y ∷ rest) a b e l h t =
@@ -51,7 +52,8 @@ four_found (x ∷ y ∷ z ∷ w ∷ rest) a b d f e s h t u =
     let second : y ≡ 128 + b = s.byte in
     let third : z ≡ 128 + d = t.byte in
     let fourth : w ≡ 128 + f = u.byte in
-    let r = found ((a * 64 + b) * 4096 + d * 64 + f) ((240 + a) ∷ (128 + b) ∷ (128 + d) ∷ (128 + f) ∷ []) rest (four a b d f s.six t.six u.six h) in
+    let r = found ((a * 64 + b) * 4096 + d * 64 + f)
+    ((240 + a) ∷ (128 + b) ∷ (128 + d) ∷ (128 + f) ∷ []) rest (four a b d f s.six t.six u.six h) in
     (r.0, sym r.1, rw (e, second, third, fourth) r.2)
 
 -- ---- ill-formed parts
@@ -116,7 +118,8 @@ module _ (bytes : List ℕ) where
       }
 
 -- the second byte of two is no trail byte
-pub not_second_of_two : (bytes : List ℕ) → 194 ≤ get_or bytes 0 0 → get_or bytes 0 0 < 224 → IsNoTrail bytes 1 → 0 < length bytes → IsIllFormedPart bytes 1
+pub not_second_of_two : (bytes : List ℕ) → 194 ≤ get_or bytes 0 0 → get_or bytes 0 0 < 224 → IsNoTrail bytes 1 → 0 < length bytes
+    → IsIllFormedPart bytes 1
 not_second_of_two bytes from to bad some = one_byte bytes some (omega (arith, from)) (λ more second. refused more second) where
   refused : 1 < length bytes → IsSecond (get_or bytes 0 0) (get_or bytes 1 0) → ⊥
   refused more (second_of_two l h m n) = no_trail _ (bad more) (m, n)
@@ -138,12 +141,14 @@ pub no_second_of_three : (bytes : List ℕ) → 224 ≤ get_or bytes 0 0 → get
 no_second_of_three bytes from to some none = not_second_of_three bytes from to some
     (λ a b more lb x y h. no_trail _ (none more) (omega (arith, y), omega (arith, y, lb)))
 
-pub bad_second_of_three : (bytes : List ℕ) (a b : ℕ) → get_or bytes 0 0 ≡ 224 + a → a < 16 → IsTrail bytes 1 b → (IsHighOfThree (a * 64 + b) → ⊥)
+pub bad_second_of_three : (bytes : List ℕ) (a b : ℕ) → get_or bytes 0 0 ≡ 224 + a → a < 16 → IsTrail bytes 1 b
+    → (IsHighOfThree (a * 64 + b) → ⊥)
     → IsIllFormedPart bytes 1
 bad_second_of_three bytes a b e l s bad =
     let there = s.there in let byte = s.byte in
     not_second_of_three bytes (omega (arith, e)) (omega (arith, e)) (omega arith)
-    (λ i k more lk x y h. let first : i ≡ a = omega (arith, e, x) in let second : k ≡ b = omega (arith, byte, y) in bad (rw (first, second) at h))
+    (λ i k more lk x y h. let first : i ≡ a = omega (arith, e, x) in let second : k ≡ b = omega (arith, byte, y) in
+    bad (rw (first, second) at h))
 
 -- and so of four
 not_second_of_four : (bytes : List ℕ) → 240 ≤ get_or bytes 0 0 → 0 < length bytes
@@ -164,10 +169,12 @@ pub bad_second_of_four : (bytes : List ℕ) (a b : ℕ) → get_or bytes 0 0 ≡
 bad_second_of_four bytes a b e s bad =
     let there = s.there in let byte = s.byte in
     not_second_of_four bytes (omega (arith, e)) (omega arith)
-    (λ i k more lk x y h. let first : i ≡ a = omega (arith, e, x) in let second : k ≡ b = omega (arith, byte, y) in bad (rw (first, second) at h))
+    (λ i k more lk x y h. let first : i ≡ a = omega (arith, e, x) in let second : k ≡ b = omega (arith, byte, y) in
+    bad (rw (first, second) at h))
 
 -- no character begins with this byte
-pub not_first : (bytes : List ℕ) → 0 < length bytes → 128 ≤ get_or bytes 0 0 → (get_or bytes 0 0 < 194) ⊎ (245 ≤ get_or bytes 0 0) → IsIllFormedPart bytes 1
+pub not_first : (bytes : List ℕ) → 0 < length bytes → 128 ≤ get_or bytes 0 0 → (get_or bytes 0 0 < 194) ⊎ (245 ≤ get_or bytes 0 0)
+    → IsIllFormedPart bytes 1
 not_first bytes some lead bad = one_byte bytes some lead (λ more second. refused bad second) where
   refused : (get_or bytes 0 0 < 194) ⊎ (245 ≤ get_or bytes 0 0) → IsSecond (get_or bytes 0 0) (get_or bytes 1 0) → ⊥
   refused (inl low) (second_of_two l h m n) = omega (arith, low, l)

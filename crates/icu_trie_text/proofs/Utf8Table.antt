@@ -105,7 +105,8 @@ row c s = elim (cases_lt c 128) [
   | inr l ↦ elim (cases_lt c 2048) [
     | inl h ↦ of_two (c / 64) (c % 64) (omega arith) (omega arith) (omega arith) (encode_two c l h)
     | inr m ↦ elim (cases_lt c 65536) [
-      | inl h ↦ of_three (c / 4096) (c / 64 % 64) (c % 64) (omega arith) (omega arith) (omega arith) (high_of_three c (scalar_cases c s) m h)
+      | inl h ↦ of_three (c / 4096) (c / 64 % 64) (c % 64) (omega arith) (omega arith) (omega arith)
+          (high_of_three c (scalar_cases c s) m h)
           (encode_three c m h)
       | inr k ↦ of_four (c / 262144) (c / 4096 % 64) (c / 64 % 64) (c % 64) (omega arith) (omega arith) (omega arith)
           (high_of_four c (scalar_cases c s) k) (encode_four c k)

@@ -18,26 +18,34 @@ some_begins bytes [] s e n none = omega (arith, n, ap (λ (bs : List ℕ). lengt
 some_begins bytes (c ∷ cs) s e n none = none c (encode_utf8_all cs) (and_parts _ _ s).0 (sym e)
 
 module _ {T : Type 0} where
-  values_of_run : (s t : BytesToValue T) (items : List (ℕ × T)) → t.bytes ≡ [] → Yields GivesPart s items t → AreValuesOfBytes s.trie s.bytes items
+  values_of_run : (s t : BytesToValue T) (items : List (ℕ × T)) → t.bytes ≡ [] → Yields GivesPart s items t
+      → AreValuesOfBytes s.trie s.bytes items
   values_of_run s t [] n y = ap (λ (v : BytesToValue T). v.bytes) y ∙ n
   values_of_run s t (x ∷ xs) n y =
       let j = y.0 in
       let step = y.1.steps in
-      let r = values_of_run j t xs n y.2 in
-      (step.0, step.1, subst (λ (bs : List ℕ). AreValuesOfBytes s.trie bs xs) step.2 (subst (λ (p : Parts T). AreValuesOfBytes p j.bytes xs) y.1.trie r))
+      let r = values_of_run j t xs n y.2 in (
+        step.0,
+        step.1,
+        subst (λ (bs : List ℕ). AreValuesOfBytes s.trie bs xs) step.2
+            (subst (λ (p : Parts T). AreValuesOfBytes p j.bytes xs) y.1.trie r),
+      )
 
   -- what the calls give until nothing is left are the items of the parts of the bytes
-  pub values_of_bytes_drained : (s : BytesToValue T) (items : List (ℕ × T)) → Drains GivesPart s items → AreValuesOfBytes s.trie s.bytes items
+  pub values_of_bytes_drained : (s : BytesToValue T) (items : List (ℕ × T)) → Drains GivesPart s items
+      → AreValuesOfBytes s.trie s.bytes items
   values_of_bytes_drained s items d = values_of_run s d.1.0 items d.1.2.steps.0 d.1.1
 
 module _ {T : Type 0} (trie : Parts T) where
   abbrev HasItsValue : ℕ × T → Type 0
   HasItsValue item = trie_value trie item.0 ≡ Some item.1
 
-  text_item : (bytes : List ℕ) (item : ℕ × T) (items : List (ℕ × T)) (size : ℕ) (part : Option ℕ) → IsUtf8 bytes → IsFirstPart bytes part size
+  text_item : (bytes : List ℕ) (item : ℕ × T) (items : List (ℕ × T)) (size : ℕ) (part : Option ℕ) → IsUtf8 bytes
+      → IsFirstPart bytes part size
       → item.0 ≡ unwrap_or part 0xFFFD → part_value trie part ≡ Some item.1
       → (IsUtf8 (drop size bytes) → AreValuesOf trie (chars (drop size bytes)) items) → AreValuesOf trie (chars bytes) (item ∷ items)
-  text_item bytes item items size None u p c v others = absurd (some_begins bytes u.0 u.1.0 u.1.1 (omega (arith, p.some, p.within)) p.no_character)
+  text_item bytes item items size None u p c v others =
+      absurd (some_begins bytes u.0 u.1.0 u.1.1 (omega (arith, p.some, p.within)) p.no_character)
   text_item bytes item items size (Some d) u p c v others =
       let r = others (IsUtf8-past_char bytes (drop size bytes) d u p.2) in
       let own : HasItsValue item = rw c v in
@@ -47,7 +55,8 @@ module _ {T : Type 0} (trie : Parts T) where
       }
 
   -- the parts of a text are its characters
-  pub values_of_text : (bytes : List ℕ) (items : List (ℕ × T)) → IsUtf8 bytes → AreValuesOfBytes trie bytes items → AreValuesOf trie (chars bytes) items
+  pub values_of_text : (bytes : List ℕ) (items : List (ℕ × T)) → IsUtf8 bytes → AreValuesOfBytes trie bytes items
+      → AreValuesOf trie (chars bytes) items
   values_of_text bytes [] u e = rw e (record { code_points = sym chars-nil; values = All-nil HasItsValue })
   values_of_text bytes (x ∷ xs) u a =
       text_item bytes x xs a.0 a.1.part u a.1.stands a.1.character a.1.value (λ v. values_of_text (drop a.0 bytes) xs v a.2)

@@ -39,7 +39,8 @@ module _ {T : Type 0} (trie : Parts T) where
   -- what the calls give until nothing is left are the code points, each with its value
   pub values_of_drained : (cs : List ℕ) (items : List (ℕ × T)) → Drains GivesValue (with_values trie cs) items → AreValuesOf trie cs items
   values_of_drained cs items d =
-      listed_values cs items (items_from_drains items (d.1.0, d.1.1, λ _. (d.0, d.1.2)) (YieldsList-from_first value_item (λ left. left) (with_values trie cs) refl))
+      listed_values cs items (items_from_drains items (d.1.0, d.1.1, λ _. (d.0, d.1.2))
+      (YieldsList-from_first value_item (λ left. left) (with_values trie cs) refl))
 
   -- each run gives the front of what was left
   pub value_runs : EveryRun (GivesValue {T = T}) (λ p. ItemsMapTo p value_item p.from)

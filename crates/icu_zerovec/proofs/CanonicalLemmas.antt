@@ -89,13 +89,15 @@ canonical_i8 = record {
 pub canonical_i16 : IsCanonical (λ z. low_bytes 2 (cast_unsigned w16 z)) (λ b. Some (cast_signed w16 (number_of 2 b))) 2
 canonical_i16 = record {
   packs = λ b x e h u.
-      ap (λ z. low_bytes 2 (cast_unsigned w16 z)) (sym (same_Some _ _ u)) ∙ ap (low_bytes 2) (of_z-to_z w16 _ (below-2 b h)) ∙ low_bytes-2 b e h;
+      ap (λ z. low_bytes 2 (cast_unsigned w16 z)) (sym (same_Some _ _ u)) ∙ ap (low_bytes 2) (of_z-to_z w16 _ (below-2 b h))
+      ∙ low_bytes-2 b e h;
 }
 
 pub canonical_i32 : IsCanonical (λ z. low_bytes 4 (cast_unsigned w32 z)) (λ b. Some (cast_signed w32 (number_of 4 b))) 4
 canonical_i32 = record {
   packs = λ b x e h u.
-      ap (λ z. low_bytes 4 (cast_unsigned w32 z)) (sym (same_Some _ _ u)) ∙ ap (low_bytes 4) (of_z-to_z w32 _ (below-4 b h)) ∙ low_bytes-4 b e h;
+      ap (λ z. low_bytes 4 (cast_unsigned w32 z)) (sym (same_Some _ _ u)) ∙ ap (low_bytes 4) (of_z-to_z w32 _ (below-4 b h))
+      ∙ low_bytes-4 b e h;
 }
 
 pub canonical_char : IsCanonical (low_bytes 3) scalar_of 3

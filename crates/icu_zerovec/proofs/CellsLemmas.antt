@@ -29,7 +29,8 @@ front-get None xs h = cc
 front-get (Some x) xs h = refl
 
 -- the others follow it
-front-later : {T : Type 0} (o : Option T) (xs : List T) (i : ℕ) → is_some o ≡ true → slice_get (option_to_list o ++ xs) (suc i) ≡ slice_get xs i
+front-later : {T : Type 0} (o : Option T) (xs : List T) (i : ℕ) → is_some o ≡ true
+    → slice_get (option_to_list o ++ xs) (suc i) ≡ slice_get xs i
 front-later None xs i h = cc
 front-later (Some x) xs i h = refl
 
@@ -44,7 +45,8 @@ module _ {T : Type 0} (f : List ℕ → Option T) (w : ℕ) where
   first_some b n h = rw (cell-zero w b) at (h zero (omega arith))
 
   -- and so are the others
-  rest_some : (b : List ℕ) (n : ℕ) → ((i : ℕ) → i < suc n → is_some (f (cell w b i)) ≡ true) → (i : ℕ) → i < n → is_some (f (cell w (drop w b) i)) ≡ true
+  rest_some : (b : List ℕ) (n : ℕ) → ((i : ℕ) → i < suc n → is_some (f (cell w b i)) ≡ true) → (i : ℕ) → i < n
+      → is_some (f (cell w (drop w b) i)) ≡ true
   rest_some b n h i l = rw (cell-suc w b i) at (h (suc i) (omega arith))
 
   -- the first n cells have n values
@@ -53,10 +55,12 @@ module _ {T : Type 0} (f : List ℕ → Option T) (w : ℕ) where
   length-values_from b (suc n) h = front-length _ _ (first_some b n h) ∙ ap suc (length-values_from (drop w b) n (rest_some b n h))
 
   -- value i of them is that of cell i
-  get-values_from : (b : List ℕ) (n i : ℕ) → ((j : ℕ) → j < n → is_some (f (cell w b j)) ≡ true) → i < n → slice_get (values_from f w b n) i ≡ f (cell w b i)
+  get-values_from : (b : List ℕ) (n i : ℕ) → ((j : ℕ) → j < n → is_some (f (cell w b j)) ≡ true) → i < n
+      → slice_get (values_from f w b n) i ≡ f (cell w b i)
   get-values_from b zero i h l = absurd (omega arith)
   get-values_from b (suc n) zero h l = front-get _ _ (first_some b n h) ∙ ap f (sym (cell-zero w b))
-  get-values_from b (suc n) (suc i) h l = front-later _ _ i (first_some b n h) ∙ get-values_from (drop w b) n i (rest_some b n h) (omega arith) ∙ ap f (sym (cell-suc w b i))
+  get-values_from b (suc n) (suc i) h l = front-later _ _ i (first_some b n h)
+      ∙ get-values_from (drop w b) n i (rest_some b n h) (omega arith) ∙ ap f (sym (cell-suc w b i))
 
   -- there are as many values as cells
   pub length-values_of : (b : List ℕ) → IsPacked f w b → length (values_of f w b) ≡ length b / w
@@ -123,7 +127,8 @@ module _ {T : Type 0} (f : List ℕ → Option T) (w : ℕ) (pack : T → List �
   values_from-flat_map : (xs : List T) → AllByRecursion V xs → values_from f w (flat_map pack xs) (length xs) ≡ xs
   values_from-flat_map [] v = refl
   values_from-flat_map (x ∷ xs) v =
-      rw (take-pack x (flat_map pack xs) v.0, drop-pack x (flat_map pack xs) v.0, back x v.0) (ap (λ r. x ∷ r) (values_from-flat_map xs v.1))
+      rw (take-pack x (flat_map pack xs) v.0, drop-pack x (flat_map pack xs) v.0, back x v.0)
+      (ap (λ r. x ∷ r) (values_from-flat_map xs v.1))
 
   -- cell i gives value i
   cell-flat_map : (xs : List T) (i : ℕ) → AllByRecursion V xs → i < length xs → f (cell w (flat_map pack xs) i) ≡ slice_get xs i
@@ -189,7 +194,8 @@ pack-get f w pack one b i p l =
     let fits : i * w + w ≤ length b = omega (arith, row_fits i w (length b / w) w l (omega arith), div-add-mod' (length b) w) in
     let x = some_value (f (cell w b i)) (p.valued i l) in
     let long : length (cell w b i) ≡ w = length-take-le w (drop (i * w) b) (omega (arith, length-drop (i * w) b)) in
-    rw (get-values_of f w b i p l, x.1) (ap Some (one.packs (cell w b i) x.0 long (AreBytes-take w _ (AreBytes-drop (i * w) b p.small)) x.1))
+    rw (get-values_of f w b i p l, x.1)
+    (ap Some (one.packs (cell w b i) x.0 long (AreBytes-take w _ (AreBytes-drop (i * w) b p.small)) x.1))
 
 -- ---- the first cell and the others
 module _ {T : Type 0} (f : List ℕ → Option T) (w : ℕ) (positive : 0 < w) (b : List ℕ) (p : IsPacked f w b) (some : 0 < length b) where

@@ -27,15 +27,20 @@ module _ {T : Type 0} (f : List ℕ → Option T) (w : ℕ) (pack : T → List �
   same_by_bytes x y p q e = same_Some _ _ (sym (back x p) ∙ ap f e ∙ back y q)
 
   -- what a comparison of the bytes, with the same bytes z after them, says
-  pub decided : (x y : T) (z : List ℕ) (r : Bool) → V x → V y → r ≡ pointwise nat_eq (pack x ++ z) (pack y ++ z) → MatchBool r (x ≡ y) (same_bytes pack x y ≡ false)
+  pub decided : (x y : T) (z : List ℕ) (r : Bool) → V x → V y → r ≡ pointwise nat_eq (pack x ++ z) (pack y ++ z)
+      → MatchBool r (x ≡ y) (same_bytes pack x y ≡ false)
   decided x y z true p q e =
-      same_by_bytes x y p q (sym (take-pack f w pack V positive long back x z p) ∙ ap (take w) ((bytes_decides _ _).0 (sym e)) ∙ take-pack f w pack V positive long back y z q)
+      same_by_bytes x y p q (sym (take-pack f w pack V positive long back x z p) ∙ ap (take w) ((bytes_decides _ _).0 (sym e))
+      ∙ take-pack f w pack V positive long back y z q)
   decided x y z false p q e =
-      false_from_ne_true _ (λ t. true≢false (sym ((bytes_decides (pack x ++ z) (pack y ++ z)).1 (ap (λ b. b ++ z) ((bytes_decides (pack x) (pack y)).0 t))) ∙ sym e))
+      false_from_ne_true _
+      (λ t. true≢false (sym ((bytes_decides (pack x ++ z) (pack y ++ z)).1 (ap (λ b. b ++ z) ((bytes_decides (pack x) (pack y)).0 t)))
+      ∙ sym e))
 
 -- ---- lists
 -- lists that differ in one place are not equal
-pub differs : {T : Type 0} (E : T → T → Bool) (xs ys : List T) (i : ℕ) (x y : T) → slice_get xs i ≡ Some x → slice_get ys i ≡ Some y → E x y ≡ false
+pub differs : {T : Type 0} (E : T → T → Bool) (xs ys : List T) (i : ℕ) (x y : T) → slice_get xs i ≡ Some x → slice_get ys i ≡ Some y
+    → E x y ≡ false
     → pointwise E xs ys ≡ false
 differs E [] ys i x y a b e = absurd (true≢false (sym (ap is_some a)))
 differs E (u ∷ xs) [] i x y a b e = refl
@@ -43,15 +48,18 @@ differs E (u ∷ xs) (v ∷ ys) zero x y a b e = rw (same_Some u x a, same_Some 
 differs E (u ∷ xs) (v ∷ ys) (suc i) x y a b e = and_right (E u v) _ (differs E xs ys i x y a b e)
 
 -- lists with the same elements are the same
-pub same_gets : {T : Type 0} (xs ys : List T) → length xs ≡ length ys → ((j : ℕ) → j < length xs → slice_get xs j ≡ slice_get ys j) → xs ≡ ys
-same_gets xs ys e h = same_lists xs ys e (λ k d l. sym (unwrap_or-slice_get xs k d) ∙ ap (λ o. unwrap_or o d) (h k l) ∙ unwrap_or-slice_get ys k d)
+pub same_gets : {T : Type 0} (xs ys : List T) → length xs ≡ length ys → ((j : ℕ) → j < length xs → slice_get xs j ≡ slice_get ys j)
+    → xs ≡ ys
+same_gets xs ys e h = same_lists xs ys e (λ k d l. sym (unwrap_or-slice_get xs k d) ∙ ap (λ o. unwrap_or o d) (h k l)
+    ∙ unwrap_or-slice_get ys k d)
 
 -- what is fed once one more element is
 pub fed_more : {S T : Type 0} (write : S → List ℕ → S) (F : T → HashWrites) (s t u : S) (us : HashWrites) (xs : List T) (i : ℕ) (x : T)
     → slice_get xs i ≡ Some x → t ≡ fold write s (us ++ flat_map F (take i xs)) → u ≡ fold write t (F x)
     → u ≡ fold write s (us ++ flat_map F (take (i + 1) xs))
 fed_more write F s t u us xs i x a p q =
-    let more : take (i + 1) xs ≡ take i xs ++ x ∷ [] = ap (λ k. take k xs) (add-one i) ∙ take-suc xs i x (slice_get_within xs i x a) ∙ ap (λ y. take i xs ++ y ∷ []) (get_or_from_slice_get xs i x x a) in
+    let more : take (i + 1) xs ≡ take i xs ++ x ∷ [] = ap (λ k. take k xs) (add-one i) ∙ take-suc xs i x (slice_get_within xs i x a)
+    ∙ ap (λ y. take i xs ++ y ∷ []) (get_or_from_slice_get xs i x x a) in
     let all : flat_map F (take (i + 1) xs) ≡ flat_map F (take i xs) ++ F x =
     ap (flat_map F) more ∙ flat_map-append F (take i xs) (x ∷ []) ∙ ap (λ l. flat_map F (take i xs) ++ l) (append-nil (F x)) in
     fed_then write s t u (us ++ flat_map F (take i xs)) (F x) p q
@@ -79,17 +87,20 @@ module _ {T : Type 0} (pack : T → List ℕ) (xs ys : List T) where
 
 -- ---- blocks of bytes that are the same
 -- the same bytes so far, and the next n
-pub block_more : (at n m : ℕ) (a b : List ℕ) → m ≡ n → false ≡ not (pointwise nat_eq (take m (drop at a)) (take m (drop at b))) → take at a ≡ take at b
+pub block_more : (at n m : ℕ) (a b : List ℕ) → m ≡ n → false ≡ not (pointwise nat_eq (take m (drop at a)) (take m (drop at b)))
+    → take at a ≡ take at b
     → take (at + n) a ≡ take (at + n) b
 block_more at n m a b e h p =
-    let q : take n (drop at a) ≡ take n (drop at b) = subst (λ k. take k (drop at a) ≡ take k (drop at b)) e ((bytes_decides _ _).0 (not-false _ (sym h))) in
+    let q : take n (drop at a) ≡ take n (drop at b) =
+    subst (λ k. take k (drop at a) ≡ take k (drop at b)) e ((bytes_decides _ _).0 (not-false _ (sym h))) in
     take-add at n a ∙ ap₂ ◌++◌ p q ∙ sym (take-add at n b)
 
 -- a cell that lies in the first p bytes
 cell_of_front : (w p j : ℕ) (b : List ℕ) → j * w + w ≤ p → cell w (take p b) j ≡ cell w b j
 cell_of_front w p j b l =
     let e : p ≡ j * w + (p - j * w) = omega arith in
-    ap (λ q. take w (drop (j * w) (take q b))) e ∙ ap (take w) (drop-take (j * w) (p - j * w) b) ∙ take-take w (p - j * w) (drop (j * w) b) (omega arith)
+    ap (λ q. take w (drop (j * w) (take q b))) e ∙ ap (take w) (drop-take (j * w) (p - j * w) b)
+    ∙ take-take w (p - j * w) (drop (j * w) b) (omega arith)
 
 -- packed bytes with as many cells are as long
 same_length : (w : ℕ) (a b : List ℕ) → length a % w ≡ 0 → length b % w ≡ 0 → length a / w ≡ length b / w → length a ≡ length b
@@ -101,7 +112,8 @@ module _ {T : Type 0} (f : List ℕ → Option T) (w : ℕ) (a b : List ℕ) (p 
   same_count e = same_length w a b p.whole q.whole (sym (length-values_of f w a p) ∙ e ∙ length-values_of f w b q)
 
   -- values in the first n bytes, where these are the same
-  pub same_front : (n : ℕ) → length a ≡ length b → take n a ≡ take n b → (j : ℕ) → j < n / w → slice_get (values_of f w a) j ≡ slice_get (values_of f w b) j
+  pub same_front : (n : ℕ) → length a ≡ length b → take n a ≡ take n b → (j : ℕ) → j < n / w
+      → slice_get (values_of f w a) j ≡ slice_get (values_of f w b) j
   same_front n e h j l = elim (cases_lt j (length a / w)) [
     | inl k ↦ get-values_of f w a j p k ∙ ap f (sym (cell_of_front w n j a fits) ∙ ap (λ c. cell w c j) h ∙ cell_of_front w n j b fits)
         ∙ sym (get-values_of f w b j q (omega (arith, k, counts)))

@@ -44,7 +44,8 @@ module _ {X : Type 0} (ord : X → Ordering) (xs : List X) where
   never r i j h g a b d = let t : false ≡ true = sym (ap is_le (great r i j h a b d)) ∙ g d in absurd cc
 
   -- ---- three values in steps
-  pub counted : (low step : ℕ) (a b c : Bool) → low + 3 * step < length xs → Low a (low + step) → Low b (low + 2 * step) → Low c (low + 3 * step)
+  pub counted : (low step : ℕ) (a b c : Bool) → low + 3 * step < length xs → Low a (low + step) → Low b (low + 2 * step)
+      → Low c (low + 3 * step)
       → IsStepCount ord xs low step (bool_byte a + bool_byte b + bool_byte c)
   counted low step true true true l p q s = record {
     within = omega arith;
@@ -87,11 +88,13 @@ module _ {X : Type 0} (ord : X → Ordering) (xs : List X) where
   }
 
   -- the search goes on from the last of them that is not too great
-  reached_from : (low end step k : ℕ) → IsNarrowed ord xs low end → IsStepCount ord xs low step k → Rises ord xs → 0 < low + step * k → Low true (low + step * k)
+  reached_from : (low end step k : ℕ) → IsNarrowed ord xs low end → IsStepCount ord xs low step k → Rises ord xs → 0 < low + step * k
+      → Low true (low + step * k)
   reached_from low end step zero n s r h = moved true low _ (omega arith) (n.reached r (omega arith))
   reached_from low end step (suc k) n s r h = s.reached r (omega arith)
 
-  past_from : (low size step k top : ℕ) → 4 * step ≤ size → top ≡ low + step * k + (size - 3 * step) → IsNarrowed ord xs low (low + size) → IsStepCount ord xs low step k → Rises ord xs
+  past_from : (low size step k top : ℕ) → 4 * step ≤ size → top ≡ low + step * k + (size - 3 * step) → IsNarrowed ord xs low (low + size)
+      → IsStepCount ord xs low step k → Rises ord xs
       → (j : ℕ) (d : X) → top ≤ j → j < length xs → ord (get_or xs j d) ≡ Greater
   past_from low size step zero top f e n s r j d a b = great r _ j (λ g. ap is_le (s.past r (omega arith) g)) (omega arith) b d
   past_from low size step (suc zero) top f e n s r j d a b = great r _ j (λ g. ap is_le (s.past r (omega arith) g)) (omega arith) b d

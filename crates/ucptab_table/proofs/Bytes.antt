@@ -26,7 +26,8 @@ reversed bytes some =
     ap reverse (sym whole ∙ split) ∙ reverse-append (take n bytes) (get_or bytes n 0 ∷ [])
 
 -- a blank at the end does not matter
-pub trim_end_blank : (bytes : List ℕ) → 0 < length bytes → is_blank (get_or bytes (length bytes - 1) 0) ≡ true → trim_end bytes ≡ trim_end (take (length bytes - 1) bytes)
+pub trim_end_blank : (bytes : List ℕ) → 0 < length bytes → is_blank (get_or bytes (length bytes - 1) 0) ≡ true
+    → trim_end bytes ≡ trim_end (take (length bytes - 1) bytes)
 unfolding trim_end
 trim_end_blank bytes some blank = rw (reversed bytes some, blank) refl
 

@@ -7,7 +7,8 @@ use Rattle.std.proofs.Math.Dec.{eqb-suc-zero}
 use Rattle.std.proofs.lemmas.List.Sums.{fails_before_first}
 
 -- a part with another after it is a line
-first_part : (part : List ℕ) (parts : List (List ℕ)) → 0 < length parts → lines_of_parts (part ∷ parts) ≡ strip_carriage_return part ∷ lines_of_parts parts
+first_part : (part : List ℕ) (parts : List (List ℕ)) → 0 < length parts
+    → lines_of_parts (part ∷ parts) ≡ strip_carriage_return part ∷ lines_of_parts parts
 first_part part [] some = absurd (omega arith)
 first_part part (next ∷ parts) some = refl
 
@@ -20,10 +21,12 @@ pub lines_first : (bytes : List ℕ) (place : ℕ) → place ≡ position_or_len
     → lines bytes ≡ strip_carriage_return (take place bytes) ∷ lines (drop (place + 1) bytes)
 lines_first bytes place is within =
     let first = slice_split_first (λ b. b == 10) bytes 0 (rw (← is) within) in
-    let more : 0 < length (slice_split (λ b. b == 10) (drop (place + 1) bytes)) = omega (arith, length-slice_split (λ b. b == 10) (drop (place + 1) bytes)) in
+    let more : 0 < length (slice_split (λ b. b == 10) (drop (place + 1) bytes)) =
+    omega (arith, length-slice_split (λ b. b == 10) (drop (place + 1) bytes)) in
     rw (first, ← is) (first_part _ _ more)
 
 -- with no LF the input is one line
 pub lines_last : (bytes : List ℕ) → length bytes ≤ position_or_len (λ b. b == 10) bytes → 0 < length bytes → lines bytes ≡ bytes ∷ []
 lines_last bytes none some =
-    rw (slice_split_none (λ b. b == 10) bytes (λ k d within. fails_before_first (λ b. b == 10) bytes k d (omega (arith, within)))) (only_part bytes some)
+    rw (slice_split_none (λ b. b == 10) bytes (λ k d within. fails_before_first (λ b. b == 10) bytes k d (omega (arith, within))))
+    (only_part bytes some)

@@ -15,7 +15,8 @@ unfolding padded_integral hex_text char_count
 hex_written n = simp (sub-zero, append-nil)
 
 -- the line of a run after a text, in its two parts and in one
-pub run_line-range : (text : List ℕ) (r : Run ℕ) → r.first < r.last → (text ++ (hex_text r.first ++ (46 ∷ (46 ∷ [])))) ++ answer_line r.last r.value ≡ text ++ run_line r
+pub run_line-range : (text : List ℕ) (r : Run ℕ) → r.first < r.last
+    → (text ++ (hex_text r.first ++ (46 ∷ (46 ∷ [])))) ++ answer_line r.last r.value ≡ text ++ run_line r
 unfolding run_line
 run_line-range text r some =
     let test : nat_lt r.first r.last ≡ true = grind (arith, nat_tests) in

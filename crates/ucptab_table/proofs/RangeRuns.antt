@@ -13,7 +13,8 @@ runs-of-ranges (x ∷ xs) = ap (λ runs. run_of x ∷ runs) (runs-of-ranges xs)
 
 module _ (value answer : ℕ → ℕ) (text : List ℕ) where
   -- the text where none is asked
-  pub text_of_none : (asked : List ℕ) → asked ≡ [] → (runs : List (Run ℕ)) × (AreMaximalRuns value runs × (text ≡ runs_text runs)) → IsTextOfMap value answer asked text
+  pub text_of_none : (asked : List ℕ) → asked ≡ [] → (runs : List (Run ℕ)) × (AreMaximalRuns value runs × (text ≡ runs_text runs))
+      → IsTextOfMap value answer asked text
   text_of_none asked none all = rw none all
 
   -- and where some number is

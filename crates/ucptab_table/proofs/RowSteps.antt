@@ -11,7 +11,8 @@ use Rattle.ucptab_table.specs.declared.fault.TableError.TheVariants.{Row}
 use Rattle.ucptab_table.specs.TableText.{row_of, write_of, IsFaultless, AreRows, IsFirstFault}
 
 -- the first of what is left stands at the place
-slice_get_left : (all : List (List ℕ)) (n : ℕ) (line : List ℕ) (more : List (List ℕ)) → drop n all ≡ line ∷ more → slice_get all n ≡ Some line
+slice_get_left : (all : List (List ℕ)) (n : ℕ) (line : List ℕ) (more : List (List ℕ)) → drop n all ≡ line ∷ more
+    → slice_get all n ≡ Some line
 slice_get_left [] zero line more left = cc
 slice_get_left [] (suc n) line more left = cc
 slice_get_left (x ∷ xs) zero line more left = cc
@@ -40,11 +41,14 @@ module _ (all : List (List ℕ)) (n : ℕ) (line : List ℕ) (more : List (List 
   faultless_more said is faultless = rw front (All-push IsFaultless (take n all) line faultless (rw is refl))
 
   -- the writes so far and that of this line
-  pub writes_more : (ws : List (Write ℕ)) (said : Option (Write ℕ)) → row_of line ≡ Ok said → ws ≡ filter_map write_of (take n all) → ws ++ option_to_list said ≡ filter_map write_of (take (n + 1) all)
-  writes_more ws said is writes = rw (front, filter_map-append, is, writes) (ap (λ x. filter_map write_of (take n all) ++ x) (option_as_list said))
+  pub writes_more : (ws : List (Write ℕ)) (said : Option (Write ℕ)) → row_of line ≡ Ok said → ws ≡ filter_map write_of (take n all)
+      → ws ++ option_to_list said ≡ filter_map write_of (take (n + 1) all)
+  writes_more ws said is writes = rw (front, filter_map-append, is, writes)
+      (ap (λ x. filter_map write_of (take n all) ++ x) (option_as_list said))
 
 -- a line with a fault, after lines with none
-pub first_fault : (input : List ℕ) (n : ℕ) (line : List ℕ) (more : List (List ℕ)) (f : RowFault) → drop n (lines input) ≡ line ∷ more → row_of line ≡ Err f
+pub first_fault : (input : List ℕ) (n : ℕ) (line : List ℕ) (more : List (List ℕ)) (f : RowFault) → drop n (lines input) ≡ line ∷ more
+    → row_of line ≡ Err f
     → All IsFaultless (take n (lines input)) → IsFirstFault input (n + 1) f
 first_fault input n line more f left is faultless =
     let back : n + 1 - 1 ≡ n = omega arith in
@@ -52,16 +56,20 @@ first_fault input n line more f left is faultless =
     record { counted = omega arith; faulty = rw (back, here) is; faultless_before = rw back faultless }
 
 -- the same, as an answer names it
-pub first_fault_named : (input : List ℕ) (n : ℕ) (line : List ℕ) (more : List (List ℕ)) (f : RowFault) (k : ℕ) (g : RowFault) → Row (n + 1) f ≡ Row k g
+pub first_fault_named : (input : List ℕ) (n : ℕ) (line : List ℕ) (more : List (List ℕ)) (f : RowFault) (k : ℕ) (g : RowFault)
+    → Row (n + 1) f ≡ Row k g
     → drop n (lines input) ≡ line ∷ more → row_of line ≡ Err f → All IsFaultless (take n (lines input)) → IsFirstFault input k g
 first_fault_named input n line more f k g same left is faultless =
     let same_line : n + 1 ≡ k = cc in
     let same_fault : f ≡ g = cc in
-    subst (λ x. IsFirstFault input k x) same_fault (subst (λ x. IsFirstFault input x f) same_line (first_fault input n line more f left is faultless))
+    subst (λ x. IsFirstFault input k x) same_fault
+    (subst (λ x. IsFirstFault input x f) same_line (first_fault input n line more f left is faultless))
 
 -- all lines
 pub all_rows : (input : List ℕ) (n : ℕ) (ws : List (Write ℕ)) → drop n (lines input) ≡ [] → All IsFaultless (take n (lines input))
     → ws ≡ filter_map write_of (take n (lines input)) → AreRows input ws
 all_rows input n ws left faultless writes =
-    let whole : take n (lines input) ≡ lines input = sym (append-nil (take n (lines input))) ∙ (ap (λ rest. take n (lines input) ++ rest) (sym left) ∙ take-append-drop n (lines input)) in
+    let whole : take n (lines input) ≡ lines input =
+    sym (append-nil (take n (lines input)))
+    ∙ (ap (λ rest. take n (lines input) ++ rest) (sym left) ∙ take-append-drop n (lines input)) in
     record { faultless = rw whole at faultless; writes = rw whole at writes }

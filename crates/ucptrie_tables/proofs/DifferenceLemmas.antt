@@ -20,19 +20,26 @@ module _ (a b : Parts ℕ) where
   joined s e t first second u from below = elim (cases_lt u e) [ inl before ↦ first u from before | inr after ↦ second u after below ]
 
   -- the tries are the same up to e
-  pub differences-same : (s e : ℕ) → s ≤ e → AreSame a b s e → (ds : List (CodePointMapRange (ℕ × ℕ))) → AreDifferencesFrom a b e ds → AreDifferencesFrom a b s ds
+  pub differences-same : (s e : ℕ) → s ≤ e → AreSame a b s e → (ds : List (CodePointMapRange (ℕ × ℕ))) → AreDifferencesFrom a b e ds
+      → AreDifferencesFrom a b s ds
   differences-same s e le same [] rest = joined s e 0x110000 same rest
   differences-same s e le same (d ∷ ds) rest = (omega (arith, le, rest.0), joined s e (first_of d) same rest.1, rest.2, rest.3)
 
   -- and where they differ from s to before e
   pub differences-other : (d : CodePointMapRange (ℕ × ℕ)) (s e : ℕ) → first_of d ≡ s → last_of d + 1 ≡ e → e ≤ 0x110000
-      → ((u : ℕ) → s ≤ u → u < e → both_values a b u ≡ (Some d.value.0, Some d.value.1)) → (e < 0x110000 → both_values a b e ≢ (Some d.value.0, Some d.value.1))
-      → s < e → d.value.0 ≢ d.value.1 → (ds : List (CodePointMapRange (ℕ × ℕ))) → AreDifferencesFrom a b e ds → AreDifferencesFrom a b s (d ∷ ds)
+      → ((u : ℕ) → s ≤ u → u < e → both_values a b u ≡ (Some d.value.0, Some d.value.1))
+      → (e < 0x110000 → both_values a b e ≢ (Some d.value.0, Some d.value.1))
+      → s < e → d.value.0 ≢ d.value.1 → (ds : List (CodePointMapRange (ℕ × ℕ))) → AreDifferencesFrom a b e ds
+      → AreDifferencesFrom a b s (d ∷ ds)
   differences-other d s e first last within equal ends some other ds rest =
       let run : LongestRun (both_values a b) (first_of d) (last_of d) (Some d.value.0, Some d.value.1) = record {
         ordered = omega (arith, first, last, some);
         within = omega (arith, last, within);
         equal = λ u from to. equal u (omega (arith, first, from)) (omega (arith, last, to));
         ends = λ below. rw last (ends (omega (arith, last, below)));
-      } in
-      (omega (arith, first), (λ u from below. absurd (omega (arith, first, from, below))), record { run = run; different = other }, rw last rest)
+      } in (
+        omega (arith, first),
+        (λ u from below. absurd (omega (arith, first, from, below))),
+        record { run = run; different = other },
+        rw last rest,
+      )

@@ -13,5 +13,6 @@ numbers-no_float (n ∷ ns) = numbers-no_float ns
 pub json_of-no_float : (t : Parts ℕ) → has_float (json_of (λ n. n) t) ≡ false
 json_of-no_float t = rw (numbers-no_float (map (λ n. n) t.values), numbers-no_float t.index) refl
 
-pub text_of_json : (t : Parts ℕ) (v : Data) (bytes : List ℕ) → v ≡ json_of (λ n. n) t → (has_float v ≡ false → bytes ≡ compact_text v) → bytes ≡ compact_text (json_of (λ n. n) t)
+pub text_of_json : (t : Parts ℕ) (v : Data) (bytes : List ℕ) → v ≡ json_of (λ n. n) t → (has_float v ≡ false → bytes ≡ compact_text v)
+    → bytes ≡ compact_text (json_of (λ n. n) t)
 text_of_json t v bytes is text = text (ap has_float is ∙ json_of-no_float t) ∙ ap compact_text is

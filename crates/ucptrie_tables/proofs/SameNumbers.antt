@@ -24,7 +24,8 @@ module _ {F A B : Type 0} (step : F → A → Result B ℕ → F → Type 0) (nu
   of_step : (f : F) (x : A) (y : B) (g : F) → step f x (Ok y) g → of_number (number x) ≡ Some y
   of_step f x y g h = answered (of_number (number x)) (number x) y (same f x (Ok y) g h)
 
-  values-in_turn : (f : F) (xs : List A) (ys : List B) (g : F) → CallsInTurn step f xs ys None g → length ys ≡ length xs → map Some ys ≡ map (λ x. of_number (number x)) xs
+  values-in_turn : (f : F) (xs : List A) (ys : List B) (g : F) → CallsInTurn step f xs ys None g → length ys ≡ length xs
+      → map Some ys ≡ map (λ x. of_number (number x)) xs
   values-in_turn f [] [] g calls len = refl
   values-in_turn f (x ∷ xs) [] g calls len = absurd (omega (arith, len))
   values-in_turn f [] (y ∷ ys) g calls len = absurd calls
@@ -33,7 +34,8 @@ module _ {F A B : Type 0} (step : F → A → Result B ℕ → F → Type 0) (nu
       let rest = values-in_turn calls.0 xs ys g calls.2 (omega (arith, len)) in
       λ i. sym here i ∷ rest i
 
-  refused-in_turn : (f : F) (xs : List A) (ys : List B) (n : ℕ) (g : F) → CallsInTurn step f xs ys (Some n) g → (n < 2 ^ 32) × (of_number n ≡ None)
+  refused-in_turn : (f : F) (xs : List A) (ys : List B) (n : ℕ) (g : F) → CallsInTurn step f xs ys (Some n) g
+      → (n < 2 ^ 32) × (of_number n ≡ None)
   refused-in_turn f [] [] n g calls = absurd calls
   refused-in_turn f [] (y ∷ ys) n g calls = absurd calls
   refused-in_turn f (x ∷ xs) [] n g calls =
@@ -42,8 +44,10 @@ module _ {F A B : Type 0} (step : F → A → Result B ℕ → F → Type 0) (nu
   refused-in_turn f (x ∷ xs) (y ∷ ys) n g calls = refused-in_turn calls.0 xs ys n g calls.2
 
   module _ (f : F) (old_of_number : ℕ → Option A) (new_number : B → ℕ) (p : Parts A) where
-    from_answers : (t : Parts B) (error null : A) (answers : List B) (refusal : Option ℕ) (last : F) → old_of_number p.header.null_value ≡ Some null
-        → CallsInTurn step f (error ∷ null ∷ p.values) answers refusal last → IsMapOfTrie {E = ℕ} new_number p answers refusal (Ok t) → HasNumbersOf number old_of_number new_number of_number p t
+    from_answers : (t : Parts B) (error null : A) (answers : List B) (refusal : Option ℕ) (last : F)
+        → old_of_number p.header.null_value ≡ Some null
+        → CallsInTurn step f (error ∷ null ∷ p.values) answers refusal last → IsMapOfTrie {E = ℕ} new_number p answers refusal (Ok t)
+        → HasNumbersOf number old_of_number new_number of_number p t
     from_answers t error null answers (Some n) last null_is calls gives = absurd (cc)
     from_answers t error null [] None last null_is calls gives = absurd gives.1
     from_answers t error null (e ∷ []) None last null_is calls gives = absurd gives.1
@@ -60,19 +64,23 @@ module _ {F A B : Type 0} (step : F → A → Result B ℕ → F → Type 0) (nu
           header = ap (λ (q : Parts B). q.header) whole;
         }
 
-    pub numbers-mapped : (t : Parts B) → MapsInTurn step f old_of_number new_number p (Ok t) → HasNumbersOf number old_of_number new_number of_number p t
+    pub numbers-mapped : (t : Parts B) → MapsInTurn step f old_of_number new_number p (Ok t)
+        → HasNumbersOf number old_of_number new_number of_number p t
     numbers-mapped t m = from_answers t m.error m.null m.answers m.refusal m.last m.null_is m.calls m.gives
 
-    from_refusal : (n : ℕ) (xs : List A) (answers : List B) (refusal : Option ℕ) (last : F) → CallsInTurn step f xs answers refusal last → refusal ≡ Some n → (n < 2 ^ 32) × (of_number n ≡ None)
+    from_refusal : (n : ℕ) (xs : List A) (answers : List B) (refusal : Option ℕ) (last : F) → CallsInTurn step f xs answers refusal last
+        → refusal ≡ Some n → (n < 2 ^ 32) × (of_number n ≡ None)
     from_refusal n xs answers refusal last calls is = refused-in_turn f xs answers n last (rw (sym is) calls)
 
-    pub numbers-refused : (e : MapError ℕ) (n : ℕ) → e ≡ Closure n → MapsInTurn step f old_of_number new_number p (Err e) → (n < 2 ^ 32) × (of_number n ≡ None)
+    pub numbers-refused : (e : MapError ℕ) (n : ℕ) → e ≡ Closure n → MapsInTurn step f old_of_number new_number p (Err e)
+        → (n < 2 ^ 32) × (of_number n ≡ None)
     numbers-refused Memory n is m = absurd (cc)
     numbers-refused (Closure k) n is m =
         let same_number : k ≡ n = cc in
         from_refusal n _ m.answers m.refusal m.last m.calls (m.gives ∙ ap Some same_number)
 
-    pub numbers-if_ok : (r : Result (Parts B) (MapError ℕ)) → MapsInTurn step f old_of_number new_number p r → IfOk r (HasNumbersOf number old_of_number new_number of_number p)
+    pub numbers-if_ok : (r : Result (Parts B) (MapError ℕ)) → MapsInTurn step f old_of_number new_number p r
+        → IfOk r (HasNumbersOf number old_of_number new_number of_number p)
     numbers-if_ok (Ok t) m = numbers-mapped t m
     numbers-if_ok (Err e) m = tt
 

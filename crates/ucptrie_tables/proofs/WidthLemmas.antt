@@ -21,18 +21,23 @@ pub always_fits : (limit n : ℕ) → n < limit → fitting limit n ≡ None →
 always_fits limit n lt none = grind (arith, nat_tests, lt, none)
 
 module _ (w : ValueWidth) (a b : ℕ) where
-  pub IsBinaryOf-widened : {E : Type 0} (file : List ℕ) (trie : Parts ℕ) (len : ℕ) → IsUnsignedStored (bytes_of w) file trie len → (r : Result Table E)
-      → IfOk r (λ t. HasNumbersOf (λ n. n) (fitting a) (λ n. n) (fitting b) trie t.trie) → IfOk r (λ t. t.width ≡ w) → IfOk r (IsBinaryOf file)
+  pub IsBinaryOf-widened : {E : Type 0} (file : List ℕ) (trie : Parts ℕ) (len : ℕ) → IsUnsignedStored (bytes_of w) file trie len
+      → (r : Result Table E)
+      → IfOk r (λ t. HasNumbersOf (λ n. n) (fitting a) (λ n. n) (fitting b) trie t.trie) → IfOk r (λ t. t.width ≡ w)
+      → IfOk r (IsBinaryOf file)
   IsBinaryOf-widened file trie len stored (Ok t) numbers width = (len, rw (width, HasNumbersOf-same a b trie t.trie numbers) stored)
   IsBinaryOf-widened file trie len stored (Err e) numbers width = tt
 
-  pub IsSwappedOf-widened : {E : Type 0} (file : List ℕ) (trie : Parts ℕ) (len : ℕ) → IsUnsignedStored (bytes_of w) (in_other_order (bytes_of w) file) trie len → (r : Result Table E)
-      → IfOk r (λ t. HasNumbersOf (λ n. n) (fitting a) (λ n. n) (fitting b) trie t.trie) → IfOk r (λ t. t.width ≡ w) → IfOk r (IsSwappedOf file)
+  pub IsSwappedOf-widened : {E : Type 0} (file : List ℕ) (trie : Parts ℕ) (len : ℕ)
+      → IsUnsignedStored (bytes_of w) (in_other_order (bytes_of w) file) trie len → (r : Result Table E)
+      → IfOk r (λ t. HasNumbersOf (λ n. n) (fitting a) (λ n. n) (fitting b) trie t.trie) → IfOk r (λ t. t.width ≡ w)
+      → IfOk r (IsSwappedOf file)
   IsSwappedOf-widened file trie len stored (Ok t) numbers width = (len, rw (width, HasNumbersOf-same a b trie t.trie numbers) stored)
   IsSwappedOf-widened file trie len stored (Err e) numbers width = tt
 
   pub binary_bytes-narrowed : {V E : Type 0} (items : V → List ℕ) (table : Table) → table.width ≡ w → (r : Result V E)
-      → IfOk r (λ v. (t : Parts ℕ) × HasNumbersOf (λ n. n) (fitting a) (λ n. n) (fitting b) table.trie t × (items v ≡ binary_of (bytes_of w) (λ n. n) (low_bytes (bytes_of w)) t))
+      → IfOk r (λ v. (t : Parts ℕ) × HasNumbersOf (λ n. n) (fitting a) (λ n. n) (fitting b) table.trie t
+      × (items v ≡ binary_of (bytes_of w) (λ n. n) (low_bytes (bytes_of w)) t))
       → IfOk r (λ v. items v ≡ binary_bytes table)
   binary_bytes-narrowed items table width (Ok v) over = rw (width, sym (HasNumbersOf-same a b table.trie over.0 over.1)) over.2
   binary_bytes-narrowed items table width (Err e) over = tt

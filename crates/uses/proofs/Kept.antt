@@ -18,11 +18,13 @@ pub keep_start : (p : ℕ → Bool) (text rest kept : List ℕ) → IsUtf8 text 
 keep_start p text rest kept u e k = rw (e, k) (record { utf8 = u; so_far = refl })
 
 -- the bytes of one character more
-pass : (p : ℕ → Bool) (c : ℕ) (cs : List ℕ) (b : Bool) → b ≡ p c → encode_utf8_all (filter p (c ∷ cs)) ≡ (if b then encode_utf8 c else []) ++ encode_utf8_all (filter p cs)
+pass : (p : ℕ → Bool) (c : ℕ) (cs : List ℕ) (b : Bool) → b ≡ p c
+    → encode_utf8_all (filter p (c ∷ cs)) ≡ (if b then encode_utf8 c else []) ++ encode_utf8_all (filter p cs)
 pass p c cs true e = rw (sym e) refl
 pass p c cs false e = rw (sym e) refl
 
-pub keep_past : (p : ℕ → Bool) (text rest more kept new : List ℕ) (c : ℕ) (b : Bool) → Keeping p text rest kept → rest ≡ encode_utf8 c ++ more → b ≡ p c → new ≡ kept ++ (if b then encode_utf8 c else []) → Keeping p text more new
+pub keep_past : (p : ℕ → Bool) (text rest more kept new : List ℕ) (c : ℕ) (b : Bool) → Keeping p text rest kept
+    → rest ≡ encode_utf8 c ++ more → b ≡ p c → new ≡ kept ++ (if b then encode_utf8 c else []) → Keeping p text more new
 keep_past p text rest more kept new c b k step held e =
     let characters : chars rest ≡ c ∷ chars more = chars_past_char rest more c k.utf8 step in
     let passed : kept_of p rest ≡ (if b then encode_utf8 c else []) ++ kept_of p more =
@@ -30,7 +32,8 @@ keep_past p text rest more kept new c b k step held e =
     record {
       utf8 = IsUtf8-past_char rest more c k.utf8 step;
       so_far = k.so_far ∙ (ap (λ (bs : List ℕ). kept ++ bs) passed
-          ∙ (sym (append_assoc kept (if b then encode_utf8 c else []) (kept_of p more)) ∙ ap (λ (bs : List ℕ). bs ++ kept_of p more) (sym e)));
+          ∙ (sym (append_assoc kept (if b then encode_utf8 c else []) (kept_of p more))
+          ∙ ap (λ (bs : List ℕ). bs ++ kept_of p more) (sym e)));
     }
 
 pub keep_end : (p : ℕ → Bool) (text rest kept : List ℕ) → Keeping p text rest kept → length rest ≡ 0 → kept ≡ kept_of p text

@@ -12,5 +12,6 @@ returns-in_err-table-clause-row c = λ k f is.
 pub returns-clause-rows : goal.returns-clause-rows
 returns-clause-rows c = λ is.
     let t = c.in_ok-table.ensures.ok in
-    let printed = c.written.ensures.rows is t.built.coherent (value_after t.writes c.args.options.default) (λ u below. grind (arith, nat_tests, t.answers.look_up u)) in
+    let printed = c.written.ensures.rows is t.built.coherent (value_after t.writes c.args.options.default)
+    (λ u below. grind (arith, nat_tests, t.answers.look_up u)) in
     IfOk-weaker c.written.result _ _ (λ bytes text. (t.writes, (t.rows, text))) printed

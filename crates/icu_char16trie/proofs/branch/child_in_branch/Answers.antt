@@ -5,7 +5,8 @@ use Rattle.icu_char16trie.proofs.branch.child_in_branch.Goals as goal
 
 pub returns-in_err-unit_at-clause-exact : goal.returns-in_err-unit_at-clause-exact
 returns-in_err-unit_at-clause-exact c =
-    rw c.from_residual.ensures (no_length c.args.place c.args.low _ (omega (arith, c.if-low-gt0.false)) (sym c.in_err-unit_at.ensures.unit) refl)
+    rw c.from_residual.ensures (no_length c.args.place c.args.low _ (omega (arith, c.if-low-gt0.false))
+    (sym c.in_err-unit_at.ensures.unit) refl)
 
 pub returns-clause-exact : goal.returns-clause-exact
 returns-clause-exact c =

@@ -23,7 +23,8 @@ loop-left-preserved c =
       near = omega (arith, c.short_end-place.ensures.near, c.in_ok-_unit.ensures.within);
       short = omega arith;
       counts = λ r h. c.loop-left.invariant.counts r
-          (next_counted _ _ _ _ _ c.in_ok-_unit._unit c.in_ok-_unit.value c.in_ok-child.child _ _ r c.loop-left-test.true c.loop-left.invariant.short two.0 two.1
+          (next_counted _ _ _ _ _ c.in_ok-_unit._unit c.in_ok-_unit.value c.in_ok-child.child _ _ r c.loop-left-test.true
+          c.loop-left.invariant.short two.0 two.1
           (sym c.in_ok-child.ensures.child) behind (rw c.count_at.ensures at c.both_counts-total.ensures) h);
     }
 

@@ -7,12 +7,14 @@ use Rattle.icu_char16trie.proofs.dictionary.pass_match.Goals as goal
 
 pub returns-then-not-begins_run : goal.returns-then-not-begins_run
 returns-then-not-begins_run c =
-    leaves_run (slice_values c.args.units) c.args.text.now c.args.place c.args.low _ c.if-low-ge48.true (ap (λ z. z - 0x2f) c.from-count.ensures)
+    leaves_run (slice_values c.args.units) c.args.text.now c.args.place c.args.low _ c.if-low-ge48.true
+    (ap (λ z. z - 0x2f) c.from-count.ensures)
     (λ begins. false≢true (sym c.if-not-begins_run.true ∙ c.begins_run.ensures.1 begins))
 
 pub returns-then-low-ge48 : goal.returns-then-low-ge48
 returns-then-low-ge48 c =
-    passes_run (slice_values c.args.units) c.args.text.now c.args.place c.args.low _ _ c.if-low-ge48.true (ap (λ z. z - 0x2f) c.from-count.ensures)
+    passes_run (slice_values c.args.units) c.args.text.now c.args.place c.args.low _ _ c.if-low-ge48.true
+    (ap (λ z. z - 0x2f) c.from-count.ensures)
     refl (c.begins_run.ensures.0 c.if-not-begins_run.false)
 
 pub returns-in_err-child : goal.returns-in_err-child

@@ -4,7 +4,8 @@ use Rattle.std.specs.Option.{IfSome}
 use Rattle.std.proofs.lemmas.Option.{slice_get_within}
 use Rattle.icu_char16trie.proofs.encoded.unit_at.Goals as goal
 
-read_within : (o : Option ℕ) (units : List ℕ) (p : ℕ) → o ≡ slice_get units p → length units < 2 ^ 62 → IfSome o (λ _. (p < 2 ^ 62) × (p < length units))
+read_within : (o : Option ℕ) (units : List ℕ) (p : ℕ) → o ≡ slice_get units p → length units < 2 ^ 62
+    → IfSome o (λ _. (p < 2 ^ 62) × (p < length units))
 read_within None units p e short = tt
 read_within (Some x) units p e short = let h = slice_get_within units p x (sym e) in (omega arith, h)
 

@@ -14,9 +14,13 @@ pub returns : goal.returns
 returns t c =
     elim c.match-lower_part.branch [
       | in-Some-lower_part+in_ok-add_part w ↦
-          both_added _ _ _ c.in-Some.delta w.in-Some-lower_part.low c.delta_end.result c.args.list.now.items _ c.match-lower_part.list.items c.add_part-2.new.list.items (omega arith)
-          c.in-Some.ensures.two.1 (sym w.in-Some-lower_part.ensures.part) c.delta_end.ensures.end w.in_ok-add_part.ensures (ap (λ z. z.items) w.list-is) c.in_ok-add_part-2.ensures
+          both_added _ _ _ c.in-Some.delta w.in-Some-lower_part.low c.delta_end.result c.args.list.now.items _ c.match-lower_part.list.items
+          c.add_part-2.new.list.items (omega arith)
+          c.in-Some.ensures.two.1 (sym w.in-Some-lower_part.ensures.part) c.delta_end.ensures.end w.in_ok-add_part.ensures
+          (ap (λ z. z.items) w.list-is) c.in_ok-add_part-2.ensures
       | in_default-lower_part w ↦
-          upper_added _ _ _ c.in-Some.delta c.delta_end.result c.args.list.now.items c.match-lower_part.list.items c.add_part-2.new.list.items (omega arith)
-          c.in-Some.ensures.two.1 (sym w.in_default-lower_part.ensures.part) c.delta_end.ensures.end (ap (λ z. z.items) w.list-is) c.in_ok-add_part-2.ensures
+          upper_added _ _ _ c.in-Some.delta c.delta_end.result c.args.list.now.items c.match-lower_part.list.items
+          c.add_part-2.new.list.items (omega arith)
+          c.in-Some.ensures.two.1 (sym w.in_default-lower_part.ensures.part) c.delta_end.ensures.end (ap (λ z. z.items) w.list-is)
+          c.in_ok-add_part-2.ensures
     ]

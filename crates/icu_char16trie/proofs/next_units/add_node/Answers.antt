@@ -6,7 +6,12 @@ pub returns-in_default : goal.returns-in_default
 returns-in_default c = ([], no_lead _ [] (sym c.in_default.ensures.unit) refl, sym (append-nil c.args.list.now.items))
 
 pub returns-then-lead-ge32768 : goal.returns-then-lead-ge32768
-returns-then-lead-ge32768 c = ([], at_final _ c.in-Some.lead [] (sym c.in-Some.ensures.unit) c.if-lead-ge32768.true refl, sym (append-nil c.args.list.now.items))
+returns-then-lead-ge32768 c = (
+  [],
+  at_final _ c.in-Some.lead [] (sym c.in-Some.ensures.unit) c.if-lead-ge32768.true refl,
+  sym (append-nil c.args.list.now.items),
+)
 
 pub returns : goal.returns
-returns c = let a = c.in_ok-add_match.ensures in (a.0, at_match _ c.in-Some.lead a.0 (sym c.in-Some.ensures.unit) c.if-lead-ge32768.false (rw c.node_end.ensures.end at a.1), a.2)
+returns c = let a = c.in_ok-add_match.ensures in
+    (a.0, at_match _ c.in-Some.lead a.0 (sym c.in-Some.ensures.unit) c.if-lead-ge32768.false (rw c.node_end.ensures.end at a.1), a.2)

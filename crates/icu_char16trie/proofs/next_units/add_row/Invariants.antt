@@ -8,7 +8,8 @@ abbrev pub invariant-loop-left : goal.invariant-loop-left
 invariant-loop-left l = record {
   near : l.place < 2 ^ 63;
   so_far : (done : List ℕ) × (l.list.items ≡ l.fn.list.items ++ done)
-      × ((us : List ℕ) → RowUnits (slice_values l.units) l.place l.left us → RowUnits (slice_values l.units) l.fn.row l.fn.count (done ++ us));
+      × ((us : List ℕ) → RowUnits (slice_values l.units) l.place l.left us
+      → RowUnits (slice_values l.units) l.fn.row l.fn.count (done ++ us));
 }
 
 abbrev pub decreases-loop-left : goal.decreases-loop-left

@@ -23,7 +23,8 @@ returns t c =
     (λ never. no_upper _ _ _ c.in_ok-split.split c.in_ok-split.delta _ _ c.if-count-le5.false two.0 two.1 c.delta_end-high.ensures.end
     (rw c.from-2.ensures at never))
     (λ next w.
-    split_walked _ _ _ c.in_ok-split.split c.in_ok-split.delta c.in_ok-low.low _ _ c.in_ok-next.next next _ _ _ c.if-count-le5.false two.0 two.1 (sym c.in_ok-low.ensures.part)
+    split_walked _ _ _ c.in_ok-split.split c.in_ok-split.delta c.in_ok-low.low _ _ c.in_ok-next.next next _ _ _ c.if-count-le5.false two.0
+    two.1 (sym c.in_ok-low.ensures.part)
     c.delta_end-high.ensures.end (omega (arith, c.in_ok-low.ensures.above)) (omega (arith, c.delta_end-high.ensures.above))
     (omega (arith, c.from.ensures)) c.in_ok-next.ensures
     (rw c.from-2.ensures at w))

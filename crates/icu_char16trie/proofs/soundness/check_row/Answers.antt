@@ -9,7 +9,8 @@ returns-in_err-want c =
     let two = c.in_ok-unit.ensures.two in
     rw c.from_residual-in_err-want.ensures
     (c.loop-left.invariant.refused
-    (no_child _ _ _ c.in_ok-unit.unit c.in_ok-unit.value c.in_ok-child.child _ c.loop-left-test.true c.loop-left.invariant.short two.0 two.1 (sym c.in_ok-child.ensures.child) (omega (arith, c.in_err-want.ensures))))
+    (no_child _ _ _ c.in_ok-unit.unit c.in_ok-unit.value c.in_ok-child.child _ c.loop-left-test.true c.loop-left.invariant.short two.0 two.1
+    (sym c.in_ok-child.ensures.child) (omega (arith, c.in_err-want.ensures))))
 
 pub loop-left-preserved : goal.loop-left-preserved
 loop-left-preserved c =
@@ -21,13 +22,15 @@ loop-left-preserved c =
       some = omega arith;
       short = omega arith;
       walked = λ next new w. c.loop-left.invariant.walked next new
-          (entry_walked _ c.loop-left.place c.loop-left.left c.in_ok-unit.unit c.in_ok-unit.value c.in_ok-child.child _ _ next c.loop-left.wanted new
+          (entry_walked _ c.loop-left.place c.loop-left.left c.in_ok-unit.unit c.in_ok-unit.value c.in_ok-child.child _ _ next
+          c.loop-left.wanted new
           c.loop-left-test.true c.loop-left.invariant.short two.0 two.1 (sym c.in_ok-child.ensures.child) behind
           (omega (arith, c.from.ensures)) (omega (arith, c.in_ok-child.ensures.above)) (omega (arith, c.in_ok-want.ensures.0))
           (omega (arith, c.short_end-place.ensures.above))
           (rw (c.from-least.ensures, c.in_ok-want.ensures.1) at w));
       refused = λ w. c.loop-left.invariant.refused
-          (no_rest _ c.loop-left.place c.loop-left.left c.in_ok-unit.unit c.in_ok-unit.value _ _ c.loop-left-test.true c.loop-left.invariant.short two.0 two.1 behind
+          (no_rest _ c.loop-left.place c.loop-left.left c.in_ok-unit.unit c.in_ok-unit.value _ _ c.loop-left-test.true
+          c.loop-left.invariant.short two.0 two.1 behind
           (rw c.from-least.ensures at w));
     }
 

@@ -18,7 +18,8 @@ returns-then-low-gt0-clause-exact c =
 
 pub returns-in-Some-clause-exact : goal.returns-in-Some-clause-exact
 returns-in-Some-clause-exact c =
-    let e = c.step_in_branch-in-Some.ensures.exact in in_long _ _ c.in-Some.length e.0 _ (omega arith) (sym c.in-Some.ensures.unit) (rw c.from-in-Some.ensures at e.1) e.2
+    let e = c.step_in_branch-in-Some.ensures.exact in
+    in_long _ _ c.in-Some.length e.0 _ (omega arith) (sym c.in-Some.ensures.unit) (rw c.from-in-Some.ensures at e.1) e.2
 
 pub returns-in-None-clause-exact : goal.returns-in-None-clause-exact
 returns-in-None-clause-exact c = no_length _ _ _ (omega arith) (sym c.in-None.ensures.unit) refl

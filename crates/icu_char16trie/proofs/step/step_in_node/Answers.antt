@@ -14,7 +14,8 @@ returns-then-lead-ge32768-clause-stands c = λ m h.
 pub returns-clause-stands : goal.returns-clause-stands
 unfolding after
 returns-clause-stands c = λ m h.
-    let f = holds_valued (slice_values c.args.units) h c.in-Some.lead (sym c.in-Some.ensures.unit) c.if-lead-lt64.false c.if-lead-ge32768.false in
+    let f = holds_valued (slice_values c.args.units) h c.in-Some.lead (sym c.in-Some.ensures.unit) c.if-lead-lt64.false
+    c.if-lead-ge32768.false in
     let skipped : after c.args.unit m ≡ after c.args.unit f.rest = ap (after c.args.unit) f.is in
     rw skipped (c.step_in_match-2.ensures.stands f.rest (rw c.node_end.ensures.end f.node))
 
@@ -25,7 +26,9 @@ pub returns-then-lead-ge32768-clause-exact : goal.returns-then-lead-ge32768-clau
 returns-then-lead-ge32768-clause-exact c = at_final _ c.in-Some.lead _ (sym c.in-Some.ensures.unit) c.if-lead-ge32768.true refl
 
 pub returns-then-lead-lt64-clause-exact : goal.returns-then-lead-lt64-clause-exact
-returns-then-lead-lt64-clause-exact c = at_plain _ c.in-Some.lead _ (sym c.in-Some.ensures.unit) c.if-lead-lt64.true c.step_in_match.ensures.exact
+returns-then-lead-lt64-clause-exact c = at_plain _ c.in-Some.lead _ (sym c.in-Some.ensures.unit) c.if-lead-lt64.true
+    c.step_in_match.ensures.exact
 
 pub returns-clause-exact : goal.returns-clause-exact
-returns-clause-exact c = at_valued _ c.in-Some.lead _ (sym c.in-Some.ensures.unit) c.if-lead-lt64.false c.if-lead-ge32768.false (rw c.node_end.ensures.end at c.step_in_match-2.ensures.exact)
+returns-clause-exact c = at_valued _ c.in-Some.lead _ (sym c.in-Some.ensures.unit) c.if-lead-lt64.false c.if-lead-ge32768.false
+    (rw c.node_end.ensures.end at c.step_in_match-2.ensures.exact)

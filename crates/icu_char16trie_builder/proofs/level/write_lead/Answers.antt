@@ -4,7 +4,9 @@ use Rattle.icu_char16trie_builder.proofs.level.write_lead.Goals as goal
 
 pub returns-in_ok-put_value-in-Some : goal.returns-in_ok-put_value-in-Some
 returns-in_ok-put_value-in-Some c = record {
-  node = λ m h. rw c.in-Some.is (valued_level c.in-Some.value _ c.args.low _ _ m (back_of c.in-Some.value _ c.cast_unsigned.ensures (search rules)) c.requires c.in_ok-put_value-in-Some.ensures h);
+  node =
+      λ m h. rw c.in-Some.is (valued_level c.in-Some.value _ c.args.low _ _ m
+      (back_of c.in-Some.value _ c.cast_unsigned.ensures (search rules)) c.requires c.in_ok-put_value-in-Some.ensures h);
   grew = rw c.in-Some.is (grew_number 0x100 0x1fe _ _ _ _ (omega arith) c.in_ok-put_value-in-Some.ensures);
 }
 

@@ -2,7 +2,8 @@ use Rattle.icu_char16trie_builder.proofs.LevelLemmas.{branch_level, long_branch_
 use Rattle.icu_char16trie_builder.proofs.level.write_length.Goals as goal
 
 pub returns-then-count-le-LONGEST_SHORT_BRANCH-clause-node : goal.returns-then-count-le-LONGEST_SHORT_BRANCH-clause-node
-returns-then-count-le-LONGEST_SHORT_BRANCH-clause-node c us m p up = branch_level c.args.count _ us m c.requires.some c.if-count-le-LONGEST_SHORT_BRANCH.true p up
+returns-then-count-le-LONGEST_SHORT_BRANCH-clause-node c us m p up =
+    branch_level c.args.count _ us m c.requires.some c.if-count-le-LONGEST_SHORT_BRANCH.true p up
 
 pub returns-then-count-le-LONGEST_SHORT_BRANCH-clause-grew : goal.returns-then-count-le-LONGEST_SHORT_BRANCH-clause-grew
 returns-then-count-le-LONGEST_SHORT_BRANCH-clause-grew c = grew_same 1 _

@@ -6,37 +6,50 @@ use Rattle.icu_char16trie_builder.proofs.open.push_run.Goals as goal
 
 pub split_at-requires : goal.split_at-requires
 split_at-requires c =
-    let longer : c.args.depth < length c.args.first.now.key.now = first_longer c.args.depth c.requires.group.0 c.args.entries.now c.args.first.now c.requires.first c.requires.group.1 in
-    let units : length c.units_from-units.result.now ≡ length c.args.first.now.key.now - c.args.depth = ap length c.units_from-units.ensures ∙ length-drop c.args.depth c.args.first.now.key.now in
-    let rest : length c.units_from.result.now ≡ length c.units_from-units.result.now - 1 = ap length c.units_from.ensures ∙ length-drop 1 c.units_from-units.result.now in
+    let longer : c.args.depth < length c.args.first.now.key.now =
+    first_longer c.args.depth c.requires.group.0 c.args.entries.now c.args.first.now c.requires.first c.requires.group.1 in
+    let units : length c.units_from-units.result.now ≡ length c.args.first.now.key.now - c.args.depth =
+    ap length c.units_from-units.ensures ∙ length-drop c.args.depth c.args.first.now.key.now in
+    let rest : length c.units_from.result.now ≡ length c.units_from-units.result.now - 1 =
+    ap length c.units_from.ensures ∙ length-drop 1 c.units_from-units.result.now in
     omega (arith, longer, units, rest, c.shared_len-shared.ensures.within)
 
 pub overflow_add-depth-2 : goal.overflow_add-depth-2
 overflow_add-depth-2 c =
-    let longer : c.args.depth < length c.args.first.now.key.now = first_longer c.args.depth c.requires.group.0 c.args.entries.now c.args.first.now c.requires.first c.requires.group.1 in
-    let units : length c.units_from-units.result.now ≡ length c.args.first.now.key.now - c.args.depth = ap length c.units_from-units.ensures ∙ length-drop c.args.depth c.args.first.now.key.now in
-    let rest : length c.units_from.result.now ≡ length c.units_from-units.result.now - 1 = ap length c.units_from.ensures ∙ length-drop 1 c.units_from-units.result.now in
-    let within : c.args.depth + (1 + c.shared_len-shared.result) ≤ length c.args.first.now.key.now = omega (arith, longer, units, rest, c.shared_len-shared.ensures.within) in
+    let longer : c.args.depth < length c.args.first.now.key.now =
+    first_longer c.args.depth c.requires.group.0 c.args.entries.now c.args.first.now c.requires.first c.requires.group.1 in
+    let units : length c.units_from-units.result.now ≡ length c.args.first.now.key.now - c.args.depth =
+    ap length c.units_from-units.ensures ∙ length-drop c.args.depth c.args.first.now.key.now in
+    let rest : length c.units_from.result.now ≡ length c.units_from-units.result.now - 1 =
+    ap length c.units_from.ensures ∙ length-drop 1 c.units_from-units.result.now in
+    let within : c.args.depth + (1 + c.shared_len-shared.result) ≤ length c.args.first.now.key.now =
+    omega (arith, longer, units, rest, c.shared_len-shared.ensures.within) in
     search rules
 
 pub returns-clause-gives : goal.returns-clause-gives
 returns-clause-gives c s goal h =
     let run : IsRun c.args.depth (1 + c.shared_len-shared.result) c.split_at.result.0.now c.args.entries.now =
-    run_is c.args.depth c.requires.group.0 c.shared_len-shared.result c.args.entries.now c.args.first.now c.units_from-units.result.now c.units_from.result.now c.split_at.result.0.now
-    c.requires.group.1 c.requires.first c.units_from-units.ensures c.units_from.ensures c.shared_len-shared.ensures.few c.shared_len-shared.ensures.within
+    run_is c.args.depth c.requires.group.0 c.shared_len-shared.result c.args.entries.now c.args.first.now c.units_from-units.result.now
+    c.units_from.result.now c.split_at.result.0.now
+    c.requires.group.1 c.requires.first c.units_from-units.ensures c.units_from.ensures c.shared_len-shared.ensures.few
+    c.shared_len-shared.ensures.within
     c.shared_len-shared.ensures.share c.split_at.ensures.front in
-    gives_run c.args.depth (1 + c.shared_len-shared.result) c.args.value _ _ c.push-2.new.self.items c.split_at.result.0 c.args.entries s goal
+    gives_run c.args.depth (1 + c.shared_len-shared.result) c.args.value _ _ c.push-2.new.self.items c.split_at.result.0 c.args.entries s
+    goal
     c.in_ok-push.ensures.items c.in_ok-push-2.ensures.items run c.requires.some c.requires.ascends h
 
 pub returns-clause-cost : goal.returns-clause-cost
 returns-clause-cost c =
     let run : IsRun c.args.depth (1 + c.shared_len-shared.result) c.split_at.result.0.now c.args.entries.now =
-    run_is c.args.depth c.requires.group.0 c.shared_len-shared.result c.args.entries.now c.args.first.now c.units_from-units.result.now c.units_from.result.now c.split_at.result.0.now
-    c.requires.group.1 c.requires.first c.units_from-units.ensures c.units_from.ensures c.shared_len-shared.ensures.few c.shared_len-shared.ensures.within
+    run_is c.args.depth c.requires.group.0 c.shared_len-shared.result c.args.entries.now c.args.first.now c.units_from-units.result.now
+    c.units_from.result.now c.split_at.result.0.now
+    c.requires.group.1 c.requires.first c.units_from-units.ensures c.units_from.ensures c.shared_len-shared.ensures.few
+    c.shared_len-shared.ensures.within
     c.shared_len-shared.ensures.share c.split_at.ensures.front in
     omega (
       arith,
       cost_pushed _ _ _ c.in_ok-push.ensures.items,
       cost_pushed _ _ _ c.in_ok-push-2.ensures.items,
-      run_cost c.args.depth (1 + c.shared_len-shared.result) c.args.value c.split_at.result.0.now c.args.entries.now run c.requires.some c.requires.many,
+      run_cost c.args.depth (1 + c.shared_len-shared.result) c.args.value c.split_at.result.0.now c.args.entries.now run c.requires.some
+          c.requires.many,
     )

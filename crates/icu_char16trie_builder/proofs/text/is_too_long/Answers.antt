@@ -16,7 +16,8 @@ overflow_add-count c =
 pub loop-c-preserved : goal.loop-c-preserved
 loop-c-preserved c = record {
   counted =
-      let more = count_next c.loop-c.yielded c.in-Some.c c.len_utf16-count.result c.len_utf16-count.ensures.bmp c.len_utf16-count.ensures.surrogate_pair in
+      let more = count_next c.loop-c.yielded c.in-Some.c c.len_utf16-count.result c.len_utf16-count.ensures.bmp
+      c.len_utf16-count.ensures.surrogate_pair in
       omega (arith, more, c.loop-c.invariant.counted);
   few = omega (arith, c.if-count-gt-LONGEST_KEY.false);
 }
@@ -43,6 +44,7 @@ returns c =
     let road = YieldsList-from_chars c.args.text.now c.utf8.text cc in
     let over = YieldsList-end road ys _ c.loop-c.yielded_by _ _ c.in-None.is c.next.ensures.steps in
     let all : ys ≡ cs = sym (map-id ys) ∙ over.0 in
-    let same : length (flat_map encode_utf16 ys) ≡ length (flat_map encode_utf16 cs) = ap (λ (z : List ℕ). length (flat_map encode_utf16 z)) all in
+    let same : length (flat_map encode_utf16 ys) ≡ length (flat_map encode_utf16 cs) =
+    ap (λ (z : List ℕ). length (flat_map encode_utf16 z)) all in
     let few : length (flat_map encode_utf16 cs) ≤ 65535 = omega (arith, same, c.loop-c.invariant.counted, c.loop-c.invariant.few) in
     (λ h. cc, λ h. absurd (omega (arith, few, h)))

@@ -22,7 +22,8 @@ returns-in_err-trie-clause-err g c =
     let e-is = g.met.T.UnsignedValue.number_is error e c.in-Ok-Ok.ensures'.ok in
     let given : c.from_residual-in_err-trie.result ≡ Err (of_build c.in_err-trie.field-0.0) = search rules in
     rw given (why-build number g.T.TrieValue.of_number g.T.AsULE.WIDTH rows default error c.args.trie_type _
-    (AreFitting-from g.T.TrieValue.of_number rows default error d e (c.rows_fit.ensures.0 c.if-not-rows_fit.false) c.in-Ok-Ok.ensures.ok c.in-Ok-Ok.ensures'.ok)
+    (AreFitting-from g.T.TrieValue.of_number rows default error d e (c.rows_fit.ensures.0 c.if-not-rows_fit.false) c.in-Ok-Ok.ensures.ok
+    c.in-Ok-Ok.ensures'.ok)
     c.in_err-trie.field-0.0
     (λ large. too_large-of_rows number rows c.deref.result.now is d e default error d-is e-is
     (c.in_err-trie.ensures.too_large (ap (λ x. Err x) large)) (λ few. c.in_err-trie.ensures.few few (ap (λ x. Err x) large))))
@@ -41,11 +42,13 @@ returns-in_err-to_binary-clause-err g c =
     let came = err_from_is_err_and c.from_residual-in_err-to_binary.result c.from_residual-in_err-to_binary.ensures.1 in
     let given : c.from_residual-in_err-to_binary.result ≡ Err (of_write c.in_err-to_binary.field-0.0) = came.1 ∙ ap (λ y. Err y) came.2 in
     rw given (why-write number g.T.TrieValue.of_number g.T.AsULE.WIDTH rows default error c.args.trie_type _
-    (AreFitting-from g.T.TrieValue.of_number rows default error d e (c.rows_fit.ensures.0 c.if-not-rows_fit.false) c.in-Ok-Ok.ensures.ok c.in-Ok-Ok.ensures'.ok)
+    (AreFitting-from g.T.TrieValue.of_number rows default error d e (c.rows_fit.ensures.0 c.if-not-rows_fit.false) c.in-Ok-Ok.ensures.ok
+    c.in-Ok-Ok.ensures'.ok)
     c.in_ok-trie.trie
     (trie-of_rows number rows c.deref.result.now is d e default error d-is e-is
     c.in_ok-trie.trie c.in_ok-trie.ensures.answers c.args.trie_type c.in_ok-trie.ensures.trie_type)
-    (well-of_rows number rows c.deref.result.now is d e default error d-is e-is g.T.TrieValue.of_number c.in_ok-trie.trie c.in_ok-trie.ensures.built)
+    (well-of_rows number rows c.deref.result.now is d e default error d-is e-is g.T.TrieValue.of_number c.in_ok-trie.trie
+    c.in_ok-trie.ensures.built)
     c.in_err-to_binary.field-0.0 c.in_err-to_binary.ensures.err)
 
 pub returns-clause-fits : goal.returns-clause-fits
@@ -56,7 +59,8 @@ returns-clause-fits g c =
     let error = c.args.error in
     let d = c.in-Ok-Ok.default in
     let e = c.in-Ok-Ok.error in
-    AreFitting-from g.T.TrieValue.of_number rows default error d e (c.rows_fit.ensures.0 c.if-not-rows_fit.false) c.in-Ok-Ok.ensures.ok c.in-Ok-Ok.ensures'.ok
+    AreFitting-from g.T.TrieValue.of_number rows default error d e (c.rows_fit.ensures.0 c.if-not-rows_fit.false) c.in-Ok-Ok.ensures.ok
+    c.in-Ok-Ok.ensures'.ok
 
 pub returns-clause-built : goal.returns-clause-built
 returns-clause-built g c =

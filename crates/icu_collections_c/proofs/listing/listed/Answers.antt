@@ -17,14 +17,21 @@ add-requires c = record {
 pub loop-item-preserved : goal.loop-item-preserved
 loop-item-preserved c =
     rw c.in_ok-text.was
-    (HasGone-more c.loop-item.yielded c.args.most_words c.args.most_bytes c.loop-item.listing c.add.new.self c.in_ok-text.text c.in_ok-text.value
+    (HasGone-more c.loop-item.yielded c.args.most_words c.args.most_bytes c.loop-item.listing c.add.new.self c.in_ok-text.text
+    c.in_ok-text.value
     c.loop-item.invariant _ _ c.as_str.ensures.value (to_z-of_z w32 c.in_ok-text.value (search rules)) c.in_ok-add.ensures.ok)
 
 pub returns : goal.returns
 returns c =
     let begun : Yields GivesNext c.into_iter-item-iterator.result c.loop-item.yielded c.loop-item.item-iterator = c.loop-item.yielded_by in
-    let drained : Drains GivesNext c.iter2-item-items.result c.loop-item.yielded =
-    (c.next.new.self, (c.loop-item.item-iterator, rw c.into_iter-item-iterator.ensures.into_iter_gives at begun, c.in-None.ensures.steps)) in
+    let drained : Drains GivesNext c.iter2-item-items.result c.loop-item.yielded = (
+      c.next.new.self,
+      (
+        c.loop-item.item-iterator,
+        rw c.into_iter-item-iterator.ensures.into_iter_gives at begun,
+        c.in-None.ensures.steps,
+      ),
+    ) in
     let gone = c.loop-item.invariant in
     record {
       items = map shown gone.entries;
@@ -33,7 +40,8 @@ returns c =
         entries = λ m trie.
             texts_of_entries gone.entries m
             (AreEntries-of_run gone.entries m
-            (rw gone.items_are at (c.iter2-item-items.ensures.drained m c.loop-item.yielded (subst (λ z. IsTrieOf z m) (sym c.trie_in-trie.ensures) trie) drained)));
+            (rw gone.items_are at (c.iter2-item-items.ensures.drained m c.loop-item.yielded
+            (subst (λ z. IsTrieOf z m) (sym c.trie_in-trie.ensures) trie) drained)));
       };
       kept = gone.kept;
     }

@@ -8,12 +8,14 @@ use Rattle.icu_collections_c.proofs.opening.kept.Goals as goal
 
 pub parts_between-requires-clause-within : goal.parts_between-requires-clause-within
 parts_between-requires-clause-within g c =
-    let at = places-stored g.T.AsULE.unpack g.T.AsULE.WIDTH g.T.TrieValue.number g.T.TrieValue.of_number c.args.bytes.now c.args.trie.now c.args.size c.requires in
+    let at = places-stored g.T.AsULE.unpack g.T.AsULE.WIDTH g.T.TrieValue.number g.T.TrieValue.of_number c.args.bytes.now c.args.trie.now
+    c.args.size c.requires in
     omega (arith, at.within, c.len.ensures.len, ap length c.parts.ensures.index)
 
 pub parts_between-requires-clause-fits : goal.parts_between-requires-clause-fits
 parts_between-requires-clause-fits g c =
-    let at = places-stored g.T.AsULE.unpack g.T.AsULE.WIDTH g.T.TrieValue.number g.T.TrieValue.of_number c.args.bytes.now c.args.trie.now c.args.size c.requires in
+    let at = places-stored g.T.AsULE.unpack g.T.AsULE.WIDTH g.T.TrieValue.number g.T.TrieValue.of_number c.args.bytes.now c.args.trie.now
+    c.args.size c.requires in
     at.fits
 
 pub returns-clause-parts : goal.returns-clause-parts
@@ -33,12 +35,14 @@ pub returns-clause-sound : goal.returns-clause-sound
 returns-clause-sound g c =
     let width = g.T.AsULE.WIDTH in
     let bytes = c.args.bytes.now in
-    let at = places-stored g.T.AsULE.unpack width g.T.TrieValue.number g.T.TrieValue.of_number bytes c.args.trie.now c.args.size c.requires in
+    let at = places-stored g.T.AsULE.unpack width g.T.TrieValue.number g.T.TrieValue.of_number bytes c.args.trie.now c.args.size
+    c.requires in
     let count : c.len.result ≡ length c.args.trie.now.index = c.len.ensures.len ∙ ap length c.parts.ensures.index in
     record {
       index = ap (λ cells. length cells % 2) c.parts_between.ensures.index
           ∙ ap (λ n. length (take (16 + 2 * n - 16) (drop 16 bytes)) % 2) count ∙ at.index_whole;
       values = ap (λ cells. length cells % width) c.parts_between.ensures.values
           ∙ ap (λ n. length (take (c.args.size - (16 + 2 * n)) (drop (16 + 2 * n) bytes)) % width) count ∙ at.values_whole;
-      parts = ap (λ (p : Parts _). fault g.T.TrieValue.of_number p.header p.index p.values) (returns-clause-parts g c) ∙ c.parts.ensures.whole;
+      parts = ap (λ (p : Parts _). fault g.T.TrieValue.of_number p.header p.index p.values) (returns-clause-parts g c)
+          ∙ c.parts.ensures.whole;
     }

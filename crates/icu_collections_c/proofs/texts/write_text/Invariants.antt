@@ -10,6 +10,7 @@ invariant-loop-c g l = record {
   count : l.count ≡ length l.yielded;
   long : length l.values ≡ length l.initial.values;
   written : l.values
-      ≡ map (λ c. unwrap_or (trie_value (parts_in g.T.AsULE.unpack g.T.AsULE.WIDTH l.trie) c) l.none) (take (min l.count (length l.initial.values)) (chars l.text))
+      ≡ map (λ c. unwrap_or (trie_value (parts_in g.T.AsULE.unpack g.T.AsULE.WIDTH l.trie) c) l.none)
+      (take (min l.count (length l.initial.values)) (chars l.text))
       ++ drop (min l.count (length l.initial.values)) l.initial.values;
 }

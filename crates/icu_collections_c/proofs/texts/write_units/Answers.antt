@@ -10,7 +10,8 @@ use Rattle.icu_collections_c.proofs.texts.write_units.Goals as goal
 
 pub overflow_add-count : goal.overflow_add-count
 overflow_add-count g c =
-    let at = next-drop (code_points_of c.args.units.now) c.loop-c.count c.in-Some.c (code_points_of c.in-Some.after.now) (c.loop-c.invariant.ahead ∙ c.in-Some.ensures) in
+    let at = next-drop (code_points_of c.args.units.now) c.loop-c.count c.in-Some.c (code_points_of c.in-Some.after.now)
+    (c.loop-c.invariant.ahead ∙ c.in-Some.ensures) in
     let few = length-code_points c.args.units.now in
     omega (arith, at.0, few)
 
@@ -27,7 +28,8 @@ loop-c-preserved g c =
       passed = omega (arith, at.0);
       ahead = at.2;
       long = c.put.auto.values ∙ c.loop-c.invariant.long;
-      written = filled_next value pts c.args.values.now c.loop-c.values c.put.new.values n c.in-Some.c at.0 c.loop-c.invariant.long c.loop-c.invariant.written
+      written = filled_next value pts c.args.values.now c.loop-c.values c.put.new.values n c.in-Some.c at.0 c.loop-c.invariant.long
+          c.loop-c.invariant.written
           (λ h. rw found at (c.put.ensures.within h)) c.put.ensures.past;
     }
 
@@ -46,4 +48,5 @@ returns-clause-values g c =
     let all : min c.loop-c.count (length c.args.values.now) ≡ min (length (code_points_of c.args.units.now)) (length c.args.values.now) =
     ap (λ n. min n (length c.args.values.now)) (returns-clause-count g c) in
     c.loop-c.invariant.written
-    ∙ filled_all (λ u. unwrap_or (trie_value (parts_in g.T.AsULE.unpack g.T.AsULE.WIDTH c.args.trie.now) u) c.args.none) (code_points_of c.args.units.now) c.args.values.now _ all
+    ∙ filled_all (λ u. unwrap_or (trie_value (parts_in g.T.AsULE.unpack g.T.AsULE.WIDTH c.args.trie.now) u) c.args.none)
+    (code_points_of c.args.units.now) c.args.values.now _ all

@@ -20,4 +20,5 @@ pub returns-clause-values : goal.returns-clause-values
 returns-clause-values g c =
     let all : c.loop-i.i ≡ min (length c.args.points.now) (length c.args.values.now) =
     omega (arith, c.loop-i-test.false, c.loop-i.auto.i-end, c.min-count.ensures) in
-    c.loop-i.invariant ∙ filled_all (λ u. unwrap_or (trie_value (parts_in g.T.AsULE.unpack g.T.AsULE.WIDTH c.args.trie.now) u) c.args.none) c.args.points.now c.args.values.now c.loop-i.i all
+    c.loop-i.invariant ∙ filled_all (λ u. unwrap_or (trie_value (parts_in g.T.AsULE.unpack g.T.AsULE.WIDTH c.args.trie.now) u) c.args.none)
+    c.args.points.now c.args.values.now c.loop-i.i all

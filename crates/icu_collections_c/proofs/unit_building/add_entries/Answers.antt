@@ -29,6 +29,7 @@ loop-i-preserved c =
     ∙ ap (λ z. with_entry (take n rest) z c.loop-i.builder) value in
     record {
       room = rw c.split_at.ensures.back (omega (arith, room, c.loop-i.invariant.room, length-drop n rest));
-      along = subst (λ r. Along all c.args.builder.now (entries_of r (drop (i + 1) lengths) (drop (i + 1) values)) c.add.new.self) (sym c.split_at.ensures.back)
+      along = subst (λ r. Along all c.args.builder.now (entries_of r (drop (i + 1) lengths) (drop (i + 1) values)) c.add.new.self)
+          (sym c.split_at.ensures.back)
           (Along-next all c.args.builder.now (take n rest) v _ _ c.loop-i.builder c.loop-i.invariant.along left c.add.new.self fresh added);
     }

@@ -13,7 +13,8 @@ loop-unit-preserved c =
     let all = units_of c.args.units.now in
     let more = take_more c.args.key.now c.loop-unit.unit-index 0 c.loop-unit-test.true in
     let step : StepsTo all c.loop-unit.cursor.place (get_or c.args.key.now c.loop-unit.unit-index 0) c.step16.new.self.place =
-    subst (λ z. StepsTo z c.loop-unit.cursor.place (get_or c.args.key.now c.loop-unit.unit-index 0) c.step16.new.self.place) so_far.units c.step16.ensures.exact in
+    subst (λ z. StepsTo z c.loop-unit.cursor.place (get_or c.args.key.now c.loop-unit.unit-index 0) c.step16.new.self.place) so_far.units
+    c.step16.ensures.exact in
     record {
       units = c.step16.ensures.units ∙ so_far.units;
       steps = rw more (along_push all (Node 0) c.loop-unit.cursor.place c.step16.new.self.place _ _ so_far.steps step);

@@ -13,7 +13,8 @@ pub returns-then-not-is_high_surrogate : goal.returns-then-not-is_high_surrogate
 returns-then-not-is_high_surrogate c =
     let units : c.args.units.now ≡ c.from-unit.result ∷ c.in_ok-first.rest.now =
     c.in_ok-first.ensures.cases.0 ∙ ap (λ (u : ℕ). u ∷ c.in_ok-first.rest.now) (sym c.from-unit.ensures) in
-    rw units (code_points_alone c.from-unit.result c.in_ok-first.rest.now (sym c.is_high_surrogate.ensures ∙ c.if-not-is_high_surrogate.true))
+    rw units (code_points_alone c.from-unit.result c.in_ok-first.rest.now
+    (sym c.is_high_surrogate.ensures ∙ c.if-not-is_high_surrogate.true))
 
 pub returns-in_default : goal.returns-in_default
 returns-in_default c =

@@ -10,5 +10,11 @@ returns-then-ends-count-clause-count c = all_below c.args.ends.now _ c.args.c c.
 pub loop-size-preserved : goal.loop-size-preserved
 loop-size-preserved c =
     let i = c.loop-size.invariant in
-    let o = one_counted (ends_below c.args.ends.now c.args.c) c.loop-size.low c.loop-size.size c.is_below.result c.loop-size-test.true i.from i.to c.is_below.ensures in
-    record { from = (let a = o.0 in omega arith); to = (let a = o.1 in omega arith); within = (let w = i.within in let a = o.2 in omega arith) }
+    let o = one_counted (ends_below c.args.ends.now c.args.c) c.loop-size.low c.loop-size.size c.is_below.result c.loop-size-test.true
+    i.from i.to c.is_below.ensures in
+    record {
+      from = (let a = o.0 in omega arith);
+      to = (let a = o.1 in omega arith);
+      within =
+          (let w = i.within in let a = o.2 in omega arith);
+    }

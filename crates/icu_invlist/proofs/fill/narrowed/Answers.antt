@@ -12,6 +12,10 @@ loop-size-preserved c =
     let t = c.loop-size-test.true in
     record {
       from = e.reached;
-      to = elim e.past [ inl h ↦ (let a = i.to in let b = e.within in omega arith) | inr h ↦ (let a = i.to in let b = e.within in omega arith) ];
+      to = elim e.past [
+        | inl h ↦ (let a = i.to in let b = e.within in omega arith)
+        | inr h ↦
+            (let a = i.to in let b = e.within in omega arith)
+      ];
       within = (let a = i.within in let b = e.within in omega arith);
     }

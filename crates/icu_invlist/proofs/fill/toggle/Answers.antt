@@ -10,14 +10,17 @@ use Rattle.icu_invlist.proofs.fill.toggle.Goals as goal
 
 taken_out : (c : goal.After-remove) → Toggled c.args.ends.now.items c.args.x c.remove.new.self.items
 taken_out c =
-    let f = end_found c.args.ends.now.items c.args.x c.binary_search.result c.requires.rises (rw c.deref.ensures.value at c.binary_search.ensures.position) in
+    let f = end_found c.args.ends.now.items c.args.x c.binary_search.result c.requires.rises
+    (rw c.deref.ensures.value at c.binary_search.ensures.position) in
     let q = MatchResult-at_ok _ _ c.in-Ok.place c.in-Ok.is f in
     take_out c.args.ends.now.items c.remove.new.self.items c.args.x c.in-Ok.place (ends_below c.args.ends.now.items (c.args.x + 1))
     c.requires.rises c.requires.within q.0 refl (λ e. q.2 (sym q.0 ∙ e)) c.remove.ensures.items
 
-is_none : (c : goal.After-insert) → (c.in-Err.place ≡ ends_below c.args.ends.now.items c.args.x) × (ends_below c.args.ends.now.items c.args.x ≡ ends_below c.args.ends.now.items (c.args.x + 1))
+is_none : (c : goal.After-insert) → (c.in-Err.place ≡ ends_below c.args.ends.now.items c.args.x)
+    × (ends_below c.args.ends.now.items c.args.x ≡ ends_below c.args.ends.now.items (c.args.x + 1))
 is_none c = MatchResult-at_err _ _ c.in-Err.place c.in-Err.is
-    (end_found c.args.ends.now.items c.args.x c.binary_search.result c.requires.rises (rw c.deref.ensures.value at c.binary_search.ensures.position))
+    (end_found c.args.ends.now.items c.args.x c.binary_search.result c.requires.rises
+    (rw c.deref.ensures.value at c.binary_search.ensures.position))
 
 inserted : (c : goal.After-insert) → c.insert.new.self.items ≡ insert c.args.ends.now.items c.in-Err.place c.args.x
 inserted c = c.insert.ensures.items ∙ cond-true _ _ _ (c.insert.ensures.succeeds (c.requires.room (is_none c).1))
@@ -29,7 +32,8 @@ put c = let q = is_none c in
 
 pub remove-requires : goal.remove-requires
 remove-requires c =
-    let f = end_found c.args.ends.now.items c.args.x c.binary_search.result c.requires.rises (rw c.deref.ensures.value at c.binary_search.ensures.position) in
+    let f = end_found c.args.ends.now.items c.args.x c.binary_search.result c.requires.rises
+    (rw c.deref.ensures.value at c.binary_search.ensures.position) in
     let q = MatchResult-at_ok _ _ c.in-Ok.place c.in-Ok.is f in omega (arith, q.1)
 
 pub returns-in-Ok-clause-rises : goal.returns-in-Ok-clause-rises
@@ -46,7 +50,9 @@ returns-in-Err-clause-set c = (put c).1
 
 pub returns-in-Err-clause-length : goal.returns-in-Err-clause-length
 returns-in-Err-clause-length c = ap (λ (zs : List ℕ). is_odd (length zs)) (inserted c)
-    ∙ (ap is_odd (length-insert c.args.ends.now.items c.in-Err.place c.args.x (let b = c.in-Err.ensures.bound in omega (arith, ap (λ (zs : List ℕ). length zs) c.deref.ensures.value)))
+    ∙
+    (ap is_odd (length-insert c.args.ends.now.items c.in-Err.place c.args.x (let b = c.in-Err.ensures.bound in
+    omega (arith, ap (λ (zs : List ℕ). length zs) c.deref.ensures.value)))
     ∙ odd_next (length c.args.ends.now.items))
 
 pub returns-in-Err-clause-shrinks : goal.returns-in-Err-clause-shrinks

@@ -15,9 +15,13 @@ pub toggle-requires-else-new_start-2-clause-rises : goal.toggle-requires-else-ne
 toggle-requires-else-new_start-2-clause-rises c = rw c.reserve_two.ensures.same (run_from_valid _ c.requires.valid)
 
 pub returns-then-new_start-2-clause-valid : goal.returns-then-new_start-2-clause-valid
-returns-then-new_start-2-clause-valid c = flipped_twice c.args.ends.now.items c.reserve_two.new.ends.items c.toggle.new.ends.items c.toggle-then-new_start-2.new.ends.items
-    c.requires.valid c.reserve_two.ensures.same c.toggle.ensures.length c.toggle-then-new_start-2.ensures.rises c.toggle-then-new_start-2.ensures.length
+returns-then-new_start-2-clause-valid c = flipped_twice c.args.ends.now.items c.reserve_two.new.ends.items c.toggle.new.ends.items
+    c.toggle-then-new_start-2.new.ends.items
+    c.requires.valid c.reserve_two.ensures.same c.toggle.ensures.length c.toggle-then-new_start-2.ensures.rises
+    c.toggle-then-new_start-2.ensures.length
 
 pub returns-else-new_start-2-clause-valid : goal.returns-else-new_start-2-clause-valid
-returns-else-new_start-2-clause-valid c = flipped_twice c.args.ends.now.items c.reserve_two.new.ends.items c.toggle-else-new_start-2.new.ends.items c.toggle-else-new_start-2-2.new.ends.items
-    c.requires.valid c.reserve_two.ensures.same c.toggle-else-new_start-2.ensures.length c.toggle-else-new_start-2-2.ensures.rises c.toggle-else-new_start-2-2.ensures.length
+returns-else-new_start-2-clause-valid c = flipped_twice c.args.ends.now.items c.reserve_two.new.ends.items
+    c.toggle-else-new_start-2.new.ends.items c.toggle-else-new_start-2-2.new.ends.items
+    c.requires.valid c.reserve_two.ensures.same c.toggle-else-new_start-2.ensures.length c.toggle-else-new_start-2-2.ensures.rises
+    c.toggle-else-new_start-2-2.ensures.length

@@ -9,6 +9,8 @@ returns-then-passed-a-clause-forward g c =
     let q = c.pass_both-passed in
     let r = c.pass_second in
     rw r.ensures.first
-    (some_passed c.args.a.now (slice_values c.args.b) c.args.walk.first c.args.walk.second p.result.first q.result.first q.result.second r.result.second
-    c.requires.first c.requires.second p.ensures.forward p.ensures.ahead q.ensures.forward.0 (let e = p.ensures.second in let f = q.ensures.forward.1 in omega arith)
+    (some_passed c.args.a.now (slice_values c.args.b) c.args.walk.first c.args.walk.second p.result.first q.result.first q.result.second
+    r.result.second
+    c.requires.first c.requires.second p.ensures.forward p.ensures.ahead q.ensures.forward.0 (let e = p.ensures.second in
+    let f = q.ensures.forward.1 in omega arith)
     q.ensures.apart r.ensures.forward r.ensures.ahead)

@@ -6,7 +6,8 @@ use Rattle.icu_invlist.proofs.merge.stand_past.Goals.{then-count-eq0-via-then-co
 
 pub returns-then-count-eq0 : goal.returns-then-count-eq0
 returns-then-count-eq0 c = λ t. elim c.then-count-eq0.branch [
-  | then-count-eq0-via-then-count-eq0 w ↦ stand_before_none c.args.set.now c.args.ends.now c.count-others.ensures.valid (let e = w.if-count-eq0.true in omega arith)
+  | then-count-eq0-via-then-count-eq0 w ↦ stand_before_none c.args.set.now c.args.ends.now c.count-others.ensures.valid
+      (let e = w.if-count-eq0.true in omega arith)
   | then-count-eq0-via-else-count-eq0+then-others-eq0 w ↦ stand_of_none c.args.set.now c.args.ends.now
       (let e = w.if-others-eq0.true in let k = c.count-others.ensures.count in omega arith)
 ]

@@ -17,5 +17,6 @@ put_ends-requires c =
     let f = c.requires.units in omega arith
 
 pub returns : goal.returns
-returns c = set_put (slice_values c.args.ends) c.args.target.now c.put_head-at.new.target c.put_ends.new.target c.args.counts.units c.args.counts.singles c.put_head-at.result c.requires.units
+returns c = set_put (slice_values c.args.ends) c.args.target.now c.put_head-at.new.target c.put_ends.new.target c.args.counts.units
+    c.args.counts.singles c.put_head-at.result c.requires.units
     c.requires.singles c.put_head-at.ensures.place c.put_head-at.ensures.put c.put_ends.ensures

@@ -32,4 +32,5 @@ returns-clause-canonical g c = λ one.
     let b = c.as_bytes.result.now in
     let short : c.args.i < length c.args.values.now = omega (arith, c.if-i-len.false, c.len.ensures.len) in
     let l : c.args.i < length (values_of f w b) = rw c.as_bytes.ensures.values at short in
-    rw (c.WIDTH.ensures, c.WIDTH-2.ensures, c.as_bytes.ensures.values) (pack-cell f w b c.as_bytes.ensures.packed c.args.i l g.T.AsULE.pack one)
+    rw (c.WIDTH.ensures, c.WIDTH-2.ensures, c.as_bytes.ensures.values)
+    (pack-cell f w b c.as_bytes.ensures.packed c.args.i l g.T.AsULE.pack one)

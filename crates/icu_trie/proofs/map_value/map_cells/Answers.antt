@@ -19,7 +19,14 @@ pub returns-in-Err-clause-err : goal.returns-in-Err-clause-err
 returns-in-Err-clause-err g c =
     let inv = c.loop-value.invariant in
     let items = c.in-Some.ensures.steps in
-    record { answers = c.loop-value.answers.items; refusal = _; last = c.f.new.self; calls = onward-refused (goal.F-step g) _ _ _ _ _ _ _ _ items inv.onward c.in-Err.error (search rules); why = refl }
+    record {
+      answers = c.loop-value.answers.items;
+      refusal = _;
+      last = c.f.new.self;
+      calls =
+          onward-refused (goal.F-step g) _ _ _ _ _ _ _ _ items inv.onward c.in-Err.error (search rules);
+      why = refl;
+    }
 
 pub returns-clause-ok : goal.returns-clause-ok
 returns-clause-ok g c =
@@ -27,4 +34,9 @@ returns-clause-ok g c =
     let none = c.in-None.ensures.steps in
     let count = inv.count in
     let all = inv.onward [] None c.loop-value.f refl in
-    record { last = c.loop-value.f; calls = rw (append-nil c.loop-value.answers.items) at all; whole = omega (arith, count, ap length none.0) }
+    record {
+      last = c.loop-value.f;
+      calls = rw (append-nil c.loop-value.answers.items) at all;
+      whole =
+          omega (arith, count, ap length none.0);
+    }

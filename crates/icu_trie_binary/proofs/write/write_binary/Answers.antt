@@ -9,14 +9,16 @@ pub returns-clause-front : goal.returns-clause-front
 returns-clause-front g c =
     let p = c.in_ok-parts.parts in
     let wrote : c.write.new.bytes ≡ joined p (drop (joined_length p) c.args.bytes.now) = c.write.ensures in
-    rw wrote (front-joined p.header p.index.now p.padding.now p.values.now (drop (joined_length p) c.args.bytes.now) _ c.in_ok-parts.ensures.front)
+    rw wrote (front-joined p.header p.index.now p.padding.now p.values.now (drop (joined_length p) c.args.bytes.now) _
+    c.in_ok-parts.ensures.front)
 
 pub returns-clause-rest : goal.returns-clause-rest
 returns-clause-rest g c =
     let p = c.in_ok-parts.parts in
     let wrote : c.write.new.bytes ≡ joined p (drop (joined_length p) c.args.bytes.now) = c.write.ensures in
     let len : p.len ≡ joined_length p = c.in_ok-parts.ensures.len in
-    rw (len, wrote) (drop-joined p.header p.index.now p.padding.now p.values.now (drop (joined_length p) c.args.bytes.now) c.in_ok-parts.ensures.header)
+    rw (len, wrote) (drop-joined p.header p.index.now p.padding.now p.values.now (drop (joined_length p) c.args.bytes.now)
+    c.in_ok-parts.ensures.header)
 
 pub returns-clause-answers : goal.returns-clause-answers
 returns-clause-answers g c t n =

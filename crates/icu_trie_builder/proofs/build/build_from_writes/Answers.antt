@@ -12,7 +12,8 @@ use Rattle.icu_trie_builder.proofs.SameMapLemmas.{IsTooLarge-alike}
 use Rattle.icu_trie_builder.proofs.build.build_from_writes.Goals as goal
 
 after : (g : _) (c : goal.After-build g) → IsAfter c.args.writes.now c.new-builder.result c.apply.new.self
-after g c = from_ok c.apply.result (IsAfter c.args.writes.now c.new-builder.result c.apply.new.self) c.if-is_err.ensures.value c.apply.ensures.ok
+after g c = from_ok c.apply.result (IsAfter c.args.writes.now c.new-builder.result c.apply.new.self) c.if-is_err.ensures.value
+    c.apply.ensures.ok
 
 -- the map that is built is that of the writes over the default
 same_value : (g : _) (c : goal.After-build g) → (k : ℕ) → k < 0x110000

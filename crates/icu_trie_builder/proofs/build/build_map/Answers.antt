@@ -13,40 +13,54 @@ pub returns-in_err-trie-clause-too_large : goal.returns-in_err-trie-clause-too_l
 returns-in_err-trie-clause-too_large g c = λ e.
     let number = g.T.TrieValue.number in
     let large : c.in_err-trie.field-0.0 ≡ TooLarge = search rules in
-    let is : (k : ℕ) → k < 0x110000 → slice_index c.args.numbers.now k ≡ number (number_value g.T.TrieValue.of_number c.args.default c.args.numbers.now k) =
-    number-of_value g.T.AsULE.is_value number g.T.TrieValue.of_number g.met.T.TrieValue.number_gives_back c.args.numbers.now c.args.default c.args.error c.requires in
-    IsTooLarge-alike (λ k. slice_index c.args.numbers.now k) (λ k. number (number_value g.T.TrieValue.of_number c.args.default c.args.numbers.now k)) is
+    let is : (k : ℕ) → k < 0x110000 → slice_index c.args.numbers.now k
+    ≡ number (number_value g.T.TrieValue.of_number c.args.default c.args.numbers.now k) =
+    number-of_value g.T.AsULE.is_value number g.T.TrieValue.of_number g.met.T.TrieValue.number_gives_back c.args.numbers.now c.args.default
+    c.args.error c.requires in
+    IsTooLarge-alike (λ k. slice_index c.args.numbers.now k)
+    (λ k. number (number_value g.T.TrieValue.of_number c.args.default c.args.numbers.now k)) is
     (c.in_err-trie.ensures.too_large (ap (λ x. Err x) large))
 
 pub trie_of-requires-clause-numbers : goal.trie_of-requires-clause-numbers
 trie_of-requires-clause-numbers g c =
     let number = g.T.TrieValue.number in
     let of_number = g.T.TrieValue.of_number in
-    let error_back : is_some (of_number c.to_u32.result) ≡ true = rw (c.to_u32.ensures, g.met.T.TrieValue.number_gives_back c.args.error c.requires.error_value) refl in
+    let error_back : is_some (of_number c.to_u32.result) ≡ true =
+    rw (c.to_u32.ensures, g.met.T.TrieValue.number_gives_back c.args.error c.requires.error_value) refl in
     c.in_ok-trie.ensures.drawn (λ n. is_some (of_number n))
-    (all_numbers g.T.AsULE.is_value number of_number g.met.T.TrieValue.number_gives_back c.args.numbers.now c.args.default c.args.error c.requires)
+    (all_numbers g.T.AsULE.is_value number of_number g.met.T.TrieValue.number_gives_back c.args.numbers.now c.args.default c.args.error
+    c.requires)
     error_back
 
 pub returns-clause-answers : goal.returns-clause-answers
 returns-clause-answers g c =
     let trie = c.in_ok-trie.trie in
     let f : ℕ → g.row.T.Denot = number_value g.T.TrieValue.of_number c.args.default c.args.numbers.now in
-    IfOk-three c.trie_of.result (λ t. t.header ≡ trie.header) (λ t. t.index ≡ trie.index.items) (λ t. AreValuesOf g.T.TrieValue.of_number trie.values.items t.values) (AnswersMap f c.args.error)
-    (map_answers g.T.AsULE.is_value g.T.TrieValue.number g.T.TrieValue.of_number g.met.T.TrieValue.number_gives_back c.args.numbers.now c.args.default c.args.error c.requires
-    trie.header trie.index.items trie.values.items c.to_u32.result c.to_u32-2.result c.to_u32.ensures c.to_u32-2.ensures c.in_ok-trie.ensures.built c.in_ok-trie.ensures.null_value)
+    IfOk-three c.trie_of.result (λ t. t.header ≡ trie.header) (λ t. t.index ≡ trie.index.items)
+    (λ t. AreValuesOf g.T.TrieValue.of_number trie.values.items t.values) (AnswersMap f c.args.error)
+    (map_answers g.T.AsULE.is_value g.T.TrieValue.number g.T.TrieValue.of_number g.met.T.TrieValue.number_gives_back c.args.numbers.now
+    c.args.default c.args.error c.requires
+    trie.header trie.index.items trie.values.items c.to_u32.result c.to_u32-2.result c.to_u32.ensures c.to_u32-2.ensures
+    c.in_ok-trie.ensures.built c.in_ok-trie.ensures.null_value)
     c.trie_of.ensures.header c.trie_of.ensures.index c.trie_of.ensures.values
 
 pub returns-clause-built : goal.returns-clause-built
 returns-clause-built g c =
     let trie = c.in_ok-trie.trie in
     let f : ℕ → g.row.T.Denot = number_value g.T.TrieValue.of_number c.args.default c.args.numbers.now in
-    IfOk-three c.trie_of.result (λ t. t.header ≡ trie.header) (λ t. t.index ≡ trie.index.items) (λ t. AreValuesOf g.T.TrieValue.of_number trie.values.items t.values) (IsWellBuilt g.T.TrieValue.of_number (λ k. g.T.TrieValue.number (f k)))
-    (map_built g.T.AsULE.is_value g.T.TrieValue.number g.T.TrieValue.of_number g.met.T.TrieValue.number_gives_back c.args.numbers.now c.args.default c.args.error c.requires
-    trie.header trie.index.items trie.values.items c.to_u32.result c.to_u32-2.result c.to_u32.ensures c.to_u32-2.ensures c.in_ok-trie.ensures.built c.in_ok-trie.ensures.null_value)
+    IfOk-three c.trie_of.result (λ t. t.header ≡ trie.header) (λ t. t.index ≡ trie.index.items)
+    (λ t. AreValuesOf g.T.TrieValue.of_number trie.values.items t.values)
+    (IsWellBuilt g.T.TrieValue.of_number (λ k. g.T.TrieValue.number (f k)))
+    (map_built g.T.AsULE.is_value g.T.TrieValue.number g.T.TrieValue.of_number g.met.T.TrieValue.number_gives_back c.args.numbers.now
+    c.args.default c.args.error c.requires
+    trie.header trie.index.items trie.values.items c.to_u32.result c.to_u32-2.result c.to_u32.ensures c.to_u32-2.ensures
+    c.in_ok-trie.ensures.built c.in_ok-trie.ensures.null_value)
     c.trie_of.ensures.header c.trie_of.ensures.index c.trie_of.ensures.values
 
 pub trie_of-requires-clause-sound : goal.trie_of-requires-clause-sound
 trie_of-requires-clause-sound g c =
     let trie = c.in_ok-trie.trie in
-    map_no_fault g.T.AsULE.is_value g.T.TrieValue.number g.T.TrieValue.of_number g.met.T.TrieValue.number_gives_back c.args.numbers.now c.args.default c.args.error c.requires
-    trie.header trie.index.items trie.values.items c.to_u32.result c.to_u32-2.result c.to_u32.ensures c.to_u32-2.ensures c.in_ok-trie.ensures.built c.in_ok-trie.ensures.null_value
+    map_no_fault g.T.AsULE.is_value g.T.TrieValue.number g.T.TrieValue.of_number g.met.T.TrieValue.number_gives_back c.args.numbers.now
+    c.args.default c.args.error c.requires
+    trie.header trie.index.items trie.values.items c.to_u32.result c.to_u32-2.result c.to_u32.ensures c.to_u32-2.ensures
+    c.in_ok-trie.ensures.built c.in_ok-trie.ensures.null_value

@@ -15,7 +15,8 @@ use Rattle.icu_trie_builder.proofs.Sizes.{fast_blocks-list, stands-found, lone_b
 use Rattle.icu_trie_builder.proofs.data.place_data.Goals as goal
 
 pub place_map_blocks-requires-clause-room : goal.place_map_blocks-requires-clause-room
-place_map_blocks-requires-clause-room c = omega (arith, first_len c.args.numbers.now c.copy_block.new.room.items c.requires.all c.in_ok-copy_block.ensures)
+place_map_blocks-requires-clause-room c = omega
+    (arith, first_len c.args.numbers.now c.copy_block.new.room.items c.requires.all c.in_ok-copy_block.ensures)
 
 pub returns-in_err-rest-clause-too_large : goal.returns-in_err-rest-clause-too_large
 returns-in_err-rest-clause-too_large c = λ e.
@@ -32,7 +33,12 @@ returns-in_err-rest-clause-too_large c = λ e.
     absurd (omega (arith, large, first_is, size.2, count_different-le_count (block 64 numbers) 2 (L / 64 - 2)))
 
 pub place_map_blocks-requires-2-clause-room : goal.place_map_blocks-requires-2-clause-room
-place_map_blocks-requires-2-clause-room c = omega (arith, c.in_ok-rest.ensures.capped, first_len c.args.numbers.now c.copy_block.new.room.items c.requires.all c.in_ok-copy_block.ensures)
+place_map_blocks-requires-2-clause-room c =
+    omega (
+      arith,
+      c.in_ok-rest.ensures.capped,
+      first_len c.args.numbers.now c.copy_block.new.room.items c.requires.all c.in_ok-copy_block.ensures,
+    )
 
 pub returns-in_err-small-clause-too_large : goal.returns-in_err-small-clause-too_large
 returns-in_err-small-clause-too_large c = λ e.
@@ -40,13 +46,20 @@ returns-in_err-small-clause-too_large c = λ e.
     let t = c.args.trie_type in
     let numbers = c.args.numbers.now in
     let limit : c.fast_limit-limit.result ≡ fast_limit t = c.fast_limit-limit.ensures.limit in
-    let one = fast_cells t numbers c.copy_block.new.room.items c.place_map_blocks.new.stored.items c.requires.all c.in_ok-copy_block.ensures (rw limit at c.in_ok-rest.ensures.short) in
-    let count : c.saturating_sub-small_len.result ≡ c.args.high_start - fast_limit t = c.saturating_sub-small_len.ensures ∙ ap (λ n. c.args.high_start - n) limit in
+    let one = fast_cells t numbers c.copy_block.new.room.items c.place_map_blocks.new.stored.items c.requires.all c.in_ok-copy_block.ensures
+    (rw limit at c.in_ok-rest.ensures.short) in
+    let count : c.saturating_sub-small_len.result ≡ c.args.high_start - fast_limit t =
+    c.saturating_sub-small_len.ensures ∙ ap (λ n. c.args.high_start - n) limit in
     let large = rw (count, limit) at (c.in_err-small.ensures.too_large (ap (λ x. Err x) is)) in
     inr (omega (arith, large, one, small_blocks-all t numbers c.requires.all c.args.high_start c.requires.within))
 
 pub place_null-requires-clause-room : goal.place_null-requires-clause-room
-place_null-requires-clause-room c = omega (arith, c.in_ok-small.ensures.capped, c.in_ok-rest.ensures.capped, first_len c.args.numbers.now c.copy_block.new.room.items c.requires.all c.in_ok-copy_block.ensures)
+place_null-requires-clause-room c = omega (
+  arith,
+  c.in_ok-small.ensures.capped,
+  c.in_ok-rest.ensures.capped,
+  first_len c.args.numbers.now c.copy_block.new.room.items c.requires.all c.in_ok-copy_block.ensures,
+)
 
 pub place_null-requires-clause-fast : goal.place_null-requires-clause-fast
 place_null-requires-clause-fast c =
@@ -64,10 +77,12 @@ place_null-requires-clause-fast c =
     let list : fast ≡ 0 ∷ 64 ∷ rest = c.in_ok-fast.ensures ∙ ap (λ r. 0 ∷ 64 ∷ r) c.deref.ensures.value in
     let two = c.place_map_blocks-2.new.stored.items in
     let old = c.in_ok-small.small.items in
-    let count : c.saturating_sub-small_len.result ≡ c.args.high_start - L = c.saturating_sub-small_len.ensures ∙ ap (λ n. c.args.high_start - n) limit in
+    let count : c.saturating_sub-small_len.result ≡ c.args.high_start - L =
+    c.saturating_sub-small_len.ensures ∙ ap (λ n. c.args.high_start - n) limit in
     let q : IsPlaced 16 (L / 16) (block 16 numbers) one two old = rw limit at c.in_ok-small.ensures.placed in
     let old_len : length old ≡ (c.args.high_start - L) / 16 = c.in_ok-small.ensures.count ∙ ap (λ n. n / 16) count in
-    rw c.deref-2.ensures.value (fast_two t c.args.high_start numbers first one two rest fast old c.requires.all begin p rest_len list q old_len).inside
+    rw c.deref-2.ensures.value (fast_two t c.args.high_start numbers first one two rest fast old c.requires.all begin p rest_len list q
+    old_len).inside
 
 pub returns-in_err-null-clause-too_large : goal.returns-in_err-null-clause-too_large
 returns-in_err-null-clause-too_large c = λ e.
@@ -75,8 +90,10 @@ returns-in_err-null-clause-too_large c = λ e.
     let t = c.args.trie_type in
     let numbers = c.args.numbers.now in
     let limit : c.fast_limit-limit.result ≡ fast_limit t = c.fast_limit-limit.ensures.limit in
-    let one = fast_cells t numbers c.copy_block.new.room.items c.place_map_blocks.new.stored.items c.requires.all c.in_ok-copy_block.ensures (rw limit at c.in_ok-rest.ensures.short) in
-    let count : c.saturating_sub-small_len.result ≡ c.args.high_start - fast_limit t = c.saturating_sub-small_len.ensures ∙ ap (λ n. c.args.high_start - n) limit in
+    let one = fast_cells t numbers c.copy_block.new.room.items c.place_map_blocks.new.stored.items c.requires.all c.in_ok-copy_block.ensures
+    (rw limit at c.in_ok-rest.ensures.short) in
+    let count : c.saturating_sub-small_len.result ≡ c.args.high_start - fast_limit t =
+    c.saturating_sub-small_len.ensures ∙ ap (λ n. c.args.high_start - n) limit in
     let two = rw (count, limit) at c.in_ok-small.ensures.short in
     let large = c.in_err-null.ensures.too_large (ap (λ x. Err x) is) in
     inr (omega (arith, large, two, one, small_blocks-all t numbers c.requires.all c.args.high_start c.requires.within))
@@ -127,7 +144,8 @@ module _ (c : goal.After-drop-rest-2) where
 
   len_one : length one ≤ 128 + 64 * count_different (block 64 numbers) 2 (limit_at / 64 - 2)
   len_one =
-      let short : length one ≤ length first + 64 * count_different (block 64 numbers) 2 (limit_at / 64 - 2) = rw limit at c.in_ok-rest.ensures.short in
+      let short : length one ≤ length first + 64 * count_different (block 64 numbers) 2 (limit_at / 64 - 2) =
+      rw limit at c.in_ok-rest.ensures.short in
       omega (arith, first_len numbers first c.requires.all begin, short)
 
   list : fast ≡ 0 ∷ 64 ∷ rest
@@ -150,7 +168,8 @@ module _ (c : goal.After-drop-rest-2) where
       let offset : ℕ = c.null_or.result.offset in
       let value : ℕ = c.null_or.result.value in
       let held : c.deref-2.result.now ≡ fast = c.deref-2.ensures.value in
-      let cases = null-cases c.deref-2.result.now small three c.args.default c.in_ok-null.null c.null_or.result c.in_ok-null.ensures.null c.in_ok-null.ensures.none c.null_or.ensures in
+      let cases = null-cases c.deref-2.result.now small three c.args.default c.in_ok-null.null c.null_or.result c.in_ok-null.ensures.null
+      c.in_ok-null.ensures.none c.null_or.ensures in
       let is : NullOrNone c.deref-2.result.now small three offset value = elim cases [ inl n ↦ inl n | inr none ↦ inr (none.0, none.1) ] in
       subst (λ os. NullOrNone os small three offset value) held is
 
@@ -165,10 +184,13 @@ module _ (c : goal.After-drop-rest-2) where
       λ j l. omega (arith, moved.inside j l, c.in_ok-null.ensures.capped, len_two)
 
   fast_whole : IsCopied 64 0 (block 64 numbers) three fast
-  fast_whole = fast_three c.args.trie_type c.args.high_start numbers first one two three rest fast old small c.requires.all begin placed-fast rest_len list placed-small old_len c.in_ok-null.ensures.kept moved
+  fast_whole = fast_three c.args.trie_type c.args.high_start numbers first one two three rest fast old small c.requires.all begin
+      placed-fast rest_len list placed-small old_len c.in_ok-null.ensures.kept moved
 
   drawn_null : (test : ℕ → Bool) → AllPass test numbers → AllPass test three
-  drawn_null test pass = c.in_ok-null.ensures.drawn test (two-drawn c.args.trie_type c.args.high_start numbers first one two rest fast old c.requires.all begin placed-fast rest_len list placed-small old_len test pass)
+  drawn_null test pass = c.in_ok-null.ensures.drawn test
+      (two-drawn c.args.trie_type c.args.high_start numbers first one two rest fast old c.requires.all begin placed-fast rest_len list
+      placed-small old_len test pass)
 
 pub returns-clause-placed : goal.returns-clause-placed
 returns-clause-placed c =
@@ -179,15 +201,21 @@ returns-clause-placed c =
     let values = c.push_end.new.values.items in
     let end = c.in_ok-push_end.ensures in
     let m = moved c in
-    let whole = is_data t high (numbers c) (three c) values (fast c) (small c) c.requires.all c.requires.aligned c.requires.within c.requires.high
-    (fast_whole c) (fast_len t (numbers c) (first c) (one c) (rest c) (fast c) c.requires.all (begin c) (placed-fast c) (rest_len c) (list c))
-    (small_three t high (numbers c) (first c) (one c) (two c) (three c) (rest c) (fast c) (old c) (small c) c.requires.all (begin c) (placed-fast c) (rest_len c) (list c) (placed-small c) (old_len c) c.in_ok-null.ensures.kept m)
+    let whole = is_data t high (numbers c) (three c) values (fast c)
+    (small c) c.requires.all c.requires.aligned c.requires.within c.requires.high
+    (fast_whole c) (fast_len t (numbers c) (first c) (one c) (rest c) (fast c) c.requires.all (begin c) (placed-fast c) (rest_len c)
+    (list c))
+    (small_three t high (numbers c) (first c) (one c) (two c) (three c) (rest c) (fast c) (old c) (small c) c.requires.all (begin c)
+    (placed-fast c) (rest_len c) (list c) (placed-small c) (old_len c) c.in_ok-null.ensures.kept m)
     (m.count ∙ old_len c) end.kept (end.high ∙ ap (λ x. Some x) c.last.ensures)
     offset value (null_is c) (low c) (small_low c)
-    (fast_shared t high (numbers c) (first c) (one c) (two c) (three c) (rest c) (fast c) (old c) (small c) c.requires.all (begin c) (placed-fast c) (rest_len c) (list c) (placed-small c) (old_len c) c.in_ok-null.ensures.kept m)
-    (small_shared t high (numbers c) (first c) (one c) (two c) (three c) (rest c) (fast c) (old c) (small c) c.requires.all (begin c) (placed-fast c) (rest_len c) (list c) (placed-small c) (old_len c) c.in_ok-null.ensures.kept m) in
+    (fast_shared t high (numbers c) (first c) (one c) (two c) (three c) (rest c) (fast c) (old c) (small c) c.requires.all (begin c)
+    (placed-fast c) (rest_len c) (list c) (placed-small c) (old_len c) c.in_ok-null.ensures.kept m)
+    (small_shared t high (numbers c) (first c) (one c) (two c) (three c) (rest c) (fast c) (old c) (small c) c.requires.all (begin c)
+    (placed-fast c) (rest_len c) (list c) (placed-small c) (old_len c) c.in_ok-null.ensures.kept m) in
     let full : c.in_ok-small.small.len ≡ length (old c) = search rules in
-    subst (λ os. IsData t high offset value (λ n. get_or (numbers c) n 0) (fast c) os values) (sym (written-back c.in_ok-small.small.len (old c) (small c) full m.count)) whole
+    subst (λ os. IsData t high offset value (λ n. get_or (numbers c) n 0) (fast c) os values)
+    (sym (written-back c.in_ok-small.small.len (old c) (small c) full m.count)) whole
 
 pub returns-clause-null_fit : goal.returns-clause-null_fit
 returns-clause-null_fit c = elim (null_is c) [
@@ -200,10 +228,13 @@ returns-clause-null_drawn c = λ test pass end.
     let offset : ℕ = c.null_or.result.offset in
     let value : ℕ = c.null_or.result.value in
     let held : c.deref-2.result.now ≡ fast c = c.deref-2.ensures.value in
-    let cases = null-cases c.deref-2.result.now (small c) (three c) c.args.default c.in_ok-null.null c.null_or.result c.in_ok-null.ensures.null c.in_ok-null.ensures.none c.null_or.ensures in
+    let cases = null-cases c.deref-2.result.now (small c)
+    (three c) c.args.default c.in_ok-null.null c.null_or.result c.in_ok-null.ensures.null c.in_ok-null.ensures.none
+    c.null_or.ensures in
     elim cases [
       | inl n ↦
-          let here = null-number (fast c) (small c) (three c) offset value (subst (λ os. IsNull os (small c) (three c) offset value) held n) (fast_whole c).inside (moved c).inside in
+          let here = null-number (fast c) (small c) (three c) offset value (subst (λ os. IsNull os (small c) (three c) offset value) held n)
+          (fast_whole c).inside (moved c).inside in
           ap test (sym here.1) ∙ drawn_null c test pass offset 0 here.0
       | inr none ↦ ap test none.2 ∙ end
     ]
@@ -217,8 +248,10 @@ returns-clause-short c =
     (fast_len t (numbers c) (first c) (one c) (rest c) (fast c) all (begin c) (placed-fast c) (rest_len c) (list c)) in
     let lone : List ℕ → Bool = stands_below (block_of 64 (λ n. get_or (numbers c) n 0)) (fast_limit t / 64) in
     let raw = c.in_ok-small.ensures.shorter lone stand in
-    let from = subst (λ n. length (two c) ≤ length (one c) + 16 * count_different_but lone (block 16 (numbers c)) (n / 16) (c.saturating_sub-small_len.result / 16)) (limit c) raw in
-    let shorter = subst (λ n. length (two c) ≤ length (one c) + 16 * count_different_but lone (block 16 (numbers c)) (fast_limit t / 16) (n / 16)) (count c) from in
+    let from = subst (λ n. length (two c) ≤ length (one c) + 16 * count_different_but lone (block 16 (numbers c)) (n / 16)
+    (c.saturating_sub-small_len.result / 16)) (limit c) raw in
+    let shorter = subst (λ n. length (two c) ≤ length (one c) + 16 * count_different_but lone (block 16 (numbers c)) (fast_limit t / 16)
+    (n / 16)) (count c) from in
     omega (
       arith,
       len_one c,
@@ -231,4 +264,5 @@ returns-clause-short c =
 
 pub returns-clause-drawn : goal.returns-clause-drawn
 returns-clause-drawn c = λ test pass end.
-    c.in_ok-push_end.ensures.drawn test (drawn_null c test pass) (ap test c.last.ensures ∙ pass 0x10ffff 0 (omega (arith, c.requires.all))) end
+    c.in_ok-push_end.ensures.drawn test (drawn_null c test pass)
+    (ap test c.last.ensures ∙ pass 0x10ffff 0 (omega (arith, c.requires.all))) end

@@ -11,7 +11,8 @@ returns-clause-kept c =
     let middle = c.push_high.new.values.items in
     let k = c.in_ok-push_high.ensures.kept in
     let longer : length old ≤ length middle = omega (arith, ap length k, length-take (length old) middle) in
-    sym (take-take (length old) (length middle) c.push.new.self.items longer) ∙ (ap (take (length old)) (kept-push middle c.push.new.self.items c.args.error c.in_ok-push.ensures.items) ∙ k)
+    sym (take-take (length old) (length middle) c.push.new.self.items longer)
+    ∙ (ap (take (length old)) (kept-push middle c.push.new.self.items c.args.error c.in_ok-push.ensures.items) ∙ k)
 
 pub returns-clause-high : goal.returns-clause-high
 returns-clause-high c =
@@ -21,7 +22,8 @@ returns-clause-high c =
     let some : 2 ≤ length middle = omega (arith, ap length k, length-take (length old) middle, c.requires) in
     let e = end-push middle c.push.new.self.items c.args.error c.in_ok-push.ensures.items in
     high-end c.push.new.self.items c.args.high (omega (arith, e.0, some))
-    (before-push middle c.push.new.self.items c.args.error c.in_ok-push.ensures.items (omega (arith, some)) ∙ c.in_ok-push_high.ensures.last)
+    (before-push middle c.push.new.self.items c.args.error c.in_ok-push.ensures.items (omega (arith, some))
+    ∙ c.in_ok-push_high.ensures.last)
 
 pub returns-clause-error : goal.returns-clause-error
 returns-clause-error c =
@@ -32,4 +34,5 @@ pub returns-clause-drawn : goal.returns-clause-drawn
 returns-clause-drawn c = λ p pass high end.
     let P : ℕ → Type 0 = λ x. p x ≡ true in
     let middle = c.push_high.new.values.items in
-    subst (λ xs. AllPass p xs) (sym c.in_ok-push.ensures.items) (All-append P middle (c.args.error ∷ []) (c.in_ok-push_high.ensures.drawn p pass high) (All-cons P c.args.error [] end (All-nil P)))
+    subst (λ xs. AllPass p xs) (sym c.in_ok-push.ensures.items)
+    (All-append P middle (c.args.error ∷ []) (c.in_ok-push_high.ensures.drawn p pass high) (All-cons P c.args.error [] end (All-nil P)))

@@ -13,4 +13,5 @@ returns-clause-last c = (end-push c.args.values.now.items c.push.new.self.items 
 pub returns-clause-drawn : goal.returns-clause-drawn
 returns-clause-drawn c = λ p pass end.
     let P : ℕ → Type 0 = λ x. p x ≡ true in
-    subst (λ xs. AllPass p xs) (sym c.in_ok-push.ensures.items) (All-append P c.args.values.now.items (c.args.high ∷ []) pass (All-cons P c.args.high [] end (All-nil P)))
+    subst (λ xs. AllPass p xs) (sym c.in_ok-push.ensures.items)
+    (All-append P c.args.values.now.items (c.args.high ∷ []) pass (All-cons P c.args.high [] end (All-nil P)))

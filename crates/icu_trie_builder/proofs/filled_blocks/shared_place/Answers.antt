@@ -8,7 +8,11 @@ returns-then-not-is_filled c = inr (refl, λ f. absurd (c.is_filled.ensures.no (
 
 pub returns-then-cells-place : goal.returns-then-cells-place
 unfolding IsSharedPlace
-returns-then-cells-place c = inl (c.is_filled.ensures.yes (search rules), (c.loop-place.place-index, c.loop-place-test.true, refl, c.if-cells-place.true, c.loop-place.invariant))
+returns-then-cells-place c =
+    inl (
+      c.is_filled.ensures.yes (search rules),
+      (c.loop-place.place-index, c.loop-place-test.true, refl, c.if-cells-place.true, c.loop-place.invariant),
+    )
 
 pub returns : goal.returns
 unfolding IsSharedPlace

@@ -10,7 +10,9 @@ loop-count-preserved c =
     record {
       most = omega (arith, c.loop-count-test.true);
       filled = λ i l. elim (cases_eq i 0) [
-        | inl e ↦ let at : length cells - (n + 1) + i ≡ length cells - 1 - n = omega (arith, e, room) in ap (λ x. get_or cells x 0) at ∙ c.if-cells-count.true
-        | inr ne ↦ let at : length cells - (n + 1) + i ≡ length cells - n + (i - 1) = omega (arith, ne, room) in ap (λ x. get_or cells x 0) at ∙ c.loop-count.invariant.filled (i - 1) (omega (arith, ne, l))
+        | inl e ↦ let at : length cells - (n + 1) + i ≡ length cells - 1 - n = omega (arith, e, room) in
+            ap (λ x. get_or cells x 0) at ∙ c.if-cells-count.true
+        | inr ne ↦ let at : length cells - (n + 1) + i ≡ length cells - n + (i - 1) = omega (arith, ne, room) in
+            ap (λ x. get_or cells x 0) at ∙ c.loop-count.invariant.filled (i - 1) (omega (arith, ne, l))
       ];
     }

@@ -11,7 +11,8 @@ loop-number-preserved c = λ none j v lt filled.
     elim (cases_eq j n) [
       | inr ne ↦ c.loop-number.invariant none j v (omega (arith, lt, ne)) filled
       | inl e ↦
-          let f : IsFilled v c.args.size (get_or offsets n 0) c.args.cells.now = subst (λ i. IsFilled v c.args.size (get_or offsets i 0) c.args.cells.now) e filled in
+          let f : IsFilled v c.args.size (get_or offsets n 0) c.args.cells.now =
+          subst (λ i. IsFilled v c.args.size (get_or offsets i 0) c.args.cells.now) e filled in
           elim c.else-is_wanted.branch [
             | else-is_wanted-via-then-is_wanted+else-is_filled w ↦ w.is_filled.ensures.no w.if-is_filled.false v f
             | else-is_wanted-via-else-is_wanted w ↦ absurd (true≢false (sym (c.is_wanted.ensures.any none) ∙ w.if-is_wanted.false))

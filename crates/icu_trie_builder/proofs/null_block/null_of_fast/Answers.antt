@@ -16,4 +16,5 @@ returns-in-Some-clause-moved c =
     let filled : IsFilled value 16 from cells = λ i l. f.1 i l ∙ is in
     let wide : IsFilled value 16 to cells = λ i l. c.requires.filled i (omega (arith, l)) in
     moved cells cells small c.rename.new.offsets from to value (take_all (length cells) cells (omega arith)) (search rules) c.requires.small
-    c.rename.ensures.renamed c.rename.ensures.others filled (c.requires.small c.in-Some.same f.0) wide (omega (arith, c.requires.fast c.args.number c.requires.number))
+    c.rename.ensures.renamed c.rename.ensures.others filled (c.requires.small c.in-Some.same f.0) wide
+    (omega (arith, c.requires.fast c.args.number c.requires.number))

@@ -24,7 +24,8 @@ returns-in_err-built-clause-too_large c = λ e.
       t,
       limit.2,
       high.ensures.within,
-      few_all c.args.trie_type high.result null.offset null.value (λ n. get_or c.args.numbers.now n 0) fast small c.in_ok-values.field-0.values.items high.ensures.aligned high.ensures.within c.in_ok-values.ensures.placed,
+      few_all c.args.trie_type high.result null.offset null.value (λ n. get_or c.args.numbers.now n 0) fast small
+          c.in_ok-values.field-0.values.items high.ensures.aligned high.ensures.within c.in_ok-values.ensures.placed,
     ))
 
 pub returns-clause-built : goal.returns-clause-built
@@ -38,14 +39,23 @@ returns-clause-built c =
     let values = c.in_ok-values.field-0.values.items in
     let null = c.in_ok-values.field-0.null in
     let index = c.in_ok-built.built.cells.items in
-    let header : CodePointTrieHeader = record { high_start = high.result; shifted12_high_start = c.div_ceil.result; index3_null_offset = c.in_ok-built.built.null_offset; data_null_offset = null.offset; null_value = null.value; trie_type = trie_type } in
+    let header : CodePointTrieHeader = record {
+      high_start = high.result;
+      shifted12_high_start = c.div_ceil.result;
+      index3_null_offset =
+          c.in_ok-built.built.null_offset;
+      data_null_offset = null.offset;
+      null_value = null.value;
+      trie_type = trie_type;
+    } in
     let held : c.deref.result.now ≡ fast = search rules in
     let held2 : c.deref-2.result.now ≡ small = search rules in
     let aligned = high.ensures.aligned in
     let within = high.ensures.within in
     let placed : IsData trie_type high.result null.offset null.value f fast small values = c.in_ok-values.ensures.placed in
     let laid : IsIndex trie_type high.result fast small index = rw (← held, ← held2) c.in_ok-built.ensures.index in
-    let cells : IsNullIndex trie_type high.result null.offset small index header.index3_null_offset = rw (← held2) c.in_ok-built.ensures.null in
+    let cells : IsNullIndex trie_type high.result null.offset small index header.index3_null_offset =
+    rw (← held2) c.in_ok-built.ensures.null in
     let short = rw held2 at c.in_ok-built.ensures.short in
     let tight = rw held2 at c.in_ok-built.ensures.tight in
     let compact : length values ≤ compact_data_bound trie_type f = c.in_ok-values.ensures.short in
@@ -59,13 +69,15 @@ returns-clause-built c =
         coherent = coherent header f fast small index values aligned within laid placed cells;
         shared = shared header f fast small index values aligned within laid placed;
         data_cells = omega (arith, compact, lone_blocks-le trie_type f);
-        index_cells = omega (arith, short, few_offsets trie_type high.result null.offset null.value f fast small values aligned within placed);
+        index_cells =
+            omega (arith, short, few_offsets trie_type high.result null.offset null.value f fast small values aligned within placed);
         compact_data = compact;
         null_block = names_null header f fast small index values aligned within laid placed;
         null_index = names_null_index header f fast small index values aligned within laid placed cells;
         tight = λ small_data. omega (
           arith,
-          tight (small_low trie_type high.result null.offset null.value f fast small values aligned within placed (omega (arith, compact, small_data))),
+          tight (small_low trie_type high.result null.offset null.value f fast small values aligned within placed
+              (omega (arith, compact, small_data))),
           few_offsets trie_type high.result null.offset null.value f fast small values aligned within placed,
         );
       };

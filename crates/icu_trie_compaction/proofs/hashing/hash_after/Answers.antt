@@ -10,5 +10,8 @@ returns c = λ below.
     let at : ℕ = c.args.at in
     let n : ℕ = c.args.size - 1 in
     let is : suc n ≡ c.args.size = omega arith in
-    let P : ℕ → Type 0 = λ k. (((cells_hash (window k at cells) + (get_or cells at 0 * leaving_factor k) % 4294967296) % 4294967296 + get_or cells (at + k) 0) % 4294967296 * 0x9e3779b1) % 4294967296 ≡ cells_hash (window k (at + 1) cells) in
+    let P : ℕ → Type 0 =
+    λ k.
+    (((cells_hash (window k at cells) + (get_or cells at 0 * leaving_factor k) % 4294967296) % 4294967296 + get_or cells (at + k) 0) %
+    4294967296 * 0x9e3779b1) % 4294967296 ≡ cells_hash (window k (at + 1) cells) in
     rw (c.requires.hash, c.requires.factor) (subst P is (hash-roll n at cells (omega (arith, below))))

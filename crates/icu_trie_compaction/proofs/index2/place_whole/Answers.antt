@@ -21,14 +21,18 @@ loop-number-preserved c =
     let e = c.in_ok-at.ensures in
     let n : ℕ = c.loop-number.number in
     let cells = c.args.cells.now in
-    let wanted : c.block_at-wanted.result.now ≡ block 32 cells (0 + n) = c.block_at-wanted.ensures ∙ ap (λ i. block 32 cells i) (omega arith) in
+    let wanted : c.block_at-wanted.result.now ≡ block 32 cells (0 + n) =
+    c.block_at-wanted.ensures ∙ ap (λ i. block 32 cells i) (omega arith) in
     let len : length (block 32 cells (0 + n)) ≡ 32 = length-window 32 (32 * (0 + n)) cells (omega arith) in
     record {
-      placed = compacting-step 32 0 n (block 32 cells) c.args.stored.now.items c.loop-number.stored.items c.loop-number.places.items v.placed (omega arith) len
-          c.in_ok-at.at c.place_block.new.stored.items c.push.new.self.items (rw (s, wanted) at e.least) e.kept (rw (s, wanted) at e.grown) (rw wanted at e.drawn) c.in_ok-push.ensures.items;
+      placed = compacting-step 32 0 n (block 32 cells) c.args.stored.now.items c.loop-number.stored.items c.loop-number.places.items
+          v.placed (omega arith) len
+          c.in_ok-at.at c.place_block.new.stored.items c.push.new.self.items (rw (s, wanted) at e.least) e.kept (rw (s, wanted) at e.grown)
+          (rw wanted at e.drawn) c.in_ok-push.ensures.items;
       size = e.size ∙ s;
       table = e.table;
-      short = grow (length c.args.stored.now.items) (length c.loop-number.stored.items) (length c.place_block.new.stored.items) c.loop-number.table.size n v.short s (λ lt. (e.grown lt).0);
+      short = grow (length c.args.stored.now.items) (length c.loop-number.stored.items)
+          (length c.place_block.new.stored.items) c.loop-number.table.size n v.short s (λ lt. (e.grown lt).0);
     }
 
 pub returns-clause-placed : goal.returns-clause-placed

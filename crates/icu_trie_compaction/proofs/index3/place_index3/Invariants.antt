@@ -10,5 +10,6 @@ invariant-loop-number l = record {
   indexing : Indexing l.start l.fast l.offsets l.number l.stored.items l.cells.items;
   tables : IsTables l.fast l.stored.items l.tables;
   room : l.start + length l.stored.items ≤ 0x7ffe + 36;
-  last : IfSome l.last (λ cell. (0 < l.number) × (cell < 0x10000) × IsIndex3Cell l.start l.fast l.stored.items (block 32 l.offsets (l.number - 1)) cell);
+  last : IfSome l.last (λ cell. (0 < l.number) × (cell < 0x10000)
+      × IsIndex3Cell l.start l.fast l.stored.items (block 32 l.offsets (l.number - 1)) cell);
 }

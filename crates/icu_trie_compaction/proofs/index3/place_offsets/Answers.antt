@@ -24,7 +24,8 @@ pub returns-then-not-fit_16_bits-clause-cell : goal.returns-then-not-fit_16_bits
 returns-then-not-fit_16_bits-clause-cell c =
     let wide : AllBelow 0x10000 c.args.offsets.now → ⊥ = λ b. let f : c.fit_16_bits.result ≡ true = c.fit_16_bits.ensures.1 b in cc in
     let held : c.deref.result.now ≡ packed_cells c.args.offsets.now = c.deref.ensures.value ∙ c.in_ok-packed.ensures in
-    wide-cell c.args.start c.args.fast.now c.place_block.new.stored.items c.args.offsets.now c.in_ok-at.at wide (rw (c.requires.tables.wide_size, held) at c.in_ok-at.ensures.least)
+    wide-cell c.args.start c.args.fast.now c.place_block.new.stored.items c.args.offsets.now c.in_ok-at.at wide
+    (rw (c.requires.tables.wide_size, held) at c.in_ok-at.ensures.least)
 
 pub returns-then-not-fit_16_bits-clause-tables : goal.returns-then-not-fit_16_bits-clause-tables
 returns-then-not-fit_16_bits-clause-tables c =
@@ -44,7 +45,9 @@ pub returns-then-not-fit_16_bits-clause-fit : goal.returns-then-not-fit_16_bits-
 returns-then-not-fit_16_bits-clause-fit c =
     let held : c.deref.result.now ≡ packed_cells c.args.offsets.now = c.deref.ensures.value ∙ c.in_ok-packed.ensures in
     all-below 0x10000 c.place_block.new.stored.items
-    (c.in_ok-at.ensures.drawn (λ x. nat_lt x 0x10000) (rw held (below-all 0x10000 (packed_cells c.args.offsets.now) (packed-below c.args.offsets.now c.requires.offsets_fit))) (below-all 0x10000 c.args.stored.now.items c.requires.fit))
+    (c.in_ok-at.ensures.drawn (λ x. nat_lt x 0x10000)
+    (rw held (below-all 0x10000 (packed_cells c.args.offsets.now) (packed-below c.args.offsets.now c.requires.offsets_fit)))
+    (below-all 0x10000 c.args.stored.now.items c.requires.fit))
 
 pub returns-then-not-fit_16_bits-clause-fresh : goal.returns-then-not-fit_16_bits-clause-fresh
 returns-then-not-fit_16_bits-clause-fresh c = λ longer.
@@ -66,8 +69,12 @@ returns-in_err-at-2-clause-too_large c = λ e.
     let t = rw c.requires.tables.narrow_size at (c.in_err-at-2.ensures.too_large (ap (λ x. Err x) is)) in
     let fs = c.requires.tables.fast_size in
     let whole : c.args.tables.now.fast.entered ≡ length c.args.fast.now + 1 - 32 = rw fs at c.requires.tables.whole_fast in
-    let nowhere = nowhere-all 32 c.args.tables.now.fast.entered c.args.fast.now c.args.offsets.now c.requires.offsets (omega arith) whole (rw fs at c.in_default.ensures.none) in
-    (omega (arith, t.0, c.from.ensures), narrow-unplaced c.args.start c.args.fast.now c.args.stored.now.items c.args.offsets.now (c.fit_16_bits.ensures.0 f) nowhere t.1)
+    let nowhere = nowhere-all 32 c.args.tables.now.fast.entered c.args.fast.now c.args.offsets.now c.requires.offsets (omega arith) whole
+    (rw fs at c.in_default.ensures.none) in (
+      omega (arith, t.0, c.from.ensures),
+      narrow-unplaced c.args.start c.args.fast.now c.args.stored.now.items c.args.offsets.now
+          (c.fit_16_bits.ensures.0 f) nowhere t.1,
+    )
 
 pub returns-then-at-greatest-clause-too_large : goal.returns-then-at-greatest-clause-too_large
 returns-then-at-greatest-clause-too_large c = λ e.
@@ -75,12 +82,14 @@ returns-then-at-greatest-clause-too_large c = λ e.
     let fs = c.requires.tables.fast_size in
     let ns = c.requires.tables.narrow_size in
     let whole : c.args.tables.now.fast.entered ≡ length c.args.fast.now + 1 - 32 = rw fs at c.requires.tables.whole_fast in
-    let nowhere = nowhere-all 32 c.args.tables.now.fast.entered c.args.fast.now c.args.offsets.now c.requires.offsets (omega arith) whole (rw fs at c.in_default.ensures.none) in
+    let nowhere = nowhere-all 32 c.args.tables.now.fast.entered c.args.fast.now c.args.offsets.now c.requires.offsets (omega arith) whole
+    (rw fs at c.in_default.ensures.none) in
     let a = c.in_ok-at-2.ensures in
     let least : IsLeast 32 c.in_ok-at-2.at c.place_block-2.new.stored.items c.args.offsets.now = rw ns at a.least in
     let high : 0x7fff ≤ c.args.start + c.in_ok-at-2.at = omega (arith, c.if-at-greatest.true, c.from.ensures, c.requires.start) in (
       omega (arith, least.inside, a.capped, ns, high, c.from.ensures, c.requires.start),
-      narrow-high c.args.start c.args.fast.now c.args.stored.now.items c.place_block-2.new.stored.items c.args.offsets.now c.in_ok-at-2.at (c.fit_16_bits.ensures.0 f) nowhere a.kept least high,
+      narrow-high c.args.start c.args.fast.now c.args.stored.now.items c.place_block-2.new.stored.items c.args.offsets.now c.in_ok-at-2.at
+          (c.fit_16_bits.ensures.0 f) nowhere a.kept least high,
     )
 
 pub returns-clause-cell : goal.returns-clause-cell
@@ -88,9 +97,12 @@ returns-clause-cell c =
     let f : c.fit_16_bits.result ≡ true = search rules in
     let fs = c.requires.tables.fast_size in
     let whole : c.args.tables.now.fast.entered ≡ length c.args.fast.now + 1 - 32 = rw fs at c.requires.tables.whole_fast in
-    let nowhere = nowhere-all 32 c.args.tables.now.fast.entered c.args.fast.now c.args.offsets.now c.requires.offsets (omega arith) whole (rw fs at c.in_default.ensures.none) in
-    narrow-cell c.args.start c.args.fast.now c.place_block-2.new.stored.items c.args.offsets.now c.in_ok-at-2.at (c.fit_16_bits.ensures.0 f) nowhere
-    (omega (arith, c.if-at-greatest.false, c.from.ensures, c.requires.start)) (rw c.requires.tables.narrow_size at c.in_ok-at-2.ensures.least)
+    let nowhere = nowhere-all 32 c.args.tables.now.fast.entered c.args.fast.now c.args.offsets.now c.requires.offsets (omega arith) whole
+    (rw fs at c.in_default.ensures.none) in
+    narrow-cell c.args.start c.args.fast.now c.place_block-2.new.stored.items c.args.offsets.now c.in_ok-at-2.at (c.fit_16_bits.ensures.0 f)
+    nowhere
+    (omega (arith, c.if-at-greatest.false, c.from.ensures, c.requires.start))
+    (rw c.requires.tables.narrow_size at c.in_ok-at-2.ensures.least)
 
 pub returns-clause-tables : goal.returns-clause-tables
 returns-clause-tables c =
@@ -110,13 +122,15 @@ pub returns-clause-fit : goal.returns-clause-fit
 returns-clause-fit c =
     let f : c.fit_16_bits.result ≡ true = search rules in
     all-below 0x10000 c.place_block-2.new.stored.items
-    (c.in_ok-at-2.ensures.drawn (λ x. nat_lt x 0x10000) (below-all 0x10000 c.args.offsets.now (c.fit_16_bits.ensures.0 f)) (below-all 0x10000 c.args.stored.now.items c.requires.fit))
+    (c.in_ok-at-2.ensures.drawn (λ x. nat_lt x 0x10000) (below-all 0x10000 c.args.offsets.now (c.fit_16_bits.ensures.0 f))
+    (below-all 0x10000 c.args.stored.now.items c.requires.fit))
 
 pub returns-clause-fresh : goal.returns-clause-fresh
 returns-clause-fresh c = λ longer.
     let f : c.fit_16_bits.result ≡ true = search rules in
     let fs = c.requires.tables.fast_size in
     let whole : c.args.tables.now.fast.entered ≡ length c.args.fast.now + 1 - 32 = rw fs at c.requires.tables.whole_fast in
-    let nowhere = nowhere-all 32 c.args.tables.now.fast.entered c.args.fast.now c.args.offsets.now c.requires.offsets (omega arith) whole (rw fs at c.in_default.ensures.none) in
+    let nowhere = nowhere-all 32 c.args.tables.now.fast.entered c.args.fast.now c.args.offsets.now c.requires.offsets (omega arith) whole
+    (rw fs at c.in_default.ensures.none) in
     let g = rw c.requires.tables.narrow_size at (c.in_ok-at-2.ensures.grown longer) in
     narrow-unplaced c.args.start c.args.fast.now c.args.stored.now.items c.args.offsets.now (c.fit_16_bits.ensures.0 f) nowhere g.1

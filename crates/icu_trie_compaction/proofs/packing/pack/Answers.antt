@@ -9,7 +9,8 @@ loop-group-preserved c =
     let offsets = c.args.offsets.now in
     let group = c.loop-group.group in
     let n : 9 * (group + 1) ≡ 9 * group + 9 = omega arith in
-    rw n (grown-more (9 * group) 9 (packed_cell offsets) (λ x. packed_cell offsets (9 * group + x)) [] c.loop-group.packed.items c.push_group.new.packed.items
+    rw n (grown-more (9 * group) 9 (packed_cell offsets)
+    (λ x. packed_cell offsets (9 * group + x)) [] c.loop-group.packed.items c.push_group.new.packed.items
     c.loop-group.invariant c.in_ok-push_group.ensures (λ j l. refl))
 
 pub returns : goal.returns

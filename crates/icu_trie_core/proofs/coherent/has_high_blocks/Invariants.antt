@@ -11,5 +11,6 @@ invariant-loop-block g l =
       same_values : g.C.Cells.values l.cells ≡ values;
       reads : g.C.Cells.reads l.cells ≤ g.C.Cells.reads l.fn.cells + 65 * min l.block 1024;
       known : (o : ℕ) → l.known ≡ Some o → AreAll values 64 o l.high;
-      blocks : (b : ℕ) → l.header.high_start ≤ b * 64 → b < l.block → IsSomeAnd (slice_get index b) (λ offset. AreAll values 64 offset l.high);
+      blocks : (b : ℕ) → l.header.high_start ≤ b * 64 → b < l.block
+          → IsSomeAnd (slice_get index b) (λ offset. AreAll values 64 offset l.high);
     }

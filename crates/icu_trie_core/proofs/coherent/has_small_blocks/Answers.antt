@@ -15,17 +15,26 @@ loop-block-preserved g c =
     let holds : IsCell g.T.TrieValue.of_number header index values c.in-Some.cell
     = elim c.else-ne.branch [
       | else-ne-via-then-ne+else-not-is_cell w ↦
-          let tested = rw (c.in-Some.ensures.same_index, c.loop-block.invariant.same_index, c.in-Some.ensures.same_values, c.loop-block.invariant.same_values) at w.is_cell.ensures.blocks in
+          let tested = rw (
+            c.in-Some.ensures.same_index,
+            c.loop-block.invariant.same_index,
+            c.in-Some.ensures.same_values,
+            c.loop-block.invariant.same_values,
+          ) at w.is_cell.ensures.blocks in
           tested.0 w.if-not-is_cell.false
-      | else-ne-via-else-ne w ↦ c.loop-block.invariant.known c.in-Some.cell (same_option c.loop-block.known c.in-Some.cell (sym c.ne.ensures ∙ w.if-ne.false))
+      | else-ne-via-else-ne w ↦ c.loop-block.invariant.known c.in-Some.cell
+          (same_option c.loop-block.known c.in-Some.cell (sym c.ne.ensures ∙ w.if-ne.false))
     ] in
     record {
       same_index = elim c.else-ne.branch [ else-ne-via-then-ne+else-not-is_cell w ↦ cc | else-ne-via-else-ne w ↦ cc ];
       same_values = elim c.else-ne.branch [ else-ne-via-then-ne+else-not-is_cell w ↦ cc | else-ne-via-else-ne w ↦ cc ];
       reads = elim c.else-ne.branch [
-        | else-ne-via-then-ne+else-not-is_cell w ↦ let tested = w.is_cell.ensures.reads in let e = ap (g.C.Cells.reads) w.cells-is in omega (arith, tested, e)
+        | else-ne-via-then-ne+else-not-is_cell w ↦ let tested = w.is_cell.ensures.reads in let e = ap (g.C.Cells.reads) w.cells-is in
+            omega (arith, tested, e)
         | else-ne-via-else-ne w ↦ let e = ap (g.C.Cells.reads) w.cells-is in omega (arith, e)
       ];
       known = λ o e. rw (sym (same_Some c.in-Some.cell o e)) holds;
-      blocks = blocks_next (fast_limit header.trie_type) c.loop-block.block c.in-Some.cell (λ b. index2_cell header.trie_type index (b * 512)) (IsCell g.T.TrieValue.of_number header index values) c.loop-block.invariant.blocks (sym stands) holds;
+      blocks = blocks_next (fast_limit header.trie_type) c.loop-block.block c.in-Some.cell
+          (λ b. index2_cell header.trie_type index (b * 512))
+          (IsCell g.T.TrieValue.of_number header index values) c.loop-block.invariant.blocks (sym stands) holds;
     }

@@ -12,5 +12,6 @@ invariant-loop-block g l =
       same_values : g.C.Cells.values l.cells ≡ values;
       reads : g.C.Cells.reads l.cells ≤ g.C.Cells.reads l.fn.cells + 592 + 66 * min l.block 2176;
       known : (o : ℕ) → l.known ≡ Some o → IsCell g.T.TrieValue.of_number l.header index values o;
-      blocks : (b : ℕ) → fast_limit l.header.trie_type ≤ b * 512 → b < l.block → IsSomeAnd (index2_cell l.header.trie_type index (b * 512)) (IsCell g.T.TrieValue.of_number l.header index values);
+      blocks : (b : ℕ) → fast_limit l.header.trie_type ≤ b * 512 → b < l.block
+          → IsSomeAnd (index2_cell l.header.trie_type index (b * 512)) (IsCell g.T.TrieValue.of_number l.header index values);
     }

@@ -11,8 +11,11 @@ returns-in_err-index_cell-clause-run g c =
     let below : c.loop-block.block * 64 < c.args.limit = omega arith in
     let before = Holds-below_limit (c.loop-block.block * 64) c.args.limit (omega (arith, below)) c.loop-block.invariant.equal in
     let fast = c.requires.fast in let high = c.requires.below in
-    rw none (BreaksOff-at_block (min (c.args.limit - c.loop-block.block * 64) 64) c.args.limit before (omega (arith, below)) (omega arith) (omega (arith, below))
-    (seen-fast_missing g.T.TrieValue.of_number c.args.header.now (g.C.Cells.index c.args.cells.now) (g.C.Cells.values c.args.cells.now) c.loop-block.block (min (c.args.limit - c.loop-block.block * 64) 64) c.args.limit fast high (omega (arith, below)) (omega arith) (sym is)))
+    rw none (BreaksOff-at_block (min (c.args.limit - c.loop-block.block * 64) 64) c.args.limit before (omega (arith, below)) (omega arith)
+    (omega (arith, below))
+    (seen-fast_missing g.T.TrieValue.of_number c.args.header.now (g.C.Cells.index c.args.cells.now)
+    (g.C.Cells.values c.args.cells.now) c.loop-block.block (min (c.args.limit - c.loop-block.block * 64) 64) c.args.limit fast high
+    (omega (arith, below)) (omega arith) (sym is)))
 
 pub returns-in_err-reach-clause-run : goal.returns-in_err-reach-clause-run
 returns-in_err-reach-clause-run g c =
@@ -24,7 +27,9 @@ returns-in_err-reach-clause-run g c =
     let offset = c.from-offset.ensures in
     let len = c.min-len.ensures in
     let here = sym is ∙ ap (λ o. Some o) (sym offset) in
-    let agree = seen-fast_block g.T.TrieValue.of_number c.args.header.now (g.C.Cells.index c.args.cells.now) (g.C.Cells.values c.args.cells.now) c.loop-block.block c.from-offset.result c.min-len.result c.args.limit fast high (omega (arith, below, len)) (omega (arith, len)) here in
+    let agree = seen-fast_block g.T.TrieValue.of_number c.args.header.now (g.C.Cells.index c.args.cells.now)
+    (g.C.Cells.values c.args.cells.now) c.loop-block.block c.from-offset.result c.min-len.result c.args.limit fast high
+    (omega (arith, below, len)) (omega (arith, len)) here in
     let run = rw (c.in_ok-index_cell.ensures.same_values, c.loop-block.invariant.same_values) at c.in_err-reach.ensures.run in
     rw none (BreaksOff-in_block before agree (omega arith) c.args.limit (omega (arith, below, len)) run)
 
@@ -37,7 +42,9 @@ returns-then-reach-len-clause-run g c =
     let offset = c.from-offset.ensures in
     let len = c.min-len.ensures in
     let here = sym is ∙ ap (λ o. Some o) (sym offset) in
-    let agree = seen-fast_block g.T.TrieValue.of_number c.args.header.now (g.C.Cells.index c.args.cells.now) (g.C.Cells.values c.args.cells.now) c.loop-block.block c.from-offset.result c.min-len.result c.args.limit fast high (omega (arith, below, len)) (omega (arith, len)) here in
+    let agree = seen-fast_block g.T.TrieValue.of_number c.args.header.now (g.C.Cells.index c.args.cells.now)
+    (g.C.Cells.values c.args.cells.now) c.loop-block.block c.from-offset.result c.min-len.result c.args.limit fast high
+    (omega (arith, below, len)) (omega (arith, len)) here in
     let run = rw (c.in_ok-index_cell.ensures.same_values, c.loop-block.invariant.same_values) at c.in_ok-reach.ensures.run in
     EndsAt-in_block before agree (omega arith) c.args.limit c.in_ok-reach.reach (omega (arith, below, len)) c.if-reach-len.true run
 
@@ -52,12 +59,15 @@ loop-block-preserved g c =
     let from : 0 ≡ c.args.start - c.loop-block.block * 64 = omega arith in
     let whole = c.if-reach-len.false in
     let here = sym is ∙ ap (λ o. Some o) (sym offset) in
-    let agree = seen-fast_block g.T.TrieValue.of_number c.args.header.now (g.C.Cells.index c.args.cells.now) (g.C.Cells.values c.args.cells.now) c.loop-block.block c.from-offset.result c.min-len.result c.args.limit fast high (omega (arith, below, len)) (omega (arith, len)) here in
+    let agree = seen-fast_block g.T.TrieValue.of_number c.args.header.now (g.C.Cells.index c.args.cells.now)
+    (g.C.Cells.values c.args.cells.now) c.loop-block.block c.from-offset.result c.min-len.result c.args.limit fast high
+    (omega (arith, below, len)) (omega (arith, len)) here in
     let run = rw (c.in_ok-index_cell.ensures.same_values, c.loop-block.invariant.same_values) at c.in_ok-reach.ensures.run in
     record {
       same_index = cc;
       same_values = cc;
-      equal = Holds-over_block before agree from (min ((c.loop-block.block + 1) * 64) c.args.limit) c.in_ok-reach.reach run whole (omega (arith, len, below));
+      equal = Holds-over_block before agree from (min ((c.loop-block.block + 1) * 64) c.args.limit) c.in_ok-reach.reach run whole
+          (omega (arith, len, below));
       remembered = λ fits o e i _ lt.
           let same : c.from-offset.result ≡ o = cc in
           rw (sym same) (run.equal i (omega arith) (omega (arith, whole, len, fits, lt)));
@@ -65,7 +75,10 @@ loop-block-preserved g c =
       reads = λ coherent shares aligned.
           let read = c.in_ok-reach.ensures.reads in
           let counted = c.in_ok-index_cell.ensures.counted in
-          reads_after coherent shares c.args.start c.loop-block.block c.from-offset.result _ _ _ c.args.value c.loop-block.remembered (omega (arith, fast, below, aligned)) (omega (arith, high, below, aligned)) here (omega arith)
-          (Holds-over_block before agree from (c.loop-block.block * 64 + 64) c.in_ok-reach.reach run whole (omega (arith, len, below, aligned)))
-          (λ two. c.loop-block.invariant.last (omega (arith, two))) (c.loop-block.invariant.reads coherent shares aligned) (omega (arith, read, counted, len)) (λ e. c.in_ok-reach.ensures.unread e ∙ counted);
+          reads_after coherent shares c.args.start c.loop-block.block c.from-offset.result _ _ _ c.args.value c.loop-block.remembered
+          (omega (arith, fast, below, aligned)) (omega (arith, high, below, aligned)) here (omega arith)
+          (Holds-over_block before agree from (c.loop-block.block * 64 + 64) c.in_ok-reach.reach run whole
+          (omega (arith, len, below, aligned)))
+          (λ two. c.loop-block.invariant.last (omega (arith, two))) (c.loop-block.invariant.reads coherent shares aligned)
+          (omega (arith, read, counted, len)) (λ e. c.in_ok-reach.ensures.unread e ∙ counted);
     }

@@ -13,8 +13,12 @@ returns-in_err-reach-clause-run g c =
     let most = (fast_limit_most c.args.header.now.trie_type).1 in
     let len = c.min-len.ensures in
     let begun = c.requires.begun in let high = c.requires.high in let from = c.requires.from in
-    let before : Holds (seen g.T.TrieValue.of_number c.args.header.now (g.C.Cells.index c.args.cells.now) (g.C.Cells.values c.args.cells.now)) c.args.c (c.args.c / 512 * 512) c.args.value = λ u a b. absurd (omega (arith, a, b)) in
-    let agree = seen-cell g.T.TrieValue.of_number c.args.header.now (g.C.Cells.index c.args.cells.now) (g.C.Cells.values c.args.cells.now) (c.args.c / 512 * 512) c.args.cell c.min-len.result (c.args.c / 512 * 512 + c.min-len.result) (omega arith) (omega (arith, from, most)) (omega (arith, len, high, begun)) (omega (arith, len, high, begun)) (omega arith) (omega (arith, len)) c.requires.block in
+    let before : Holds (seen g.T.TrieValue.of_number c.args.header.now (g.C.Cells.index c.args.cells.now)
+    (g.C.Cells.values c.args.cells.now)) c.args.c (c.args.c / 512 * 512) c.args.value = λ u a b. absurd (omega (arith, a, b)) in
+    let agree = seen-cell g.T.TrieValue.of_number c.args.header.now (g.C.Cells.index c.args.cells.now) (g.C.Cells.values c.args.cells.now)
+    (c.args.c / 512 * 512) c.args.cell c.min-len.result (c.args.c / 512 * 512 + c.min-len.result) (omega arith)
+    (omega (arith, from, most)) (omega (arith, len, high, begun)) (omega (arith, len, high, begun)) (omega arith)
+    (omega (arith, len)) c.requires.block in
     rw none (BreaksOff-in_block before agree (omega arith) 1114112 (omega (arith, len, high, begun)) c.in_err-reach.ensures.run)
 
 pub returns-then-reach-len-clause-run : goal.returns-then-reach-len-clause-run
@@ -22,20 +26,32 @@ returns-then-reach-len-clause-run g c =
     let most = (fast_limit_most c.args.header.now.trie_type).1 in
     let len = c.min-len.ensures in
     let begun = c.requires.begun in let high = c.requires.high in let from = c.requires.from in
-    let before : Holds (seen g.T.TrieValue.of_number c.args.header.now (g.C.Cells.index c.args.cells.now) (g.C.Cells.values c.args.cells.now)) c.args.c (c.args.c / 512 * 512) c.args.value = λ u a b. absurd (omega (arith, a, b)) in
-    let agree = seen-cell g.T.TrieValue.of_number c.args.header.now (g.C.Cells.index c.args.cells.now) (g.C.Cells.values c.args.cells.now) (c.args.c / 512 * 512) c.args.cell c.min-len.result (c.args.c / 512 * 512 + c.min-len.result) (omega arith) (omega (arith, from, most)) (omega (arith, len, high, begun)) (omega (arith, len, high, begun)) (omega arith) (omega (arith, len)) c.requires.block in
-    EndsAt-in_block before agree (omega arith) 1114112 c.in_ok-reach.reach (omega (arith, len, high, begun)) c.if-reach-len.true c.in_ok-reach.ensures.run
+    let before : Holds (seen g.T.TrieValue.of_number c.args.header.now (g.C.Cells.index c.args.cells.now)
+    (g.C.Cells.values c.args.cells.now)) c.args.c (c.args.c / 512 * 512) c.args.value = λ u a b. absurd (omega (arith, a, b)) in
+    let agree = seen-cell g.T.TrieValue.of_number c.args.header.now (g.C.Cells.index c.args.cells.now) (g.C.Cells.values c.args.cells.now)
+    (c.args.c / 512 * 512) c.args.cell c.min-len.result (c.args.c / 512 * 512 + c.min-len.result) (omega arith)
+    (omega (arith, from, most)) (omega (arith, len, high, begun)) (omega (arith, len, high, begun)) (omega arith)
+    (omega (arith, len)) c.requires.block in
+    EndsAt-in_block before agree (omega arith) 1114112 c.in_ok-reach.reach (omega (arith, len, high, begun)) c.if-reach-len.true
+    c.in_ok-reach.ensures.run
 
 pub returns-clause-run : goal.returns-clause-run
 returns-clause-run g c =
     let most = (fast_limit_most c.args.header.now.trie_type).1 in
     let len = c.min-len.ensures in
     let begun = c.requires.begun in let high = c.requires.high in let from = c.requires.from in
-    let before : Holds (seen g.T.TrieValue.of_number c.args.header.now (g.C.Cells.index c.args.cells.now) (g.C.Cells.values c.args.cells.now)) c.args.c (c.args.c / 512 * 512) c.args.value = λ u a b. absurd (omega (arith, a, b)) in
-    let agree = seen-cell g.T.TrieValue.of_number c.args.header.now (g.C.Cells.index c.args.cells.now) (g.C.Cells.values c.args.cells.now) (c.args.c / 512 * 512) c.args.cell c.min-len.result (c.args.c / 512 * 512 + c.min-len.result) (omega arith) (omega (arith, from, most)) (omega (arith, len, high, begun)) (omega (arith, len, high, begun)) (omega arith) (omega (arith, len)) c.requires.block in
+    let before : Holds (seen g.T.TrieValue.of_number c.args.header.now (g.C.Cells.index c.args.cells.now)
+    (g.C.Cells.values c.args.cells.now)) c.args.c (c.args.c / 512 * 512) c.args.value = λ u a b. absurd (omega (arith, a, b)) in
+    let agree = seen-cell g.T.TrieValue.of_number c.args.header.now (g.C.Cells.index c.args.cells.now) (g.C.Cells.values c.args.cells.now)
+    (c.args.c / 512 * 512) c.args.cell c.min-len.result (c.args.c / 512 * 512 + c.min-len.result) (omega arith)
+    (omega (arith, from, most)) (omega (arith, len, high, begun)) (omega (arith, len, high, begun)) (omega arith)
+    (omega (arith, len)) c.requires.block in
     let rest = rw (c.in_ok-reach.ensures.same_index, c.in_ok-reach.ensures.same_values) at c.extend_to_end.ensures.run in
-    Reaches-after (seen g.T.TrieValue.of_number c.args.header.now (g.C.Cells.index c.args.cells.now) (g.C.Cells.values c.args.cells.now)) c.args.c (c.args.c / 512 * 512 + c.min-len.result) 1114112 c.args.value c.extend_to_end.result
-    (Holds-over_block before agree (omega arith) (c.args.c / 512 * 512 + c.min-len.result) c.in_ok-reach.reach c.in_ok-reach.ensures.run c.if-reach-len.false (omega arith)) (omega (arith, len, begun)) rest
+    Reaches-after (seen g.T.TrieValue.of_number c.args.header.now (g.C.Cells.index c.args.cells.now) (g.C.Cells.values c.args.cells.now))
+    c.args.c (c.args.c / 512 * 512 + c.min-len.result) 1114112 c.args.value c.extend_to_end.result
+    (Holds-over_block before agree (omega arith)
+    (c.args.c / 512 * 512 + c.min-len.result) c.in_ok-reach.reach c.in_ok-reach.ensures.run c.if-reach-len.false (omega arith))
+    (omega (arith, len, begun)) rest
 
 pub returns-in_err-reach-clause-reads : goal.returns-in_err-reach-clause-reads
 returns-in_err-reach-clause-reads g c = λ coherent shares.
@@ -43,7 +59,8 @@ returns-in_err-reach-clause-reads g c = λ coherent shares.
     let len = c.min-len.ensures in
     let begun = c.requires.begun in let high = c.requires.high in let from = c.requires.from in
     let aligned = coherent.aligned in let within = coherent.within in
-    let blocks = SharesBlocks-from_shared coherent shares (c.args.c / 512 * 512) c.args.cell (omega arith) (omega (arith, from, most)) (omega (arith, high, begun, aligned)) c.requires.block in
+    let blocks = SharesBlocks-from_shared coherent shares (c.args.c / 512 * 512) c.args.cell (omega arith) (omega (arith, from, most))
+    (omega (arith, high, begun, aligned)) c.requires.block in
     let read = c.in_err-reach.ensures.reads blocks (omega (arith, len, high, begun, aligned, within)) in
     omega (arith, read)
 
@@ -53,7 +70,8 @@ returns-then-reach-len-clause-reads g c = λ coherent shares.
     let len = c.min-len.ensures in
     let begun = c.requires.begun in let high = c.requires.high in let from = c.requires.from in
     let aligned = coherent.aligned in let within = coherent.within in
-    let blocks = SharesBlocks-from_shared coherent shares (c.args.c / 512 * 512) c.args.cell (omega arith) (omega (arith, from, most)) (omega (arith, high, begun, aligned)) c.requires.block in
+    let blocks = SharesBlocks-from_shared coherent shares (c.args.c / 512 * 512) c.args.cell (omega arith) (omega (arith, from, most))
+    (omega (arith, high, begun, aligned)) c.requires.block in
     let read = c.in_ok-reach.ensures.reads blocks (omega (arith, len, high, begun, aligned, within)) in
     omega (arith, read)
 
@@ -63,7 +81,8 @@ returns-clause-reads g c = λ coherent shares.
     let len = c.min-len.ensures in
     let begun = c.requires.begun in let high = c.requires.high in let from = c.requires.from in
     let aligned = coherent.aligned in let within = coherent.within in
-    let blocks = SharesBlocks-from_shared coherent shares (c.args.c / 512 * 512) c.args.cell (omega arith) (omega (arith, from, most)) (omega (arith, high, begun, aligned)) c.requires.block in
+    let blocks = SharesBlocks-from_shared coherent shares (c.args.c / 512 * 512) c.args.cell (omega arith) (omega (arith, from, most))
+    (omega (arith, high, begun, aligned)) c.requires.block in
     let read = c.in_ok-reach.ensures.reads blocks (omega (arith, len, high, begun, aligned, within)) in
     let rest = rw (c.in_ok-reach.ensures.same_index, c.in_ok-reach.ensures.same_values) at c.extend_to_end.ensures.reads in
     let more = rest coherent shares in

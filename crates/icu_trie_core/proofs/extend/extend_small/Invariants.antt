@@ -18,7 +18,8 @@ invariant-loop-block g l =
       same_values : g.C.Cells.values l.cells ≡ values;
       equal : Holds (seen of_number l.header index values) l.start (min (l.block * 512) l.limit) l.value;
       remembered : l.block * 512 ≤ l.limit → IsRemembered (cell_seen of_number l.header index values) 512 l.remembered l.value;
-      stands : (o : ℕ) → l.remembered ≡ Some o → (d : ℕ) × (l.start ≤ d * 512) × (d < l.block) × (index2_cell l.header.trie_type index (d * 512) ≡ Some o);
+      stands : (o : ℕ) → l.remembered ≡ Some o → (d : ℕ) × (l.start ≤ d * 512) × (d < l.block)
+          × (index2_cell l.header.trie_type index (d * 512) ≡ Some o);
       reads : IsCoherent of_number l.header index values → IsShared l.header index values → l.limit % 512 ≡ 0
           → g.C.Cells.reads l.cells + 2 * (l.start / 512) ≤ g.C.Cells.reads l.fn.cells + 2 * l.block + 112 * option_len l.remembered;
     }

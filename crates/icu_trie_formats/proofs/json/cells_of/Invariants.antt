@@ -10,4 +10,5 @@ use Rattle.icu_trie_formats.proofs.json.cells_of.Given as goal
 -- the cells so far, before those of the items that are left, are those of all
 abbrev pub invariant-loop-item : goal.invariant-loop-item
 invariant-loop-item l =
-    with_front l.cells.items (read_from (λ _ d. number_or (fitting (2 ^ 16)) (codes "index") d) l.item-index (map view (drop l.item-index l.items))) ≡ cells_of (map view l.items)
+    with_front l.cells.items (read_from (λ _ d. number_or (fitting (2 ^ 16)) (codes "index") d) l.item-index
+    (map view (drop l.item-index l.items))) ≡ cells_of (map view l.items)

@@ -5,4 +5,5 @@ use Rattle.icu_trie_formats.proofs.JsonLemmas.{list_of-items_view}
 use Rattle.icu_trie_formats.proofs.json.items_of.Goals as goal
 
 pub returns-in-Some : goal.returns-in-Some
-returns-in-Some c = ap Some (ap (map view) c.as_slice.ensures.value ∙ sym (list_of-items_view c.in-Some.items.now.items)) ∙ ap (option_map list_of) c.in-Some.ensures
+returns-in-Some c = ap Some (ap (map view) c.as_slice.ensures.value ∙ sym (list_of-items_view c.in-Some.items.now.items))
+    ∙ ap (option_map list_of) c.in-Some.ensures

@@ -8,4 +8,5 @@ use Rattle.icu_trie_formats.proofs.json.values_of.Given as goal
 -- the values so far, before those of the items that are left, are those of all
 abbrev pub invariant-loop-i : goal.invariant-loop-i
 invariant-loop-i g l =
-    with_front l.values.items (read_from (value_of g.T.TrieValue.of_number) l.i (map view (drop l.i l.items))) ≡ values_of g.T.TrieValue.of_number (map view l.items)
+    with_front l.values.items (read_from (value_of g.T.TrieValue.of_number) l.i (map view (drop l.i l.items)))
+    ≡ values_of g.T.TrieValue.of_number (map view l.items)

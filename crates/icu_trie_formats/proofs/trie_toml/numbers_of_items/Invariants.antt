@@ -8,4 +8,5 @@ use Rattle.icu_trie_formats.proofs.trie_toml.numbers_of_items.Given as goal
 -- the numbers so far, before those of the items that are left, are those of all
 abbrev pub invariant-loop-item : goal.invariant-loop-item
 invariant-loop-item g l =
-    with_front l.numbers.items (read_from (λ _ d. number_or g.N.TrieValue.of_number l.fn.key d) l.item-index (map view (drop l.item-index l.items))) ≡ numbers_of g.N.TrieValue.of_number l.fn.key (map view l.items)
+    with_front l.numbers.items (read_from (λ _ d. number_or g.N.TrieValue.of_number l.fn.key d) l.item-index
+    (map view (drop l.item-index l.items))) ≡ numbers_of g.N.TrieValue.of_number l.fn.key (map view l.items)

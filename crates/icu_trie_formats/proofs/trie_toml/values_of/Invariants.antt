@@ -7,4 +7,5 @@ use Rattle.icu_trie_formats.proofs.trie_toml.values_of.Given as goal
 -- the values so far, before those of the cells that are left, are those of all
 abbrev pub invariant-loop-cell : goal.invariant-loop-cell
 invariant-loop-cell g l =
-    with_front l.values.items (read_from (λ _ n. value_of g.T.TrieValue.of_number n) l.cell-index (map g.N.TrieValue.number (drop l.cell-index l.cells))) ≡ values_of g.T.TrieValue.of_number (map g.N.TrieValue.number l.cells)
+    with_front l.values.items (read_from (λ _ n. value_of g.T.TrieValue.of_number n) l.cell-index
+    (map g.N.TrieValue.number (drop l.cell-index l.cells))) ≡ values_of g.T.TrieValue.of_number (map g.N.TrieValue.number l.cells)

@@ -11,5 +11,6 @@ returns c =
     let lead : ℕ = slice_index c.args.text.now 0 in
     let rest : c.range_from.result.now ≡ drop 1 c.args.text.now = c.range_from.ensures.value in
     let step : c.args.text.now ≡ encode_utf8 lead ++ c.range_from.result.now = rw rest
-    (drop_more c.args.text.now 0 0 c.requires.some ∙ ap (λ (bs : List ℕ). bs ++ drop 1 c.args.text.now) (sym (encode_ascii lead c.requires.ascii))) in
+    (drop_more c.args.text.now 0 0 c.requires.some
+    ∙ ap (λ (bs : List ℕ). bs ++ drop 1 c.args.text.now) (sym (encode_ascii lead c.requires.ascii))) in
     record { bytes = step; characters = chars_past_char c.args.text.now c.range_from.result.now lead c.utf8.text step }

@@ -22,7 +22,8 @@ returns-in_err-fourth c =
     let first : ℕ = c.from-first.result - 240 in
     let lead : get_or c.args.bytes.now 0 0 ≡ 240 + first = omega (arith, c.from-first.ensures, c.requires.from) in
     rw c.from_residual-in_err-fourth.ensures
-    (no_fourth c.args.bytes.now first c.in_ok-second.second lead c.in_ok-second.ensures c.in_ok-third.third c.in_ok-third.ensures c.in_err-fourth.ensures)
+    (no_fourth c.args.bytes.now first c.in_ok-second.second lead c.in_ok-second.ensures c.in_ok-third.third c.in_ok-third.ensures
+    c.in_err-fourth.ensures)
 
 pub returns-then-code_point-lt65536 : goal.returns-then-code_point-lt65536
 returns-then-code_point-lt65536 c =

@@ -15,7 +15,8 @@ returns-in_err-third c =
     let first : ℕ = c.from-first.result - 224 in
     let lead : get_or c.args.bytes.now 0 0 ≡ 224 + first = omega (arith, c.from-first.ensures, c.requires.from) in
     rw c.from_residual-in_err-third.ensures
-    (no_third c.args.bytes.now first c.in_ok-second.second lead (omega (arith, lead, c.requires.to)) c.in_ok-second.ensures c.in_err-third.ensures)
+    (no_third c.args.bytes.now first c.in_ok-second.second lead (omega (arith, lead, c.requires.to)) c.in_ok-second.ensures
+    c.in_err-third.ensures)
 
 pub returns-then-code_point-lt2048 : goal.returns-then-code_point-lt2048
 returns-then-code_point-lt2048 c =

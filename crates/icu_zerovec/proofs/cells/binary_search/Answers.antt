@@ -12,20 +12,24 @@ loop-size-preserved g c =
       inside = omega (arith, byte_le c.is_at_most.result, c.from-low.ensures);
       left = rw c.from-low.ensures
           (one_step (λ (y : g.row.T.Denot). g.T.Ord.cmp y c.args.x.now) (values_of g.T.AsULE.unpack g.T.AsULE.WIDTH c.args.bytes.now)
-          c.loop-size.low c.loop-size.size c.is_at_most.result (omega arith) c.is_at_most.ensures c.loop-size-test.true c.loop-size.invariant.left);
+          c.loop-size.low c.loop-size.size c.is_at_most.result (omega arith) c.is_at_most.ensures c.loop-size-test.true
+          c.loop-size.invariant.left);
     }
 
 pub returns-in-Less-clause-position : goal.returns-in-Less-clause-position
 returns-in-Less-clause-position g c =
-    place_past (λ (y : g.row.T.Denot). g.T.Ord.cmp y c.args.x.now) (values_of g.T.AsULE.unpack g.T.AsULE.WIDTH c.args.bytes.now) c.loop-size.low _
+    place_past (λ (y : g.row.T.Denot). g.T.Ord.cmp y c.args.x.now)
+    (values_of g.T.AsULE.unpack g.T.AsULE.WIDTH c.args.bytes.now) c.loop-size.low _
     c.at.result c.at.ensures (sym c.in-Less.ensures) (let t = c.loop-size-test.false in omega arith) c.loop-size.invariant.left
 
 pub returns-in-Equal-clause-position : goal.returns-in-Equal-clause-position
 returns-in-Equal-clause-position g c =
-    holds_at (λ (y : g.row.T.Denot). g.T.Ord.cmp y c.args.x.now) (values_of g.T.AsULE.unpack g.T.AsULE.WIDTH c.args.bytes.now) c.loop-size.low
+    holds_at (λ (y : g.row.T.Denot). g.T.Ord.cmp y c.args.x.now)
+    (values_of g.T.AsULE.unpack g.T.AsULE.WIDTH c.args.bytes.now) c.loop-size.low
     c.at.result c.at.ensures Equal (sym c.in-Equal.ensures)
 
 pub returns-in-Greater-clause-position : goal.returns-in-Greater-clause-position
 returns-in-Greater-clause-position g c =
-    place_of_first (λ (y : g.row.T.Denot). g.T.Ord.cmp y c.args.x.now) (values_of g.T.AsULE.unpack g.T.AsULE.WIDTH c.args.bytes.now) c.loop-size.low _
+    place_of_first (λ (y : g.row.T.Denot). g.T.Ord.cmp y c.args.x.now)
+    (values_of g.T.AsULE.unpack g.T.AsULE.WIDTH c.args.bytes.now) c.loop-size.low _
     c.at.result c.at.ensures (sym c.in-Greater.ensures) c.loop-size.invariant.left

@@ -10,6 +10,7 @@ loop-i-preserved g c =
     let T = g.T.AsULE in
     let xs = values_of T.unpack T.WIDTH c.args.bytes.now in record {
       fed =
-          fed_more g.H.Hasher.write (one_write T.pack) c.args.state.now c.loop-i.state c.feed_one.new.state (fed.usize (length xs)) xs c.loop-i.i c.at.result
+          fed_more g.H.Hasher.write (one_write T.pack) c.args.state.now c.loop-i.state c.feed_one.new.state (fed.usize (length xs)) xs
+          c.loop-i.i c.at.result
           c.at.ensures c.loop-i.invariant.fed c.feed_one.ensures;
     }

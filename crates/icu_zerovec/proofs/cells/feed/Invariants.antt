@@ -8,5 +8,6 @@ use Rattle.icu_zerovec.proofs.cells.feed.Given as goal
 abbrev pub invariant-loop-i : goal.invariant-loop-i
 invariant-loop-i g l = record {
   fed : l.state ≡ fold g.H.Hasher.write l.fn.state
-      (fed.usize (length (values_of g.T.AsULE.unpack g.T.AsULE.WIDTH l.bytes)) ++ flat_map (one_write g.T.AsULE.pack) (take l.i (values_of g.T.AsULE.unpack g.T.AsULE.WIDTH l.bytes)));
+      (fed.usize (length (values_of g.T.AsULE.unpack g.T.AsULE.WIDTH l.bytes)) ++ flat_map (one_write g.T.AsULE.pack)
+      (take l.i (values_of g.T.AsULE.unpack g.T.AsULE.WIDTH l.bytes)));
 }

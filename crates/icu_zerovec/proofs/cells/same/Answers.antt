@@ -8,7 +8,8 @@ use Rattle.icu_zerovec.proofs.cells.same.Goals as goal
 pub returns-then-not-alike : goal.returns-then-not-alike
 returns-then-not-alike g c =
     let T = g.T.AsULE in
-    differs (same_bytes T.pack) (values_of T.unpack T.WIDTH c.args.a.now) (values_of T.unpack T.WIDTH c.args.b.now) c.loop-i.i c.at.result c.at-in-loop-i.result
+    differs (same_bytes T.pack) (values_of T.unpack T.WIDTH c.args.a.now)
+    (values_of T.unpack T.WIDTH c.args.b.now) c.loop-i.i c.at.result c.at-in-loop-i.result
     c.at.ensures c.at-in-loop-i.ensures c.if-not-alike.ensures
 
 pub returns : goal.returns

@@ -5,5 +5,6 @@ use Rattle.icu_zerovec.proofs.cells.same.Given as goal
 
 abbrev pub invariant-loop-i : goal.invariant-loop-i
 invariant-loop-i g l = record {
-  same : (j : ℕ) → j < l.i → slice_get (values_of g.T.AsULE.unpack g.T.AsULE.WIDTH l.a) j ≡ slice_get (values_of g.T.AsULE.unpack g.T.AsULE.WIDTH l.b) j;
+  same : (j : ℕ) → j < l.i → slice_get (values_of g.T.AsULE.unpack g.T.AsULE.WIDTH l.a) j
+      ≡ slice_get (values_of g.T.AsULE.unpack g.T.AsULE.WIDTH l.b) j;
 }

@@ -17,16 +17,19 @@ pub returns-in_err-value-clause-first : goal.returns-in_err-value-clause-first
 returns-in_err-value-clause-first g c =
     let some : 0 < length c.args.bytes.now = search rules in
     let v = first_value g.T.AsULE.unpack g.T.AsULE.WIDTH g.met.T.AsULE.some_width c.args.bytes.now c.requires some in
-    let n : g.T.AsULE.unpack (take g.T.AsULE.WIDTH c.args.bytes.now) ≡ None = rw (← c.WIDTH.ensures, ← c.split_at.ensures.front) (sym c.from_unaligned.ensures ∙ c.in_err-value.was) in
+    let n : g.T.AsULE.unpack (take g.T.AsULE.WIDTH c.args.bytes.now) ≡ None =
+    rw (← c.WIDTH.ensures, ← c.split_at.ensures.front) (sym c.from_unaligned.ensures ∙ c.in_err-value.was) in
     absurd (cc (ap is_some n, v))
 
 pub returns-clause-rest : goal.returns-clause-rest
 returns-clause-rest g c =
     let some : 0 < length c.args.bytes.now = search rules in
-    rw (c.split_at.ensures.back, c.WIDTH.ensures) (IsPacked-drop g.T.AsULE.unpack g.T.AsULE.WIDTH g.met.T.AsULE.some_width c.args.bytes.now c.requires some)
+    rw (c.split_at.ensures.back, c.WIDTH.ensures)
+    (IsPacked-drop g.T.AsULE.unpack g.T.AsULE.WIDTH g.met.T.AsULE.some_width c.args.bytes.now c.requires some)
 
 pub returns-clause-first : goal.returns-clause-first
 returns-clause-first g c =
     let some : 0 < length c.args.bytes.now = search rules in
-    rw (c.split_at.ensures.back, c.WIDTH.ensures) (values_of-first g.T.AsULE.unpack g.T.AsULE.WIDTH g.met.T.AsULE.some_width c.args.bytes.now c.requires some c.in_ok-value.value
+    rw (c.split_at.ensures.back, c.WIDTH.ensures)
+    (values_of-first g.T.AsULE.unpack g.T.AsULE.WIDTH g.met.T.AsULE.some_width c.args.bytes.now c.requires some c.in_ok-value.value
     (rw (← c.WIDTH.ensures, ← c.split_at.ensures.front) (sym c.from_unaligned.ensures ∙ c.in_ok-value.was)))

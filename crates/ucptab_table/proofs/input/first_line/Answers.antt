@@ -6,7 +6,8 @@ use Rattle.ucptab_table.proofs.input.first_line.Goals as goal
 
 pub returns-then-place-input-clause-some : goal.returns-then-place-input-clause-some
 returns-then-place-input-clause-some c =
-    rw (c.strip_carriage_return.ensures, take_rest c.args.input.now (c.position_or_len-place.result + 1)) (lines_first c.args.input.now _ c.position_or_len-place.ensures.place c.if-place-input.true)
+    rw (c.strip_carriage_return.ensures, take_rest c.args.input.now (c.position_or_len-place.result + 1))
+    (lines_first c.args.input.now _ c.position_or_len-place.ensures.place c.if-place-input.true)
 
 pub returns-clause-some : goal.returns-clause-some
 returns-clause-some c =

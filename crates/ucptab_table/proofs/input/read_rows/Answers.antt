@@ -36,4 +36,5 @@ returns-in-Err-clause-row c k f e =
 pub returns-clause-ok : goal.returns-clause-ok
 returns-clause-ok c =
     let none : lines c.loop-line.rest.now ≡ [] = search rules in
-    all_rows c.args.input.now c.loop-line.number _ (c.loop-line.invariant.left ∙ none) c.loop-line.invariant.faultless c.loop-line.invariant.writes
+    all_rows c.args.input.now c.loop-line.number _ (c.loop-line.invariant.left ∙ none) c.loop-line.invariant.faultless
+    c.loop-line.invariant.writes

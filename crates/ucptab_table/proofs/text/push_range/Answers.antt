@@ -12,9 +12,13 @@ returns-in_ok-push_dotted c =
     let text = string_bytes c.args.text.now in
     let run = run_of_values c.args.range.now in
     let some : run.first < run.last = rw (c.start.ensures, c.end.ensures) at c.if-first-last.true in
-    let front : string_bytes c.push_dotted.new.text ≡ text ++ (hex_text run.first ++ (46 ∷ (46 ∷ []))) = rw c.start.ensures at c.in_ok-push_dotted.ensures in
-    let line : IfOk c.push_answer.result (λ _. string_bytes c.push_answer.new.text ≡ string_bytes c.push_dotted.new.text ++ answer_line run.last run.value) = rw c.end.ensures at c.push_answer.ensures in
-    IfOk-weaker c.push_answer.result (λ _. string_bytes c.push_answer.new.text ≡ string_bytes c.push_dotted.new.text ++ answer_line run.last run.value)
+    let front : string_bytes c.push_dotted.new.text ≡ text ++ (hex_text run.first ++ (46 ∷ (46 ∷ []))) =
+    rw c.start.ensures at c.in_ok-push_dotted.ensures in
+    let line : IfOk c.push_answer.result (λ _.
+    string_bytes c.push_answer.new.text ≡ string_bytes c.push_dotted.new.text ++ answer_line run.last run.value) =
+    rw c.end.ensures at c.push_answer.ensures in
+    IfOk-weaker c.push_answer.result (λ _. string_bytes c.push_answer.new.text ≡ string_bytes c.push_dotted.new.text ++ answer_line run.last
+    run.value)
     (λ _. string_bytes c.push_answer.new.text ≡ text ++ run_line run)
     (λ _ e. e ∙ (ap (λ t. t ++ answer_line run.last run.value) front ∙ run_line-range text run some)) line
 
@@ -23,8 +27,10 @@ returns-else-first-last c =
     let text = string_bytes c.args.text.now in
     let run = run_of_values c.args.range.now in
     let one : run.last ≤ run.first = rw (c.start.ensures, c.end.ensures) at c.if-first-last.false in
-    let line : IfOk c.push_answer-else-first-last.result (λ _. string_bytes c.push_answer-else-first-last.new.text ≡ text ++ answer_line run.last run.value)
+    let line : IfOk c.push_answer-else-first-last.result
+    (λ _. string_bytes c.push_answer-else-first-last.new.text ≡ text ++ answer_line run.last run.value)
     = rw c.end.ensures at c.push_answer-else-first-last.ensures in
-    IfOk-weaker c.push_answer-else-first-last.result (λ _. string_bytes c.push_answer-else-first-last.new.text ≡ text ++ answer_line run.last run.value)
+    IfOk-weaker c.push_answer-else-first-last.result
+    (λ _. string_bytes c.push_answer-else-first-last.new.text ≡ text ++ answer_line run.last run.value)
     (λ _. string_bytes c.push_answer-else-first-last.new.text ≡ text ++ run_line run)
     (λ _ e. e ∙ run_line-point text run one) line

@@ -10,5 +10,10 @@ pub returns : goal.returns
 returns c = λ coherent value same.
     let ranges = c.loop-range.yielded in
     let runs = c.iter_ranges-range-items.ensures.runs coherent ranges (search rules) in
-    let values = rw (runs-of-ranges ranges) at runs in
-    (map run_of_values ranges, ((AreMaximalRuns-some (answers c.args.trie.now) value same (map run_of_values ranges)).0 values, c.loop-range.invariant))
+    let values = rw (runs-of-ranges ranges) at runs in (
+      map run_of_values ranges,
+      (
+        (AreMaximalRuns-some (answers c.args.trie.now) value same (map run_of_values ranges)).0 values,
+        c.loop-range.invariant,
+      ),
+    )

@@ -10,4 +10,5 @@ loop-word-preserved c =
     let x = c.word-item.result in
     c.in_ok-push_number.ensures
     ∙ (ap₂ (λ front last. front ++ option_to_list last) c.loop-word.invariant (ap hexadecimal c.as_bytes.ensures.value)
-    ∙ sym (filter_map-more (λ word. hexadecimal (string_bytes word)) c.args.words.now c.loop-word.word-index x c.loop-word-test.true (sym c.word-item.is)))
+    ∙ sym (filter_map-more (λ word. hexadecimal (string_bytes word)) c.args.words.now c.loop-word.word-index x c.loop-word-test.true
+    (sym c.word-item.is)))

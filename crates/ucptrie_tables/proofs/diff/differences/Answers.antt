@@ -25,7 +25,8 @@ loop-start-preserved c =
     let run = AreSame-run c.args.first.now c.args.second.now _ _ _ _ end.equal same in
     record {
       within = end.within;
-      onward = λ ds rest. c.loop-start.invariant.onward ds (differences-same c.args.first.now c.args.second.now _ _ (omega (arith, end.after)) run ds rest);
+      onward = λ ds rest. c.loop-start.invariant.onward ds
+          (differences-same c.args.first.now c.args.second.now _ _ (omega (arith, end.after)) run ds rest);
     }
 
 pub returns : goal.returns

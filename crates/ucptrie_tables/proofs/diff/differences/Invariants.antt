@@ -7,7 +7,8 @@ use Rattle.ucptrie_tables.proofs.diff.differences.Given as goal
 abbrev pub invariant-loop-start : goal.invariant-loop-start
 invariant-loop-start l = record {
   within : l.start ≤ 0x110000;
-  onward : (ds : List (CodePointMapRange (ℕ × ℕ))) → AreDifferencesFrom l.first l.second l.start ds → AreDifferencesFrom l.first l.second 0 (l.found.items ++ ds);
+  onward : (ds : List (CodePointMapRange (ℕ × ℕ))) → AreDifferencesFrom l.first l.second l.start ds
+      → AreDifferencesFrom l.first l.second 0 (l.found.items ++ ds);
 }
 
 abbrev pub decreases-loop-start : goal.decreases-loop-start

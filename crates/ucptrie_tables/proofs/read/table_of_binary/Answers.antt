@@ -17,9 +17,11 @@ returns-in-Bits8-clause-ok c =
 pub returns-in-Bits16-clause-ok : goal.returns-in-Bits16-clause-ok
 returns-in-Bits16-clause-ok c =
     let stored = rw c.in-Bits16.is at c.in_ok-read.ensures.ok in
-    IsBinaryOf-widened Bits16 _ _ c.args.file.now _ _ stored c.widened-in-Bits16.result c.widened-in-Bits16.ensures.trie c.widened-in-Bits16.ensures.width
+    IsBinaryOf-widened Bits16 _ _ c.args.file.now _ _ stored c.widened-in-Bits16.result c.widened-in-Bits16.ensures.trie
+    c.widened-in-Bits16.ensures.width
 
 pub returns-in-Bits32-clause-ok : goal.returns-in-Bits32-clause-ok
 returns-in-Bits32-clause-ok c =
     let stored = rw c.in-Bits32.is at c.in_ok-read.ensures.ok in
-    IsBinaryOf-widened Bits32 _ _ c.args.file.now _ _ stored c.widened-in-Bits32.result c.widened-in-Bits32.ensures.trie c.widened-in-Bits32.ensures.width
+    IsBinaryOf-widened Bits32 _ _ c.args.file.now _ _ stored c.widened-in-Bits32.result c.widened-in-Bits32.ensures.trie
+    c.widened-in-Bits32.ensures.width

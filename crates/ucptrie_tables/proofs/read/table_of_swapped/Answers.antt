@@ -3,7 +3,8 @@ use Rattle.ucptrie_tables.proofs.WidthLemmas.{IsSwappedOf-widened}
 use Rattle.ucptrie_tables.proofs.read.table_of_swapped.Goals as goal
 
 pub returns-in-Ok : goal.returns-in-Ok
-returns-in-Ok c = IsSwappedOf-widened Bits8 _ _ c.args.file.now _ _ c.in-Ok.ensures.ok c.widened.result c.widened.ensures.trie c.widened.ensures.width
+returns-in-Ok c = IsSwappedOf-widened Bits8 _ _ c.args.file.now _ _ c.in-Ok.ensures.ok c.widened.result c.widened.ensures.trie
+    c.widened.ensures.width
 
 pub returns-in-Ok-from_binary_swapped : goal.returns-in-Ok-from_binary_swapped
 returns-in-Ok-from_binary_swapped c =

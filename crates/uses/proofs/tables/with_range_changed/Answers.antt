@@ -17,7 +17,8 @@ module _ (r : RangeInclusive ℕ) (v : ℕ) (old new : CodePointMap ℕ) (s : Pa
       let a : trie_value s u ≡ Some (map_value new u) = grind (arith, nat_tests, of.value u) in
       a ∙ ap Some (after.values u l)
 
-  covered : (old u : ℕ) → range_inclusive_start r ≤ u → u ≤ range_inclusive_end r → u ≤ 0x10FFFF → value_after (Write.Range r v ∷ []) old u ≡ v
+  covered : (old u : ℕ) → range_inclusive_start r ≤ u → u ≤ range_inclusive_end r → u ≤ 0x10FFFF
+      → value_after (Write.Range r v ∷ []) old u ≡ v
   covered old u low high l = grind (arith, nat_tests)
 
   beside : (old u : ℕ) → (u < range_inclusive_start r) ⊎ (range_inclusive_end r < u) → value_after (Write.Range r v ∷ []) old u ≡ old
@@ -27,7 +28,8 @@ module _ (r : RangeInclusive ℕ) (v : ℕ) (old new : CodePointMap ℕ) (s : Pa
   inside : (u : ℕ) → u ≤ 0x10FFFF → range_inclusive_start r ≤ u → u ≤ range_inclusive_end r → trie_value s u ≡ Some v
   inside u l low high = in_space u l ∙ ap Some (covered (map_value old u) u low high l)
 
-  answered : (u : ℕ) → (u < range_inclusive_start r) ⊎ ((range_inclusive_end r < u) ⊎ (0x10FFFF < u)) → trie_value s u ≡ Some (map_answer old u)
+  answered : (u : ℕ) → (u < range_inclusive_start r) ⊎ ((range_inclusive_end r < u) ⊎ (0x10FFFF < u))
+      → trie_value s u ≡ Some (map_answer old u)
   answered u out = elim (cases_lt 0x10FFFF u) [
     | inl above ↦ let a : trie_value s u ≡ Some new.error = grind (arith, nat_tests, of.value u) in
         let b : map_answer old u ≡ old.error = grind (arith, nat_tests) in
@@ -45,10 +47,12 @@ after c = c.in_ok-set_range_value.ensures.ok
 pub returns-clause-inside : goal.returns-clause-inside
 returns-clause-inside c =
     let new = c.set_range_value.new.self in
-    IfOk-weaker c.build.result (AnswersMap (map_value new) new.error) _ (λ t of. inside c.args.range c.args.value c.in_ok-builder.builder new t (after c) of) c.build.ensures.answers
+    IfOk-weaker c.build.result (AnswersMap (map_value new) new.error) _
+    (λ t of. inside c.args.range c.args.value c.in_ok-builder.builder new t (after c) of) c.build.ensures.answers
 
 pub returns-clause-outside : goal.returns-clause-outside
 returns-clause-outside c =
     let new = c.set_range_value.new.self in
     IfOk-weaker c.build.result (AnswersMap (map_value new) new.error) _
-    (λ t of u out. answered c.args.range c.args.value c.in_ok-builder.builder new t (after c) of u out ∙ c.in_ok-builder.ensures.values u) c.build.ensures.answers
+    (λ t of u out. answered c.args.range c.args.value c.in_ok-builder.builder new t (after c) of u out ∙ c.in_ok-builder.ensures.values u)
+    c.build.ensures.answers

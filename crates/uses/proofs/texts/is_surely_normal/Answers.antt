@@ -25,13 +25,15 @@ turned false s e = sym (ap not e)
 
 -- where a closure refuses 1 alone: what `find_value` answers by it
 module _ {F : Type 0} (post : F → ℕ → Bool → Type 0) (f : F) (trie : Parts ℕ) (text : List ℕ) where
-  none_found : (r : Option (Found ℕ)) → IfNone r (AreRefused post f trie (chars text)) → ((v : ℕ) (a : Bool) → post f v a → a ≡ not (v == 1)) → IsTrue (is_none r)
+  none_found : (r : Option (Found ℕ)) → IfNone r (AreRefused post f trie (chars text))
+      → ((v : ℕ) (a : Bool) → post f v a → a ≡ not (v == 1)) → IsTrue (is_none r)
       → All (λ c. trie_value trie c ≡ Some 1) (chars text)
   none_found None refused told h = λ k d l.
       let answer = refused k d l in answer.1 ∙ ap Some (is_one answer.0 false (told answer.0 false answer.2) refl)
   none_found (Some found) refused told h = cc
 
-  all_one : (r : Option (Found ℕ)) → IfSome r (IsFirstAccepted post f trie text) → ((v : ℕ) (a : Bool) → post f v a → a ≡ not (v == 1)) → All (λ c. trie_value trie c ≡ Some 1) (chars text)
+  all_one : (r : Option (Found ℕ)) → IfSome r (IsFirstAccepted post f trie text) → ((v : ℕ) (a : Bool) → post f v a → a ≡ not (v == 1))
+      → All (λ c. trie_value trie c ≡ Some 1) (chars text)
       → IsTrue (is_none r)
   all_one None first told all = refl
   all_one (Some found) first told all =
@@ -39,10 +41,13 @@ module _ {F : Type 0} (post : F → ℕ → Bool → Type 0) (f : F) (trie : Par
       Contains-append_left (found.character ∷ []) first.after found.character (Contains-push [] found.character) in
       let held : Contains (first.before ++ found.character ∷ first.after) found.character =
       Contains-append_right first.before (found.character ∷ first.after) found.character here in
-      let value = All-contains (λ c. trie_value trie c ≡ Some 1) (first.before ++ found.character ∷ first.after) found.character (rw first.characters at all) held in
-      absurd (is_other found.value true (told found.value true first.accepted) refl (one found.value (trie_value trie found.character) first.value value))
+      let value = All-contains (λ c. trie_value trie c ≡ Some 1)
+      (first.before ++ found.character ∷ first.after) found.character (rw first.characters at all) held in
+      absurd (is_other found.value true (told found.value true first.accepted) refl
+      (one found.value (trie_value trie found.character) first.value value))
 
-  exactly : (r : Option (Found ℕ)) (b : Bool) → IfSome r (IsFirstAccepted post f trie text) → IfNone r (AreRefused post f trie (chars text)) → b ≡ is_none r
+  exactly : (r : Option (Found ℕ)) (b : Bool) → IfSome r (IsFirstAccepted post f trie text) → IfNone r (AreRefused post f trie (chars text))
+      → b ≡ is_none r
       → ((v : ℕ) (a : Bool) → post f v a → a ≡ not (v == 1)) → IsTrue b ↔ All (λ c. trie_value trie c ≡ Some 1) (chars text)
   exactly r b found none same told = (λ t. none_found r none told (sym same ∙ t), λ all. same ∙ all_one r found told all)
 

@@ -11,7 +11,8 @@ use Rattle.icu_collections.specs.declared.char16trie.Entries.{Entries}
 use Rattle.icu_collections.specs.declared.zerovec.MemoryError.{MemoryError}
 use Rattle.uses.proofs.words.completions.Goals as goal
 
-told : (m : UnitMap) (r : Result Bool MemoryError) (b b' : Bool) (e : Entries) → Some b ≡ result_ok r → b ≡ b' → Advances m r e → Advances m (Ok b') e
+told : (m : UnitMap) (r : Result Bool MemoryError) (b b' : Bool) (e : Entries) → Some b ≡ result_ok r → b ≡ b' → Advances m r e
+    → Advances m (Ok b') e
 told m (Ok y) b b' e some is h = subst (λ z. Advances m (Ok z) e) (same some ∙ is) h
   where
     same : Some b ≡ result_ok {E = MemoryError} (Ok y) → y ≡ b
@@ -38,7 +39,8 @@ pub loop-list-preserved : goal.loop-list-preserved
 loop-list-preserved c = λ m h.
     let before = c.loop-list.invariant m h in
     let reached : Advances before.0 (Ok true) c.advance.new.self =
-    told before.0 c.advance.result _ true c.advance.new.self c.in_ok-ok.ensures.value c.if-branch.true (c.advance.ensures.tells before.0 before.1) in
+    told before.0 c.advance.result _ true c.advance.new.self c.in_ok-ok.ensures.value c.if-branch.true
+    (c.advance.ensures.tells before.0 before.1) in
     let pushed : c.push.new.self.items ≡ c.loop-list.list.items ++ (c.in_ok-text.text, c.value.result) ∷ [] = search rules in
     let text : string_bytes c.in_ok-text.text ≡ entry_text c.advance.new.self = search rules in
     let value : c.value.result ≡ entry_value c.advance.new.self = c.value.ensures in
@@ -53,5 +55,7 @@ pub returns : goal.returns
 returns c = λ m h.
     let before = c.loop-list.invariant m h in
     let none : Advances before.0 (Ok false) c.advance.new.self =
-    told before.0 c.advance.result _ false c.advance.new.self c.in_ok-ok.ensures.value c.if-branch.false (c.advance.ensures.tells before.0 before.1) in
-    subst (λ z. AreEntries (map Ok z) (after_all (flat_map encode_utf16 (chars c.args.prefix.now)) m)) (append-nil c.loop-list.list.items) (before.2 [] none)
+    told before.0 c.advance.result _ false c.advance.new.self c.in_ok-ok.ensures.value c.if-branch.false
+    (c.advance.ensures.tells before.0 before.1) in
+    subst (λ z. AreEntries (map Ok z) (after_all (flat_map encode_utf16 (chars c.args.prefix.now)) m)) (append-nil c.loop-list.list.items)
+    (before.2 [] none)

@@ -43,8 +43,10 @@ listed (Some list) units trie h = texts_of_entries list.items words (h words tri
 
 pub returns : goal.returns
 returns c =
-    let one : c.add.new.self ≡ with_entry (97 ∷ 98 ∷ []) (pos 2) c.new-builder.result = ok_fact c.add.result _ _ c.in_ok-ok.ensures.value c.add.ensures.added in
-    let two : c.add-2.new.self ≡ with_entry (97 ∷ []) (pos 1) c.add.new.self = ok_fact c.add-2.result _ _ c.in_ok-ok-2.ensures.value c.add-2.ensures.added in
+    let one : c.add.new.self ≡ with_entry (97 ∷ 98 ∷ []) (pos 2) c.new-builder.result =
+    ok_fact c.add.result _ _ c.in_ok-ok.ensures.value c.add.ensures.added in
+    let two : c.add-2.new.self ≡ with_entry (97 ∷ []) (pos 1) c.add.new.self =
+    ok_fact c.add-2.result _ _ c.in_ok-ok-2.ensures.value c.add-2.ensures.added in
     let all : c.add-2.new.self ≡ words =
     two ∙ ap (with_entry (97 ∷ []) (pos 1)) (one ∙ ap (with_entry (97 ∷ 98 ∷ []) (pos 2)) c.new-builder.ensures) ∙ sorted in
     let trie : IsTrieOf c.in_ok-trie.trie c.add-2.new.self =

@@ -6,8 +6,10 @@ use Rattle.icu_char16trie.proofs.cursor.Char16TrieCursor.next_units.Goals as goa
 
 pub returns-clause-units : goal.returns-clause-units
 returns-clause-units c = λ m w h.
-    place_first _ _ _ (after_all w m) (added_alone (GoesOnWith (slice_values c.self.inside.units) c.self.inside.place) _ _ c.new-list.ensures.items c.in_ok-add_units.ensures) (rw (← c.self.view_is) at h)
+    place_first _ _ _ (after_all w m) (added_alone (GoesOnWith (slice_values c.self.inside.units) c.self.inside.place) _ _
+    c.new-list.ensures.items c.in_ok-add_units.ensures) (rw (← c.self.view_is) at h)
 
 pub returns-clause-exact : goal.returns-clause-exact
 returns-clause-exact c =
-    rw (← c.self.view_is) (added_alone (GoesOnWith (slice_values c.self.inside.units) c.self.inside.place) _ _ c.new-list.ensures.items c.in_ok-add_units.ensures)
+    rw (← c.self.view_is) (added_alone (GoesOnWith (slice_values c.self.inside.units) c.self.inside.place) _ _ c.new-list.ensures.items
+    c.in_ok-add_units.ensures)

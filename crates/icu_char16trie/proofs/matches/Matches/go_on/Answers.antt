@@ -11,7 +11,8 @@ returns-then-not-is_empty c = record {
   text = refl;
   left = λ m within after.
       let unit = take_next c.args.self.now.text.now c.args.length (c.args.length + 1) refl c.if-length-text.true in
-      let passed : IsAfter c.step16.new.self m (take (c.args.length + 1) c.args.self.now.text.now) = rw unit at (c.step16.ensures.after m _ after) in
+      let passed : IsAfter c.step16.new.self m (take (c.args.length + 1) c.args.self.now.text.now) =
+      rw unit at (c.step16.ensures.after m _ after) in
       next_left c.step16.new.self c.args.self.now.text.now c.args.length m c.if-length-text.true passed;
   fewer = omega (arith, c.if-length-text.true);
 }

@@ -18,9 +18,11 @@ returns-in-Some-value-clause-steps c =
     record {
       items = λ m xs are.
           let left = c.loop-self.invariant.left m xs are in
-          let at : AreLeftAt c.loop-self.self.cursor text (Some k) m xs = subst (λ z. AreLeftAt c.loop-self.self.cursor text z m xs) c.in-Some.is left in
+          let at : AreLeftAt c.loop-self.self.cursor text (Some k) m xs =
+          subst (λ z. AreLeftAt c.loop-self.self.cursor text z m xs) c.in-Some.is left in
           let value : value_of m (take k text) ≡ Some v = sym (c.value-value.ensures.value m (take k text) at.1) ∙ c.in-Some-value.is in
-          let is : xs ≡ match_at k (Some v) ++ matches_from m text (k + 1) (length text - k) = first_left m text k (Some v) xs at.0 value at.2 in (
+          let is : xs ≡ match_at k (Some v) ++ matches_from m text (k + 1) (length text - k) =
+          first_left m text k (Some v) xs at.0 value at.2 in (
             matches_from m text (k + 1) (length text - k),
             is ∙ ap (λ z. (k, z) ∷ matches_from m text (k + 1) (length text - k)) (sym same),
             c.go_on.ensures.left m at.0 at.1,
@@ -36,7 +38,8 @@ loop-self-preserved c =
     record {
       left = λ m xs are.
           let left = c.loop-self.invariant.left m xs are in
-          let at : AreLeftAt c.loop-self.self.cursor text (Some k) m xs = subst (λ z. AreLeftAt c.loop-self.self.cursor text z m xs) c.in-Some.is left in
+          let at : AreLeftAt c.loop-self.self.cursor text (Some k) m xs =
+          subst (λ z. AreLeftAt c.loop-self.self.cursor text z m xs) c.in-Some.is left in
           let value : value_of m (take k text) ≡ None = sym (c.value-value.ensures.value m (take k text) at.1) ∙ c.in_default-value.is in
           let is : xs ≡ match_at k None ++ matches_from m text (k + 1) (length text - k) = first_left m text k None xs at.0 value at.2 in
           subst (λ z. AreLeft c.go_on.new.self m z) (sym is) (c.go_on.ensures.left m at.0 at.1);

@@ -7,5 +7,6 @@ returns-then-len-place c = nothing_opens c.args.self.now c.args.place _ (λ firs
 
 pub returns : goal.returns
 returns c =
-    gone_opens c.args.self.now _ _ c.args.place (c.args.place + c.args.count) _ (record { units = refl; spelling = c.in_ok-push_run.ensures; node = refl; parts = refl })
+    gone_opens c.args.self.now _ _ c.args.place (c.args.place + c.args.count) _
+    (record { units = refl; spelling = c.in_ok-push_run.ensures; node = refl; parts = refl })
     (omega arith) (omega arith) (λ first r. (r.rest, r.node, r.keys))

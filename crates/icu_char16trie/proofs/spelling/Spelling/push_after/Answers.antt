@@ -11,5 +11,6 @@ returns-in-Some c =
 
 pub returns : goal.returns
 returns c =
-    on_apart c.args.self.now (record { text = c.push-2.new.self; held = None }) _ c.args.lead c.args.unit c.requires refl c.in_default.ensures
+    on_apart c.args.self.now (record { text = c.push-2.new.self; held = None }) _ c.args.lead c.args.unit c.requires refl
+    c.in_default.ensures
     c.in_ok-push-2.ensures.bytes c.in_ok-push_next.ensures

@@ -26,6 +26,9 @@ loop-i-preserved c =
     elim c.match-get.branch [
       | in-Some+in_ok-push w ↦
           let pushed = on_then c.args.self.now c.loop-i.self w.push.new.self _ _ c.loop-i.invariant w.in_ok-push.ensures in
-          rw w.self-is (subst (λ z. SpellsOn c.args.self.now z w.push.new.self) (one_more (slice_values c.args.units) c.args.place c.loop-i.i w.in-Some.unit (sym c.get.ensures ∙ w.in-Some.is)) pushed)
-      | in_default w ↦ absurd (some_none (sym (slice_get-get_or (slice_values c.args.units) (c.args.place + c.loop-i.i) 0 bound) ∙ (sym c.get.ensures ∙ w.in_default.is)))
+          rw w.self-is (subst (λ z. SpellsOn c.args.self.now z w.push.new.self)
+          (one_more (slice_values c.args.units) c.args.place c.loop-i.i w.in-Some.unit (sym c.get.ensures ∙ w.in-Some.is)) pushed)
+      | in_default w ↦
+          absurd (some_none (sym (slice_get-get_or (slice_values c.args.units) (c.args.place + c.loop-i.i) 0 bound)
+          ∙ (sym c.get.ensures ∙ w.in_default.is)))
     ]

@@ -50,12 +50,14 @@ leads_on : (c : goal.In-Some-pass_match)
     → LeadsToNode (slice_values c.as_slice-units.result) (Node c.loop-lead.node) (drop c.loop-lead.passed c.args.text.now)
     c.in-Some-pass_match.next c.in-Some-pass_match.count
 leads_on c =
-    goes_to (slice_values c.as_slice-units.result) c.args.text.now c.loop-lead.passed c.loop-lead.node c.in-Some.lead c.node_end-place.result
+    goes_to (slice_values c.as_slice-units.result) c.args.text.now c.loop-lead.passed c.loop-lead.node c.in-Some.lead
+    c.node_end-place.result
     c.in-Some-pass_match.next c.in-Some-pass_match.count (sym c.in-Some.ensures.unit) c.if-lead-ge32768.false c.node_end-place.ensures.end
     (rw (rest_is c.args.text.now c.loop-lead.passed) at c.in-Some-pass_match.ensures)
 
 stays_within : (c : goal.In-Some-pass_match) → c.loop-lead.passed + c.in-Some-pass_match.count ≤ length c.args.text.now
-stays_within c = within_text (slice_values c.as_slice-units.result) c.args.text.now c.loop-lead.passed _ _ _ c.loop-lead.invariant.within (leads_on c)
+stays_within c = within_text (slice_values c.as_slice-units.result) c.args.text.now c.loop-lead.passed _ _ _ c.loop-lead.invariant.within
+    (leads_on c)
 
 pub overflow_add-passed : goal.overflow_add-passed
 overflow_add-passed c = omega (arith, stays_within c)

@@ -27,7 +27,8 @@ overflow_add-end c =
     let turn = YieldsList-turn road ys _ c.loop-c.yielded_by c.next.result c.next.new.self c.in-Some.c c.in-Some.is c.next.ensures.steps in
     let next : ys ++ c.in-Some.c ∷ [] ≡ take (length ys + 1) cs = front_next cs ys c.in-Some.c so_far turn.0 turn.1 in
     let sum = bytes_next ys c.in-Some.c in
-    let whole : length (encode_utf8_all (ys ++ c.in-Some.c ∷ [])) ≤ length c.args.text.now = rw next (bytes_within c.args.text.now (length ys + 1) (c.utf8.text)) in
+    let whole : length (encode_utf8_all (ys ++ c.in-Some.c ∷ [])) ≤ length c.args.text.now =
+    rw next (bytes_within c.args.text.now (length ys + 1) (c.utf8.text)) in
     omega (arith, sum, whole, c.loop-c.invariant.bytes, c.len_utf8-end.ensures.len)
 
 pub loop-c-init : goal.loop-c-init
@@ -41,7 +42,8 @@ loop-c-init c =
       bytes = refl;
       chosen = longer 0 c.value-empty.result None;
       is = c.longer_match-found.ensures ∙ longer_bytes (chars c.args.text.now) 0 0 c.value-empty.result None refl;
-      stepped = LongestWithin-zero (HasCharsStepped c.args.self.now (chars c.args.text.now)) _ (c.cursor-cursor.result.place, at.place, rw (← at.units) (sym first.exact));
+      stepped = LongestWithin-zero (HasCharsStepped c.args.self.now (chars c.args.text.now)) _
+          (c.cursor-cursor.result.place, at.place, rw (← at.units) (sym first.exact));
       longest = λ m h. LongestWithin-zero (HasCharsValue m (chars c.args.text.now)) _ (sym (first.value m [] (at.root m h)));
     }
 
@@ -57,7 +59,8 @@ returns-then-is_empty c =
     let so_far : ys ≡ take (length ys) cs = sym (map-id ys) ∙ YieldsList-so_far road ys _ c.loop-c.yielded_by in
     let turn = YieldsList-turn road ys _ c.loop-c.yielded_by c.next.result c.next.new.self c.in-Some.c c.in-Some.is c.next.ensures.steps in
     let inv = c.loop-c.invariant in
-    let ends : is_empty_at c.args.self.now c.loop-c.cursor.place ≡ true = rw (← inv.units) (sym c.is_empty.ensures.exact ∙ c.if-is_empty.true) in
+    let ends : is_empty_at c.args.self.now c.loop-c.cursor.place ≡ true =
+    rw (← inv.units) (sym c.is_empty.ensures.exact ∙ c.if-is_empty.true) in
     let units : flat_map encode_utf16 ys ≡ front_units cs (length ys) = ap (flat_map encode_utf16) so_far in
     record {
       longest = λ m h.
@@ -71,7 +74,8 @@ returns-then-is_empty c =
       exact = (
         inv.chosen,
         LongestWithin-more (HasCharsStepped c.args.self.now cs) (length ys) (length cs) inv.chosen (omega (arith, turn.0))
-            (λ k above within. no_more_steps c.args.self.now cs c.loop-c.cursor.place (length ys) k (rw units at inv.steps) ends above within) inv.stepped,
+            (λ k above within. no_more_steps c.args.self.now cs c.loop-c.cursor.place (length ys) k (rw units at inv.steps) ends above
+            within) inv.stepped,
         inv.is,
       );
       boundary = rw inv.is (ends_at_boundary c.args.text.now inv.chosen c.utf8.text);
@@ -88,11 +92,13 @@ loop-c-preserved c =
     let inv = c.loop-c.invariant in
     let passed = c.step.ensures.passes in
     let units : c.step.new.self.units ≡ c.args.self.now = passed.units ∙ inv.units in
-    let more : flat_map encode_utf16 ys ++ encode_utf16 c.in-Some.c ≡ flat_map encode_utf16 (ys ++ c.in-Some.c ∷ []) = sym (units_next ys c.in-Some.c) in
+    let more : flat_map encode_utf16 ys ++ encode_utf16 c.in-Some.c ≡ flat_map encode_utf16 (ys ++ c.in-Some.c ∷ []) =
+    sym (units_next ys c.in-Some.c) in
     let exact = subst (λ z. StepsAlong z c.loop-c.cursor.place (encode_utf16 c.in-Some.c) c.step.new.self.place) inv.units passed.exact in
     let steps : StepsAlong c.args.self.now (Node 0) (flat_map encode_utf16 (ys ++ c.in-Some.c ∷ [])) c.step.new.self.place =
     subst (λ z. StepsAlong c.args.self.now (Node 0) z c.step.new.self.place) more
-    (along_then c.args.self.now (Node 0) c.loop-c.cursor.place c.step.new.self.place (flat_map encode_utf16 ys) (encode_utf16 c.in-Some.c) inv.steps exact) in
+    (along_then c.args.self.now (Node 0) c.loop-c.cursor.place c.step.new.self.place (flat_map encode_utf16 ys)
+    (encode_utf16 c.in-Some.c) inv.steps exact) in
     let after : (m : UnitMap) → IsTrieOf c.args.self.now m → IsAfter c.step.new.self m (flat_map encode_utf16 (ys ++ c.in-Some.c ∷ [])) =
     λ m h. subst (λ z. IsAfter c.step.new.self m z) more (passed.after m (flat_map encode_utf16 ys) (inv.after m h)) in
     let count : length ys + 1 ≡ length (ys ++ c.in-Some.c ∷ []) = sym (length-append ys (c.in-Some.c ∷ [])) in
@@ -110,8 +116,12 @@ loop-c-preserved c =
       is = c.longer_match-found-in-loop-c.ensures ∙ ap (longer (c.loop-c.end + c.len_utf8-end.result) value) inv.is
           ∙ longer_bytes cs (length ys + 1) (c.loop-c.end + c.len_utf8-end.result) value inv.chosen here;
       stepped =
-          let has : HasCharsStepped c.args.self.now cs (length ys + 1) value =
-          (c.step.new.self.place, subst (λ z. StepsAlong c.args.self.now (Node 0) (flat_map encode_utf16 z) c.step.new.self.place) next steps, rw (← units) (sym c.value-value.ensures.exact)) in
+          let has : HasCharsStepped c.args.self.now cs (length ys + 1) value = (
+            c.step.new.self.place,
+            subst (λ z. StepsAlong c.args.self.now (Node 0) (flat_map encode_utf16 z) c.step.new.self.place) next
+                steps,
+            rw (← units) (sym c.value-value.ensures.exact),
+          ) in
           subst (λ z. LongestWithin (HasCharsStepped c.args.self.now cs) z (longer (length ys + 1) value inv.chosen)) count
           (LongestWithin-suc (HasCharsStepped c.args.self.now cs) (length ys) value inv.chosen has inv.stepped);
       longest = λ m h.
@@ -125,7 +135,8 @@ pub returns : goal.returns
 returns c =
     let cs : List ℕ = chars c.args.text.now in
     let ys : List ℕ = c.loop-c.yielded in
-    let over = YieldsList-end (YieldsList-from_chars c.args.text.now c.utf8.text cc) ys _ c.loop-c.yielded_by _ _ c.in-None.is c.next.ensures.steps in
+    let over = YieldsList-end (YieldsList-from_chars c.args.text.now c.utf8.text cc) ys _ c.loop-c.yielded_by _ _ c.in-None.is
+    c.next.ensures.steps in
     let inv = c.loop-c.invariant in
     record {
       longest = λ m h. (inv.chosen, subst (λ z. LongestWithin (HasCharsValue m cs) z inv.chosen) over.1 (inv.longest m h), inv.is);

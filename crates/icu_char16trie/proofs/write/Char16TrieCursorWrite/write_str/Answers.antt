@@ -17,6 +17,7 @@ loop-c-preserved c = rw (one_more c.loop-c.yielded c.in-Some.c) (passes_then _ _
 
 pub returns-clause-ok : goal.returns-clause-ok
 returns-clause-ok c = λ _.
-    let t = YieldsList-end (YieldsList-from_chars c.args.s.now c.utf8.s cc) c.loop-c.yielded _ c.loop-c.yielded_by _ _ c.in-None.is c.next.ensures.steps in
+    let t = YieldsList-end (YieldsList-from_chars c.args.s.now c.utf8.s cc) c.loop-c.yielded _ c.loop-c.yielded_by _ _ c.in-None.is
+    c.next.ensures.steps in
     let all : c.loop-c.yielded ≡ chars c.args.s.now = sym (map-id c.loop-c.yielded) ∙ t.0 in
     rw all at c.loop-c.invariant

@@ -8,7 +8,8 @@ use Rattle.icu_char16trie_builder.proofs.builder.Char16TrieBuilder.build.Goals a
 pub returns-then-not-fits-clause-too_large : goal.returns-then-not-fits-clause-too_large
 returns-then-not-fits-clause-too_large c _ =
     let same : room 0 c.as_slice.result.now ≡ most_units c.args.self =
-    room_self c.as_slice.result.now c.in_ok-entries.entries.items (entry_map c.self.inside.entries.entries) c.args.self c.as_slice.ensures.value c.in_ok-entries.ensures (search rules) in
+    room_self c.as_slice.result.now c.in_ok-entries.entries.items (entry_map c.self.inside.entries.entries) c.args.self
+    c.as_slice.ensures.value c.in_ok-entries.ensures (search rules) in
     let out : c.fits.result ≡ false = search rules in
     let more = more_than c.fits.result (room 0 c.as_slice.result.now) 2147483647 c.fits.ensures out in
     omega (arith, same, more)
@@ -16,19 +17,22 @@ returns-then-not-fits-clause-too_large c _ =
 pub returns-clause-bound : goal.returns-clause-bound
 returns-clause-bound c =
     let same : room 0 c.as_slice-2.result.now ≡ most_units c.args.self =
-    room_self c.as_slice-2.result.now c.in_ok-entries.entries.items (entry_map c.self.inside.entries.entries) c.args.self c.as_slice-2.ensures.value c.in_ok-entries.ensures (search rules) in
+    room_self c.as_slice-2.result.now c.in_ok-entries.entries.items (entry_map c.self.inside.entries.entries) c.args.self
+    c.as_slice-2.ensures.value c.in_ok-entries.ensures (search rules) in
     omega (arith, same, c.in_ok-trie.ensures.bound)
 
 pub returns-clause-empty : goal.returns-clause-empty
 returns-clause-empty c e =
     let same : room 0 c.as_slice-2.result.now ≡ most_units c.args.self =
-    room_self c.as_slice-2.result.now c.in_ok-entries.entries.items (entry_map c.self.inside.entries.entries) c.args.self c.as_slice-2.ensures.value c.in_ok-entries.ensures (search rules) in
+    room_self c.as_slice-2.result.now c.in_ok-entries.entries.items (entry_map c.self.inside.entries.entries) c.args.self
+    c.as_slice-2.ensures.value c.in_ok-entries.ensures (search rules) in
     nil_from_length c.in_ok-trie.trie (omega (arith, same, c.in_ok-trie.ensures.bound, ap most_units e, most_none))
 
 pub returns-clause-fits : goal.returns-clause-fits
 returns-clause-fits c =
     let same : room 0 c.as_slice.result.now ≡ most_units c.args.self =
-    room_self c.as_slice.result.now c.in_ok-entries.entries.items (entry_map c.self.inside.entries.entries) c.args.self c.as_slice.ensures.value c.in_ok-entries.ensures (search rules) in
+    room_self c.as_slice.result.now c.in_ok-entries.entries.items (entry_map c.self.inside.entries.entries) c.args.self
+    c.as_slice.ensures.value c.in_ok-entries.ensures (search rules) in
     let yes : c.fits.result ≡ true = search rules in
     let small : room 0 c.as_slice.result.now ≤ 2147483647 = c.fits.ensures.0 yes in
     omega (arith, same, small)

@@ -9,7 +9,8 @@ none (e ∷ m) h = absurd (omega (arith, h))
 
 pub returns : goal.returns
 returns c =
-    let same : length c.self.inside.entries.entries ≡ length c.args.self.now = sym (length-entry_map c.self.inside.entries.entries) ∙ ap length c.self.view_is in (
+    let same : length c.self.inside.entries.entries ≡ length c.args.self.now = sym (length-entry_map c.self.inside.entries.entries)
+    ∙ ap length c.self.view_is in (
       λ h. none c.args.self.now (sym same ∙ c.is_empty.ensures.0 h),
       λ h. c.is_empty.ensures.1 (same ∙ ap length h),
     )

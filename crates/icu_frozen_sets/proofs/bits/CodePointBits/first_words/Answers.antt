@@ -12,7 +12,9 @@ loop-k-preserved c =
     let t : BitTables = record { index = c.self.inside.index.items; words = c.self.inside.words.items } in
     record {
       all = length-set l.words l.k _ ∙ l.invariant.all;
-      same = rw (← c.self.view_is) (words_more t l.words l.k c.index.result.now c.index-in-loop-k.result.now (rw (← c.self.view_is) at c.requires.tables)
+      same =
+          rw (← c.self.view_is) (words_more t l.words l.k c.index.result.now c.index-in-loop-k.result.now
+          (rw (← c.self.view_is) at c.requires.tables)
           l.invariant.all (omega arith) (rw (← c.self.view_is) at c.requires.there) c.index.ensures c.index-in-loop-k.ensures
           (rw (← c.self.view_is) at l.invariant.same));
     }

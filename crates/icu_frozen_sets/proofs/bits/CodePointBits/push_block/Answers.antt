@@ -5,10 +5,13 @@ use Rattle.icu_frozen_sets.proofs.BlockLemmas.{uniform_block}
 use Rattle.icu_frozen_sets.proofs.bits.CodePointBits.push_block.Goals as goal
 
 pub returns-then-is_all-clause-adds : goal.returns-then-is_all-clause-adds
-returns-then-is_all-clause-adds c = on_ok_weaker _ (λ a. uniform_block c.args.self.now c.push_run.new.self c.args.block.now false a (c.if-is_all.ensures.0 refl)) c.push_run.ensures.adds
+returns-then-is_all-clause-adds c = on_ok_weaker _
+    (λ a. uniform_block c.args.self.now c.push_run.new.self c.args.block.now false a (c.if-is_all.ensures.0 refl)) c.push_run.ensures.adds
 
 pub returns-then-is_all-2-clause-adds : goal.returns-then-is_all-2-clause-adds
-returns-then-is_all-2-clause-adds c = on_ok_weaker _ (λ a. uniform_block c.args.self.now c.push_run-then-is_all-2.new.self c.args.block.now true a (c.if-is_all-2.ensures.0 refl)) c.push_run-then-is_all-2.ensures.adds
+returns-then-is_all-2-clause-adds c = on_ok_weaker _
+    (λ a. uniform_block c.args.self.now c.push_run-then-is_all-2.new.self c.args.block.now true a (c.if-is_all-2.ensures.0 refl))
+    c.push_run-then-is_all-2.ensures.adds
 
 -- a block that is neither empty nor full is not uniform
 mixed : (block : List ℕ) (value none all : Bool) → none ≡ false → all ≡ false

@@ -5,19 +5,22 @@ use Rattle.icu_frozen_sets.proofs.frozen.FrozenCodePointSet.ask_character.Goals 
 pub bounds-bytes-start-2 : goal.bounds-bytes-start-2
 bounds-bytes-start-2 c =
     let s = c.self.inside in
-    second_there s.set c.args.bytes.now s.ascii s.two_bytes s.bits c.self.invariant c.args.start c.requires.utf8 c.requires.more (omega arith)
+    second_there s.set c.args.bytes.now s.ascii s.two_bytes s.bits c.self.invariant c.args.start c.requires.utf8 c.requires.more
+    (omega arith)
 
 pub returns-then-lead-lt224 : goal.returns-then-lead-lt224
 returns-then-lead-lt224 c =
     let s = c.self.inside in
     rw (← c.self.view_is)
-    (two_bytes s.set c.args.bytes.now s.ascii s.two_bytes s.bits c.self.invariant c.args.start c.requires.utf8 c.requires.more _ (omega arith)
+    (two_bytes s.set c.args.bytes.now s.ascii s.two_bytes s.bits c.self.invariant c.args.start c.requires.utf8 c.requires.more _
+    (omega arith)
     (omega arith) (rw (c.from-lead.ensures, c.from-second.ensures, ← c.self.view_is) at c.contains_short.ensures))
 
 pub bounds-bytes-start-3 : goal.bounds-bytes-start-3
 bounds-bytes-start-3 c =
     let s = c.self.inside in
-    third_there s.set c.args.bytes.now s.ascii s.two_bytes s.bits c.self.invariant c.args.start c.requires.utf8 c.requires.more (omega arith)
+    third_there s.set c.args.bytes.now s.ascii s.two_bytes s.bits c.self.invariant c.args.start c.requires.utf8 c.requires.more
+    (omega arith)
 
 pub returns-then-lead-lt240 : goal.returns-then-lead-lt240
 returns-then-lead-lt240 c =
@@ -30,13 +33,15 @@ returns-then-lead-lt240 c =
 pub bounds-bytes-start-4 : goal.bounds-bytes-start-4
 bounds-bytes-start-4 c =
     let s = c.self.inside in
-    fourth_there s.set c.args.bytes.now s.ascii s.two_bytes s.bits c.self.invariant c.args.start c.requires.utf8 c.requires.more (omega arith)
+    fourth_there s.set c.args.bytes.now s.ascii s.two_bytes s.bits c.self.invariant c.args.start c.requires.utf8 c.requires.more
+    (omega arith)
 
 pub contains_in-requires-2-clause-there : goal.contains_in-requires-2-clause-there
 contains_in-requires-2-clause-there c =
     let s = c.self.inside in
     rw (c.from-lead.ensures, c.from-second.ensures, c.from-third.ensures)
-    (four_within s.set c.args.bytes.now s.ascii s.two_bytes s.bits c.self.invariant c.args.start c.requires.utf8 c.requires.more (omega arith))
+    (four_within s.set c.args.bytes.now s.ascii s.two_bytes s.bits c.self.invariant c.args.start c.requires.utf8 c.requires.more
+    (omega arith))
 
 pub returns : goal.returns
 returns c =

@@ -9,11 +9,13 @@ loop-end-preserved c =
     let i = c.loop-end.end-index in
     let inside : i < length xs = omega arith in
     rw (take_more xs i 0 inside)
-    (checked_more xs (take i xs) (drop i xs) (drop (i + 1) xs) c.loop-end.next (get_or xs i 0) c.loop-end.invariant (drop_more xs i 0 inside) (omega arith) (omega arith))
+    (checked_more xs (take i xs) (drop i xs) (drop (i + 1) xs) c.loop-end.next (get_or xs i 0) c.loop-end.invariant
+    (drop_more xs i 0 inside) (omega arith) (omega arith))
 
 pub returns : goal.returns
 returns c = (
-  λ t. checked_all c.args.ends.now (take c.loop-end.end-index c.args.ends.now) (drop c.loop-end.end-index c.args.ends.now) c.loop-end.next c.loop-end.invariant
+  λ t. checked_all c.args.ends.now (take c.loop-end.end-index c.args.ends.now)
+      (drop c.loop-end.end-index c.args.ends.now) c.loop-end.next c.loop-end.invariant
       (drop_all c.loop-end.end-index c.args.ends.now (omega arith)) (omega arith),
   λ v. refl,
 )

@@ -7,16 +7,19 @@ pub returns-then-end-next : goal.returns-then-end-next
 returns-then-end-next c = (
   λ t. absurd (false≢true t),
   λ v. absurd (elim c.then-end-next.either [
-    | inl h ↦ checked_low c.args.ends.now c.loop-end.yielded c.loop-end.end-iterator c.next.new.self c.loop-end.next c.in-Some.end c.loop-end.invariant c.in-Some.ensures.steps
+    | inl h ↦ checked_low c.args.ends.now c.loop-end.yielded c.loop-end.end-iterator c.next.new.self c.loop-end.next c.in-Some.end
+        c.loop-end.invariant c.in-Some.ensures.steps
         (let e = c.from-end.ensures in omega arith) v
-    | inr h ↦ checked_high c.args.ends.now c.loop-end.yielded c.loop-end.end-iterator c.next.new.self c.loop-end.next c.in-Some.end c.loop-end.invariant c.in-Some.ensures.steps
+    | inr h ↦ checked_high c.args.ends.now c.loop-end.yielded c.loop-end.end-iterator c.next.new.self c.loop-end.next c.in-Some.end
+        c.loop-end.invariant c.in-Some.ensures.steps
         (let e = c.from-end.ensures in omega arith) v
   ]),
 )
 
 pub loop-end-preserved : goal.loop-end-preserved
 loop-end-preserved c = rw c.from-end.ensures
-    (checked_more c.args.ends.now c.loop-end.yielded c.loop-end.end-iterator c.next.new.self c.loop-end.next c.in-Some.end c.loop-end.invariant c.in-Some.ensures.steps
+    (checked_more c.args.ends.now c.loop-end.yielded c.loop-end.end-iterator c.next.new.self c.loop-end.next c.in-Some.end
+    c.loop-end.invariant c.in-Some.ensures.steps
     (let e = c.from-end.ensures in omega arith) (let e = c.from-end.ensures in omega arith))
 
 pub returns : goal.returns

@@ -6,4 +6,5 @@ use Rattle.icu_text_sets.proofs.codepointinvliststringlist.json.items_of.Given a
 
 -- the items so far, before those of the strings that are left, are those of all
 abbrev pub invariant-loop-text : goal.invariant-loop-text
-invariant-loop-text l = map view l.items.items ++ map (λ t. string t) (texts_of (drop l.text-index l.strings)) ≡ map (λ t. string t) (texts_of l.strings)
+invariant-loop-text l = map view l.items.items ++ map (λ t. string t) (texts_of (drop l.text-index l.strings)) ≡ map (λ t. string t)
+    (texts_of l.strings)

@@ -17,7 +17,8 @@ loop-i-init c =
 
 pub loop-i-preserved : goal.loop-i-preserved
 loop-i-preserved c =
-    goes_on text_or view c.args.items.now c.loop-i.i c.index-items-i.result (texts_of c.loop-i.strings.items) (texts_of c.push.new.self.items) _ c.in-Some.text.now
+    goes_on text_or view c.args.items.now c.loop-i.i c.index-items-i.result (texts_of c.loop-i.strings.items)
+    (texts_of c.push.new.self.items) _ c.in-Some.text.now
     c.loop-i-test.true c.index-items-i.is c.loop-i.invariant (ap (λ o. ok_or o (no_string c.loop-i.i)) (sym c.in-Some.ensures))
     (ap texts_of c.in-Ok-push.ensures.items ∙ map-append (λ s. string_bytes s) c.loop-i.strings.items (c.in-Ok-from_str.string ∷ [])
     ∙ ap (λ (t : List ℕ). texts_of c.loop-i.strings.items ++ t ∷ []) c.in-Ok-from_str.ensures.ok)
@@ -28,4 +29,5 @@ returns-in_default-as_str-clause-err c =
     c.loop-i-test.true c.index-items-i.is c.loop-i.invariant (ap (λ o. ok_or o (no_string c.loop-i.i)) (sym c.in_default-as_str.ensures))
 
 pub returns-clause-ok : goal.returns-clause-ok
-returns-clause-ok c = at_end text_or view c.args.items.now c.loop-i.i (texts_of c.loop-i.strings.items) _ c.loop-i-test.false c.loop-i.invariant
+returns-clause-ok c = at_end text_or view c.args.items.now c.loop-i.i (texts_of c.loop-i.strings.items) _ c.loop-i-test.false
+    c.loop-i.invariant

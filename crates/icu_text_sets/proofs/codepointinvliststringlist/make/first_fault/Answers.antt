@@ -3,11 +3,13 @@ use Rattle.icu_text_sets.proofs.codepointinvliststringlist.make.first_fault.Goal
 
 pub returns-in-Some-clause-first : goal.returns-in-Some-clause-first
 returns-in-Some-clause-first c =
-    stops c.args.strings.now c.loop-i.i c.index-strings-i.result c.get.result _ c.in-Some.fault c.loop-i-test.true c.index-strings-i.is c.get.ensures.lookup c.in-Some.ensures c.loop-i.invariant
+    stops c.args.strings.now c.loop-i.i c.index-strings-i.result c.get.result _ c.in-Some.fault c.loop-i-test.true c.index-strings-i.is
+    c.get.ensures.lookup c.in-Some.ensures c.loop-i.invariant
 
 pub loop-i-preserved : goal.loop-i-preserved
 loop-i-preserved c =
-    goes_on c.args.strings.now c.loop-i.i c.index-strings-i.result c.get.result _ c.loop-i-test.true c.index-strings-i.is c.get.ensures.lookup c.in_default.ensures c.loop-i.invariant
+    goes_on c.args.strings.now c.loop-i.i c.index-strings-i.result c.get.result _ c.loop-i-test.true c.index-strings-i.is
+    c.get.ensures.lookup c.in_default.ensures c.loop-i.invariant
 
 pub returns-clause-first : goal.returns-clause-first
 returns-clause-first c = at_end c.args.strings.now c.loop-i.i _ c.loop-i-test.false c.loop-i.invariant

@@ -8,7 +8,8 @@ use Rattle.icu_text_sets.proofs.codepointinvliststringlist.make.sort_strings.Goa
 
 holds : goal.returns-clause-holds
 holds c = λ t.
-    ap (λ (ts : List (String Global)). is_among (texts_of ts) t) (dedup_is string_eq c.sort_unstable.new.self.items c.dedup.new.self.items c.dedup.ensures.filtered)
+    ap (λ (ts : List (String Global)). is_among (texts_of ts) t)
+    (dedup_is string_eq c.sort_unstable.new.self.items c.dedup.new.self.items c.dedup.ensures.filtered)
     ∙ same_among c.args.strings.now.items c.sort_unstable.new.self.items c.sort_unstable.ensures.permutation t
 
 pub returns-clause-holds : goal.returns-clause-holds

@@ -10,14 +10,16 @@ no_more (b ∷ rest) h = absurd (omega arith)
 
 pub returns-in-None-clause-only : goal.returns-in-None-clause-only
 returns-in-None-clause-only c =
-    let e : c.args.text.now ≡ encode_utf8 c.in_ok-first.first ++ c.next.new.self.rest.now = cc (c.chars-chars.ensures.rest, c.in_ok-first.ensures.steps.0) in
+    let e : c.args.text.now ≡ encode_utf8 c.in_ok-first.first ++ c.next.new.self.rest.now =
+    cc (c.chars-chars.ensures.rest, c.in_ok-first.ensures.steps.0) in
     let first = chars_past_char c.args.text.now c.next.new.self.rest.now c.in_ok-first.first c.utf8.text e in
     let rest = ap chars (no_more c.next.new.self.rest.now c.in-None.ensures.steps.0.0) ∙ chars-nil in
     sym (ap only_of (first ∙ ap (λ (cs : List ℕ). c.in_ok-first.first ∷ cs) rest))
 
 pub returns-in-Some-clause-only : goal.returns-in-Some-clause-only
 returns-in-Some-clause-only c =
-    let e : c.args.text.now ≡ encode_utf8 c.in_ok-first.first ++ c.next.new.self.rest.now = cc (c.chars-chars.ensures.rest, c.in_ok-first.ensures.steps.0) in
+    let e : c.args.text.now ≡ encode_utf8 c.in_ok-first.first ++ c.next.new.self.rest.now =
+    cc (c.chars-chars.ensures.rest, c.in_ok-first.ensures.steps.0) in
     let first = chars_past_char c.args.text.now c.next.new.self.rest.now c.in_ok-first.first c.utf8.text e in
     let utf8 = IsUtf8-past_char c.args.text.now c.next.new.self.rest.now c.in_ok-first.first c.utf8.text e in
     let second = chars_past_char c.next.new.self.rest.now c.next-2.new.self.rest.now c.in-Some.field-0 utf8 c.in-Some.ensures.steps.0 in

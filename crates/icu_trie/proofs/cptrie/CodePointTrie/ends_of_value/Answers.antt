@@ -24,10 +24,12 @@ loop-run-preserved g c =
             let test = rw len at w.if-is_same-is_inside.true in
             let start : w.start.result.now ≡ c.loop-run.next = w.start.ensures ∙ first in
             rw (w.ends-is, w.in_ok-push.ensures.items, start, last)
-            (Gathers-turned c.loop-run.invariant.gathers c.in-Some.run' first order (turned_tells c.is_same.result (is_odd (length c.loop-run.ends.items)) c.is_same.ensures test))
+            (Gathers-turned c.loop-run.invariant.gathers c.in-Some.run' first order
+            (turned_tells c.is_same.result (is_odd (length c.loop-run.ends.items)) c.is_same.ensures test))
         | else-is_same-is_inside w ↦
             let test = rw len at w.if-is_same-is_inside.false in
-            rw (w.ends-is, last) (Gathers-kept c.loop-run.invariant.gathers c.in-Some.run' first order (kept_tells c.is_same.result (is_odd (length c.loop-run.ends.items)) c.is_same.ensures test))
+            rw (w.ends-is, last) (Gathers-kept c.loop-run.invariant.gathers c.in-Some.run' first order
+            (kept_tells c.is_same.result (is_odd (length c.loop-run.ends.items)) c.is_same.ensures test))
       ];
     }
 

@@ -15,4 +15,5 @@ returns-clause-runs g c = λ coherent xs d.
 pub returns-clause-shape : goal.returns-clause-shape
 returns-clause-shape g c = λ xs d.
     let all = selected-from_run _ _ xs _ d.1.0 d.0 d.1.1 d.1.2 in
-    All-selected g.T.PartialEq.eq c.args.value g.T.TrieValue.of_number c.args.self.now xs (record { all = all.0; given = c.iter_ranges.ensures.ranges all.0 all.1; selected = all.2 })
+    All-selected g.T.PartialEq.eq c.args.value g.T.TrieValue.of_number c.args.self.now xs
+    (record { all = all.0; given = c.iter_ranges.ensures.ranges all.0 all.1; selected = all.2 })

@@ -7,14 +7,18 @@ use Rattle.icu_trie.proofs.cptrie.CodePointTrie.iter_ranges_mapped.Goals as goal
 
 pub returns-clause-ranges : goal.returns-clause-ranges
 returns-clause-ranges g c = λ ys d.
-    let inner = Drains-inside {steps = iter_mapped_steps g.T.TrieValue.of_number (goal.F-post g) g.U.PartialEq.eq} (coalescer_steps (GivesMapped g.T.TrieValue.of_number (goal.F-post g)) g.U.PartialEq.eq) iter_mapped_source (λ s r t k. k) _ ys d in
+    let inner = Drains-inside {steps = iter_mapped_steps g.T.TrieValue.of_number (goal.F-post g) g.U.PartialEq.eq}
+    (coalescer_steps (GivesMapped g.T.TrieValue.of_number (goal.F-post g)) g.U.PartialEq.eq) iter_mapped_source (λ s r t k. k) _ ys
+    d in
     let z = Drains-behind _ c.new.ensures.runs ys inner in
     let x = answered-from_run g.T.TrieValue.of_number (goal.F-post g) c.args.map z.0 _ z.1.1.0 z.1.0 refl z.1.1.1 z.1.1.2 in
     record { all = x.0; given = c.iter_ranges.ensures.ranges x.0 x.1; answered = z.0; answers = x.2; joins = z.2 }
 
 pub returns-clause-shape : goal.returns-clause-shape
 returns-clause-shape g c = λ ys d.
-    let inner = Drains-inside {steps = iter_mapped_steps g.T.TrieValue.of_number (goal.F-post g) g.U.PartialEq.eq} (coalescer_steps (GivesMapped g.T.TrieValue.of_number (goal.F-post g)) g.U.PartialEq.eq) iter_mapped_source (λ s r t k. k) _ ys d in
+    let inner = Drains-inside {steps = iter_mapped_steps g.T.TrieValue.of_number (goal.F-post g) g.U.PartialEq.eq}
+    (coalescer_steps (GivesMapped g.T.TrieValue.of_number (goal.F-post g)) g.U.PartialEq.eq) iter_mapped_source (λ s r t k. k) _ ys
+    d in
     let z = Drains-behind _ c.new.ensures.runs ys inner in
     let x = answered-from_run g.T.TrieValue.of_number (goal.F-post g) c.args.map z.0 _ z.1.1.0 z.1.0 refl z.1.1.1 z.1.1.2 in
     let are = AreOfCodePoints-from_ranges _ _ 0 x.0 (c.iter_ranges.ensures.ranges x.0 x.1) in
@@ -22,7 +26,9 @@ returns-clause-shape g c = λ ys d.
 
 pub returns-clause-runs : goal.returns-clause-runs
 returns-clause-runs g c = λ h by coherent ys d.
-    let inner = Drains-inside {steps = iter_mapped_steps g.T.TrieValue.of_number (goal.F-post g) g.U.PartialEq.eq} (coalescer_steps (GivesMapped g.T.TrieValue.of_number (goal.F-post g)) g.U.PartialEq.eq) iter_mapped_source (λ s r t k. k) _ ys d in
+    let inner = Drains-inside {steps = iter_mapped_steps g.T.TrieValue.of_number (goal.F-post g) g.U.PartialEq.eq}
+    (coalescer_steps (GivesMapped g.T.TrieValue.of_number (goal.F-post g)) g.U.PartialEq.eq) iter_mapped_source (λ s r t k. k) _ ys
+    d in
     let z = Drains-behind _ c.new.ensures.runs ys inner in
     let x = answered-from_run g.T.TrieValue.of_number (goal.F-post g) c.args.map z.0 _ z.1.1.0 z.1.0 refl z.1.1.1 z.1.1.2 in
     let are = AreOfCodePoints-from_ranges _ _ 0 x.0 (c.iter_ranges.ensures.ranges x.0 x.1) in

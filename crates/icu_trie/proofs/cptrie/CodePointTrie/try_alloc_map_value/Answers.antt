@@ -35,7 +35,8 @@ map_cells-requires g c = search of_calls
 
 pub returns-in_err-values-clause-maps : goal.returns-in_err-values-clause-maps
 returns-in_err-values-clause-maps g c =
-    handed_on (MapsInTurn (goal.F-step g) c.args.f g.T.TrieValue.of_number g.P.TrieValue.number c.args.self.now) c.from_residual.result c.from_residual.ensures (λ e is.
+    handed_on (MapsInTurn (goal.F-step g) c.args.f g.T.TrieValue.of_number g.P.TrieValue.number c.args.self.now) c.from_residual.result
+    c.from_residual.ensures (λ e is.
     let broke = c.in_err-values.ensures.err in
     let calls = broke.calls in
     let same : e ≡ c.in_err-values.field-0.0 = search rules in
@@ -53,7 +54,8 @@ returns-in_err-values-clause-maps g c =
 
 pub returns-in_err-data-clause-maps : goal.returns-in_err-data-clause-maps
 returns-in_err-data-clause-maps g c =
-    handed_on (MapsInTurn (goal.F-step g) c.args.f g.T.TrieValue.of_number g.P.TrieValue.number c.args.self.now) c.from_residual-in_err-data.result c.from_residual-in_err-data.ensures (λ e is.
+    handed_on (MapsInTurn (goal.F-step g) c.args.f g.T.TrieValue.of_number g.P.TrieValue.number c.args.self.now)
+    c.from_residual-in_err-data.result c.from_residual-in_err-data.ensures (λ e is.
     let all = c.in_ok-values.ensures.ok in
     let calls = all.calls in
     rw (← c.self.view_is) (record {
@@ -70,7 +72,8 @@ returns-in_err-data-clause-maps g c =
 
 pub returns-in_err-index-clause-maps : goal.returns-in_err-index-clause-maps
 returns-in_err-index-clause-maps g c =
-    handed_on (MapsInTurn (goal.F-step g) c.args.f g.T.TrieValue.of_number g.P.TrieValue.number c.args.self.now) c.from_residual-in_err-index.result c.from_residual-in_err-index.ensures (λ e is.
+    handed_on (MapsInTurn (goal.F-step g) c.args.f g.T.TrieValue.of_number g.P.TrieValue.number c.args.self.now)
+    c.from_residual-in_err-index.result c.from_residual-in_err-index.ensures (λ e is.
     let all = c.in_ok-values.ensures.ok in
     let calls = all.calls in
     rw (← c.self.view_is) (record {
@@ -90,7 +93,12 @@ returns-clause-maps g c =
     let all = c.in_ok-values.ensures.ok in
     let calls = all.calls in
     let whole = all.whole in
-    let trie : c.with_data.result ≡ record { header = with_null_value c.self.inside.header (g.P.TrieValue.number c.in-Ok-f.null); index = c.self.inside.index; values = c.in_ok-values.values.items } = search rules in
+    let trie : c.with_data.result ≡ record {
+      header = with_null_value c.self.inside.header (g.P.TrieValue.number c.in-Ok-f.null);
+      index =
+          c.self.inside.index;
+      values = c.in_ok-values.values.items;
+    } = search rules in
     rw (← c.self.view_is) (record {
       error = c.self.inside.error_value;
       error_is = c.self.invariant.0;
@@ -109,9 +117,16 @@ returns-clause-same g c = λ h always u.
     let calls = all.calls in
     let whole = all.whole in
     let same : length c.in_ok-values.values.items ≡ length c.self.inside.«data» = rw c.as_slice.ensures at whole in
-    let mapped = answers-by (goal.F-step g) h always c.f-2.new.self c.self.inside.«data» c.in_ok-values.values.items all.last (rw c.as_slice.ensures at calls) same in
-    let trie : c.with_data.result ≡ record { header = with_null_value c.self.inside.header (g.P.TrieValue.number c.in-Ok-f.null); index = c.self.inside.index; values = c.in_ok-values.values.items } = search rules in
-    rw (← c.self.view_is, trie) (answers-mapped h c.self.inside.header c.self.inside.index c.self.inside.«data» c.in_ok-values.values.items (g.P.TrieValue.number c.in-Ok-f.null) mapped same u)
+    let mapped = answers-by (goal.F-step g) h always c.f-2.new.self c.self.inside.«data» c.in_ok-values.values.items all.last
+    (rw c.as_slice.ensures at calls) same in
+    let trie : c.with_data.result ≡ record {
+      header = with_null_value c.self.inside.header (g.P.TrieValue.number c.in-Ok-f.null);
+      index =
+          c.self.inside.index;
+      values = c.in_ok-values.values.items;
+    } = search rules in
+    rw (← c.self.view_is, trie) (answers-mapped h c.self.inside.header c.self.inside.index c.self.inside.«data» c.in_ok-values.values.items
+    (g.P.TrieValue.number c.in-Ok-f.null) mapped same u)
 
 pub returns-clause-value : goal.returns-clause-value
 returns-clause-value g c = λ h always u.
@@ -119,9 +134,16 @@ returns-clause-value g c = λ h always u.
     let calls = all.calls in
     let whole = all.whole in
     let same : length c.in_ok-values.values.items ≡ length c.self.inside.«data» = rw c.as_slice.ensures at whole in
-    let mapped = answers-by (goal.F-step g) h always c.f-2.new.self c.self.inside.«data» c.in_ok-values.values.items all.last (rw c.as_slice.ensures at calls) same in
-    let trie : c.with_data.result ≡ record { header = with_null_value c.self.inside.header (g.P.TrieValue.number c.in-Ok-f.null); index = c.self.inside.index; values = c.in_ok-values.values.items } = search rules in
-    rw (← c.self.view_is, trie) (value-mapped h c.self.inside.header c.self.inside.index c.self.inside.«data» c.in_ok-values.values.items (g.P.TrieValue.number c.in-Ok-f.null) mapped same u)
+    let mapped = answers-by (goal.F-step g) h always c.f-2.new.self c.self.inside.«data» c.in_ok-values.values.items all.last
+    (rw c.as_slice.ensures at calls) same in
+    let trie : c.with_data.result ≡ record {
+      header = with_null_value c.self.inside.header (g.P.TrieValue.number c.in-Ok-f.null);
+      index =
+          c.self.inside.index;
+      values = c.in_ok-values.values.items;
+    } = search rules in
+    rw (← c.self.view_is, trie) (value-mapped h c.self.inside.header c.self.inside.index c.self.inside.«data» c.in_ok-values.values.items
+    (g.P.TrieValue.number c.in-Ok-f.null) mapped same u)
 
 pub returns-clause-coherent : goal.returns-clause-coherent
 returns-clause-coherent g c = λ h always coherent.
@@ -129,11 +151,18 @@ returns-clause-coherent g c = λ h always coherent.
     let calls = all.calls in
     let whole = all.whole in
     let same : length c.in_ok-values.values.items ≡ length c.self.inside.«data» = rw c.as_slice.ensures at whole in
-    let mapped = answers-by (goal.F-step g) h always c.f-2.new.self c.self.inside.«data» c.in_ok-values.values.items all.last (rw c.as_slice.ensures at calls) same in
-    let trie : c.with_data.result ≡ record { header = with_null_value c.self.inside.header (g.P.TrieValue.number c.in-Ok-f.null); index = c.self.inside.index; values = c.in_ok-values.values.items } = search rules in
+    let mapped = answers-by (goal.F-step g) h always c.f-2.new.self c.self.inside.«data» c.in_ok-values.values.items all.last
+    (rw c.as_slice.ensures at calls) same in
+    let trie : c.with_data.result ≡ record {
+      header = with_null_value c.self.inside.header (g.P.TrieValue.number c.in-Ok-f.null);
+      index =
+          c.self.inside.index;
+      values = c.in_ok-values.values.items;
+    } = search rules in
     let before = rw (← c.self.view_is) at coherent in
     let null_is = rw (← c.self.view_is) at c.null_value-null_value.ensures in
     let null = always c.f.new.self c.null_value-null_value.result (Ok c.in-Ok-f.null) c.f-2.new.self c.in-Ok-f.ensures in
     let after = g.met.P.TrieValue.number_gives_back c.in-Ok-f.null c.shown.ensures in
-    rw trie (IsCoherent-mapped h c.self.inside.header c.self.inside.index c.self.inside.«data» c.in_ok-values.values.items (g.P.TrieValue.number c.in-Ok-f.null) mapped same
+    rw trie (IsCoherent-mapped h c.self.inside.header c.self.inside.index c.self.inside.«data» c.in_ok-values.values.items
+    (g.P.TrieValue.number c.in-Ok-f.null) mapped same
     g.T.TrieValue.of_number g.P.TrieValue.of_number c.null_value-null_value.result c.in-Ok-f.null null_is after (sym null) before)

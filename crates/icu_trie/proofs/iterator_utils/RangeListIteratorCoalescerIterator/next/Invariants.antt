@@ -10,8 +10,10 @@ use Rattle.icu_trie.proofs.iterator_utils.RangeListIteratorCoalescerIterator.nex
 -- what is still to come is joined to the range so far
 abbrev pub invariant-loop-next : goal.invariant-loop-next
 invariant-loop-next g l =
-    Partway g.I.Iterator coalescer_source (λ s (k : ⊤). ⊤) (λ k. coalescer_gives g.U.PartialEq.eq) l.fn.self l.self.iter (λ k. ⊤) (λ k. joined_ranges_from g.U.PartialEq.eq l.range)
-    × ((l.self.peek ≡ None) × IsFinite (fuse_left g.I.Iterator.remaining l.self.iter) × (size (fuse_left g.I.Iterator.remaining l.self.iter) ≤ size (fuse_left g.I.Iterator.remaining l.initial.self.iter)))
+    Partway g.I.Iterator coalescer_source (λ s (k : ⊤). ⊤) (λ k. coalescer_gives g.U.PartialEq.eq) l.fn.self l.self.iter (λ k. ⊤)
+    (λ k. joined_ranges_from g.U.PartialEq.eq l.range)
+    × ((l.self.peek ≡ None) × IsFinite (fuse_left g.I.Iterator.remaining l.self.iter)
+    × (size (fuse_left g.I.Iterator.remaining l.self.iter) ≤ size (fuse_left g.I.Iterator.remaining l.initial.self.iter)))
 
 abbrev pub decreases-loop-next : goal.decreases-loop-next
 decreases-loop-next g l = size (fuse_left g.I.Iterator.remaining l.self.iter)

@@ -16,7 +16,9 @@ loop-range-preserved g c =
       omega (arith, moves, first, up, before),
       (
         inv.2.0 ++ c.in-Some.range ∷ [],
-        Yields-one_more (GivesNextRange g.T.TrieValue.of_number) c.args.self.now.ranges inv.2.0 c.loop-range.self.ranges c.in-Some.range c.next.new.self inv.2.1 step,
-        passed_more g.T.PartialEq.eq c.args.self.now.value inv.2.0 c.in-Some.range inv.2.2 (let e = inv.0 in let r = c.eq.ensures in let f = c.if-eq.false in cc),
+        Yields-one_more (GivesNextRange g.T.TrieValue.of_number) c.args.self.now.ranges inv.2.0 c.loop-range.self.ranges c.in-Some.range
+            c.next.new.self inv.2.1 step,
+        passed_more g.T.PartialEq.eq c.args.self.now.value inv.2.0 c.in-Some.range inv.2.2 (let e = inv.0 in let r = c.eq.ensures in
+            let f = c.if-eq.false in cc),
       ),
     )

@@ -5,7 +5,8 @@ use Rattle.icu_trie_builder.proofs.BuilderLemmas.{all_numbers}
 use Rattle.icu_trie_builder.proofs.builder.CodePointTrieBuilder.get.Goals as goal
 
 pub returns-then-c-ge-CODE_POINT_LIMIT : goal.returns-then-c-ge-CODE_POINT_LIMIT
-returns-then-c-ge-CODE_POINT_LIMIT g c = ap (λ (m : CodePointMap g.row.T.Denot). m.error) c.self.view_is ∙ sym (map_answer-above c.args.self.now c.args.c (omega arith))
+returns-then-c-ge-CODE_POINT_LIMIT g c = ap (λ (m : CodePointMap g.row.T.Denot). m.error) c.self.view_is
+    ∙ sym (map_answer-above c.args.self.now c.args.c (omega arith))
 
 pub value_of_number-requires : goal.value_of_number-requires
 value_of_number-requires g c =
@@ -14,5 +15,7 @@ value_of_number-requires g c =
 
 pub returns : goal.returns
 returns g c =
-    let own = number_value-is g.T.TrieValue.of_number c.self.inside.default c.self.inside.numbers c.args.c c.get.result c.value_of_number.result (omega (arith, c.self.invariant.whole)) (sym c.get.ensures) c.value_of_number.ensures in
-    sym own ∙ ap (λ (m : CodePointMap g.row.T.Denot). map_value m c.args.c) c.self.view_is ∙ sym (map_answer-inside c.args.self.now c.args.c (omega arith))
+    let own = number_value-is g.T.TrieValue.of_number c.self.inside.default c.self.inside.numbers c.args.c c.get.result
+    c.value_of_number.result (omega (arith, c.self.invariant.whole)) (sym c.get.ensures) c.value_of_number.ensures in
+    sym own ∙ ap (λ (m : CodePointMap g.row.T.Denot). map_value m c.args.c) c.self.view_is
+    ∙ sym (map_answer-inside c.args.self.now c.args.c (omega arith))

@@ -19,9 +19,11 @@ returns-clause-table c =
     let heads = t.heads.items in
     let i : ℕ = c.bucket_of-bucket.result in
     let part = part-window t.size t.entered cells in
-    let head : c.index-newest.result.now ≡ get_or heads i 0 = get_or_read heads i c.index-newest.result.now c.bucket_of-bucket.ensures.below c.index-newest.ensures 0 in
+    let head : c.index-newest.result.now ≡ get_or heads i 0 =
+    get_or_read heads i c.index-newest.result.now c.bucket_of-bucket.ensures.below c.index-newest.ensures 0 in
     let starts : c.push.new.self.items ≡ t.starts.items ++ t.entered ∷ [] = c.in_ok-push.ensures.items in
-    let next : c.push-2.new.self.items ≡ t.next.items ++ (get_or heads i 0) ∷ [] = c.in_ok-push-2.ensures.items ∙ ap (λ x. t.next.items ++ x ∷ []) head in
+    let next : c.push-2.new.self.items ≡ t.next.items ++ (get_or heads i 0) ∷ [] =
+    c.in_ok-push-2.ensures.items ∙ ap (λ x. t.next.items ++ x ∷ []) head in
     let held : c.len.result ≡ length c.push.new.self.items = search rules in
     let len : c.len.result ≡ length t.starts.items + 1 = held ∙ ap length starts ∙ length-append t.starts.items (t.entered ∷ []) in
     let heads' : c.set_head.new.heads.items ≡ set heads i (length t.starts.items + 1) = c.set_head.ensures ∙ ap (λ x. set heads i x) len in

@@ -6,7 +6,8 @@ use Rattle.icu_trie_compaction.proofs.window_table.WindowTable.find.Given as goa
 abbrev pub invariant-loop-at : goal.invariant-loop-at
 invariant-loop-at l = record {
   bound : l.at ≤ entry_count l.self;
-  own : (e : ℕ) → l.at ≡ e + 1 → bucket (length l.self.heads.items) (entry l.self.size l.self.starts.items l.cells e) ≡ bucket (length l.self.heads.items) l.wanted;
+  own : (e : ℕ) → l.at ≡ e + 1 → bucket (length l.self.heads.items) (entry l.self.size l.self.starts.items l.cells e)
+      ≡ bucket (length l.self.heads.items) l.wanted;
   all : (e : ℕ) → e < entry_count l.self → entry l.self.size l.self.starts.items l.cells e ≡ l.wanted → e < l.at;
 }
 

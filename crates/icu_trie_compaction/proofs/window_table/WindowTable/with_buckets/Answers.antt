@@ -3,4 +3,5 @@ use Rattle.icu_trie_compaction.proofs.TableLemmas.{table-none}
 use Rattle.icu_trie_compaction.proofs.window_table.WindowTable.with_buckets.Goals as goal
 
 pub returns-clause-table : goal.returns-clause-table
-returns-clause-table c = λ cells. table-none cells _ c.requires.some_cells (search rules) (search rules) (search rules) (search rules) (search rules) (search rules) (search rules)
+returns-clause-table c = λ cells. table-none cells _ c.requires.some_cells (search rules) (search rules) (search rules) (search rules)
+    (search rules) (search rules) (search rules)

@@ -6,4 +6,8 @@ use Rattle.icu_zerovec.proofs.iter.Iter.from_packed.Goals as goal
 
 pub returns-clause-bound : goal.returns-clause-bound
 returns-clause-bound g c =
-    omega (arith, length-values_of g.T.AsULE.unpack g.T.AsULE.WIDTH c.args.bytes.now c.requires, div-le_self (length c.args.bytes.now) g.T.AsULE.WIDTH)
+    omega (
+      arith,
+      length-values_of g.T.AsULE.unpack g.T.AsULE.WIDTH c.args.bytes.now c.requires,
+      div-le_self (length c.args.bytes.now) g.T.AsULE.WIDTH,
+    )

@@ -8,4 +8,5 @@ use Rattle.icu_zerovec.proofs.vec.ZeroVec.alloc_from_slice.Goals as goal
 
 pub returns : goal.returns
 returns g c =
-    sym (map-id _) ∙ drained_list _ c.in_ok-vector.ensures (YieldsList-from_copied (YieldsList-at c.copied.ensures.source (YieldsList-from_slice c.args.values.now cc)))
+    sym (map-id _) ∙ drained_list _ c.in_ok-vector.ensures
+    (YieldsList-from_copied (YieldsList-at c.copied.ensures.source (YieldsList-from_slice c.args.values.now cc)))

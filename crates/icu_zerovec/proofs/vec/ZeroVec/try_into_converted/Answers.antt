@@ -11,7 +11,8 @@ returns-in_err-test-clause-err g c =
     let T = g.T.AsULE in
     λ one.
     let e : bytes_of c.self.inside.store ≡ flat_map T.pack c.args.self =
-    sym (flat_map-values_of T.unpack T.WIDTH T.pack one (bytes_of c.self.inside.store) c.self.invariant) ∙ ap (flat_map T.pack) c.self.view_is in
+    sym (flat_map-values_of T.unpack T.WIDTH T.pack one (bytes_of c.self.inside.store) c.self.invariant)
+    ∙ ap (flat_map T.pack) c.self.view_is in
     rw (← e) (rw (← c.bytes.ensures) (search rules))
 
 pub returns-clause-ok : goal.returns-clause-ok
@@ -20,7 +21,8 @@ returns-clause-ok g c =
     let P = g.P.AsULE in
     λ one.
     let e : bytes_of c.self.inside.store ≡ flat_map T.pack c.args.self =
-    sym (flat_map-values_of T.unpack T.WIDTH T.pack one (bytes_of c.self.inside.store) c.self.invariant) ∙ ap (flat_map T.pack) c.self.view_is in
+    sym (flat_map-values_of T.unpack T.WIDTH T.pack one (bytes_of c.self.inside.store) c.self.invariant)
+    ∙ ap (flat_map T.pack) c.self.view_is in
     ap (values_of P.unpack P.WIDTH) e
 
 pub returns-clause-keeps : goal.returns-clause-keeps
@@ -29,5 +31,6 @@ returns-clause-keeps g c =
     let P = g.P.AsULE in
     λ one also.
     let e : bytes_of c.self.inside.store ≡ flat_map T.pack c.args.self =
-    sym (flat_map-values_of T.unpack T.WIDTH T.pack one (bytes_of c.self.inside.store) c.self.invariant) ∙ ap (flat_map T.pack) c.self.view_is in
+    sym (flat_map-values_of T.unpack T.WIDTH T.pack one (bytes_of c.self.inside.store) c.self.invariant)
+    ∙ ap (flat_map T.pack) c.self.view_is in
     flat_map-values_of P.unpack P.WIDTH P.pack also (bytes_of c.self.inside.store) (rw (← c.bytes.ensures) c.in_ok-test.ensures.ok) ∙ e

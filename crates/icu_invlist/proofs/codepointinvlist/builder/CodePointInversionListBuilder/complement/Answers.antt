@@ -11,7 +11,8 @@ turned : (b : Bool) → one_of b true ≡ not b
 turned true = refl
 turned false = refl
 
-all_turned : (old new : List ℕ) → Acts one_of old (between 0 code_point_limit) new → (n : ℕ) → n < code_point_limit → holds new n ≡ not (holds old n)
+all_turned : (old new : List ℕ) → Acts one_of old (between 0 code_point_limit) new → (n : ℕ) → n < code_point_limit
+    → holds new n ≡ not (holds old n)
 all_turned old new acts n h = acts n h ∙ (ap (one_of (holds old n)) (in_range 0 code_point_limit n (omega arith) h) ∙ turned (holds old n))
 
 pub returns-clause-twice : goal.returns-clause-twice

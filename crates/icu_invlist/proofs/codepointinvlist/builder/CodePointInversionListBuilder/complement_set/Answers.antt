@@ -10,11 +10,13 @@ twice true false = refl
 twice false true = refl
 twice false false = refl
 
-back : (old mid new : List ℕ) (named : ℕ → Bool) → IsValid new → IsValid old → Acts one_of old named mid → Acts one_of mid named new → new ≡ old
+back : (old mid new : List ℕ) (named : ℕ → Bool) → IsValid new → IsValid old → Acts one_of old named mid → Acts one_of mid named new
+    → new ≡ old
 back old mid new named v w first second =
     same_sets new old v w (λ n h. second n h ∙ (ap (λ z. one_of z (named n)) (first n h) ∙ twice (holds old n) (named n)))
 
 pub returns-clause-twice : goal.returns-clause-twice
 returns-clause-twice c = on_ok_weaker c.change.result
-    (λ acts ends v h. back c.self.inside.ends.items c.change.new.ends.items ends (holds c.args.set.now) v c.self.invariant acts h ∙ c.self.view_is)
+    (λ acts ends v h. back c.self.inside.ends.items c.change.new.ends.items ends (holds c.args.set.now) v c.self.invariant acts h
+    ∙ c.self.view_is)
     c.change.ensures.ok

@@ -8,4 +8,5 @@ pub returns-clause-held : goal.returns-clause-held
 returns-clause-held c = ap is_odd c.place_of.ensures.place ∙ sym (holds-ends_below _ c.args.c)
 
 pub returns-clause-far : goal.returns-clause-far
-returns-clause-far c = λ h. ap is_odd c.place_of.ensures.place ∙ (sym (holds-ends_below _ c.args.c) ∙ not_past_limit _ c.args.c c.place_of.ensures.valid h)
+returns-clause-far c = λ h. ap is_odd c.place_of.ensures.place
+    ∙ (sym (holds-ends_below _ c.args.c) ∙ not_past_limit _ c.args.c c.place_of.ensures.valid h)

@@ -19,15 +19,20 @@ returns-then-not-is_valid_slice-clause-only c = λ items ends d s v.
 pub returns-clause-ok : goal.returns-clause-ok
 returns-clause-ok c =
     let v = c.is_valid_slice.ensures.0 c.if-not-is_valid_slice.false in
-    let e = c.in-Ok.ensures ∙ c.deref-2.ensures.value in
-    (rw e c.in_ok-ends.ensures, rw e (said (view c.args.value.now) c.in_ok-ends.ends.items c.in_ok-ends.ensures), rw e (rw c.deref.ensures.value at v))
+    let e = c.in-Ok.ensures ∙ c.deref-2.ensures.value in (
+      rw e c.in_ok-ends.ensures,
+      rw e (said (view c.args.value.now) c.in_ok-ends.ends.items c.in_ok-ends.ensures),
+      rw e (rw c.deref.ensures.value at v),
+    )
 
 pub returns-clause-only : goal.returns-clause-only
-returns-clause-only c = λ items ends d s v. c.in-Ok.ensures ∙ (c.deref-2.ensures.value ∙ said_alone _ items c.in_ok-ends.ends.items ends c.in_ok-ends.ensures d s)
+returns-clause-only c = λ items ends d s v. c.in-Ok.ensures
+    ∙ (c.deref-2.ensures.value ∙ said_alone _ items c.in_ok-ends.ends.items ends c.in_ok-ends.ensures d s)
 
 pub returns-in_err-ends-clause-says_none : goal.returns-in_err-ends-clause-says_none
 returns-in_err-ends-clause-says_none c =
-    let k : SaysNone (view c.args.value.now) c.in_err-ends.field-0.0 = given_none (view c.args.value.now) c.in_err-ends.field-0.0 c.in_err-ends.ensures in search rules
+    let k : SaysNone (view c.args.value.now) c.in_err-ends.field-0.0 =
+    given_none (view c.args.value.now) c.in_err-ends.field-0.0 c.in_err-ends.ensures in search rules
 
 pub returns-then-not-is_valid_slice-clause-says_none : goal.returns-then-not-is_valid_slice-clause-says_none
 returns-then-not-is_valid_slice-clause-says_none c =

@@ -11,13 +11,20 @@ loop-i-preserved c =
     let v = c.count-count.ensures.valid in
     let start = c.end_at.ensures.end in
     let end = c.end_at-in-loop-i.ensures.end in
-    let inside : c.loop-i.i + 1 < length c.args.other.now = last_of_pair c.args.other.now c.loop-i.i v c.loop-i.invariant.before.even (let t = c.loop-i-test.true in let k = c.count-count.ensures.count in omega arith) in
+    let inside : c.loop-i.i + 1 < length c.args.other.now =
+    last_of_pair c.args.other.now c.loop-i.i v c.loop-i.invariant.before.even (let t = c.loop-i-test.true in
+    let k = c.count-count.ensures.count in omega arith) in
     let rises : c.end_at.result < c.end_at-in-loop-i.result = (let a = v.ascending c.loop-i.i inside in omega arith) in
     record {
-      before = holds_more c.args.other.now c.args.self.now c.loop-i.i c.loop-i.invariant.before (rw (← start, ← end) ((c.reaches.ensures c.end_at.result c.place_from-place.ensures.place rises).0 c.if-not-reaches.false));
-      from = λ h. (let r = run-rises 0 (suc code_point_limit) c.args.other.now (run_from_valid c.args.other.now v) c.loop-i.i (c.loop-i.i + 2) 0 (omega arith) h in
+      before = holds_more c.args.other.now c.args.self.now c.loop-i.i c.loop-i.invariant.before
+          (rw (← start, ← end) ((c.reaches.ensures c.end_at.result c.place_from-place.ensures.place rises).0 c.if-not-reaches.false));
+      from =
+          λ h.
+          (let r = run-rises 0 (suc code_point_limit) c.args.other.now (run_from_valid c.args.other.now v) c.loop-i.i (c.loop-i.i + 2) 0
+          (omega arith) h in
           let p = c.place_from-place.ensures.place in
-          let m = ends_below-mono c.args.self.now (suc c.end_at.result) (suc (get_or c.args.other.now (c.loop-i.i + 2) 0)) (omega arith) in omega arith);
+          let m = ends_below-mono c.args.self.now (suc c.end_at.result) (suc (get_or c.args.other.now (c.loop-i.i + 2) 0)) (omega arith) in
+          omega arith);
     }
 
 pub returns-then-not-reaches : goal.returns-then-not-reaches
@@ -25,7 +32,9 @@ returns-then-not-reaches c =
     let v = c.count-count.ensures.valid in
     let start = c.end_at.ensures.end in
     let end = c.end_at-in-loop-i.ensures.end in
-    let inside : c.loop-i.i + 1 < length c.args.other.now = last_of_pair c.args.other.now c.loop-i.i v c.loop-i.invariant.before.even (let t = c.loop-i-test.true in let k = c.count-count.ensures.count in omega arith) in
+    let inside : c.loop-i.i + 1 < length c.args.other.now =
+    last_of_pair c.args.other.now c.loop-i.i v c.loop-i.invariant.before.even (let t = c.loop-i-test.true in
+    let k = c.count-count.ensures.count in omega arith) in
     let rises : c.end_at.result < c.end_at-in-loop-i.result = (let a = v.ascending c.loop-i.i inside in omega arith) in (
       λ t. absurd (false≢true t),
       λ sub. absurd (both_ways _ c.if-not-reaches.true
@@ -35,6 +44,7 @@ returns-then-not-reaches c =
 
 pub returns : goal.returns
 returns c = (
-  λ t. holds_whole c.args.other.now c.args.self.now c.loop-i.i c.loop-i.invariant.before c.count-count.ensures.valid (omega (arith, c.count-count.ensures.count)),
+  λ t. holds_whole c.args.other.now c.args.self.now c.loop-i.i c.loop-i.invariant.before c.count-count.ensures.valid
+      (omega (arith, c.count-count.ensures.count)),
   λ sub. refl,
 )

@@ -11,18 +11,25 @@ use Rattle.icu_invlist.proofs.codepointinvlist.cpinvlist.CodePointInversionList.
 gaps_apart : (ends : List ℕ) → IsValid ends → AreApart (ranges_of (complement_of ends))
 gaps_apart ends v = ranges_apart (complement_of ends) (complement_valid ends v)
 
-gaps_hold : (ends : List ℕ) (n : ℕ) → IsValid ends → n < code_point_limit → in_ranges (ranges_of (complement_of ends)) n ≡ not (holds ends n)
+gaps_hold : (ends : List ℕ) (n : ℕ) → IsValid ends → n < code_point_limit
+    → in_ranges (ranges_of (complement_of ends)) n ≡ not (holds ends n)
 gaps_hold ends n v h = ranges_hold (complement_of ends) n (complement_valid ends v) ∙ complement-holds ends n v h
 
-from_zero : (c : goal.After-start_of_gap-start) → gaps_left c.start_of_gap-start.result c.next-then-contains32.new.self ≡ complement_of c.self.inside.ends
+from_zero : (c : goal.After-start_of_gap-start)
+    → gaps_left c.start_of_gap-start.result c.next-then-contains32.new.self ≡ complement_of c.self.inside.ends
 from_zero c = rw c.start_of_gap-start.ensures
-    (gaps_from_zero c.self.inside.ends c.next.new.self c.next-then-contains32.new.self c.next.result c.next-then-contains32.result c.self.invariant
-    (rw c.self.view_is (sym c.contains32.ensures.held ∙ c.if-contains32.true)) (rw c.iter-ends.ensures.items at c.next.ensures.steps) c.next-then-contains32.ensures.steps)
+    (gaps_from_zero c.self.inside.ends c.next.new.self c.next-then-contains32.new.self c.next.result c.next-then-contains32.result
+    c.self.invariant
+    (rw c.self.view_is (sym c.contains32.ensures.held ∙ c.if-contains32.true))
+    (rw c.iter-ends.ensures.items at c.next.ensures.steps) c.next-then-contains32.ensures.steps)
 
-given_from_zero : (c : goal.After-from_gap) → gaps_left c.start_of_gap-start.result c.next-then-contains32.new.self ≡ complement_of c.self.inside.ends
+given_from_zero : (c : goal.After-from_gap)
+    → gaps_left c.start_of_gap-start.result c.next-then-contains32.new.self ≡ complement_of c.self.inside.ends
 given_from_zero c = rw c.start_of_gap-start.ensures
-    (gaps_from_zero c.self.inside.ends c.next.new.self c.next-then-contains32.new.self c.next.result c.next-then-contains32.result c.self.invariant
-    (rw c.self.view_is (sym c.contains32.ensures.held ∙ c.if-contains32.true)) (rw c.iter-ends.ensures.items at c.next.ensures.steps) c.next-then-contains32.ensures.steps)
+    (gaps_from_zero c.self.inside.ends c.next.new.self c.next-then-contains32.new.self c.next.result c.next-then-contains32.result
+    c.self.invariant
+    (rw c.self.view_is (sym c.contains32.ensures.held ∙ c.if-contains32.true))
+    (rw c.iter-ends.ensures.items at c.next.ensures.steps) c.next-then-contains32.ensures.steps)
 
 from_start : (c : goal.Else-contains32) → 0 ∷ toggle_back c.iter-ends.result ≡ complement_of c.self.inside.ends
 from_start c = rw c.iter-ends.ensures.items
@@ -57,10 +64,12 @@ pub returns-clause-valid : goal.returns-clause-valid
 returns-clause-valid c = rw (← c.self.view_is) (complement_valid c.self.inside.ends c.self.invariant)
 
 pub returns-then-contains32-clause-within : goal.returns-then-contains32-clause-within
-returns-then-contains32-clause-within c = rw (← c.self.view_is) (ranges_within (complement_of c.self.inside.ends) (complement_valid c.self.inside.ends c.self.invariant))
+returns-then-contains32-clause-within c = rw (← c.self.view_is)
+    (ranges_within (complement_of c.self.inside.ends) (complement_valid c.self.inside.ends c.self.invariant))
 
 pub returns-clause-within : goal.returns-clause-within
-returns-clause-within c = rw (← c.self.view_is) (ranges_within (complement_of c.self.inside.ends) (complement_valid c.self.inside.ends c.self.invariant))
+returns-clause-within c = rw (← c.self.view_is)
+    (ranges_within (complement_of c.self.inside.ends) (complement_valid c.self.inside.ends c.self.invariant))
 
 pub returns-then-contains32-clause-apart : goal.returns-then-contains32-clause-apart
 returns-then-contains32-clause-apart c = rw (← c.self.view_is) (gaps_apart c.self.inside.ends c.self.invariant)

@@ -4,12 +4,14 @@ use Rattle.icu_invlist.proofs.PlaceLemmas.{valid-length, place_front, place_behi
 use Rattle.icu_invlist.proofs.codepointinvlist.cpinvlist.CodePointInversionList.place_from.Goals as goal
 
 pub overflow_add-from : goal.overflow_add-from
-overflow_add-from c = let l = valid-length c.args.self.now c.count-count.ensures.valid in let b = ends_below-le c.args.self.now (suc c.args.c) in let r = c.requires in omega arith
+overflow_add-from c = let l = valid-length c.args.self.now c.count-count.ensures.valid in
+    let b = ends_below-le c.args.self.now (suc c.args.c) in let r = c.requires in omega arith
 
 pub returns-then-c-end_at-clause-place : goal.returns-then-c-end_at-clause-place
 returns-then-c-end_at-clause-place c =
     let i = c.loop-place.invariant in
-    let f = place_front c.args.self.now c.loop-place.place c.args.c c.count-count.ensures.valid (let e = c.end_at.ensures.end in let t = c.if-c-end_at.true in omega arith) in omega arith
+    let f = place_front c.args.self.now c.loop-place.place c.args.c c.count-count.ensures.valid (let e = c.end_at.ensures.end in
+    let t = c.if-c-end_at.true in omega arith) in omega arith
 
 pub loop-place-preserved : goal.loop-place-preserved
 loop-place-preserved c = place_behind c.args.self.now c.loop-place.place c.args.c c.count-count.ensures.valid

@@ -9,23 +9,29 @@ place_between-requires-clause-to c = place_front c.args.self.now 16 c.args.c c.c
     (let e = c.end_at-then-count-gt16.ensures.end in let h = c.if-c-end_at-2.true in omega arith)
 
 pub place_between-requires-else-count-gt16-clause-to : goal.place_between-requires-else-count-gt16-clause-to
-place_between-requires-else-count-gt16-clause-to c = let b = ends_below-le c.args.self.now (suc c.args.c) in let e = c.count-count.ensures.count in omega arith
+place_between-requires-else-count-gt16-clause-to c = let b = ends_below-le c.args.self.now (suc c.args.c) in
+    let e = c.count-count.ensures.count in omega arith
 
 pub returns-then-count-le4-clause-within : goal.returns-then-count-le4-clause-within
-returns-then-count-le4-clause-within c = let b = ends_below-le c.args.self.now (suc c.args.c) in let e = c.place_of_few.ensures in omega arith
+returns-then-count-le4-clause-within c = let b = ends_below-le c.args.self.now (suc c.args.c) in let e = c.place_of_few.ensures in
+    omega arith
 
 pub returns-then-c-end_at-clause-place : goal.returns-then-c-end_at-clause-place
 returns-then-c-end_at-clause-place c =
-    let p = place_front c.args.self.now 0 c.args.c c.count-count.ensures.valid (let e = c.end_at.ensures.end in let t = c.if-c-end_at.true in omega arith) in omega arith
+    let p = place_front c.args.self.now 0 c.args.c c.count-count.ensures.valid (let e = c.end_at.ensures.end in
+    let t = c.if-c-end_at.true in omega arith) in omega arith
 
 pub returns-then-end_at-c-clause-place : goal.returns-then-end_at-c-clause-place
 returns-then-end_at-c-clause-place c =
     let e = c.count-count.ensures.count in
-    all_below c.args.self.now c.count-count.result (suc c.args.c) (run_from_valid c.args.self.now c.count-count.ensures.valid) e (omega arith)
+    all_below c.args.self.now c.count-count.result (suc c.args.c)
+    (run_from_valid c.args.self.now c.count-count.ensures.valid) e (omega arith)
     (let k = c.end_at-else-c-end_at.ensures.end in let h = c.if-end_at-c.true in omega arith)
 
 pub returns-then-c-end_at-2-clause-within : goal.returns-then-c-end_at-2-clause-within
-returns-then-c-end_at-2-clause-within c = let b = ends_below-le c.args.self.now (suc c.args.c) in let e = c.place_between.ensures.place in omega arith
+returns-then-c-end_at-2-clause-within c = let b = ends_below-le c.args.self.now (suc c.args.c) in let e = c.place_between.ensures.place in
+    omega arith
 
 pub returns-else-count-gt16-clause-within : goal.returns-else-count-gt16-clause-within
-returns-else-count-gt16-clause-within c = let b = ends_below-le c.args.self.now (suc c.args.c) in let e = c.place_between-else-count-gt16.ensures.place in omega arith
+returns-else-count-gt16-clause-within c = let b = ends_below-le c.args.self.now (suc c.args.c) in
+    let e = c.place_between-else-count-gt16.ensures.place in omega arith

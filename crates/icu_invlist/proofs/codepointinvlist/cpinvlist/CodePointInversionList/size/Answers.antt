@@ -9,7 +9,8 @@ pub overflow_add-size : goal.overflow_add-size
 overflow_add-size c =
     let v = c.count-count.ensures.valid in
     let n = c.count-count.ensures.count in
-    let t = total-more c.args.self.now c.loop-i.i c.loop-i.invariant.even (let a = v.even in let b = c.loop-i.invariant.even in omega arith) in
+    let t = total-more c.args.self.now c.loop-i.i c.loop-i.invariant.even (let a = v.even in let b = c.loop-i.invariant.even in
+    omega arith) in
     let b = total-le 0 (suc code_point_limit) c.args.self.now (omega arith) (run_from_valid _ v) in
     omega (arith, c.end_at.ensures.end, c.end_at-in-loop-i.ensures.end)
 

@@ -32,18 +32,22 @@ pub returns-then-contains-held-clause-place : goal.returns-then-contains-held-cl
 returns-then-contains-held-clause-place c =
     let scalar : IsScalar c.in-Some.c = c.shown.ensures in
     rw c.loop-c.invariant.place
-    (back_stops (λ n. beq (holds c.args.self.now n) c.args.held) c.args.text.now c.loop-c.c-iterator.iter.rest.now c.next.new.self.iter.rest.now c.in-Some.c
+    (back_stops (λ n. beq (holds c.args.self.now n) c.args.held) c.args.text.now c.loop-c.c-iterator.iter.rest.now
+    c.next.new.self.iter.rest.now c.in-Some.c
     c.loop-c.invariant.back scalar c.in-Some.ensures.steps
     (ap (λ (b : Bool). beq b c.args.held) (sym c.contains.ensures) ∙ not-true _ c.if-contains-held.true))
 
 pub returns-then-contains-held-clause-boundary : goal.returns-then-contains-held-clause-boundary
 returns-then-contains-held-clause-boundary c = rw c.loop-c.invariant.place
-    (back_boundary (λ n. beq (holds c.args.self.now n) c.args.held) c.args.text.now c.loop-c.c-iterator.iter.rest.now c.loop-c.invariant.back)
+    (back_boundary (λ n. beq (holds c.args.self.now n) c.args.held) c.args.text.now c.loop-c.c-iterator.iter.rest.now
+    c.loop-c.invariant.back)
 
 pub returns-clause-place : goal.returns-clause-place
 returns-clause-place c = rw c.loop-c.invariant.place
-    (back_ends (λ n. beq (holds c.args.self.now n) c.args.held) c.args.text.now c.loop-c.c-iterator.iter.rest.now c.loop-c.invariant.back c.in-None.ensures.steps.0)
+    (back_ends (λ n. beq (holds c.args.self.now n) c.args.held) c.args.text.now c.loop-c.c-iterator.iter.rest.now c.loop-c.invariant.back
+    c.in-None.ensures.steps.0)
 
 pub returns-clause-boundary : goal.returns-clause-boundary
 returns-clause-boundary c = rw c.loop-c.invariant.place
-    (back_boundary (λ n. beq (holds c.args.self.now n) c.args.held) c.args.text.now c.loop-c.c-iterator.iter.rest.now c.loop-c.invariant.back)
+    (back_boundary (λ n. beq (holds c.args.self.now n) c.args.held) c.args.text.now c.loop-c.c-iterator.iter.rest.now
+    c.loop-c.invariant.back)

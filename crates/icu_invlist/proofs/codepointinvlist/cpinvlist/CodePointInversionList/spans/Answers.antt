@@ -9,7 +9,8 @@ returns-then-count-eq0 c = λ sub. absurd (no_part_of_none c.args.other.now c.ar
 
 pub returns-then-end_at : goal.returns-then-end_at
 returns-then-end_at c = λ sub.
-    let l = last_within c.args.other.now c.args.self.now c.count-others.result c.count-count.result c.count-others.ensures.valid c.count-count.ensures.valid
+    let l = last_within c.args.other.now c.args.self.now c.count-others.result c.count-count.result c.count-others.ensures.valid
+    c.count-count.ensures.valid
     c.count-others.ensures.count c.count-count.ensures.count (let k = c.count-others.ensures.count in let r = c.requires in omega arith)
     (let z = c.if-count-eq0.false in omega arith) sub in
     le-leb _ _ (let x = c.end_at-then-end_at.ensures.end in let y = c.end_at-then-end_at-2.ensures.end in omega arith)

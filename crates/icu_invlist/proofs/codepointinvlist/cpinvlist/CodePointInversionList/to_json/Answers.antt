@@ -16,7 +16,8 @@ loop-i-preserved c = record {
   even = omega (arith, c.loop-i.invariant.even);
   texts = texts_step c.args.self.now c.loop-i.items.items c.push.new.self.items _ c.loop-i.i c.end_at.result c.end_at-in-loop-i.result
       (let v = c.count-count.ensures.valid.even in let w = c.loop-i.invariant.even in let k = c.count-count.ensures.count in omega arith)
-      c.end_at.ensures.end c.end_at-in-loop-i.ensures.end c.in_ok-push.ensures.items (view-String c.in_ok-text.text ∙ ap string c.in_ok-text.ensures) c.loop-i.invariant.texts;
+      c.end_at.ensures.end c.end_at-in-loop-i.ensures.end c.in_ok-push.ensures.items
+      (view-String c.in_ok-text.text ∙ ap string c.in_ok-text.ensures) c.loop-i.invariant.texts;
 }
 
 written : (c : goal.After-loop-i) → map view c.loop-i.items.items ≡ map text_data (texts_of c.args.self.now)
@@ -26,4 +27,5 @@ pub returns-clause-ok : goal.returns-clause-ok
 returns-clause-ok c = view-Array c.loop-i.items ∙ ap (λ ds. array (items_of ds)) (written c)
 
 pub returns-clause-read_back : goal.returns-clause-read_back
-returns-clause-read_back c = ap ends_of (view-Array c.loop-i.items ∙ ap (λ ds. array (items_of ds)) (written c)) ∙ written_back c.args.self.now c.count-count.ensures.valid
+returns-clause-read_back c = ap ends_of (view-Array c.loop-i.items ∙ ap (λ ds. array (items_of ds)) (written c))
+    ∙ written_back c.args.self.now c.count-count.ensures.valid

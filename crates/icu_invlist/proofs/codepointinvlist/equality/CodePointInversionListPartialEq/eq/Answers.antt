@@ -10,14 +10,16 @@ use Rattle.icu_invlist.proofs.EqualSets.{same_sets}
 use Rattle.icu_invlist.proofs.codepointinvlist.equality.CodePointInversionListPartialEq.eq.Goals as goal
 
 -- bytes that give the lists, and that the lists give, decide whether these are equal
-decided : (values bytes : List ℕ → List ℕ) (a b xs ys : List ℕ) (r : Bool) → Decides r (a ≡ b) → xs ≡ values a → ys ≡ values b → a ≡ bytes xs → b ≡ bytes ys
+decided : (values bytes : List ℕ → List ℕ) (a b xs ys : List ℕ) (r : Bool) → Decides r (a ≡ b) → xs ≡ values a → ys ≡ values b
+    → a ≡ bytes xs → b ≡ bytes ys
     → Decides r (xs ≡ ys)
 decided values bytes a b xs ys r d p q u v = (λ t. p ∙ (ap values (d.0 t) ∙ sym q), λ e. d.1 (u ∙ (ap bytes e ∙ sym v)))
 
 by_bytes : goal.returns-clause-same
 by_bytes c =
     let d = bytes_eq-Decides c.as_bytes.result.now c.as_bytes-2.result.now in
-    decided (values_of (λ b. Some (number_of 3 b)) 3) (flat_map (low_bytes 3)) c.as_bytes.result.now c.as_bytes-2.result.now c.args.self.now c.args.other.now c.eq.result
+    decided (values_of (λ b. Some (number_of 3 b)) 3)
+    (flat_map (low_bytes 3)) c.as_bytes.result.now c.as_bytes-2.result.now c.args.self.now c.args.other.now c.eq.result
     (λ t. d.0 (sym c.eq.ensures ∙ t), λ e. c.eq.ensures ∙ d.1 e)
     (sym c.packed.ensures.ends ∙ c.as_bytes.ensures.values) (sym c.packed-2.ensures.ends ∙ c.as_bytes-2.ensures.values)
     (rw c.packed.ensures.ends at (c.as_bytes.ensures.canonical canonical_point))

@@ -4,7 +4,8 @@ use Rattle.icu_invlist.proofs.codepointinvlist.iter.IterCharsIterator.next.Given
 
 abbrev pub invariant-loop-found : goal.invariant-loop-found
 invariant-loop-found l =
-    characters_left l.initial.self-inside.next l.initial.self-inside.end l.initial.self-inside.ends ≡ characters_left l.self-inside.next l.self-inside.end l.self-inside.ends
+    characters_left l.initial.self-inside.next l.initial.self-inside.end l.initial.self-inside.ends
+    ≡ characters_left l.self-inside.next l.self-inside.end l.self-inside.ends
 
 abbrev pub decreases-loop-found : goal.decreases-loop-found
 decreases-loop-found l = length l.self-inside.ends

@@ -11,4 +11,5 @@ returns-clause-upper c = (tt, rw (← c.self.view_is) (let e = length-ranges c.s
 
 pub returns-clause-exact : goal.returns-clause-exact
 returns-clause-exact c = rw (← c.self.view_is) (let e = length-ranges c.self.inside.ends in
-    let h : c.len-len.result / 2 ≡ length (ranges_of c.self.inside.ends) = omega (arith, c.len-len.ensures.value) in (h, ap (λ (n : ℕ). Some n) h))
+    let h : c.len-len.result / 2 ≡ length (ranges_of c.self.inside.ends) = omega (arith, c.len-len.ensures.value) in
+    (h, ap (λ (n : ℕ). Some n) h))

@@ -14,9 +14,11 @@ set_value r a b xs ys h e = e ∙ strings_as_texts xs ys ∙ sym (ap (λ z. z &&
 
 value : goal.returns-then-eq-clause-value
 value c =
-    set_value c.eq-then-eq.result c.self.inside.cp_inv_list c.other.inside.cp_inv_list c.self.inside.str_list.items c.other.inside.str_list.items
+    set_value c.eq-then-eq.result c.self.inside.cp_inv_list c.other.inside.cp_inv_list c.self.inside.str_list.items
+    c.other.inside.str_list.items
     (sym c.eq.ensures.value ∙ c.if-eq.true) c.eq-then-eq.ensures
-    ∙ ap (λ s. same_set s (record { code_points = c.other.inside.cp_inv_list; strings = texts_of c.other.inside.str_list.items })) c.self.view_is
+    ∙ ap (λ s. same_set s (record { code_points = c.other.inside.cp_inv_list; strings = texts_of c.other.inside.str_list.items }))
+    c.self.view_is
     ∙ ap (λ s. same_set c.args.self.now s) c.other.view_is
 
 same : goal.returns-then-eq-clause-same
@@ -35,7 +37,8 @@ pub returns-then-eq-clause-members : goal.returns-then-eq-clause-members
 returns-then-eq-clause-members c =
     let a = c.args.self.now in
     let b = c.args.other.now in
-    let points : a.code_points ≡ b.code_points = sym (ap (λ s. s.code_points) c.self.view_is) ∙ c.eq.ensures.same.0 c.if-eq.true ∙ ap (λ s. s.code_points) c.other.view_is in
+    let points : a.code_points ≡ b.code_points = sym (ap (λ s. s.code_points) c.self.view_is) ∙ c.eq.ensures.same.0 c.if-eq.true
+    ∙ ap (λ s. s.code_points) c.other.view_is in
     let left : IsStringList a.strings = rw (sym (ap (λ s. s.strings) c.self.view_is)) c.self.invariant in
     let right : IsStringList b.strings = rw (sym (ap (λ s. s.strings) c.other.view_is)) c.other.invariant in (
       λ t. let e : a ≡ b = (same c).0 t in (λ n h. ap (λ s. holds s.code_points n) e, λ text. ap (λ s. is_among s.strings text) e),

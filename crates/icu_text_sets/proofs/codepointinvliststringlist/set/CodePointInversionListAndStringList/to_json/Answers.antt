@@ -10,7 +10,8 @@ use Rattle.icu_text_sets.proofs.codepointinvliststringlist.set.CodePointInversio
 written : goal.returns-clause-ok
 written c =
     c.in_ok-value.ensures ∙ ap (λ d. object_of d (map view c.in_ok-strings.strings.items)) c.in_ok-code_points.ensures.ok
-    ∙ ap (object_of (written_of c.self.inside.cp_inv_list)) (c.in_ok-strings.ensures ∙ ap (λ xs. map (λ t. string t) (texts_of xs)) c.deref.ensures.value)
+    ∙ ap (object_of (written_of c.self.inside.cp_inv_list))
+    (c.in_ok-strings.ensures ∙ ap (λ xs. map (λ t. string t) (texts_of xs)) c.deref.ensures.value)
     ∙ ap json_of c.self.view_is
 
 pub returns-clause-ok : goal.returns-clause-ok
@@ -19,6 +20,8 @@ returns-clause-ok c = written c
 pub returns-clause-read_back : goal.returns-clause-read_back
 returns-clause-read_back c =
     let inner : TextSet = record { code_points = c.self.inside.cp_inv_list; strings = texts_of c.self.inside.str_list.items } in
-    let back : ends_of (written_of c.self.inside.cp_inv_list) ≡ Ok c.self.inside.cp_inv_list = sym (ap ends_of c.in_ok-code_points.ensures.ok) ∙ c.in_ok-code_points.ensures.read_back in
-    let whole : IsRead (json_of c.args.self.now) (Ok c.args.self.now) = subst (λ s. IsRead (json_of s) (Ok s)) c.self.view_is (json_read inner c.in_ok-code_points.ensures.valid c.self.invariant back) in
+    let back : ends_of (written_of c.self.inside.cp_inv_list) ≡ Ok c.self.inside.cp_inv_list =
+    sym (ap ends_of c.in_ok-code_points.ensures.ok) ∙ c.in_ok-code_points.ensures.read_back in
+    let whole : IsRead (json_of c.args.self.now) (Ok c.args.self.now) =
+    subst (λ s. IsRead (json_of s) (Ok s)) c.self.view_is (json_read inner c.in_ok-code_points.ensures.valid c.self.invariant back) in
     subst (λ d. IsRead d (Ok c.args.self.now)) (sym (written c)) whole
