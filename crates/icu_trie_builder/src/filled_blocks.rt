@@ -1,8 +1,8 @@
 //! Blocks of 16 that hold one number are given the place of a block of 64 that holds it: so the
 //! offsets of neighbouring blocks are more often equal below and above the fast limit, and index-3
 //! blocks of them are found in the fast index.
-ghost use Rattle.std.specs.Prelude.{◌≡◌, ℕ, ◌+◌, ◌^◌, ◌<◌, ◌≤◌, length, slice_index, IfOk};
-ghost use Rattle.icu_trie_builder.specs.Inside.FilledBlocks.{AreFilledPlaces, IsMoved, IsSharedPlace};
+ghost use Rattle.std.specs.Prelude.{◌≡◌, ◌+◌, ◌^◌, ◌<◌, ◌≤◌, length, IfOk};
+ghost use Rattle.icu_trie_builder.specs.Inside.FilledBlocks.{AreFilledPlaces, IsMoved, IsSharedPlace, LieIn};
 
 use crate::lengths::{FAST_BLOCK, SMALL_BLOCK};
 use crate::null_block::is_filled;
@@ -18,7 +18,7 @@ pub(crate) fn filled_places(
     fast: &[u32],
 ) -> Result<Vec<u32>, AllocError>
     requires room { length cells.now < 2 ^ 31 }
-    requires fast { (j : ℕ) → j < length fast.now → slice_index fast.now j + 64 ≤ length cells.now }
+    requires fast { LieIn 64 fast.now cells.now }
     ensures { IfOk result (λ places. AreFilledPlaces cells.now places.items) }
 {
     let mut places = Vec::new(alloc);
@@ -56,8 +56,7 @@ fn shared_place(cells: &[u32], places: &[u32], at: u32) -> u32
 pub(crate) fn share_filled(cells: &[u32], places: &[u32], small: &mut [u32])
     requires room { length cells.now < 2 ^ 31 }
     requires places { AreFilledPlaces cells.now places.now }
-    requires small { (j : ℕ) → j < length small.old
-        → slice_index small.old j + 16 ≤ length cells.now }
+    requires small { LieIn 16 small.old cells.now }
     ensures { IsMoved cells.now cells.now small.old small.new }
 {
     let mut from = NO_OFFSET;

@@ -2,7 +2,7 @@
 //! read.
 ghost use Rattle.std.specs.Prelude.{◌≡◌, ◌≢◌, ℕ, ◌+◌, ◌-◌, ◌*◌, ◌/◌, ◌^◌, ◌<◌, ◌≤◌, Bool, true, false, length, max, take, slice_index, Some, None, IfOk, OnOk, IfSome, IfNone};
 ghost use Rattle.std.specs.List.{AllPass};
-ghost use Rattle.icu_trie_builder.specs.Inside.FilledBlocks.{IsApart, IsFilled, IsMoved, IsNull, IsOneOf, HasNoNull};
+ghost use Rattle.icu_trie_builder.specs.Inside.FilledBlocks.{HasNoNull, IsApart, IsFilled, IsMoved, IsNull, IsOneOf, LieIn};
 ghost use Rattle.icu_trie_compaction.specs.declared.error.BuildError.TheVariants.{TooLarge};
 
 use crate::error::BuildError;
@@ -98,9 +98,8 @@ fn find_either(
     wanted: Option<u32>,
 ) -> Option<FilledBlock>
     requires room { length cells.now < 2 ^ 31 }
-    requires fast { (j : ℕ) → j < length fast.now → slice_index fast.now j + 64 ≤ length cells.now }
-    requires small { (j : ℕ) → j < length small.now
-        → slice_index small.now j + 16 ≤ length cells.now }
+    requires fast { LieIn 64 fast.now cells.now }
+    requires small { LieIn 16 small.now cells.now }
     ensures found { IfSome result (IsOneOf fast.now small.now cells.now) }
     ensures none { wanted ≡ None → IfNone result (HasNoNull fast.now small.now cells.now) }
 {
@@ -122,9 +121,8 @@ fn choose(
     small: &[u32],
 ) -> Result<Option<FilledBlock>, AllocError>
     requires room { length cells.now < 2 ^ 31 }
-    requires fast { (j : ℕ) → j < length fast.now → slice_index fast.now j + 64 ≤ length cells.now }
-    requires small { (j : ℕ) → j < length small.now
-        → slice_index small.now j + 16 ≤ length cells.now }
+    requires fast { LieIn 64 fast.now cells.now }
+    requires small { LieIn 16 small.now cells.now }
     ensures found { IfOk result (λ r. IfSome r (IsOneOf fast.now small.now cells.now)) }
     ensures none { IfOk result (λ r. IfNone r (HasNoNull fast.now small.now cells.now)) }
 {
@@ -187,8 +185,7 @@ fn settle(
     limit: usize,
 ) -> Result<usize, BuildError>
     requires room { length stored.old.items < 2 ^ 31 }
-    requires taken { (j : ℕ) → j < length taken.now
-        → slice_index taken.now j + 64 ≤ length stored.old.items }
+    requires taken { LieIn 64 taken.now stored.old.items }
     ensures inside { IfOk result (λ at. at + 16 ≤ length stored.new.items) }
     ensures filled { IfOk result (λ at. IsFilled value 16 at stored.new.items) }
     ensures apart { IfOk result (λ at. IsApart at taken.now) }
@@ -230,9 +227,8 @@ fn rename(offsets: &mut [u32], from: u32, to: u32)
 /// hold it get its offset too.
 fn null_of_fast(cells: &[u32], fast: &[u32], small: &mut [u32], number: usize) -> NullBlock
     requires room { length cells.now < 2 ^ 31 }
-    requires fast { (j : ℕ) → j < length fast.now → slice_index fast.now j + 64 ≤ length cells.now }
-    requires small { (j : ℕ) → j < length small.old
-        → slice_index small.old j + 16 ≤ length cells.now }
+    requires fast { LieIn 64 fast.now cells.now }
+    requires small { LieIn 16 small.old cells.now }
     requires number { number < length fast.now }
     requires filled { let at = slice_index fast.now number in
         IsFilled (slice_index cells.now at) 64 at cells.now }
@@ -258,10 +254,8 @@ fn null_of_small(
     limit: usize,
 ) -> Result<NullBlock, BuildError>
     requires room { length stored.old.items < 2 ^ 31 }
-    requires fast { (j : ℕ) → j < length fast.now
-        → slice_index fast.now j + 64 ≤ length stored.old.items }
-    requires small { (j : ℕ) → j < length small.old
-        → slice_index small.old j + 16 ≤ length stored.old.items }
+    requires fast { LieIn 64 fast.now stored.old.items }
+    requires small { LieIn 16 small.old stored.old.items }
     requires number { number < length small.old }
     requires filled { let at = slice_index small.old number in
         IsFilled (slice_index stored.old.items at) 16 at stored.old.items }
@@ -301,10 +295,8 @@ pub(crate) fn place_null(
     limit: usize,
 ) -> Result<Option<NullBlock>, BuildError>
     requires room { length stored.old.items < 2 ^ 31 }
-    requires fast { (j : ℕ) → j < length fast.now
-        → slice_index fast.now j + 64 ≤ length stored.old.items }
-    requires small { (j : ℕ) → j < length small.old
-        → slice_index small.old j + 16 ≤ length stored.old.items }
+    requires fast { LieIn 64 fast.now stored.old.items }
+    requires small { LieIn 16 small.old stored.old.items }
     ensures moved { OnOk result (IsMoved stored.old.items stored.new.items small.old small.new) }
     ensures null { IfOk result (λ r. IfSome r (λ n.
         IsNull fast.now small.new stored.new.items n.offset n.value)) }

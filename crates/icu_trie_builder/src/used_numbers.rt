@@ -1,5 +1,6 @@
 //! Which number fills the most blocks: a wish, which no contract states.
 ghost use Rattle.std.specs.Prelude.{◌≡◌, ℕ, ◌+◌, ◌^◌, ◌<◌, ◌≤◌, length, slice_index};
+ghost use Rattle.icu_trie_builder.specs.Inside.FilledBlocks.{LieIn};
 
 use crate::lengths::{FAST_BLOCK, SMALL_BLOCK};
 use crate::null_block::is_filled;
@@ -98,9 +99,8 @@ pub(crate) fn most_used(
     small: &[u32],
 ) -> Result<Option<u32>, AllocError>
     requires room { length cells.now < 2 ^ 31 }
-    requires fast { (j : ℕ) → j < length fast.now → slice_index fast.now j + 64 ≤ length cells.now }
-    requires small { (j : ℕ) → j < length small.now
-        → slice_index small.now j + 16 ≤ length cells.now }
+    requires fast { LieIn 64 fast.now cells.now }
+    requires small { LieIn 16 small.now cells.now }
 {
     let mut uses = Vec::new(alloc);
     add_offsets(&mut uses, cells, fast, FAST_BLOCK)?;

@@ -5,6 +5,7 @@ use Rattle.icu_trie_core.specs.declared.header.TrieType.{TrieType}
 use Rattle.icu_trie_core.specs.Format.{fast_limit, high_value}
 use Rattle.icu_trie_compaction.specs.Layout.{AllBelow}
 use Rattle.icu_trie_builder.specs.NullBlock.{SomeHoldsOne}
+use Rattle.icu_trie_builder.specs.Inside.FilledBlocks.{LieIn}
 
 -- f has the same numbers in the blocks number b and d of k code points
 abbrev pub SameNumbers : (ℕ → ℕ) → ℕ → ℕ → ℕ → Type 0
@@ -42,4 +43,4 @@ pub record IsData (t : TrieType) (high null null_value : ℕ) (f : ℕ → ℕ) 
   pub fast_fit : AllBelow 0x10000 fast
   pub small_fit : AllBelow 0x40000 small
   -- blocks of 64 end within the data
-  pub fast_inside : (b : ℕ) → b < length fast → slice_index fast b + 64 ≤ length values
+  pub fast_inside : LieIn 64 fast values

@@ -4,6 +4,10 @@ use Rattle.icu_trie_core.specs.Blocks.{window}
 use Rattle.icu_trie_builder.specs.declared.null_block.FilledBlock.{FilledBlock}
 use Rattle.icu_trie_builder.specs.declared.null_block.FilledBlock.TheVariants.{Fast, Small}
 
+-- the k cells from each of these offsets on lie in the cells
+abbrev pub LieIn : ℕ → List ℕ → List ℕ → Type 0
+LieIn k offsets cells = (j : ℕ) → j < length offsets → slice_index offsets j + k ≤ length cells
+
 -- the k cells from place `at` on are this number
 abbrev pub IsFilled : ℕ → ℕ → ℕ → List ℕ → Type 0
 IsFilled value k at cells = (i : ℕ) → i < k → slice_index cells (at + i) ≡ value
@@ -39,7 +43,7 @@ pub record HasNoNull (fast small cells : List ℕ) : Type 0 where
 -- offsets to equal ones
 pub record IsMoved (before after old new : List ℕ) : Type 0 where
   pub count : length new ≡ length old
-  pub inside : (j : ℕ) → j < length new → slice_index new j + 16 ≤ length after
+  pub inside : LieIn 16 new after
   pub copies : (j : ℕ) → j < length new
       → window 16 (slice_index new j) after ≡ window 16 (slice_index old j) before
   pub same : (i j : ℕ) → i < length old → j < length old → slice_index old i ≡ slice_index old j
@@ -61,6 +65,6 @@ IsSharedPlace cells places at x =
 
 -- at each of these places 64 cells are one number
 pub record AreFilledPlaces (cells places : List ℕ) : Type 0 where
-  pub inside : (m : ℕ) → m < length places → slice_index places m + 64 ≤ length cells
+  pub inside : LieIn 64 places cells
   pub filled : (m : ℕ) → m < length places
       → IsFilled (slice_index cells (slice_index places m)) 64 (slice_index places m) cells
