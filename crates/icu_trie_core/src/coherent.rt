@@ -81,6 +81,7 @@ fn is_block<T: TrieValue, C: Cells<T>>(
 fn has_fast_blocks<T: TrieValue, C: Cells<T>>(header: &CodePointTrieHeader, cells: &mut C) -> bool
     ensures blocks { IsTrue result
         ↔ AreFastBlocks T.of_number header.now (C.index cells.old) (C.values cells.old) }
+    // The null block of 64, and 1,024 offsets.
     ensures reads { C.reads cells.new ≤ C.reads cells.old + 1088 }
     ensures same_index { C.index cells.new ≡ C.index cells.old }
     ensures same_values { C.values cells.new ≡ C.values cells.old }
@@ -190,6 +191,8 @@ fn has_small_blocks<T: TrieValue, C: Cells<T>>(header: &CodePointTrieHeader, cel
     requires within { header.now.high_start ≤ 0x110000 }
     ensures blocks { IsTrue result
         ↔ AreSmallBlocks T.of_number header.now (C.index cells.old) (C.values cells.old) }
+    // The null block of 16, the null block of 32 offsets with 18 * 32 reads, and for each of 2,176
+    // blocks 2 + 64.
     ensures reads { C.reads cells.new ≤ C.reads cells.old + 144208 }
     ensures same_index { C.index cells.new ≡ C.index cells.old }
     ensures same_values { C.values cells.new ≡ C.values cells.old }
@@ -227,6 +230,7 @@ fn has_high_blocks<T: TrieValue, C: Cells<T>>(
 ) -> bool
     ensures blocks { IsTrue result
         ↔ AreHighBlocks header.now (C.index cells.old) (C.values cells.old) high }
+    // 1,024 blocks of 1 + 64.
     ensures reads { C.reads cells.new ≤ C.reads cells.old + 66560 }
     ensures same_index { C.index cells.new ≡ C.index cells.old }
     ensures same_values { C.values cells.new ≡ C.values cells.old }
@@ -253,6 +257,7 @@ fn has_high_value<T: TrieValue, C: Cells<T>>(header: &CodePointTrieHeader, cells
     requires within { header.now.high_start ≤ 0x110000 }
     ensures high { IsTrue result
         ↔ HasHighValue header.now (C.index cells.old) (C.values cells.old) }
+    // Those of `has_high_blocks`, and the high value.
     ensures reads { C.reads cells.new ≤ C.reads cells.old + 66561 }
     ensures same_index { C.index cells.new ≡ C.index cells.old }
     ensures same_values { C.values cells.new ≡ C.values cells.old }
@@ -277,6 +282,7 @@ fn has_coherent_blocks<T: TrieValue, C: Cells<T>>(
     requires within { header.now.high_start ≤ 0x110000 }
     ensures blocks { IsTrue result
         ↔ AreCoherentBlocks T.of_number header.now (C.index cells.old) (C.values cells.old) }
+    // 66,561 + 1,088 + 144,208.
     ensures reads { C.reads cells.new ≤ C.reads cells.old + 211857 }
     ensures same_index { C.index cells.new ≡ C.index cells.old }
     ensures same_values { C.values cells.new ≡ C.values cells.old }
@@ -299,6 +305,7 @@ fn has_coherent_blocks<T: TrieValue, C: Cells<T>>(
 pub fn is_coherent<T: TrieValue, C: Cells<T>>(header: &CodePointTrieHeader, cells: &mut C) -> bool
     ensures coherent { IsTrue result
         ↔ IsCoherent T.of_number header.now (C.index cells.old) (C.values cells.old) }
+    // 211,857 at most, which is rounded up.
     ensures reads { C.reads cells.new ≤ C.reads cells.old + 212000 }
     ensures same_index { C.index cells.new ≡ C.index cells.old }
     ensures same_values { C.values cells.new ≡ C.values cells.old }

@@ -252,6 +252,7 @@ fn extend<T: TrieValue, C: Cells<T>>(
     ensures run { Reaches
         (seen T.of_number header.now (C.index cells.old) (C.values cells.old)) start limit value
         result }
+    // 1,024 + 320 below the fast limit of a fast trie, 2 * 2,048 + 336 from it on.
     ensures reads { IsCoherent T.of_number header.now (C.index cells.old) (C.values cells.old)
         → IsShared header.now (C.index cells.old) (C.values cells.old)
         → limit % 512 ≡ 0 → C.reads cells.new ≤ C.reads cells.old + 5776 }
@@ -306,6 +307,7 @@ fn extend_to_end<T: TrieValue, C: Cells<T>>(
     ensures run { Reaches
         (seen T.of_number header.now (C.index cells.old) (C.values cells.old)) start 0x110000 value
         result }
+    // Those of `extend`, and the high value.
     ensures reads { IsCoherent T.of_number header.now (C.index cells.old) (C.values cells.old)
         → IsShared header.now (C.index cells.old) (C.values cells.old)
         → C.reads cells.new ≤ C.reads cells.old + 5777 }
@@ -342,6 +344,7 @@ pub(crate) fn extend_from_fast<T: TrieValue, C: Cells<T>>(
     ensures run { Reaches
         (seen T.of_number header.now (C.index cells.old) (C.values cells.old)) c 0x110000 value
         result }
+    // Those of `extend_to_end`, and the rest of the block of 64.
     ensures reads { IsCoherent T.of_number header.now (C.index cells.old) (C.values cells.old)
         → IsShared header.now (C.index cells.old) (C.values cells.old)
         → C.reads cells.new ≤ C.reads cells.old + 5841 }
@@ -420,6 +423,7 @@ pub(crate) fn extend_from_small<T: TrieValue, C: Cells<T>>(
     ensures run { Reaches
         (seen T.of_number header.now (C.index cells.old) (C.values cells.old)) c 0x110000 value
         result }
+    // Those of `extend_to_end`, and 128 in the block of 512.
     ensures reads { IsCoherent T.of_number header.now (C.index cells.old) (C.values cells.old)
         → IsShared header.now (C.index cells.old) (C.values cells.old)
         → C.reads cells.new ≤ C.reads cells.old + 5905 }

@@ -62,6 +62,7 @@ fn walk_fast<T: TrieValue, C: Cells<T>>(
     requires fast { c < fast_limit header.now.trie_type }
     ensures gives { GivesWalk T.of_number header.now (C.index cells.old)
         (C.values cells.old) c result }
+    // Those of `extend_from_fast`, and two for `c`.
     ensures reads { IsCoherent T.of_number header.now (C.index cells.old) (C.values cells.old)
         → IsShared header.now (C.index cells.old) (C.values cells.old)
         → C.reads cells.new ≤ C.reads cells.old + 5843 }
@@ -88,6 +89,7 @@ fn walk_small<T: TrieValue, C: Cells<T>>(
     requires from { fast_limit header.now.trie_type ≤ c }
     ensures gives { GivesWalk T.of_number header.now (C.index cells.old)
         (C.values cells.old) c result }
+    // Those of `extend_from_small`, and five for `c`.
     ensures reads { IsCoherent T.of_number header.now (C.index cells.old) (C.values cells.old)
         → IsShared header.now (C.index cells.old) (C.values cells.old)
         → C.reads cells.new ≤ C.reads cells.old + 5910 }
@@ -151,6 +153,7 @@ fn walk_any<T: TrieValue, C: Cells<T>>(
 ) -> Option<CodePointMapRange<T>>
     ensures gives { GivesWalk T.of_number header.now (C.index cells.old)
         (C.values cells.old) c result }
+    // 5,910 at most, which is rounded up.
     ensures reads { IsCoherent T.of_number header.now (C.index cells.old) (C.values cells.old)
         → IsShared header.now (C.index cells.old) (C.values cells.old)
         → C.reads cells.new ≤ C.reads cells.old + 6000 }
