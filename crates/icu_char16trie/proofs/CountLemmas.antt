@@ -4,7 +4,7 @@ use Rattle.std.specs.Prelude.{min}
 use Rattle.std.proofs.lemmas.Option.{same_Some}
 use Rattle.std.proofs.lemmas.Bool.{eqb-false, eqb-true}
 use Rattle.icu_char16trie.specs.Numbers.{entry_child, short_end, lower_part, delta_end, node_end}
-use Rattle.icu_char16trie.specs.Grammar.{Arms, Part, branch_len, branch_start, Holds, final, plain, valued, Matches, run, branch, Children, none, more, IsTrieOf}
+use Rattle.icu_char16trie.specs.Grammar.{Arms, Part, Holds, final, plain, valued, Matches, run, branch, Children, none, more, IsTrieOf}
 use Rattle.icu_char16trie.specs.Grammar as grammar
 use Rattle.icu_char16trie.specs.UnitMap.{UnitMap, under}
 use Rattle.icu_char16trie.specs.Inside.Soundness.{AllBetween, IsWanted, places_of}

@@ -1,13 +1,13 @@
 -- One level of a trie, written before what it leads to.
-use Rattle.std.proofs.Common.{◌≡◌, ℕ, ℤ, false, suc, ◌+◌, ◌-◌, ◌*◌, ◌/◌, ◌%◌, ◌<◌, ◌≤◌, nat_lt, nat_eq, List, [], ◌∷◌, ◌++◌, Some, refl, sym, ap, subst, ◌∙◌, arith, length, slice_get, length-append, append_assoc, append-nil, take, drop, of_z, to_z, SFits}
+use Rattle.std.proofs.Common.{◌≡◌, ℕ, ℤ, false, ◌+◌, ◌-◌, ◌*◌, ◌/◌, ◌%◌, ◌<◌, ◌≤◌, nat_lt, nat_eq, List, [], ◌∷◌, ◌++◌, Some, refl, sym, ap, subst, ◌∙◌, arith, length, length-append, append_assoc, append-nil, take, drop, of_z, to_z, SFits}
 use Rattle.std.proofs.lemmas.Bool.{lt-ltb, le-ltb, ne_eqb}
 use Rattle.std.proofs.Math.Seq.{take-append_seam}
 use Rattle.std.proofs.lemmas.List.{take-append-drop, drop-drop}
 use Rattle.std.specs.Int.{cast_signed, w32}
 use Rattle.std.proofs.lemmas.Int.{to_z-of_z}
-use Rattle.icu_char16trie.specs.Numbers.{number_by, end_by, short_number, short_end, node_number, node_end, delta_number, delta_end, entry_child, lower_part}
+use Rattle.icu_char16trie.specs.Numbers.{short_number, short_end, node_number, node_end, delta_number, delta_end, entry_child, lower_part}
 use Rattle.icu_char16trie_builder.specs.Inside.Encoding.{lead_by, tail_by, short_units, delta_units, node_units, final_units}
-use Rattle.icu_char16trie.specs.Grammar.{UnitsBelow, UnitsFrom, IsAscending, last, entry, split, branch_len, branch_start, Holds, final, plain, valued, Matches, run, branch, Part, Children, none, more}
+use Rattle.icu_char16trie.specs.Grammar.{UnitsBelow, UnitsFrom, IsAscending, last, entry, split, branch_start, Holds, final, plain, valued, Matches, run, branch, Part, Children, none, more}
 use Rattle.icu_char16trie.specs.UnitMap.{UnitMap, under}
 use Rattle.icu_char16trie_builder.specs.Inside.Written.{heads, PartAt, Below, From, Ascends, Grew}
 use Rattle.icu_char16trie_builder.proofs.ShiftLemmas.{number_moved, holds_behind, part_at_behind, holds_moved, part_at_moved, matches_behind}

@@ -1,10 +1,10 @@
 -- Whether a key goes on beyond some units, of entries with one more.
-use Rattle.std.proofs.Common.{◌≡◌, ℕ, ℤ, ◌&&◌, ◌||◌, Bool, true, false, cond, nat_eq, List, [], ◌∷◌, ◌++◌, Option, Some, None, refl, ap, ◌∙◌}
+use Rattle.std.proofs.Common.{◌≡◌, ℕ, ℤ, ◌||◌, Bool, true, false, List, [], ◌∷◌, refl, ap, ◌∙◌}
 use Rattle.std.specs.Cmp.Lexicographic.{slice_cmp}
 use Rattle.std.specs.declared.cmp.Ordering.{Ordering}
 use Rattle.std.specs.declared.cmp.Ordering.TheVariants.{Less, Equal, Greater}
 use Rattle.std.specs.Ordering.{nat_cmp, match_ordering}
-use Rattle.icu_char16trie.specs.UnitMap.{UnitMap, goes_on, key_goes_on, same_key, value_of}
+use Rattle.icu_char16trie.specs.UnitMap.{UnitMap, goes_on, key_goes_on}
 use Rattle.icu_char16trie_builder.specs.Entries.{with_entry}
 use Rattle.icu_char16trie_builder.proofs.EntryLemmas.{IsCompared, compared}
 

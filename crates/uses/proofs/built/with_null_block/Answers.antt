@@ -1,4 +1,4 @@
-use Rattle.std.proofs.Common.{◌≡◌, ◌<◌, ◌*◌, inl, inr}
+use Rattle.std.proofs.Common.{◌<◌, ◌*◌, inl, inr}
 use Rattle.icu_collections.specs.CodePointTrie.{fast_limit}
 use Rattle.icu_collections.proofs.CallerLemmas.{NamesNull-some}
 use Rattle.uses.proofs.built.with_null_block.Goals as goal

@@ -1,4 +1,4 @@
-use Rattle.std.proofs.Common.{[], ◌∷◌, ◌++◌, rules}
+use Rattle.std.proofs.Common.{[], ◌∷◌, rules}
 use Rattle.icu_collections.proofs.CallerLemmas.{IsAfter-append}
 use Rattle.icu_collections.specs.CodePointTrieBuilder.{IsAfter}
 use Rattle.icu_collections.specs.declared.codepointtrie.Write.{Write}

@@ -1,4 +1,4 @@
-use Rattle.std.proofs.Common.{sym, rules}
+use Rattle.std.proofs.Common.{rules}
 use Rattle.icu_collections.specs.CodePointInversionList.{holds}
 use Rattle.uses.proofs.Kept.{keep_start, keep_past, keep_end}
 use Rattle.uses.proofs.sets.kept_characters.Goals as goal

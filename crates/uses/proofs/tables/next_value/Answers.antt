@@ -1,4 +1,4 @@
-use Rattle.std.proofs.Common.{◌≡◌, ◌+◌, ℕ, Ok, Some, rules, sym}
+use Rattle.std.proofs.Common.{◌≡◌, ◌+◌, Ok, rules, sym}
 use Rattle.icu_collections.specs.CodePointTrieBuilder.{answer_after}
 use Rattle.uses.proofs.tables.next_value.Goals as goal
 

@@ -1,4 +1,4 @@
-use Rattle.std.proofs.Common.{◌≡◌, length, sym, ap, ◌∙◌}
+use Rattle.std.proofs.Common.{length, sym, ap, ◌∙◌}
 use Rattle.icu_char16trie_builder.proofs.EntryLemmas.{length-entry_map}
 use Rattle.icu_char16trie_builder.proofs.builder.Char16TrieBuilder.len.Goals as goal
 
