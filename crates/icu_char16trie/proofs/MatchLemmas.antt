@@ -2,7 +2,7 @@
 use Rattle.std.proofs.Common.{◌≡◌, ℕ, ℤ, zero, suc, ◌+◌, ◌-◌, ◌<◌, ◌≤◌, false, List, [], ◌∷◌, ◌++◌, Option, Some, None, length, take, sym, ap, subst, refl, ◌∙◌, arith}
 use Rattle.std.specs.Iterator.{Yields, Drains}
 use Rattle.icu_char16trie.specs.UnitMap.{UnitMap, goes_on, value_of}
-use Rattle.icu_char16trie.specs.UnitPlaces.{At, IsAfter}
+use Rattle.icu_char16trie.specs.UnitPlaces.{At, HasPassed}
 use Rattle.icu_char16trie.specs.Matches.{match_at, matches_from}
 use Rattle.icu_char16trie.specs.MatchesLeft.{AreLeft, AreLeftAt, GivesMatch}
 use Rattle.icu_char16trie.specs.declared.matches.Matches.{Matches}
@@ -28,7 +28,7 @@ none_beyond_text m text k past =
     let none : length text - k ≡ 0 = omega (arith, past) in ap (λ (n : ℕ). matches_from m text (k + 1) n) none
 
 -- the cursor stands at the next front
-pub next_left : (cursor : At) (text : List ℕ) (k : ℕ) (m : UnitMap) → k < length text → IsAfter cursor m (take (k + 1) text)
+pub next_left : (cursor : At) (text : List ℕ) (k : ℕ) (m : UnitMap) → k < length text → HasPassed cursor m (take (k + 1) text)
     → AreLeftAt cursor text (Some (k + 1)) m (matches_from m text (k + 1) (length text - k))
 next_left cursor text k m within after =
     let count : length text - k ≡ length text + 1 - (k + 1) = omega arith in

@@ -2,7 +2,7 @@
 use Rattle.std.proofs.Common.{◌≡◌, ℕ, ℤ, ◌+◌, ◌-◌, ◌/◌, ◌%◌, ◌≤◌, false, nat_lt, List, [], ◌∷◌, ◌++◌, refl, subst, ◌∙◌, arith, append_assoc}
 use Rattle.std.specs.Char.Escape.{encode_utf16}
 use Rattle.std.proofs.lemmas.Bool.Decides.{nat_tests}
-use Rattle.icu_char16trie.specs.UnitPlaces.{At, IsAfter}
+use Rattle.icu_char16trie.specs.UnitPlaces.{At, HasPassed}
 use Rattle.icu_char16trie.specs.Steps.{StepsTo, StepsAlong}
 use Rattle.icu_char16trie.specs.Passed.{Passes}
 use Rattle.icu_char16trie.specs.declared.place.Place.{Place}
@@ -13,7 +13,7 @@ along_then units from mid to [] w h k = subst (λ z. StepsAlong units z w to) h 
 along_then units from mid to (u ∷ v) w h k = (h.0, h.1, along_then units h.0 mid to v w h.2 k)
 
 pub passes_unit : (s t : At) (u : ℕ) → t.units ≡ s.units → StepsTo s.units s.place u t.place
-    → ((m : List (List ℕ × ℤ)) (w : List ℕ) → IsAfter s m w → IsAfter t m (w ++ u ∷ [])) → Passes s (u ∷ []) t
+    → ((m : List (List ℕ × ℤ)) (w : List ℕ) → HasPassed s m w → HasPassed t m (w ++ u ∷ [])) → Passes s (u ∷ []) t
 passes_unit s t u e x a = record { units = e; exact = (t.place, x, refl); after = a }
 
 pub passes_then : (s t r : At) (v w : List ℕ) → Passes s v t → Passes t w r → Passes s (v ++ w) r

@@ -7,7 +7,7 @@ use Rattle.icu_char16trie.specs.Grammar.{Holds, final, plain, valued, IsTrieOf}
 use Rattle.icu_char16trie.specs.Grammar as grammar
 use Rattle.icu_char16trie.specs.UnitMap.{under, after, after_all, value_of, same_key, goes_on, key_goes_on}
 use Rattle.icu_char16trie.specs.Passed.{answer_at, result_of}
-use Rattle.icu_char16trie.specs.UnitPlaces.{Stands, At, IsAfter, value_at, is_empty_at}
+use Rattle.icu_char16trie.specs.UnitPlaces.{Stands, At, HasPassed, value_at, is_empty_at}
 use Rattle.icu_char16trie.specs.declared.place.Place.{Place}
 use Rattle.icu_char16trie.specs.declared.place.Place.TheVariants.{Nowhere, Node, Run}
 use Rattle.icu_char16trie.proofs.MapLemmas.{value_after_all, goes_on_after_all, after_all_push}
@@ -57,16 +57,16 @@ empty_stands units (Run p left) m h =
     sym (ap (λ z. not (goes_on z [])) f.2 ∙ ap not (under_on f.0 f.1 h.rest (holds_has units h.node)))
 
 -- the same after the units w from the root
-pub value_is_after : (cursor : At) (m : List (List ℕ × ℤ)) (w : List ℕ) → IsAfter cursor m w
+pub value_is_after : (cursor : At) (m : List (List ℕ × ℤ)) (w : List ℕ) → HasPassed cursor m w
     → value_at cursor.units cursor.place ≡ value_of m w
 value_is_after cursor m w h = value_stands cursor.units cursor.place (after_all w m) h ∙ sym (value_after_all w m)
 
-pub empty_is_after : (cursor : At) (m : List (List ℕ × ℤ)) (w : List ℕ) → IsAfter cursor m w
+pub empty_is_after : (cursor : At) (m : List (List ℕ × ℤ)) (w : List ℕ) → HasPassed cursor m w
     → is_empty_at cursor.units cursor.place ≡ not (goes_on m w)
 empty_is_after cursor m w h = empty_stands cursor.units cursor.place (after_all w m) h ∙ ap not (sym (goes_on_after_all w m))
 
 -- what is told where units of a trie have been passed
-pub answer_is_after : (cursor : At) (m : List (List ℕ × ℤ)) (w : List ℕ) → IsAfter cursor m w
+pub answer_is_after : (cursor : At) (m : List (List ℕ × ℤ)) (w : List ℕ) → HasPassed cursor m w
     → answer_at cursor ≡ result_of (value_of m w) (not (goes_on m w))
 answer_is_after cursor m w h = rw (value_is_after cursor m w h, empty_is_after cursor m w h) refl
 

@@ -1,7 +1,7 @@
 -- What an iterator over the keys that begin a text has still to give.
 use Rattle.std.specs.Prelude.{◌≡◌, ℕ, ℤ, ◌+◌, ◌-◌, ◌≤◌, List, [], ◌∷◌, Option, Some, None, MatchOption, IsNone, length, take}
 use Rattle.icu_char16trie.specs.UnitMap.{UnitMap}
-use Rattle.icu_char16trie.specs.UnitPlaces.{At, IsAfter}
+use Rattle.icu_char16trie.specs.UnitPlaces.{At, HasPassed}
 use Rattle.icu_char16trie.specs.Matches.{matches_from}
 use Rattle.icu_char16trie.specs.declared.matches.Matches.{Matches}
 
@@ -11,7 +11,7 @@ abbrev pub AreLeftAt : At → List ℕ → Option ℕ → UnitMap → List (ℕ 
 AreLeftAt cursor text None m xs = xs ≡ []
 AreLeftAt cursor text (Some k) m xs =
     (k ≤ length text)
-    × IsAfter cursor m (take k text)
+    × HasPassed cursor m (take k text)
     × (xs ≡ matches_from m text k (length text + 1 - k))
 
 -- the matches xs of a map are still to come

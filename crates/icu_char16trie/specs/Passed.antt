@@ -1,7 +1,7 @@
 -- What a cursor has passed, and what it answers then.
 use Rattle.std.specs.Prelude.{◌≡◌, ℕ, ℤ, Bool, true, false, List, ◌++◌, Option, Some, None}
 use Rattle.icu_char16trie.specs.UnitMap.{UnitMap}
-use Rattle.icu_char16trie.specs.UnitPlaces.{At, IsAfter, value_at, is_empty_at}
+use Rattle.icu_char16trie.specs.UnitPlaces.{At, HasPassed, value_at, is_empty_at}
 use Rattle.icu_char16trie.specs.Steps.{StepsAlong}
 use Rattle.icu_char16trie.specs.declared.iterator.TrieResult.{TrieResult}
 use Rattle.icu_char16trie.specs.declared.iterator.TrieResult.TheVariants.{NoMatch, NoValue, FinalValue, Intermediate}
@@ -10,7 +10,7 @@ use Rattle.icu_char16trie.specs.declared.iterator.TrieResult.TheVariants.{NoMatc
 pub record Passes (old : At) (w : List ℕ) (new : At) : Type 0 where
   pub units : new.units ≡ old.units
   pub exact : StepsAlong old.units old.place w new.place
-  pub after : (m : UnitMap) (key : List ℕ) → IsAfter old m key → IsAfter new m (key ++ w)
+  pub after : (m : UnitMap) (key : List ℕ) → HasPassed old m key → HasPassed new m (key ++ w)
 
 -- what is told of a key, by its value and by whether no key goes on beyond it
 abbrev pub result_of : Option ℤ → Bool → TrieResult

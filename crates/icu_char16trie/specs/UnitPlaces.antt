@@ -60,5 +60,5 @@ pub record At : Type 0 where
 
 -- the cursor has passed the units w from the root of a trie of m: it stands at the entries whose
 -- keys begin with w, without w
-abbrev pub IsAfter : At → UnitMap → List ℕ → Type 0
-IsAfter cursor m w = Stands cursor.units cursor.place (after_all w m)
+abbrev pub HasPassed : At → UnitMap → List ℕ → Type 0
+HasPassed cursor m w = Stands cursor.units cursor.place (after_all w m)

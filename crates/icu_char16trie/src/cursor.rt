@@ -5,7 +5,7 @@ ghost use Rattle.icu_char16trie.specs.Grammar.{IsTrieOf};
 ghost use Rattle.icu_char16trie.specs.UnitMap.{UnitMap, after_all, value_of, goes_on};
 ghost use Rattle.icu_char16trie.specs.Listing.{AreToCome, entry_text, entry_value};
 ghost use Rattle.icu_char16trie.specs.CursorPlaces.{place_of};
-ghost use Rattle.icu_char16trie.specs.UnitPlaces.{IsAfter, value_at, is_empty_at};
+ghost use Rattle.icu_char16trie.specs.UnitPlaces.{HasPassed, value_at, is_empty_at};
 ghost use Rattle.icu_char16trie.specs.NextUnits.{GoesOnWith, first_units};
 ghost use Rattle.icu_char16trie.specs.OneValue.{HaveOneValue, StandsForOneValue};
 ghost use Rattle.icu_char16trie.specs.Steps.{StepsTo, StepsAlong};
@@ -52,7 +52,8 @@ impl<'a> Char16TrieCursor<'a> {
     pub fn new(trie: ZeroSlice<'a, u16>) -> Self
         ensures units { result.units ≡ slice_values trie.entry }
         ensures place { result.place ≡ Node 0 }
-        ensures root { (m : UnitMap) → IsTrieOf (slice_values trie.entry) m → IsAfter result m [] }
+        ensures root { (m : UnitMap) → IsTrieOf (slice_values trie.entry) m
+            → HasPassed result m [] }
     {
         Char16TrieCursor {
             units: trie,
@@ -94,8 +95,8 @@ impl<'a> Char16TrieCursor<'a> {
         ensures exact { StepsTo self.old.units self.old.place unit self.new.place }
         ensures only { (q : Place) → StepsTo self.old.units self.old.place unit q
             → q ≡ self.new.place }
-        ensures after { (m : UnitMap) (w : List ℕ) → IsAfter self.old m w
-            → IsAfter self.new m (w ++ unit ∷ []) }
+        ensures after { (m : UnitMap) (w : List ℕ) → HasPassed self.old m w
+            → HasPassed self.new m (w ++ unit ∷ []) }
         ensures nowhere { self.old.place ≡ Nowhere → self.new.place ≡ Nowhere }
     {
         self.place = step(self.units, self.place, unit);
@@ -138,7 +139,8 @@ impl<'a> Char16TrieCursor<'a> {
     /// off.
     #[inline]
     pub fn value(&self) -> Option<i32>
-        ensures value { (m : UnitMap) (w : List ℕ) → IsAfter self.now m w → result ≡ value_of m w }
+        ensures value { (m : UnitMap) (w : List ℕ) → HasPassed self.now m w
+            → result ≡ value_of m w }
         ensures exact { result ≡ value_at self.now.units self.now.place }
     {
         value_at(self.units, self.place)
@@ -148,7 +150,7 @@ impl<'a> Char16TrieCursor<'a> {
     /// node whose lead unit is not there.
     #[inline]
     pub fn is_empty(&self) -> bool
-        ensures empty { (m : UnitMap) (w : List ℕ) → IsAfter self.now m w
+        ensures empty { (m : UnitMap) (w : List ℕ) → HasPassed self.now m w
             → result ≡ not (goes_on m w) }
         ensures exact { result ≡ is_empty_at self.now.units self.now.place }
     {
@@ -169,7 +171,7 @@ impl<'a> Char16TrieCursor<'a> {
     /// ```
     #[inline]
     pub fn entries(&self, alloc: Global) -> Entries<'a>
-        ensures to_come { (m : UnitMap) (w : List ℕ) → IsAfter self.now m w
+        ensures to_come { (m : UnitMap) (w : List ℕ) → HasPassed self.now m w
             → AreToCome result (after_all w m) }
         ensures text { entry_text result ≡ [] }
         ensures value { entry_value result ≡ pos 0 }
@@ -188,7 +190,7 @@ impl<'a> Char16TrieCursor<'a> {
     /// let units = trie.cursor().next_units(alloc)?; // 0x61 and 0x62: "a" and "b"
     /// ```
     pub fn next_units(&self, alloc: Global) -> Result<Vec<u16>, MemoryError>
-        ensures units { IfOk result (λ list. (m : UnitMap) (w : List ℕ) → IsAfter self.now m w
+        ensures units { IfOk result (λ list. (m : UnitMap) (w : List ℕ) → HasPassed self.now m w
             → list.items ≡ first_units (after_all w m)) }
 
         // On all units: what the entries of the branch say, as far as they are there.
@@ -219,7 +221,7 @@ impl<'a> Char16TrieCursor<'a> {
     /// ```
     pub fn unique_value(&self, alloc: Global) -> Result<Option<i32>, MemoryError>
         ensures value { IfOk result (λ told. (m : UnitMap) (w : List ℕ) (v : ℤ)
-            → IsAfter self.now m w → (told ≡ Some v) ↔ HaveOneValue (after_all w m) v) }
+            → HasPassed self.now m w → (told ≡ Some v) ↔ HaveOneValue (after_all w m) v) }
 
         // On all units: only where a node stands at each place that is led to.
         ensures exact { IfOk result (λ told. (v : ℤ) → (told ≡ Some v)

@@ -41,7 +41,7 @@ impl<'a> Model for Char16TrieIterator<'a> {
 impl<'a> Char16TrieIterator<'a> {
     ghost use Rattle.std.specs.Char.Escape.{encode_utf16};
     ghost use Rattle.icu_char16trie.specs.Grammar.{IsTrieOf};
-    ghost use Rattle.icu_char16trie.specs.UnitPlaces.{IsAfter};
+    ghost use Rattle.icu_char16trie.specs.UnitPlaces.{HasPassed};
     ghost use Rattle.icu_char16trie.specs.Steps.{StepsTo, StepsAlong};
     ghost use Rattle.icu_char16trie.specs.Passed.{Passes, answer_at, result_of, result_of};
     ghost use Rattle.icu_char16trie.specs.declared.iterator.TrieResult.TheVariants.{NoMatch};
@@ -51,7 +51,8 @@ impl<'a> Char16TrieIterator<'a> {
     pub fn new(trie: ZeroSlice<'a, u16>) -> Self
         ensures units { result.units ≡ slice_values trie.entry }
         ensures place { result.place ≡ Node 0 }
-        ensures root { (m : UnitMap) → IsTrieOf (slice_values trie.entry) m → IsAfter result m [] }
+        ensures root { (m : UnitMap) → IsTrieOf (slice_values trie.entry) m
+            → HasPassed result m [] }
     {
         Char16TrieIterator {
             cursor: Char16TrieCursor::new(trie),
@@ -73,7 +74,7 @@ impl<'a> Char16TrieIterator<'a> {
             → q ≡ self.new.place }
         ensures nowhere { self.old.place ≡ Nowhere → self.new.place ≡ Nowhere }
         ensures answer { result ≡ answer_at self.new }
-        ensures told { (m : UnitMap) (w : List ℕ) → IsAfter self.new m w
+        ensures told { (m : UnitMap) (w : List ℕ) → HasPassed self.new m w
             → result ≡ result_of (value_of m w) (not (goes_on m w)) }
         ensures stays { answer_at self.old ≡ NoMatch → result ≡ NoMatch }
     {
@@ -92,7 +93,7 @@ impl<'a> Char16TrieIterator<'a> {
         ensures above { 0x10FFFF < c → self.new.place ≡ Nowhere }
         ensures nowhere { self.old.place ≡ Nowhere → self.new.place ≡ Nowhere }
         ensures answer { result ≡ answer_at self.new }
-        ensures told { (m : UnitMap) (w : List ℕ) → IsAfter self.new m w
+        ensures told { (m : UnitMap) (w : List ℕ) → HasPassed self.new m w
             → result ≡ result_of (value_of m w) (not (goes_on m w)) }
         ensures stays { answer_at self.old ≡ NoMatch → result ≡ NoMatch }
     {
@@ -108,11 +109,11 @@ impl<'a> Char16TrieIterator<'a> {
         ensures exact { StepsTo self.old.units self.old.place c self.new.place }
         ensures only { (q : Place) → StepsTo self.old.units self.old.place c q
             → q ≡ self.new.place }
-        ensures after { (m : UnitMap) (w : List ℕ) → IsAfter self.old m w
-            → IsAfter self.new m (w ++ c ∷ []) }
+        ensures after { (m : UnitMap) (w : List ℕ) → HasPassed self.old m w
+            → HasPassed self.new m (w ++ c ∷ []) }
         ensures nowhere { self.old.place ≡ Nowhere → self.new.place ≡ Nowhere }
         ensures answer { result ≡ answer_at self.new }
-        ensures told { (m : UnitMap) (w : List ℕ) → IsAfter self.new m w
+        ensures told { (m : UnitMap) (w : List ℕ) → HasPassed self.new m w
             → result ≡ result_of (value_of m w) (not (goes_on m w)) }
         ensures stays { answer_at self.old ≡ NoMatch → result ≡ NoMatch }
     {

@@ -17,13 +17,13 @@ pub struct Matches<'a> {
 impl<'a> Matches<'a> {
     ghost use Rattle.std.specs.Prelude.{◌≡◌, ℕ, List, [], Some};
     ghost use Rattle.icu_char16trie.specs.UnitMap.{UnitMap};
-    ghost use Rattle.icu_char16trie.specs.UnitPlaces.{IsAfter};
+    ghost use Rattle.icu_char16trie.specs.UnitPlaces.{HasPassed};
     ghost use Rattle.icu_char16trie.specs.Matches.{matches_of};
     ghost use Rattle.icu_char16trie.specs.MatchesLeft.{AreLeft};
 
     /// The matches of a text, by a cursor at the root.
     pub(crate) fn new(cursor: Char16TrieCursor<'a>, text: &'a [u16]) -> Self
-        ensures { (m : UnitMap) → IsAfter cursor.entry m []
+        ensures { (m : UnitMap) → HasPassed cursor.entry m []
             → AreLeft result m (matches_of m text.now) }
     {
         Matches {

@@ -11,7 +11,7 @@ ghost use Rattle.icu_char16trie.specs.Grammar.{IsTrieOf};
 ghost use Rattle.icu_char16trie.specs.UnitMap.{UnitMap, IsAscendingKeys};
 ghost use Rattle.icu_char16trie.specs.Entries.{IsLeft, GivesNext, AreEntries, AreCutShort};
 ghost use Rattle.icu_char16trie.specs.Listing.{AreToCome, entry_text, entry_value};
-ghost use Rattle.icu_char16trie.specs.UnitPlaces.{IsAfter};
+ghost use Rattle.icu_char16trie.specs.UnitPlaces.{HasPassed};
 ghost use Rattle.icu_char16trie.specs.declared.place.Place.TheVariants.{Node};
 
 use crate::cursor::Char16TrieCursor;
@@ -69,7 +69,7 @@ impl<'data> Char16Trie<'data> {
     pub fn cursor(&self) -> Char16TrieCursor<'_>
         ensures units { result.units ≡ self.now }
         ensures place { result.place ≡ Node 0 }
-        ensures root { (m : UnitMap) → IsTrieOf self.now m → IsAfter result m [] }
+        ensures root { (m : UnitMap) → IsTrieOf self.now m → HasPassed result m [] }
     {
         Char16TrieCursor::new(self.data.as_slice())
     }
@@ -85,7 +85,7 @@ impl<'data> Char16Trie<'data> {
     pub fn iter(&self) -> Char16TrieIterator<'_>
         ensures units { result.units ≡ self.now }
         ensures place { result.place ≡ Node 0 }
-        ensures root { (m : UnitMap) → IsTrieOf self.now m → IsAfter result m [] }
+        ensures root { (m : UnitMap) → IsTrieOf self.now m → HasPassed result m [] }
     {
         Char16TrieIterator::new(self.data.as_slice())
     }

@@ -12,7 +12,7 @@ use Rattle.std.proofs.lemmas.List.{get_or-map, get_or-take, take-take, length-ta
 use Rattle.std.proofs.lemmas.List.Elements.{All-take, All-more, All-get_or}
 use Rattle.icu_char16trie.specs.UnitMap.{UnitMap, KeyBelow, KeyBelowAll, IsAscendingKeys}
 use Rattle.icu_char16trie_builder.specs.Entries.{most_units}
-use Rattle.icu_char16trie_builder.specs.Sorted.{pair_map, key_at, IsInOrder, IsFirstRefused}
+use Rattle.icu_char16trie_builder.specs.Sorted.{pair_map, key_at, IsInOrder, IsFirstRefusedKey}
 use Rattle.icu_char16trie_builder.specs.Inside.Cuts.{cut, room}
 use Rattle.icu_char16trie_builder.specs.Inside.Refusals.{IsRefusal, CanBeWritten}
 use Rattle.icu_char16trie_builder.specs.declared.entry.Entry.{Entry}
@@ -176,7 +176,7 @@ room_of_pairs list m e = map_of_cut list 0 refl ∙ ap most_units e
 
 -- ---- one refusal at most holds
 
-one_place : (m : UnitMap) (i j : ℕ) → IsFirstRefused m i → IsFirstRefused m j → i ≡ j
+one_place : (m : UnitMap) (i j : ℕ) → IsFirstRefusedKey m i → IsFirstRefusedKey m j → i ≡ j
 one_place m i j h k =
     elim (cases_lt i j) [
       | inl before ↦ absurd (h.2 (shorter_in_order m (i + 1) j (omega (arith, before)) k.1))
@@ -186,10 +186,10 @@ one_place m i j h k =
       ]
     ]
 
-in_order_all : (m : UnitMap) (i : ℕ) → IsInOrder m → IsFirstRefused m i → ⊥
+in_order_all : (m : UnitMap) (i : ℕ) → IsInOrder m → IsFirstRefusedKey m i → ⊥
 in_order_all m i up h = h.2 (front_in_order (i + 1) m up)
 
-long_and_short : (m : UnitMap) (i j : ℕ) → IsFirstRefused m i → IsFirstRefused m j → 65535 < length (key_at m i)
+long_and_short : (m : UnitMap) (i j : ℕ) → IsFirstRefusedKey m i → IsFirstRefusedKey m j → 65535 < length (key_at m i)
     → length (key_at m j) ≤ 65535 → ⊥
 long_and_short m i j h k long short = absurd (omega (arith, long, short, ap (λ z. length (key_at m z)) (one_place m i j h k)))
 

@@ -19,5 +19,5 @@ IsInOrder m = All (λ e. length e.0 ≤ 65535) m × IsAscendingKeys m
 
 -- the first entry that can't be taken stands at place i: the entries before it are in order, and
 -- with it they are not
-abbrev pub IsFirstRefused : UnitMap → ℕ → Type 0
-IsFirstRefused m i = (i < length m) × IsInOrder (take i m) × ¬ (IsInOrder (take (i + 1) m))
+abbrev pub IsFirstRefusedKey : UnitMap → ℕ → Type 0
+IsFirstRefusedKey m i = (i < length m) × IsInOrder (take i m) × ¬ (IsInOrder (take (i + 1) m))

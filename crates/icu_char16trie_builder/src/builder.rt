@@ -4,7 +4,7 @@ ghost use Rattle.icu_char16trie.specs.Grammar.{IsTrieOf};
 ghost use Rattle.icu_char16trie.specs.Matches.{text_units};
 ghost use Rattle.icu_char16trie.specs.UnitMap.{UnitMap, value_of, IsAscendingKeys};
 ghost use Rattle.icu_char16trie_builder.specs.Entries.{with_entry, entry_map, most_units};
-ghost use Rattle.icu_char16trie_builder.specs.Sorted.{pair_map, key_at, IsInOrder, IsFirstRefused};
+ghost use Rattle.icu_char16trie_builder.specs.Sorted.{pair_map, key_at, IsInOrder, IsFirstRefusedKey};
 ghost use Rattle.icu_char16trie_builder.specs.Inside.Cuts.{cut, room};
 ghost use Rattle.icu_char16trie_builder.specs.declared.error.AddError.TheVariants.{KeyTooLong, Duplicate};
 ghost use Rattle.icu_char16trie_builder.specs.declared.error.BuildError.TheVariants.{TooLarge, Memory};
@@ -312,10 +312,10 @@ impl Char16TrieBuilder {
         ensures in_order { OnOk result (IsInOrder (pair_map entries.now)) }
         ensures too_long { let m = pair_map entries.now in
             (i : ℕ) → (result ≡ Err (sorted.KeyTooLong i))
-            ↔ (IsFirstRefused m i × (65535 < length (key_at m i))) }
+            ↔ (IsFirstRefusedKey m i × (65535 < length (key_at m i))) }
         ensures not_ascending { let m = pair_map entries.now in
             (i : ℕ) → (result ≡ Err (sorted.NotAscending i))
-            ↔ (IsFirstRefused m i × (length (key_at m i) ≤ 65535)) }
+            ↔ (IsFirstRefusedKey m i × (length (key_at m i) ≤ 65535)) }
         ensures too_large { let m = pair_map entries.now in
             (result ≡ Err sorted.TooLarge) ↔ (IsInOrder m × (0x7FFF_FFFF < most_units m)) }
     {

@@ -2,7 +2,7 @@
 ghost use Rattle.std.specs.Prelude.{◌≡◌, ◌↔◌, ℕ, ◌+◌, ◌<◌, ◌≤◌, length, take, IsTrue, IfOk, MatchOption};
 ghost use Rattle.icu_char16trie.specs.UnitMap.{KeyBelow};
 ghost use Rattle.icu_char16trie_builder.specs.Entries.{most_units};
-ghost use Rattle.icu_char16trie_builder.specs.Sorted.{pair_map, key_at, IsInOrder, IsFirstRefused};
+ghost use Rattle.icu_char16trie_builder.specs.Sorted.{pair_map, key_at, IsInOrder, IsFirstRefusedKey};
 ghost use Rattle.icu_char16trie_builder.specs.Inside.Cuts.{cut};
 ghost use Rattle.icu_char16trie_builder.specs.Inside.Refusals.{IsRefusal, IsTold};
 
@@ -37,7 +37,7 @@ fn follows(entries: &[(&[u16], i32)], i: usize) -> bool
 /// The place of the first entry that can't be taken, if there is one.
 fn first_refused(entries: &[(&[u16], i32)]) -> Option<usize>
     ensures { MatchOption result (IsInOrder (pair_map entries.now))
-        (IsFirstRefused (pair_map entries.now)) }
+        (IsFirstRefusedKey (pair_map entries.now)) }
 {
     for i in 0..entries.len() {
         if !follows(entries, i) {
@@ -49,7 +49,7 @@ fn first_refused(entries: &[(&[u16], i32)]) -> Option<usize>
 
 /// Why the entry at a place is refused, which is the first that can't be taken.
 fn refusal_at(entries: &[(&[u16], i32)], i: usize) -> SortedError
-    requires { IsFirstRefused (pair_map entries.now) i }
+    requires { IsFirstRefusedKey (pair_map entries.now) i }
     ensures { IsRefusal (pair_map entries.now) result }
 {
     if entries[i].0.len() > LONGEST_KEY {

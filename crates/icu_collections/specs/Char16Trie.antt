@@ -4,7 +4,7 @@ pub use Rattle.icu_char16trie.specs.UnitMap.{IsAscendingKeys, KeyBelow, KeyBelow
 unfoldable pub use Rattle.icu_char16trie.specs.UnitMap.{after, after_all, same_key, value_of}
 unfoldable pub use Rattle.icu_char16trie.specs.UnitMap.{goes_on, key_goes_on}
 pub use Rattle.icu_char16trie.specs.Grammar.{IsTrieOf}
-pub use Rattle.icu_char16trie.specs.UnitPlaces.{At, InRun, IsAfter, Stands, ends_by, is_empty_at, value_at, value_by}
+pub use Rattle.icu_char16trie.specs.UnitPlaces.{At, HasPassed, InRun, Stands, ends_by, is_empty_at, value_at, value_by}
 pub use Rattle.icu_char16trie.specs.CursorPlaces.{place_of}
 pub use Rattle.icu_char16trie.specs.Steps.{StepsAlong, StepsTo}
 pub use Rattle.icu_char16trie.specs.Passed.{Passes, answer_at, result_of}
@@ -19,7 +19,7 @@ unfoldable pub use Rattle.icu_char16trie.specs.NextUnits.{first_units}
 pub use Rattle.icu_char16trie.specs.OneValue.{AllHaveValue, HaveOneValue, StandsForOneValue}
 pub use Rattle.icu_char16trie.specs.LossyText.{key_text}
 unfoldable pub use Rattle.icu_char16trie_builder.specs.Entries.{most_units, with_entry}
-pub use Rattle.icu_char16trie_builder.specs.Sorted.{IsFirstRefused, IsInOrder, key_at, pair_map}
+pub use Rattle.icu_char16trie_builder.specs.Sorted.{IsFirstRefusedKey, IsInOrder, key_at, pair_map}
 pub use Rattle.icu_char16trie_builder.specs.Errors.{entry_refusal}
 -- The format, unit by unit, how a unit leads on, and what an iterator has still to give
 pub use Rattle.icu_char16trie.specs.Numbers

@@ -1,6 +1,6 @@
 -- The words of packed vectors: values and the bytes that they are kept in.
 pub use Rattle.icu_zerovec.specs.Canonical.{IsCanonical}
-pub use Rattle.icu_zerovec.specs.Cells.{IsCell, IsConverted, IsFault, IsFirstRefused, IsPacked, cell, one_write, same_bytes, values_from}
+pub use Rattle.icu_zerovec.specs.Cells.{IsCell, IsConverted, IsFault, IsFirstRefusedCell, IsPacked, cell, one_write, same_bytes, values_from}
 unfoldable pub use Rattle.icu_zerovec.specs.Cells.{values_of}
 pub use Rattle.icu_zerovec.specs.Slice.{slice_values}
 -- For a type of one's own: bytes of numbers, and the laws of those of the crate

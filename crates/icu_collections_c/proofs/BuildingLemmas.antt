@@ -23,7 +23,7 @@ use Rattle.icu_trie_binary.proofs.CallerLemmas.{answers-stored}
 use Rattle.icu_trie_builder.specs.Bounds.{IsTooLarge}
 use Rattle.icu_trie_builder.specs.Built.{IsWellBuilt}
 use Rattle.icu_trie_builder.specs.MapAnswers.{AnswersMap}
-use Rattle.icu_trie_builder.specs.Writes.{covers as write_covers, first_of, is_accepted, last_of, last_written, value_after, value_of}
+use Rattle.icu_trie_builder.specs.Writes.{covers as write_covers, write_first, is_accepted, write_last, last_written, value_after, write_value}
 use Rattle.icu_trie_builder.specs.declared.writes.Write.{Write}
 use Rattle.icu_trie_builder.proofs.CallerLemmas.{answer-of-map, error-of-map}
 use Rattle.icu_collections_c.specs.Building.{AreFitting, IsBuilt, IsForm, IsTooLargeFor, IsTrieOf, IsWhyNotBuilt, covers, last_row, most_bytes, row_answer, row_value}
@@ -48,10 +48,10 @@ module _ {T : Type 0} (number : T → ℕ) where
   last_row-of : (ws : List (Write T)) (c : ℕ) → last_row (map (row_of number) ws) c ≡ option_map number (last_written ws c)
   last_row-of [] c = refl
   last_row-of (w ∷ ws) c =
-      ap (λ o. option_or o (cond (covers (row_of number w) c) (Some (number (value_of w))) None)) (last_row-of ws c)
-      ∙ ap (λ b. option_or (option_map number (last_written ws c)) (cond b (Some (number (value_of w))) None))
-      (covers-same (first_of w) (last_of w) c)
-      ∙ joined (value_of w) (write_covers w c) (last_written ws c)
+      ap (λ o. option_or o (cond (covers (row_of number w) c) (Some (number (write_value w))) None)) (last_row-of ws c)
+      ∙ ap (λ b. option_or (option_map number (last_written ws c)) (cond b (Some (number (write_value w))) None))
+      (covers-same (write_first w) (write_last w) c)
+      ∙ joined (write_value w) (write_covers w c) (last_written ws c)
 
   unwrapped : (d : T) (default : ℕ) → number d ≡ default → (o : Option T) → unwrap_or (option_map number o) default ≡ number (unwrap_or o d)
   unwrapped d default e (Some x) = refl

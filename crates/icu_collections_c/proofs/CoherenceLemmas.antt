@@ -3,7 +3,7 @@ use Rattle.std.proofs.Common.{◌≡◌, ◌∙◌, refl, sym, ap, ℕ, zero, su
 use Rattle.std.specs.Option.{option_and_then}
 use Rattle.std.proofs.lemmas.Bool.{cases_lt, lt-ltb, le-ltb}
 use Rattle.std.proofs.lemmas.Option.{slice_get_past}
-use Rattle.icu_trie.specs.Parts.{Parts, fault}
+use Rattle.icu_trie.specs.Parts.{Parts, parts_fault}
 use Rattle.icu_trie.specs.Ranges.{answers, IsCoherentTrie}
 use Rattle.icu_trie_core.specs.Format.{answer, fast_limit, fast_offset, index1_start, index2_cell, small_offset}
 use Rattle.icu_trie_core.specs.declared.header.CodePointTrieHeader.{CodePointTrieHeader}
@@ -143,7 +143,7 @@ module _ {T : Type 0} (of_number : ℕ → Option T) (number : T → ℕ) (width
             absurd (no_512 far b l m (cell.1 ∙ both));
       }
 
-  pub coherent-stored_form : why_not_written width number t ≡ None → fault of_number t.header t.index t.values ≡ None
+  pub coherent-stored_form : why_not_written width number t ≡ None → parts_fault of_number t.header t.index t.values ≡ None
       → IsCoherentTrie of_number (stored_form width number t)
   coherent-stored_form room whole = elim (cases_lt t.header.data_null_offset (length t.values)) [
     | inl named ↦ coherent-stored width number t of_number room named whole well.coherent

@@ -7,7 +7,7 @@ use Rattle.icu_trie_core.specs.ValueNumbers.{fitting}
 use Rattle.icu_trie_core.specs.declared.header.TrieType.{TrieType}
 use Rattle.icu_trie_core.specs.declared.header.TrieType.TheVariants.{Fast, Small}
 use Rattle.icu_trie_core.specs.declared.header.CodePointTrieHeader.{CodePointTrieHeader}
-use Rattle.icu_trie.specs.Parts.{Parts, fault, trie_value}
+use Rattle.icu_trie.specs.Parts.{Parts, parts_fault, trie_value}
 use Rattle.icu_collections_c.specs.declared.tries.Trie.{Trie}
 
 -- the numbers of the whole cells of bytes, so many bytes each, the lowest byte first
@@ -65,7 +65,7 @@ pub record IsSound {T : Type 0} (of_number : ℕ → Option T) (unpack : List �
     (width : ℕ) (trie : Trie) : Type 0 where
   pub index : length trie.index.now % 2 ≡ 0
   pub values : length trie.values.now % width ≡ 0
-  pub parts : fault of_number (header_of trie) (cells_of 2 trie.index.now)
+  pub parts : parts_fault of_number (header_of trie) (cells_of 2 trie.index.now)
       (values_of unpack width trie.values.now) ≡ None
 
 -- the same of numbers of so many bytes each

@@ -10,7 +10,7 @@ ghost use Rattle.icu_char16trie.specs.Matches.{IsLongestInText, IsLongestMatch, 
 ghost use Rattle.icu_char16trie.specs.Passed.{answer_at, result_of};
 ghost use Rattle.icu_char16trie.specs.Steps.{StepsTo};
 ghost use Rattle.icu_char16trie.specs.UnitMap.{UnitMap, goes_on, value_of};
-ghost use Rattle.icu_char16trie.specs.UnitPlaces.{IsAfter, value_at};
+ghost use Rattle.icu_char16trie.specs.UnitPlaces.{HasPassed, value_at};
 ghost use Rattle.icu_char16trie.specs.declared.place.Place.{Place};
 ghost use Rattle.icu_collections_c.specs.UnitTries.{GivesMatchInText, GivesMatchThat, GivesValue, GivesValueAlong, at, place_of, root, step_number, units_of};
 
@@ -99,10 +99,10 @@ pub extern "C" fn bks_units_longest_utf8(units: &[u8], text: &[u8], value: &mut 
 #[unsafe(no_mangle)]
 pub extern "C" fn bks_units_step(units: &[u8], cursor: &mut Cursor, unit: u16) -> u32
     ensures root { (m : UnitMap) → IsTrieOf (units_of units.now) m
-        → IsAfter (at units.now root) m [] }
-    ensures after { (m : UnitMap) (w : List ℕ) → IsAfter (at units.now cursor.old) m w
-        → IsAfter (at units.now cursor.new) m (w ++ unit ∷ []) }
-    ensures keys { (m : UnitMap) (w : List ℕ) → IsAfter (at units.now cursor.new) m w
+        → HasPassed (at units.now root) m [] }
+    ensures after { (m : UnitMap) (w : List ℕ) → HasPassed (at units.now cursor.old) m w
+        → HasPassed (at units.now cursor.new) m (w ++ unit ∷ []) }
+    ensures keys { (m : UnitMap) (w : List ℕ) → HasPassed (at units.now cursor.new) m w
         → result ≡ step_number (result_of (value_of m w) (not (goes_on m w))) }
 
     // On all units: the one place that the unit leads to.
@@ -127,8 +127,8 @@ pub extern "C" fn bks_units_step(units: &[u8], cursor: &mut Cursor, unit: u16) -
 #[unsafe(no_mangle)]
 pub extern "C" fn bks_units_value(units: &[u8], cursor: &Cursor, value: &mut i32) -> bool
     ensures root { (m : UnitMap) → IsTrieOf (units_of units.now) m
-        → IsAfter (at units.now root) m [] }
-    ensures keys { (m : UnitMap) (w : List ℕ) → IsAfter (at units.now cursor.now) m w
+        → HasPassed (at units.now root) m [] }
+    ensures keys { (m : UnitMap) (w : List ℕ) → HasPassed (at units.now cursor.now) m w
         → GivesValue (value_of m w) value.old result value.new }
     ensures exact { GivesValue (value_at (units_of units.now) (place_of cursor.now)) value.old
         result value.new }

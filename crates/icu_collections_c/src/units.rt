@@ -2,7 +2,7 @@
 ghost use Rattle.std.specs.Prelude.{◌≡◌, ℕ, ◌<◌, ◌^◌, List, IfSome, not};
 ghost use Rattle.icu_char16trie.specs.Passed.{answer_at, result_of};
 ghost use Rattle.icu_char16trie.specs.UnitMap.{UnitMap, goes_on, value_of};
-ghost use Rattle.icu_char16trie.specs.UnitPlaces.{IsAfter};
+ghost use Rattle.icu_char16trie.specs.UnitPlaces.{HasPassed};
 ghost use Rattle.icu_collections_c.specs.UnitTries.{GivesMatch, GivesValue, step_number, units_of};
 
 use icu_char16trie::char16trie::{Char16Trie, Char16TrieCursor};
@@ -51,7 +51,7 @@ pub(crate) fn give_match(found: Option<(usize, i32)>, value: &mut i32) -> i64
 /// The number of what is told where the cursor stands.
 #[inline(always)]
 pub(crate) fn step_number(cursor: &Char16TrieCursor<'_>) -> u32
-    ensures keys { (m : UnitMap) (w : List ℕ) → IsAfter cursor.now m w
+    ensures keys { (m : UnitMap) (w : List ℕ) → HasPassed cursor.now m w
         → result ≡ step_number (result_of (value_of m w) (not (goes_on m w))) }
     ensures exact { result ≡ step_number (answer_at cursor.now) }
 {

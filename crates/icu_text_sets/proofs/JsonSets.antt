@@ -7,7 +7,7 @@ use Rattle.icu_invlist.specs.SetJson.{ends_of, IsRefusedJson}
 use Rattle.icu_invlist.specs.declared.codepointinvlist.error.SetJsonError.{SetJsonError}
 use Rattle.icu_invlist.specs.declared.codepointinvlist.error.SetJsonError.TheVariants.{NotAnArray, NotAString, NotARange, InvalidSet, Memory}
 use Rattle.icu_text_sets.specs.TextSet.{TextSet}
-use Rattle.icu_text_sets.specs.TextFaults.{TextFault, fault}
+use Rattle.icu_text_sets.specs.TextFaults.{TextFault, strings_fault}
 use Rattle.icu_text_sets.specs.TextSetJson.{JsonFault, no_set, text_fault, texts_said, set_unless, set_with, IsReadWith, IsReadAt, IsRead, IsRefusedAs}
 use Rattle.icu_text_sets.specs.Inside.JsonParts.{set_fault_of, GivesTexts}
 
@@ -47,16 +47,16 @@ texts_refused d p ends (Some f) g e v h = with_points d p ends (Err f) g e v (sy
 
 with_texts : (d p : Data) (ends : List ℕ) (texts : List (List ℕ)) (o : Option TextFault) (r : Result TextSet JsonFault) → PointsAt d p
     → ends_of p ≡ Ok ends → IsValid ends
-    → texts_said d ≡ Ok texts → fault texts ≡ o → r ≡ set_unless ends texts o → IsRead d r
+    → texts_said d ≡ Ok texts → strings_fault texts ≡ o → r ≡ set_unless ends texts o → IsRead d r
 with_texts d p ends texts o r g e v t f h =
     with_points d p ends r g e v (h ∙ sym (ap (set_unless ends texts) f) ∙ sym (ap (set_with ends) t))
 
 pub set_taken : (d p : Data) (ends : List ℕ) (texts : List (List ℕ)) (set : TextSet) → PointsAt d p → ends_of p ≡ Ok ends → IsValid ends
-    → texts_said d ≡ Ok texts → fault texts ≡ None
+    → texts_said d ≡ Ok texts → strings_fault texts ≡ None
     → set ≡ record { code_points = ends; strings = texts } → IsRead d (Ok set)
 set_taken d p ends texts set g e v t f h = with_texts d p ends texts None (Ok set) g e v t f (ap (λ z. Ok z) h)
 
 pub strings_refused : (d p : Data) (ends : List ℕ) (texts : List (List ℕ)) (f : TextFault) → PointsAt d p → ends_of p ≡ Ok ends
-    → IsValid ends → texts_said d ≡ Ok texts → fault texts ≡ Some f
+    → IsValid ends → texts_said d ≡ Ok texts → strings_fault texts ≡ Some f
     → IsRead d (Err (text_fault f))
 strings_refused d p ends texts f g e v t h = with_texts d p ends texts (Some f) (Err (text_fault f)) g e v t h refl

@@ -8,7 +8,7 @@ use Rattle.icu_invlist.specs.InversionList.{IsValid}
 use Rattle.icu_invlist.specs.SetJson.{ends_of, list_of, written_of}
 use Rattle.icu_invlist.specs.declared.codepointinvlist.error.SetJsonError.{SetJsonError}
 use Rattle.icu_text_sets.specs.TextSet.{TextSet, IsStringList}
-use Rattle.icu_text_sets.specs.TextFaults.{fault}
+use Rattle.icu_text_sets.specs.TextFaults.{strings_fault}
 use Rattle.icu_text_sets.specs.TextSetJson.{JsonFault, text_or, texts_said, set_unless, json_of, IsReadWith, IsRead}
 use Rattle.icu_text_sets.proofs.Walks.{no_fault}
 
@@ -27,7 +27,7 @@ unfolding serde_json_on_literals
 said_back set = ap (read_from text_or 0) (list_of-items_of (map (λ t. string t) set.strings)) ∙ texts_read 0 set.strings
 
 read_with : (ends : List ℕ) (texts : List (List ℕ)) (points : Result (List ℕ) SetJsonError) (said : Result (List (List ℕ)) JsonFault)
-    → points ≡ Ok ends → said ≡ Ok texts → IsValid ends → fault texts ≡ None
+    → points ≡ Ok ends → said ≡ Ok texts → IsValid ends → strings_fault texts ≡ None
     → IsReadWith points said (Ok (record { code_points = ends; strings = texts }))
 read_with ends texts points said e t v n = rw (e, t) (inl (v, sym (ap (set_unless ends texts) n)))
 

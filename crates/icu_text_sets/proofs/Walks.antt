@@ -6,7 +6,7 @@ use Rattle.std.proofs.lemmas.Option.{same_Some}
 use Rattle.std.specs.declared.cmp.Ordering.{Ordering}
 use Rattle.std.specs.declared.cmp.Ordering.TheVariants.{Less, Equal, Greater}
 use Rattle.icu_text_sets.specs.TextSet.{only_char, text_cmp, texts_of, IsStringList}
-use Rattle.icu_text_sets.specs.TextFaults.{TextFault, one_code_point, repeated, unsorted, fault_of_one, fault_of_two, fault}
+use Rattle.icu_text_sets.specs.TextFaults.{TextFault, one_code_point, repeated, unsorted, fault_of_one, fault_of_two, strings_fault}
 use Rattle.icu_text_sets.specs.Inside.StringFaults.{fault_at, fault_length, next_kind, kind_as, kind_of}
 use Rattle.icu_text_sets.specs.declared.codepointinvliststringlist.make.Fault.{Fault}
 use Rattle.icu_text_sets.specs.declared.codepointinvliststringlist.make.Fault.TheVariants.{OneCodePoint, Repeated, Unsorted}
@@ -40,10 +40,11 @@ before_on : (t u : List ℕ) (o : Option ℕ) (later : Option TextFault) → kin
 before_on t u None later h = neighbours_on t u (text_cmp t u) later h
 before_on t u (Some c) later h = absurd cc
 
-on : (t : List ℕ) (rest : List (String Global)) → kind_of t (first_text rest) ≡ None → fault (t ∷ texts_of rest) ≡ fault (texts_of rest)
-unfolding fault
+on : (t : List ℕ) (rest : List (String Global)) → kind_of t (first_text rest) ≡ None
+    → strings_fault (t ∷ texts_of rest) ≡ strings_fault (texts_of rest)
+unfolding strings_fault
 on t [] h = alone_on t (only_char t) h
-on t (s ∷ rest) h = before_on t (string_bytes s) (only_char t) (fault (texts_of (s ∷ rest))) h
+on t (s ∷ rest) h = before_on t (string_bytes s) (only_char t) (strings_fault (texts_of (s ∷ rest))) h
 
 -- a fault
 neighbours_at : (t u : List ℕ) (o : Ordering) (later : Option TextFault) (f : Fault) → next_kind o ≡ Some f
@@ -63,10 +64,11 @@ before_at t u None later f h = neighbours_at t u (text_cmp t u) later f h
 before_at t u (Some c) later f h = let e = same_Some OneCodePoint f h in rw (← e) (refl, omega arith)
 
 stop : (t : List ℕ) (rest : List (String Global)) (f : Fault) → kind_of t (first_text rest) ≡ Some f
-    → (fault (t ∷ texts_of rest) ≡ Some (shown t (text_or_empty rest) f)) × (fault_length f ≤ suc (length rest))
-unfolding fault
+    → (strings_fault (t ∷ texts_of rest) ≡ Some (shown t (text_or_empty rest) f)) × (fault_length f ≤ suc (length rest))
+unfolding strings_fault
 stop t [] f h = alone_at t (only_char t) f h
-stop t (s ∷ rest) f h = let p = before_at t (string_bytes s) (only_char t) (fault (texts_of (s ∷ rest))) f h in (p.0, omega (arith, p.1))
+stop t (s ∷ rest) f h = let p = before_at t (string_bytes s) (only_char t) (strings_fault (texts_of (s ∷ rest))) f h in
+    (p.0, omega (arith, p.1))
 
 -- ---- a place of the list
 here : (strings : List (String Global)) (i : ℕ) (x : String Global) → i < length strings → x ≡ get_or strings i x
@@ -102,28 +104,28 @@ kind_here strings i x next r p e =
 pub goes_on : (strings : List (String Global)) (i : ℕ) (x : String Global) (next : Option (Bor (String Global))) (whole : Option TextFault)
     → i < length strings → x ≡ get_or strings i x
     → IsItemAt strings (i + 1) next → None ≡ kind_of (string_bytes x) (option_map (λ s. string_bytes s.now) next)
-    → fault (texts_of (drop i strings)) ≡ whole → fault (texts_of (drop (i + 1) strings)) ≡ whole
+    → strings_fault (texts_of (drop i strings)) ≡ whole → strings_fault (texts_of (drop (i + 1) strings)) ≡ whole
 goes_on strings i x next whole h e p k w =
     rw add-one (sym (on (string_bytes x) (drop (suc i) strings) (kind_here strings i x next None p k))
-    ∙ sym (ap (λ z. fault (texts_of z)) (here strings i x h e)) ∙ w)
+    ∙ sym (ap (λ z. strings_fault (texts_of z)) (here strings i x h e)) ∙ w)
 
 pub stops : (strings : List (String Global)) (i : ℕ) (x : String Global) (next : Option (Bor (String Global))) (whole : Option TextFault)
     (f : Fault) → i < length strings → x ≡ get_or strings i x
     → IsItemAt strings (i + 1) next → Some f ≡ kind_of (string_bytes x) (option_map (λ s. string_bytes s.now) next)
-    → fault (texts_of (drop i strings)) ≡ whole → whole ≡ Some (fault_at (texts_of strings) i f)
+    → strings_fault (texts_of (drop i strings)) ≡ whole → whole ≡ Some (fault_at (texts_of strings) i f)
 stops strings i x next whole f h e p k w =
     let first : string_bytes x ≡ get_or (texts_of strings) i [] = sym (ap text_or_empty (here strings i x h e)) ∙ text_at strings i in
     let second : text_or_empty (drop (suc i) strings) ≡ get_or (texts_of strings) (i + 1) [] =
     text_at strings (suc i) ∙ ap (λ k. get_or (texts_of strings) k []) (sym (add-one i)) in
     let found = (stop (string_bytes x) (drop (suc i) strings) f (kind_here strings i x next (Some f) p k)).0 in
-    sym w ∙ ap (λ z. fault (texts_of z)) (here strings i x h e) ∙ found
+    sym w ∙ ap (λ z. strings_fault (texts_of z)) (here strings i x h e) ∙ found
     ∙ ap (λ z. Some z) (ap (λ t. shown t (text_or_empty (drop (suc i) strings)) f) first
     ∙ ap (λ u. shown (get_or (texts_of strings) i []) u f) second ∙ shown_at (texts_of strings) i f)
 
 pub at_end : (strings : List (String Global)) (i : ℕ) (whole : Option TextFault) → length strings ≤ i
-    → fault (texts_of (drop i strings)) ≡ whole → whole ≡ None
-unfolding fault
-at_end strings i whole h w = sym w ∙ ap (λ z. fault (texts_of z)) (drop_all i strings h)
+    → strings_fault (texts_of (drop i strings)) ≡ whole → whole ≡ None
+unfolding strings_fault
+at_end strings i whole h w = sym w ∙ ap (λ z. strings_fault (texts_of z)) (drop_all i strings h)
 
 -- ---- a list with no fault is one of a set
 only_none : (t : List ℕ) (o : Option ℕ) (later : Option TextFault) → fault_of_one t o later ≡ None → (o ≡ None) × (later ≡ None)
@@ -135,18 +137,18 @@ less_none t u Less later h = (refl, h)
 less_none t u Equal later h = absurd cc
 less_none t u Greater later h = absurd cc
 
-pub faultless : (ts : List (List ℕ)) → fault ts ≡ None → IsStringList ts
-unfolding fault
+pub faultless : (ts : List (List ℕ)) → strings_fault ts ≡ None → IsStringList ts
+unfolding strings_fault
 faultless [] h = tt
 faultless (t ∷ []) h = (only_none t (only_char t) None h).0
 faultless (t ∷ u ∷ ts) h =
-    let p = only_none t (only_char t) (fault_of_two t u (text_cmp t u) (fault (u ∷ ts))) h in
-    let q = less_none t u (text_cmp t u) (fault (u ∷ ts)) p.1 in
+    let p = only_none t (only_char t) (fault_of_two t u (text_cmp t u) (strings_fault (u ∷ ts))) h in
+    let q = less_none t u (text_cmp t u) (strings_fault (u ∷ ts)) p.1 in
     (p.0, q.0, faultless (u ∷ ts) q.1)
 
 -- and the other way round
-pub no_fault : (ts : List (List ℕ)) → IsStringList ts → fault ts ≡ None
-unfolding fault
+pub no_fault : (ts : List (List ℕ)) → IsStringList ts → strings_fault ts ≡ None
+unfolding strings_fault
 no_fault [] s = refl
 no_fault (t ∷ []) s = rw s refl
 no_fault (t ∷ u ∷ ts) s = rw (s.0, s.1) (no_fault (u ∷ ts) s.2)

@@ -27,10 +27,11 @@ fault_of_two t u Equal later = Some (repeated t)
 fault_of_two t u Greater later = Some (unsorted t u)
 
 -- the first fault of a list of texts
-unfoldable pub fault : List (List ℕ) → Option TextFault
-fault [] = None
-fault (t ∷ []) = fault_of_one t (only_char t) None
-fault (t ∷ u ∷ ts) = fault_of_one t (only_char t) (fault_of_two t u (text_cmp t u) (fault (u ∷ ts)))
+unfoldable pub strings_fault : List (List ℕ) → Option TextFault
+strings_fault [] = None
+strings_fault (t ∷ []) = fault_of_one t (only_char t) None
+strings_fault (t ∷ u ∷ ts) =
+    fault_of_one t (only_char t) (fault_of_two t u (text_cmp t u) (strings_fault (u ∷ ts)))
 
 -- what an error says
 abbrev pub fault_of : InvalidStringList → TextFault

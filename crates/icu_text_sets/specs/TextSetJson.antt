@@ -11,7 +11,7 @@ use Rattle.icu_invlist.specs.declared.codepointinvlist.error.SetJsonError.{SetJs
 use Rattle.icu_invlist.specs.declared.codepointinvlist.error.SetJsonError.TheVariants.{NotAnArray, NotAString, NotARange, InvalidSet, Memory}
 use Rattle.icu_zerovec.specs.FirstFault.{and_then, read_from}
 use Rattle.icu_text_sets.specs.TextSet.{TextSet}
-use Rattle.icu_text_sets.specs.TextFaults.{TextFault, fault, fault_of}
+use Rattle.icu_text_sets.specs.TextFaults.{TextFault, strings_fault, fault_of}
 use Rattle.icu_text_sets.specs.declared.codepointinvliststringlist.error.StringListJsonError.{StringListJsonError}
 use Rattle.icu_text_sets.specs.declared.codepointinvliststringlist.error.StringListJsonError.TheVariants as errors
 
@@ -70,7 +70,7 @@ set_unless ends texts None = Ok (record { code_points = ends; strings = texts })
 set_unless ends texts (Some f) = Err (text_fault f)
 
 abbrev pub set_with : List ℕ → Result (List (List ℕ)) JsonFault → Result TextSet JsonFault
-set_with ends said = and_then said (λ texts. set_unless ends texts (fault texts))
+set_with ends said = and_then said (λ texts. set_unless ends texts (strings_fault texts))
 
 -- the ends are tested before the texts are looked for
 abbrev pub IsReadWith : Result (List ℕ) SetJsonError → Result (List (List ℕ)) JsonFault

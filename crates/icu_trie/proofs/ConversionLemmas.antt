@@ -4,7 +4,7 @@ use Rattle.std.proofs.lemmas.Bool.Decides.{nat_tests}
 use Rattle.icu_zerovec.specs.Cells.{values_of, IsConverted}
 use Rattle.icu_zerovec.proofs.CallerLemmas.{length-values_of}
 use Rattle.icu_trie.specs.Conversion.{with_null_value}
-use Rattle.icu_trie.specs.Parts.{fault}
+use Rattle.icu_trie.specs.Parts.{parts_fault}
 use Rattle.icu_trie_core.specs.declared.header.CodePointTrieHeader.{CodePointTrieHeader}
 
 -- as many values as before
@@ -18,5 +18,6 @@ length-converted f g w v xs ys same c =
 -- parts with no fault have none with as many other values and another null value that is one
 pub fault-kept : {T P : Type 0} (of_number : ℕ → Option T) (of_other : ℕ → Option P) (h : CodePointTrieHeader) (index : List ℕ)
     (xs : List T) (ys : List P) (n : ℕ) (p : P)
-    → fault of_number h index xs ≡ None → length ys ≡ length xs → of_other n ≡ Some p → fault of_other (with_null_value h n) index ys ≡ None
+    → parts_fault of_number h index xs ≡ None → length ys ≡ length xs → of_other n ≡ Some p
+    → parts_fault of_other (with_null_value h n) index ys ≡ None
 fault-kept of_number of_other h index xs ys n p sound same is = grind (arith, nat_tests)

@@ -28,9 +28,9 @@ abbrev pub trie_value : {T : Type 0} → Parts T → ℕ → Option T
 trie_value t u = option_or (answer t.header t.index t.values u) (last_cell t.values)
 
 -- the first fault of the parts of a trie, where of_number gives the value of a number
-abbrev pub fault : {T : Type 0} → (ℕ → Option T) → CodePointTrieHeader → List ℕ → List T
+abbrev pub parts_fault : {T : Type 0} → (ℕ → Option T) → CodePointTrieHeader → List ℕ → List T
     → Option CodePointTrieError
-fault of_number h index values =
+parts_fault of_number h index values =
     if nat_lt (length values) 1 then Some EmptyDataVector
     else (if is_none (of_number h.null_value) then Some InvalidNullValue
     else (if nat_lt (length index) (fast_index_len h.trie_type) then Some IndexTooShortForFastAccess

@@ -1,10 +1,10 @@
 //! The data of a trie, read as values of another type.
 ghost use Rattle.std.specs.Prelude.{◌≡◌, ◌≢◌, ℕ, List, length, slice_get, Some, None, Ok, Err, Result, IfOk};
 ghost use Rattle.icu_trie.specs.Conversion.{Becomes, same_packed, with_null_value};
-ghost use Rattle.icu_trie.specs.Parts.{fault};
+ghost use Rattle.icu_trie.specs.Parts.{parts_fault};
 ghost use Rattle.icu_trie.specs.declared.error.ConvertError.TheVariants.{Width, Cell};
 ghost use Rattle.icu_zerovec.specs.Canonical.{IsCanonical};
-ghost use Rattle.icu_zerovec.specs.Cells.{IsConverted, IsFirstRefused};
+ghost use Rattle.icu_zerovec.specs.Cells.{IsConverted, IsFirstRefusedCell};
 ghost use Rattle.icu_zerovec.specs.declared.ule.UleError.{UleError};
 ghost use Rattle.icu_zerovec.specs.declared.ule.UleError.TheVariants as bytes;
 
@@ -46,7 +46,7 @@ impl<'trie, T: TrieValue> CodePointTrie<'trie, T> {
         ensures ok { IsCanonical T.pack T.unpack T.WIDTH → IfOk result (λ t. (i : ℕ)
             → slice_get t.values i ≡ same_packed T.pack P.unpack (slice_get self.entry.values i)) }
         ensures err { IsCanonical T.pack T.unpack T.WIDTH → (i : ℕ) → result ≡ Err (Cell i)
-            → IsFirstRefused T.pack P.unpack self.entry.values (bytes.Cell i) }
+            → IsFirstRefusedCell T.pack P.unpack self.entry.values (bytes.Cell i) }
     {
         if T::WIDTH != P::WIDTH {
             return Err(ConvertError::Width);
@@ -79,7 +79,8 @@ impl<'trie, T: TrieValue> CodePointTrie<'trie, T> {
         data: ZeroVec<'trie, T>,
         null: T,
     ) -> Self
-        requires { fault T.of_number (with_null_value header (T.number null)) index «data» ≡ None }
+        requires { parts_fault T.of_number (with_null_value header (T.number null)) index «data»
+            ≡ None }
         ensures { result
             ≡ record {
               header = with_null_value header (T.number null);

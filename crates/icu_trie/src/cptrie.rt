@@ -3,7 +3,7 @@ ghost use Rattle.std.specs.Prelude.{◌≡◌, ℕ, ◌<◌, ◌≤◌, length, 
 ghost use Rattle.std.specs.Option.{option_map};
 ghost use Rattle.icu_trie_core.specs.Format.{fast_limit};
 ghost use Rattle.icu_trie_core.specs.FastIndex.{passes_data, fast_index_len};
-ghost use Rattle.icu_trie.specs.Parts.{fault, last_cell, IsWhyNoTrie};
+ghost use Rattle.icu_trie.specs.Parts.{parts_fault, last_cell, IsWhyNoTrie};
 ghost use Rattle.icu_zerovec.specs.Slice.{slice_values};
 
 use crate::error::PartsError;
@@ -59,14 +59,14 @@ pub struct CodePointTrie<'trie, T: TrieValue> {
 
 impl<'trie, T: TrieValue> Model for CodePointTrie<'trie, T> {
     ghost use Rattle.std.specs.Prelude.{◌≡◌, Some, None};
-    ghost use Rattle.icu_trie.specs.Parts.{Parts, fault, last_cell};
+    ghost use Rattle.icu_trie.specs.Parts.{Parts, parts_fault, last_cell};
 
     ghost Value = { Parts T };
 
     ghost view = { λ t. record { header = t.header; index = t.index; values = t.«data» } };
 
     ghost invariant = { λ t. (last_cell t.«data» ≡ Some t.error_value)
-        × (fault T.of_number t.header t.index t.«data» ≡ None) };
+        × (parts_fault T.of_number t.header t.index t.«data» ≡ None) };
 }
 
 impl<'trie, T: TrieValue> CodePointTrie<'trie, T> {
@@ -94,9 +94,10 @@ impl<'trie, T: TrieValue> CodePointTrie<'trie, T> {
         ensures trie { IfOk result
             (λ trie. trie ≡ record
             { header = header; index = index.entry; values = «data».entry }) }
-        ensures ok { IfOk result (λ _. fault T.of_number header index.entry «data».entry ≡ None) }
+        ensures ok { IfOk result
+            (λ _. parts_fault T.of_number header index.entry «data».entry ≡ None) }
         ensures err { IfErr result
-            (λ e. fault T.of_number header index.entry «data».entry ≡ Some e) }
+            (λ e. parts_fault T.of_number header index.entry «data».entry ≡ Some e) }
     {
         let Some(error_value) = data.last() else {
             return Err(CodePointTrieError::EmptyDataVector);
@@ -131,8 +132,9 @@ impl<'trie, T: TrieValue> CodePointTrie<'trie, T> {
     ) -> Result<CodePointTrie<'static, T>, PartsError>
         ensures trie { IfOk result
             (λ trie. trie ≡ record { header = header; index = index.now; values = values.now }) }
-        ensures ok { IfOk result (λ _. fault T.of_number header index.now values.now ≡ None) }
-        ensures err { IfErr result (IsWhyNoTrie (fault T.of_number header index.now values.now)) }
+        ensures ok { IfOk result (λ _. parts_fault T.of_number header index.now values.now ≡ None) }
+        ensures err { IfErr result
+            (IsWhyNoTrie (parts_fault T.of_number header index.now values.now)) }
     {
         let index = ZeroVec::alloc_from_slice(alloc, index)?;
         let data = ZeroVec::alloc_from_slice(alloc, values)?;
@@ -289,7 +291,8 @@ impl<'trie, T: TrieValue> CodePointTrie<'trie, T> {
         ensures header { result.0 ≡ self.now.header }
         ensures index { slice_values result.1 ≡ self.now.index }
         ensures values { slice_values result.2 ≡ self.now.values }
-        ensures whole { fault T.of_number self.now.header self.now.index self.now.values ≡ None }
+        ensures whole { parts_fault T.of_number self.now.header self.now.index self.now.values
+            ≡ None }
     {
         (self.header, self.index.as_slice(), self.data.as_slice())
     }

@@ -6,7 +6,7 @@ use Rattle.std.proofs.Math.Nat.{mul_comm}
 use Rattle.std.proofs.lemmas.List.{length-append}
 use Rattle.icu_zerovec.specs.Cells.{values_of, IsPacked}
 use Rattle.icu_zerovec.specs.PackedBytes.{low_bytes, number_of}
-use Rattle.icu_trie.specs.Parts.{Parts, fault}
+use Rattle.icu_trie.specs.Parts.{Parts, parts_fault}
 use Rattle.icu_trie_binary.specs.BinaryTrie.{IsStored}
 use Rattle.icu_trie_binary.specs.WrittenTrie.{header_bytes, padding, stored_index, header_for, null_number, stored_form, written_length, why_not_written, front_bytes}
 use Rattle.icu_trie_binary.proofs.StoredIndex.{length-packed, values_of-stored_index, length-stored_index, flat_map-stored_index}
@@ -15,7 +15,7 @@ use Rattle.icu_trie_binary.proofs.WrittenLemmas.{stored}
 
 module _ {T : Type 0} (unpack : List ℕ → Option T) (width : ℕ) (number : T → ℕ) (of_number : ℕ → Option T) (t : Parts T)
     (room : why_not_written width number t ≡ None) (small_null3 : t.header.index3_null_offset < 2 ^ 16)
-    (whole : fault of_number t.header t.index t.values ≡ None) (valued : is_none (of_number (null_number width number t)) ≡ false)
+    (whole : parts_fault of_number t.header t.index t.values ≡ None) (valued : is_none (of_number (null_number width number t)) ≡ false)
     (header index behind cells : List ℕ) (is_header : header ≡ header_bytes (header_for width number t))
     (packed_index : IsPacked (λ c. Some (number_of 2 c)) 2 index) (gives_index : t.index ≡ values_of (λ c. Some (number_of 2 c)) 2 index)
     (is_behind : behind ≡ flat_map (low_bytes 2) (padding width (length t.index)))

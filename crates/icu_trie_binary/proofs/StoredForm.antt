@@ -2,7 +2,7 @@
 use Rattle.std.proofs.Common.{◌≡◌, ℕ, ◌+◌, ◌/◌, ◌<◌, List, [], ◌++◌, length, Option, Some, None, refl, sym, ◌∙◌, ap}
 use Rattle.std.specs.Prelude.{Err, IsSome, Ok, Result, is_none, false}
 use Rattle.std.proofs.lemmas.List.{append-nil}
-use Rattle.icu_trie.specs.Parts.{Parts, fault}
+use Rattle.icu_trie.specs.Parts.{Parts, parts_fault}
 use Rattle.icu_trie.specs.Ranges.{answers, IsCoherentTrie}
 use Rattle.icu_trie_binary.specs.BinaryTrie.{IsStored, trie_in}
 use Rattle.icu_trie_binary.specs.declared.error.BinaryError.{BinaryError}
@@ -39,7 +39,7 @@ module _ {T : Type 0} (width : ℕ) (number : T → ℕ) (t : Parts T) where
 
   -- where the header names a block of the data, the stored form of a coherent trie is coherent
   pub coherent-stored : (of_number : ℕ → Option T) → why_not_written width number t ≡ None → t.header.data_null_offset < length t.values
-      → fault of_number t.header t.index t.values ≡ None → IsCoherentTrie of_number t
+      → parts_fault of_number t.header t.index t.values ≡ None → IsCoherentTrie of_number t
       → IsCoherentTrie of_number (stored_form width number t)
   coherent-stored of_number room named whole good =
       coherent-padded of_number t.header (stored_form width number t).header t.index (padding width (length t.index)) t.values refl refl

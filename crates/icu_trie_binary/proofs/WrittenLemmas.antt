@@ -8,7 +8,7 @@ use Rattle.icu_zerovec.specs.PackedBytes.{number_of}
 use Rattle.icu_trie_core.specs.FastIndex.{fast_index_len}
 use Rattle.icu_trie_core.specs.declared.error.CodePointTrieError.TheVariants.{EmptyDataVector, InvalidNullValue, IndexTooShortForFastAccess, DataTooShortForFastAccess}
 use Rattle.icu_trie_core.specs.declared.header.CodePointTrieHeader.{CodePointTrieHeader}
-use Rattle.icu_trie.specs.Parts.{Parts, fault}
+use Rattle.icu_trie.specs.Parts.{Parts, parts_fault}
 use Rattle.icu_trie_binary.specs.declared.error.WriteError.TheVariants.{UnknownWidth, LongIndex, LongData, NullOffset, HighStart, NullValue}
 use Rattle.icu_trie_binary.specs.declared.header.BinaryHeader.{BinaryHeader}
 use Rattle.icu_trie_binary.specs.BinaryHeader.{index_size, data_size, width_bytes, stored_header, stored_length}
@@ -38,7 +38,7 @@ first_faults false false false false e = (refl, refl, refl, refl)
 -- cells behind the index make none, nor does another null value that is a value's
 pub fault-padded : {T : Type 0} (of_number : ℕ → Option T) (h g : CodePointTrieHeader) (index behind : List ℕ) (values : List T)
     → g.trie_type ≡ h.trie_type → is_none (of_number g.null_value) ≡ false
-    → fault of_number h index values ≡ None → fault of_number g (index ++ behind) values ≡ None
+    → parts_fault of_number h index values ≡ None → parts_fault of_number g (index ++ behind) values ≡ None
 fault-padded of_number h g index behind values same_type valued e =
     let f = first_faults _ _ _ _ e in
     let short : nat_lt (length index) (fast_index_len h.trie_type) ≡ false = f.2 in
@@ -100,7 +100,7 @@ module _ {T : Type 0} (width : ℕ) (number : T → ℕ) (t : Parts T) (room : w
 -- ---- the trie
 module _ {T : Type 0} (unpack : List ℕ → Option T) (width : ℕ) (number : T → ℕ) (of_number : ℕ → Option T) (t : Parts T)
     (room : why_not_written width number t ≡ None) (small_null3 : t.header.index3_null_offset < 2 ^ 16)
-    (whole : fault of_number t.header t.index t.values ≡ None) (valued : is_none (of_number (null_number width number t)) ≡ false)
+    (whole : parts_fault of_number t.header t.index t.values ≡ None) (valued : is_none (of_number (null_number width number t)) ≡ false)
     (index cells rest : List ℕ) (long_index : length index ≡ 2 * length (stored_index width t.index))
     (of_index : values_of (λ c. Some (number_of 2 c)) 2 index ≡ stored_index width t.index)
     (long_cells : length cells ≡ width * length t.values) (packed : IsPacked unpack width cells)

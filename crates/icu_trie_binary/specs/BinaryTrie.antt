@@ -7,7 +7,7 @@ use Rattle.icu_zerovec.specs.declared.ule.UleError.TheVariants as packed_faults
 use Rattle.icu_trie_core.specs.ValueNumbers.{fitting}
 use Rattle.icu_trie_core.specs.declared.header.CodePointTrieHeader.{CodePointTrieHeader}
 use Rattle.icu_trie_core.specs.declared.error.CodePointTrieError.{CodePointTrieError}
-use Rattle.icu_trie.specs.Parts.{Parts, fault}
+use Rattle.icu_trie.specs.Parts.{Parts, parts_fault}
 use Rattle.icu_trie_binary.specs.BinaryHeader.{index_size, data_size, width_bytes, header_of, stored_header}
 use Rattle.icu_trie_binary.specs.declared.header.BinaryHeader.{BinaryHeader}
 use Rattle.icu_trie_binary.specs.declared.binary.AnyWidthTrie.{AnyWidthTrie}
@@ -71,7 +71,7 @@ module _ {T : Type 0} (unpack : List ℕ → Option T) (width : ℕ) (number : T
   -- the first fault of its parts
   abbrev pub stored_fault : BinaryHeader → List ℕ → Option CodePointTrieError
   stored_fault h b =
-      fault of_number (trie_header h (values_in h b)) (index_of h b) (values_in h b)
+      parts_fault of_number (trie_header h (values_in h b)) (index_of h b) (values_in h b)
 
   -- the bytes begin with this trie, which takes so many of them
   pub record IsStored (b : List ℕ) (t : Parts T) (len : ℕ) : Type 0 where

@@ -5,23 +5,23 @@ use Rattle.std.proofs.lemmas.Bool.Decides.{nat_tests}
 use Rattle.icu_trie_builder.specs.declared.writes.Write.{Write}
 use Rattle.icu_trie_core.specs.declared.header.TrieType.{TrieType}
 use Rattle.icu_trie_builder.specs.CodePointMap.{CodePointMap, value_of_number, values_of_numbers, IsAfter, map_value}
-use Rattle.icu_trie_builder.specs.Writes.{first_of, last_of, value_of, value_after, last_written}
+use Rattle.icu_trie_builder.specs.Writes.{write_first, write_last, write_value, value_after, last_written}
 use Rattle.icu_trie_builder.proofs.WholeLemmas.{number_value-at}
 
 -- a write that is accepted, and fills its range
 pub value_after-filled : {T : Type 0} (w : Write T) (old new : T) (c : ℕ)
-    → first_of w ≤ last_of w → first_of w ≤ 0x10FFFF → c ≤ 0x10FFFF
-    → (first_of w ≤ c → c ≤ last_of w → new ≡ value_of w) → (c < first_of w → new ≡ old) → (last_of w < c → new ≡ old)
+    → write_first w ≤ write_last w → write_first w ≤ 0x10FFFF → c ≤ 0x10FFFF
+    → (write_first w ≤ c → c ≤ write_last w → new ≡ write_value w) → (c < write_first w → new ≡ old) → (write_last w < c → new ≡ old)
     → new ≡ value_after (w ∷ []) old c
 value_after-filled w old new c h k l inside before after = grind (arith, nat_tests)
 
 -- numbers in which the range of an accepted write is filled with the number of its value
 pub IsAfter-filled : {T : Type 0} (of_number : ℕ → Option T) (w : Write T) (numbers filled : List ℕ) (n : ℕ) (d error : T)
     (trie_type : TrieType) (end : ℕ)
-    → first_of w ≤ end → end ≡ min (last_of w) 0x10FFFF
-    → length numbers ≡ 0x110000 → length filled ≡ 0x110000 → value_of_number of_number d n ≡ value_of w
-    → ((k : ℕ) → first_of w ≤ k → k < end + 1 → get_or filled k 0 ≡ n)
-    → ((k : ℕ) → k < first_of w → get_or filled k 0 ≡ get_or numbers k 0)
+    → write_first w ≤ end → end ≡ min (write_last w) 0x10FFFF
+    → length numbers ≡ 0x110000 → length filled ≡ 0x110000 → value_of_number of_number d n ≡ write_value w
+    → ((k : ℕ) → write_first w ≤ k → k < end + 1 → get_or filled k 0 ≡ n)
+    → ((k : ℕ) → k < write_first w → get_or filled k 0 ≡ get_or numbers k 0)
     → ((k : ℕ) → end + 1 ≤ k → get_or filled k 0 ≡ get_or numbers k 0)
     → IsAfter (w ∷ []) (record { values = values_of_numbers of_number d numbers; default = d; error = error; trie_type = trie_type })
     (record { values = values_of_numbers of_number d filled; default = d; error = error; trie_type = trie_type })

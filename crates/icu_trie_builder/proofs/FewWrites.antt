@@ -13,7 +13,7 @@ use Rattle.std.proofs.lemmas.Map.Made.{distinct_count-le}
 use Rattle.icu_trie_core.specs.Blocks.{block_of, count_different}
 use Rattle.icu_trie_builder.specs.declared.writes.Write.{Write}
 use Rattle.icu_trie_builder.specs.Bounds.{IsTooLarge}
-use Rattle.icu_trie_builder.specs.Writes.{first_of, last_of, value_of, is_accepted, covers, last_written, value_after}
+use Rattle.icu_trie_builder.specs.Writes.{write_first, write_last, write_value, is_accepted, covers, last_written, value_after}
 use Rattle.icu_trie_builder.proofs.AfterLemmas.{unwrap_or-option_or}
 use Rattle.icu_trie_compaction.proofs.CallerLemmas.{distinct_count-mono, list_laws, list_decides, times-below}
 
@@ -57,12 +57,12 @@ module _ {T : Type 0} (number : T → ℕ) (d : T) where
   -- where accepted writes begin, and where they have ended
   borders : List (Write T) → List ℕ
   borders [] = []
-  borders (w ∷ ws) = cond (is_accepted w) (first_of w ∷ (last_of w + 1) ∷ borders ws) (borders ws)
+  borders (w ∷ ws) = cond (is_accepted w) (write_first w ∷ (write_last w + 1) ∷ borders ws) (borders ws)
 
   -- what accepted writes write
   written : List (Write T) → List T
   written [] = []
-  written (w ∷ ws) = cond (is_accepted w) (value_of w ∷ written ws) (written ws)
+  written (w ∷ ws) = cond (is_accepted w) (write_value w ∷ written ws) (written ws)
 
   length-borders : (ws : List (Write T)) → length (borders ws) ≡ 2 * count_by (is_accepted) ws
   unfolding borders
@@ -71,7 +71,7 @@ module _ {T : Type 0} (number : T → ℕ) (d : T) where
       ∙ ap (λ n. 2 * n) (sym (sum_by-cons (λ x. cond (is_accepted x) 1 0) w ws))
     where
       by : (b : Bool) → length (borders ws) ≡ 2 * count_by (is_accepted) ws
-          → length (cond b (first_of w ∷ (last_of w + 1) ∷ borders ws) (borders ws)) ≡ 2 * (cond b 1 0 + count_by (is_accepted) ws)
+          → length (cond b (write_first w ∷ (write_last w + 1) ∷ borders ws) (borders ws)) ≡ 2 * (cond b 1 0 + count_by (is_accepted) ws)
       by true h = omega (arith, h)
       by false h = omega (arith, h)
 
@@ -81,7 +81,7 @@ module _ {T : Type 0} (number : T → ℕ) (d : T) where
   length-written (w ∷ ws) = by (is_accepted w) (length-written ws) ∙ sym (sum_by-cons (λ x. cond (is_accepted x) 1 0) w ws)
     where
       by : (b : Bool) → length (written ws) ≡ count_by (is_accepted) ws
-          → length (cond b (value_of w ∷ written ws) (written ws)) ≡ (cond b 1 0 + count_by (is_accepted) ws)
+          → length (cond b (write_value w ∷ written ws) (written ws)) ≡ (cond b 1 0 + count_by (is_accepted) ws)
       by true h = omega (arith, h)
       by false h = omega (arith, h)
 
@@ -91,19 +91,19 @@ module _ {T : Type 0} (number : T → ℕ) (d : T) where
   steady [] c h = refl
   steady (w ∷ ws) c h = by (is_accepted w) refl h (steady ws c)
     where
-      by : (b : Bool) → is_accepted w ≡ b → (Has (cond b (first_of w ∷ (last_of w + 1) ∷ borders ws) (borders ws)) (c + 1) → ⊥)
+      by : (b : Bool) → is_accepted w ≡ b → (Has (cond b (write_first w ∷ (write_last w + 1) ∷ borders ws) (borders ws)) (c + 1) → ⊥)
           → ((Has (borders ws) (c + 1) → ⊥) → last_written ws (c + 1) ≡ last_written ws c)
           → last_written (w ∷ ws) (c + 1) ≡ last_written (w ∷ ws) c
       by true a h r =
           let e : covers w (c + 1) ≡ covers w c =
-          ap (λ x. is_accepted w && x) (covers-same (first_of w) (last_of w) c (λ e. h (inl e)) (λ e. h (inr (inl e)))) in
-          ap (λ o. option_or o (cond (covers w (c + 1)) (Some (value_of w)) None)) (r (λ t. h (inr (inr t))))
-          ∙ ap (λ x. option_or (last_written ws c) (cond x (Some (value_of w)) None)) e
+          ap (λ x. is_accepted w && x) (covers-same (write_first w) (write_last w) c (λ e. h (inl e)) (λ e. h (inr (inl e)))) in
+          ap (λ o. option_or o (cond (covers w (c + 1)) (Some (write_value w)) None)) (r (λ t. h (inr (inr t))))
+          ∙ ap (λ x. option_or (last_written ws c) (cond x (Some (write_value w)) None)) e
       by false a h r =
-          let e : covers w (c + 1) ≡ covers w c = ap (λ x. x && (nat_le (first_of w) (c + 1) && nat_le (c + 1) (last_of w))) a
-          ∙ sym (ap (λ x. x && (nat_le (first_of w) c && nat_le c (last_of w))) a) in
-          ap (λ o. option_or o (cond (covers w (c + 1)) (Some (value_of w)) None)) (r h)
-          ∙ ap (λ x. option_or (last_written ws c) (cond x (Some (value_of w)) None)) e
+          let e : covers w (c + 1) ≡ covers w c = ap (λ x. x && (nat_le (write_first w) (c + 1) && nat_le (c + 1) (write_last w))) a
+          ∙ sym (ap (λ x. x && (nat_le (write_first w) c && nat_le c (write_last w))) a) in
+          ap (λ o. option_or o (cond (covers w (c + 1)) (Some (write_value w)) None)) (r h)
+          ∙ ap (λ x. option_or (last_written ws c) (cond x (Some (write_value w)) None)) e
 
   -- each value is the old one or one that was written
   value_after-written : (ws : List (Write T)) (old : T) (c : ℕ) → Has (old ∷ written ws) (value_after ws old c)
@@ -111,15 +111,15 @@ module _ {T : Type 0} (number : T → ℕ) (d : T) where
   value_after-written [] old c = inl refl
   value_after-written (w ∷ ws) old c =
       by (is_accepted w) (covers w c) (value_after (w ∷ ws) old c) refl refl
-      (unwrap_or-option_or (last_written ws c) (cond (covers w c) (Some (value_of w)) None) old) (λ o. value_after-written ws o c)
+      (unwrap_or-option_or (last_written ws c) (cond (covers w c) (Some (write_value w)) None) old) (λ o. value_after-written ws o c)
     where
       by : (acc cov : Bool) (x : T) → is_accepted w ≡ acc → covers w c ≡ cov
-          → x ≡ value_after ws (unwrap_or (cond (covers w c) (Some (value_of w)) None) old) c
-          → ((o : T) → Has (o ∷ written ws) (value_after ws o c)) → Has (old ∷ cond acc (value_of w ∷ written ws) (written ws)) x
-      by true true x a v e r = inr (subst (λ y. Has (value_of w ∷ written ws) y) (sym (rw v at e)) (r (value_of w)))
+          → x ≡ value_after ws (unwrap_or (cond (covers w c) (Some (write_value w)) None) old) c
+          → ((o : T) → Has (o ∷ written ws) (value_after ws o c)) → Has (old ∷ cond acc (write_value w ∷ written ws) (written ws)) x
+      by true true x a v e r = inr (subst (λ y. Has (write_value w ∷ written ws) y) (sym (rw v at e)) (r (write_value w)))
       by true false x a v e r = let h = subst (λ y. Has (old ∷ written ws) y) (sym (rw v at e)) (r old) in
-          elim h as (λ _. Has (old ∷ value_of w ∷ written ws) x) [ inl q ↦ inl q | inr t ↦ inr (inr t) ]
-      by false true x a v e r = absurd (true≢false (sym v ∙ ap (λ y. y && (nat_le (first_of w) c && nat_le c (last_of w))) a))
+          elim h as (λ _. Has (old ∷ write_value w ∷ written ws) x) [ inl q ↦ inl q | inr t ↦ inr (inr t) ]
+      by false true x a v e r = absurd (true≢false (sym v ∙ ap (λ y. y && (nat_le (write_first w) c && nat_le c (write_last w))) a))
       by false false x a v e r = subst (λ y. Has (old ∷ written ws) y) (sym (rw v at e)) (r old)
 
   module _ (ws : List (Write T)) where

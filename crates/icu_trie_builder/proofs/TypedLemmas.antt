@@ -9,7 +9,7 @@ use Rattle.std.proofs.lemmas.Option.{slice_get-map, same_Some}
 use Rattle.icu_trie_core.specs.declared.header.CodePointTrieHeader.{CodePointTrieHeader}
 use Rattle.icu_trie_core.specs.Format.{answer, high_cell, high_value, place}
 use Rattle.icu_trie_core.specs.FastIndex.{fast_index_len, passes_data}
-use Rattle.icu_trie.specs.Parts.{Parts, last_cell, fault}
+use Rattle.icu_trie.specs.Parts.{Parts, last_cell, parts_fault}
 use Rattle.icu_trie_core.specs.Coherence.{IsCoherent, IsShared, SameAnswers}
 use Rattle.icu_trie_builder.specs.Inside.NumberTrie.{IsNumberTrie}
 use Rattle.icu_trie_builder.specs.MapAnswers.{AnswersMap}
@@ -97,7 +97,7 @@ module _ {T : Type 0} (of_number : ℕ → Option T) (number : T → ℕ) (g : �
   answers_map = record { look_up = look_up_is; value = value_is }
 
   -- its parts have no fault
-  pub no_fault : fault of_number h index values ≡ None
+  pub no_fault : parts_fault of_number h index values ≡ None
   no_fault =
       let len : nat_lt (length values) 1 ≡ false = le-ltb (length values) 1 (omega (arith, some_length values error error_cell)) in
       let null : is_none (of_number h.null_value) ≡ false = not-none (of_number h.null_value) null_is in

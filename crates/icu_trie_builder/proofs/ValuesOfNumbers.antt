@@ -3,7 +3,7 @@ use Rattle.std.proofs.Common.{◌≡◌, ℕ, ◌<◌, Bool, true, List, slice_i
 use Rattle.std.specs.Prelude.{is_some}
 use Rattle.std.specs.List.{AllPass}
 use Rattle.icu_trie_core.specs.declared.header.CodePointTrieHeader.{CodePointTrieHeader}
-use Rattle.icu_trie.specs.Parts.{Parts, fault}
+use Rattle.icu_trie.specs.Parts.{Parts, parts_fault}
 use Rattle.icu_trie_builder.specs.CodePointMap.{IsBuilder}
 use Rattle.icu_trie_builder.specs.Inside.ValuesOfNumbers.{number_value, AreValuesOf}
 use Rattle.icu_trie_builder.specs.Inside.NumberTrie.{IsNumberTrie}
@@ -58,6 +58,6 @@ module _ {T : Type 0} (V : T → Type 0) (number : T → ℕ) (of_number : ℕ �
       built_is null_is)
 
   -- its parts have no fault
-  pub map_no_fault : (values : List T) → AreValuesOf of_number cells values → fault of_number h index values ≡ None
+  pub map_no_fault : (values : List T) → AreValuesOf of_number cells values → parts_fault of_number h index values ≡ None
   map_no_fault values v = no_fault of_number number f error (λ c. slice_index numbers c) h index cells values v back_is
       (back error sound.error_value) is built_is null_is

@@ -8,33 +8,33 @@ use Rattle.icu_trie_builder.specs.declared.writes.Write.TheVariants.{One, Range}
 
 module _ {T : Type 0} where
   -- the first number that a write names
-  abbrev pub first_of : Write T → ℕ
-  first_of (One c v) = c
-  first_of (Range r v) = range_inclusive_start r
+  abbrev pub write_first : Write T → ℕ
+  write_first (One c v) = c
+  write_first (Range r v) = range_inclusive_start r
 
   -- the last number that a write names
-  abbrev pub last_of : Write T → ℕ
-  last_of (One c v) = c
-  last_of (Range r v) = range_inclusive_end r
+  abbrev pub write_last : Write T → ℕ
+  write_last (One c v) = c
+  write_last (Range r v) = range_inclusive_end r
 
   -- what it writes there
-  abbrev pub value_of : Write T → T
-  value_of (One c v) = v
-  value_of (Range r v) = v
+  abbrev pub write_value : Write T → T
+  write_value (One c v) = v
+  write_value (Range r v) = v
 
   -- an accepted write: its range is not reversed, and it starts in the code space
   abbrev pub is_accepted : Write T → Bool
-  is_accepted w = nat_le (first_of w) (last_of w) && nat_le (first_of w) 0x10FFFF
+  is_accepted w = nat_le (write_first w) (write_last w) && nat_le (write_first w) 0x10FFFF
 
   -- whether an accepted write names c
   abbrev pub covers : Write T → ℕ → Bool
-  covers w c = is_accepted w && (nat_le (first_of w) c && nat_le c (last_of w))
+  covers w c = is_accepted w && (nat_le (write_first w) c && nat_le c (write_last w))
 
   -- what the last of the writes that cover c writes, if any does
   abbrev pub last_written : List (Write T) → ℕ → Option T
   last_written [] c = None
   last_written (w ∷ ws) c =
-      option_or (last_written ws c) (if covers w c then Some (value_of w) else None)
+      option_or (last_written ws c) (if covers w c then Some (write_value w) else None)
 
   -- the value of c after the writes, where it was `old` before them
   abbrev pub value_after : List (Write T) → T → ℕ → T

@@ -2,7 +2,7 @@
 //! cells.
 ghost use Rattle.std.specs.Prelude.{◌≡◌, ◌≢◌, ℕ, ◌≤◌, List, Err, None, IfOk, IfErr, is_some};
 ghost use Rattle.std.specs.List.{AllPass, count_by};
-ghost use Rattle.icu_trie.specs.Parts.{fault};
+ghost use Rattle.icu_trie.specs.Parts.{parts_fault};
 ghost use Rattle.icu_trie_builder.specs.Bounds.{IsTooLarge};
 ghost use Rattle.icu_trie_builder.specs.CodePointMap.{map_value, IsBuilder};
 ghost use Rattle.icu_trie_builder.specs.Inside.ValuesOfNumbers.{number_value, AreValuesOf};
@@ -44,7 +44,7 @@ fn trie_of<T: TrieValue>(
 ) -> Result<CodePointTrie<'static, T>, BuildError>
     requires numbers { AllPass (λ n. is_some (T.of_number n)) trie.values.items }
     requires sound { (values : List T) → AreValuesOf T.of_number trie.values.items values
-        → fault T.of_number trie.header trie.index.items values ≡ None }
+        → parts_fault T.of_number trie.header trie.index.items values ≡ None }
     ensures header { IfOk result (λ t. t.header ≡ trie.header) }
     ensures index { IfOk result (λ t. t.index ≡ trie.index.items) }
     ensures values { IfOk result (λ t. AreValuesOf T.of_number trie.values.items t.values) }

@@ -9,7 +9,7 @@ use Rattle.serde_json.specs.Data.{Data, number, unsigned}
 use Rattle.serde_json.specs.View.{view, items_view, items_of}
 use Rattle.serde_json.specs.declared.value.Value.{Value}
 use Rattle.icu_trie_core.specs.ValueNumbers.{fitting}
-use Rattle.icu_trie.specs.Parts.{Parts, fault}
+use Rattle.icu_trie.specs.Parts.{Parts, parts_fault}
 use Rattle.icu_trie_core.specs.declared.header.TrieType.{TrieType}
 use Rattle.icu_trie_core.specs.declared.header.TrieType.TheVariants.{Fast, Small}
 use Rattle.icu_trie_core.specs.declared.header.CodePointTrieHeader.{CodePointTrieHeader}
@@ -105,7 +105,7 @@ shapes_read num range t = refl
 -- what is written is read back, where the parts have no fault
 pub json_read : {T : Type 0} (num : T → ℕ) (range : ℕ → Option T) (t : Parts T) → header_of (header_json t.header) ≡ Ok t.header
     → All (IsGivenBack (λ x. x) (fitting (2 ^ 16))) t.index → All (IsGivenBack num range) t.values
-    → fault range t.header t.index t.values ≡ None → trie_of_json range (json_of num t) ≡ Ok t
+    → parts_fault range t.header t.index t.values ≡ None → trie_of_json range (json_of num t) ≡ Ok t
 json_read num range t h index values none =
     shapes_read num range t
     ∙ ap (λ z. steps range z (list_of (items_of (map (λ n. number (unsigned n)) t.index)))
@@ -131,7 +131,7 @@ written num t v h i d header index values eh ei ev whole hj ij dj =
 pub written_is_read : {T : Type 0} (num : T → ℕ) (range : ℕ → Option T) (t : Parts T) (v : Data) (header : CodePointTrieHeader)
     (index : List ℕ) (values : List T) → header ≡ t.header → index ≡ t.index → values ≡ t.values
     → header_of (header_json header) ≡ Ok header → All (IsGivenBack (λ x. x) (fitting (2 ^ 16))) index → All (IsGivenBack num range) values
-    → v ≡ json_of num t → fault range t.header t.index t.values ≡ None → trie_of_json range v ≡ Ok t
+    → v ≡ json_of num t → parts_fault range t.header t.index t.values ≡ None → trie_of_json range v ≡ Ok t
 written_is_read {T} num range t v header index values eh ei ev hb ib vb e none =
     let H : CodePointTrieHeader → Type 0 = λ z. header_of (header_json z) ≡ Ok z in
     let I : List ℕ → Type 0 = λ z. All (IsGivenBack (λ x. x) (fitting (2 ^ 16))) z in

@@ -7,7 +7,7 @@ use Rattle.icu_zerovec.specs.declared.ule.UleError.{UleError}
 use Rattle.icu_zerovec.specs.declared.ule.UleError.TheVariants.{Length, Cell}
 use Rattle.icu_trie_core.specs.declared.error.CodePointTrieError.{CodePointTrieError}
 use Rattle.icu_trie_core.specs.ValueNumbers.{fitting}
-use Rattle.icu_trie.specs.Parts.{fault}
+use Rattle.icu_trie.specs.Parts.{parts_fault}
 use Rattle.icu_trie_formats.specs.Planes.{planes_header, planes_index, planes_data}
 use Rattle.icu_trie_formats.specs.declared.planes.table.TheConstants.{INDEX, DATA}
 
@@ -19,7 +19,7 @@ pub values_of-DATA : values_of (λ b. Some (number_of 1 b)) 1 DATA ≡ planes_da
 unfolding values_of planes_data
 values_of-DATA = refl
 
-pub no_fault : fault (fitting (2 ^ 8)) planes_header planes_index planes_data ≡ None
+pub no_fault : parts_fault (fitting (2 ^ 8)) planes_header planes_index planes_data ≡ None
 unfolding planes_index planes_data
 no_fault = refl
 
@@ -33,8 +33,8 @@ no_fault_of_DATA Length h = h refl
 no_fault_of_DATA (Cell i) h = absurd (true≢false h.2)
 
 pub never_refused : (index values : List ℕ) (e : CodePointTrieError) → index ≡ planes_index → values ≡ planes_data
-    → fault (fitting (2 ^ 8)) planes_header index values ≡ Some e → ⊥
+    → parts_fault (fitting (2 ^ 8)) planes_header index values ≡ Some e → ⊥
 never_refused index values e i v h =
-    let n : fault (fitting (2 ^ 8)) planes_header index values ≡ None = rw (i, v) no_fault in
+    let n : parts_fault (fitting (2 ^ 8)) planes_header index values ≡ None = rw (i, v) no_fault in
     let s : ◌≡◌ {A = Option CodePointTrieError} None (Some e) = sym n ∙ h in
     cc

@@ -1,6 +1,6 @@
 -- The trie of parts that a form has said.
 use Rattle.std.specs.Prelude.{ℕ, List, Option, Some, None, Result, Ok, Err}
-use Rattle.icu_trie.specs.Parts.{Parts, fault}
+use Rattle.icu_trie.specs.Parts.{Parts, parts_fault}
 use Rattle.icu_trie_core.specs.declared.header.CodePointTrieHeader.{CodePointTrieHeader}
 use Rattle.icu_trie_core.specs.declared.error.CodePointTrieError.{CodePointTrieError}
 
@@ -14,5 +14,5 @@ unless_fault of_parts (Some e) parts = Err (of_parts e)
 abbrev pub trie_of_parts : {T F : Type 0} → (CodePointTrieError → F) → (ℕ → Option T)
     → CodePointTrieHeader → List ℕ → List T → Result (Parts T) F
 trie_of_parts of_parts of_number h index values =
-    unless_fault of_parts (fault of_number h index values)
+    unless_fault of_parts (parts_fault of_number h index values)
     (record { header = h; index = index; values = values })

@@ -4,7 +4,7 @@ use Rattle.std.specs.Prelude.{IfOk, IfErr}
 use Rattle.std.proofs.lemmas.Bool.{cases_lt}
 use Rattle.std.specs.Option.{option_and_then, option_map}
 use Rattle.icu_zerovec.specs.Canonical.{IsCanonical}
-use Rattle.icu_zerovec.specs.Cells.{cell, IsConverted, IsFirstRefused}
+use Rattle.icu_zerovec.specs.Cells.{cell, IsConverted, IsFirstRefusedCell}
 use Rattle.icu_zerovec.specs.declared.ule.UleError.{UleError}
 use Rattle.icu_zerovec.specs.declared.ule.UleError.TheVariants.{Length, Cell}
 use Rattle.icu_zerovec.proofs.CellsLemmas.{pack-get, get-values_of, get_past-values_of, length-values_of}
@@ -31,7 +31,7 @@ module _ {T P : Type 0} (f : List ℕ → Option T) (w : ℕ) (g : List ℕ → 
   converted_ok (Err e) c = tt
 
   -- the fault is the first value whose bytes the second type does not read
-  pub converted_err : (r : Result (List P) UleError) → IsConverted f w g w xs r → IfErr r (IsFirstRefused pack g xs)
+  pub converted_err : (r : Result (List P) UleError) → IsConverted f w g w xs r → IfErr r (IsFirstRefusedCell pack g xs)
   converted_err (Ok ys) c = tt
   converted_err (Err Length) c = absurd (c.err c.packed.whole)
   converted_err (Err (Cell i)) c =

@@ -57,10 +57,10 @@ pub record IsConverted {T P : Type 0} (f : List ℕ → Option T) (w : ℕ) (g :
   pub err : IfErr r (IsFault g v bytes)
 
 -- the same fault by values: value i is the first of xs whose packed bytes g does not read
-abbrev pub IsFirstRefused : {T P : Type 0} → (T → List ℕ) → (List ℕ → Option P) → List T → UleError
-    → Type 0
-IsFirstRefused pack g xs Length = ⊥
-IsFirstRefused pack g xs (Cell i) =
+abbrev pub IsFirstRefusedCell : {T P : Type 0} → (T → List ℕ) → (List ℕ → Option P) → List T
+    → UleError → Type 0
+IsFirstRefusedCell pack g xs Length = ⊥
+IsFirstRefusedCell pack g xs (Cell i) =
     (i < length xs) × IsNone (option_and_then g (option_map pack (slice_get xs i)))
     × ((j : ℕ) → j < i → IsSome (option_and_then g (option_map pack (slice_get xs j))))
 

@@ -2,14 +2,14 @@
 use Rattle.std.specs.Prelude.{◌<◌, ◌≤◌, Option, Some, None, length}
 use Rattle.icu_char16trie.specs.UnitMap.{UnitMap}
 use Rattle.icu_char16trie_builder.specs.Entries.{most_units}
-use Rattle.icu_char16trie_builder.specs.Sorted.{key_at, IsInOrder, IsFirstRefused}
+use Rattle.icu_char16trie_builder.specs.Sorted.{key_at, IsInOrder, IsFirstRefusedKey}
 use Rattle.icu_char16trie_builder.specs.declared.error.SortedError.{SortedError}
 use Rattle.icu_char16trie_builder.specs.declared.error.SortedError.TheVariants.{KeyTooLong, NotAscending, TooLarge, Memory}
 
 -- the refusal holds of the entries
 abbrev pub IsRefusal : UnitMap → SortedError → Type 0
-IsRefusal m (KeyTooLong i) = IsFirstRefused m i × (65535 < length (key_at m i))
-IsRefusal m (NotAscending i) = IsFirstRefused m i × (length (key_at m i) ≤ 65535)
+IsRefusal m (KeyTooLong i) = IsFirstRefusedKey m i × (65535 < length (key_at m i))
+IsRefusal m (NotAscending i) = IsFirstRefusedKey m i × (length (key_at m i) ≤ 65535)
 IsRefusal m TooLarge = IsInOrder m × (0x7FFF_FFFF < most_units m)
 IsRefusal m Memory = ⊥
 

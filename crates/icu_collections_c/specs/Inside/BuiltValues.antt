@@ -12,7 +12,7 @@ use Rattle.icu_trie_compaction.specs.declared.error.BuildError.{BuildError}
 use Rattle.icu_trie_compaction.specs.declared.error.BuildError.TheVariants.{TooLarge, Memory}
 use Rattle.icu_trie_builder.specs.Bounds.{IsTooLarge}
 use Rattle.icu_trie_builder.specs.Built.{IsWellBuilt}
-use Rattle.icu_trie_builder.specs.Writes.{first_of, last_of, value_of}
+use Rattle.icu_trie_builder.specs.Writes.{write_first, write_last, write_value}
 use Rattle.icu_trie_builder.specs.declared.writes.Write.{Write}
 use Rattle.icu_collections_c.specs.Building.{most_bytes, row_answer, row_value}
 use Rattle.icu_collections_c.specs.declared.building.Row.{Row}
@@ -31,7 +31,7 @@ of_write _ = Refused.TooLarge
 module _ {T : Type 0} (number : T → ℕ) where
   -- the row that says what a write does
   abbrev pub row_of : Write T → Row
-  row_of w = record { first = first_of w; last = last_of w; value = number (value_of w) }
+  row_of w = record { first = write_first w; last = write_last w; value = number (write_value w) }
 
   -- the writes do what the rows say, one each
   abbrev pub AreWritesOf : List Row → List (Write T) → Type 0

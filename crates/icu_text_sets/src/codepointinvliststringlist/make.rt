@@ -3,7 +3,7 @@ ghost use Rattle.std.specs.Prelude.{◌≡◌, ◌+◌, ◌≤◌, ◌++◌, ℕ
 ghost use Rattle.std.specs.String.{string_bytes};
 ghost use Rattle.std.specs.Iterator.{Drains, IsFinite};
 ghost use Rattle.icu_text_sets.specs.TextSet.{TextSet, only_char, is_among, texts_of, IsStringList, HoldsTexts};
-ghost use Rattle.icu_text_sets.specs.TextFaults.{fault, fault_of};
+ghost use Rattle.icu_text_sets.specs.TextFaults.{strings_fault, fault_of};
 ghost use Rattle.icu_text_sets.specs.Inside.StringFaults.{fault_at, fault_length, kind_of};
 
 use crate::codepointinvliststringlist::error::InvalidStringList;
@@ -38,7 +38,7 @@ fn fault_before(text: &String, next: Option<&String>) -> Option<Fault>
 
 /// The first fault on a walk from the front, with the place of its string.
 fn first_fault(strings: &[String]) -> Option<(usize, Fault)>
-    ensures first { fault (texts_of strings.now)
+    ensures first { strings_fault (texts_of strings.now)
         ≡ option_map (λ x. fault_at (texts_of strings.now) x.0 x.1) result }
     ensures within { IfSome result (λ x. x.0 + fault_length x.1 ≤ length strings.now) }
 {
@@ -103,8 +103,9 @@ impl<'data> CodePointInversionListAndStringList<'data> {
         ensures ok { IfOk result
             (λ s. (s ≡ record
             { code_points = cp_inv_list.entry; strings = texts_of str_list.items })
-            × (fault (texts_of str_list.items) ≡ None)) }
-        ensures err { IfErr result (λ e. fault (texts_of str_list.items) ≡ Some (fault_of e)) }
+            × (strings_fault (texts_of str_list.items) ≡ None)) }
+        ensures err { IfErr result
+            (λ e. strings_fault (texts_of str_list.items) ≡ Some (fault_of e)) }
     {
         match first_fault(&str_list) {
             None => Ok(CodePointInversionListAndStringList {

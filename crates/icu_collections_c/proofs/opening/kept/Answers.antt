@@ -1,7 +1,7 @@
 -- Index and data are where the header says.
 use Rattle.std.proofs.Common.{◌≡◌, ◌∙◌, ◌+◌, ◌-◌, ◌*◌, ◌%◌, ap, arith, length, take, drop}
 use Rattle.icu_zerovec.specs.Cells.{values_of}
-use Rattle.icu_trie.specs.Parts.{Parts, fault}
+use Rattle.icu_trie.specs.Parts.{Parts, parts_fault}
 use Rattle.icu_collections_c.specs.BytesTrie.{cells_of}
 use Rattle.icu_collections_c.proofs.OpeningLemmas.{parts-told, places-stored, type-of_limit}
 use Rattle.icu_collections_c.proofs.opening.kept.Goals as goal
@@ -43,6 +43,6 @@ returns-clause-sound g c =
           ∙ ap (λ n. length (take (16 + 2 * n - 16) (drop 16 bytes)) % 2) count ∙ at.index_whole;
       values = ap (λ cells. length cells % width) c.parts_between.ensures.values
           ∙ ap (λ n. length (take (c.args.size - (16 + 2 * n)) (drop (16 + 2 * n) bytes)) % width) count ∙ at.values_whole;
-      parts = ap (λ (p : Parts _). fault g.T.TrieValue.of_number p.header p.index p.values) (returns-clause-parts g c)
+      parts = ap (λ (p : Parts _). parts_fault g.T.TrieValue.of_number p.header p.index p.values) (returns-clause-parts g c)
           ∙ c.parts.ensures.whole;
     }

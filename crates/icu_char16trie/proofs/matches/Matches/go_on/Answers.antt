@@ -1,6 +1,6 @@
 use Rattle.std.proofs.Common.{◌≡◌, ◌+◌, Bool, true, false, not, take, refl, arith}
 use Rattle.icu_char16trie.specs.UnitMap.{goes_on}
-use Rattle.icu_char16trie.specs.UnitPlaces.{IsAfter}
+use Rattle.icu_char16trie.specs.UnitPlaces.{HasPassed}
 use Rattle.icu_char16trie.proofs.FrontLemmas.{take_next}
 use Rattle.icu_char16trie.proofs.MatchLemmas.{next_left, none_beyond_front, none_beyond_text}
 use Rattle.icu_char16trie.proofs.matches.Matches.go_on.Goals as goal
@@ -11,7 +11,7 @@ returns-then-not-is_empty c = record {
   text = refl;
   left = λ m within after.
       let unit = take_next c.args.self.now.text.now c.args.length (c.args.length + 1) refl c.if-length-text.true in
-      let passed : IsAfter c.step16.new.self m (take (c.args.length + 1) c.args.self.now.text.now) =
+      let passed : HasPassed c.step16.new.self m (take (c.args.length + 1) c.args.self.now.text.now) =
       rw unit at (c.step16.ensures.after m _ after) in
       next_left c.step16.new.self c.args.self.now.text.now c.args.length m c.if-length-text.true passed;
   fewer = omega (arith, c.if-length-text.true);

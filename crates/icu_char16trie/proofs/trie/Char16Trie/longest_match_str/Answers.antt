@@ -7,7 +7,7 @@ use Rattle.std.proofs.lemmas.List.{map-id}
 use Rattle.std.proofs.lemmas.Iterator.{YieldsList-from_chars}
 use Rattle.std.proofs.lemmas.Iterator.Consumers.{YieldsList-end, YieldsList-so_far, YieldsList-turn}
 use Rattle.icu_char16trie.specs.UnitMap.{UnitMap, goes_on, value_of}
-use Rattle.icu_char16trie.specs.UnitPlaces.{IsAfter, is_empty_at}
+use Rattle.icu_char16trie.specs.UnitPlaces.{HasPassed, is_empty_at}
 use Rattle.icu_char16trie.specs.Steps.{StepsAlong}
 use Rattle.icu_char16trie.specs.Matches.{HasCharsStepped, HasCharsValue, LongestWithin, front_units}
 use Rattle.icu_char16trie.specs.Inside.Fronts.{longer}
@@ -99,8 +99,8 @@ loop-c-preserved c =
     subst (λ z. StepsAlong c.args.self.now (Node 0) z c.step.new.self.place) more
     (along_then c.args.self.now (Node 0) c.loop-c.cursor.place c.step.new.self.place (flat_map encode_utf16 ys)
     (encode_utf16 c.in-Some.c) inv.steps exact) in
-    let after : (m : UnitMap) → IsTrieOf c.args.self.now m → IsAfter c.step.new.self m (flat_map encode_utf16 (ys ++ c.in-Some.c ∷ [])) =
-    λ m h. subst (λ z. IsAfter c.step.new.self m z) more (passed.after m (flat_map encode_utf16 ys) (inv.after m h)) in
+    let after : (m : UnitMap) → IsTrieOf c.args.self.now m → HasPassed c.step.new.self m (flat_map encode_utf16 (ys ++ c.in-Some.c ∷ [])) =
+    λ m h. subst (λ z. HasPassed c.step.new.self m z) more (passed.after m (flat_map encode_utf16 ys) (inv.after m h)) in
     let count : length ys + 1 ≡ length (ys ++ c.in-Some.c ∷ []) = sym (length-append ys (c.in-Some.c ∷ [])) in
     let bytes : c.loop-c.end + c.len_utf8-end.result ≡ length (encode_utf8_all (ys ++ c.in-Some.c ∷ [])) =
     omega (arith, bytes_next ys c.in-Some.c, inv.bytes, c.len_utf8-end.ensures.len) in

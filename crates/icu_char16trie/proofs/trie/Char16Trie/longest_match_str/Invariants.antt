@@ -5,7 +5,7 @@ use Rattle.std.specs.List.{flat_map}
 use Rattle.std.specs.Str.{chars}
 use Rattle.icu_char16trie.specs.Grammar.{IsTrieOf}
 use Rattle.icu_char16trie.specs.UnitMap.{UnitMap}
-use Rattle.icu_char16trie.specs.UnitPlaces.{IsAfter}
+use Rattle.icu_char16trie.specs.UnitPlaces.{HasPassed}
 use Rattle.icu_char16trie.specs.Steps.{StepsAlong}
 use Rattle.icu_char16trie.specs.Matches.{HasCharsValue, HasCharsStepped, LongestWithin, in_bytes}
 use Rattle.icu_char16trie.specs.declared.place.Place.TheVariants.{Node}
@@ -17,7 +17,7 @@ abbrev pub invariant-loop-c : goal.invariant-loop-c
 invariant-loop-c l = record {
   units : l.cursor.units ≡ l.fn.self;
   steps : StepsAlong l.fn.self (Node 0) (flat_map encode_utf16 l.yielded) l.cursor.place;
-  after : (m : UnitMap) → IsTrieOf l.fn.self m → IsAfter l.cursor m (flat_map encode_utf16 l.yielded);
+  after : (m : UnitMap) → IsTrieOf l.fn.self m → HasPassed l.cursor m (flat_map encode_utf16 l.yielded);
   bytes : l.end ≡ length (encode_utf8_all l.yielded);
   chosen : Option (ℕ × ℤ);
   is : l.found ≡ in_bytes (chars l.fn.text) chosen;

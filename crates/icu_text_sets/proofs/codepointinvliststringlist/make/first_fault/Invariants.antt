@@ -1,8 +1,8 @@
 use Rattle.std.proofs.Common.{◌≡◌, drop}
 use Rattle.icu_text_sets.specs.TextSet.{texts_of}
-use Rattle.icu_text_sets.specs.TextFaults.{fault}
+use Rattle.icu_text_sets.specs.TextFaults.{strings_fault}
 use Rattle.icu_text_sets.proofs.codepointinvliststringlist.make.first_fault.Given as goal
 
 -- the strings from i on have the first fault of all
 abbrev pub invariant-loop-i : goal.invariant-loop-i
-invariant-loop-i l = fault (texts_of (drop l.i l.strings)) ≡ fault (texts_of l.strings)
+invariant-loop-i l = strings_fault (texts_of (drop l.i l.strings)) ≡ strings_fault (texts_of l.strings)
