@@ -2,7 +2,8 @@
 -- views.
 pub use Rattle.icu_trie_core.specs.Format.{fast_limit, fast_offset, high_cell, high_value, index1_start, index2_cell, long_offset, offset_in_block, place, place_or_last, with_cell}
 unfoldable pub use Rattle.icu_trie_core.specs.Format.{answer, small_offset}
-pub use Rattle.icu_trie_core.specs.FastIndex.{fast_index_len, passes_data}
+pub use Rattle.icu_trie_core.specs.Contents.{Contents, contents_of}
+pub use Rattle.icu_trie_core.specs.FastIndex.{IsWhole, fast_index_len, passes_data}
 pub use Rattle.icu_trie_core.specs.Coherence.{AnswersNull, HighAnswers, InsideAnswers, IsCoherent, IsShared, Null16, Null512, Null64, SameAnswers, StandsIn}
 pub use Rattle.icu_trie_core.specs.Range.{GivesWalk, first_of, last_of, run_of, value_run}
 pub use Rattle.icu_trie_core.specs.Runs.{AreMaximalRuns, AreRunsFrom, LongestRun, Run, some_run}

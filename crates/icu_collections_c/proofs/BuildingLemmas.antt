@@ -9,6 +9,7 @@ use Rattle.std.proofs.lemmas.List.{length-map}
 use Rattle.std.proofs.lemmas.List.Sums.{count_by-le-length}
 use Rattle.icu_zerovec.specs.PackedBytes.{number_of}
 use Rattle.icu_trie.specs.Parts.{Parts, last_cell, trie_value}
+use Rattle.icu_trie_core.specs.Contents.{contents_of}
 use Rattle.icu_trie_core.specs.Format.{answer}
 use Rattle.icu_trie_core.specs.ValueNumbers.{fitting, type_number}
 use Rattle.icu_trie_core.specs.declared.header.CodePointTrieHeader.{CodePointTrieHeader}
@@ -63,7 +64,7 @@ above-none true o f e = refl
 above-none false o f e = absurd (cc)
 
 answer-above : {T : Type 0} (h : CodePointTrieHeader) (index : List ℕ) (values : List T) (u : ℕ) → 0x10FFFF < u
-    → answer h index values u ≡ None
+    → answer h (contents_of index values) u ≡ None
 unfolding answer
 answer-above h index values u l =
     let yes : nat_lt 0x10FFFF u ≡ true = grind (arith, nat_tests) in

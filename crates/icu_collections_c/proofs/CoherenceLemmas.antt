@@ -5,6 +5,7 @@ use Rattle.std.proofs.lemmas.Bool.{cases_lt, lt-ltb, le-ltb}
 use Rattle.std.proofs.lemmas.Option.{slice_get_past}
 use Rattle.icu_trie.specs.Parts.{Parts, parts_fault}
 use Rattle.icu_trie.specs.Ranges.{answers, IsCoherentTrie}
+use Rattle.icu_trie_core.specs.Contents.{contents_of}
 use Rattle.icu_trie_core.specs.Format.{answer, fast_limit, fast_offset, index1_start, index2_cell, small_offset}
 use Rattle.icu_trie_core.specs.declared.header.CodePointTrieHeader.{CodePointTrieHeader}
 use Rattle.icu_trie_core.specs.declared.header.TrieType.{TrieType}
@@ -49,7 +50,7 @@ limit-most Small = omega arith
 
 module _ {T : Type 0} (h : CodePointTrieHeader) (index : List ℕ) (values : List T) (u : ℕ) where
   small_none : u < 0x110000 → fast_limit h.trie_type ≤ u → u < h.high_start → small_offset h.trie_type index u ≡ None
-      → answer h index values u ≡ None
+      → answer h (contents_of index values) u ≡ None
   unfolding answer
   small_none within from below is = rw (
     le-ltb 1114111 u (omega (arith, within)),
@@ -63,7 +64,7 @@ module _ {T : Type 0} (h : CodePointTrieHeader) (index : List ℕ) (values : Lis
   no_offset is = rw is refl
 
   -- where there is an answer, there is an index-2 cell
-  has_index2 : (x : T) → u < 0x110000 → fast_limit h.trie_type ≤ u → u < h.high_start → answer h index values u ≡ Some x
+  has_index2 : (x : T) → u < 0x110000 → fast_limit h.trie_type ≤ u → u < h.high_start → answer h (contents_of index values) u ≡ Some x
       → (n : ℕ) × (index2_cell h.trie_type index u ≡ Some n)
   has_index2 x within from below e = by (index2_cell h.trie_type index u) refl
     where

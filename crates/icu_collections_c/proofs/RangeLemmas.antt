@@ -4,6 +4,7 @@ use Rattle.std.specs.Prelude.{map, All}
 use Rattle.std.proofs.Math.ListN.{set}
 use Rattle.std.proofs.lemmas.List.{length-append, length-map, map-append}
 use Rattle.std.proofs.lemmas.List.Elements.{All-append, All-cons, All-nil}
+use Rattle.icu_trie_core.specs.Contents.{contents_of}
 use Rattle.icu_trie_core.specs.declared.range.CodePointMapRange.{CodePointMapRange}
 use Rattle.icu_trie_core.specs.Range.{GivesWalk, first_of, last_of}
 use Rattle.icu_trie_core.specs.Runs.{LongestRun}
@@ -44,9 +45,9 @@ put xs ys v n e l = rw add-one (put_suc xs ys v n e l)
 
 module _ {A : Type 0} (of_number : ℕ → Option A) (number : A → ℕ) (t : Parts A) where
   given_more : (c : ℕ) (rs : List (CodePointMapRange A)) (next : ℕ) (r : CodePointMapRange A)
-      → AreRangesTo of_number t c rs next → GivesWalk of_number t.header t.index t.values next (Some r)
+      → AreRangesTo of_number t c rs next → GivesWalk of_number t.header (contents_of t.index t.values) next (Some r)
       → AreRangesTo of_number t c (rs ++ r ∷ []) (last_of r + 1)
-  given_more c [] next r e w = (subst (λ n. GivesWalk of_number t.header t.index t.values n (Some r)) (sym e) w, refl)
+  given_more c [] next r e w = (subst (λ n. GivesWalk of_number t.header (contents_of t.index t.values) n (Some r)) (sym e) w, refl)
   given_more c (x ∷ xs) next r h w = (h.0, given_more (last_of x + 1) xs next r h.1 w)
 
   -- none yet
@@ -63,7 +64,7 @@ module _ {A : Type 0} (of_number : ℕ → Option A) (number : A → ℕ) (t : P
   module _ (c : ℕ) (before buffer : List Range) (next count : ℕ) where
     -- one more
     pub written_more : (r : CodePointMapRange A) (new : List Range) (after : ℕ) → HasWritten of_number number t c before buffer next count
-        → count < length before → GivesWalk of_number t.header t.index t.values next (Some r)
+        → count < length before → GivesWalk of_number t.header (contents_of t.index t.values) next (Some r)
         → (IsCoherentTrie of_number t → LongestRun (answers t) next (last_of r) (Some r.value))
         → new ≡ set buffer count (shown number r) → after ≡ last_of r + 1
         → HasWritten of_number number t c before new after (count + 1)

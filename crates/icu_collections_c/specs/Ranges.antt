@@ -1,6 +1,7 @@
 -- The ranges that C is given of a trie.
 use Rattle.std.specs.Prelude.{◌≡◌, ℕ, ◌+◌, ◌<◌, ◌≤◌, ◌↔◌, true, false, List, [], ◌∷◌, Option, Some, None, MatchOption, length, map, All}
 use Rattle.icu_invlist.specs.InversionList.{holds}
+use Rattle.icu_trie_core.specs.Contents.{contents_of}
 use Rattle.icu_trie_core.specs.declared.range.CodePointMapRange.{CodePointMapRange}
 use Rattle.icu_trie_core.specs.Range.{GivesWalk, first_of, last_of}
 use Rattle.icu_trie_core.specs.Runs.{LongestRun}
@@ -20,7 +21,7 @@ range_of number None = record { first = 0; last = 0; value = 0; found = false }
 pub record GivesRange {A : Type 0} (of_number : ℕ → Option A) (number : A → ℕ) (t : Parts A) (c : ℕ)
     (given : Range) : Type 0 where
   pub walk : Option (CodePointMapRange A)
-  pub gives : GivesWalk of_number t.header t.index t.values c walk
+  pub gives : GivesWalk of_number t.header (contents_of t.index t.values) c walk
   pub longest : IsCoherentTrie of_number t → MatchOption walk (0x110000 ≤ c)
       (λ r. LongestRun (answers t) c (last_of r) (Some r.value))
   pub range : given ≡ range_of number walk
@@ -31,7 +32,7 @@ abbrev pub AreRangesTo : {A : Type 0} → (ℕ → Option A) → Parts A → ℕ
     → ℕ → Type 0
 AreRangesTo of_number t c [] next = c ≡ next
 AreRangesTo of_number t c (r ∷ rs) next =
-    GivesWalk of_number t.header t.index t.values c (Some r)
+    GivesWalk of_number t.header (contents_of t.index t.values) c (Some r)
     × AreRangesTo of_number t (last_of r + 1) rs next
 
 -- many ranges from c on, over any trie: one after another, as many as fit; where there is room
@@ -46,7 +47,7 @@ pub record GivesRanges {A : Type 0} (of_number : ℕ → Option A) (number : A �
   pub count_is : count ≡ length ranges
   pub fits : length ranges ≤ length before
   pub ended : length ranges < length before
-      → GivesWalk of_number t.header t.index t.values next None
+      → GivesWalk of_number t.header (contents_of t.index t.values) next None
   pub written : after ≡ written (map (λ r. range_of number (Some r)) ranges) before
 
 -- the code points in ranges of the value, and over a coherent trie those that have it

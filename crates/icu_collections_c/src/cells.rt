@@ -2,6 +2,7 @@
 ghost use Rattle.std.specs.Prelude.{◌≡◌, ℕ, ◌/◌, ◌^◌, ◌<◌, ◌≤◌, ◌↔◌, List, length, slice_get, Some, IsSome, IsTrue, MatchOption, refl};
 ghost use Rattle.icu_zerovec.specs.Cells.{values_of};
 ghost use Rattle.icu_zerovec.specs.PackedBytes.{number_of};
+ghost use Rattle.icu_trie_core.specs.Contents.{contents_of};
 ghost use Rattle.icu_trie_core.specs.Coherence.{IsCoherent};
 ghost use Rattle.icu_trie_core.specs.Format.{answer};
 ghost use Rattle.icu_trie_core.specs.Range.{GivesWalk, last_of};
@@ -99,9 +100,9 @@ pub(crate) struct ByteCells<'a, T: UnsignedValue, L: Ledger> {
 }
 
 impl<'a, T: UnsignedValue, L: Ledger> Cells<T> for ByteCells<'a, T, L> {
-    ghost index = { λ cells. values_of (λ cell. Some (number_of 2 cell)) 2 cells.index.now };
-
-    ghost values = { λ cells. values_of T.unpack T.WIDTH cells.values.now };
+    ghost contents = { λ cells. contents_of
+        (values_of (λ cell. Some (number_of 2 cell)) 2 cells.index.now)
+        (values_of T.unpack T.WIDTH cells.values.now) };
 
     ghost reads = { λ cells. cells.reads };
 
@@ -153,7 +154,8 @@ fn look_up_counted<T: UnsignedValue, L: Ledger>(
     requires parts { blank.parts ≡ L.parts }
     requires some { 0 < blank.parts }
     ensures { result
-        ≡ answer header.now (cells_of 2 index.now) (values_of T.unpack T.WIDTH values.now) c }
+        ≡ answer header.now (contents_of (cells_of 2 index.now)
+        (values_of T.unpack T.WIDTH values.now)) c }
 {
     let mut cells = ByteCells {
         index,
@@ -173,7 +175,8 @@ pub(crate) fn look_up_in<T: UnsignedValue>(
     c: u32,
 ) -> Option<T>
     ensures { result
-        ≡ answer header.now (cells_of 2 index.now) (values_of T.unpack T.WIDTH values.now) c }
+        ≡ answer header.now (contents_of (cells_of 2 index.now)
+        (values_of T.unpack T.WIDTH values.now)) c }
 {
     look_up_counted::<T, Brand>(header, index, values, c, Blank::new(1))
 }
@@ -190,12 +193,14 @@ fn walk_counted<T: UnsignedValue, L: Ledger>(
     requires name { blank.name ≡ L.name }
     requires parts { blank.parts ≡ L.parts }
     requires some { 0 < blank.parts }
-    ensures gives { GivesWalk T.of_number header.now (cells_of 2 index.now)
-        (values_of T.unpack T.WIDTH values.now) c result }
-    ensures longest { IsCoherent T.of_number header.now (cells_of 2 index.now)
-        (values_of T.unpack T.WIDTH values.now) → MatchOption result (0x110000 ≤ c)
+    ensures gives { GivesWalk T.of_number header.now
+        (contents_of (cells_of 2 index.now) (values_of T.unpack T.WIDTH values.now)) c result }
+    ensures longest { IsCoherent T.of_number header.now
+        (contents_of (cells_of 2 index.now) (values_of T.unpack T.WIDTH values.now))
+        → MatchOption result (0x110000 ≤ c)
         (λ r. LongestRun
-        (answer header.now (cells_of 2 index.now) (values_of T.unpack T.WIDTH values.now)) c
+        (answer header.now (contents_of (cells_of 2 index.now)
+        (values_of T.unpack T.WIDTH values.now))) c
         (last_of r) (Some r.value)) }
 {
     let mut cells = ByteCells {
@@ -215,12 +220,14 @@ pub(crate) fn walk_in<T: UnsignedValue>(
     values: &[u8],
     c: u32,
 ) -> Option<CodePointMapRange<T>>
-    ensures gives { GivesWalk T.of_number header.now (cells_of 2 index.now)
-        (values_of T.unpack T.WIDTH values.now) c result }
-    ensures longest { IsCoherent T.of_number header.now (cells_of 2 index.now)
-        (values_of T.unpack T.WIDTH values.now) → MatchOption result (0x110000 ≤ c)
+    ensures gives { GivesWalk T.of_number header.now
+        (contents_of (cells_of 2 index.now) (values_of T.unpack T.WIDTH values.now)) c result }
+    ensures longest { IsCoherent T.of_number header.now
+        (contents_of (cells_of 2 index.now) (values_of T.unpack T.WIDTH values.now))
+        → MatchOption result (0x110000 ≤ c)
         (λ r. LongestRun
-        (answer header.now (cells_of 2 index.now) (values_of T.unpack T.WIDTH values.now)) c
+        (answer header.now (contents_of (cells_of 2 index.now)
+        (values_of T.unpack T.WIDTH values.now))) c
         (last_of r) (Some r.value)) }
 {
     walk_counted::<T, Brand>(header, index, values, c, Blank::new(1))
@@ -237,8 +244,8 @@ fn is_coherent_counted<T: UnsignedValue, L: Ledger>(
     requires parts { blank.parts ≡ L.parts }
     requires some { 0 < blank.parts }
     ensures { IsTrue result
-        ↔ IsCoherent T.of_number header.now (cells_of 2 index.now)
-        (values_of T.unpack T.WIDTH values.now) }
+        ↔ IsCoherent T.of_number header.now
+        (contents_of (cells_of 2 index.now) (values_of T.unpack T.WIDTH values.now)) }
 {
     let mut cells = ByteCells {
         index,
@@ -256,8 +263,8 @@ pub(crate) fn is_coherent_in<T: UnsignedValue>(
     values: &[u8],
 ) -> bool
     ensures { IsTrue result
-        ↔ IsCoherent T.of_number header.now (cells_of 2 index.now)
-        (values_of T.unpack T.WIDTH values.now) }
+        ↔ IsCoherent T.of_number header.now
+        (contents_of (cells_of 2 index.now) (values_of T.unpack T.WIDTH values.now)) }
 {
     is_coherent_counted::<T, Brand>(header, index, values, Blank::new(1))
 }

@@ -2,6 +2,7 @@
 ghost use Rattle.std.specs.Prelude.{◌≡◌, length, map, min, unwrap_or};
 ghost use Rattle.std.specs.Option.{option_or};
 ghost use Rattle.icu_zerovec.specs.Cells.{values_of};
+ghost use Rattle.icu_trie_core.specs.Contents.{contents_of};
 ghost use Rattle.icu_trie_core.specs.Format.{answer};
 ghost use Rattle.icu_trie.specs.Parts.{last_cell, trie_value};
 ghost use Rattle.icu_collections_c.specs.Buffers.{written};
@@ -70,7 +71,8 @@ pub(crate) fn value_of<T: UnsignedValue>(
 ) -> Option<T>
     ensures { result
         ≡ option_or
-        (answer header.now (cells_of 2 index.now) (values_of T.unpack T.WIDTH values.now) c)
+        (answer header.now (contents_of (cells_of 2 index.now)
+        (values_of T.unpack T.WIDTH values.now)) c)
         (last_cell (values_of T.unpack T.WIDTH values.now)) }
 {
     match look_up_in(header, index, values, c) {

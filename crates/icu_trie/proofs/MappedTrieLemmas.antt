@@ -3,6 +3,7 @@ use Rattle.std.proofs.Common.{append_assoc, append-nil, ◌≡◌, ℕ, ◌+◌,
 use Rattle.std.specs.Option.{option_map, option_and_then, option_or}
 use Rattle.std.specs.Result.{IsErr, IsErrAnd}
 use Rattle.std.proofs.lemmas.Option.{slice_get-map}
+use Rattle.icu_trie_core.specs.Contents.{contents_of}
 use Rattle.icu_trie_core.specs.declared.header.CodePointTrieHeader.{CodePointTrieHeader}
 use Rattle.icu_trie.specs.Parts.{trie_value, last_cell}
 use Rattle.icu_trie_core.specs.Format.{answer, place, high_cell, high_value}
@@ -40,8 +41,8 @@ module _ {A B E : Type 0} (h : A → Result B E) (header : CodePointTrieHeader) 
   at_place (Some i) = at_cell i
 
   -- the answers of the trie of the answers
-  pub answers-mapped : (u : ℕ) → option_map (ok_answer {E = E}) (answer (with_null_value header number) index ys u)
-      ≡ option_map h (answer header index xs u)
+  pub answers-mapped : (u : ℕ) → option_map (ok_answer {E = E}) (answer (with_null_value header number) (contents_of index ys) u)
+      ≡ option_map h (answer header (contents_of index xs) u)
   unfolding answer
   answers-mapped u = rw same (at_place (place header index (length xs) u))
 
@@ -72,13 +73,15 @@ module _ {A B E : Type 0} (h : A → Result B E) (header : CodePointTrieHeader) 
 
   module _ (of_number : ℕ → Option A) (of_other : ℕ → Option B) (x : A) (y : B) (before : of_number header.null_value ≡ Some x)
       (after : of_other number ≡ Some y) (null : h x ≡ Ok y) where
-    null-mapped : (k b : ℕ) → AnswersNull of_number header index xs k b → AnswersNull of_other (with_null_value header number) index ys k b
+    null-mapped : (k b : ℕ) → AnswersNull of_number header (contents_of index xs) k b
+        → AnswersNull of_other (with_null_value header number) (contents_of index ys) k b
     null-mapped k b is i lt =
         Ok-injective {E = E} _ _ (answers-mapped (b * k + i)
         ∙ (ap (option_map h) (is i lt ∙ before) ∙ (ap (λ r. Some r) null ∙ ap (option_map (ok_answer {E = E})) (sym after))))
 
     -- a coherent trie stays one
-    pub IsCoherent-mapped : IsCoherent of_number header index xs → IsCoherent of_other (with_null_value header number) index ys
+    pub IsCoherent-mapped : IsCoherent of_number header (contents_of index xs)
+        → IsCoherent of_other (with_null_value header number) (contents_of index ys)
     IsCoherent-mapped coherent = record {
       aligned = coherent.aligned;
       within = coherent.within;

@@ -5,6 +5,7 @@ use Rattle.std.specs.Option.{option_or}
 use Rattle.std.specs.Ordering.{on, eq_of_both}
 use Rattle.icu_zerovec.specs.Cells.{same_bytes}
 use Rattle.icu_zerovec.specs.PackedBytes.{low_bytes}
+use Rattle.icu_trie_core.specs.Contents.{contents_of}
 use Rattle.icu_trie_core.specs.declared.header.CodePointTrieHeader.{CodePointTrieHeader}
 use Rattle.icu_trie_core.specs.declared.error.CodePointTrieError.{CodePointTrieError}
 use Rattle.icu_trie_core.specs.declared.error.CodePointTrieError.TheVariants.{EmptyDataVector, InvalidNullValue, IndexTooShortForFastAccess, DataTooShortForFastAccess}
@@ -25,7 +26,7 @@ last_cell values = slice_get values (length values - 1)
 
 -- the value of a trie at u: the format answer, or else the error value
 abbrev pub trie_value : {T : Type 0} → Parts T → ℕ → Option T
-trie_value t u = option_or (answer t.header t.index t.values u) (last_cell t.values)
+trie_value t u = option_or (answer t.header (contents_of t.index t.values) u) (last_cell t.values)
 
 -- the first fault of the parts of a trie, where of_number gives the value of a number
 abbrev pub parts_fault : {T : Type 0} → (ℕ → Option T) → CodePointTrieHeader → List ℕ → List T

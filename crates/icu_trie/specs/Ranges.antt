@@ -2,6 +2,7 @@
 use Rattle.std.specs.Prelude.{◌≡◌, ℕ, ◌+◌, ◌<◌, ◌≤◌, false, List, [], ◌∷◌, Option, Some, None, Any}
 use Rattle.std.specs.Range.{range_inclusive_start, range_inclusive_end, range_inclusive_exhausted}
 use Rattle.std.specs.declared.ops.RangeInclusive.{RangeInclusive}
+use Rattle.icu_trie_core.specs.Contents.{contents_of}
 use Rattle.icu_trie_core.specs.declared.range.CodePointMapRange.{CodePointMapRange}
 use Rattle.icu_trie_core.specs.Format.{answer}
 use Rattle.icu_trie_core.specs.Coherence.{IsCoherent}
@@ -25,16 +26,16 @@ module _ {A : Type 0} where
 
   -- the format answers of a trie
   abbrev pub answers : Parts A → ℕ → Option A
-  answers p = answer p.header p.index p.values
+  answers p = answer p.header (contents_of p.index p.values)
 
   abbrev pub IsCoherentTrie : (ℕ → Option A) → Parts A → Type 0
-  IsCoherentTrie of_number p = IsCoherent of_number p.header p.index p.values
+  IsCoherentTrie of_number p = IsCoherent of_number p.header (contents_of p.index p.values)
 
 -- from c on, these are the ranges that a trie gives: each begins after the one before it, and after
 -- the last one there is none
 abbrev pub AreRangesFrom : {A : Type 0} → (ℕ → Option A) → Parts A → ℕ → List (CodePointMapRange A)
     → Type 0
-AreRangesFrom of_number p c [] = GivesWalk of_number p.header p.index p.values c None
+AreRangesFrom of_number p c [] = GivesWalk of_number p.header (contents_of p.index p.values) c None
 AreRangesFrom of_number p c (x ∷ xs) =
-    GivesWalk of_number p.header p.index p.values c (Some x)
+    GivesWalk of_number p.header (contents_of p.index p.values) c (Some x)
     × AreRangesFrom of_number p (last_of x + 1) xs

@@ -14,6 +14,7 @@ use std::alloc::Global;
 impl<'trie, T: TrieValue> CodePointTrie<'trie, T> {
     ghost use Rattle.std.specs.List.{All};
     ghost use Rattle.std.specs.Iterator.{Drains};
+    ghost use Rattle.icu_trie_core.specs.Contents.{contents_of};
     ghost use Rattle.icu_trie_core.specs.Runs.{LongestRun, AreMaximalRuns};
     ghost use Rattle.icu_trie_core.specs.Range.{GivesWalk, last_of, run_of};
     ghost use Rattle.icu_trie.specs.Ranges.{AreRangesFrom, IsInRangeOf, IsCoherentTrie, IsRangeOfCodePoints, answers};
@@ -26,7 +27,8 @@ impl<'trie, T: TrieValue> CodePointTrie<'trie, T> {
     /// ([`walk`](icu_trie_core::walk::walk)).
     #[inline(always)]
     pub fn get_range(&self, c: u32) -> Option<CodePointMapRange<T>>
-        ensures gives { GivesWalk T.of_number self.now.header self.now.index self.now.values c
+        ensures gives { GivesWalk T.of_number self.now.header
+            (contents_of self.now.index self.now.values) c
             result }
         ensures longest { IsCoherentTrie T.of_number self.now
             → MatchOption result (0x110000 ≤ c)

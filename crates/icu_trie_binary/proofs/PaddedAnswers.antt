@@ -2,6 +2,7 @@
 use Rattle.std.proofs.Common.{◌≡◌, ℕ, zero, suc, ◌+◌, ◌-◌, ◌*◌, ◌/◌, ◌%◌, List, [], ◌∷◌, ◌++◌, length, slice_get, Option, Some, None, refl}
 use Rattle.std.specs.Prelude.{Bool, true, false, nat_lt, if◌then◌else◌}
 use Rattle.std.specs.Option.{option_and_then}
+use Rattle.icu_trie_core.specs.Contents.{contents_of}
 use Rattle.icu_trie_core.specs.declared.header.TrieType.{TrieType}
 use Rattle.icu_trie_core.specs.declared.header.CodePointTrieHeader.{CodePointTrieHeader}
 use Rattle.icu_trie_core.specs.Format.{answer, place, fast_limit, small_offset, index2_cell, offset_in_block, high_cell, long_offset, index1_start}
@@ -56,7 +57,7 @@ module _ (index behind : List ℕ) where
 
   pub keeps_answer : {T : Type 0} (h g : CodePointTrieHeader) (values : List T) (u : ℕ) → g.trie_type ≡ h.trie_type
       → g.high_start ≡ h.high_start
-      → Keeps (answer h index values u) (answer g (index ++ behind) values u)
+      → Keeps (answer h (contents_of index values) u) (answer g (contents_of (index ++ behind) values) u)
   unfolding answer
   keeps_answer h g values u same_type same_start =
       keeps_then _ _ _ _ (λ i. keeps_all (slice_get values i)) (keeps_place h g (length values) u same_type same_start)

@@ -3,6 +3,7 @@ use Rattle.std.proofs.Common.{◌≡◌, ℕ, ◌+◌, ◌*◌, ◌/◌, ◌<◌
 use Rattle.std.specs.Prelude.{true, false, nat_lt, IsSome}
 use Rattle.std.specs.Option.{option_and_then}
 use Rattle.std.proofs.lemmas.Grind.{common_steps}
+use Rattle.icu_trie_core.specs.Contents.{contents_of}
 use Rattle.icu_trie_core.specs.declared.header.CodePointTrieHeader.{CodePointTrieHeader}
 use Rattle.icu_trie_core.specs.Format.{answer, place, fast_limit, fast_offset, small_offset, index2_cell}
 use Rattle.icu_trie_core.specs.Coherence.{IsCoherent, AnswersNull}
@@ -30,8 +31,9 @@ some_before f (Some x) s = refl
 module _ {T : Type 0} (of_number : ℕ → Option T) (h g : CodePointTrieHeader) (index behind : List ℕ) (values : List T)
     (same_type : g.trie_type ≡ h.trie_type) (same_start : g.high_start ≡ h.high_start)
     (same_data : g.data_null_offset ≡ h.data_null_offset) (same_index3 : g.index3_null_offset ≡ h.index3_null_offset)
-    (same_null : g.null_value ≡ h.null_value) (valued : IsSome (of_number h.null_value)) (good : IsCoherent of_number h index values) where
-  kept : (u : ℕ) → Keeps (answer h index values u) (answer g (index ++ behind) values u)
+    (same_null : g.null_value ≡ h.null_value) (valued : IsSome (of_number h.null_value))
+    (good : IsCoherent of_number h (contents_of index values)) where
+  kept : (u : ℕ) → Keeps (answer h (contents_of index values) u) (answer g (contents_of (index ++ behind) values) u)
   kept u = keeps_answer index behind h g values u same_type same_start
 
   -- below the high start the cells of the index are there
@@ -56,10 +58,11 @@ module _ {T : Type 0} (of_number : ℕ → Option T) (h g : CodePointTrieHeader)
   unfolding small_offset
   some_index2 u l s = some_before _ (index2_cell h.trie_type index u) (some_small u l s)
 
-  null_kept : (k b : ℕ) → AnswersNull of_number h index values k b → AnswersNull of_number g (index ++ behind) values k b
+  null_kept : (k b : ℕ) → AnswersNull of_number h (contents_of index values) k b
+      → AnswersNull of_number g (contents_of (index ++ behind) values) k b
   null_kept k b n i l = same_kept _ _ _ (kept (b * k + i)) (rw same_null valued) (n i l ∙ ap of_number (sym same_null))
 
-  pub coherent-padded : IsCoherent of_number g (index ++ behind) values
+  pub coherent-padded : IsCoherent of_number g (contents_of (index ++ behind) values)
   coherent-padded = record {
     aligned = rw same_start good.aligned;
     within = rw same_start good.within;

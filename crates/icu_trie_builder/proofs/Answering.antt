@@ -5,6 +5,7 @@ use Rattle.std.proofs.lemmas.List.{same_lists, get_or_default, get_or-take, leng
 use Rattle.std.proofs.lemmas.List.Folds.{list_any_none}
 use Rattle.std.proofs.lemmas.List.FromFn.{get_or-map-range_with_len}
 use Rattle.std.proofs.lemmas.Option.{slice_get-get_or, slice_get_within}
+use Rattle.icu_trie_core.specs.Contents.{contents_of}
 use Rattle.icu_trie_core.specs.declared.header.TrieType.{TrieType}
 use Rattle.icu_trie_core.specs.declared.header.TrieType.TheVariants.{Fast, Small}
 use Rattle.icu_trie_core.specs.declared.header.CodePointTrieHeader.{CodePointTrieHeader}
@@ -26,7 +27,7 @@ some-is o x e = rw e refl
 
 -- the answer from the high start on
 high_answer : (h : CodePointTrieHeader) (index values : List ℕ) (u : ℕ) → u < 1114112 → fast_limit h.trie_type ≤ u → h.high_start ≤ u
-    → answer h index values u ≡ high_value values
+    → answer h (contents_of index values) u ≡ high_value values
 unfolding answer
 high_answer h index values u within from above =
     rw (le-ltb 1114111 u (omega (arith, within)), le-ltb u (fast_limit h.trie_type) from, le-ltb u h.high_start above) refl
@@ -117,7 +118,7 @@ module _ (h : CodePointTrieHeader) (f : ℕ → ℕ) (fast small index values : 
     (within : h.high_start ≤ 1114112)
     (x : IsIndex h.trie_type h.high_start fast small index)
     (p : IsData h.trie_type h.high_start h.data_null_offset h.null_value f fast small values) where
-  pub answers : (c : ℕ) → c < 1114112 → answer h index values c ≡ Some (f c)
+  pub answers : (c : ℕ) → c < 1114112 → answer h (contents_of index values) c ≡ Some (f c)
   answers c lt = elim (cases_lt c (fast_limit h.trie_type)) [
     | inl below ↦ fast_answer h index values c (get_or fast (c / 64) 0) lt below (x.on_fast c below) ∙ p.on_fast c below
     | inr from ↦ elim (cases_lt c h.high_start) [
@@ -127,19 +128,21 @@ module _ (h : CodePointTrieHeader) (f : ℕ → ℕ) (fast small index values : 
     ]
   ]
 
-  numbers_same : (k b d : ℕ) → b * k + k ≤ 1114112 → d * k + k ≤ 1114112 → SameAnswers h index values k b d → SameNumbers f k b d
+  numbers_same : (k b d : ℕ) → b * k + k ≤ 1114112 → d * k + k ≤ 1114112 → SameAnswers h (contents_of index values) k b d
+      → SameNumbers f k b d
   numbers_same k b d b1 d1 same i l = some-injective (f (b * k + i)) (f (d * k + i))
       (sym (answers (b * k + i) (omega (arith, l, b1))) ∙ (same i l ∙ answers (d * k + i) (omega (arith, l, d1))))
 
   -- blocks at the null offset hold the null value
-  pub coherent : IsNullIndex h.trie_type h.high_start h.data_null_offset small index h.index3_null_offset → IsCoherent Some h index values
+  pub coherent : IsNullIndex h.trie_type h.high_start h.data_null_offset small index h.index3_null_offset
+      → IsCoherent Some h (contents_of index values)
   coherent cells =
       let t = parts h.trie_type in
       record {
         aligned = aligned;
         within = within;
         high = λ c above lt. (answers c lt ∙ sym (p.on_high c above lt), some-is (high_value values) (f c) (p.on_high c above lt));
-        inside = λ c below. some-is (answer h index values c) (f c) (answers c (omega (arith, below, within)));
+        inside = λ c below. some-is (answer h (contents_of index values) c) (f c) (answers c (omega (arith, below, within)));
         null_64 = λ b low below is i l.
             let at = some-injective (get_or fast (b * 64 / 64) 0) h.data_null_offset (sym (x.on_fast (b * 64) low) ∙ is) in
             let same : b * 64 / 64 ≡ b = omega arith in
@@ -190,7 +193,7 @@ module _ (h : CodePointTrieHeader) (f : ℕ → ℕ) (fast small index values : 
       ap (λ n. get_or small n 0) (omega (arith, from, t.1))
       ∙ some-injective (get_or small (u / 16 - fast_limit h.trie_type / 16) 0) h.data_null_offset (sym cell ∙ all q l))
 
-  pub shared : IsShared h index values
+  pub shared : IsShared h (contents_of index values)
   shared = record {
     fast = λ b d sb sd same.
         let t = parts h.trie_type in

@@ -1,6 +1,7 @@
 -- A trie that answers a map has its ranges and its value sets.
 use Rattle.std.proofs.Common.{◌≡◌, ℕ, ◌+◌, ◌<◌, ◌≤◌, Some, None, arith, sym, ◌∙◌, ap}
 use Rattle.std.proofs.lemmas.Bool.Decides.{nat_tests}
+use Rattle.icu_trie_core.specs.Contents.{contents_of}
 use Rattle.icu_trie_core.proofs.CallerLemmas.{AreMaximalRuns-same, AreMaximalRuns-some}
 use Rattle.icu_trie_core.specs.Format.{answer}
 use Rattle.icu_trie_core.specs.Runs.{LongestRun}
@@ -25,15 +26,15 @@ module _ {T : Type 0} (f : ℕ → T) (error : T) (t : Parts T) (a : AnswersMap 
 -- ---- a look-up or a walk over whatever cells hold the trie
 module _ {T : Type 0} (f : ℕ → T) (error : T) (t : Parts T) (of : AnswersMap f error t) where
   -- the answer in the code space is the map's value
-  pub answer-of-map : (u : ℕ) → u ≤ 0x10FFFF → answer t.header t.index t.values u ≡ Some (f u)
+  pub answer-of-map : (u : ℕ) → u ≤ 0x10FFFF → answer t.header (contents_of t.index t.values) u ≡ Some (f u)
   answer-of-map u l = grind (arith, nat_tests, of.look_up u)
 
   -- and there is none above it
-  pub no_answer-of-map : (u : ℕ) → 0x10FFFF < u → answer t.header t.index t.values u ≡ None
+  pub no_answer-of-map : (u : ℕ) → 0x10FFFF < u → answer t.header (contents_of t.index t.values) u ≡ None
   no_answer-of-map u l = grind (arith, nat_tests, of.look_up u)
 
   -- the longest run of the answers, which a walk gives, is the map's
-  pub longest_of_map : (first last : ℕ) (v : T) → LongestRun (answer t.header t.index t.values) first last (Some v)
+  pub longest_of_map : (first last : ℕ) (v : T) → LongestRun (answer t.header (contents_of t.index t.values)) first last (Some v)
       → LongestRun f first last v
   longest_of_map first last v run = record {
     ordered = run.ordered;

@@ -6,6 +6,7 @@ use Rattle.std.proofs.lemmas.Bool.{le-ltb, cases_lt}
 use Rattle.std.proofs.lemmas.Bool.Decides.{nat_tests}
 use Rattle.std.proofs.lemmas.List.{length-map}
 use Rattle.std.proofs.lemmas.Option.{slice_get-map, same_Some}
+use Rattle.icu_trie_core.specs.Contents.{contents_of}
 use Rattle.icu_trie_core.specs.declared.header.CodePointTrieHeader.{CodePointTrieHeader}
 use Rattle.icu_trie_core.specs.Format.{answer, high_cell, high_value, place}
 use Rattle.icu_trie_core.specs.FastIndex.{fast_index_len, passes_data}
@@ -42,7 +43,7 @@ module _ {T : Type 0} (of_number : ℕ → Option T) (numbers : List ℕ) (value
 
   -- the trie of values answers the value of what the trie of numbers answers
   pub answer-values : (h : CodePointTrieHeader) (index : List ℕ) (u : ℕ)
-      → answer h index values u ≡ option_and_then of_number (answer h index numbers u)
+      → answer h (contents_of index values) u ≡ option_and_then of_number (answer h (contents_of index numbers) u)
   unfolding answer
   answer-values h index u = ap (λ n. option_and_then (slice_get values) (place h index n u)) length-values
       ∙ at_place (place h index (length numbers) u)
@@ -71,22 +72,23 @@ module _ {T : Type 0} (of_number : ℕ → Option T) (number : T → ℕ) (g : �
     (is : (c : ℕ) → c < 0x110000 → f c ≡ number (g c)) (built : IsNumberTrie f (number error) h index numbers)
     (null_is : is_some (of_number h.null_value) ≡ true) where
   -- the number of a code point's value is what the trie of the numbers answers
-  number_answer : (c : ℕ) → c < 0x110000 → answer h index numbers c ≡ Some (number (g c))
+  number_answer : (c : ℕ) → c < 0x110000 → answer h (contents_of index numbers) c ≡ Some (number (g c))
   number_answer c l = built.answers c l ∙ ap (λ n. Some n) (is c l)
 
-  pub value_answer : (c : ℕ) → c < 0x110000 → answer h index values c ≡ Some (g c)
+  pub value_answer : (c : ℕ) → c < 0x110000 → answer h (contents_of index values) c ≡ Some (g c)
   value_answer c l = answer-values of_number numbers values same h index c ∙ ap (option_and_then of_number) (number_answer c l) ∙ back c l
 
   error_cell : last_cell values ≡ Some error
   error_cell = last_cell-values of_number numbers values same ∙ ap (option_and_then of_number) built.error_value ∙ error_back
 
-  look_up_is : (u : ℕ) → answer h index values u ≡ (if nat_le u 0x10FFFF then Some (g u) else None)
+  look_up_is : (u : ℕ) → answer h (contents_of index values) u ≡ (if nat_le u 0x10FFFF then Some (g u) else None)
   look_up_is u = elim (cases_lt u 0x110000) [
     | inl below ↦ (let t : nat_le u 0x10FFFF ≡ true = grind (arith, nat_tests) in rw t (value_answer u below))
     | inr past ↦ (let t : nat_le u 0x10FFFF ≡ false = grind (arith, nat_tests) in rw t (above h index values u past))
   ]
 
-  value_is : (u : ℕ) → option_or (answer h index values u) (last_cell values) ≡ Some (if nat_le u 0x10FFFF then g u else error)
+  value_is : (u : ℕ) → option_or (answer h (contents_of index values) u)
+      (last_cell values) ≡ Some (if nat_le u 0x10FFFF then g u else error)
   value_is u = elim (cases_lt u 0x110000) [
     | inl below ↦ (let t : nat_le u 0x10FFFF ≡ true = grind (arith, nat_tests) in rw (t, value_answer u below) refl)
     | inr past ↦ (let t : nat_le u 0x10FFFF ≡ false = grind (arith, nat_tests) in rw (t, above h index values u past) error_cell)
@@ -108,7 +110,7 @@ module _ {T : Type 0} (of_number : ℕ → Option T) (number : T → ℕ) (g : �
       rw (len, null, fast, inside) refl
 
   -- null blocks and the high value are as with the numbers
-  pub coherent_values : IsCoherent of_number h index values
+  pub coherent_values : IsCoherent of_number h (contents_of index values)
   coherent_values =
       let numbers_coherent = built.well_built.coherent in
       let by = answer-values of_number numbers values same h index in
@@ -116,18 +118,19 @@ module _ {T : Type 0} (of_number : ℕ → Option T) (number : T → ℕ) (g : �
         aligned = numbers_coherent.aligned;
         within = numbers_coherent.within;
         high = λ c from below.
-            let high : high_value values ≡ answer h index values c = high_value-values of_number numbers values same
+            let high : high_value values ≡ answer h (contents_of index values) c = high_value-values of_number numbers values same
             ∙ ap (option_and_then of_number) (sym (numbers_coherent.high c from below).0) ∙ sym (by c) in
             (sym high, is_some-of (high_value values) (g c) (high ∙ value_answer c below));
-        inside = λ c below. is_some-of (answer h index values c) (g c) (value_answer c (omega (arith, below, numbers_coherent.within)));
+        inside = λ c below. is_some-of (answer h (contents_of index values) c) (g c)
+            (value_answer c (omega (arith, below, numbers_coherent.within)));
         null_64 = λ b low below at i l. by (b * 64 + i) ∙ ap (option_and_then of_number) (numbers_coherent.null_64 b low below at i l);
         null_16 = λ b from below at i l. by (b * 16 + i) ∙ ap (option_and_then of_number) (numbers_coherent.null_16 b from below at i l);
         null_512 = λ b from below at i l. by (b * 512 + i) ∙ ap (option_and_then of_number) (numbers_coherent.null_512 b from below at i l);
       }
 
   -- blocks with equal values have equal numbers
-  same_numbers : (k b d : ℕ) → b * k + k ≤ 0x110000 → d * k + k ≤ 0x110000 → SameAnswers h index values k b d
-      → SameAnswers h index numbers k b d
+  same_numbers : (k b d : ℕ) → b * k + k ≤ 0x110000 → d * k + k ≤ 0x110000 → SameAnswers h (contents_of index values) k b d
+      → SameAnswers h (contents_of index numbers) k b d
   same_numbers k b d inside_b inside_d alike i l =
       let left : b * k + i < 0x110000 = omega (arith, l, inside_b) in
       let right : d * k + i < 0x110000 = omega (arith, l, inside_d) in
@@ -135,7 +138,7 @@ module _ {T : Type 0} (of_number : ℕ → Option T) (number : T → ℕ) (g : �
       same_Some _ _ (sym (value_answer (b * k + i) left) ∙ alike i l ∙ value_answer (d * k + i) right) in
       number_answer (b * k + i) left ∙ ap (λ x. Some (number x)) one ∙ sym (number_answer (d * k + i) right)
 
-  pub shared_values : IsShared h index values
+  pub shared_values : IsShared h (contents_of index values)
   shared_values =
       let numbers_shared = built.well_built.shared in
       let aligned = built.well_built.header.aligned in

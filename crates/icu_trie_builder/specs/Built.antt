@@ -1,6 +1,7 @@
 -- What a built trie is beside its answers.
 use Rattle.std.specs.Prelude.{◌≡◌, ℕ, ◌+◌, ◌/◌, ◌%◌, ◌≤◌, Option, length}
 use Rattle.icu_zerovec.specs.CodePoints.{code_point_limit}
+use Rattle.icu_trie_core.specs.Contents.{contents_of}
 use Rattle.icu_trie_core.specs.declared.header.CodePointTrieHeader.{CodePointTrieHeader}
 use Rattle.icu_trie_core.specs.Coherence.{IsCoherent, IsShared}
 use Rattle.icu_trie.specs.Parts.{Parts}
@@ -21,9 +22,9 @@ pub record IsWellBuilt {T : Type 0} (of_number : ℕ → Option T) (f : ℕ → 
   -- the header has the format's form
   pub header : IsBuiltHeader t.header
   -- a walk may trust the null offsets and the high start
-  pub coherent : IsCoherent of_number t.header t.index t.values
+  pub coherent : IsCoherent of_number t.header (contents_of t.index t.values)
   -- equal blocks have one offset or index-2 cell, so that a walk is short
-  pub shared : IsShared t.header t.index t.values
+  pub shared : IsShared t.header (contents_of t.index t.values)
   -- no more cells than the map has different blocks for
   pub data_cells : length t.values ≤ data_bound t.header.trie_type f
   pub index_cells : length t.index ≤ index_bound t.header.trie_type f

@@ -1,6 +1,7 @@
 -- What a trie that was built from a map answers.
 use Rattle.std.specs.Prelude.{◌≡◌, ℕ, ◌<◌, ◌↔◌, nat_le, List, Some, None, map, if◌then◌else◌}
 use Rattle.icu_zerovec.specs.CodePoints.{code_point_limit}
+use Rattle.icu_trie_core.specs.Contents.{contents_of}
 use Rattle.icu_trie_core.specs.Format.{answer}
 use Rattle.icu_trie.specs.Parts.{Parts, trie_value}
 use Rattle.icu_trie.specs.Ranges.{answers}
@@ -10,7 +11,7 @@ use Rattle.icu_trie_core.specs.Runs.{Run, AreMaximalRuns, some_run}
 -- data, finds f's value in the code space and nothing above it, and the trie's value above it is
 -- the error value
 pub record AnswersMap {T : Type 0} (f : ℕ → T) (error : T) (t : Parts T) : Type 0 where
-  pub look_up : (u : ℕ) → answer t.header t.index t.values u
+  pub look_up : (u : ℕ) → answer t.header (contents_of t.index t.values) u
       ≡ (if nat_le u 0x10FFFF then Some (f u) else None)
   pub value : (u : ℕ) → trie_value t u ≡ Some (if nat_le u 0x10FFFF then f u else error)
 

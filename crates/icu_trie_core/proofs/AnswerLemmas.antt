@@ -2,6 +2,7 @@
 use Rattle.std.proofs.Common.{◌≡◌, ◌⊎◌, inl, inr, ◌+◌, ◌*◌, ◌/◌, ◌%◌, ◌<◌, ◌≤◌, ℕ, List, slice_get, Option, Some, None, arith, refl}
 use Rattle.std.proofs.lemmas.Bool.{lt-ltb, le-ltb}
 use Rattle.std.specs.Option.{option_len}
+use Rattle.icu_trie_core.specs.Contents.{contents_of}
 use Rattle.icu_trie_core.specs.Format.{answer, fast_limit, index2_cell, offset_in_block, small_offset}
 use Rattle.icu_trie_core.specs.declared.header.TrieType.{TrieType}
 use Rattle.icu_trie_core.specs.declared.header.TrieType.TheVariants.{Fast, Small}
@@ -21,22 +22,22 @@ fast_limit_most Small = (omega arith, refl)
 
 module _ {A : Type 0} (h : CodePointTrieHeader) (index : List ℕ) (values : List A) (u : ℕ) where
   pub fast_answer : (offset : ℕ) → u < 1114112 → u < fast_limit h.trie_type → slice_get index (u / 64) ≡ Some offset
-      → answer h index values u ≡ slice_get values (offset + u % 64)
+      → answer h (contents_of index values) u ≡ slice_get values (offset + u % 64)
   unfolding answer
   fast_answer offset within below is = rw (le-ltb 1114111 u (omega (arith, within)), lt-ltb u (fast_limit h.trie_type) below, is) refl
 
-  pub fast_none : u < 1114112 → u < fast_limit h.trie_type → slice_get index (u / 64) ≡ None → answer h index values u ≡ None
+  pub fast_none : u < 1114112 → u < fast_limit h.trie_type → slice_get index (u / 64) ≡ None → answer h (contents_of index values) u ≡ None
   unfolding answer
   fast_none within below is = rw (le-ltb 1114111 u (omega (arith, within)), lt-ltb u (fast_limit h.trie_type) below, is) refl
 
   pub small_answer : (offset : ℕ) → u < 1114112 → fast_limit h.trie_type ≤ u → u < h.high_start
-      → small_offset h.trie_type index u ≡ Some offset → answer h index values u ≡ slice_get values (offset + u % 16)
+      → small_offset h.trie_type index u ≡ Some offset → answer h (contents_of index values) u ≡ slice_get values (offset + u % 16)
   unfolding answer
   small_answer offset within from below is =
       rw (le-ltb 1114111 u (omega (arith, within)), le-ltb u (fast_limit h.trie_type) from, lt-ltb u h.high_start below, is) refl
 
   pub small_none : u < 1114112 → fast_limit h.trie_type ≤ u → u < h.high_start → small_offset h.trie_type index u ≡ None
-      → answer h index values u ≡ None
+      → answer h (contents_of index values) u ≡ None
   unfolding answer
   small_none within from below is =
       rw (le-ltb 1114111 u (omega (arith, within)), le-ltb u (fast_limit h.trie_type) from, lt-ltb u h.high_start below, is) refl

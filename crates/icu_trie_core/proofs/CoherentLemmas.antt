@@ -3,6 +3,7 @@ use Rattle.std.proofs.Common.{◌≡◌, inl, inr, ℕ, ◌+◌, ◌-◌, ◌*�
 use Rattle.std.proofs.lemmas.Bool.{cases_lt, le-ltb, false≢true, eqb-true}
 use Rattle.std.proofs.lemmas.Option.{slice_get_within, slice_get_cases}
 use Rattle.std.specs.Option.{option_eq}
+use Rattle.icu_trie_core.specs.Contents.{contents_of}
 use Rattle.icu_trie_core.specs.declared.header.TrieType.{TrieType}
 use Rattle.icu_trie_core.specs.declared.header.CodePointTrieHeader.{CodePointTrieHeader}
 use Rattle.icu_trie_core.specs.Format.{answer, fast_limit, fast_offset, small_offset, index2_cell, offset_in_block, high_value}
@@ -77,7 +78,7 @@ module _ {A : Type 0} (of_number : ℕ → Option A) (h : CodePointTrieHeader) (
 -- the null index-2 cell is as it has to be where its blocks are null
 pub null_cell_is : {A : Type 0} (of_number : ℕ → Option A) (h : CodePointTrieHeader) (index : List ℕ) (values : List A) (cell : ℕ)
     → cell ≡ h.index3_null_offset
-    → NamesOffsets index h.index3_null_offset (IsNullBlock of_number h values 16) → IsCell of_number h index values cell
+    → NamesOffsets index h.index3_null_offset (IsNullBlock of_number h values 16) → IsCell of_number h (contents_of index values) cell
 null_cell_is of_number h index values cell is null = rw is (
   λ p lt. blocks (offset_in_block index h.index3_null_offset p) (null p lt),
   λ _. null,
@@ -108,7 +109,7 @@ same_option (Some y) x e = ap (λ n. Some n) (eqb-true y x (not_false (nat_eq y 
 module _ {A : Type 0} (h : CodePointTrieHeader) (index : List ℕ) (values : List A) where
   -- a place of a block of 64 below the fast limit
   answer-fast : (b offset i : ℕ) → b * 64 < fast_limit h.trie_type → slice_get index b ≡ Some offset → i < 64
-      → answer h index values (b * 64 + i) ≡ slice_get values (offset + i)
+      → answer h (contents_of index values) (b * 64 + i) ≡ slice_get values (offset + i)
   answer-fast b offset i fast is lt =
       let most = fast_limit_most h.trie_type in
       let here : (b * 64 + i) / 64 ≡ b = omega (arith, lt) in
@@ -116,21 +117,23 @@ module _ {A : Type 0} (h : CodePointTrieHeader) (index : List ℕ) (values : Lis
       fast_answer h index values (b * 64 + i) offset (omega (arith, most, fast, lt)) (omega (arith, most, fast, lt)) (rw here is)
       ∙ ap (λ n. slice_get values (offset + n)) place
 
-  answer-fast_missing : (b : ℕ) → b * 64 < fast_limit h.trie_type → slice_get index b ≡ None → answer h index values (b * 64) ≡ None
+  answer-fast_missing : (b : ℕ) → b * 64 < fast_limit h.trie_type → slice_get index b ≡ None
+      → answer h (contents_of index values) (b * 64) ≡ None
   answer-fast_missing b fast is =
       let most = fast_limit_most h.trie_type in
       let here : b * 64 / 64 ≡ b = omega arith in
       fast_none h index values (b * 64) (omega (arith, most, fast)) fast (rw here is)
 
   -- from the fast limit and the high start on
-  answer-high : (u : ℕ) → u < 0x110000 → fast_limit h.trie_type ≤ u → h.high_start ≤ u → answer h index values u ≡ high_value values
+  answer-high : (u : ℕ) → u < 0x110000 → fast_limit h.trie_type ≤ u → h.high_start ≤ u
+      → answer h (contents_of index values) u ≡ high_value values
   unfolding answer
   answer-high u lt from high = rw (le-ltb 1114111 u (omega (arith, lt)), le-ltb u (fast_limit h.trie_type) from, le-ltb u h.high_start high)
       refl
 
   module _ (aligned : h.high_start % 512 ≡ 0) (most : h.high_start ≤ 0x110000) (b : ℕ) (from : fast_limit h.trie_type ≤ b * 512)
       (below : b * 512 < h.high_start) where
-    answer-cell_missing : index2_cell h.trie_type index (b * 512) ≡ None → answer h index values (b * 512) ≡ None
+    answer-cell_missing : index2_cell h.trie_type index (b * 512) ≡ None → answer h (contents_of index values) (b * 512) ≡ None
     answer-cell_missing none = small_none h index values (b * 512)
         (omega (arith, below, most)) from below (small_offset_none h.trie_type index (b * 512) none)
 
@@ -143,25 +146,25 @@ module _ {A : Type 0} (h : CodePointTrieHeader) (index : List ℕ) (values : Lis
           ∙ ap (λ n. offset_in_block index cell n) here
 
       answer-small : (offset i : ℕ) → offset_in_block index cell p ≡ Some offset → i < 16
-          → answer h index values (b * 512 + (p * 16 + i)) ≡ slice_get values (offset + i)
+          → answer h (contents_of index values) (b * 512 + (p * 16 + i)) ≡ slice_get values (offset + i)
       answer-small offset i three lt =
           let place : (b * 512 + (p * 16 + i)) % 16 ≡ i = omega (arith, lt) in
           small_answer h index values (b * 512 + (p * 16 + i)) offset (omega (arith, below, most, aligned, in_cell, lt))
           (omega (arith, from)) (omega (arith, below, aligned, in_cell, lt)) (offset-at i lt ∙ three)
           ∙ ap (λ n. slice_get values (offset + n)) place
 
-      answer-offset_missing : offset_in_block index cell p ≡ None → answer h index values (b * 512 + (p * 16 + 0)) ≡ None
+      answer-offset_missing : offset_in_block index cell p ≡ None → answer h (contents_of index values) (b * 512 + (p * 16 + 0)) ≡ None
       answer-offset_missing none =
           small_none h index values (b * 512 + (p * 16 + 0)) (omega (arith, below, most, aligned, in_cell)) (omega (arith, from))
           (omega (arith, below, aligned, in_cell)) (offset-at 0 (omega arith) ∙ none)
 
 module _ {A : Type 0} (of_number : ℕ → Option A) (h : CodePointTrieHeader) (index : List ℕ) (values : List A) where
-  module _ (c : IsCoherent of_number h index values) where
-    HasHighValue-from_coherent : HasHighValue h index values
+  module _ (c : IsCoherent of_number h (contents_of index values)) where
+    HasHighValue-from_coherent : HasHighValue h (contents_of index values)
     HasHighValue-from_coherent lt =
         elim (none_or_some (high_value values)) [
           | inl none ↦ absurd (not_there (high_value values) none (c.high h.high_start (omega arith) lt).1)
-          | inr v ↦ and_some (high_value values) (AreHighBlocks h index values) v.0 v.1 (λ b from fast.
+          | inr v ↦ and_some (high_value values) (AreHighBlocks h (contents_of index values)) v.0 v.1 (λ b from fast.
               let most = fast_limit_most h.trie_type in
               elim (none_or_some (slice_get index b)) [
                 | inl none ↦
@@ -173,11 +176,11 @@ module _ {A : Type 0} (of_number : ℕ → Option A) (h : CodePointTrieHeader) (
               ])
         ]
 
-    AreFastBlocks-from_coherent : AreFastBlocks of_number h index values
+    AreFastBlocks-from_coherent : AreFastBlocks of_number h (contents_of index values)
     AreFastBlocks-from_coherent b fast below =
         let aligned = c.aligned in
         elim (none_or_some (slice_get index b)) [
-          | inl none ↦ absurd (not_there (answer h index values (b * 64)) (answer-fast_missing h index values b fast none)
+          | inl none ↦ absurd (not_there (answer h (contents_of index values) (b * 64)) (answer-fast_missing h index values b fast none)
               (c.inside (b * 64) below))
           | inr o ↦
               let last =
@@ -194,14 +197,15 @@ module _ {A : Type 0} (of_number : ℕ → Option A) (h : CodePointTrieHeader) (
               )
         ]
 
-    AreSmallBlocks-from_coherent : AreSmallBlocks of_number h index values
+    AreSmallBlocks-from_coherent : AreSmallBlocks of_number h (contents_of index values)
     AreSmallBlocks-from_coherent b from below =
         elim (none_or_some (index2_cell h.trie_type index (b * 512))) [
           | inl none ↦
-              absurd (not_there (answer h index values (b * 512)) (answer-cell_missing h index values c.aligned c.within b from below none)
+              absurd (not_there (answer h (contents_of index values) (b * 512))
+              (answer-cell_missing h index values c.aligned c.within b from below none)
               (c.inside (b * 512) below))
           | inr two ↦ and_some (index2_cell h.trie_type index (b * 512))
-              (IsCell of_number h index values) two.0 two.1 (blocks two.0 two.1, null_blocks two.0 two.1)
+              (IsCell of_number h (contents_of index values)) two.0 two.1 (blocks two.0 two.1, null_blocks two.0 two.1)
         ]
       where
         aligned : h.high_start % 512 ≡ 0
@@ -209,7 +213,7 @@ module _ {A : Type 0} (of_number : ℕ → Option A) (h : CodePointTrieHeader) (
 
         small : (cell : ℕ) → index2_cell h.trie_type index (b * 512) ≡ Some cell → (p offset i : ℕ) → p < 32
             → offset_in_block index cell p ≡ Some offset → i < 16
-            → answer h index values (b * 512 + (p * 16 + i)) ≡ slice_get values (offset + i)
+            → answer h (contents_of index values) (b * 512 + (p * 16 + i)) ≡ slice_get values (offset + i)
         small cell two p offset i in_cell three lt =
             answer-small h index values c.aligned c.within b from below cell two p in_cell offset i three lt
 
@@ -225,7 +229,7 @@ module _ {A : Type 0} (of_number : ℕ → Option A) (h : CodePointTrieHeader) (
             → (offset : ℕ) × (offset_in_block index cell p ≡ Some offset)
         offset_there cell two p in_cell = elim (none_or_some (offset_in_block index cell p)) [
           | inl none ↦
-              absurd (not_there (answer h index values (b * 512 + (p * 16 + 0)))
+              absurd (not_there (answer h (contents_of index values) (b * 512 + (p * 16 + 0)))
               (answer-offset_missing h index values c.aligned c.within b from below cell two p in_cell none)
               (c.inside (b * 512 + (p * 16 + 0)) (omega (arith, below, aligned, in_cell))))
           | inr three ↦ three
@@ -246,7 +250,7 @@ module _ {A : Type 0} (of_number : ℕ → Option A) (h : CodePointTrieHeader) (
                   rw here (offset-at h index values c.aligned c.within b from below cell two p in_cell 0 (omega arith) ∙ three.1
                   ∙ ap (λ n. Some n) null) in
                   sym (small cell two p three.0 i in_cell three.1 lt)
-                  ∙ (ap (λ n. answer h index values n) (sym there_is)
+                  ∙ (ap (λ n. answer h (contents_of index values) n) (sym there_is)
                   ∙ c.null_16 (b * 32 + p) (omega (arith, from)) (omega (arith, below, aligned, in_cell)) named i lt)),
             )
 
@@ -261,22 +265,22 @@ module _ {A : Type 0} (of_number : ℕ → Option A) (h : CodePointTrieHeader) (
 
   module _ (aligned : h.high_start % 512 ≡ 0) (most : h.high_start ≤ 0x110000) where
     -- below the fast limit and the high start: the block, and the answer in it
-    fast_block : AreFastBlocks of_number h index values → (u : ℕ) → u < fast_limit h.trie_type → u < h.high_start
+    fast_block : AreFastBlocks of_number h (contents_of index values) → (u : ℕ) → u < fast_limit h.trie_type → u < h.high_start
         → (offset : ℕ) × (slice_get index (u / 64) ≡ Some offset) × IsBlock of_number h values 64 offset
-        × (answer h index values u ≡ slice_get values (offset + u % 64))
+        × (answer h (contents_of index values) u ≡ slice_get values (offset + u % 64))
     fast_block fast u l k =
         let o = some_and (slice_get index (u / 64)) (IsBlock of_number h values 64) (fast (u / 64) (omega (arith, l)) (omega (arith, k))) in
         let m = fast_limit_most h.trie_type in
         (o.0, o.1, o.2, fast_answer h index values u o.0 (omega (arith, l, m)) l o.1)
 
-    small_block : AreSmallBlocks of_number h index values → (u : ℕ) → fast_limit h.trie_type ≤ u → u < h.high_start
+    small_block : AreSmallBlocks of_number h (contents_of index values) → (u : ℕ) → fast_limit h.trie_type ≤ u → u < h.high_start
         → (cell : ℕ) × (offset : ℕ) × (index2_cell h.trie_type index (u / 512 * 512) ≡ Some cell)
         × (small_offset h.trie_type index u ≡ Some offset) × IsBlock of_number h values 16 offset
         × (cell ≡ h.index3_null_offset → IsNullBlock of_number h values 16 offset)
-        × (answer h index values u ≡ slice_get values (offset + u % 16))
+        × (answer h (contents_of index values) u ≡ slice_get values (offset + u % 16))
     small_block small u l k =
         let m = fast_limit_most h.trie_type in
-        let two = some_and (index2_cell h.trie_type index (u / 512 * 512)) (IsCell of_number h index values)
+        let two = some_and (index2_cell h.trie_type index (u / 512 * 512)) (IsCell of_number h (contents_of index values))
         (small (u / 512) (omega (arith, l, m)) (omega (arith, k))) in
         let three = some_and (offset_in_block index two.0 (u % 512 / 16)) (IsBlock of_number h values 16)
         (two.2.0 (u % 512 / 16) (omega arith)) in
@@ -297,13 +301,14 @@ module _ {A : Type 0} (of_number : ℕ → Option A) (h : CodePointTrieHeader) (
             → IsSomeAnd (offset_in_block index cell p) (IsNullBlock of_number h values 16) → IsNullBlock of_number h values 16 offset
         null_of cell offset p is e = rw is at e
 
-    IsCoherent-from_blocks : HasHighValue h index values → AreFastBlocks of_number h index values → AreSmallBlocks of_number h index values
-        → IsCoherent of_number h index values
+    IsCoherent-from_blocks : HasHighValue h (contents_of index values) → AreFastBlocks of_number h (contents_of index values)
+        → AreSmallBlocks of_number h (contents_of index values)
+        → IsCoherent of_number h (contents_of index values)
     IsCoherent-from_blocks high fast small = record {
       aligned = aligned;
       within = most;
       high = λ u from lt.
-          let v = some_and (high_value values) (AreHighBlocks h index values) (high (omega (arith, from, lt))) in
+          let v = some_and (high_value values) (AreHighBlocks h (contents_of index values)) (high (omega (arith, from, lt))) in
           elim (cases_lt u (fast_limit h.trie_type)) [
             | inl p ↦
                 let o = some_and (slice_get index (u / 64)) (λ offset. AreAll values 64 offset v.0)
@@ -334,8 +339,8 @@ module _ {A : Type 0} (of_number : ℕ → Option A) (h : CodePointTrieHeader) (
           o.6 ∙ cell-null of_number h values 16 o.1 ((b * 512 + i) % 16) (omega arith) (o.5 null);
     }
 
-    pub coherent_by_blocks : (AreCoherentBlocks of_number h index values → IsCoherent of_number h index values)
-        × (IsCoherent of_number h index values → AreCoherentBlocks of_number h index values)
+    pub coherent_by_blocks : (AreCoherentBlocks of_number h (contents_of index values) → IsCoherent of_number h (contents_of index values))
+        × (IsCoherent of_number h (contents_of index values) → AreCoherentBlocks of_number h (contents_of index values))
     coherent_by_blocks = (
       λ e. IsCoherent-from_blocks e.high e.fast e.small,
       λ c. record { high = HasHighValue-from_coherent c; fast = AreFastBlocks-from_coherent c; small = AreSmallBlocks-from_coherent c },

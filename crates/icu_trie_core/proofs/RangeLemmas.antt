@@ -4,6 +4,7 @@ use Rattle.std.proofs.lemmas.Bool.{cases_lt, false≢true}
 use Rattle.std.specs.declared.ops.RangeInclusive.{RangeInclusive}
 use Rattle.std.specs.Range.{range_inclusive_start, range_inclusive_end, range_inclusive_exhausted}
 use Rattle.std.specs.Prelude.{false}
+use Rattle.icu_trie_core.specs.Contents.{contents_of}
 use Rattle.icu_trie_core.specs.declared.header.CodePointTrieHeader.{CodePointTrieHeader}
 use Rattle.icu_trie_core.specs.declared.range.CodePointMapRange.{CodePointMapRange}
 use Rattle.icu_trie_core.specs.Format.{answer, high_value}
@@ -17,9 +18,10 @@ use Rattle.icu_trie_core.proofs.SeenLemmas.{seen-from_high, seen-below, seen-hig
 
 module _ {A : Type 0} (of_number : ℕ → Option A) (h : CodePointTrieHeader) (index : List ℕ)
     (values : List A) {start limit end : ℕ} {value : A} (from : h.high_start ≤ limit)
-    (ends : EndsAt (seen of_number h index values) start limit value end) (whole : limit ≤ end) where
+    (ends : EndsAt (seen of_number h (contents_of index values)) start limit value end) (whole : limit ≤ end) where
   -- a walk has come to the high start, and there is no high value
-  pub BreaksOff-at_high : limit < 0x110000 → high_value values ≡ None → BreaksOff (seen of_number h index values) start 0x110000 value
+  pub BreaksOff-at_high : limit < 0x110000 → high_value values ≡ None
+      → BreaksOff (seen of_number h (contents_of index values)) start 0x110000 value
   BreaksOff-at_high lt none =
       let b = ends.begun in let w = ends.within in
       record {
@@ -32,7 +34,7 @@ module _ {A : Type 0} (of_number : ℕ → Option A) (h : CodePointTrieHeader) (
 
   -- it goes on over the high value
   pub EndsAt-over_high : limit ≤ 0x110000 → IsSomeAnd (high_value values) (λ y. y ≡ value)
-      → EndsAt (seen of_number h index values) start 0x110000 value 0x110000
+      → EndsAt (seen of_number h (contents_of index values)) start 0x110000 value 0x110000
   EndsAt-over_high le same =
       let b = ends.begun in let w = ends.within in
       record {
@@ -51,7 +53,7 @@ module _ {A : Type 0} (of_number : ℕ → Option A) (h : CodePointTrieHeader) (
 
   -- it ends there
   pub EndsAt-at_high : limit ≤ 0x110000 → IsSomeAnd (high_value values) (λ y. y ≢ value)
-      → EndsAt (seen of_number h index values) start 0x110000 value limit
+      → EndsAt (seen of_number h (contents_of index values)) start 0x110000 value limit
   EndsAt-at_high le other =
       let b = ends.begun in let w = ends.within in
       record {
@@ -65,8 +67,9 @@ module _ {A : Type 0} (of_number : ℕ → Option A) (h : CodePointTrieHeader) (
   -- a walk gives a range where it comes to its end
   pub GivesWalk-from_ends : (range : RangeInclusive ℕ) (value : A) (end : ℕ) → range_inclusive_start range ≡ c
       → range_inclusive_end range ≡ max end (c + 1) - 1 → range_inclusive_exhausted range ≡ false
-      → answer h index values c ≡ Some value → c < h.high_start → c < 0x110000 → EndsAt (seen of_number h index values) c 0x110000 value end
-      → GivesWalk of_number h index values c (Some (record { range = range; value = value }))
+      → answer h (contents_of index values) c ≡ Some value → c < h.high_start → c < 0x110000
+      → EndsAt (seen of_number h (contents_of index values)) c 0x110000 value end
+      → GivesWalk of_number h (contents_of index values) c (Some (record { range = range; value = value }))
   GivesWalk-from_ends range value end first last fresh is below lt e =
       let b = e.begun in let w = e.within in
       record {
@@ -91,7 +94,7 @@ module _ {A : Type 0} (of_number : ℕ → Option A) (h : CodePointTrieHeader) (
       }
 
   -- it gives none where there is no answer
-  pub GivesWalk-from_none : answer h index values c ≡ None → GivesWalk of_number h index values c None
+  pub GivesWalk-from_none : answer h (contents_of index values) c ≡ None → GivesWalk of_number h (contents_of index values) c None
   GivesWalk-from_none missing = record {
     shape = search rules;
     high = λ _. search rules;
@@ -101,8 +104,8 @@ module _ {A : Type 0} (of_number : ℕ → Option A) (h : CodePointTrieHeader) (
   }
 
   -- it gives none where it breaks off
-  pub GivesWalk-from_break : (value : A) → answer h index values c ≡ Some value → c < h.high_start
-      → BreaksOff (seen of_number h index values) c 0x110000 value → GivesWalk of_number h index values c None
+  pub GivesWalk-from_break : (value : A) → answer h (contents_of index values) c ≡ Some value → c < h.high_start
+      → BreaksOff (seen of_number h (contents_of index values)) c 0x110000 value → GivesWalk of_number h (contents_of index values) c None
   GivesWalk-from_break value is below e = record {
     shape = search rules;
     high = λ _. search rules;
@@ -114,24 +117,24 @@ module _ {A : Type 0} (of_number : ℕ → Option A) (h : CodePointTrieHeader) (
   }
 
   -- over a coherent trie it gives the longest run
-  pub LongestRun-from_gives : IsCoherent of_number h index values → (r : Option (CodePointMapRange A))
-      → GivesWalk of_number h index values c r → c < 0x110000
-      → IsSomeAnd r (λ x. LongestRun (answer h index values) c (last_of x) (Some x.value))
-  LongestRun-from_gives coherent None gives lt = elim (none_or_some (answer h index values c)) [
+  pub LongestRun-from_gives : IsCoherent of_number h (contents_of index values) → (r : Option (CodePointMapRange A))
+      → GivesWalk of_number h (contents_of index values) c r → c < 0x110000
+      → IsSomeAnd r (λ x. LongestRun (answer h (contents_of index values)) c (last_of x) (Some x.value))
+  LongestRun-from_gives coherent None gives lt = elim (none_or_some (answer h (contents_of index values) c)) [
     | inl none ↦ absurd (no_missing c lt none)
     | inr some ↦
         let m = (gives.none lt some.0 some.1).1 in
         absurd (no_missing m.0 m.2 (sym (saw m.0 m.2) ∙ m.4))
   ]
     where
-      saw : (u : ℕ) → u < 0x110000 → seen of_number h index values u ≡ answer h index values u
+      saw : (u : ℕ) → u < 0x110000 → seen of_number h (contents_of index values) u ≡ answer h (contents_of index values) u
       saw u w = elim (cases_lt u h.high_start) [
         | inl p ↦ seen-below of_number h index values coherent u p
         | inr p ↦
             seen-high of_number h index values coherent u p w
       ]
 
-      no_missing : (u : ℕ) → u < 0x110000 → answer h index values u ≡ None → ⊥
+      no_missing : (u : ℕ) → u < 0x110000 → answer h (contents_of index values) u ≡ None → ⊥
       no_missing u w none = elim (cases_lt u h.high_start) [
         | inl p ↦ let some = coherent.inside u p in false≢true (rw none at some)
         | inr p ↦ let some = coherent.high u p w in let e = some.1 in false≢true (rw (sym some.0 ∙ none) at e)
@@ -157,7 +160,7 @@ module _ {A : Type 0} (of_number : ℕ → Option A) (h : CodePointTrieHeader) (
             }
       ]
     where
-      saw : (u : ℕ) → u < 0x110000 → seen of_number h index values u ≡ answer h index values u
+      saw : (u : ℕ) → u < 0x110000 → seen of_number h (contents_of index values) u ≡ answer h (contents_of index values) u
       saw u w = elim (cases_lt u h.high_start) [
         | inl p ↦ seen-below of_number h index values coherent u p
         | inr p ↦

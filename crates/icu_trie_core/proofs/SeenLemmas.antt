@@ -2,6 +2,7 @@
 use Rattle.std.proofs.Common.{◌≡◌, ◌≢◌, inl, inr, ◌≤◌, ◌<◌, ◌*◌, ◌/◌, ◌%◌, ◌+◌, ℕ, List, Option, Some, None, true, slice_get, arith, sym, ap, ◌∙◌, nat_eq, refl}
 use Rattle.std.proofs.lemmas.Bool.{lt-ltb, le-ltb, cases_Bool, eqb-true}
 use Rattle.std.proofs.lemmas.Bool.Decides.{nat_tests}
+use Rattle.icu_trie_core.specs.Contents.{contents_of}
 use Rattle.icu_trie_core.specs.declared.header.CodePointTrieHeader.{CodePointTrieHeader}
 use Rattle.icu_trie_core.specs.Format.{answer, fast_limit, fast_offset, small_offset, index2_cell, offset_in_block, high_value}
 use Rattle.icu_trie_core.specs.Coherence.{IsCoherent}
@@ -12,7 +13,7 @@ use Rattle.icu_trie_core.proofs.AnswerLemmas.{fast_limit_most, fast_answer, fast
 module _ {A : Type 0} (of_number : ℕ → Option A) (h : CodePointTrieHeader) (index : List ℕ) (values : List A) where
   -- below the fast limit
   fast_seen : (u offset : ℕ) → u < fast_limit h.trie_type → u < h.high_start → slice_get index (u / 64) ≡ Some offset
-      → seen of_number h index values u ≡ block_seen of_number h values offset (u % 64)
+      → seen of_number h (contents_of index values) u ≡ block_seen of_number h values offset (u % 64)
   unfolding seen
   fast_seen u offset fast below is =
       let most = (fast_limit_most h.trie_type).0 in
@@ -24,7 +25,7 @@ module _ {A : Type 0} (of_number : ℕ → Option A) (h : CodePointTrieHeader) (
       ) refl
 
   fast_missing : (u : ℕ) → u < fast_limit h.trie_type → u < h.high_start → slice_get index (u / 64) ≡ None
-      → seen of_number h index values u ≡ None
+      → seen of_number h (contents_of index values) u ≡ None
   unfolding seen
   fast_missing u fast below is =
       let most = (fast_limit_most h.trie_type).0 in
@@ -38,7 +39,7 @@ module _ {A : Type 0} (of_number : ℕ → Option A) (h : CodePointTrieHeader) (
   -- in the first len places of a block of 64 that ends at the limit or below it
   pub seen-fast_block : (b offset len limit : ℕ) → limit ≤ fast_limit h.trie_type → limit ≤ h.high_start → b * 64 + len ≤ limit → len ≤ 64
       → slice_get index b ≡ Some offset
-      → (i : ℕ) → i < len → seen of_number h index values (b * 64 + i) ≡ block_seen of_number h values offset i
+      → (i : ℕ) → i < len → seen of_number h (contents_of index values) (b * 64 + i) ≡ block_seen of_number h values offset i
   seen-fast_block b offset len limit fast below fits short is i lt =
       let block : (b * 64 + i) / 64 ≡ b = omega (arith, lt, short) in
       let place : (b * 64 + i) % 64 ≡ i = omega (arith, lt, short) in
@@ -47,7 +48,7 @@ module _ {A : Type 0} (of_number : ℕ → Option A) (h : CodePointTrieHeader) (
 
   pub seen-fast_missing : (b len limit : ℕ) → limit ≤ fast_limit h.trie_type → limit ≤ h.high_start → b * 64 + len ≤ limit → len ≤ 64
       → slice_get index b ≡ None
-      → (i : ℕ) → i < len → seen of_number h index values (b * 64 + i) ≡ None
+      → (i : ℕ) → i < len → seen of_number h (contents_of index values) (b * 64 + i) ≡ None
   seen-fast_missing b len limit fast below fits short is i lt =
       let block : (b * 64 + i) / 64 ≡ b = omega (arith, lt, short) in
       fast_missing (b * 64 + i) (omega (arith, lt, fits, fast)) (omega (arith, lt, fits, below)) (rw block is)
@@ -55,7 +56,7 @@ module _ {A : Type 0} (of_number : ℕ → Option A) (h : CodePointTrieHeader) (
   -- from the fast limit on
   small_seen : (u cell : ℕ) → u < 0x110000 → fast_limit h.trie_type ≤ u → u < h.high_start → index2_cell h.trie_type index u ≡ Some cell
       → small_offset h.trie_type index u ≡ offset_in_block index cell (u / 16 % 32)
-      → seen of_number h index values u ≡ cell_seen of_number h index values cell (u % 512)
+      → seen of_number h (contents_of index values) u ≡ cell_seen of_number h (contents_of index values) cell (u % 512)
   unfolding seen cell_seen
   small_seen u cell within from below two three =
       let p : u % 512 / 16 ≡ u / 16 % 32 = omega arith in
@@ -72,7 +73,7 @@ module _ {A : Type 0} (of_number : ℕ → Option A) (h : CodePointTrieHeader) (
       ]
 
   small_missing : (u : ℕ) → u < 0x110000 → fast_limit h.trie_type ≤ u → u < h.high_start → index2_cell h.trie_type index u ≡ None
-      → small_offset h.trie_type index u ≡ None → seen of_number h index values u ≡ None
+      → small_offset h.trie_type index u ≡ None → seen of_number h (contents_of index values) u ≡ None
   unfolding seen
   small_missing u within from below two three =
       rw (
@@ -86,18 +87,18 @@ module _ {A : Type 0} (of_number : ℕ → Option A) (h : CodePointTrieHeader) (
   -- in the first len places of a block of 512 that ends at the limit or below it
   pub seen-cell : (base cell len limit : ℕ) → base % 512 ≡ 0 → fast_limit h.trie_type ≤ base → limit ≤ 0x110000 → limit ≤ h.high_start
       → base + len ≤ limit → len ≤ 512 → index2_cell h.trie_type index base ≡ Some cell
-      → (i : ℕ) → i < len → seen of_number h index values (base + i) ≡ cell_seen of_number h index values cell i
+      → (i : ℕ) → i < len → seen of_number h (contents_of index values) (base + i) ≡ cell_seen of_number h (contents_of index values) cell i
   unfolding small_offset
   seen-cell base cell len limit aligned from within below fits short two i lt =
       let a : (base + i) / 512 ≡ base / 512 = omega (arith, aligned, lt, short) in
       let b : (base + i) / 16384 ≡ base / 16384 = omega (arith, aligned, lt, short) in
       let place : (base + i) % 512 ≡ i = omega (arith, aligned, lt, short) in
       small_seen (base + i) cell (omega (arith, lt, fits, within)) (omega (arith, from)) (omega (arith, lt, fits, below)) (rw (a, b) two)
-      (rw (a, b, two) refl) ∙ ap (λ k. cell_seen of_number h index values cell k) place
+      (rw (a, b, two) refl) ∙ ap (λ k. cell_seen of_number h (contents_of index values) cell k) place
 
   pub seen-cell_missing : (base len limit : ℕ) → base % 512 ≡ 0 → fast_limit h.trie_type ≤ base → limit ≤ 0x110000 → limit ≤ h.high_start
       → base + len ≤ limit → len ≤ 512 → index2_cell h.trie_type index base ≡ None
-      → (i : ℕ) → i < len → seen of_number h index values (base + i) ≡ None
+      → (i : ℕ) → i < len → seen of_number h (contents_of index values) (base + i) ≡ None
   unfolding small_offset
   seen-cell_missing base len limit aligned from within below fits short two i lt =
       let a : (base + i) / 512 ≡ base / 512 = omega (arith, aligned, lt, short) in
@@ -107,7 +108,7 @@ module _ {A : Type 0} (of_number : ℕ → Option A) (h : CodePointTrieHeader) (
 
   -- in the first len places of block p of 16 of a block of 512 that is not named as null
   pub cell_seen-block : (cell p offset len : ℕ) → cell ≢ h.index3_null_offset → len ≤ 16 → offset_in_block index cell p ≡ Some offset
-      → (i : ℕ) → i < len → cell_seen of_number h index values cell (p * 16 + i) ≡ block_seen of_number h values offset i
+      → (i : ℕ) → i < len → cell_seen of_number h (contents_of index values) cell (p * 16 + i) ≡ block_seen of_number h values offset i
   unfolding cell_seen
   cell_seen-block cell p offset len differs short is i lt =
       let a : (p * 16 + i) / 16 ≡ p = omega (arith, lt, short) in
@@ -118,7 +119,7 @@ module _ {A : Type 0} (of_number : ℕ → Option A) (h : CodePointTrieHeader) (
       ]
 
   pub cell_seen-missing : (cell p len : ℕ) → cell ≢ h.index3_null_offset → len ≤ 16 → offset_in_block index cell p ≡ None
-      → (i : ℕ) → i < len → cell_seen of_number h index values cell (p * 16 + i) ≡ None
+      → (i : ℕ) → i < len → cell_seen of_number h (contents_of index values) cell (p * 16 + i) ≡ None
   unfolding cell_seen
   cell_seen-missing cell p len differs short is i lt =
       let a : (p * 16 + i) / 16 ≡ p = omega (arith, lt, short) in
@@ -128,7 +129,7 @@ module _ {A : Type 0} (of_number : ℕ → Option A) (h : CodePointTrieHeader) (
       ]
 
   -- from the high start on
-  pub seen-from_high : (u : ℕ) → h.high_start ≤ u → seen of_number h index values u ≡ high_value values
+  pub seen-from_high : (u : ℕ) → h.high_start ≤ u → seen of_number h (contents_of index values) u ≡ high_value values
   unfolding seen
   seen-from_high u from = rw (le-ltb u h.high_start from) refl
 
@@ -137,9 +138,9 @@ cell_is n None e = cc
 cell_is n (Some x) e = grind (arith, nat_tests)
 
 module _ {A : Type 0} (of_number : ℕ → Option A) (h : CodePointTrieHeader) (index : List ℕ) (values : List A)
-    (c : IsCoherent of_number h index values) where
+    (c : IsCoherent of_number h (contents_of index values)) where
   fast_null : (u : ℕ) → u < fast_limit h.trie_type → u < h.high_start → fast_offset index u ≡ Some h.data_null_offset
-      → answer h index values u ≡ of_number h.null_value
+      → answer h (contents_of index values) u ≡ of_number h.null_value
   fast_null u l k e =
       let a : u / 64 * 64 / 64 ≡ u / 64 = omega arith in
       let d : fast_offset index (u / 64 * 64) ≡ Some h.data_null_offset = rw a e in
@@ -147,7 +148,7 @@ module _ {A : Type 0} (of_number : ℕ → Option A) (h : CodePointTrieHeader) (
       rw (sym b) (c.null_64 (u / 64) (omega (arith, l)) (omega (arith, k)) d (u % 64) (omega arith))
 
   small_null : (u : ℕ) → fast_limit h.trie_type ≤ u → u < h.high_start → small_offset h.trie_type index u ≡ Some h.data_null_offset
-      → answer h index values u ≡ of_number h.null_value
+      → answer h (contents_of index values) u ≡ of_number h.null_value
   unfolding small_offset
   small_null u l k e =
       let f = fast_limit_most h.trie_type in
@@ -159,7 +160,7 @@ module _ {A : Type 0} (of_number : ℕ → Option A) (h : CodePointTrieHeader) (
       rw (sym b) (c.null_16 (u / 16) (omega (arith, l, f)) (omega (arith, k)) d (u % 16) (omega arith))
 
   null_cell : (u : ℕ) → fast_limit h.trie_type ≤ u → u < h.high_start → index2_cell h.trie_type index u ≡ Some h.index3_null_offset
-      → answer h index values u ≡ of_number h.null_value
+      → answer h (contents_of index values) u ≡ of_number h.null_value
   null_cell u l k e =
       let f = fast_limit_most h.trie_type in
       let a2 : u / 512 * 512 / 0x200 % 32 ≡ u / 0x200 % 32 = omega arith in
@@ -168,7 +169,7 @@ module _ {A : Type 0} (of_number : ℕ → Option A) (h : CodePointTrieHeader) (
       let b : u / 512 * 512 + u % 512 ≡ u = omega arith in
       rw (sym b) (c.null_512 (u / 512) (omega (arith, l, f)) (omega (arith, k)) d (u % 512) (omega arith))
 
-  answer-null : (u : ℕ) → u < h.high_start → names_null h index u ≡ true → answer h index values u ≡ of_number h.null_value
+  answer-null : (u : ℕ) → u < h.high_start → names_null h index u ≡ true → answer h (contents_of index values) u ≡ of_number h.null_value
   answer-null u k e = grind (
     arith,
     nat_tests,
@@ -180,10 +181,11 @@ module _ {A : Type 0} (of_number : ℕ → Option A) (h : CodePointTrieHeader) (
     cell_is h.index3_null_offset (index2_cell h.trie_type index u),
   )
 
-  pub seen-below : (u : ℕ) → u < h.high_start → seen of_number h index values u ≡ answer h index values u
+  pub seen-below : (u : ℕ) → u < h.high_start → seen of_number h (contents_of index values) u ≡ answer h (contents_of index values) u
   unfolding seen
   seen-below u k = let e = answer-null u k in grind (arith, nat_tests, e)
 
-  pub seen-high : (u : ℕ) → h.high_start ≤ u → u < 0x110000 → seen of_number h index values u ≡ answer h index values u
+  pub seen-high : (u : ℕ) → h.high_start ≤ u → u < 0x110000
+      → seen of_number h (contents_of index values) u ≡ answer h (contents_of index values) u
   unfolding seen
   seen-high u k l = let e = c.high u k l in grind (arith, nat_tests, e)

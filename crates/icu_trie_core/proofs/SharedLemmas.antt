@@ -1,6 +1,7 @@
 -- Over a coherent and shared trie, blocks in which a walk sees one value have one name, so it reads few of them.
 use Rattle.std.proofs.Common.{◌≡◌, inl, inr, ◌+◌, ◌-◌, ◌*◌, ◌/◌, ◌%◌, ◌<◌, ◌≤◌, ℕ, List, slice_get, Option, Some, sym, ◌∙◌, ap, arith, min}
 use Rattle.std.proofs.lemmas.Bool.{cases_lt}
+use Rattle.icu_trie_core.specs.Contents.{contents_of}
 use Rattle.icu_trie_core.specs.Format.{answer, fast_limit, fast_offset, small_offset, index2_cell, offset_in_block}
 use Rattle.icu_trie_core.specs.Coherence.{IsCoherent, IsShared}
 use Rattle.icu_trie_core.specs.Seen.{seen}
@@ -10,16 +11,17 @@ use Rattle.icu_trie_core.proofs.AnswerLemmas.{small_offset_at}
 use Rattle.icu_trie_core.proofs.SeenLemmas.{seen-below, seen-cell}
 
 module _ {A : Type 0} {of_number : ℕ → Option A} {h : CodePointTrieHeader} {index : List ℕ} {values : List A}
-    (coherent : IsCoherent of_number h index values) (shares : IsShared h index values) where
+    (coherent : IsCoherent of_number h (contents_of index values)) (shares : IsShared h (contents_of index values)) where
   -- two places below the high start at which a walk sees the same have the same answer
-  same_answer : (u v : ℕ) → u < h.high_start → v < h.high_start → seen of_number h index values u ≡ seen of_number h index values v
-      → answer h index values u ≡ answer h index values v
+  same_answer : (u v : ℕ) → u < h.high_start → v < h.high_start
+      → seen of_number h (contents_of index values) u ≡ seen of_number h (contents_of index values) v
+      → answer h (contents_of index values) u ≡ answer h (contents_of index values) v
   same_answer u v below lower same = sym (seen-below of_number h index values coherent u below) ∙ same
       ∙ seen-below of_number h index values coherent v lower
 
   -- a block of 64 and the one before it
   same_offset : (start b : ℕ) (value : A) → 3 ≤ b → start ≤ (b - 1) * 64 → b * 64 + 64 ≤ fast_limit h.trie_type → b * 64 + 64 ≤ h.high_start
-      → Holds (seen of_number h index values) start (b * 64 + 64) value → slice_get index (b - 1) ≡ slice_get index b
+      → Holds (seen of_number h (contents_of index values)) start (b * 64 + 64) value → slice_get index (b - 1) ≡ slice_get index b
   same_offset start b value three begun fast below holds =
       let here : b * 64 / 64 ≡ b = omega arith in
       let there : (b - 1) * 64 / 64 ≡ b - 1 = omega arith in
@@ -34,7 +36,7 @@ module _ {A : Type 0} {of_number : ℕ → Option A} {h : CodePointTrieHeader} {
   -- the reads of a whole block of 64, where those before it are counted
   pub reads_after : (start b offset r s t : ℕ) (value : A) (remembered : Option ℕ) → b * 64 + 64 ≤ fast_limit h.trie_type
       → b * 64 + 64 ≤ h.high_start → slice_get index b ≡ Some offset → start / 64 ≤ b
-      → Holds (seen of_number h index values) start (b * 64 + 64) value
+      → Holds (seen of_number h (contents_of index values)) start (b * 64 + 64) value
       → (start / 64 + 2 ≤ b → remembered ≡ slice_get index (b - 1))
       → s + start / 64 ≤ r + b + 64 * min (b - start / 64) 4
       → t ≤ s + 65 → (remembered ≡ Some offset → t ≡ s + 1)
@@ -51,7 +53,7 @@ module _ {A : Type 0} {of_number : ℕ → Option A} {h : CodePointTrieHeader} {
   -- the blocks of 16 of a block of 512
   pub SharesBlocks-from_shared : (base cell : ℕ) → base % 512 ≡ 0 → fast_limit h.trie_type ≤ base → base + 512 ≤ h.high_start
       → index2_cell h.trie_type index base ≡ Some cell
-      → SharesBlocks of_number h index values cell
+      → SharesBlocks of_number h (contents_of index values) cell
   SharesBlocks-from_shared base cell aligned from below two p q first second same =
       let most = coherent.within in
       let stand : (k : ℕ) → k < 32 → (base / 16 + k) * 16 ≡ base + k * 16 = λ k lt. omega (arith, aligned) in
@@ -59,8 +61,8 @@ module _ {A : Type 0} {of_number : ℕ → Option A} {h : CodePointTrieHeader} {
       = λ k lt. let d : k * 16 / 16 ≡ k = omega arith in
       rw (stand k lt) (small_offset_at h.trie_type index base cell (k * 16) aligned (omega (arith, lt)) two
       ∙ ap (λ n. offset_in_block index cell n) d) in
-      let sees : (k i : ℕ) → k < 32 → i < 16 → seen of_number h index values ((base / 16 + k) * 16 + i)
-      ≡ cell_seen of_number h index values cell (k * 16 + i)
+      let sees : (k i : ℕ) → k < 32 → i < 16 → seen of_number h (contents_of index values) ((base / 16 + k) * 16 + i)
+      ≡ cell_seen of_number h (contents_of index values) cell (k * 16 + i)
       = λ k i lt in_block. let d : (base / 16 + k) * 16 + i ≡ base + (k * 16 + i) = omega (arith, aligned) in
       rw d (seen-cell of_number h index values base cell 512 (base + 512) aligned from (omega (arith, below, most)) below (omega arith)
       (omega arith) two (k * 16 + i) (omega (arith, lt, in_block))) in
@@ -75,7 +77,7 @@ module _ {A : Type 0} {of_number : ℕ → Option A} {h : CodePointTrieHeader} {
 
   -- two blocks of 512
   pub same_cell : (start d b : ℕ) (value : A) → fast_limit h.trie_type ≤ start → start ≤ d * 512 → d < b → b * 512 + 512 ≤ h.high_start
-      → Holds (seen of_number h index values) start (b * 512 + 512) value
+      → Holds (seen of_number h (contents_of index values)) start (b * 512 + 512) value
       → index2_cell h.trie_type index (d * 512) ≡ index2_cell h.trie_type index (b * 512)
   same_cell start d b value from begun before below holds =
       let most = coherent.within in

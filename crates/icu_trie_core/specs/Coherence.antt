@@ -1,38 +1,40 @@
 -- Coherent tries, whose null offsets a walk may trust, and shared tries, whose walks are short.
 use Rattle.std.specs.Prelude.{◌≡◌, ℕ, ◌+◌, ◌*◌, ◌%◌, ◌<◌, ◌≤◌, List, Option, Some, IsSome}
 use Rattle.icu_trie_core.specs.declared.header.CodePointTrieHeader.{CodePointTrieHeader}
+use Rattle.icu_trie_core.specs.Contents.{Contents}
 use Rattle.icu_trie_core.specs.Format.{answer, fast_limit, fast_offset, small_offset, index2_cell, high_value}
 
-module _ {A : Type 0} (of_number : ℕ → Option A) (h : CodePointTrieHeader) (index : List ℕ)
-    (values : List A) where
+module _ {A : Type 0} (of_number : ℕ → Option A) (h : CodePointTrieHeader)
+    (cells : Contents A) where
   -- block number b of the aligned blocks of k code points answers the null value throughout
   abbrev pub AnswersNull : ℕ → ℕ → Type 0
-  AnswersNull k b = (i : ℕ) → i < k → answer h index values (b * k + i) ≡ of_number h.null_value
+  AnswersNull k b = (i : ℕ) → i < k → answer h cells (b * k + i) ≡ of_number h.null_value
 
   -- every code point from the high start on answers the high value
   abbrev pub HighAnswers : Type 0
   HighAnswers = (c : ℕ) → h.high_start ≤ c → c < 0x110000
-      → (answer h index values c ≡ high_value values) × IsSome (high_value values)
+      → (answer h cells c ≡ high_value cells.values) × IsSome (high_value cells.values)
 
   -- no read for a code point below the high start falls outside index or data
   abbrev pub InsideAnswers : Type 0
-  InsideAnswers = (c : ℕ) → c < h.high_start → IsSome (answer h index values c)
+  InsideAnswers = (c : ℕ) → c < h.high_start → IsSome (answer h cells c)
 
   -- blocks of 64 below the fast limit whose data offset is the null data offset
   abbrev pub Null64 : Type 0
   Null64 = (b : ℕ) → b * 64 < fast_limit h.trie_type → b * 64 < h.high_start
-      → fast_offset index (b * 64) ≡ Some h.data_null_offset → AnswersNull 64 b
+      → fast_offset cells.index (b * 64) ≡ Some h.data_null_offset → AnswersNull 64 b
 
   -- blocks of 16 from the fast limit on whose data offset is the null data offset
   abbrev pub Null16 : Type 0
   Null16 = (b : ℕ) → fast_limit h.trie_type ≤ b * 16 → b * 16 < h.high_start
-      → small_offset h.trie_type index (b * 16) ≡ Some h.data_null_offset → AnswersNull 16 b
+      → small_offset h.trie_type cells.index (b * 16) ≡ Some h.data_null_offset → AnswersNull 16 b
 
   -- blocks of 512 from the fast limit on whose index-2 cell is the null index-3 offset, bit 15
   -- included
   abbrev pub Null512 : Type 0
   Null512 = (b : ℕ) → fast_limit h.trie_type ≤ b * 512 → b * 512 < h.high_start
-      → index2_cell h.trie_type index (b * 512) ≡ Some h.index3_null_offset → AnswersNull 512 b
+      → index2_cell h.trie_type cells.index (b * 512) ≡ Some h.index3_null_offset
+      → AnswersNull 512 b
 
   -- a coherent trie: what its header says of the high value and of null blocks is so
   pub record IsCoherent : Type 0 where
@@ -44,11 +46,11 @@ module _ {A : Type 0} (of_number : ℕ → Option A) (h : CodePointTrieHeader) (
     pub null_16 : Null16
     pub null_512 : Null512
 
-module _ {A : Type 0} (h : CodePointTrieHeader) (index : List ℕ) (values : List A) where
+module _ {A : Type 0} (h : CodePointTrieHeader) (cells : Contents A) where
   -- the blocks number b and d of k code points have equal answers
   abbrev pub SameAnswers : ℕ → ℕ → ℕ → Type 0
   SameAnswers k b d = (i : ℕ) → i < k
-      → answer h index values (b * k + i) ≡ answer h index values (d * k + i)
+      → answer h cells (b * k + i) ≡ answer h cells (d * k + i)
 
   -- block number b of k code points starts at `low` or above it, below `high` and below the high
   -- start
@@ -60,12 +62,14 @@ module _ {A : Type 0} (h : CodePointTrieHeader) (index : List ℕ) (values : Lis
   pub record IsShared : Type 0 where
     pub fast : (b d : ℕ) → StandsIn 64 0x80 (fast_limit h.trie_type) b
         → StandsIn 64 0x80 (fast_limit h.trie_type) d
-        → SameAnswers 64 b d → fast_offset index (b * 64) ≡ fast_offset index (d * 64)
+        → SameAnswers 64 b d → fast_offset cells.index (b * 64) ≡ fast_offset cells.index (d * 64)
     pub small : (b d : ℕ) → StandsIn 16 (fast_limit h.trie_type) 0x110000 b
         → StandsIn 16 (fast_limit h.trie_type) 0x110000 d
         → SameAnswers 16 b d
-        → small_offset h.trie_type index (b * 16) ≡ small_offset h.trie_type index (d * 16)
+        → small_offset h.trie_type cells.index (b * 16) ≡ small_offset h.trie_type cells.index
+        (d * 16)
     pub index2 : (b d : ℕ) → StandsIn 512 (fast_limit h.trie_type) 0x110000 b
         → StandsIn 512 (fast_limit h.trie_type) 0x110000 d
         → SameAnswers 512 b d
-        → index2_cell h.trie_type index (b * 512) ≡ index2_cell h.trie_type index (d * 512)
+        → index2_cell h.trie_type cells.index (b * 512) ≡ index2_cell h.trie_type cells.index
+        (d * 512)

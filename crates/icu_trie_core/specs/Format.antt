@@ -5,6 +5,7 @@ use Rattle.std.specs.Option.{option_and_then, option_or}
 use Rattle.icu_trie_core.specs.declared.header.TrieType.{TrieType}
 use Rattle.icu_trie_core.specs.declared.header.TrieType.TheVariants.{Fast, Small}
 use Rattle.icu_trie_core.specs.declared.header.CodePointTrieHeader.{CodePointTrieHeader}
+use Rattle.icu_trie_core.specs.Contents.{Contents}
 
 -- the fast limit: the first code point that has no cell in the fast index
 abbrev pub fast_limit : TrieType → ℕ
@@ -72,8 +73,9 @@ abbrev pub place_or_last : CodePointTrieHeader → List ℕ → ℕ → ℕ → 
 place_or_last h index len u = option_or (place h index len u) (Some (len - 1))
 
 -- the format answer: the cell of data at u, and none where the error value stands in its place
-unfoldable pub answer : {T : Type 0} → CodePointTrieHeader → List ℕ → List T → ℕ → Option T
-answer h index values u = option_and_then (slice_get values) (place h index (length values) u)
+unfoldable pub answer : {T : Type 0} → CodePointTrieHeader → Contents T → ℕ → Option T
+answer h cells u =
+    option_and_then (slice_get cells.values) (place h cells.index (length cells.values) u)
 
 -- the high value, which every code point from the high start on has in a coherent trie
 abbrev pub high_value : {T : Type 0} → List T → Option T

@@ -1,3 +1,4 @@
+pub mod Contents
 pub mod Format
 pub mod FastIndex
 pub mod Coherence

@@ -3,6 +3,7 @@
 -- than the answer.
 use Rattle.std.specs.Prelude.{◌≡◌, ℕ, ◌<◌, ◌≤◌, nat_lt, nat_eq, Bool, false, ◌||◌, List, Option, Some, None, if◌then◌else◌}
 use Rattle.icu_trie_core.specs.declared.header.CodePointTrieHeader.{CodePointTrieHeader}
+use Rattle.icu_trie_core.specs.Contents.{Contents}
 use Rattle.icu_trie_core.specs.Format.{answer, fast_limit, fast_offset, small_offset, index2_cell, high_value}
 
 -- whether a cell is there and holds n
@@ -20,22 +21,22 @@ names_null h index u =
 
 -- what a walk sees at u: the high value from the high start on, the null value in a block that is
 -- named as null, else the format answer. None where the cell or the null value is missing
-unfoldable pub seen : {A : Type 0} → (ℕ → Option A) → CodePointTrieHeader → List ℕ → List A → ℕ
+unfoldable pub seen : {A : Type 0} → (ℕ → Option A) → CodePointTrieHeader → Contents A → ℕ
     → Option A
-seen of_number h index values u =
+seen of_number h cells u =
     if nat_lt u h.high_start
-    then (if names_null h index u then of_number h.null_value else answer h index values u)
-    else high_value values
+    then (if names_null h cells.index u then of_number h.null_value else answer h cells u)
+    else high_value cells.values
 
-module _ {A : Type 0} (of_number : ℕ → Option A) (h : CodePointTrieHeader) (index : List ℕ)
-    (values : List A) where
+module _ {A : Type 0} (of_number : ℕ → Option A) (h : CodePointTrieHeader)
+    (cells : Contents A) where
   -- a walk sees the value at each code point from c up to before end
   abbrev pub SeesFrom : ℕ → ℕ → A → Type 0
-  SeesFrom c end value = (u : ℕ) → c ≤ u → u < end → seen of_number h index values u ≡ Some value
+  SeesFrom c end value = (u : ℕ) → c ≤ u → u < end → seen of_number h cells u ≡ Some value
 
   -- why a walk from c gives no range: it sees the value from c up to a code point where it sees
   -- nothing
   abbrev pub Misses : ℕ → A → Type 0
   Misses c value =
       (u : ℕ) × (c ≤ u) × (u < 0x110000) × SeesFrom c u value
-      × (seen of_number h index values u ≡ None)
+      × (seen of_number h cells u ≡ None)

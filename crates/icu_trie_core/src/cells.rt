@@ -1,5 +1,6 @@
 //! Index and data of a trie cell by cell, with a count of the reads.
-ghost use Rattle.std.specs.Prelude.{◌≡◌, ℕ, ◌+◌, ◌<◌, List, length, slice_get, Some};
+ghost use Rattle.std.specs.Prelude.{◌≡◌, ℕ, ◌+◌, ◌<◌, length, slice_get, Some};
+ghost use Rattle.icu_trie_core.specs.Contents.{Contents};
 
 use std::marker::Model;
 use std::sync::ledger::{Blank, Book, Ledger, Share};
@@ -10,46 +11,40 @@ use std::sync::ledger::{Blank, Book, Ledger, Share};
 /// the number of cells that it read. The count is a ghost: it takes no bytes and no time ([`Steps`]
 /// keeps it), and has no greatest value.
 pub trait Cells<T> {
-    /// The cells of the index.
-    ghost index: { Self → List ℕ };
-
-    /// The cells of the data.
-    ghost values: { Self → List T };
+    /// The cells of index and data.
+    ghost contents: { Self → Contents T };
 
     /// How many cells were asked for.
     ghost reads: { Self → ℕ };
 
     /// How many cells the index has. This is no read.
     fn index_len(&self) -> usize
-        ensures { result ≡ length (index self.now) };
+        ensures { result ≡ length (contents self.now).index };
 
     /// How many cells the data have. This is no read.
     fn data_len(&self) -> usize
-        ensures { result ≡ length (values self.now) };
+        ensures { result ≡ length (contents self.now).values };
 
     /// The cell of the index at place `i`, `None` past its end. One read, also where there is none.
     fn index_cell(&mut self, i: usize) -> Option<u16>
-        ensures cell { result ≡ slice_get (index self.old) i }
+        ensures cell { result ≡ slice_get (contents self.old).index i }
         ensures counted { reads self.new ≡ reads self.old + 1 }
-        ensures same_index { index self.new ≡ index self.old }
-        ensures same_values { values self.new ≡ values self.old };
+        ensures kept { contents self.new ≡ contents self.old };
 
     /// The cell of the data at place `i`, `None` past their end. One read, also where there is
     /// none.
     fn data_cell(&mut self, i: usize) -> Option<T>
-        ensures cell { result ≡ slice_get (values self.old) i }
+        ensures cell { result ≡ slice_get (contents self.old).values i }
         ensures counted { reads self.new ≡ reads self.old + 1 }
-        ensures same_index { index self.new ≡ index self.old }
-        ensures same_values { values self.new ≡ values self.old };
+        ensures kept { contents self.new ≡ contents self.old };
 
     /// The cell of the index at place `i`, which is there. One read. Cells that know how to read it
     /// without a test have a body of their own.
     fn index_at(&mut self, i: usize) -> u16
-        requires { i < length (index self.old) }
-        ensures cell { slice_get (index self.old) i ≡ Some result }
+        requires { i < length (contents self.old).index }
+        ensures cell { slice_get (contents self.old).index i ≡ Some result }
         ensures counted { reads self.new ≡ reads self.old + 1 }
-        ensures same_index { index self.new ≡ index self.old }
-        ensures same_values { values self.new ≡ values self.old }
+        ensures kept { contents self.new ≡ contents self.old }
     {
         match self.index_cell(i) {
             Some(cell) => cell,
@@ -59,11 +54,10 @@ pub trait Cells<T> {
 
     /// The cell of the data at place `i`, which is there, as `index_at`.
     fn data_at(&mut self, i: usize) -> T
-        requires { i < length (values self.old) }
-        ensures cell { slice_get (values self.old) i ≡ Some result }
+        requires { i < length (contents self.old).values }
+        ensures cell { slice_get (contents self.old).values i ≡ Some result }
         ensures counted { reads self.new ≡ reads self.old + 1 }
-        ensures same_index { index self.new ≡ index self.old }
-        ensures same_values { values self.new ≡ values self.old }
+        ensures kept { contents self.new ≡ contents self.old }
     {
         match self.data_cell(i) {
             Some(cell) => cell,

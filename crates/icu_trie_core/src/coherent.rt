@@ -21,10 +21,9 @@ use icu_zerovec::CODE_POINT_LIMIT;
 
 /// Whether the cells of data from an offset on, `len` of them, are this value.
 fn are_all<T: TrieValue, C: Cells<T>>(cells: &mut C, offset: u32, len: u32, value: T) -> bool
-    ensures all { IsTrue result ↔ AreAll (C.values cells.old) len offset value }
+    ensures all { IsTrue result ↔ AreAll (C.contents cells.old).values len offset value }
     ensures reads { C.reads cells.new ≤ C.reads cells.old + len }
-    ensures same_index { C.index cells.new ≡ C.index cells.old }
-    ensures same_values { C.values cells.new ≡ C.values cells.old }
+    ensures kept { C.contents cells.new ≡ C.contents cells.old }
 {
     for place in 0..len {
         let Some(cell) = cells.data_cell(offset as usize + place as usize) else {
@@ -45,10 +44,9 @@ fn is_null_block<T: TrieValue, C: Cells<T>>(
     len: u32,
 ) -> bool
     ensures null { IsTrue result
-        ↔ IsNullBlock T.of_number header.now (C.values cells.old) len offset }
+        ↔ IsNullBlock T.of_number header.now (C.contents cells.old).values len offset }
     ensures reads { C.reads cells.new ≤ C.reads cells.old + len }
-    ensures same_index { C.index cells.new ≡ C.index cells.old }
-    ensures same_values { C.values cells.new ≡ C.values cells.old }
+    ensures kept { C.contents cells.new ≡ C.contents cells.old }
 {
     let Some(null) = T::try_from_u32(header.null_value).ok() else {
         return false;
@@ -68,8 +66,10 @@ fn is_block<T: TrieValue, C: Cells<T>>(
 ) -> bool
     requires some { 0 < len }
     requires null { IsTrue null_block
-        ↔ IsNullBlock T.of_number header.now (C.values cells.now) len header.now.data_null_offset }
-    ensures { IsTrue result ↔ IsBlock T.of_number header.now (C.values cells.now) len offset }
+        ↔ IsNullBlock T.of_number header.now (C.contents cells.now).values len
+        header.now.data_null_offset }
+    ensures { IsTrue result ↔ IsBlock T.of_number header.now (C.contents cells.now).values len
+        offset }
 {
     if offset == header.data_null_offset {
         return null_block;
@@ -80,11 +80,10 @@ fn is_block<T: TrieValue, C: Cells<T>>(
 /// Whether the blocks of 64 below the fast limit and the high start are so.
 fn has_fast_blocks<T: TrieValue, C: Cells<T>>(header: &CodePointTrieHeader, cells: &mut C) -> bool
     ensures blocks { IsTrue result
-        ↔ AreFastBlocks T.of_number header.now (C.index cells.old) (C.values cells.old) }
+        ↔ AreFastBlocks T.of_number header.now (C.contents cells.old) }
     // The null block of 64, and 1,024 offsets.
     ensures reads { C.reads cells.new ≤ C.reads cells.old + 1088 }
-    ensures same_index { C.index cells.new ≡ C.index cells.old }
-    ensures same_values { C.values cells.new ≡ C.values cells.old }
+    ensures kept { C.contents cells.new ≡ C.contents cells.old }
 {
     let null_block = is_null_block(
         header,
@@ -119,13 +118,13 @@ fn names_blocks<T: TrieValue, C: Cells<T>>(
     null_block: bool,
 ) -> bool
     requires null { IsTrue null_block
-        ↔ IsNullBlock T.of_number header.now (C.values cells.old) 16 header.now.data_null_offset }
+        ↔ IsNullBlock T.of_number header.now (C.contents cells.old).values 16
+        header.now.data_null_offset }
     ensures blocks { IsTrue result
-        ↔ NamesOffsets (C.index cells.old) cell
-        (IsBlock T.of_number header.now (C.values cells.old) 16) }
+        ↔ NamesOffsets (C.contents cells.old).index cell
+        (IsBlock T.of_number header.now (C.contents cells.old).values 16) }
     ensures reads { C.reads cells.new ≤ C.reads cells.old + 64 }
-    ensures same_index { C.index cells.new ≡ C.index cells.old }
-    ensures same_values { C.values cells.new ≡ C.values cells.old }
+    ensures kept { C.contents cells.new ≡ C.contents cells.old }
 {
     for place in 0..INDEX_3_BLOCK_LENGTH {
         let Some(offset) = offset_of(cells, cell, place) else {
@@ -141,11 +140,10 @@ fn names_blocks<T: TrieValue, C: Cells<T>>(
 /// Whether the blocks of 16 that the null index-2 cell names are null.
 fn is_null_cell<T: TrieValue, C: Cells<T>>(header: &CodePointTrieHeader, cells: &mut C) -> bool
     ensures null { IsTrue result
-        ↔ NamesOffsets (C.index cells.old) header.now.index3_null_offset
-        (IsNullBlock T.of_number header.now (C.values cells.old) 16) }
+        ↔ NamesOffsets (C.contents cells.old).index header.now.index3_null_offset
+        (IsNullBlock T.of_number header.now (C.contents cells.old).values 16) }
     ensures reads { C.reads cells.new ≤ C.reads cells.old + 576 }
-    ensures same_index { C.index cells.new ≡ C.index cells.old }
-    ensures same_values { C.values cells.new ≡ C.values cells.old }
+    ensures kept { C.contents cells.new ≡ C.contents cells.old }
 {
     for place in 0..INDEX_3_BLOCK_LENGTH {
         let Some(offset) = offset_of(cells, header.index3_null_offset, place) else {
@@ -169,15 +167,15 @@ fn is_cell<T: TrieValue, C: Cells<T>>(
     null_cell: bool,
 ) -> bool
     requires null_block { IsTrue null_block
-        ↔ IsNullBlock T.of_number header.now (C.values cells.old) 16 header.now.data_null_offset }
+        ↔ IsNullBlock T.of_number header.now (C.contents cells.old).values 16
+        header.now.data_null_offset }
     requires null_cell { IsTrue null_cell
-        ↔ NamesOffsets (C.index cells.old) header.now.index3_null_offset
-        (IsNullBlock T.of_number header.now (C.values cells.old) 16) }
+        ↔ NamesOffsets (C.contents cells.old).index header.now.index3_null_offset
+        (IsNullBlock T.of_number header.now (C.contents cells.old).values 16) }
     ensures blocks { IsTrue result
-        ↔ IsCell T.of_number header.now (C.index cells.old) (C.values cells.old) cell }
+        ↔ IsCell T.of_number header.now (C.contents cells.old) cell }
     ensures reads { C.reads cells.new ≤ C.reads cells.old + 64 }
-    ensures same_index { C.index cells.new ≡ C.index cells.old }
-    ensures same_values { C.values cells.new ≡ C.values cells.old }
+    ensures kept { C.contents cells.new ≡ C.contents cells.old }
 {
     let named_null = cell == header.index3_null_offset;
     if named_null {
@@ -190,12 +188,11 @@ fn is_cell<T: TrieValue, C: Cells<T>>(
 fn has_small_blocks<T: TrieValue, C: Cells<T>>(header: &CodePointTrieHeader, cells: &mut C) -> bool
     requires within { header.now.high_start ≤ 0x110000 }
     ensures blocks { IsTrue result
-        ↔ AreSmallBlocks T.of_number header.now (C.index cells.old) (C.values cells.old) }
+        ↔ AreSmallBlocks T.of_number header.now (C.contents cells.old) }
     // The null block of 16, the null block of 32 offsets with 18 * 32 reads, and for each of 2,176
     // blocks 2 + 64.
     ensures reads { C.reads cells.new ≤ C.reads cells.old + 144208 }
-    ensures same_index { C.index cells.new ≡ C.index cells.old }
-    ensures same_values { C.values cells.new ≡ C.values cells.old }
+    ensures kept { C.contents cells.new ≡ C.contents cells.old }
 {
     let null_block = is_null_block(
         header,
@@ -229,11 +226,10 @@ fn has_high_blocks<T: TrieValue, C: Cells<T>>(
     high: T,
 ) -> bool
     ensures blocks { IsTrue result
-        ↔ AreHighBlocks header.now (C.index cells.old) (C.values cells.old) high }
+        ↔ AreHighBlocks header.now (C.contents cells.old) high }
     // 1,024 blocks of 1 + 64.
     ensures reads { C.reads cells.new ≤ C.reads cells.old + 66560 }
-    ensures same_index { C.index cells.new ≡ C.index cells.old }
-    ensures same_values { C.values cells.new ≡ C.values cells.old }
+    ensures kept { C.contents cells.new ≡ C.contents cells.old }
 {
     let mut known = None;
     for block in header.high_start.div_ceil(FAST_TYPE_DATA_BLOCK_LENGTH)
@@ -256,11 +252,10 @@ fn has_high_blocks<T: TrieValue, C: Cells<T>>(
 fn has_high_value<T: TrieValue, C: Cells<T>>(header: &CodePointTrieHeader, cells: &mut C) -> bool
     requires within { header.now.high_start ≤ 0x110000 }
     ensures high { IsTrue result
-        ↔ HasHighValue header.now (C.index cells.old) (C.values cells.old) }
+        ↔ HasHighValue header.now (C.contents cells.old) }
     // Those of `has_high_blocks`, and the high value.
     ensures reads { C.reads cells.new ≤ C.reads cells.old + 66561 }
-    ensures same_index { C.index cells.new ≡ C.index cells.old }
-    ensures same_values { C.values cells.new ≡ C.values cells.old }
+    ensures kept { C.contents cells.new ≡ C.contents cells.old }
 {
     if header.high_start == CODE_POINT_LIMIT {
         return true;
@@ -281,11 +276,10 @@ fn has_coherent_blocks<T: TrieValue, C: Cells<T>>(
 ) -> bool
     requires within { header.now.high_start ≤ 0x110000 }
     ensures blocks { IsTrue result
-        ↔ AreCoherentBlocks T.of_number header.now (C.index cells.old) (C.values cells.old) }
+        ↔ AreCoherentBlocks T.of_number header.now (C.contents cells.old) }
     // 66,561 + 1,088 + 144,208.
     ensures reads { C.reads cells.new ≤ C.reads cells.old + 211857 }
-    ensures same_index { C.index cells.new ≡ C.index cells.old }
-    ensures same_values { C.values cells.new ≡ C.values cells.old }
+    ensures kept { C.contents cells.new ≡ C.contents cells.old }
 {
     if !has_high_value(header, cells) {
         return false;
@@ -304,11 +298,10 @@ fn has_coherent_blocks<T: TrieValue, C: Cells<T>>(
 /// none.
 pub fn is_coherent<T: TrieValue, C: Cells<T>>(header: &CodePointTrieHeader, cells: &mut C) -> bool
     ensures coherent { IsTrue result
-        ↔ IsCoherent T.of_number header.now (C.index cells.old) (C.values cells.old) }
+        ↔ IsCoherent T.of_number header.now (C.contents cells.old) }
     // 211,857 at most, which is rounded up.
     ensures reads { C.reads cells.new ≤ C.reads cells.old + 212000 }
-    ensures same_index { C.index cells.new ≡ C.index cells.old }
-    ensures same_values { C.values cells.new ≡ C.values cells.old }
+    ensures kept { C.contents cells.new ≡ C.contents cells.old }
 {
     if header.high_start % CP_PER_INDEX_2_ENTRY != 0 || header.high_start > CODE_POINT_LIMIT {
         return false;

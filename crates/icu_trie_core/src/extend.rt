@@ -33,10 +33,9 @@ fn extend_by_cells<T: TrieValue, C: Cells<T>>(
     requires offset_fits { offset < 2 ^ 18 }
     requires len_fits { len ≤ 64 }
     requires place { from < len }
-    ensures run { Reaches (block_cells (C.values cells.old) offset) from len value result }
+    ensures run { Reaches (block_cells (C.contents cells.old).values offset) from len value result }
     ensures reads { C.reads cells.new + from ≤ C.reads cells.old + len }
-    ensures same_index { C.index cells.new ≡ C.index cells.old }
-    ensures same_values { C.values cells.new ≡ C.values cells.old }
+    ensures kept { C.contents cells.new ≡ C.contents cells.old }
 {
     let there = cells
         .data_len()
@@ -66,13 +65,13 @@ fn extend_in_block<T: TrieValue, C: Cells<T>>(
     requires len_fits { len ≤ 64 }
     requires place { from < len }
     requires known { IsRemembered
-        (block_seen T.of_number header.now (C.values cells.old)) len remembered value }
+        (block_seen T.of_number header.now (C.contents cells.old).values) len remembered value }
     ensures run { Reaches
-        (block_seen T.of_number header.now (C.values cells.old) offset) from len value result }
+        (block_seen T.of_number header.now (C.contents cells.old).values offset) from len value
+        result }
     ensures reads { C.reads cells.new + from ≤ C.reads cells.old + len }
     ensures unread { remembered ≡ Some offset → C.reads cells.new ≡ C.reads cells.old }
-    ensures same_index { C.index cells.new ≡ C.index cells.old }
-    ensures same_values { C.values cells.new ≡ C.values cells.old }
+    ensures kept { C.contents cells.new ≡ C.contents cells.old }
 {
     if remembered == Some(offset) {
         return Some(len);
@@ -101,13 +100,12 @@ fn extend_fast<T: TrieValue, C: Cells<T>>(
     requires fast { limit ≤ fast_limit header.now.trie_type }
     requires below { limit ≤ header.now.high_start }
     ensures run { Reaches
-        (seen T.of_number header.now (C.index cells.old) (C.values cells.old)) start limit value
+        (seen T.of_number header.now (C.contents cells.old)) start limit value
         result }
-    ensures reads { IsCoherent T.of_number header.now (C.index cells.old) (C.values cells.old)
-        → IsShared header.now (C.index cells.old) (C.values cells.old)
+    ensures reads { IsCoherent T.of_number header.now (C.contents cells.old)
+        → IsShared header.now (C.contents cells.old)
         → limit % 64 ≡ 0 → C.reads cells.new ≤ C.reads cells.old + limit / 64 + 320 }
-    ensures same_index { C.index cells.new ≡ C.index cells.old }
-    ensures same_values { C.values cells.new ≡ C.values cells.old }
+    ensures kept { C.contents cells.new ≡ C.contents cells.old }
 {
     let mut remembered = None;
     for block in start / FAST_TYPE_DATA_BLOCK_LENGTH..limit.div_ceil(FAST_TYPE_DATA_BLOCK_LENGTH) {
@@ -139,13 +137,11 @@ fn extend_index3<T: TrieValue, C: Cells<T>>(
     requires aligned { from % 16 ≡ 0 }
     requires read { cell ≢ header.now.index3_null_offset }
     ensures run { Reaches
-        (cell_seen T.of_number header.now (C.index cells.old) (C.values cells.old) cell) from len
+        (cell_seen T.of_number header.now (C.contents cells.old) cell) from len
         value result }
-    ensures reads { SharesBlocks T.of_number header.now (C.index cells.old)
-        (C.values cells.old) cell
+    ensures reads { SharesBlocks T.of_number header.now (C.contents cells.old) cell
         → len ≡ 512 → C.reads cells.new ≤ C.reads cells.old + 112 }
-    ensures same_index { C.index cells.new ≡ C.index cells.old }
-    ensures same_values { C.values cells.new ≡ C.values cells.old }
+    ensures kept { C.contents cells.new ≡ C.contents cells.old }
 {
     let mut remembered = None;
     for place in from / SMALL_DATA_BLOCK_LENGTH..len.div_ceil(SMALL_DATA_BLOCK_LENGTH) {
@@ -175,17 +171,15 @@ fn extend_in_cell<T: TrieValue, C: Cells<T>>(
     requires len_fits { len ≤ 512 }
     requires some { 0 < len }
     requires known { IsRemembered
-        (cell_seen T.of_number header.now (C.index cells.old) (C.values cells.old)) len remembered
+        (cell_seen T.of_number header.now (C.contents cells.old)) len remembered
         value }
     ensures run { Reaches
-        (cell_seen T.of_number header.now (C.index cells.old) (C.values cells.old) cell) 0 len
+        (cell_seen T.of_number header.now (C.contents cells.old) cell) 0 len
         value result }
-    ensures reads { SharesBlocks T.of_number header.now (C.index cells.old)
-        (C.values cells.old) cell
+    ensures reads { SharesBlocks T.of_number header.now (C.contents cells.old) cell
         → len ≡ 512 → C.reads cells.new ≤ C.reads cells.old + 112 }
     ensures unread { remembered ≡ Some cell → C.reads cells.new ≡ C.reads cells.old }
-    ensures same_index { C.index cells.new ≡ C.index cells.old }
-    ensures same_values { C.values cells.new ≡ C.values cells.old }
+    ensures kept { C.contents cells.new ≡ C.contents cells.old }
 {
     if remembered == Some(cell) {
         return Some(len);
@@ -212,15 +206,14 @@ fn extend_small<T: TrieValue, C: Cells<T>>(
     requires below { limit ≤ header.now.high_start }
     requires within { limit ≤ 0x110000 }
     ensures run { Reaches
-        (seen T.of_number header.now (C.index cells.old) (C.values cells.old)) start limit value
+        (seen T.of_number header.now (C.contents cells.old)) start limit value
         result }
-    ensures reads { IsCoherent T.of_number header.now (C.index cells.old) (C.values cells.old)
-        → IsShared header.now (C.index cells.old) (C.values cells.old)
+    ensures reads { IsCoherent T.of_number header.now (C.contents cells.old)
+        → IsShared header.now (C.contents cells.old)
         → limit % 512 ≡ 0
         → C.reads cells.new + 2 * (fast_limit header.now.trie_type / 512)
         ≤ C.reads cells.old + 2 * (limit / 512) + 336 }
-    ensures same_index { C.index cells.new ≡ C.index cells.old }
-    ensures same_values { C.values cells.new ≡ C.values cells.old }
+    ensures kept { C.contents cells.new ≡ C.contents cells.old }
 {
     let mut remembered = None;
     for block in start / CP_PER_INDEX_2_ENTRY..limit.div_ceil(CP_PER_INDEX_2_ENTRY) {
@@ -250,14 +243,13 @@ fn extend<T: TrieValue, C: Cells<T>>(
     requires below { limit ≤ header.now.high_start }
     requires within { limit ≤ 0x110000 }
     ensures run { Reaches
-        (seen T.of_number header.now (C.index cells.old) (C.values cells.old)) start limit value
+        (seen T.of_number header.now (C.contents cells.old)) start limit value
         result }
     // 1,024 + 320 below the fast limit of a fast trie, 2 * 2,048 + 336 from it on.
-    ensures reads { IsCoherent T.of_number header.now (C.index cells.old) (C.values cells.old)
-        → IsShared header.now (C.index cells.old) (C.values cells.old)
+    ensures reads { IsCoherent T.of_number header.now (C.contents cells.old)
+        → IsShared header.now (C.contents cells.old)
         → limit % 512 ≡ 0 → C.reads cells.new ≤ C.reads cells.old + 5776 }
-    ensures same_index { C.index cells.new ≡ C.index cells.old }
-    ensures same_values { C.values cells.new ≡ C.values cells.old }
+    ensures kept { C.contents cells.new ≡ C.contents cells.old }
 {
     if start == limit {
         return Some(limit);
@@ -276,12 +268,11 @@ fn extend<T: TrieValue, C: Cells<T>>(
 
 /// Whether the high value is this one. `None` where the data have no high value.
 fn high_is<T: TrieValue, C: Cells<T>>(cells: &mut C, value: T) -> Option<bool>
-    ensures same { MatchOption result (high_value (C.values cells.old) ≡ None)
-        (λ b. IsSomeAnd (high_value (C.values cells.old))
+    ensures same { MatchOption result (high_value (C.contents cells.old).values ≡ None)
+        (λ b. IsSomeAnd (high_value (C.contents cells.old).values)
         (λ y. MatchBool b (y ≡ value) (y ≢ value))) }
     ensures reads { C.reads cells.new ≤ C.reads cells.old + 1 }
-    ensures same_index { C.index cells.new ≡ C.index cells.old }
-    ensures same_values { C.values cells.new ≡ C.values cells.old }
+    ensures kept { C.contents cells.new ≡ C.contents cells.old }
 {
     let place = high_cell_of(cells.data_len())?;
     let high = cells.data_cell(place)?;
@@ -305,14 +296,13 @@ fn extend_to_end<T: TrieValue, C: Cells<T>>(
     requires block { start < limit → BeginsBlock header.now.trie_type start }
     requires high { limit ≡ min header.now.high_start 0x110000 }
     ensures run { Reaches
-        (seen T.of_number header.now (C.index cells.old) (C.values cells.old)) start 0x110000 value
+        (seen T.of_number header.now (C.contents cells.old)) start 0x110000 value
         result }
     // Those of `extend`, and the high value.
-    ensures reads { IsCoherent T.of_number header.now (C.index cells.old) (C.values cells.old)
-        → IsShared header.now (C.index cells.old) (C.values cells.old)
+    ensures reads { IsCoherent T.of_number header.now (C.contents cells.old)
+        → IsShared header.now (C.contents cells.old)
         → C.reads cells.new ≤ C.reads cells.old + 5777 }
-    ensures same_index { C.index cells.new ≡ C.index cells.old }
-    ensures same_values { C.values cells.new ≡ C.values cells.old }
+    ensures kept { C.contents cells.new ≡ C.contents cells.old }
 {
     let end = extend(header, cells, limit, start, value)?;
     if end < limit || limit == CODE_POINT_LIMIT {
@@ -339,17 +329,16 @@ pub(crate) fn extend_from_fast<T: TrieValue, C: Cells<T>>(
     requires begun { c < limit }
     requires high { limit ≡ min header.now.high_start 0x110000 }
     requires fast { c < fast_limit header.now.trie_type }
-    requires here { slice_get (C.index cells.old) (c / 64) ≡ Some offset }
+    requires here { slice_get (C.contents cells.old).index (c / 64) ≡ Some offset }
     requires offset_fits { offset < 2 ^ 18 }
     ensures run { Reaches
-        (seen T.of_number header.now (C.index cells.old) (C.values cells.old)) c 0x110000 value
+        (seen T.of_number header.now (C.contents cells.old)) c 0x110000 value
         result }
     // Those of `extend_to_end`, and the rest of the block of 64.
-    ensures reads { IsCoherent T.of_number header.now (C.index cells.old) (C.values cells.old)
-        → IsShared header.now (C.index cells.old) (C.values cells.old)
+    ensures reads { IsCoherent T.of_number header.now (C.contents cells.old)
+        → IsShared header.now (C.contents cells.old)
         → C.reads cells.new ≤ C.reads cells.old + 5841 }
-    ensures same_index { C.index cells.new ≡ C.index cells.old }
-    ensures same_values { C.values cells.new ≡ C.values cells.old }
+    ensures kept { C.contents cells.new ≡ C.contents cells.old }
 {
     let base = c / FAST_TYPE_DATA_BLOCK_LENGTH * FAST_TYPE_DATA_BLOCK_LENGTH;
     let len = (limit - base).min(FAST_TYPE_DATA_BLOCK_LENGTH);
@@ -375,16 +364,14 @@ fn extend_from_block<T: TrieValue, C: Cells<T>>(
 ) -> Option<u32>
     requires len_fits { len ≤ 512 }
     requires place { from < len }
-    requires here { offset_in_block (C.index cells.old) cell (from / 16) ≡ Some offset }
+    requires here { offset_in_block (C.contents cells.old).index cell (from / 16) ≡ Some offset }
     requires offset_fits { offset < 2 ^ 18 }
     ensures run { Reaches
-        (cell_seen T.of_number header.now (C.index cells.old) (C.values cells.old) cell) from len
+        (cell_seen T.of_number header.now (C.contents cells.old) cell) from len
         value result }
-    ensures reads { SharesBlocks T.of_number header.now (C.index cells.old)
-        (C.values cells.old) cell
+    ensures reads { SharesBlocks T.of_number header.now (C.contents cells.old) cell
         → len ≡ 512 → C.reads cells.new ≤ C.reads cells.old + 128 }
-    ensures same_index { C.index cells.new ≡ C.index cells.old }
-    ensures same_values { C.values cells.new ≡ C.values cells.old }
+    ensures kept { C.contents cells.new ≡ C.contents cells.old }
 {
     if cell != header.index3_null_offset {
         let base = from / SMALL_DATA_BLOCK_LENGTH * SMALL_DATA_BLOCK_LENGTH;
@@ -416,19 +403,18 @@ pub(crate) fn extend_from_small<T: TrieValue, C: Cells<T>>(
     requires begun { c < limit }
     requires high { limit ≡ min header.now.high_start 0x110000 }
     requires from { fast_limit header.now.trie_type ≤ c }
-    requires block { index2_cell header.now.trie_type (C.index cells.old) (c / 512 * 512)
+    requires block { index2_cell header.now.trie_type (C.contents cells.old).index (c / 512 * 512)
         ≡ Some cell }
-    requires here { offset_in_block (C.index cells.old) cell (c % 512 / 16) ≡ Some offset }
+    requires here { offset_in_block (C.contents cells.old).index cell (c % 512 / 16) ≡ Some offset }
     requires offset_fits { offset < 2 ^ 18 }
     ensures run { Reaches
-        (seen T.of_number header.now (C.index cells.old) (C.values cells.old)) c 0x110000 value
+        (seen T.of_number header.now (C.contents cells.old)) c 0x110000 value
         result }
     // Those of `extend_to_end`, and 128 in the block of 512.
-    ensures reads { IsCoherent T.of_number header.now (C.index cells.old) (C.values cells.old)
-        → IsShared header.now (C.index cells.old) (C.values cells.old)
+    ensures reads { IsCoherent T.of_number header.now (C.contents cells.old)
+        → IsShared header.now (C.contents cells.old)
         → C.reads cells.new ≤ C.reads cells.old + 5905 }
-    ensures same_index { C.index cells.new ≡ C.index cells.old }
-    ensures same_values { C.values cells.new ≡ C.values cells.old }
+    ensures kept { C.contents cells.new ≡ C.contents cells.old }
 {
     let base = c / CP_PER_INDEX_2_ENTRY * CP_PER_INDEX_2_ENTRY;
     let len = (limit - base).min(CP_PER_INDEX_2_ENTRY);

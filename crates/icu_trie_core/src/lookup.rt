@@ -2,7 +2,7 @@
 ghost use Rattle.std.specs.Prelude.{◌≡◌, ℕ, ◌+◌, ◌^◌, ◌<◌, ◌≤◌, ◌/◌, ◌%◌, ◌-◌, List, Some, None, length, slice_get, IfSome, false};
 ghost use Rattle.std.specs.Option.{option_and_then};
 ghost use Rattle.icu_trie_core.specs.Format.{answer, fast_limit, high_cell, high_value, index2_cell, offset_in_block, long_offset, place, small_offset};
-ghost use Rattle.icu_trie_core.specs.FastIndex.{fast_index_len, passes_data};
+ghost use Rattle.icu_trie_core.specs.FastIndex.{IsWhole};
 
 use crate::cells::Cells;
 use crate::header::{CodePointTrieHeader, TrieType};
@@ -19,10 +19,9 @@ pub(crate) fn index2_cell_of<T, C: Cells<T>>(
     cells: &mut C,
     c: u32,
 ) -> Option<u16>
-    ensures cell { result ≡ index2_cell trie_type (C.index cells.old) c }
+    ensures cell { result ≡ index2_cell trie_type (C.contents cells.old).index c }
     ensures reads { C.reads cells.new ≤ C.reads cells.old + 2 }
-    ensures same_index { C.index cells.new ≡ C.index cells.old }
-    ensures same_values { C.values cells.new ≡ C.values cells.old }
+    ensures kept { C.contents cells.new ≡ C.contents cells.old }
 {
     let index1_start = match trie_type {
         TrieType::Fast => BMP_INDEX_LENGTH - OMITTED_BMP_INDEX_1_LENGTH,
@@ -45,11 +44,10 @@ fn long_offset_of(high: u16, low: u16, place: u32) -> u32
 /// most.
 pub(crate) fn offset_of<T, C: Cells<T>>(cells: &mut C, index2_cell: u16, place: u32) -> Option<u32>
     requires { place < 32 }
-    ensures offset { result ≡ offset_in_block (C.index cells.old) index2_cell place }
+    ensures offset { result ≡ offset_in_block (C.contents cells.old).index index2_cell place }
     ensures bound { IfSome result (λ offset. offset < 2 ^ 18) }
     ensures reads { C.reads cells.new ≤ C.reads cells.old + 2 }
-    ensures same_index { C.index cells.new ≡ C.index cells.old }
-    ensures same_values { C.values cells.new ≡ C.values cells.old }
+    ensures kept { C.contents cells.new ≡ C.contents cells.old }
 {
     if index2_cell & 0x8000 == 0 {
         let offset = cells.index_cell(index2_cell as usize + place as usize)?;
@@ -69,10 +67,9 @@ pub(crate) fn offset_of<T, C: Cells<T>>(cells: &mut C, index2_cell: u16, place: 
 pub fn small_place_of<T, C: Cells<T>>(trie_type: TrieType, cells: &mut C, c: u32) -> Option<usize>
     ensures place { result
         ≡ option_and_then (λ offset. Some (offset + c % 16))
-        (small_offset trie_type (C.index cells.old) c) }
+        (small_offset trie_type (C.contents cells.old).index c) }
     ensures reads { C.reads cells.new ≤ C.reads cells.old + 4 }
-    ensures same_index { C.index cells.new ≡ C.index cells.old }
-    ensures same_values { C.values cells.new ≡ C.values cells.old }
+    ensures kept { C.contents cells.new ≡ C.contents cells.old }
 {
     let index2_cell = index2_cell_of(trie_type, cells, c)?;
     let offset = offset_of(cells, index2_cell, (c >> SHIFT_3) & INDEX_3_MASK)?;
@@ -92,10 +89,10 @@ pub(crate) fn high_cell_of(len: usize) -> Option<usize>
 /// value. Public for the crates above.
 #[inline]
 pub fn cell_of<T, C: Cells<T>>(header: &CodePointTrieHeader, cells: &mut C, c: u32) -> Option<usize>
-    ensures place { result ≡ place header.now (C.index cells.old) (length (C.values cells.old)) c }
+    ensures place { result
+        ≡ place header.now (C.contents cells.old).index (length (C.contents cells.old).values) c }
     ensures reads { C.reads cells.new ≤ C.reads cells.old + 4 }
-    ensures same_index { C.index cells.new ≡ C.index cells.old }
-    ensures same_values { C.values cells.new ≡ C.values cells.old }
+    ensures kept { C.contents cells.new ≡ C.contents cells.old }
 {
     if c < header.trie_type.fast_limit() {
         let offset = cells.index_cell((c >> FAST_TYPE_SHIFT) as usize)?;
@@ -116,10 +113,9 @@ pub fn cell_of<T, C: Cells<T>>(header: &CodePointTrieHeader, cells: &mut C, c: u
 #[inline(always)]
 #[tactic(auto, unfolding(crate::specs::Format::answer))]
 pub fn look_up<T, C: Cells<T>>(header: &CodePointTrieHeader, cells: &mut C, c: u32) -> Option<T>
-    ensures answer { result ≡ answer header.now (C.index cells.old) (C.values cells.old) c }
+    ensures answer { result ≡ answer header.now (C.contents cells.old) c }
     ensures reads { C.reads cells.new ≤ C.reads cells.old + 5 }
-    ensures same_index { C.index cells.new ≡ C.index cells.old }
-    ensures same_values { C.values cells.new ≡ C.values cells.old }
+    ensures kept { C.contents cells.new ≡ C.contents cells.old }
 {
     if c < header.trie_type.fast_limit() {
         let offset = cells.index_cell((c >> FAST_TYPE_SHIFT) as usize)?;
@@ -136,14 +132,11 @@ pub fn look_up<T, C: Cells<T>>(header: &CodePointTrieHeader, cells: &mut C, c: u
 #[inline(always)]
 #[tactic(auto, unfolding(crate::specs::Format::answer))]
 pub fn look_up_fast<T, C: Cells<T>>(header: &CodePointTrieHeader, cells: &mut C, c: u32) -> T
-    requires fast_index { fast_index_len header.now.trie_type ≤ length (C.index cells.old) }
-    requires blocks { passes_data header.now.trie_type (C.index cells.old)
-        (length (C.values cells.old)) ≡ false }
+    requires whole { IsWhole header.now.trie_type (C.contents cells.old) }
     requires below { c < fast_limit header.now.trie_type }
-    ensures answer { answer header.now (C.index cells.old) (C.values cells.old) c ≡ Some result }
+    ensures answer { answer header.now (C.contents cells.old) c ≡ Some result }
     ensures reads { C.reads cells.new ≡ C.reads cells.old + 2 }
-    ensures same_index { C.index cells.new ≡ C.index cells.old }
-    ensures same_values { C.values cells.new ≡ C.values cells.old }
+    ensures kept { C.contents cells.new ≡ C.contents cells.old }
 {
     let offset = cells.index_at((c >> FAST_TYPE_SHIFT) as usize);
     cells.data_at(offset as usize + (c & FAST_TYPE_DATA_MASK) as usize)
@@ -152,11 +145,10 @@ pub fn look_up_fast<T, C: Cells<T>>(header: &CodePointTrieHeader, cells: &mut C,
 /// The high value of data that have one.
 #[inline(always)]
 fn high_value_of<T, C: Cells<T>>(cells: &mut C) -> T
-    requires { 2 ≤ length (C.values cells.old) }
-    ensures value { high_value (C.values cells.old) ≡ Some result }
+    requires { 2 ≤ length (C.contents cells.old).values }
+    ensures value { high_value (C.contents cells.old).values ≡ Some result }
     ensures counted { C.reads cells.new ≡ C.reads cells.old + 1 }
-    ensures same_index { C.index cells.new ≡ C.index cells.old }
-    ensures same_values { C.values cells.new ≡ C.values cells.old }
+    ensures kept { C.contents cells.new ≡ C.contents cells.old }
 {
     let place = cells.data_len() - HIGH_VALUE_NEG_DATA_OFFSET as usize;
     cells.data_at(place)
@@ -167,16 +159,13 @@ fn high_value_of<T, C: Cells<T>>(cells: &mut C) -> T
 #[inline(always)]
 #[tactic(auto, unfolding(crate::specs::Format::answer))]
 pub fn look_up_high<T, C: Cells<T>>(header: &CodePointTrieHeader, cells: &mut C, c: u32) -> T
-    requires fast_index { fast_index_len header.now.trie_type ≤ length (C.index cells.old) }
-    requires blocks { passes_data header.now.trie_type (C.index cells.old)
-        (length (C.values cells.old)) ≡ false }
+    requires whole { IsWhole header.now.trie_type (C.contents cells.old) }
     requires from { fast_limit header.now.trie_type ≤ c }
     requires high { header.now.high_start ≤ c }
     requires within { c < 0x110000 }
-    ensures answer { answer header.now (C.index cells.old) (C.values cells.old) c ≡ Some result }
+    ensures answer { answer header.now (C.contents cells.old) c ≡ Some result }
     ensures reads { C.reads cells.new ≡ C.reads cells.old + 1 }
-    ensures same_index { C.index cells.new ≡ C.index cells.old }
-    ensures same_values { C.values cells.new ≡ C.values cells.old }
+    ensures kept { C.contents cells.new ≡ C.contents cells.old }
 {
     high_value_of(cells)
 }
@@ -187,10 +176,9 @@ pub fn look_up_high<T, C: Cells<T>>(header: &CodePointTrieHeader, cells: &mut C,
 #[tactic(auto, unfolding(crate::specs::Format::answer))]
 pub fn look_up_far<T, C: Cells<T>>(header: &CodePointTrieHeader, cells: &mut C, c: u32) -> Option<T>
     requires { fast_limit header.now.trie_type ≤ c }
-    ensures answer { result ≡ answer header.now (C.index cells.old) (C.values cells.old) c }
+    ensures answer { result ≡ answer header.now (C.contents cells.old) c }
     ensures reads { C.reads cells.new ≤ C.reads cells.old + 5 }
-    ensures same_index { C.index cells.new ≡ C.index cells.old }
-    ensures same_values { C.values cells.new ≡ C.values cells.old }
+    ensures kept { C.contents cells.new ≡ C.contents cells.old }
 {
     if c > CODE_POINT_MAX {
         return None;
@@ -214,10 +202,9 @@ pub fn look_up_small<T, C: Cells<T>>(
     requires from { fast_limit header.now.trie_type ≤ c }
     requires below { c < header.now.high_start }
     requires within { c < 0x110000 }
-    ensures answer { result ≡ answer header.now (C.index cells.old) (C.values cells.old) c }
+    ensures answer { result ≡ answer header.now (C.contents cells.old) c }
     ensures reads { C.reads cells.new ≤ C.reads cells.old + 5 }
-    ensures same_index { C.index cells.new ≡ C.index cells.old }
-    ensures same_values { C.values cells.new ≡ C.values cells.old }
+    ensures kept { C.contents cells.new ≡ C.contents cells.old }
 {
     let place = small_place_of(header.trie_type, cells, c)?;
     cells.data_cell(place)
@@ -232,13 +219,10 @@ pub fn look_up_whole<T, C: Cells<T>>(
     cells: &mut C,
     c: u32,
 ) -> Option<T>
-    requires fast_index { fast_index_len header.now.trie_type ≤ length (C.index cells.old) }
-    requires blocks { passes_data header.now.trie_type (C.index cells.old)
-        (length (C.values cells.old)) ≡ false }
-    ensures answer { result ≡ answer header.now (C.index cells.old) (C.values cells.old) c }
+    requires whole { IsWhole header.now.trie_type (C.contents cells.old) }
+    ensures answer { result ≡ answer header.now (C.contents cells.old) c }
     ensures reads { C.reads cells.new ≤ C.reads cells.old + 5 }
-    ensures same_index { C.index cells.new ≡ C.index cells.old }
-    ensures same_values { C.values cells.new ≡ C.values cells.old }
+    ensures kept { C.contents cells.new ≡ C.contents cells.old }
 {
     if c < header.trie_type.fast_limit() {
         return Some(look_up_fast(header, cells, c));

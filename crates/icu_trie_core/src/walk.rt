@@ -60,14 +60,12 @@ fn walk_fast<T: TrieValue, C: Cells<T>>(
     requires begun { c < limit }
     requires high { limit ≡ min header.now.high_start 0x110000 }
     requires fast { c < fast_limit header.now.trie_type }
-    ensures gives { GivesWalk T.of_number header.now (C.index cells.old)
-        (C.values cells.old) c result }
+    ensures gives { GivesWalk T.of_number header.now (C.contents cells.old) c result }
     // Those of `extend_from_fast`, and two for `c`.
-    ensures reads { IsCoherent T.of_number header.now (C.index cells.old) (C.values cells.old)
-        → IsShared header.now (C.index cells.old) (C.values cells.old)
+    ensures reads { IsCoherent T.of_number header.now (C.contents cells.old)
+        → IsShared header.now (C.contents cells.old)
         → C.reads cells.new ≤ C.reads cells.old + 5843 }
-    ensures same_index { C.index cells.new ≡ C.index cells.old }
-    ensures same_values { C.values cells.new ≡ C.values cells.old }
+    ensures kept { C.contents cells.new ≡ C.contents cells.old }
 {
     let offset = u32::from(cells.index_cell((c / FAST_TYPE_DATA_BLOCK_LENGTH) as usize)?);
     let value = cells.data_cell((offset + c % FAST_TYPE_DATA_BLOCK_LENGTH) as usize)?;
@@ -87,14 +85,12 @@ fn walk_small<T: TrieValue, C: Cells<T>>(
     requires begun { c < limit }
     requires high { limit ≡ min header.now.high_start 0x110000 }
     requires from { fast_limit header.now.trie_type ≤ c }
-    ensures gives { GivesWalk T.of_number header.now (C.index cells.old)
-        (C.values cells.old) c result }
+    ensures gives { GivesWalk T.of_number header.now (C.contents cells.old) c result }
     // Those of `extend_from_small`, and five for `c`.
-    ensures reads { IsCoherent T.of_number header.now (C.index cells.old) (C.values cells.old)
-        → IsShared header.now (C.index cells.old) (C.values cells.old)
+    ensures reads { IsCoherent T.of_number header.now (C.contents cells.old)
+        → IsShared header.now (C.contents cells.old)
         → C.reads cells.new ≤ C.reads cells.old + 5910 }
-    ensures same_index { C.index cells.new ≡ C.index cells.old }
-    ensures same_values { C.values cells.new ≡ C.values cells.old }
+    ensures kept { C.contents cells.new ≡ C.contents cells.old }
 {
     let base = c / CP_PER_INDEX_2_ENTRY * CP_PER_INDEX_2_ENTRY;
     let cell = index2_cell_of(header.trie_type, cells, base)?;
@@ -112,10 +108,9 @@ fn look_up_apart<T: TrieValue, C: Cells<T>>(
     cells: &mut C,
     c: u32,
 ) -> Option<T>
-    ensures answer { result ≡ answer header.now (C.index cells.old) (C.values cells.old) c }
+    ensures answer { result ≡ answer header.now (C.contents cells.old) c }
     ensures reads { C.reads cells.new ≤ C.reads cells.old + 5 }
-    ensures same_index { C.index cells.new ≡ C.index cells.old }
-    ensures same_values { C.values cells.new ≡ C.values cells.old }
+    ensures kept { C.contents cells.new ≡ C.contents cells.old }
 {
     look_up(header, cells, c)
 }
@@ -128,11 +123,9 @@ fn walk_high<T: TrieValue, C: Cells<T>>(
     c: u32,
 ) -> Option<CodePointMapRange<T>>
     requires high { min header.now.high_start 0x110000 ≤ c }
-    ensures gives { GivesWalk T.of_number header.now (C.index cells.old)
-        (C.values cells.old) c result }
+    ensures gives { GivesWalk T.of_number header.now (C.contents cells.old) c result }
     ensures reads { C.reads cells.new ≤ C.reads cells.old + 5 }
-    ensures same_index { C.index cells.new ≡ C.index cells.old }
-    ensures same_values { C.values cells.new ≡ C.values cells.old }
+    ensures kept { C.contents cells.new ≡ C.contents cells.old }
 {
     if c >= CODE_POINT_LIMIT {
         return None;
@@ -151,14 +144,12 @@ fn walk_any<T: TrieValue, C: Cells<T>>(
     cells: &mut C,
     c: u32,
 ) -> Option<CodePointMapRange<T>>
-    ensures gives { GivesWalk T.of_number header.now (C.index cells.old)
-        (C.values cells.old) c result }
+    ensures gives { GivesWalk T.of_number header.now (C.contents cells.old) c result }
     // 5,910 at most, which is rounded up.
-    ensures reads { IsCoherent T.of_number header.now (C.index cells.old) (C.values cells.old)
-        → IsShared header.now (C.index cells.old) (C.values cells.old)
+    ensures reads { IsCoherent T.of_number header.now (C.contents cells.old)
+        → IsShared header.now (C.contents cells.old)
         → C.reads cells.new ≤ C.reads cells.old + 6000 }
-    ensures same_index { C.index cells.new ≡ C.index cells.old }
-    ensures same_values { C.values cells.new ≡ C.values cells.old }
+    ensures kept { C.contents cells.new ≡ C.contents cells.old }
 {
     let limit = header.high_start.min(CODE_POINT_LIMIT);
     if c >= limit {
@@ -185,18 +176,16 @@ pub fn walk<T: TrieValue, C: Cells<T>>(
     c: u32,
 ) -> Option<CodePointMapRange<T>>
     ensures outside { 0x110000 ≤ c → IsNone result }
-    ensures gives { GivesWalk T.of_number header.now (C.index cells.old)
-        (C.values cells.old) c result }
-    ensures longest { IsCoherent T.of_number header.now (C.index cells.old) (C.values cells.old)
+    ensures gives { GivesWalk T.of_number header.now (C.contents cells.old) c result }
+    ensures longest { IsCoherent T.of_number header.now (C.contents cells.old)
         → c < 0x110000
         → IsSomeAnd result
-        (λ r. LongestRun (answer header.now (C.index cells.old) (C.values cells.old)) c (last_of r)
+        (λ r. LongestRun (answer header.now (C.contents cells.old)) c (last_of r)
         (Some r.value)) }
-    ensures reads { IsCoherent T.of_number header.now (C.index cells.old) (C.values cells.old)
-        → IsShared header.now (C.index cells.old) (C.values cells.old)
+    ensures reads { IsCoherent T.of_number header.now (C.contents cells.old)
+        → IsShared header.now (C.contents cells.old)
         → C.reads cells.new ≤ C.reads cells.old + 6000 }
-    ensures same_index { C.index cells.new ≡ C.index cells.old }
-    ensures same_values { C.values cells.new ≡ C.values cells.old }
+    ensures kept { C.contents cells.new ≡ C.contents cells.old }
 {
     walk_any(header, cells, c)
 }

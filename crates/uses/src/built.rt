@@ -1,7 +1,7 @@
 //! What is known of a built trie beside its answers: how many cells it has, which block its header
 //! names as null, how far one walk over it reads, and which maps are never refused for their size.
 ghost use Rattle.std.specs.Prelude.{◌≡◌, ◌≢◌, ◌+◌, ◌*◌, ◌<◌, ◌≤◌, ◌⊎◌, ℕ, Err, Some, IfOk, IfSome};
-ghost use Rattle.icu_collections.specs.CodePointTrie.{IsCoherentTrie, IsShared, LongestRun, answers, fast_limit, fast_offset, last_of, small_offset};
+ghost use Rattle.icu_collections.specs.CodePointTrie.{IsCoherentTrie, IsShared, LongestRun, answers, contents_of, fast_limit, fast_offset, last_of, small_offset};
 ghost use Rattle.icu_collections.specs.CodePointTrieBuilder.{block_of, compact_data_bound, count_different, index_bound, short_index_bound, value_after};
 
 use icu_collections::codepointtrie::{
@@ -83,10 +83,9 @@ pub fn walked<T: TrieValue, C: Cells<T>>(
     cells: &mut C,
     c: u32,
 ) -> Option<CodePointMapRange<T>>
-    requires index { C.index cells.old ≡ trie.now.index }
-    requires values { C.values cells.old ≡ trie.now.values }
+    requires cells { C.contents cells.old ≡ contents_of trie.now.index trie.now.values }
     requires coherent { IsCoherentTrie T.of_number trie.now }
-    requires shared { IsShared trie.now.header trie.now.index trie.now.values }
+    requires shared { IsShared trie.now.header (contents_of trie.now.index trie.now.values) }
     ensures reads { C.reads cells.new ≤ C.reads cells.old + 6000 }
     ensures run { c < 0x110000
         → IfSome result (λ range. LongestRun (answers trie.now) c (last_of range)

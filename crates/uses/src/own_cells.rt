@@ -1,8 +1,8 @@
 //! A look-up over cells of the caller's own. A trie's index and data may lie anywhere, as here in
 //! slices: what gives their cells is a [`Cells`], and [`Steps`] counts the reads for the proof. The
 //! count has no bytes at run time.
-ghost use Rattle.std.specs.Prelude.{◌≡◌, ◌+◌, ◌<◌, ◌≤◌, false, length};
-ghost use Rattle.icu_collections.specs.CodePointTrie.{answer, fast_index_len, passes_data};
+ghost use Rattle.std.specs.Prelude.{◌≡◌, ◌+◌, ◌<◌, ◌≤◌};
+ghost use Rattle.icu_collections.specs.CodePointTrie.{IsWhole, answer, contents_of};
 
 use icu_collections::codepointtrie::{Cells, CodePointTrieHeader, Steps, look_up, look_up_whole};
 use std::marker::Brand;
@@ -17,9 +17,7 @@ pub struct SliceCells<'a, L: Ledger> {
 }
 
 impl<'a, L: Ledger> Cells<u32> for SliceCells<'a, L> {
-    ghost index = { λ cells. cells.index.now };
-
-    ghost values = { λ cells. cells.values.now };
+    ghost contents = { λ cells. contents_of cells.index.now cells.values.now };
 
     ghost reads = { λ cells. cells.reads };
 
@@ -53,7 +51,7 @@ fn look_up_counted<L: Ledger>(
     requires name { blank.name ≡ L.name }
     requires parts { blank.parts ≡ L.parts }
     requires some { 0 < blank.parts }
-    ensures { result ≡ answer header.now index.now values.now c }
+    ensures { result ≡ answer header.now (contents_of index.now values.now) c }
 {
     let mut cells = SliceCells {
         index,
@@ -71,7 +69,7 @@ pub fn look_up_in_slices(
     values: &[u32],
     c: u32,
 ) -> Option<u32>
-    ensures { result ≡ answer header.now index.now values.now c }
+    ensures { result ≡ answer header.now (contents_of index.now values.now) c }
 {
     look_up_counted::<Brand>(header, index, values, c, Blank::new(1))
 }
@@ -83,10 +81,8 @@ pub fn both_look_ups<C: Cells<u32>>(
     cells: &mut C,
     c: u32,
 ) -> (Option<u32>, Option<u32>)
-    requires fast_index { fast_index_len header.now.trie_type ≤ length (C.index cells.old) }
-    requires blocks { passes_data header.now.trie_type (C.index cells.old)
-        (length (C.values cells.old)) ≡ false }
-    ensures answer { result.0 ≡ answer header.now (C.index cells.old) (C.values cells.old) c }
+    requires whole { IsWhole header.now.trie_type (C.contents cells.old) }
+    ensures answer { result.0 ≡ answer header.now (C.contents cells.old) c }
     ensures same { result.0 ≡ result.1 }
     ensures reads { C.reads cells.new ≤ C.reads cells.old + 10 }
 {

@@ -1,6 +1,7 @@
 -- A trie over numbers, before they are made values again.
 use Rattle.std.specs.Prelude.{◌≡◌, ℕ, ◌<◌, ◌≤◌, false, List, Some, length}
 use Rattle.icu_zerovec.specs.CodePoints.{code_point_limit}
+use Rattle.icu_trie_core.specs.Contents.{contents_of}
 use Rattle.icu_trie_core.specs.declared.header.CodePointTrieHeader.{CodePointTrieHeader}
 use Rattle.icu_trie_core.specs.Format.{answer}
 use Rattle.icu_trie_core.specs.FastIndex.{fast_index_len, passes_data}
@@ -11,7 +12,7 @@ use Rattle.icu_trie_builder.specs.Built.{IsWellBuilt}
 pub record IsNumberTrie (f : ℕ → ℕ) (error : ℕ) (h : CodePointTrieHeader) (index values : List ℕ)
     : Type 0 where
   -- each code point's answer is its number
-  pub answers : (c : ℕ) → c < code_point_limit → answer h index values c ≡ Some (f c)
+  pub answers : (c : ℕ) → c < code_point_limit → answer h (contents_of index values) c ≡ Some (f c)
   pub error_value : last_cell values ≡ Some error
   -- the fast index is whole, and its blocks lie within the data
   pub fast_index : fast_index_len h.trie_type ≤ length index

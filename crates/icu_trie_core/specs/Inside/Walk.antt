@@ -1,6 +1,7 @@
 -- What a walk knows on its way.
 use Rattle.std.specs.Prelude.{◌≡◌, ◌≢◌, ℕ, ◌+◌, ◌*◌, ◌/◌, ◌%◌, ◌<◌, ◌≤◌, nat_eq, List, Option, Some, None, slice_get, if◌then◌else◌, IsSomeAnd, MatchOption}
 use Rattle.std.specs.Option.{option_and_then}
+use Rattle.icu_trie_core.specs.Contents.{Contents}
 use Rattle.icu_trie_core.specs.declared.header.CodePointTrieHeader.{CodePointTrieHeader}
 use Rattle.icu_trie_core.specs.Format.{fast_limit, offset_in_block}
 use Rattle.icu_trie_core.specs.declared.header.TrieType.{TrieType}
@@ -18,18 +19,18 @@ block_seen of_number h values offset i =
     else slice_get values (offset + i)
 
 -- what a walk sees at place i of the 32 blocks of 16 that an index-3 block names
-abbrev pub blocks_seen : {A : Type 0} → (ℕ → Option A) → CodePointTrieHeader → List ℕ → List A → ℕ
+abbrev pub blocks_seen : {A : Type 0} → (ℕ → Option A) → CodePointTrieHeader → Contents A → ℕ
     → ℕ → Option A
-blocks_seen of_number h index values cell i =
-    option_and_then (λ offset. block_seen of_number h values offset (i % 16))
-    (offset_in_block index cell (i / 16))
+blocks_seen of_number h cells cell i =
+    option_and_then (λ offset. block_seen of_number h cells.values offset (i % 16))
+    (offset_in_block cells.index cell (i / 16))
 
 -- what a walk sees at place i of a block of 512 with this index-2 cell
-unfoldable pub cell_seen : {A : Type 0} → (ℕ → Option A) → CodePointTrieHeader → List ℕ → List A → ℕ
+unfoldable pub cell_seen : {A : Type 0} → (ℕ → Option A) → CodePointTrieHeader → Contents A → ℕ
     → ℕ → Option A
-cell_seen of_number h index values cell i =
+cell_seen of_number h cells cell i =
     if nat_eq cell h.index3_null_offset then of_number h.null_value
-    else blocks_seen of_number h index values cell i
+    else blocks_seen of_number h cells cell i
 
 -- a block of 64 begins at c, and from the fast limit on a block of 512
 abbrev pub BeginsBlock : TrieType → ℕ → Type 0
@@ -66,10 +67,10 @@ IsRemembered sees k remembered value = (name : ℕ) → remembered ≡ Some name
     → Holds (sees name) 0 k value
 
 -- the blocks of 16 that an index-3 block names have one offset where they see alike
-abbrev pub SharesBlocks : {A : Type 0} → (ℕ → Option A) → CodePointTrieHeader → List ℕ → List A → ℕ
+abbrev pub SharesBlocks : {A : Type 0} → (ℕ → Option A) → CodePointTrieHeader → Contents A → ℕ
     → Type 0
-SharesBlocks of_number h index values cell = (p q : ℕ) → p < 32 → q < 32
+SharesBlocks of_number h cells cell = (p q : ℕ) → p < 32 → q < 32
     → ((i : ℕ) → i < 16
-    → cell_seen of_number h index values cell (p * 16 + i)
-    ≡ cell_seen of_number h index values cell (q * 16 + i))
-    → offset_in_block index cell p ≡ offset_in_block index cell q
+    → cell_seen of_number h cells cell (p * 16 + i)
+    ≡ cell_seen of_number h cells cell (q * 16 + i))
+    → offset_in_block cells.index cell p ≡ offset_in_block cells.index cell q

@@ -1,5 +1,6 @@
 //! How many cells one look-up reads, and one walk, by cells of a test's own.
 ghost use Rattle.std.specs.Prelude.{◌≡◌, ◌<◌};
+ghost use Rattle.icu_trie_core.specs.Contents.{contents_of};
 ghost use Rattle.icu_zerovec.specs.Slice.{slice_values};
 
 use super::{ONES, ZEROS, data, expect_at, say, small_header, trie_of};
@@ -23,9 +24,7 @@ struct CountedParts<'a, T: TrieValue, L: Ledger> {
 }
 
 impl<'a, T: TrieValue, L: Ledger> Cells<T> for CountedParts<'a, T, L> {
-    ghost index = { λ cells. slice_values cells.index };
-
-    ghost values = { λ cells. slice_values cells.values };
+    ghost contents = { λ cells. contents_of (slice_values cells.index) (slice_values cells.values) };
 
     ghost reads = { λ cells. cells.reads };
 

@@ -6,22 +6,20 @@ use Rattle.icu_collections_c.proofs.ranges.write_ranges_counted.Goals as goal
 
 pub loop-i-init : goal.loop-i-init
 loop-i-init g c = record {
-  index = refl;
-  values = refl;
+  kept = refl;
   written = written_none g.T.TrieValue.of_number g.T.TrieValue.number (parts_in g.T.AsULE.unpack g.T.AsULE.WIDTH c.args.trie.now)
       c.args.c c.args.ranges.now;
 }
 
 pub loop-i-preserved : goal.loop-i-preserved
 loop-i-preserved g c =
-    let kept = c.loop-i.invariant in
-    let walk = rw (c.header_of-header.ensures, kept.index, kept.values) at c.in-Some.ensures.gives in
-    let longest = rw (c.header_of-header.ensures, kept.index, kept.values) at c.in-Some.ensures.longest in
+    let so_far = c.loop-i.invariant in
+    let walk = rw (c.header_of-header.ensures, so_far.kept) at c.in-Some.ensures.gives in
+    let longest = rw (c.header_of-header.ensures, so_far.kept) at c.in-Some.ensures.longest in
     record {
-      index = c.walk.ensures.same_index ∙ kept.index;
-      values = c.walk.ensures.same_values ∙ kept.values;
+      kept = c.walk.ensures.kept ∙ so_far.kept;
       written = written_more g.T.TrieValue.of_number g.T.TrieValue.number (parts_in g.T.AsULE.unpack g.T.AsULE.WIDTH c.args.trie.now)
           c.args.c c.args.ranges.now c.loop-i.ranges c.loop-i.next c.loop-i.i c.in-Some.range _ _
-          kept.written (omega arith) walk (λ coherent. longest coherent (omega (arith, walk.shape.1, walk.shape.2)))
+          so_far.written (omega arith) walk (λ coherent. longest coherent (omega (arith, walk.shape.1, walk.shape.2)))
           (rw c.told.ensures refl) (ap (λ n. n + 1) c.end.ensures);
     }

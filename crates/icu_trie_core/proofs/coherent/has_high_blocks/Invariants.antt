@@ -4,11 +4,10 @@ use Rattle.icu_trie_core.proofs.coherent.has_high_blocks.Given as goal
 
 abbrev pub invariant-loop-block : goal.invariant-loop-block
 invariant-loop-block g l =
-    let index = g.C.Cells.index l.fn.cells in
-    let values = g.C.Cells.values l.fn.cells in
+    let index = (g.C.Cells.contents l.fn.cells).index in
+    let values = (g.C.Cells.contents l.fn.cells).values in
     record {
-      same_index : g.C.Cells.index l.cells ≡ index;
-      same_values : g.C.Cells.values l.cells ≡ values;
+      kept : g.C.Cells.contents l.cells ≡ g.C.Cells.contents l.fn.cells;
       reads : g.C.Cells.reads l.cells ≤ g.C.Cells.reads l.fn.cells + 65 * min l.block 1024;
       known : (o : ℕ) → l.known ≡ Some o → AreAll values 64 o l.high;
       blocks : (b : ℕ) → l.header.high_start ≤ b * 64 → b < l.block

@@ -6,7 +6,7 @@ use Rattle.icu_trie_core.proofs.coherent.is_cell.Goals as goal
 pub returns-then-named_null-clause-blocks : goal.returns-then-named_null-clause-blocks
 returns-then-named_null-clause-blocks g c =
     let is : c.args.cell ≡ c.args.header.now.index3_null_offset = grind (arith, nat_tests) in (
-      λ yes. null_cell_is g.T.TrieValue.of_number c.args.header.now (g.C.Cells.index c.args.cells.now)
-          (g.C.Cells.values c.args.cells.now) c.args.cell is (c.requires.null_cell.0 yes),
+      λ yes. null_cell_is g.T.TrieValue.of_number c.args.header.now (g.C.Cells.contents c.args.cells.now).index
+          (g.C.Cells.contents c.args.cells.now).values c.args.cell is (c.requires.null_cell.0 yes),
       λ cell. c.requires.null_cell.1 (rw is at (cell.1 is)),
     )

@@ -13,9 +13,10 @@ returns-in_err-reach-clause-run g c =
     let most = (fast_limit_most c.args.header.now.trie_type).1 in
     let len = c.min-len.ensures in
     let begun = c.requires.begun in let high = c.requires.high in let from = c.requires.from in
-    let before : Holds (seen g.T.TrieValue.of_number c.args.header.now (g.C.Cells.index c.args.cells.now)
-    (g.C.Cells.values c.args.cells.now)) c.args.c (c.args.c / 512 * 512) c.args.value = λ u a b. absurd (omega (arith, a, b)) in
-    let agree = seen-cell g.T.TrieValue.of_number c.args.header.now (g.C.Cells.index c.args.cells.now) (g.C.Cells.values c.args.cells.now)
+    let before : Holds (seen g.T.TrieValue.of_number c.args.header.now (g.C.Cells.contents c.args.cells.now)) c.args.c
+    (c.args.c / 512 * 512) c.args.value = λ u a b. absurd (omega (arith, a, b)) in
+    let agree = seen-cell g.T.TrieValue.of_number c.args.header.now (g.C.Cells.contents c.args.cells.now).index
+    (g.C.Cells.contents c.args.cells.now).values
     (c.args.c / 512 * 512) c.args.cell c.min-len.result (c.args.c / 512 * 512 + c.min-len.result) (omega arith)
     (omega (arith, from, most)) (omega (arith, len, high, begun)) (omega (arith, len, high, begun)) (omega arith)
     (omega (arith, len)) c.requires.block in
@@ -26,9 +27,10 @@ returns-then-reach-len-clause-run g c =
     let most = (fast_limit_most c.args.header.now.trie_type).1 in
     let len = c.min-len.ensures in
     let begun = c.requires.begun in let high = c.requires.high in let from = c.requires.from in
-    let before : Holds (seen g.T.TrieValue.of_number c.args.header.now (g.C.Cells.index c.args.cells.now)
-    (g.C.Cells.values c.args.cells.now)) c.args.c (c.args.c / 512 * 512) c.args.value = λ u a b. absurd (omega (arith, a, b)) in
-    let agree = seen-cell g.T.TrieValue.of_number c.args.header.now (g.C.Cells.index c.args.cells.now) (g.C.Cells.values c.args.cells.now)
+    let before : Holds (seen g.T.TrieValue.of_number c.args.header.now (g.C.Cells.contents c.args.cells.now)) c.args.c
+    (c.args.c / 512 * 512) c.args.value = λ u a b. absurd (omega (arith, a, b)) in
+    let agree = seen-cell g.T.TrieValue.of_number c.args.header.now (g.C.Cells.contents c.args.cells.now).index
+    (g.C.Cells.contents c.args.cells.now).values
     (c.args.c / 512 * 512) c.args.cell c.min-len.result (c.args.c / 512 * 512 + c.min-len.result) (omega arith)
     (omega (arith, from, most)) (omega (arith, len, high, begun)) (omega (arith, len, high, begun)) (omega arith)
     (omega (arith, len)) c.requires.block in
@@ -40,14 +42,15 @@ returns-clause-run g c =
     let most = (fast_limit_most c.args.header.now.trie_type).1 in
     let len = c.min-len.ensures in
     let begun = c.requires.begun in let high = c.requires.high in let from = c.requires.from in
-    let before : Holds (seen g.T.TrieValue.of_number c.args.header.now (g.C.Cells.index c.args.cells.now)
-    (g.C.Cells.values c.args.cells.now)) c.args.c (c.args.c / 512 * 512) c.args.value = λ u a b. absurd (omega (arith, a, b)) in
-    let agree = seen-cell g.T.TrieValue.of_number c.args.header.now (g.C.Cells.index c.args.cells.now) (g.C.Cells.values c.args.cells.now)
+    let before : Holds (seen g.T.TrieValue.of_number c.args.header.now (g.C.Cells.contents c.args.cells.now)) c.args.c
+    (c.args.c / 512 * 512) c.args.value = λ u a b. absurd (omega (arith, a, b)) in
+    let agree = seen-cell g.T.TrieValue.of_number c.args.header.now (g.C.Cells.contents c.args.cells.now).index
+    (g.C.Cells.contents c.args.cells.now).values
     (c.args.c / 512 * 512) c.args.cell c.min-len.result (c.args.c / 512 * 512 + c.min-len.result) (omega arith)
     (omega (arith, from, most)) (omega (arith, len, high, begun)) (omega (arith, len, high, begun)) (omega arith)
     (omega (arith, len)) c.requires.block in
-    let rest = rw (c.in_ok-reach.ensures.same_index, c.in_ok-reach.ensures.same_values) at c.extend_to_end.ensures.run in
-    Reaches-after (seen g.T.TrieValue.of_number c.args.header.now (g.C.Cells.index c.args.cells.now) (g.C.Cells.values c.args.cells.now))
+    let rest = rw c.in_ok-reach.ensures.kept at c.extend_to_end.ensures.run in
+    Reaches-after (seen g.T.TrieValue.of_number c.args.header.now (g.C.Cells.contents c.args.cells.now))
     c.args.c (c.args.c / 512 * 512 + c.min-len.result) 1114112 c.args.value c.extend_to_end.result
     (Holds-over_block before agree (omega arith)
     (c.args.c / 512 * 512 + c.min-len.result) c.in_ok-reach.reach c.in_ok-reach.ensures.run c.if-reach-len.false (omega arith))
@@ -84,6 +87,6 @@ returns-clause-reads g c = λ coherent shares.
     let blocks = SharesBlocks-from_shared coherent shares (c.args.c / 512 * 512) c.args.cell (omega arith) (omega (arith, from, most))
     (omega (arith, high, begun, aligned)) c.requires.block in
     let read = c.in_ok-reach.ensures.reads blocks (omega (arith, len, high, begun, aligned, within)) in
-    let rest = rw (c.in_ok-reach.ensures.same_index, c.in_ok-reach.ensures.same_values) at c.extend_to_end.ensures.reads in
+    let rest = rw c.in_ok-reach.ensures.kept at c.extend_to_end.ensures.reads in
     let more = rest coherent shares in
     omega (arith, read, more)

@@ -5,18 +5,20 @@ use Rattle.icu_trie_core.proofs.extend.extend_to_end.Goals as goal
 pub returns-in_err-high_is-clause-run : goal.returns-in_err-high_is-clause-run
 returns-in_err-high_is-clause-run g c =
     let none : c.from_residual-in_err-high_is.result ≡ None = search rules in
-    let e = rw c.in_ok-end.ensures.same_values at c.in_err-high_is.ensures.same in
-    rw none (BreaksOff-at_high g.T.TrieValue.of_number c.args.header.now (g.C.Cells.index c.args.cells.now)
-    (g.C.Cells.values c.args.cells.now) (omega arith) c.in_ok-end.ensures.run c.if-end-limit.false (omega arith) e)
+    let e = rw c.in_ok-end.ensures.kept at c.in_err-high_is.ensures.same in
+    rw none (BreaksOff-at_high g.T.TrieValue.of_number c.args.header.now (g.C.Cells.contents c.args.cells.now).index
+    (g.C.Cells.contents c.args.cells.now).values (omega arith) c.in_ok-end.ensures.run c.if-end-limit.false (omega arith) e)
 
 pub returns-then-branch-clause-run : goal.returns-then-branch-clause-run
 returns-then-branch-clause-run g c =
-    let e = rw (c.in_ok-end.ensures.same_values, c.if-branch.true) at c.in_ok-high_is.ensures.same in
-    EndsAt-over_high g.T.TrieValue.of_number c.args.header.now (g.C.Cells.index c.args.cells.now) (g.C.Cells.values c.args.cells.now)
+    let e = rw (c.in_ok-end.ensures.kept, c.if-branch.true) at c.in_ok-high_is.ensures.same in
+    EndsAt-over_high g.T.TrieValue.of_number c.args.header.now (g.C.Cells.contents c.args.cells.now).index
+    (g.C.Cells.contents c.args.cells.now).values
     (omega arith) c.in_ok-end.ensures.run c.if-end-limit.false (omega arith) e
 
 pub returns-else-branch-clause-run : goal.returns-else-branch-clause-run
 returns-else-branch-clause-run g c =
-    let e = rw (c.in_ok-end.ensures.same_values, c.if-branch.false) at c.in_ok-high_is.ensures.same in
-    EndsAt-at_high g.T.TrieValue.of_number c.args.header.now (g.C.Cells.index c.args.cells.now) (g.C.Cells.values c.args.cells.now)
+    let e = rw (c.in_ok-end.ensures.kept, c.if-branch.false) at c.in_ok-high_is.ensures.same in
+    EndsAt-at_high g.T.TrieValue.of_number c.args.header.now (g.C.Cells.contents c.args.cells.now).index
+    (g.C.Cells.contents c.args.cells.now).values
     (omega arith) c.in_ok-end.ensures.run c.if-end-limit.false (omega arith) e

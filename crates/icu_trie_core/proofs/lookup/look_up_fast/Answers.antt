@@ -7,7 +7,8 @@ pub data_at-requires : goal.data_at-requires
 data_at-requires g c =
     let header = c.args.header.now in
     let within : c.args.c / 64 < _ = in_fast_index header.trie_type c.args.c c.requires.below in
-    let inside = block_inside header.trie_type (g.C.Cells.index c.args.cells.now) (length (g.C.Cells.values c.args.cells.now))
+    let inside = block_inside header.trie_type (g.C.Cells.contents c.args.cells.now).index
+    (length (g.C.Cells.contents c.args.cells.now).values)
     (c.args.c / 64) c.index_at-offset.result
-    c.requires.blocks c.index_at-offset.ensures.cell within in
-    rw c.index_at-offset.ensures.same_values (omega (arith, inside, and_le_r c.args.c 63))
+    c.requires.whole.1 c.index_at-offset.ensures.cell within in
+    rw c.index_at-offset.ensures.kept (omega (arith, inside, and_le_r c.args.c 63))
