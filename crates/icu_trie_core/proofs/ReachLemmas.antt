@@ -8,6 +8,10 @@ pub Holds-below_limit : {A : Type 0} {f : ℕ → Option A} {start : ℕ} {value
     → Holds f start (min base limit) value → Holds f start base value
 Holds-below_limit base limit le holds u a b = holds u a (omega (arith, b, le))
 
+-- no place lies from start on and before base
+pub Holds-nothing : {A : Type 0} (f : ℕ → Option A) (value : A) {start base : ℕ} → base ≤ start → Holds f start base value
+Holds-nothing f value le = λ u a b. absurd (omega (arith, le, a, b))
+
 -- a block of len places at base, in which f is g. The value came up to the block, and place `from` is where it goes on
 module _ {A : Type 0} {f g : ℕ → Option A} {start base len from : ℕ} {value : A} (before : Holds f start base value)
     (agree : (i : ℕ) → i < len → f (base + i) ≡ g i) (from_is : from ≡ start - base) where

@@ -1,92 +1,81 @@
-use Rattle.std.proofs.Common.{rules, arith, ◌≡◌, ◌+◌, ◌*◌, ◌/◌, None}
-use Rattle.icu_trie_core.specs.Inside.Walk.{Holds}
+use Rattle.std.proofs.Common.{rules, arith, ◌≡◌, ℕ, ◌+◌, ◌-◌, ◌*◌, ◌/◌, ◌<◌, ◌≤◌, Option, Some, None, min}
+use Rattle.icu_trie_core.specs.Coherence.{IsCoherent, IsShared}
+use Rattle.icu_trie_core.specs.Contents.{Contents}
+use Rattle.icu_trie_core.specs.Format.{fast_limit, index2_cell}
+use Rattle.icu_trie_core.specs.Inside.Walk.{SharesBlocks, cell_seen}
 use Rattle.icu_trie_core.specs.Seen.{seen}
+use Rattle.icu_trie_core.specs.declared.header.CodePointTrieHeader.{CodePointTrieHeader}
 use Rattle.icu_trie_core.proofs.AnswerLemmas.{fast_limit_most}
-use Rattle.icu_trie_core.proofs.ReachLemmas.{EndsAt-in_block, BreaksOff-in_block, Holds-over_block, Reaches-after}
+use Rattle.icu_trie_core.proofs.ReachLemmas.{Holds-nothing, EndsAt-in_block, BreaksOff-in_block, Holds-over_block, Reaches-after}
 use Rattle.icu_trie_core.proofs.SeenLemmas.{seen-cell}
 use Rattle.icu_trie_core.proofs.SharedLemmas.{SharesBlocks-from_shared}
 use Rattle.icu_trie_core.proofs.extend.extend_from_small.Goals as goal
 
+module _ {A : Type 0} (of_number : ℕ → Option A) (h : CodePointTrieHeader) (cells : Contents A) {c cell limit : ℕ}
+    (begun : c < limit) (high : limit ≡ min h.high_start 0x110000) (from : fast_limit h.trie_type ≤ c)
+    (block : index2_cell h.trie_type cells.index (c / 512 * 512) ≡ Some cell) where
+  -- what is seen in that block, up to the limit, is what its cell says
+  agree : {len : ℕ} → len ≡ min (limit - c / 512 * 512) 512
+      → (i : ℕ) → i < len → seen of_number h cells (c / 512 * 512 + i) ≡ cell_seen of_number h cells cell i
+  agree {len} is =
+      let most = (fast_limit_most h.trie_type).1 in
+      seen-cell of_number h cells.index cells.values (c / 512 * 512) cell len (c / 512 * 512 + len) (omega arith)
+      (omega (arith, from, most)) (omega (arith, is, high, begun)) (omega (arith, is, high, begun)) (omega arith)
+      (omega (arith, is)) block
+
+  -- of a coherent and shared trie its blocks of 16 are shared
+  shares : IsCoherent of_number h cells → IsShared h cells → SharesBlocks of_number h cells cell
+  shares coherent shared =
+      let most = (fast_limit_most h.trie_type).1 in
+      let aligned = coherent.aligned in
+      SharesBlocks-from_shared coherent shared (c / 512 * 512) cell (omega arith) (omega (arith, from, most))
+      (omega (arith, high, begun, aligned)) block
+
 pub returns-in_err-reach-clause-run : goal.returns-in_err-reach-clause-run
 returns-in_err-reach-clause-run g c =
     let none : c.from_residual.result ≡ None = search rules in
-    let most = (fast_limit_most c.args.header.now.trie_type).1 in
-    let len = c.min-len.ensures in
-    let begun = c.requires.begun in let high = c.requires.high in let from = c.requires.from in
-    let before : Holds (seen g.T.TrieValue.of_number c.args.header.now (g.C.Cells.contents c.args.cells.now)) c.args.c
-    (c.args.c / 512 * 512) c.args.value = λ u a b. absurd (omega (arith, a, b)) in
-    let agree = seen-cell g.T.TrieValue.of_number c.args.header.now (g.C.Cells.contents c.args.cells.now).index
-    (g.C.Cells.contents c.args.cells.now).values
-    (c.args.c / 512 * 512) c.args.cell c.min-len.result (c.args.c / 512 * 512 + c.min-len.result) (omega arith)
-    (omega (arith, from, most)) (omega (arith, len, high, begun)) (omega (arith, len, high, begun)) (omega arith)
-    (omega (arith, len)) c.requires.block in
-    rw none (BreaksOff-in_block before agree (omega arith) 1114112 (omega (arith, len, high, begun)) c.in_err-reach.ensures.run)
+    let r = c.requires in let len = c.min-len.ensures in let begun = r.begun in let high = r.high in
+    rw none (BreaksOff-in_block (Holds-nothing _ _ (omega arith)) (agree _ _ _ begun high r.from r.block len) (omega arith) 1114112
+    (omega (arith, len, high, begun)) c.in_err-reach.ensures.run)
 
 pub returns-then-reach-len-clause-run : goal.returns-then-reach-len-clause-run
 returns-then-reach-len-clause-run g c =
-    let most = (fast_limit_most c.args.header.now.trie_type).1 in
-    let len = c.min-len.ensures in
-    let begun = c.requires.begun in let high = c.requires.high in let from = c.requires.from in
-    let before : Holds (seen g.T.TrieValue.of_number c.args.header.now (g.C.Cells.contents c.args.cells.now)) c.args.c
-    (c.args.c / 512 * 512) c.args.value = λ u a b. absurd (omega (arith, a, b)) in
-    let agree = seen-cell g.T.TrieValue.of_number c.args.header.now (g.C.Cells.contents c.args.cells.now).index
-    (g.C.Cells.contents c.args.cells.now).values
-    (c.args.c / 512 * 512) c.args.cell c.min-len.result (c.args.c / 512 * 512 + c.min-len.result) (omega arith)
-    (omega (arith, from, most)) (omega (arith, len, high, begun)) (omega (arith, len, high, begun)) (omega arith)
-    (omega (arith, len)) c.requires.block in
-    EndsAt-in_block before agree (omega arith) 1114112 c.in_ok-reach.reach (omega (arith, len, high, begun)) c.if-reach-len.true
-    c.in_ok-reach.ensures.run
+    let r = c.requires in let len = c.min-len.ensures in let begun = r.begun in let high = r.high in
+    EndsAt-in_block (Holds-nothing _ _ (omega arith)) (agree _ _ _ begun high r.from r.block len) (omega arith) 1114112 c.in_ok-reach.reach
+    (omega (arith, len, high, begun)) c.if-reach-len.true c.in_ok-reach.ensures.run
 
 pub returns-clause-run : goal.returns-clause-run
 returns-clause-run g c =
-    let most = (fast_limit_most c.args.header.now.trie_type).1 in
-    let len = c.min-len.ensures in
-    let begun = c.requires.begun in let high = c.requires.high in let from = c.requires.from in
-    let before : Holds (seen g.T.TrieValue.of_number c.args.header.now (g.C.Cells.contents c.args.cells.now)) c.args.c
-    (c.args.c / 512 * 512) c.args.value = λ u a b. absurd (omega (arith, a, b)) in
-    let agree = seen-cell g.T.TrieValue.of_number c.args.header.now (g.C.Cells.contents c.args.cells.now).index
-    (g.C.Cells.contents c.args.cells.now).values
-    (c.args.c / 512 * 512) c.args.cell c.min-len.result (c.args.c / 512 * 512 + c.min-len.result) (omega arith)
-    (omega (arith, from, most)) (omega (arith, len, high, begun)) (omega (arith, len, high, begun)) (omega arith)
-    (omega (arith, len)) c.requires.block in
+    let r = c.requires in let len = c.min-len.ensures in let begun = r.begun in
     let rest = rw c.in_ok-reach.ensures.kept at c.extend_to_end.ensures.run in
     Reaches-after (seen g.T.TrieValue.of_number c.args.header.now (g.C.Cells.contents c.args.cells.now))
     c.args.c (c.args.c / 512 * 512 + c.min-len.result) 1114112 c.args.value c.extend_to_end.result
-    (Holds-over_block before agree (omega arith)
+    (Holds-over_block (Holds-nothing _ _ (omega arith)) (agree _ _ _ begun r.high r.from r.block len) (omega arith)
     (c.args.c / 512 * 512 + c.min-len.result) c.in_ok-reach.reach c.in_ok-reach.ensures.run c.if-reach-len.false (omega arith))
     (omega (arith, len, begun)) rest
 
 pub returns-in_err-reach-clause-reads : goal.returns-in_err-reach-clause-reads
-returns-in_err-reach-clause-reads g c = λ coherent shares.
-    let most = (fast_limit_most c.args.header.now.trie_type).1 in
-    let len = c.min-len.ensures in
-    let begun = c.requires.begun in let high = c.requires.high in let from = c.requires.from in
+returns-in_err-reach-clause-reads g c = λ coherent shared.
+    let r = c.requires in let len = c.min-len.ensures in let begun = r.begun in let high = r.high in
     let aligned = coherent.aligned in let within = coherent.within in
-    let blocks = SharesBlocks-from_shared coherent shares (c.args.c / 512 * 512) c.args.cell (omega arith) (omega (arith, from, most))
-    (omega (arith, high, begun, aligned)) c.requires.block in
-    let read = c.in_err-reach.ensures.reads blocks (omega (arith, len, high, begun, aligned, within)) in
+    let read = c.in_err-reach.ensures.reads (shares _ _ _ begun high r.from r.block coherent shared)
+    (omega (arith, len, high, begun, aligned, within)) in
     omega (arith, read)
 
 pub returns-then-reach-len-clause-reads : goal.returns-then-reach-len-clause-reads
-returns-then-reach-len-clause-reads g c = λ coherent shares.
-    let most = (fast_limit_most c.args.header.now.trie_type).1 in
-    let len = c.min-len.ensures in
-    let begun = c.requires.begun in let high = c.requires.high in let from = c.requires.from in
+returns-then-reach-len-clause-reads g c = λ coherent shared.
+    let r = c.requires in let len = c.min-len.ensures in let begun = r.begun in let high = r.high in
     let aligned = coherent.aligned in let within = coherent.within in
-    let blocks = SharesBlocks-from_shared coherent shares (c.args.c / 512 * 512) c.args.cell (omega arith) (omega (arith, from, most))
-    (omega (arith, high, begun, aligned)) c.requires.block in
-    let read = c.in_ok-reach.ensures.reads blocks (omega (arith, len, high, begun, aligned, within)) in
+    let read = c.in_ok-reach.ensures.reads (shares _ _ _ begun high r.from r.block coherent shared)
+    (omega (arith, len, high, begun, aligned, within)) in
     omega (arith, read)
 
 pub returns-clause-reads : goal.returns-clause-reads
-returns-clause-reads g c = λ coherent shares.
-    let most = (fast_limit_most c.args.header.now.trie_type).1 in
-    let len = c.min-len.ensures in
-    let begun = c.requires.begun in let high = c.requires.high in let from = c.requires.from in
+returns-clause-reads g c = λ coherent shared.
+    let r = c.requires in let len = c.min-len.ensures in let begun = r.begun in let high = r.high in
     let aligned = coherent.aligned in let within = coherent.within in
-    let blocks = SharesBlocks-from_shared coherent shares (c.args.c / 512 * 512) c.args.cell (omega arith) (omega (arith, from, most))
-    (omega (arith, high, begun, aligned)) c.requires.block in
-    let read = c.in_ok-reach.ensures.reads blocks (omega (arith, len, high, begun, aligned, within)) in
+    let read = c.in_ok-reach.ensures.reads (shares _ _ _ begun high r.from r.block coherent shared)
+    (omega (arith, len, high, begun, aligned, within)) in
     let rest = rw c.in_ok-reach.ensures.kept at c.extend_to_end.ensures.reads in
-    let more = rest coherent shares in
+    let more = rest coherent shared in
     omega (arith, read, more)

@@ -7,8 +7,7 @@ pub returns-in_err-index_cell-clause-gives : goal.returns-in_err-index_cell-clau
 returns-in_err-index_cell-clause-gives g c =
     let none : c.from_residual.result ≡ None = search rules in
     let begun = c.requires.begun in let high = c.requires.high in
-    rw none (GivesWalk-from_none g.T.TrieValue.of_number c.args.header.now (g.C.Cells.contents c.args.cells.now).index
-    (g.C.Cells.contents c.args.cells.now).values c.args.c
+    rw none (GivesWalk-from_none _ _ _ _ _
     (fast_none c.args.header.now (g.C.Cells.contents c.args.cells.now).index
     (g.C.Cells.contents c.args.cells.now).values c.args.c (omega (arith, begun, high)) c.requires.fast
     (sym c.in_err-index_cell.ensures.cell)))
@@ -19,8 +18,7 @@ returns-in_err-value-clause-gives g c =
     let begun = c.requires.begun in let high = c.requires.high in
     let here = sym c.in_ok-index_cell.ensures.cell ∙ ap (λ o. Some o) (sym c.from-offset.ensures) in
     let cell = rw c.in_ok-index_cell.ensures.kept at c.in_err-value.ensures.cell in
-    rw none (GivesWalk-from_none g.T.TrieValue.of_number c.args.header.now (g.C.Cells.contents c.args.cells.now).index
-    (g.C.Cells.contents c.args.cells.now).values c.args.c
+    rw none (GivesWalk-from_none _ _ _ _ _
     (fast_answer c.args.header.now (g.C.Cells.contents c.args.cells.now).index
     (g.C.Cells.contents c.args.cells.now).values c.args.c c.from-offset.result (omega (arith, begun, high)) c.requires.fast here
     ∙ sym cell))
@@ -35,8 +33,7 @@ returns-in_err-end-clause-gives g c =
     (g.C.Cells.contents c.args.cells.now).values c.args.c c.from-offset.result (omega (arith, begun, high)) c.requires.fast here
     ∙ sym cell in
     let run = rw (c.in_ok-value.ensures.kept, c.in_ok-index_cell.ensures.kept) at c.in_err-end.ensures.run in
-    rw none (GivesWalk-from_break g.T.TrieValue.of_number c.args.header.now (g.C.Cells.contents c.args.cells.now).index
-    (g.C.Cells.contents c.args.cells.now).values c.args.c c.in_ok-value.value is (omega (arith, begun, high)) run)
+    rw none (GivesWalk-from_break _ _ _ _ _ c.in_ok-value.value is (omega (arith, begun, high)) run)
 
 pub returns-clause-gives : goal.returns-clause-gives
 returns-clause-gives g c =
@@ -48,6 +45,5 @@ returns-clause-gives g c =
     ∙ sym cell in
     let run = rw (c.in_ok-value.ensures.kept, c.in_ok-index_cell.ensures.kept) at c.in_ok-end.ensures.run in
     let range = c.range_up_to.ensures in
-    GivesWalk-from_ends g.T.TrieValue.of_number c.args.header.now (g.C.Cells.contents c.args.cells.now).index
-    (g.C.Cells.contents c.args.cells.now).values c.args.c c.range_up_to.result.range c.range_up_to.result.value c.in_ok-end.end range.first
+    GivesWalk-from_ends _ _ _ _ _ c.range_up_to.result.range c.range_up_to.result.value c.in_ok-end.end range.first
     range.last range.fresh (rw range.same is) (omega (arith, begun, high)) (omega (arith, begun, high)) (rw range.same run)
