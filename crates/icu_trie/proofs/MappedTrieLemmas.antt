@@ -5,15 +5,18 @@ use Rattle.std.specs.Result.{IsErr, IsErrAnd}
 use Rattle.std.proofs.lemmas.Option.{slice_get-map}
 use Rattle.icu_trie_core.specs.Contents.{contents_of}
 use Rattle.icu_trie_core.specs.declared.header.CodePointTrieHeader.{CodePointTrieHeader}
-use Rattle.icu_trie.specs.Parts.{trie_value, last_cell}
+use Rattle.icu_trie.specs.Parts.{Parts, trie_value, last_cell}
 use Rattle.icu_trie_core.specs.Format.{answer, place, high_cell, high_value}
 use Rattle.icu_trie_core.specs.Coherence.{IsCoherent, AnswersNull}
 use Rattle.icu_trie.specs.Conversion.{with_null_value}
-use Rattle.icu_trie.specs.MappedTrie.{ok_answer, AnswersAlways, CallsInTurn}
+use Rattle.icu_trie.specs.Ranges.{answers, IsCoherentTrie}
+use Rattle.icu_trie.specs.declared.map_value.MapError.{MapError}
+use Rattle.icu_trie.specs.declared.map_value.MapError.TheVariants.{Memory}
+use Rattle.icu_trie.specs.MappedTrie.{ok_answer, AnswersAlways, CallsInTurn, IsMapOfTrie, AnswersAll, BreaksOffAt, MapsInTurn}
 
 module _ {F A B E : Type 0} (step : F → A → Result B E → F → Type 0) (h : A → Result B E) (always : AnswersAlways step h) where
   -- answers at all of xs are h of each
-  pub answers-by : (f : F) (xs : List A) (ys : List B) (g : F) → CallsInTurn step f xs ys None g → length ys ≡ length xs
+  answers-by : (f : F) (xs : List A) (ys : List B) (g : F) → CallsInTurn step f xs ys None g → length ys ≡ length xs
       → map (ok_answer {E = E}) ys ≡ map h xs
   answers-by f [] [] g calls same = refl
   answers-by f (x ∷ xs) [] g calls same = absurd (omega (arith, same))
@@ -41,7 +44,7 @@ module _ {A B E : Type 0} (h : A → Result B E) (header : CodePointTrieHeader) 
   at_place (Some i) = at_cell i
 
   -- the answers of the trie of the answers
-  pub answers-mapped : (u : ℕ) → option_map (ok_answer {E = E}) (answer (with_null_value header number) (contents_of index ys) u)
+  answers-mapped : (u : ℕ) → option_map (ok_answer {E = E}) (answer (with_null_value header number) (contents_of index ys) u)
       ≡ option_map h (answer header (contents_of index xs) u)
   unfolding answer
   answers-mapped u = rw same (at_place (place header index (length xs) u))
@@ -61,7 +64,7 @@ module _ {A B E : Type 0} (h : A → Result B E) (header : CodePointTrieHeader) 
   last-mapped = rw same (at_cell (length xs - 1))
 
   -- the value of the trie of the answers, also where it is the error value
-  pub value-mapped : (u : ℕ) → option_map (ok_answer {E = E})
+  value-mapped : (u : ℕ) → option_map (ok_answer {E = E})
       (trie_value (record { header = with_null_value header number; index = index; values = ys }) u)
       ≡ option_map h (trie_value (record { header = header; index = index; values = xs }) u)
   value-mapped u = or-mapped _ _ _ _ (answers-mapped u) last-mapped
@@ -80,7 +83,7 @@ module _ {A B E : Type 0} (h : A → Result B E) (header : CodePointTrieHeader) 
         ∙ (ap (option_map h) (is i lt ∙ before) ∙ (ap (λ r. Some r) null ∙ ap (option_map (ok_answer {E = E})) (sym after))))
 
     -- a coherent trie stays one
-    pub IsCoherent-mapped : IsCoherent of_number header (contents_of index xs)
+    IsCoherent-mapped : IsCoherent of_number header (contents_of index xs)
         → IsCoherent of_other (with_null_value header number) (contents_of index ys)
     IsCoherent-mapped coherent = record {
       aligned = coherent.aligned;
@@ -115,8 +118,106 @@ module _ {F A B E : Type 0} (step : F → A → Result B E → F → Type 0) (f0
       let all = onward [] (Some e) next at in
       rw (append-nil answers) at all
 
--- what `?` hands on is an error
-pub handed_on : {V E : Type 0} {Q : E → Type 0} (C : Result V E → Type 0) (r : Result V E) → IsErr r × IsErrAnd r Q
-    → ((e : E) → Q e → C (Err e)) → C r
-handed_on C (Ok v) h each = absurd (let no = h.0 in cc)
-handed_on C (Err e) h each = each e h.1
+-- what `?` hands on is that error
+handed_on : {V E : Type 0} (C : Result V E → Type 0) (e : E) (r : Result V E) → IsErr r × IsErrAnd r (λ k. k ≡ e) → C (Err e) → C r
+handed_on C e (Ok v) h at = absurd (let no = h.0 in cc)
+handed_on C e (Err k) h at = rw h.1 at
+
+-- ---- the parts v of a trie that is seen as p, its error value and its null value
+module _ {F T P E : Type 0} {step : F → T → Result P E → F → Type 0} {f : F} {of_number : ℕ → Option T} {number : P → ℕ} {v p : Parts T}
+    {error null : T} (seen : v ≡ p) (error_is : last_cell v.values ≡ Some error) (null_is : of_number p.header.null_value ≡ Some null) where
+  -- calls in turn at the values of v are calls at those of p
+  pub MapsInTurn-seen : {result : Result (Parts P) (MapError E)} (answered : List P) (refusal : Option E) (last : F)
+      → CallsInTurn step f (error ∷ null ∷ v.values) answered refusal last → IsMapOfTrie number v answered refusal result
+      → MapsInTurn step f of_number number p result
+  MapsInTurn-seen answered refusal last calls gives = rw (← seen) (record {
+    error = error;
+    error_is = error_is;
+    null = null;
+    null_is = rw (← seen) at null_is;
+    answers = answered;
+    refusal = refusal;
+    last = last;
+    calls = calls;
+    gives = gives;
+  })
+
+  module _ (s t : F) (y z : P) {xs : List T} (first : step f error (Ok y) s) (second : step s null (Ok z) t) (are : xs ≡ v.values) where
+    -- the error value and the null value were answered, and the calls at the cells gave this
+    MapsInTurn-at_cells : {result : Result (Parts P) (MapError E)} (values : List P) (refusal : Option E) (last : F)
+        → CallsInTurn step t xs values refusal last → IsMapOfTrie number v (y ∷ z ∷ values) refusal result
+        → MapsInTurn step f of_number number p result
+    MapsInTurn-at_cells values refusal last calls gives =
+        MapsInTurn-seen (y ∷ z ∷ values) refusal last (s, first, (t, second, rw are at calls)) gives
+
+    -- the calls at the cells broke off
+    pub MapsInTurn-breaks_off : {e : MapError E} → BreaksOffAt step t xs e → {r : Result (Parts P) (MapError E)}
+        → IsErr r × IsErrAnd r (λ k. k ≡ e) → MapsInTurn step f of_number number p r
+    MapsInTurn-breaks_off {e = e} cells {r = r} handed = handed_on (MapsInTurn step f of_number number p) e r handed
+        (MapsInTurn-at_cells cells.answers cells.refusal cells.last cells.calls cells.why)
+
+    -- all were answered, but there was no memory for the new trie
+    pub MapsInTurn-no_memory : {values : List P} → AnswersAll step t xs values → {r : Result (Parts P) (MapError E)}
+        → IsErr r × IsErrAnd r (λ k. k ≡ Memory) → MapsInTurn step f of_number number p r
+    MapsInTurn-no_memory {values = values} cells {r = r} handed = handed_on (MapsInTurn step f of_number number p) Memory r handed
+        (MapsInTurn-at_cells values None cells.last cells.calls refl)
+
+    -- all were answered, and the answers are the data of the new trie
+    pub MapsInTurn-answered : {values : List P} → AnswersAll step t xs values → {made : Parts P}
+        → made ≡ record { header = with_null_value v.header (number z); index = v.index; values = values }
+        → MapsInTurn step f of_number number p (Ok made)
+    MapsInTurn-answered {values = values} cells is =
+        let whole = cells.whole in MapsInTurn-at_cells values None cells.last cells.calls (refl, (rw are at whole, is))
+
+-- the parts t are made of values of h: of its values at the null value and at each cell of p
+record IsMadeBy {T P E : Type 0} (number : P → ℕ) (h : T → Result P E) (null : T) (p : Parts T) (t : Parts P) : Type 0 where
+  at_null : P
+  null_is : h null ≡ Ok at_null
+  values : List P
+  mapped : map (ok_answer {E = E}) values ≡ map h p.values
+  same : length values ≡ length p.values
+  is : t ≡ record { header = with_null_value p.header (number at_null); index = p.index; values = values }
+
+-- ---- a closure that always answers h of its argument
+module _ {F T P E : Type 0} {step : F → T → Result P E → F → Type 0} (h : T → Result P E) (always : AnswersAlways step h) where
+  -- the trie of its answers is made of values of h
+  made_by : (number : P → ℕ) {p : Parts T} {t : Parts P} (f : F) (error null : T) (answered : List P) (refusal : Option E) (last : F)
+      → CallsInTurn step f (error ∷ null ∷ p.values) answered refusal last → IsMapOfTrie number p answered refusal (Ok t)
+      → IsMadeBy number h null p t
+  made_by number f error null [] refusal last calls gives = absurd gives.1
+  made_by number f error null (x ∷ []) refusal last calls gives = absurd gives.1
+  made_by number f error null (x ∷ y ∷ values) (Some e) last calls gives = absurd (let no = gives.0 in cc)
+  made_by number {p = p} f error null (x ∷ y ∷ values) None last calls gives = record {
+    at_null = y;
+    null_is = sym (always calls.0 null (Ok y) calls.2.0 calls.2.1);
+    values = values;
+    mapped = answers-by step h always calls.2.0 p.values values last calls.2.2 gives.1.0;
+    same = gives.1.0;
+    is = gives.1.1;
+  }
+
+  -- ---- it was called in turn, and t is the trie of its answers
+  module _ {f : F} {of_number : ℕ → Option T} {number : P → ℕ} {p : Parts T} {t : Parts P}
+      (maps : MapsInTurn step f of_number number p (Ok t)) where
+    -- t is made of values of h
+    made : IsMadeBy number h maps.null p t
+    made = made_by number f maps.error maps.null maps.answers maps.refusal maps.last maps.calls maps.gives
+
+    -- the answers of t
+    pub answers-from_maps : (u : ℕ) → option_map (ok_answer {E = E}) (answers t u) ≡ option_map h (answers p u)
+    answers-from_maps u = let m = made in
+        rw m.is (answers-mapped h p.header p.index p.values m.values (number m.at_null) m.mapped m.same u)
+
+    -- the values of t, also where they are the error value
+    pub value-from_maps : (u : ℕ) → option_map (ok_answer {E = E}) (trie_value t u) ≡ option_map h (trie_value p u)
+    value-from_maps u = let m = made in
+        rw m.is (value-mapped h p.header p.index p.values m.values (number m.at_null) m.mapped m.same u)
+
+    -- t is coherent where p is
+    pub IsCoherent-from_maps : (of_other : ℕ → Option P) (null : T) (y : P) → of_number p.header.null_value ≡ Some null → h null ≡ Ok y
+        → of_other (number y) ≡ Some y → IsCoherentTrie of_number p → IsCoherentTrie of_other t
+    IsCoherent-from_maps of_other null y null_is y_is after coherent =
+        let m = made in
+        let same : y ≡ m.at_null = cc (maps.null_is, m.null_is) in
+        rw m.is (IsCoherent-mapped h p.header p.index p.values m.values (number m.at_null) m.mapped m.same of_number of_other maps.null
+        m.at_null maps.null_is (rw same at after) m.null_is coherent)
