@@ -5,7 +5,9 @@ use Rattle.std.specs.Option.{option_or}
 use Rattle.std.specs.Ordering.{on, eq_of_both}
 use Rattle.icu_zerovec.specs.Cells.{same_bytes}
 use Rattle.icu_zerovec.specs.PackedBytes.{low_bytes}
-use Rattle.icu_trie_core.specs.Contents.{contents_of}
+use Rattle.icu_zerovec.specs.Slice.{slice_values}
+use Rattle.icu_zerovec.specs.declared.slice.ZeroSlice.{ZeroSlice}
+use Rattle.icu_trie_core.specs.Contents.{Contents, contents_of}
 use Rattle.icu_trie_core.specs.declared.header.CodePointTrieHeader.{CodePointTrieHeader}
 use Rattle.icu_trie_core.specs.declared.error.CodePointTrieError.{CodePointTrieError}
 use Rattle.icu_trie_core.specs.declared.error.CodePointTrieError.TheVariants.{EmptyDataVector, InvalidNullValue, IndexTooShortForFastAccess, DataTooShortForFastAccess}
@@ -19,6 +21,10 @@ pub record Parts (T : Type 0) : Type 0 where
   pub header : CodePointTrieHeader
   pub index : List ℕ
   pub values : List T
+
+-- the cells of two packed vectors
+abbrev pub cells_in : {T : Type 0} {m : _} {n : _} → ZeroSlice ℕ m → ZeroSlice T n → Contents T
+cells_in index values = contents_of (slice_values index) (slice_values values)
 
 -- the last cell of the data, which is the error value
 abbrev pub last_cell : {T : Type 0} → List T → Option T

@@ -1,8 +1,7 @@
 //! Whether what a trie's header says is so.
 ghost use Rattle.std.specs.Prelude.{◌≡◌, ◌<◌, ◌↔◌, IsTrue};
-ghost use Rattle.icu_trie_core.specs.Contents.{contents_of};
 ghost use Rattle.icu_trie_core.specs.Coherence.{IsCoherent};
-ghost use Rattle.icu_zerovec.specs.Slice.{slice_values};
+ghost use Rattle.icu_trie.specs.Parts.{cells_in};
 
 use crate::cptrie::CodePointTrie;
 use crate::packed_cells::PackedCells;
@@ -25,8 +24,7 @@ fn is_coherent_counted<T: TrieValue, L: Ledger>(
     requires parts { blank.parts ≡ L.parts }
     requires some { 0 < blank.parts }
     ensures { IsTrue result
-        ↔ IsCoherent T.of_number header.now
-        (contents_of (slice_values index.entry) (slice_values values.entry)) }
+        ↔ IsCoherent T.of_number header.now (cells_in index.entry values.entry) }
 {
     let mut cells = PackedCells {
         index,
@@ -43,8 +41,7 @@ fn is_coherent_in<T: TrieValue>(
     values: ZeroSlice<'_, T>,
 ) -> bool
     ensures { IsTrue result
-        ↔ IsCoherent T.of_number header.now
-        (contents_of (slice_values index.entry) (slice_values values.entry)) }
+        ↔ IsCoherent T.of_number header.now (cells_in index.entry values.entry) }
 {
     is_coherent_counted::<T, Brand>(header, index, values, Blank::new(1))
 }

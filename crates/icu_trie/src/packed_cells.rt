@@ -1,12 +1,11 @@
 //! The cells of two packed vectors, and what is read through them alone.
 ghost use Rattle.std.specs.Prelude.{◌≡◌, ℕ, ◌<◌, ◌≤◌, List, length, Some, IfSome, IfNone, IsSomeAnd, false};
-ghost use Rattle.icu_trie_core.specs.Contents.{contents_of};
 ghost use Rattle.icu_trie_core.specs.Coherence.{IsCoherent};
 ghost use Rattle.icu_trie_core.specs.FastIndex.{IsWhole};
 ghost use Rattle.icu_trie_core.specs.Format.{answer, fast_limit};
 ghost use Rattle.icu_trie_core.specs.Range.{GivesWalk, last_of};
 ghost use Rattle.icu_trie_core.specs.Runs.{LongestRun};
-ghost use Rattle.icu_zerovec.specs.Slice.{slice_values};
+ghost use Rattle.icu_trie.specs.Parts.{cells_in};
 
 use icu_trie_core::cells::{Cells, Steps};
 use icu_trie_core::header::CodePointTrieHeader;
@@ -27,8 +26,7 @@ pub(crate) struct PackedCells<'a, T: TrieValue, L: Ledger> {
 }
 
 impl<'a, T: TrieValue, L: Ledger> Cells<T> for PackedCells<'a, T, L> {
-    ghost contents = { λ cells.
-        contents_of (slice_values cells.index) (slice_values cells.values) };
+    ghost contents = { λ cells. cells_in cells.index cells.values };
 
     ghost reads = { λ cells. cells.reads };
 
@@ -79,11 +77,9 @@ fn look_up_fast_counted<T: TrieValue, L: Ledger>(
     requires name { blank.name ≡ L.name }
     requires parts { blank.parts ≡ L.parts }
     requires some { 0 < blank.parts }
-    requires whole { IsWhole header.now.trie_type
-        (contents_of (slice_values index) (slice_values values)) }
+    requires whole { IsWhole header.now.trie_type (cells_in index values) }
     requires below { c < fast_limit header.now.trie_type }
-    ensures { answer header.now (contents_of (slice_values index.entry) (slice_values values.entry))
-        c ≡ Some result }
+    ensures { answer header.now (cells_in index.entry values.entry) c ≡ Some result }
 {
     let mut cells = PackedCells {
         index,
@@ -101,11 +97,9 @@ pub(crate) fn look_up_fast_in<T: TrieValue>(
     values: ZeroSlice<'_, T>,
     c: u32,
 ) -> T
-    requires whole { IsWhole header.now.trie_type
-        (contents_of (slice_values index) (slice_values values)) }
+    requires whole { IsWhole header.now.trie_type (cells_in index values) }
     requires below { c < fast_limit header.now.trie_type }
-    ensures { answer header.now (contents_of (slice_values index.entry) (slice_values values.entry))
-        c ≡ Some result }
+    ensures { answer header.now (cells_in index.entry values.entry) c ≡ Some result }
 {
     look_up_fast_counted::<T, Brand>(header, index, values, c, Blank::new(1))
 }
@@ -122,13 +116,11 @@ fn look_up_high_counted<T: TrieValue, L: Ledger>(
     requires name { blank.name ≡ L.name }
     requires parts { blank.parts ≡ L.parts }
     requires some { 0 < blank.parts }
-    requires whole { IsWhole header.now.trie_type
-        (contents_of (slice_values index) (slice_values values)) }
+    requires whole { IsWhole header.now.trie_type (cells_in index values) }
     requires from { fast_limit header.now.trie_type ≤ c }
     requires high { header.now.high_start ≤ c }
     requires within { c < 0x110000 }
-    ensures { answer header.now (contents_of (slice_values index.entry) (slice_values values.entry))
-        c ≡ Some result }
+    ensures { answer header.now (cells_in index.entry values.entry) c ≡ Some result }
 {
     let mut cells = PackedCells {
         index,
@@ -146,13 +138,11 @@ pub(crate) fn look_up_high_in<T: TrieValue>(
     values: ZeroSlice<'_, T>,
     c: u32,
 ) -> T
-    requires whole { IsWhole header.now.trie_type
-        (contents_of (slice_values index) (slice_values values)) }
+    requires whole { IsWhole header.now.trie_type (cells_in index values) }
     requires from { fast_limit header.now.trie_type ≤ c }
     requires high { header.now.high_start ≤ c }
     requires within { c < 0x110000 }
-    ensures { answer header.now (contents_of (slice_values index.entry) (slice_values values.entry))
-        c ≡ Some result }
+    ensures { answer header.now (cells_in index.entry values.entry) c ≡ Some result }
 {
     look_up_high_counted::<T, Brand>(header, index, values, c, Blank::new(1))
 }
@@ -172,8 +162,7 @@ fn look_up_small_counted<T: TrieValue, L: Ledger>(
     requires from { fast_limit header.now.trie_type ≤ c }
     requires below { c < header.now.high_start }
     requires within { c < 0x110000 }
-    ensures { result ≡ answer header.now
-        (contents_of (slice_values index.entry) (slice_values values.entry)) c }
+    ensures { result ≡ answer header.now (cells_in index.entry values.entry) c }
 {
     let mut cells = PackedCells {
         index,
@@ -194,8 +183,7 @@ pub(crate) fn look_up_small_in<T: TrieValue>(
     requires from { fast_limit header.now.trie_type ≤ c }
     requires below { c < header.now.high_start }
     requires within { c < 0x110000 }
-    ensures { result ≡ answer header.now
-        (contents_of (slice_values index.entry) (slice_values values.entry)) c }
+    ensures { result ≡ answer header.now (cells_in index.entry values.entry) c }
 {
     look_up_small_counted::<T, Brand>(header, index, values, c, Blank::new(1))
 }
@@ -212,14 +200,10 @@ fn walk_counted<T: TrieValue, L: Ledger>(
     requires name { blank.name ≡ L.name }
     requires parts { blank.parts ≡ L.parts }
     requires some { 0 < blank.parts }
-    ensures gives { GivesWalk T.of_number header.now
-        (contents_of (slice_values index.entry) (slice_values values.entry)) c result }
-    ensures longest { IsCoherent T.of_number header.now
-        (contents_of (slice_values index.entry) (slice_values values.entry)) → c < 0x110000
-        → IsSomeAnd result
-        (λ r. LongestRun
-        (answer header.now (contents_of (slice_values index.entry) (slice_values values.entry))) c
-        (last_of r)
+    ensures gives { GivesWalk T.of_number header.now (cells_in index.entry values.entry) c result }
+    ensures longest { IsCoherent T.of_number header.now (cells_in index.entry values.entry)
+        → c < 0x110000 → IsSomeAnd result (λ r.
+        LongestRun (answer header.now (cells_in index.entry values.entry)) c (last_of r)
         (Some r.value)) }
 {
     let mut cells = PackedCells {
@@ -238,14 +222,10 @@ pub(crate) fn walk_in<T: TrieValue>(
     values: ZeroSlice<'_, T>,
     c: u32,
 ) -> Option<CodePointMapRange<T>>
-    ensures gives { GivesWalk T.of_number header.now
-        (contents_of (slice_values index.entry) (slice_values values.entry)) c result }
-    ensures longest { IsCoherent T.of_number header.now
-        (contents_of (slice_values index.entry) (slice_values values.entry)) → c < 0x110000
-        → IsSomeAnd result
-        (λ r. LongestRun
-        (answer header.now (contents_of (slice_values index.entry) (slice_values values.entry))) c
-        (last_of r)
+    ensures gives { GivesWalk T.of_number header.now (cells_in index.entry values.entry) c result }
+    ensures longest { IsCoherent T.of_number header.now (cells_in index.entry values.entry)
+        → c < 0x110000 → IsSomeAnd result (λ r.
+        LongestRun (answer header.now (cells_in index.entry values.entry)) c (last_of r)
         (Some r.value)) }
 {
     walk_counted::<T, Brand>(header, index, values, c, Blank::new(1))
