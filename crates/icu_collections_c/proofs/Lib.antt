@@ -4,6 +4,7 @@ mod BufferLemmas
 mod BuildingLemmas
 mod CellLemmas
 mod CoherenceLemmas
+mod DropLemmas
 mod FrozenLemmas
 mod ListingLemmas
 mod OpeningLemmas
@@ -13,4 +14,3 @@ mod SetLemmas
 mod SpanLemmas
 mod UnitLemmas
 mod UnitBuildingLemmas
-mod Utf16Lemmas

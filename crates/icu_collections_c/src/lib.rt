@@ -35,5 +35,4 @@ pub mod tries;
 pub mod unit_building;
 pub mod unit_tries;
 mod units;
-mod utf16;
 pub mod value_sets;

@@ -9,7 +9,7 @@ ghost use Rattle.icu_collections_c.specs.BytesTrie.{parts_in, value_at};
 
 use crate::cells::UnsignedValue;
 use crate::tries::{Trie, header_of, value_of};
-use crate::utf16::first_code_point;
+use icu_trie_text::first_utf16::first_code_point;
 
 /// Writes the value at place `i`, if there is one.
 #[inline(always)]

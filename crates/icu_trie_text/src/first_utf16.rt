@@ -20,9 +20,10 @@ fn is_low_surrogate(unit: u32) -> bool
     0xDC00 <= unit && unit < 0xE000
 }
 
-/// The first code point of the units, and what follows it. `None` exactly where there is no unit.
+/// The first code point of the units, and what follows it (U16_NEXT). `None` exactly where there is
+/// no unit.
 #[inline(always)]
-pub(crate) fn first_code_point(units: &[u16]) -> Option<(u32, &[u16])>
+pub fn first_code_point(units: &[u16]) -> Option<(u32, &[u16])>
     ensures { MatchOption result ((units.now ≡ []) × (code_points_of units.now ≡ []))
         (λ found. code_points_of units.now ≡ found.0 ∷ code_points_of found.1.now) }
 {

@@ -9,14 +9,14 @@
 //! - `utf8`: [`ValuesOfUtf8`](utf8::ValuesOfUtf8), the value of each character of bytes that may be
 //!   ill-formed UTF-8
 //! - `first`, `first_utf16`, `first_utf8`: the first character of a text, the first code point of
-//!   units, the first part of bytes
+//!   units, the first part of bytes; of these `first_utf16` is there for other crates too
 //! - `ascii`: tries whose values of ASCII stand in their places
 #![tactic(auto)]
 
 mod ascii;
 mod find;
 mod first;
-mod first_utf16;
+pub mod first_utf16;
 mod first_utf8;
 mod found;
 mod indices;

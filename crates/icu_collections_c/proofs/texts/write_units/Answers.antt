@@ -5,7 +5,8 @@ use Rattle.icu_trie.specs.Parts.{trie_value}
 use Rattle.icu_trie_text.specs.Utf16.{code_points_of}
 use Rattle.icu_collections_c.specs.BytesTrie.{parts_in}
 use Rattle.icu_collections_c.proofs.BufferLemmas.{filled_next, filled_all}
-use Rattle.icu_collections_c.proofs.Utf16Lemmas.{all-drop, length-code_points, next-drop}
+use Rattle.icu_trie_text.proofs.CallerLemmas.{length-code_points}
+use Rattle.icu_collections_c.proofs.DropLemmas.{all-drop, next-drop}
 use Rattle.icu_collections_c.proofs.texts.write_units.Goals as goal
 
 pub overflow_add-count : goal.overflow_add-count
@@ -38,7 +39,7 @@ loop-c-smaller g c = let e = ap length c.in-Some.ensures in omega (arith, e)
 
 pub returns-clause-count : goal.returns-clause-count
 returns-clause-count g c =
-    all-drop (code_points_of c.args.units.now) c.loop-c.count c.loop-c.invariant.passed (c.loop-c.invariant.ahead ∙ c.in_default.ensures)
+    all-drop (code_points_of c.args.units.now) c.loop-c.count c.loop-c.invariant.passed (c.loop-c.invariant.ahead ∙ c.in_default.ensures.1)
 
 pub returns-clause-bound : goal.returns-clause-bound
 returns-clause-bound g c = let few = length-code_points c.args.units.now in omega (arith, few, returns-clause-count g c)
