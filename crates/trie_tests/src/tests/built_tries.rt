@@ -10,7 +10,7 @@ use std::alloc::Global;
 use std::process::Abort;
 
 /// The trie of these writes over 0, with the error value 9.
-fn built(
+pub fn built(
     rt: &impl Abort,
     alloc: Global,
     trie_type: TrieType,

@@ -3,15 +3,14 @@ ghost use Rattle.std.specs.Prelude.{◌≡◌, ◌<◌};
 ghost use Rattle.icu_trie_core.specs.Contents.{contents_of};
 ghost use Rattle.icu_zerovec.specs.Slice.{slice_values};
 
+use super::built_tries::built;
 use super::{ONES, ZEROS, data, expect_at, say, small_header, trie_of};
 use icu_collections::codepointtrie::{
-    Cells, CodePointMapRange, CodePointTrie, Steps, TrieType, TrieValue, Write, build_from_writes,
-    is_coherent, look_up, look_up_whole, walk,
+    Cells, CodePointMapRange, CodePointTrie, Steps, TrieType, TrieValue, Write, is_coherent,
+    look_up, look_up_whole, walk,
 };
 use icu_collections::zerovec::ZeroSlice;
-use std::alloc::Global;
 use std::marker::Brand;
-use std::process::Abort;
 use std::sync::ledger::{Blank, Ledger};
 
 /// The cells of a trie's parts, with a count that can be shown.
@@ -133,29 +132,18 @@ fn cells_quiet(rt: HostRuntime) {
 /// The most cells that one walk over a built trie reads.
 const MOST_READS: u64 = 6_000;
 
-/// The trie in which the last code point has 1, and all others 0: no high start ends a walk before
-/// it.
-fn trie_of_the_last(
-    rt: &impl Abort,
-    alloc: Global,
-    trie_type: TrieType,
-) -> CodePointTrie<'static, u8> {
-    match build_from_writes(alloc, 0, 9, trie_type, &[Write::One(0x10FFFF, 1)]) {
-        Ok(trie) => trie,
-        Err(_) => rt.panic("not built"),
-    }
-}
-
 /// The first and the last code point of a range, and its value.
 fn ends_of(range: Option<CodePointMapRange<u8>>) -> Option<(u32, u32, u8)> {
     let range = range?;
     Some((*range.range.start(), *range.range.end(), range.value))
 }
 
+/// The last code point has 1, and all others 0: no high start ends a walk before it.
 #[test]
 fn reads_of_one_walk(rt: HostRuntime) {
     for trie_type in [TrieType::Fast, TrieType::Small] {
-        let ((range, reads), _, _, _) = asked(trie_of_the_last(&rt, rt.alloc(), trie_type), 0);
+        let trie = built(&rt, rt.alloc(), trie_type, &[Write::One(0x10FFFF, 1)]);
+        let ((range, reads), _, _, _) = asked(trie, 0);
         let found = (ends_of(range), 0 < reads && reads <= MOST_READS);
         expect_at(&rt, found, (Some((0, 0x10FFFE, 0)), true), 0);
     }
