@@ -9,7 +9,7 @@ pub use Rattle.icu_trie_core.specs.Range.{GivesWalk, first_of, last_of, run_of, 
 pub use Rattle.icu_trie_core.specs.Runs.{AreMaximalRuns, AreRunsFrom, LongestRun, Run, some_run}
 pub use Rattle.icu_trie_core.specs.Seen.{Misses, SeesFrom, is_cell, names_null}
 unfoldable pub use Rattle.icu_trie_core.specs.Seen.{seen}
-pub use Rattle.icu_trie.specs.Parts.{IsWhyNoTrie, Parts, last_cell, parts_fault, same_trie, trie_value}
+pub use Rattle.icu_trie.specs.Parts.{IsWhyNoTrie, Parts, cells_in, last_cell, parts_fault, same_trie, trie_value}
 pub use Rattle.icu_trie.specs.Ranges.{AreRangesFrom, HasCodePoints, IsCoherentTrie, IsInRangeOf, IsRangeOfCodePoints, answers}
 pub use Rattle.icu_trie.specs.Iterators.{GivesNextRange, iterator_next, iterator_trie}
 pub use Rattle.icu_trie.specs.RangesOfValue.{AreRangesOfValue, AreRunsOfValue, GivesNextOfValue, value_iterator_source, value_iterator_value, with_value}

@@ -9,7 +9,7 @@
 //! - `utf8`: [`ValuesOfUtf8`](utf8::ValuesOfUtf8), the value of each character of bytes that may be
 //!   ill-formed UTF-8
 //! - `first`, `first_utf16`, `first_utf8`: the first character of a text, the first code point of
-//!   units, the first part of bytes; of these `first_utf16` is there for other crates too
+//!   units, the first part of bytes
 //! - `ascii`: tries whose values of ASCII stand in their places
 #![tactic(auto)]
 

@@ -12,9 +12,10 @@ fn is_low_surrogate(unit: u32) -> bool {
     0xDC00 <= unit && unit < 0xE000
 }
 
-/// The first code point of the units, and what follows it. `None` exactly where there is no unit.
+/// The first code point of the units, and what follows it (U16_NEXT). `None` exactly where there is
+/// no unit.
 #[inline(always)]
-pub(crate) fn first_code_point(units: &[u16]) -> Option<(u32, &[u16])> {
+pub fn first_code_point(units: &[u16]) -> Option<(u32, &[u16])> {
     let (first, rest) = units.split_first()?;
     let unit = u32::from(*first);
     if !is_high_surrogate(unit) {

@@ -15,7 +15,7 @@
 mod ascii;
 mod find;
 mod first;
-mod first_utf16;
+pub mod first_utf16;
 mod first_utf8;
 mod found;
 mod indices;

@@ -42,8 +42,8 @@ module _ {A : Type 0} (of_number : ℕ → Option A) (h : CodePointTrieHeader) (
 -- the blocks of 16 of a whole block of 512 are shared
 shares : {A : Type 0} {of_number : ℕ → Option A} {h : CodePointTrieHeader} {cells : Contents A} {start limit : ℕ}
     (block : ℕ) {cell : ℕ} → IsCoherent of_number h cells → IsShared h cells → limit % 512 ≡ 0 → limit ≤ h.high_start
-    → fast_limit h.trie_type ≤ start → start ≤ block * 512 → block * 512 < limit → index2_cell h.trie_type cells.index (block * 512) ≡ Some cell
-    → SharesBlocks of_number h cells cell
+    → fast_limit h.trie_type ≤ start → start ≤ block * 512 → block * 512 < limit
+    → index2_cell h.trie_type cells.index (block * 512) ≡ Some cell → SharesBlocks of_number h cells cell
 shares block {cell} coherent shared aligned high from begun here is =
     SharesBlocks-from_shared coherent shared (block * 512) cell (omega arith) (omega (arith, from, begun))
     (omega (arith, high, here, aligned)) is
