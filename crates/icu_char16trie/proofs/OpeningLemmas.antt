@@ -1,9 +1,9 @@
 -- How nodes and parts of branches are opened.
 use Rattle.icu_zerovec.specs.Slice.{slice_values}
-use Rattle.std.proofs.Common.{◌≡◌, ℕ, ℤ, ◌+◌, ◌-◌, ◌/◌, ◌%◌, ◌<◌, ◌≤◌, List, [], ◌∷◌, ◌++◌, Option, Some, None, refl, sym, ap, subst, ◌∙◌, arith, length, take, slice_get, append_assoc, append-nil, reverse, inl, length-append, true, nat_eq}
+use Rattle.std.proofs.Common.{◌≡◌, ℕ, ℤ, ◌+◌, ◌-◌, ◌/◌, ◌%◌, ◌<◌, ◌≤◌, List, [], ◌∷◌, ◌++◌, Some, None, refl, sym, ap, subst, ◌∙◌, arith, length, take, slice_get, append_assoc, append-nil, reverse, inl, length-append, true, nat_eq}
 use Rattle.std.proofs.lemmas.Bool.{eq-eqb}
 use Rattle.std.proofs.lemmas.List.{take_all, take-append-le, reverse-append}
-use Rattle.std.proofs.lemmas.Option.{slice_get_within}
+use Rattle.std.proofs.lemmas.Option.{none-some, slice_get_within}
 use Rattle.std.proofs.lemmas.Str.{IsUtf8-take, IsUtf8-string_bytes, IsCharBoundary-end, IsCharBoundary-from_take}
 use Rattle.std.specs.Str.{IsUtf8}
 use Rattle.icu_char16trie.specs.Grammar.{Part, last, entry, split, Children, Holds, Matches}
@@ -119,9 +119,6 @@ later_opens old new p q Stood Stood' o h is = record {
   work = omega (arith, o.work, weight_le (length (slice_values old.units)) p q h);
 }
 
-no_none : {x : ℕ} → ◌≡◌ {A = Option ℕ} (Some x) None → ⊥
-no_none h = cc
-
 -- a part whose units are cut off stands for nothing
 pub arms_here : (units : List ℕ) (p n : ℕ) → slice_get units p ≡ None → (m : List (List ℕ × ℤ)) → ArmsHold units p n m → ⊥
 arms_here units p n g m (arms, part, c) = part_begins units part g
@@ -132,12 +129,12 @@ arms_next units p n many g m (arms, part, c) = part_goes_on units part many g
 pub arms_child : (units : List ℕ) (p n u v : ℕ) → 1 < n → n ≤ 5 → slice_get units p ≡ Some u → slice_get units (p + 1) ≡ Some v
     → entry_child units (p + 2) v ≡ None
     → (m : List (List ℕ × ℤ)) → ArmsHold units p n m → ⊥
-arms_child units p n u v many few hu hv none m (arms, part, c) = no_none (sym (entry_found units part many few u v hu hv).at ∙ none)
+arms_child units p n u v many few hu hv none m (arms, part, c) = none-some _ (sym none ∙ (entry_found units part many few u v hu hv).at)
 
 pub arms_low : (units : List ℕ) (p n s d : ℕ) → 5 < n → slice_get units p ≡ Some s → slice_get units (p + 1) ≡ Some d
     → lower_part units (p + 2) d ≡ None
     → (m : List (List ℕ × ℤ)) → ArmsHold units p n m → ⊥
-arms_low units p n s d many hs hd none m (arms, part, c) = no_none (sym (split_found units part many s d hs hd).at ∙ none)
+arms_low units p n s d many hs hd none m (arms, part, c) = none-some _ (sym none ∙ (split_found units part many s d hs hd).at)
 
 -- ---- a part that is put off
 
@@ -244,16 +241,13 @@ last_stands units p n u first few hu (arms, part, children) =
 
 -- ---- match nodes
 
-some_none : {x : ℕ} → ◌≡◌ {A = Option ℕ} None (Some x) → ⊥
-some_none h = cc
-
 -- a branch whose length is not there stands for nothing
 pub length_gone : (units : List ℕ) (p low : ℕ) → low ≤ 0 → slice_get units p ≡ None → (m : List (List ℕ × ℤ)) → Matches units p low m → ⊥
 length_gone units p low zero' g m h =
     let b = matches_branch units h (omega arith) in
     let is_zero : nat_eq low 0 ≡ true = eq-eqb low 0 (omega arith) in
     let at : slice_get units p ≡ Some b.n = rw is_zero at b.len in
-    some_none (sym g ∙ at)
+    none-some b.n (sym g ∙ at)
 
 part_long : (units : List ℕ) {p n : ℕ} {arms : List (ℕ × ℕ)} {m : List (List ℕ × ℤ)} → Part units p n arms
     → Children units arms m → 2 ≤ length units

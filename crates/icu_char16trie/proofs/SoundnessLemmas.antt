@@ -377,16 +377,13 @@ pub forth_sound : (units : List ℕ) (p : ℕ) (old new : List Bool) → IsWante
 forth_sound units p old new here r all =
     forth_places (HasMap units) r.places p old new r.wanted (r.gives (all p (omega arith) here)) all
 
+-- a place that is wanted is another than one that is not
+other_place : (wanted : List Bool) (p q : ℕ) → get_or wanted p false ≡ false → IsWanted wanted q → q ≡ p → ⊥
+other_place wanted p q never w e = let w' : get_or wanted p false ≡ true = rw e at w in false≢true (sym never ∙ w')
+
 pub back_unwanted : (P : ℕ → Type 0) (p : ℕ) (wanted : List Bool) → get_or wanted p false ≡ false → AllWantedHold P wanted (p + 1)
     → AllWantedHold P wanted p
-back_unwanted P p wanted never all q le w = by (nat_eq q p) refl
-  where
-    by : (b : Bool) → nat_eq q p ≡ b → P q
-    by true e =
-        let same : q ≡ p = eqb-true q p e in
-        let w' : get_or wanted p false ≡ true = rw same at w in
-        absurd (false≢true (sym never ∙ w'))
-    by false e = all q (omega (arith, eqb-false q p e)) w
+back_unwanted P p wanted never all q le w = all q (omega (arith, other_place wanted p q never w)) w
 
 pub forth_unwanted : (P : ℕ → Type 0) (p : ℕ) (wanted : List Bool) → AllWantedHold P wanted p → AllWantedHold P wanted (p + 1)
 forth_unwanted P p wanted all q le w = all q (omega arith) w
@@ -431,14 +428,7 @@ closed_next units p old new len r closed q lt w = by (nat_eq q p) refl
 
 pub closed_unwanted : (units : List ℕ) (p : ℕ) (wanted : List Bool) → get_or wanted p false ≡ false → IsClosed units wanted p
     → IsClosed units wanted (p + 1)
-closed_unwanted units p wanted never closed q lt w = by (nat_eq q p) refl
-  where
-    by : (b : Bool) → nat_eq q p ≡ b → LeadsToWanted units wanted q
-    by true e =
-        let same : q ≡ p = eqb-true q p e in
-        let w' : get_or wanted p false ≡ true = rw same at w in
-        absurd (false≢true (sym never ∙ w'))
-    by false e = closed q (omega (arith, eqb-false q p e)) w
+closed_unwanted units p wanted never closed q lt w = closed q (omega (arith, other_place wanted p q never w)) w
 
 pub kept_wanted : (units : List ℕ) (p : ℕ) (old new : List Bool) → RestsOnWanted units p (HasMap units p) (NodeLeadsTo units p) old new
     → (q : ℕ) → IsWanted old q → IsWanted new q

@@ -2,7 +2,7 @@
 use Rattle.std.proofs.Common.{◌≡◌, ℕ, ℤ, suc, ◌+◌, ◌-◌, ◌*◌, ◌/◌, ◌<◌, ◌≤◌, List, [], ◌∷◌, ◌++◌, Option, Some, None, refl, sym, ap, subst, ◌∙◌, arith, length, take, drop, slice_get, reverse, append-nil, length-append, inl, inr}
 use Rattle.std.proofs.lemmas.Bool.{cases_lt}
 use Rattle.std.proofs.lemmas.List.{length-take-le, length-drop, nil_from_length, take_all}
-use Rattle.std.proofs.lemmas.Option.{none-some, same_Some, slice_get_within}
+use Rattle.std.proofs.lemmas.Option.{none-some, same_Some}
 use Rattle.std.specs.Borrow.{Bor}
 use Rattle.icu_char16trie.specs.Grammar.{Holds}
 use Rattle.icu_char16trie.specs.UnitMap.{UnitMap, under, IsAscendingKeys}
@@ -305,12 +305,6 @@ pub first_below : (d : ℕ) (arms rest : List Arm) (a : Arm) → arms ≡ a ∷ 
 first_below d arms rest a e h = let k : AreBelow d (a ∷ rest) = subst (λ z. AreBelow d z) e h in k.0
 
 -- ---- entries, as the functions that open a node have them
-
-pub first_longer : (d u : ℕ) (es : List Entry) (e : Entry) → slice_get es 0 ≡ Some e → IsGroup d u es → d < length e.key.now
-first_longer d u [] e at g = absurd (none-some _ at)
-first_longer d u (x ∷ es) e at g =
-    let same : x ≡ e = same_Some _ _ at in
-    subst (λ z. d < length z.key.now) same (slice_get_within x.key.now d u g.0)
 
 pub rest_longer : (d : ℕ) (es rest : List Entry) (e : Entry) → es ≡ e ∷ rest → IsAscendingKeys (cut d es) → AllLonger d rest
 rest_longer d es rest e f h =

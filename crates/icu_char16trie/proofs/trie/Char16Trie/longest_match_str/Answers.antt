@@ -1,4 +1,4 @@
-use Rattle.std.proofs.Common.{◌≡◌, ℕ, ◌+◌, ◌≤◌, Bool, true, false, not, List, [], ◌∷◌, ◌++◌, None, length, take, refl, sym, ap, subst, ◌∙◌, arith, length-append}
+use Rattle.std.proofs.Common.{◌≡◌, ℕ, ◌+◌, ◌<◌, ◌≤◌, Bool, true, false, not, List, [], ◌∷◌, ◌++◌, None, length, take, refl, sym, ap, subst, ◌∙◌, arith, length-append}
 use Rattle.std.specs.Prelude.{encode_utf8_all}
 use Rattle.std.specs.Char.Escape.{encode_utf16}
 use Rattle.std.specs.List.{flat_map}
@@ -17,19 +17,26 @@ use Rattle.icu_char16trie.proofs.CharFronts.{front_next, bytes_next, bytes_withi
 use Rattle.icu_char16trie.proofs.FrontLemmas.{LongestWithin-zero, LongestWithin-suc, LongestWithin-more}
 use Rattle.icu_char16trie.proofs.PassedLemmas.{along_then}
 use Rattle.icu_char16trie.proofs.trie.Char16Trie.longest_match_str.Goals as goal
+use Rattle.icu_char16trie.proofs.trie.Char16Trie.longest_match_str.Goals.{In-Some}
 
-pub overflow_add-end : goal.overflow_add-end
-overflow_add-end c =
+-- the characters so far are the first of the text, and so they are with the next
+are_first : (c : In-Some) → (c.loop-c.yielded ≡ take (length c.loop-c.yielded) (chars c.args.text.now))
+    × (length c.loop-c.yielded < length (chars c.args.text.now))
+    × (c.loop-c.yielded ++ c.in-Some.c ∷ [] ≡ take (length c.loop-c.yielded + 1) (chars c.args.text.now))
+are_first c =
     let cs : List ℕ = chars c.args.text.now in
     let ys : List ℕ = c.loop-c.yielded in
     let road = YieldsList-from_chars c.args.text.now c.utf8.text cc in
     let so_far : ys ≡ take (length ys) cs = sym (map-id ys) ∙ YieldsList-so_far road ys _ c.loop-c.yielded_by in
     let turn = YieldsList-turn road ys _ c.loop-c.yielded_by c.next.result c.next.new.self c.in-Some.c c.in-Some.is c.next.ensures.steps in
-    let next : ys ++ c.in-Some.c ∷ [] ≡ take (length ys + 1) cs = front_next cs ys c.in-Some.c so_far turn.0 turn.1 in
-    let sum = bytes_next ys c.in-Some.c in
-    let whole : length (encode_utf8_all (ys ++ c.in-Some.c ∷ [])) ≤ length c.args.text.now =
-    rw next (bytes_within c.args.text.now (length ys + 1) (c.utf8.text)) in
-    omega (arith, sum, whole, c.loop-c.invariant.bytes, c.len_utf8-end.ensures.len)
+    (so_far, turn.0, front_next cs ys c.in-Some.c so_far turn.0 turn.1)
+
+pub overflow_add-end : goal.overflow_add-end
+overflow_add-end c =
+    let first = are_first (goal.at.overflow_add-end c).In-Some in
+    let whole : length (encode_utf8_all (c.loop-c.yielded ++ c.in-Some.c ∷ [])) ≤ length c.args.text.now =
+    rw first.2 (bytes_within c.args.text.now (length c.loop-c.yielded + 1) c.utf8.text) in
+    omega (arith, bytes_next c.loop-c.yielded c.in-Some.c, whole, c.loop-c.invariant.bytes, c.len_utf8-end.ensures.len)
 
 pub loop-c-init : goal.loop-c-init
 loop-c-init c =
@@ -55,25 +62,23 @@ pub returns-then-is_empty : goal.returns-then-is_empty
 returns-then-is_empty c =
     let cs : List ℕ = chars c.args.text.now in
     let ys : List ℕ = c.loop-c.yielded in
-    let road = YieldsList-from_chars c.args.text.now c.utf8.text cc in
-    let so_far : ys ≡ take (length ys) cs = sym (map-id ys) ∙ YieldsList-so_far road ys _ c.loop-c.yielded_by in
-    let turn = YieldsList-turn road ys _ c.loop-c.yielded_by c.next.result c.next.new.self c.in-Some.c c.in-Some.is c.next.ensures.steps in
     let inv = c.loop-c.invariant in
     let ends : is_empty_at c.args.self.now c.loop-c.cursor.place ≡ true =
     rw (← inv.units) (sym c.is_empty.ensures.exact ∙ c.if-is_empty.true) in
-    let units : flat_map encode_utf16 ys ≡ front_units cs (length ys) = ap (flat_map encode_utf16) so_far in
+    let first = are_first (goal.at.returns-then-is_empty c).In-Some in
+    let units : flat_map encode_utf16 ys ≡ front_units cs (length ys) = ap (flat_map encode_utf16) first.0 in
     record {
       longest = λ m h.
           let none : goes_on m (front_units cs (length ys)) ≡ false =
           nothing _ (sym (c.is_empty.ensures.empty m _ (rw units at (inv.after m h))) ∙ c.if-is_empty.true) in (
             inv.chosen,
-            LongestWithin-more (HasCharsValue m cs) (length ys) (length cs) inv.chosen (omega (arith, turn.0))
+            LongestWithin-more (HasCharsValue m cs) (length ys) (length cs) inv.chosen (omega (arith, first.1))
                 (λ k above within. no_more_chars m cs (length ys) k none above within) (inv.longest m h),
             inv.is,
           );
       exact = (
         inv.chosen,
-        LongestWithin-more (HasCharsStepped c.args.self.now cs) (length ys) (length cs) inv.chosen (omega (arith, turn.0))
+        LongestWithin-more (HasCharsStepped c.args.self.now cs) (length ys) (length cs) inv.chosen (omega (arith, first.1))
             (λ k above within. no_more_steps c.args.self.now cs c.loop-c.cursor.place (length ys) k (rw units at inv.steps) ends above
             within) inv.stepped,
         inv.is,
@@ -85,22 +90,14 @@ pub loop-c-preserved : goal.loop-c-preserved
 loop-c-preserved c =
     let cs : List ℕ = chars c.args.text.now in
     let ys : List ℕ = c.loop-c.yielded in
-    let road = YieldsList-from_chars c.args.text.now c.utf8.text cc in
-    let so_far : ys ≡ take (length ys) cs = sym (map-id ys) ∙ YieldsList-so_far road ys _ c.loop-c.yielded_by in
-    let turn = YieldsList-turn road ys _ c.loop-c.yielded_by c.next.result c.next.new.self c.in-Some.c c.in-Some.is c.next.ensures.steps in
-    let next : ys ++ c.in-Some.c ∷ [] ≡ take (length ys + 1) cs = front_next cs ys c.in-Some.c so_far turn.0 turn.1 in
+    let next = (are_first (goal.at.loop-c-preserved c).In-Some).2 in
     let inv = c.loop-c.invariant in
     let passed = c.step.ensures.passes in
     let units : c.step.new.self.units ≡ c.args.self.now = passed.units ∙ inv.units in
-    let more : flat_map encode_utf16 ys ++ encode_utf16 c.in-Some.c ≡ flat_map encode_utf16 (ys ++ c.in-Some.c ∷ []) =
-    sym (units_next ys c.in-Some.c) in
-    let exact = subst (λ z. StepsAlong z c.loop-c.cursor.place (encode_utf16 c.in-Some.c) c.step.new.self.place) inv.units passed.exact in
     let steps : StepsAlong c.args.self.now (Node 0) (flat_map encode_utf16 (ys ++ c.in-Some.c ∷ [])) c.step.new.self.place =
-    subst (λ z. StepsAlong c.args.self.now (Node 0) z c.step.new.self.place) more
-    (along_then c.args.self.now (Node 0) c.loop-c.cursor.place c.step.new.self.place (flat_map encode_utf16 ys)
-    (encode_utf16 c.in-Some.c) inv.steps exact) in
+    rw (units_next ys c.in-Some.c) (along_then _ _ c.loop-c.cursor.place _ _ _ inv.steps (rw inv.units at passed.exact)) in
     let after : (m : UnitMap) → IsTrieOf c.args.self.now m → HasPassed c.step.new.self m (flat_map encode_utf16 (ys ++ c.in-Some.c ∷ [])) =
-    λ m h. subst (λ z. HasPassed c.step.new.self m z) more (passed.after m (flat_map encode_utf16 ys) (inv.after m h)) in
+    λ m h. rw (units_next ys c.in-Some.c) (passed.after m _ (inv.after m h)) in
     let count : length ys + 1 ≡ length (ys ++ c.in-Some.c ∷ []) = sym (length-append ys (c.in-Some.c ∷ [])) in
     let bytes : c.loop-c.end + c.len_utf8-end.result ≡ length (encode_utf8_all (ys ++ c.in-Some.c ∷ [])) =
     omega (arith, bytes_next ys c.in-Some.c, inv.bytes, c.len_utf8-end.ensures.len) in
@@ -118,8 +115,7 @@ loop-c-preserved c =
       stepped =
           let has : HasCharsStepped c.args.self.now cs (length ys + 1) value = (
             c.step.new.self.place,
-            subst (λ z. StepsAlong c.args.self.now (Node 0) (flat_map encode_utf16 z) c.step.new.self.place) next
-                steps,
+            subst (λ z. StepsAlong c.args.self.now (Node 0) (flat_map encode_utf16 z) c.step.new.self.place) next steps,
             rw (← units) (sym c.value-value.ensures.exact),
           ) in
           subst (λ z. LongestWithin (HasCharsStepped c.args.self.now cs) z (longer (length ys + 1) value inv.chosen)) count
