@@ -1,5 +1,4 @@
 """The comments of the edition: its own names, and nothing of clauses."""
-import itertools
 import re
 import textwrap
 
@@ -19,6 +18,11 @@ DOC_RULES = [
     (r": `alloc` is kept for", "; that is left to"),
     (r"\[(`walk`)\]\(icu_trie_core::walk::walk\)", r"\1"),
     (r"`stored_form`, which answers", "which answers"),
+    # What answers a `Result` here, and what is inside.
+    (r"\bbuild_from_writes(?=\(.*\)\?)", "try_build_from_writes"),
+    (r"(?<=\[`CodePointTrieBuilder::)build(?=`\])", "try_build"),
+    (r"\btoml::table_from_str\(", "toml::from_str("),
+    (r"\bPotentialCodePoint::from_u24\((\w+)\);", r"PotentialCodePoint::try_from(\1); // Ok"),
 ]
 
 
@@ -35,8 +39,14 @@ def doc(crate, text):
 
 def fences(text):
     """Examples of the proved crates are told, not run: those of rust/face are run."""
-    kinds = itertools.cycle(["ignore", ""])
-    text = re.sub(r"(?m)^(\s*//[/!] ```)$", lambda found: found[1] + next(kinds), text)
+    is_open = False
+
+    def mark(found):
+        nonlocal is_open
+        is_open = not is_open
+        return found[1] + ("ignore" if is_open else "")
+
+    text = re.sub(r"(?m)^(\s*//[/!] ```)(?:text)?$", mark, text)
     return re.sub(r"```ignore(?=\s+//[/!] //)", "```text", text)
 
 

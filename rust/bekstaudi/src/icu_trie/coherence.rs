@@ -47,13 +47,13 @@ impl<'trie, T: TrieValue> CodePointTrie<'trie, T> {
     /// `get_set_for_value` are exact. Every built trie is coherent, and a trie read from a file may
     /// be tested once:
     ///
-    /// ```text
+    /// ```ignore
     /// let trie = CodePointTrie::try_new(header, index, data)?;
     /// if trie.is_coherent() {
     ///     // exactly the code points at which get32 answers 1
     ///     let letters = trie.try_get_set_for_value(1)?;
     /// }
-    /// ```ignore
+    /// ```
     ///
     /// All of these hold of a coherent trie (UCPTrie), and of no other one:
     /// - `high_start` is a multiple of 512 and at most 0x110000;

@@ -36,7 +36,7 @@ fn is_number_of_value<T: TrieValue>(number: u32) -> bool {
 /// a trie from a stranger's file may answer nonsense, but it answers.
 ///
 /// ```ignore
-/// let letters = build_from_writes(0u8, 9, TrieType::Small, &[Write::Range(0x41..=0x5A, 1)])?;
+/// let letters = try_build_from_writes(0u8, 9, TrieType::Small, &[Write::Range(0x41..=0x5A, 1)])?;
 /// // letters.get32(0x41) is 1, letters.get32(0x5B) is 0, and letters.get32(0x110000) is 9
 /// ```
 #[derive(Debug)]

@@ -24,7 +24,7 @@ impl<'trie, T: TrieValue> CodePointTrie<'trie, T> {
     /// The ranges of equal values from 0 on, each of which begins where the one before it ended.
     ///
     /// ```ignore
-    /// let trie = build_from_writes(0u8, 9, TrieType::Small, &[Write::Range(0x41..=0x5A, 1)])?;
+    /// let trie = try_build_from_writes(0u8, 9, TrieType::Small, &[Write::Range(0x41..=0x5A, 1)])?;
     /// for range in trie.iter_ranges() {
     ///     // 0..=0x40 with 0, then 0x41..=0x5A with 1, then 0x5B..=0x10FFFF with 0
     /// }
@@ -63,7 +63,7 @@ impl<'trie, T: TrieValue> CodePointTrie<'trie, T> {
     /// `MemoryError` where memory was refused.
     ///
     /// ```ignore
-    /// let trie = build_from_writes(0u8, 9, TrieType::Small, &[Write::Range(0x41..=0x5A, 1)])?;
+    /// let trie = try_build_from_writes(0u8, 9, TrieType::Small, &[Write::Range(0x41..=0x5A, 1)])?;
     /// let letters = trie.try_get_set_for_value(1)?;
     /// // letters.contains32(0x5A) is true, and letters.contains32(0x5B) is false
     /// ```

@@ -83,12 +83,12 @@ impl<T: TrieValue> CodePointTrieBuilder<T> {
 ///
 /// ```ignore
 /// let writes = [Write::Range(0x41..=0x5A, 1u8), Write::One(0x41, 0)];
-/// let trie = build_from_writes(0, 9, TrieType::Fast, &writes)?;
+/// let trie = try_build_from_writes(0, 9, TrieType::Fast, &writes)?;
 /// // trie.get32(0x41) is 0, trie.get32(0x5A) is 1, and trie.get32(0x110000) is 9
 /// ```
 ///
 /// # Errors
-/// `BuildError::TooLarge` and `BuildError::Memory` as for [`CodePointTrieBuilder::build`]; `Memory`
+/// `BuildError::TooLarge` and `BuildError::Memory` as for [`CodePointTrieBuilder::try_build`]; `Memory`
 /// too where a write was refused, and `TooLarge` only where none was, and never after at most 256
 /// accepted writes.
 #[inline]

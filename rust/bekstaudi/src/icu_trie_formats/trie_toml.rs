@@ -223,7 +223,7 @@ impl CodePointTrieToml {
     /// `nullValue` (32). Other keys are ignored.
     ///
     /// ```ignore
-    /// let read = CodePointTrieToml::from_table(&toml::table_from_str(text)?)?;
+    /// let read = CodePointTrieToml::from_table(&toml::from_str(text)?)?;
     /// let trie = CodePointTrie::<u8>::try_from(&read)?;
     /// ```
     ///

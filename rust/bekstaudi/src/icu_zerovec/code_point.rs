@@ -11,7 +11,7 @@ pub const CODE_POINT_LIMIT: u32 = 0x11_0000;
 /// bytes. It is compared and hashed by its number.
 ///
 /// ```ignore
-/// let last = PotentialCodePoint::from_u24(0x10ffff);
+/// let last = PotentialCodePoint::try_from(0x10ffff); // Ok
 /// // PotentialCodePoint::try_from(0x1000000) is Err(0x1000000)
 /// ```
 #[derive(Clone, Copy, Debug, PartialEq, Eq, PartialOrd, Ord, Hash)]
