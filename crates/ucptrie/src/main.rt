@@ -2,22 +2,25 @@
 //! reads and shows them.
 #![tactic(auto)]
 
+mod names;
 mod words;
 
 use anyhow::{Context, Error, Result, anyhow};
 use clap::ArgMatches;
 use clap::error::ErrorKind;
 use icu_trie_core::header::TrieType;
+use names::{module_name, name_of};
 use std::alloc::AllocError;
 use std::io::{Read, Write};
 use std::process::ExitCode;
-use std::{env, fs};
+use std::{env, fs, io};
 use ucptab_table::digits::hexadecimal;
+use ucptab_table::fault::TableError;
 use ucptrie_tables::built;
 use ucptrie_tables::diff::differences_text;
+use ucptrie_tables::fault::BuildFault;
 use ucptrie_tables::read::read_table;
 use ucptrie_tables::shown::{answered, shown};
-use ucptrie_tables::source::is_name;
 use ucptrie_tables::table::{Table, TableOptions};
 use ucptrie_tables::width::ValueWidth;
 use ucptrie_tables::written::{Form, written};
@@ -47,17 +50,13 @@ fn refused(word: &str, why: &str) -> Error {
 
 /// The form that the words name.
 fn form<'a>(matches: &ArgMatches<'a>) -> Result<Form<'a>> {
-    let name = matches.get_str("name").unwrap_or("table");
-    if !is_name(name) {
-        let why = "no name of letters, digits and _ that begins with no digit";
-        return Err(refused(name, why));
-    }
+    let name = name_of(matches.get_str("name").unwrap_or("table"))?;
     Ok(match matches.get_str("as") {
         Some("icu") => Form::Icu,
         Some("toml") => Form::Toml,
         Some("json") => Form::Json,
         Some("c") => Form::C(name),
-        Some("rust") => Form::Rust(name),
+        Some("rust") => Form::Rust(module_name(name)?),
         _ => Form::Rows,
     })
 }
@@ -72,27 +71,57 @@ fn options(matches: &ArgMatches<'_>) -> TableOptions {
     }
 }
 
+/// All of standard input.
+fn input(rt: &HostRuntime) -> Result<Vec<u8>> {
+    let mut bytes = Vec::new(rt.alloc());
+    rt.stdin().read_to_end(&mut bytes)?;
+    Ok(bytes)
+}
+
+/// What is told of a fault: that a map is too large says why.
+fn told(fault: BuildFault) -> Error {
+    match fault {
+        BuildFault::Table(TableError::TooLarge) => {
+            anyhow!("too large: more different blocks of values than one trie has room for")
+        }
+        _ => fault.into(),
+    }
+}
+
 /// A table of the rows on standard input, in the form that the words name.
 fn build(rt: &HostRuntime, matches: &ArgMatches<'_>) -> Result<Vec<u8>> {
     let form = form(matches)?;
-    let mut rows = Vec::new(rt.alloc());
-    rt.stdin().read_to_end(&mut rows)?;
-    Ok(built(rt.alloc(), &rows, options(matches), form)?)
+    let rows = input(rt)?;
+    built(rt.alloc(), &rows, options(matches), form).map_err(told)
+}
+
+/// The bytes of a file, whose name may stand for standard input.
+fn bytes_at(rt: &HostRuntime, path: &str) -> Result<Vec<u8>> {
+    if path == "-" {
+        return input(rt);
+    }
+    Ok(fs::read(rt, path)?)
 }
 
 /// The table of the file that the words name.
 fn table_at(rt: &HostRuntime, matches: &ArgMatches<'_>, id: &str) -> Result<Table> {
     let path = matches.get_str(id).context("no file")?;
-    let bytes = fs::read(rt, path).context(path)?;
+    let bytes = bytes_at(rt, path).context(path)?;
     let table = read_table(rt.alloc(), &bytes).context(path)?;
     Ok(table)
 }
 
-/// The table of a file, in the form that the words name.
+/// The table of a file, in the form that the words name. Rows are ranges, and those of a table that
+/// is not coherent are not what it answers: such rows would make another table.
 fn convert(rt: &HostRuntime, matches: &ArgMatches<'_>) -> Result<Vec<u8>> {
     let form = form(matches)?;
+    let path = matches.get_str("file").context("no file")?;
     let table = table_at(rt, matches, "file")?;
-    Ok(written(rt.alloc(), &table, form)?)
+    if matches!(form, Form::Rows) && !table.trie.is_coherent() {
+        let why = "not coherent, so its ranges are not what it answers: no rows are written";
+        return Err(refused(path, why));
+    }
+    Ok(written(rt.alloc(), &table, form).context(path)?)
 }
 
 /// What a table is.
@@ -155,6 +184,16 @@ fn not_taken(rt: &HostRuntime, error: &clap::Error) -> Result<ExitCode> {
     Ok(ExitCode::from(error.exit_code() as u8))
 }
 
+/// Writes to standard output, and answers the status. Where nobody reads on, as behind `head`,
+/// nothing is said.
+fn put(rt: &HostRuntime, bytes: &[u8]) -> Result<ExitCode> {
+    match rt.stdout().write_all(bytes) {
+        Ok(()) => Ok(ExitCode::SUCCESS),
+        Err(error) if matches!(error.kind(), io::ErrorKind::BrokenPipe) => Ok(ExitCode::from(1)),
+        Err(error) => Err(error.into()),
+    }
+}
+
 /// Does what the words ask for, and answers the status.
 fn run(rt: &HostRuntime) -> Result<ExitCode> {
     let words: Vec<String> = env::args(rt)?.collect(rt.alloc())?;
@@ -165,8 +204,7 @@ fn run(rt: &HostRuntime) -> Result<ExitCode> {
     };
     let (name, matches) = matches.subcommand().context("no command")?;
     let bytes = written_by(rt, name, matches)?;
-    rt.stdout().write_all(&bytes)?;
-    Ok(ExitCode::SUCCESS)
+    put(rt, &bytes)
 }
 
 fn main(rt: HostRuntime) -> ExitCode {

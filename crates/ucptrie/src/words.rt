@@ -55,6 +55,7 @@ const FILE: Argument = Argument {
     place: Place::Word,
     required: true,
     value_name: &["FILE"],
+    help: "A table in ICU's binary form, in JSON or in TOML; - for standard input",
     ..OPTION
 };
 
@@ -63,6 +64,7 @@ const FORM: Argument = Argument {
     id: "as",
     values: ValueParser::Names(&["icu", "toml", "json", "c", "rust", "rows"]),
     required: true,
+    help: "The form that is written",
     ..OPTION
 };
 
@@ -80,20 +82,24 @@ const BUILD: [Argument; 6] = [
         id: "type",
         values: ValueParser::Names(&["fast", "small"]),
         default: &["fast"],
+        help: "Two reads below 10000, or a smaller trie",
         ..OPTION
     },
     Argument {
         id: "width",
         values: ValueParser::Names(&["8", "16", "32"]),
         default: &["32"],
+        help: "How many bits a value has",
         ..OPTION
     },
     Argument {
         id: "default",
+        help: "The value of a code point in no row",
         ..NUMBER
     },
     Argument {
         id: "error",
+        help: "The value above 10FFFF",
         ..NUMBER
     },
     FORM,
@@ -110,6 +116,7 @@ const GET: [Argument; 2] = [
         id: "asked",
         place: Place::Words,
         value_name: &["HEX"],
+        help: "Numbers of 1 to 8 hexadecimal digits",
         ..FILE
     },
 ];
@@ -130,7 +137,7 @@ const DIFF: [Argument; 2] = [
 const COMMANDS: [(&str, &str, &[Argument]); 5] = [
     (
         "build",
-        "Writes the table of the rows on standard input to standard output",
+        "Writes the table of rows, HEX;N or HEX..HEX;N a line of standard input",
         &BUILD,
     ),
     (
