@@ -126,8 +126,8 @@ pub enum ReadFault {
     /// Its JSON is no trie.
     #[error("{0}")]
     TrieJson(TrieJsonError),
-    /// It is no TOML.
-    #[error("{0}")]
+    /// It is no TOML, nor any of the other forms.
+    #[error("no TOML: {0}")]
     Toml(TomlFault),
     /// Its TOML is no trie.
     #[error("{0}")]

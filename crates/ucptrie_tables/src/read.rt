@@ -86,13 +86,18 @@ fn table_of_json(alloc: Global, text: &str) -> Result<Table, ReadFault>
     })
 }
 
-/// The table of the trie that a property in a file of ICU's icuexportdata has.
+/// The TOML table of the trie that a property in a file of ICU's icuexportdata has, or that stands
+/// there itself, as in what it writes for normalization.
 fn property_trie(property: &toml::Value) -> Option<&toml::Table> {
     let property = match property.as_array() {
         Some(properties) => properties.first()?,
         None => property,
     };
-    property.as_table()?.get("code_point_trie")?.as_table()
+    let table = property.as_table()?;
+    match table.get("code_point_trie") {
+        Some(trie) => trie.as_table(),
+        None => table.get("index").map(|_index| table),
+    }
 }
 
 /// The TOML table of a trie: that of the first property which has one, and else the whole file.
