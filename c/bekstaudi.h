@@ -17,8 +17,8 @@
  * several threads at once, as long as nobody changes what they read.
  *
  * The calls in the second to the fourth part are proved: README.md says what. Those marked [m] take
- * memory by malloc while they run. C99 or later, C++11 or later, on a machine with the lowest byte
- * first. Link with -lbekstaudi.
+ * memory by malloc while they run. C99 or later, C++11 or later, by gcc or clang, on x86-64 with
+ * Linux. Link with -lbekstaudi.
  */
 #ifndef BEKSTAUDI_H
 #define BEKSTAUDI_H
@@ -29,7 +29,7 @@
 #include <string.h>
 
 #if !defined(__BYTE_ORDER__) || __BYTE_ORDER__ != __ORDER_LITTLE_ENDIAN__
-#error "bekstaudi.h: a machine with the lowest byte first is wanted"
+#error "bekstaudi.h: gcc or clang is wanted, and a machine with the lowest byte first"
 #endif
 
 #ifdef __cplusplus
@@ -61,7 +61,8 @@ enum bks_status {
 enum bks_refusal {
     BKS_NO_MEMORY = -1,  /* malloc refused */
     BKS_NO_SET = -2,     /* a list that bks_set_test refuses */
-    BKS_NO_TRIE = -2,    /* a trie that bks_trie_open has not made; units that are no trie */
+    BKS_NO_TRIE = -2,    /* of calls that take no set, which have no BKS_NO_SET: a trie that
+                            bks_trie_open has not made; units that are no trie */
     BKS_NO_TEXT = -3,    /* bytes that are no UTF-8 */
     BKS_NO_KEY = -4,     /* a text that no key of a unit trie begins */
     BKS_NO_FORM = -5,    /* a type or a width that tries don't have */
@@ -126,7 +127,8 @@ enum bks_step {
 typedef struct bks_cursor {
     size_t position;                  /* the next unit, counted from 0 */
     uint16_t left;                    /* 0 at a node; in a row of units that all have to match how
-                                         many are left, 1 to 256; above 256 after no match */
+                                         many are left, 1 to 256. After no match it is above 256,
+                                         or the position lies behind the units */
 } bks_cursor;
 
 /* An entry of a unit trie: where its text stands among the bytes of all texts, and its value. */
@@ -193,7 +195,8 @@ bks_range bks_trie_range(const bks_trie *trie, uint32_t c);
 /* Many ranges from c on, one after another: bks_trie_range again and again, in less time for each.
  * Answers how many there are, as far as there is room for them; where that is less than `room`, there
  * is none after the last. All ranges of a trie, with `bks_range ranges[256]`:
- *     for (uint32_t c = 0, n; (n = bks_trie_ranges(&t, c, ranges, 256)) > 0;
+ *     size_t n;
+ *     for (uint32_t c = 0; (n = bks_trie_ranges(&t, c, ranges, 256)) > 0;
  *          c = ranges[n - 1].last + 1) ..
  */
 size_t bks_trie_ranges(const bks_trie *trie, uint32_t c, bks_range *ranges, size_t room);
@@ -211,7 +214,7 @@ int64_t bks_trie_set(const bks_trie *trie, uint32_t value, uint32_t *ends, size_
  * Answers how many bytes the trie takes. They are in `bytes` where there is room for all of them,
  * and else `bytes` is unchanged: give it bks_trie_bound bytes, or ask with no room first, or again
  * with more. bks_open opens them, as a coherent trie. Where none is built, the first of these that
- * there is cause for: BKS_NO_FORM; BKS_WIDE_VALUE, of a row, of the default or of the error value;
+ * there is cause for: BKS_NO_FORM; BKS_WIDE_VALUE, of any row, of the default or of the error value;
  * BKS_TOO_LARGE, for its number of blocks only above 256 rows; or BKS_NO_MEMORY, which may come
  * before BKS_TOO_LARGE. */
 int64_t bks_trie_build(const bks_row *rows, size_t count, uint32_t default_value,
@@ -237,7 +240,9 @@ int64_t bks_set_size(const uint32_t *ends, size_t count);
 
 /* [m] The size in bytes of the longest front of a UTF-8 text whose characters the set holds, or,
  * where `held` is false, doesn't hold: uset_spanUTF8. A character ends there. BKS_NO_MEMORY,
- * BKS_NO_SET, or BKS_NO_TEXT. */
+ * BKS_NO_SET, or BKS_NO_TEXT. All of the text is tested first, which takes time for all of it: along
+ * a long one, give some of it, and more where the answer is all that you gave, as bekstaudi.hpp
+ * does. */
 int64_t bks_set_span(const uint32_t *ends, size_t count, const char *text, size_t size, bool held);
 
 /* [m] The set that an operation makes of two: what one of them holds or both, what both hold, what
@@ -269,7 +274,7 @@ int64_t bks_set_freeze(const uint32_t *ends, size_t count, uint64_t *table, size
  * bks_set_freeze did not write as they say, and what is behind `count` of them is 0. */
 bool bks_frozen_contains(const uint64_t *table, size_t count, uint32_t c);
 
-/* As bks_set_span, of a frozen set and without memory; BKS_NO_TEXT. */
+/* As bks_set_span, of a frozen set and without memory; BKS_NO_TEXT. It too tests all of the text. */
 int64_t bks_frozen_span(const uint64_t *table, size_t count, const char *text, size_t size,
                         bool held);
 
@@ -290,7 +295,8 @@ int64_t bks_units_longest(const void *units, size_t size, const uint16_t *text, 
                           int32_t *value);
 
 /* The same of a UTF-8 text: how many bytes the key takes, the units of some first characters; one
- * that ends within a character doesn't count. BKS_NO_KEY or BKS_NO_TEXT, and *value stays. */
+ * that ends within a character doesn't count. BKS_NO_KEY or BKS_NO_TEXT, and *value stays. All of
+ * the text is tested first: give no more of a long one than the longest key has. */
 int64_t bks_units_longest_utf8(const void *units, size_t size, const char *text, size_t text_size,
                                int32_t *value);
 
@@ -316,8 +322,9 @@ int64_t bks_units_count(const void *units, size_t size);
  * room first, or again with more. BKS_NO_MEMORY, or BKS_TOO_LARGE of 2^63 entries or bytes; then
  * nothing is written.
  *
- * 4 k units of a stranger can have 2^k entries: ask bks_units_count first. Of units that are no trie
- * the entries are what their nodes say, as far as they go. */
+ * 4 k units of a stranger can have 2^k entries, and a listing takes time for all of them, whatever
+ * room there is: ask bks_units_count first. Of units that are no trie the entries are what their
+ * nodes say, as far as they go. */
 int64_t bks_units_list(const void *units, size_t size, bks_word *words, size_t words_room,
                        char *texts, size_t texts_room, size_t *texts_size);
 
@@ -371,9 +378,10 @@ static inline uint8_t bks_get8(const bks_trie *trie, uint32_t c) {
     return bks_trie8_get(trie, c);
 }
 
-/* bks_trie16_get in line. */
+/* bks_trie16_get in line. What is no trie of 16 bits goes by the call, which reads inside. */
 static inline uint16_t bks_get16(const bks_trie *trie, uint32_t c) {
     uint16_t value;
+    if (trie->width != sizeof value) return bks_trie16_get(trie, c);
     if (c < trie->fast_limit) {
         memcpy(&value, trie->values + sizeof value * bks_fast_place(trie, c), sizeof value);
         return value;
@@ -384,9 +392,10 @@ static inline uint16_t bks_get16(const bks_trie *trie, uint32_t c) {
     return value;
 }
 
-/* bks_trie32_get in line. */
+/* bks_trie32_get in line, so too. */
 static inline uint32_t bks_get32(const bks_trie *trie, uint32_t c) {
     uint32_t value;
+    if (trie->width != sizeof value) return bks_trie32_get(trie, c);
     if (c < trie->fast_limit) {
         memcpy(&value, trie->values + sizeof value * bks_fast_place(trie, c), sizeof value);
         return value;

@@ -1,7 +1,8 @@
 // bekstaudi.hpp: bekstaudi.h in C++17, as classes by value.
 //
 // Tries are views: what they read stays in the bytes that they were made over. A set owns its ends.
-// What C answers by a number below 0 is thrown here: std::bad_alloc, or one of the errors below.
+// What C answers by a number below 0 is thrown here: std::bad_alloc, or one of the errors below. But
+// that no key begins a text, or that units are no trie, is an empty optional.
 // Link with -lbekstaudi.
 #ifndef BEKSTAUDI_HPP
 #define BEKSTAUDI_HPP
@@ -37,7 +38,7 @@ private:
     bks_status status_;
 };
 
-// The ends are those of no set, or the bytes of a text are no UTF-8.
+// The ends are those of no set, or the bytes of a text, as far as they are read, are no UTF-8.
 class set_refused : public std::invalid_argument {
 public:
     using std::invalid_argument::invalid_argument;
@@ -91,6 +92,26 @@ inline std::size_t answered(std::int64_t answer, const char *refused) {
     return static_cast<std::size_t>(answer);
 }
 
+// A front of the text that ends where a character does, if the text is UTF-8: of so many bytes, or of
+// up to three fewer.
+inline std::string_view front_of(std::string_view text, std::size_t size) {
+    if (size >= text.size()) return text;
+    std::size_t end = size;
+    while (end + 3 > size && (static_cast<unsigned char>(text[end]) & 0xC0) == 0x80) end--;
+    return text.substr(0, end);
+}
+
+// The longest front of a text that a call finds. Since a call tests all bytes that it is given, it
+// is given a short front of the text first, and one of twice as many bytes while that is all found.
+template <class Call>
+std::string_view span_of(std::string_view text, Call call) {
+    for (std::size_t size = 64;; size *= 2) {
+        std::string_view front = front_of(text, size);
+        std::size_t found = answered(call(view<char>(front)), "bekstaudi: no UTF-8");
+        if (found < front.size() || front.size() == text.size()) return text.substr(0, found);
+    }
+}
+
 // The ends that a call writes, which is asked again with more room where there are more than
 // `room`.
 template <class Call>
@@ -135,12 +156,12 @@ public:
     }
 
     // The longest front of a UTF-8 text whose characters the set holds, or, where `held` is false,
-    // doesn't hold. Throws set_refused where the bytes are no UTF-8.
+    // doesn't hold. No more of the text is read than 64 bytes, or four times the front. Throws
+    // set_refused where that is no UTF-8.
     std::string_view span(std::string_view text, bool held = true) const {
-        view<char> bytes(text);
-        std::int64_t size =
-            bks_set_span(of().data(), ends_.size(), bytes.data(), bytes.size(), held);
-        return text.substr(0, detail::answered(size, "bekstaudi: no UTF-8"));
+        return detail::span_of(text, [&](view<char> bytes) {
+            return bks_set_span(of().data(), ends_.size(), bytes.data(), bytes.size(), held);
+        });
     }
 
     friend code_point_set operator|(const code_point_set &a, const code_point_set &b) {
@@ -210,10 +231,9 @@ public:
 
     // As that of code_point_set, without memory.
     std::string_view span(std::string_view text, bool held = true) const {
-        view<char> bytes(text);
-        std::int64_t size =
-            bks_frozen_span(words_.data(), words_.size(), bytes.data(), bytes.size(), held);
-        return text.substr(0, detail::answered(size, "bekstaudi: no UTF-8"));
+        return detail::span_of(text, [&](view<char> bytes) {
+            return bks_frozen_span(words_.data(), words_.size(), bytes.data(), bytes.size(), held);
+        });
     }
 
 private:
@@ -232,7 +252,7 @@ public:
     // Opens the trie that the bytes begin with. Throws trie_refused where there is none, or one of
     // another width (BKS_OTHER_WIDTH).
     trie(const void *bytes, std::size_t size) {
-        auto status = static_cast<bks_status>(bks_open(&trie_, bytes, size));
+        auto status = static_cast<bks_status>(bks_open(&trie_, bytes ? bytes : "", size));
         if (status == BKS_OK && trie_.width != sizeof(Value)) status = BKS_OTHER_WIDTH;
         if (status != BKS_OK) throw trie_refused(status);
     }
@@ -245,7 +265,7 @@ public:
 
     // The trie as C has it, and how many of the bytes it takes.
     const bks_trie &as_c() const noexcept { return trie_; }
-    std::size_t size() const noexcept { return trie_.size; }
+    std::size_t size_bytes() const noexcept { return trie_.size; }
 
     // The value of c; above 0x10FFFF the error value.
     Value operator[](std::uint32_t c) const noexcept {
@@ -277,7 +297,7 @@ public:
         using reference = const bks_range &;
 
         iterator() = default;
-        explicit iterator(const bks_trie *of) noexcept : trie_(of) { ask(0); }
+        explicit iterator(const bks_trie &of) noexcept : trie_(of) { ask(0); }
         reference operator*() const noexcept { return ranges_[at_]; }
         pointer operator->() const noexcept { return &ranges_[at_]; }
         iterator &operator++() noexcept {
@@ -301,16 +321,16 @@ public:
         static constexpr std::size_t room = 32;
 
         void ask(std::uint32_t c) noexcept {
-            count_ = bks_trie_ranges(trie_, c, ranges_, room);
+            count_ = bks_trie_ranges(&trie_, c, ranges_, room);
             at_ = 0;
         }
         bool is_at_end() const noexcept { return at_ == count_; }
 
-        const bks_trie *trie_ = nullptr;
+        bks_trie trie_ = {};
         std::size_t at_ = 0, count_ = 0;
         bks_range ranges_[room] = {};
     };
-    iterator begin() const noexcept { return iterator(&trie_); }
+    iterator begin() const noexcept { return iterator(trie_); }
     iterator end() const noexcept { return iterator(); }
 
     // The code points in ranges of this value.
@@ -360,7 +380,8 @@ class entries_refused : public std::invalid_argument {
 public:
     explicit entries_refused(bks_refusal refusal)
         : std::invalid_argument("bekstaudi: no unit trie of these entries"), refusal_(refusal) {}
-    // BKS_LONG_KEY; BKS_SAME_KEY: two entries have one key; BKS_TOO_LARGE.
+    // BKS_LONG_KEY; BKS_SAME_KEY: two entries have one key; BKS_WIDE_VALUE: a value is no number of
+    // 32 bits with a sign; BKS_TOO_LARGE.
     bks_refusal refusal() const noexcept { return refusal_; }
 
 private:
@@ -387,7 +408,7 @@ public:
     explicit unit_trie(const C &&units) = delete;
 
     // The units of a trie of entries in any order, as bks_units_build has them: of a map, or of any
-    // other range of pairs of a key, in UTF-16, and a value. Throws entries_refused.
+    // other range of pairs of a key, in UTF-16, and a whole number. Throws entries_refused.
     template <class Entries>
     static std::vector<std::uint8_t> build(const Entries &entries) {
         std::u16string keys;
@@ -397,7 +418,8 @@ public:
             std::u16string_view units(key);
             keys.append(units);
             lengths.push_back(units.size());
-            values.push_back(value);
+            if (!is_of_32_bits(value)) throw entries_refused(BKS_WIDE_VALUE);
+            values.push_back(static_cast<std::int32_t>(value));
         }
         view<std::size_t> sizes(lengths);
         view<std::int32_t> numbers(values);
@@ -420,7 +442,8 @@ public:
     }
 
     // All entries in unit order, each key as UTF-8, with a lone surrogate as U+FFFD. Few units of a
-    // stranger can have very many entries: ask count() first.
+    // stranger can have very many entries: ask count() first. Throws std::length_error where that is
+    // more than any memory holds.
     std::vector<std::pair<std::string, std::int32_t>> entries() const {
         std::vector<bks_word> words(1);
         std::string texts(1, '\0');
@@ -429,7 +452,8 @@ public:
             std::int64_t answer =
                 bks_units_list(units_.data(), units_.size(), words.data(), words.size(),
                                texts.data(), texts.size(), &size);
-            if (answer < 0) throw std::bad_alloc();
+            if (answer == BKS_NO_MEMORY) throw std::bad_alloc();
+            if (answer < 0) throw std::length_error("bekstaudi: more entries than can be listed");
             std::size_t count = static_cast<std::size_t>(answer);
             if (count <= words.size() && size <= texts.size()) {
                 words.resize(count);
@@ -464,7 +488,8 @@ public:
         return match{static_cast<std::size_t>(size), value};
     }
 
-    // The same of UTF-8. Throws set_refused where the bytes are none.
+    // The same of UTF-8. All of the text is tested first, so that it takes time for all of it: give
+    // no more of a long one than the longest key has. Throws set_refused where it is no UTF-8.
     std::optional<match> longest(std::string_view text) const {
         std::int32_t value = 0;
         view<char> bytes(text);
@@ -495,6 +520,17 @@ public:
     };
 
 private:
+    // Whether a whole number is one of 32 bits with a sign.
+    template <class Number>
+    static constexpr bool is_of_32_bits(Number number) noexcept {
+        static_assert(std::is_integral_v<Number>, "the values of a unit trie are whole numbers");
+        if constexpr (std::is_unsigned_v<Number>)
+            return static_cast<std::uint64_t>(number) <= INT32_MAX;
+        else
+            return static_cast<std::int64_t>(number) >= INT32_MIN &&
+                   static_cast<std::int64_t>(number) <= INT32_MAX;
+    }
+
     static view<std::uint16_t> units_of(std::u16string_view text) noexcept {
         return {reinterpret_cast<const std::uint16_t *>(text.data()), text.size()};
     }

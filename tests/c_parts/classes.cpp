@@ -26,7 +26,7 @@ static bool throws(Call call) {
 template <class Value>
 static void all_of(const bekstaudi::view<uint8_t> &bytes, size_t count, uint32_t error) {
     const bekstaudi::trie<Value> trie(bytes);
-    CHECK(trie.size() == bytes.size() && trie.is_coherent());
+    CHECK(trie.size_bytes() == bytes.size() && trie.is_coherent());
     for (size_t i = 0; i < count; i++)
         for (uint32_t c = runs[i].first; c <= runs[i].last; c++) CHECK(trie[c] == runs[i].value);
     CHECK(trie[0x110000] == static_cast<Value>(error) && !trie.range(0x110000));
@@ -37,6 +37,8 @@ static void all_of(const bekstaudi::view<uint8_t> &bytes, size_t count, uint32_t
         CHECK(range.value == runs[i++].value);
     }
     CHECK(i == count);
+    auto first = [&] { return bekstaudi::trie<Value>(bytes).begin(); }();
+    CHECK(static_cast<size_t>(std::distance(first, trie.end())) == count);
     for (size_t k = 0; k < count; k += 97) {
         code_point_set set = trie.set_of(static_cast<Value>(runs[k].value));
         size_t held = 0;
@@ -60,6 +62,7 @@ static void refused(const bekstaudi::view<uint8_t> &bytes, size_t width) {
         return BKS_OK;
     };
     CHECK(status_of([&] { bekstaudi::trie8(bytes.data(), 3); }) == BKS_SHORT);
+    CHECK(status_of([&] { bekstaudi::trie8 none{std::string_view()}; }) == BKS_SHORT);
     CHECK(status_of([&] { bekstaudi::trie8(std::string_view("xxxxxxxxxxxxxxxx")); }) == BKS_SIGNATURE);
     CHECK(status_of([&] { bekstaudi::trie8 trie(bytes); }) == (width == 1 ? BKS_OK : BKS_OTHER_WIDTH));
     CHECK(status_of([&] { bekstaudi::trie16 trie(bytes); }) == (width == 2 ? BKS_OK : BKS_OTHER_WIDTH));
@@ -99,6 +102,17 @@ static void spans() {
     CHECK(letters.span("7 a", false) == "7 " && letters.span("").empty());
     CHECK(letters.span(std::string_view()).empty());
     CHECK(throws<bekstaudi::set_refused>([&] { letters.span("a\xFF"); }));
+    /* Fronts of each length around those that are read at a time, also where these cut a character. */
+    for (size_t size = 0; size < 600; size++)
+        for (std::string_view last : {"", "7", "\xC3\x9F", "\xC3\x9F" "7", "\xE4\xB8\x96", "\xF0\x9F\x98\x80"}) {
+            std::string text = std::string(size, 'a') + std::string(last) + "7";
+            CHECK(letters.span(text).size() == text.find_first_not_of("a\xC3\x9F"));
+            CHECK(bekstaudi::frozen_set(letters).span(text) == letters.span(text));
+        }
+    /* What is ill-formed is told where it is read, and not behind. */
+    const std::string before = std::string(100, ' ') + std::string(200, 'a') + "\xFF";
+    CHECK(letters.span(before, false).size() == 100);
+    CHECK(throws<bekstaudi::set_refused>([&] { letters.span(std::string_view(before).substr(100)); }));
     for (std::initializer_list<uint32_t> ends : {std::initializer_list<uint32_t>{1}, {2, 1}, {0, 0x110001}})
         CHECK(throws<bekstaudi::set_refused>([&] { code_point_set set(ends); }));
 }
@@ -178,6 +192,10 @@ static void unit_tries_built() {
         {"", -7}, {"a", 1}, {"ab", 2}, {"\uFFFD", 3}, {"\U0001F600", INT32_MIN}};
     CHECK(trie.entries() == wanted && trie.count() == 5u);
     CHECK(!bekstaudi::unit_trie("0", 2).count());
+    CHECK(bekstaudi::unit_trie::build(std::map<std::u16string, uint64_t>{{u"a", INT32_MAX}}).size() > 0);
+    for (int64_t wide : {int64_t{1} << 40, int64_t{INT32_MIN} - 1})
+        CHECK(throws<bekstaudi::entries_refused>(
+            [&] { bekstaudi::unit_trie::build(std::map<std::u16string, int64_t>{{u"a", wide}}); }));
     CHECK(bekstaudi::unit_trie::build(std::map<std::u16string, int32_t>()).empty());
     CHECK(bekstaudi::unit_trie(nullptr, 0).entries().empty());
     auto refusal_of = [](std::u16string_view key) {
@@ -202,7 +220,7 @@ static void built(size_t count, uint32_t error) {
             rows.push_back({runs[i].first, runs[i].last, runs[i].value});
         std::vector<uint8_t> bytes = bekstaudi::build<Value>(rows, 0, error, type);
         const bekstaudi::trie<Value> trie(bytes);
-        CHECK(trie.size() == bytes.size() && trie[0x110000] == static_cast<Value>(error));
+        CHECK(trie.size_bytes() == bytes.size() && trie[0x110000] == static_cast<Value>(error));
         size_t i = 0;
         for (const bks_range &range : trie) {
             CHECK(i < count && range.last == runs[i].last && range.value == runs[i].value);

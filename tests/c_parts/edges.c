@@ -38,6 +38,19 @@ static void odd_addresses(const uint8_t *bytes, size_t size, const bks_trie *tri
     free(room);
 }
 
+/* Look-ups in line of another width than the trie's answer as the calls do, and read inside. */
+static void other_widths(const uint8_t *bytes, size_t size) {
+    uint8_t *last = before_closed_page(size);
+    bks_trie trie;
+    memcpy(last, bytes, size);
+    CHECK(bks_open(&trie, last, size) == BKS_OK);
+    for (uint32_t c = 0; c <= CODE_POINTS; c += 7) {
+        CHECK(bks_get16(&trie, c) == bks_trie16_get(&trie, c));
+        CHECK(bks_get32(&trie, c) == bks_trie32_get(&trie, c));
+    }
+    released(last, size);
+}
+
 /* The ranges from c on, one by one and by many, with so much room. */
 static void many_ranges(const bks_trie *trie, uint32_t c, size_t room) {
     size_t size = room * sizeof(bks_range), n, i = 0;
@@ -144,6 +157,7 @@ int main(int count, char **words) {
         uint8_t *bytes = file_bytes(words[i], &size), *copy = before_closed_page(size);
         bks_trie trie;
         CHECK(bks_open(&trie, bytes, size) == BKS_OK);
+        other_widths(bytes, size);
         odd_addresses(bytes, size, &trie);
         short_buffers(&trie);
         fronts(bytes, size);
