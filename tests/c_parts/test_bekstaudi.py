@@ -1,13 +1,16 @@
 """The Python module over the shared library that BEKSTAUDI_LIBRARY names, on tries in the folder
 that TRIES names: NAME.bin with NAME.runs.txt, lines HEX..HEX;N, HEX;N; and where ICU is at hand
 names.units with names.keys.txt, lines KEY;N."""
+import copy
 import glob
 import os
+import pickle
 import sys
 import unittest
 
 from bekstaudi import (
-    CodePointSet, LongKey, NoForm, NoSet, SameKey, TooLarge, Trie, TrieRefused, UnitTrie, WideValue
+    CodePointSet, LongKey, NoForm, NoSet, NoTrie, SameKey, TooLarge, Trie, TrieRefused, UnitTrie,
+    WideValue,
 )
 
 FOLDER = os.environ["TRIES"]
@@ -27,6 +30,12 @@ def runs_of(name):
             points, value = line.split(";")
             first, _, last = points.partition("..")
             yield int(first, 16), int(last or first, 16), int(value)
+
+
+def copies(value):
+    """A value copied in each way that Python has."""
+    yield from (copy.copy(value), copy.deepcopy(value))
+    yield from (pickle.loads(pickle.dumps(value, it)) for it in range(pickle.HIGHEST_PROTOCOL + 1))
 
 
 class Tries(unittest.TestCase):
@@ -58,6 +67,35 @@ class Tries(unittest.TestCase):
         for far in (-1, 1 << 32):
             with self.assertRaises(ValueError):
                 trie[far]
+
+    def test_what_is_no_code_point(self):
+        trie = Trie(read(NAMES[0]))
+        for wrong in (97.0, "ab", "", b"a", None):
+            with self.assertRaises(TypeError):
+                trie[wrong]
+            with self.assertRaises(TypeError):
+                trie.values([wrong])
+
+    def test_neither_in_nor_iteration(self):
+        trie = Trie(read(NAMES[0]))
+        with self.assertRaises(TypeError):
+            iter(trie)
+        with self.assertRaises(TypeError):
+            65 in trie
+
+    def test_copies(self):
+        for name in NAMES:
+            trie = Trie(read(name) + b"more")
+            for it in copies(trie):
+                self.assertEqual((it, hash(it), it.data), (trie, hash(trie), read(name)))
+                self.assertEqual(list(it.ranges()), list(trie.ranges()))
+        self.assertEqual(len({Trie(read(it)) for it in NAMES}), len({read(it) for it in NAMES}))
+        self.assertNotEqual(trie, trie.data)
+
+    def test_no_bytes(self):
+        for wrong in (5, True, "abc", None):
+            with self.assertRaises(TypeError):
+                Trie(wrong)
 
     def test_what_a_trie_says_of_itself(self):
         for name in NAMES:
@@ -91,6 +129,7 @@ class Tries(unittest.TestCase):
             with self.assertRaises(TrieRefused) as told:
                 Trie(bytes(fault))
             self.assertEqual(told.exception.status, name)
+            self.assertEqual({it.status for it in copies(told.exception)}, {name})
         with self.assertRaises(TrieRefused):
             Trie(b"")
 
@@ -127,8 +166,21 @@ class Building(unittest.TestCase):
         for width in (0, 3, (1 << 32) + 1):
             with self.assertRaises(NoForm):
                 Trie.build([], width=width)
-        with self.assertRaises(TooLarge):
+        with self.assertRaisesRegex(TooLarge, "too large a trie"):
             Trie.build([(it, it, it) for it in range(0x110000)])
+
+    def test_what_is_said_of_refusals(self):
+        rows = [(0, 1, 5), ("A", "Z", 300), ("a", "z", 1 << 32)]
+        for given, said in (
+            ({"rows": rows[:2]}, r"^rows\[1\], 0x41 to 0x5a: 300 is no number of 8 bits$"),
+            ({"rows": rows}, r"^rows\[2\], 0x61 to 0x7a: 4294967296 is no number of 32 bits$"),
+            ({"rows": [], "default": -1}, "^the default -1 is no number of 32 bits$"),
+            ({"rows": [], "error": 256}, "^the error value 256 is no number of 8 bits$"),
+        ):
+            with self.assertRaisesRegex(WideValue, said):
+                Trie.build(**given, width=1)
+        with self.assertRaisesRegex(NoForm, "1, 2 or 4 bytes, not 3"):
+            Trie.build([], width=3)
 
 
 class Sets(unittest.TestCase):
@@ -159,6 +211,56 @@ class Sets(unittest.TestCase):
         self.assertEqual(hash(same), hash(self.letters))
         self.assertNotEqual(same, {0x41})
         self.assertEqual(repr(same), "CodePointSet([0x41, 0x5b, 0x61, 0x7b])")
+
+    def test_copies(self):
+        for made in (self.letters, CodePointSet(), CodePointSet([0, 0x110000])):
+            for it in copies(made):
+                self.assertEqual((it, hash(it), len(it)), (made, hash(made), len(made)))
+
+    def test_ends_stay(self):
+        self.assertEqual(self.letters.ends, (0x41, 0x5B, 0x61, 0x7B))
+        with self.assertRaises(AttributeError):
+            self.letters.ends = ()
+
+    def test_what_is_no_code_point(self):
+        for far in (-1, 0x110000, 1 << 32, -(1 << 70)):
+            self.assertNotIn(far, CodePointSet([0, 0x110000]))
+        for wrong in (97.0, "ab", "", b"a", None):
+            with self.assertRaises(TypeError):
+                wrong in self.letters
+
+    def test_of_ranges(self):
+        self.assertEqual(CodePointSet.from_ranges([("a", "z"), (0x41, 0x5A)]), self.letters)
+        joined = CodePointSet.from_ranges([(7, 9), (0, 5), (2, 3), (6, 6), (9, 12), (20, 20)])
+        self.assertEqual(joined.ends, (0, 13, 20, 21))
+        self.assertEqual(CodePointSet.from_ranges([]), CodePointSet())
+        self.assertEqual(len(CodePointSet.from_ranges([(0, 0x10FFFF), (5, 6)])), 0x110000)
+        for wrong in ((5, 4), (-1, 4), (0, 0x110000), (-9, -8)):
+            with self.assertRaises(NoSet):
+                CodePointSet.from_ranges([wrong, (0, 0x10FFFF)])
+
+    def test_of_characters(self):
+        self.assertEqual(CodePointSet.from_chars("cab\u4e16aZ\ud800").ranges(), [
+            (0x5A, 0x5A), (0x61, 0x63), (0x4E16, 0x4E16), (0xD800, 0xD800)
+        ])
+        self.assertEqual(CodePointSet.from_chars(""), CodePointSet())
+        self.assertEqual(CodePointSet.from_chars(map(chr, self.letters)), self.letters)
+
+    def test_span_from_a_start(self):
+        greek = CodePointSet([0x370, 0x400])
+        for count in (0, 1, 63, 64, 65, 1087, 1088, 1089, 3136, 9000):
+            text = "x" + count * "\u03b1" + "\U0001f600" + count * "."
+            self.assertEqual(greek.span(text, start=1), count)
+            self.assertEqual(greek.span(text, False, start=-count - 1), count + 1)
+            self.assertEqual(greek.span(text[:count + 1], start=1), count)
+        text = "\u03b1\u03b2 \u03b3"
+        for start in range(-6, 7):
+            self.assertEqual(greek.span(text, start=start), greek.span(text[start:]))
+        with self.assertRaises(TypeError):
+            greek.span(text, start=1.5)
+        self.assertEqual(greek.span("." + 2000 * " " + "\ud800"), 0)
+        with self.assertRaises(UnicodeEncodeError):
+            greek.span("\u03b1\ud800")
 
     def test_span_in_characters(self):
         greek = CodePointSet([0x370, 0x400])
@@ -198,6 +300,67 @@ class UnitTries(unittest.TestCase):
         self.assertIsNone(self.worked.longest(""))
         self.assertEqual(UnitTrie(b"\x07\x80").longest(""), ("", 7))
 
+    def test_longest_from_a_start(self):
+        words = {"a": 1, 2000 * "a": 2, "\u4e16": 3, 1100 * "\u4e16": 4}
+        words.update({"\ud83d": 5, "\U0001f600!": 6})
+        trie = UnitTrie.build(words)
+        for text in ("a", "\u4e16", "\U0001f600!", "\U0001f601", "z"):
+            for count in (1, 1023, 1024, 1025, 1099, 1100, 1999, 2000, 2001, 9000):
+                shown = "-" + count * text + "\u00e9"
+                found = [it for it in words if shown.startswith(it, 1)]
+                wanted = (max(found, key=len), words[max(found, key=len)]) if found else None
+                self.assertEqual(trie.longest(shown, 1), wanted)
+                self.assertEqual(trie.longest(shown[1:]), wanted)
+        for start in range(-3, 4):
+            self.assertEqual(trie.longest("ba", start), trie.longest("ba"[start:]))
+        self.assertEqual(trie.longest("a" + 3000 * " " + "\ud800"), ("a", 1))
+        with self.assertRaises(UnicodeEncodeError):
+            trie.longest("a\ud800")
+
+    def test_steps_lead_to_the_longest(self):
+        class Stepped(UnitTrie):
+            _WHOLE = _WHOLE_ASCII = 0
+
+        words = [f"{it:x}" for it in range(1, 4000, 7)] + ["\U0001f600\U0001f601", "\u4e16\ud83d"]
+        whole = UnitTrie.build({it: len(it) for it in words})
+        damaged = bytes(it ^ (place % 97 == 5) for place, it in enumerate(whole.data))
+        for units in (whole.data, damaged, whole.data[:99]):
+            for text in (*words[:-1], "\u4e16\U0001f601", "\U0001f600\U0001f602", "ff.ff", "", "f"):
+                for more in ("", "f", 99 * "7a"):
+                    found = UnitTrie(units).longest(text + more)
+                    self.assertEqual(Stepped(units).longest(f"\u4e16{text}{more}", 1), found)
+
+    def test_as_a_mapping(self):
+        words = {"car": 2, "cat": 3, "": -1}
+        trie = UnitTrie.build(words)
+        self.assertEqual((len(trie), trie.keys()), (3, ["", "car", "cat"]))
+        self.assertEqual(trie.values(), [-1, 2, 3])
+        self.assertEqual((dict(trie), {**trie}, list(trie)), (words, words, sorted(words)))
+        self.assertEqual([bool(it) for it in (trie, UnitTrie(b""))], [True, False])
+        for asks in (len, bool, list):
+            with self.assertRaisesRegex(NoTrie, "units are no trie"):
+                asks(UnitTrie(b"\x30\0"))
+
+    def test_shown_keys_that_are_none(self):
+        trie = UnitTrie.build({"\ud83d": 6, "\ufffd": 9})
+        self.assertEqual((len(trie), trie.items()), (2, [("\ufffd", 6), ("\ufffd", 9)]))
+        self.assertEqual((trie["\ud83d"], dict(trie)), (6, {"\ufffd": 9}))
+        with self.assertRaises(KeyError):
+            dict(UnitTrie.build({"\ud83d": 6}))
+
+    def test_copies(self):
+        for trie in (self.worked, self.pair, UnitTrie(b"")):
+            for it in copies(trie):
+                self.assertEqual((it, hash(it), it.items()), (trie, hash(trie), trie.items()))
+        self.assertEqual(UnitTrie(self.worked.data + b"x"), self.worked)
+        self.assertNotEqual(self.worked, self.pair)
+        self.assertNotEqual(self.worked, self.worked.data)
+
+    def test_no_bytes(self):
+        for wrong in (5, True, "abc", None):
+            with self.assertRaises(TypeError):
+                UnitTrie(wrong)
+
     def test_no_units(self):
         for units in (b"", b"\x30", b"\x30\0"):
             self.assertNotIn("0", UnitTrie(units))
@@ -217,13 +380,13 @@ class UnitTries(unittest.TestCase):
         self.assertEqual(UnitTrie.build(many).items(), sorted(many.items()))
 
     def test_entries_refused(self):
-        for entries, why in (
-            ([("a", 1), ([0x61], 2)], SameKey),
-            ({"a" * 65536: 1}, LongKey),
-            ({"a": 1 << 31}, WideValue),
-            ({"a": -(1 << 31) - 1}, WideValue),
+        for entries, why, said in (
+            ([("b", 0), ("a", 1), ([0x61], 2)], SameKey, "^2 entries have the key 'a'$"),
+            ({"b": 0, "a" * 65536: 1}, LongKey, r"^the key 'a{40}'\.\.\. has 65536 units"),
+            ({"b": 0, "a": 1 << 31}, WideValue, "^the key 'a': 2147483648 is no signed number"),
+            ({"\ud83d": -(1 << 31) - 1}, WideValue, r"^the key '\\ud83d': -2147483649 is no"),
         ):
-            with self.assertRaises(why):
+            with self.assertRaisesRegex(why, said):
                 UnitTrie.build(entries)
 
     def test_names(self):
