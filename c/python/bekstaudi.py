@@ -15,12 +15,14 @@ says of each call what it answers; what is proved of it is in README.md there.
 """
 import collections
 import ctypes
-import ctypes.util
 import operator
-import os
+
+from _bekstaudi import NUMBERS, Cursor, Range, Row, TrieFields, Word, library
 
 __all__ = ["BekstaudiError", "CodePointSet", "NoMemory", "NoSet", "NoTrie", "Trie", "TrieRefused"]
 __all__ += ["LongKey", "NoForm", "SameKey", "TooLarge", "UnitTrie", "WideValue"]
+
+_lib = library()
 
 
 class BekstaudiError(Exception):
@@ -76,109 +78,6 @@ class LongKey(BekstaudiError, ValueError):
 
 class SameKey(BekstaudiError, ValueError):
     """Two entries have one key."""
-
-
-class _Trie(ctypes.Structure):
-    """bks_trie of bekstaudi.h."""
-
-    _fields_ = [
-        ("index", ctypes.c_void_p),
-        ("index_size", ctypes.c_size_t),
-        ("values", ctypes.c_void_p),
-        ("values_size", ctypes.c_size_t),
-        ("size", ctypes.c_size_t),
-        ("fast_limit", ctypes.c_uint32),
-        ("high_start", ctypes.c_uint32),
-        ("null_value", ctypes.c_uint32),
-        ("data_null_offset", ctypes.c_uint32),
-        ("width", ctypes.c_uint32),
-        ("index3_null_offset", ctypes.c_uint16),
-        ("shifted12_high_start", ctypes.c_uint16),
-    ]
-
-
-class _Range(ctypes.Structure):
-    """bks_range of bekstaudi.h."""
-
-    _fields_ = [
-        ("first", ctypes.c_uint32),
-        ("last", ctypes.c_uint32),
-        ("value", ctypes.c_uint32),
-        ("found", ctypes.c_bool),
-    ]
-
-
-class _Row(ctypes.Structure):
-    """bks_row of bekstaudi.h."""
-
-    _fields_ = [
-        ("first", ctypes.c_uint32),
-        ("last", ctypes.c_uint32),
-        ("value", ctypes.c_uint32),
-    ]
-
-
-class _Word(ctypes.Structure):
-    """bks_word of bekstaudi.h."""
-
-    _fields_ = [("start", ctypes.c_size_t), ("size", ctypes.c_size_t), ("value", ctypes.c_int32)]
-
-
-class _Cursor(ctypes.Structure):
-    """bks_cursor of bekstaudi.h."""
-
-    _fields_ = [("position", ctypes.c_size_t), ("left", ctypes.c_uint16)]
-
-
-_NUMBERS = {1: ctypes.c_uint8, 2: ctypes.c_uint16, 4: ctypes.c_uint32}
-_LIST = [ctypes.POINTER(ctypes.c_uint32), ctypes.c_size_t]
-_TEXT = [ctypes.c_char_p, ctypes.c_size_t]
-_ROWS = [ctypes.POINTER(_Row), ctypes.c_size_t]
-_RANGES = [ctypes.POINTER(_Range), ctypes.c_size_t]
-_BYTES = [ctypes.c_void_p, ctypes.c_size_t]
-
-
-def _library():
-    """The shared library, with the types of its calls."""
-    beside = os.path.join(os.path.dirname(os.path.abspath(__file__)), "libbekstaudi.so")
-    path = os.environ.get("BEKSTAUDI_LIBRARY") or (beside if os.path.exists(beside) else None)
-    found = ctypes.CDLL(path or ctypes.util.find_library("bekstaudi") or "libbekstaudi.so")
-    trie, point = ctypes.POINTER(_Trie), ctypes.c_uint32
-    calls = {
-        "bks_trie_open": (ctypes.c_uint32, [ctypes.c_void_p, ctypes.c_size_t, trie]),
-        "bks_trie_is_coherent": (ctypes.c_bool, [trie]),
-        "bks_trie_ranges": (ctypes.c_size_t, [trie, point, *_RANGES]),
-        "bks_trie_set": (ctypes.c_int64, [trie, ctypes.c_uint32, *_LIST]),
-        "bks_trie_build": (ctypes.c_int64, [*_ROWS, *[ctypes.c_uint32] * 4, *_BYTES]),
-        "bks_set_test": (ctypes.c_bool, _LIST),
-        "bks_set_contains": (ctypes.c_bool, [*_LIST, point]),
-        "bks_set_size": (ctypes.c_int64, _LIST),
-        "bks_set_span": (ctypes.c_int64, [*_LIST, *_TEXT, ctypes.c_bool]),
-    }
-    for width, number in _NUMBERS.items():
-        many = [trie, *_LIST, ctypes.POINTER(number), ctypes.c_size_t]
-        calls[f"bks_trie{8 * width}_get"] = (number, [trie, point])
-        calls[f"bks_trie{8 * width}_get_many"] = (ctypes.c_size_t, many)
-    units = [ctypes.c_void_p, ctypes.c_size_t]
-    key, value = [ctypes.POINTER(ctypes.c_uint16), ctypes.c_size_t], ctypes.POINTER(ctypes.c_int32)
-    calls["bks_units_get"] = (ctypes.c_bool, [*units, *key, value])
-    calls["bks_units_longest_utf8"] = (ctypes.c_int64, [*units, *_TEXT, value])
-    calls["bks_units_step"] = (ctypes.c_uint32, [*units, ctypes.POINTER(_Cursor), ctypes.c_uint16])
-    room = ctypes.POINTER(ctypes.c_size_t)
-    words = [ctypes.POINTER(_Word), ctypes.c_size_t]
-    calls["bks_units_count"] = (ctypes.c_int64, [*units])
-    calls["bks_units_list"] = (ctypes.c_int64, [*units, *words, *_BYTES, room])
-    sizes, values = [room, ctypes.c_size_t], [value, ctypes.c_size_t]
-    calls["bks_units_build"] = (ctypes.c_int64, [*key, *sizes, *values, *_BYTES])
-    for name in ("union", "intersection", "difference", "symmetric_difference"):
-        calls[f"bks_set_{name}"] = (ctypes.c_int64, [*_LIST, *_LIST, *_LIST])
-    for name, (answer, words) in calls.items():
-        call = getattr(found, name)
-        call.restype, call.argtypes = answer, words
-    return found
-
-
-_lib = _library()
 
 
 def _copied(data):
@@ -276,13 +175,13 @@ class Trie:
     def __init__(self, data):
         # The copy lies where it is while this object lives, and nobody changes it.
         self._bytes = _copied(data)
-        self._trie = _Trie()
+        self._trie = TrieFields()
         place = ctypes.cast(ctypes.c_char_p(self._bytes), ctypes.c_void_p)
         self._trie.index = self._trie.values = place
         status = _lib.bks_trie_open(place, len(self._bytes), self._trie)
         if status:
             raise TrieRefused(status)
-        self._number = _NUMBERS[self._trie.width]
+        self._number = NUMBERS[self._trie.width]
         self._get = getattr(_lib, f"bks_trie{8 * self._trie.width}_get")
         self._get_many = getattr(_lib, f"bks_trie{8 * self._trie.width}_get_many")
 
@@ -298,10 +197,10 @@ class Trie:
         if min([default, error, *(it[2] for it in rows)]) < 0 or largest >= 1 << 32:
             raise _wide_value(rows, default, error, 32)
         if width is None:
-            width = next(it for it in _NUMBERS if largest >> 8 * it == 0)
-        if width not in _NUMBERS:
+            width = next(it for it in NUMBERS if largest >> 8 * it == 0)
+        if width not in NUMBERS:
             raise NoForm(f"a value takes 1, 2 or 4 bytes, not {width!r}")
-        packed = (_Row * max(len(rows), 1))(*rows)
+        packed = (Row * max(len(rows), 1))(*rows)
         refusals = {**cls._REFUSALS, -6: lambda: _wide_value(rows, default, error, 8 * width)}
         asked = (packed, len(rows), default, error, int(bool(small)), width)
         size = _count(_lib.bks_trie_build(*asked, ctypes.create_string_buffer(1), 0), refusals)
@@ -362,7 +261,7 @@ class Trie:
 
     def ranges(self):
         """The ranges of one value, in order: their first and last code points and their values."""
-        ranges, start = (_Range * 256)(), 0
+        ranges, start = (Range * 256)(), 0
         while count := _lib.bks_trie_ranges(self._trie, start, ranges, len(ranges)):
             for it in ranges[:count]:
                 yield it.first, it.last, it.value
@@ -551,7 +450,7 @@ class UnitTrie:
         first."""
         count, size = 0, ctypes.c_size_t(0)
         while True:
-            words, texts = (_Word * (count + 1))(), ctypes.create_string_buffer(size.value + 1)
+            words, texts = (Word * (count + 1))(), ctypes.create_string_buffer(size.value + 1)
             rooms = words, count, texts, size.value
             found = _count(_lib.bks_units_list(*self._units, *rooms, size), self._REFUSALS)
             if found <= count and size.value <= rooms[3]:
@@ -613,7 +512,7 @@ class UnitTrie:
         room = min(len(text) - start, len(self._bytes) // 2)
         if room <= (self._WHOLE_ASCII if text.isascii() else self._WHOLE):
             return room
-        cursor = ctypes.byref(_Cursor())
+        cursor = ctypes.byref(Cursor())
         for place in range(start, len(text), 64):
             front = text[place : place + 64].encode("utf-16-le", "surrogatepass")
             for count, unit in enumerate(memoryview(front).cast("H"), place + 1 - start):
