@@ -1,5 +1,7 @@
 """The kit's command rt as a module, for the scripts beside: it knows with which words the gate
 checks a crate, and what it keeps of the crates that it passed."""
+import contextlib
+import fcntl
 import importlib.machinery
 import importlib.util
 import os
@@ -7,6 +9,7 @@ import re
 import shutil
 import subprocess
 import sys
+import time
 
 
 def top():
@@ -63,6 +66,21 @@ def take_passed(rt, crate, tests=False):
     counts that a killed run left half written."""
     if not keeps():
         return False
+    with only_one():
+        return given(rt, crate, tests)
+
+
+@contextlib.contextmanager
+def only_one():
+    """One process at a time puts files in place: scripts run side by side."""
+    os.makedirs(f"{top()}/out", exist_ok=True)
+    with open(f"{top()}/out/lock", "w") as file:
+        fcntl.flock(file, fcntl.LOCK_EX)
+        yield
+
+
+def given(rt, crate, tests):
+    """Puts in place what take_passed says, if rt stores it."""
     below = sorted(crate.below(), key=lambda it: len(it.below()))
     rt.Crate.allowed = rt.handles_of(top())
     kept = rt.Kept([*below, crate])
@@ -111,4 +129,17 @@ def built(rt, crate):
     # A file that was edited while rt built has another stamp.
     with open(f"{made}.mark", "w", encoding="utf-8") as file:
         file.write(stamp + rt.rtlib.sum_of(made))
+    return made
+
+
+def placed(rt, crate):
+    """The path of the crate's program, or None if it can't be built. The file gets the time at which
+    this began, so that it is newer than the sources that it was built from."""
+    begun = time.time()
+    made = built(rt, crate)
+    if made:
+        # What is there may be a second name of a file that rt keeps.
+        shutil.copy(made, f"{made}.new")
+        os.utime(f"{made}.new", (begun, begun))
+        os.replace(f"{made}.new", made)
     return made
