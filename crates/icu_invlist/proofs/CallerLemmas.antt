@@ -1,18 +1,20 @@
--- What other crates may cite of sets of code points.
--- The ranges of a valid list: they ascend with gaps, lie in the code space, and hold what the list holds
+-- Lemmas on sets of code points that other crates may use.
+--
+-- The ranges of a valid list are ascending with gaps, are in the code space, and contain what the
+-- set contains.
 pub use Rattle.icu_invlist.proofs.HeldRanges.{ranges_apart, ranges_hold}
 pub use Rattle.icu_invlist.proofs.MemberLemmas.{ranges_within}
--- The complement of a valid list
+-- The complement of a valid list.
 pub use Rattle.icu_invlist.proofs.Complements.{complement_valid, complement-holds}
--- The empty list holds nothing
+-- The empty list is the empty set.
 pub use Rattle.icu_invlist.proofs.Parity.{holds-nil}
--- Sets that hold the same, or are part of each other, are equal
+-- Two sets are equal if they contain the same code points, or if each is a subset of the other.
 pub use Rattle.icu_invlist.proofs.EqualSets.{same_parts, same_sets}
--- How many members there are below a number: of a set and of what holds the rest, and at a member
+-- How many members are below a number: of a set and its complement, and at a member.
 pub use Rattle.icu_invlist.proofs.MemberCounts.{fewer_below, counts_of_complements, sizes_of_complements}
--- Nothing is held from the end of the code space on
+-- A set contains no number above the code space.
 pub use Rattle.icu_invlist.proofs.PlaceLemmas.{not_past_limit}
--- Strings in JSON say one list of ends
+-- Strings in JSON spell at most one list of boundaries.
 pub use Rattle.icu_invlist.proofs.WrittenSets.{said_alone}
--- The items of a JSON array, as they are read
+-- The items of a JSON array, as they are read.
 pub use Rattle.icu_invlist.proofs.JsonLemmas.{list_of-items_view}

@@ -1,4 +1,4 @@
--- The walk over the characters of a set.
+-- The iteration over the characters of a set.
 use Rattle.std.proofs.Common.{◌≡◌, ℕ, ◌+◌, ◌-◌, ◌<◌, List, [], ◌∷◌, ◌++◌, refl, ◌∙◌, arith, suc, true, false, Option, Some, None}
 use Rattle.std.specs.List.{filter, range_with_len}
 use Rattle.std.specs.Char.{IsScalar}
@@ -10,7 +10,7 @@ use Rattle.icu_invlist.specs.InversionList.{members}
 use Rattle.icu_invlist.specs.Inside.StillGiven.{characters_left}
 use Rattle.icu_invlist.proofs.HeldMembers.{no_members, more_members}
 
--- the characters from n to before e
+-- The characters from n to before e.
 abbrev pub between_chars : ℕ → ℕ → List ℕ
 between_chars n e = filter scalar (range_with_len n (e - n))
 
@@ -40,7 +40,7 @@ members-one s = refl
 pub left_is : (n e : ℕ) (ends : List ℕ) → characters_left n e ends ≡ between_chars n e ++ filter scalar (members ends)
 left_is n e ends = filter-append scalar (range_with_len n (e - n)) (members ends)
 
--- the answer of one search in a range
+-- The result of one search in a range.
 abbrev pub Taken : ℕ → ℕ → ℕ → Option ℕ → Type 0
 Taken n m e r = MatchOption r ((between_chars n e ≡ []) × (between_chars m e ≡ [])) (λ c. between_chars n e ≡ c ∷ between_chars m e)
 

@@ -1,4 +1,4 @@
--- The walk of a test for a valid list.
+-- The loop that tests whether a list is valid.
 use Rattle.std.proofs.Common.{◌≡◌, ◌∙◌, sym, ap, refl, ℕ, ◌+◌, ◌%◌, ◌<◌, ◌≤◌, suc, List, [], ◌∷◌, ◌++◌, length, get_or, subst, ◌⊎◌, inl, inr, arith}
 use Rattle.std.proofs.lemmas.List.{length-append, length_push, get_or_append_left, get_or_at, get_or_push, append_assoc, append-nil}
 use Rattle.icu_zerovec.specs.CodePoints.{code_point_limit}

@@ -1,4 +1,4 @@
--- The list of what a set does not hold.
+-- The boundaries of the complement of a set.
 use Rattle.std.proofs.Common.{◌≡◌, ℕ, ◌+◌, ◌%◌, ◌<◌, ◌≤◌, List, [], ◌∷◌, length, refl, ap, sym, ◌∙◌, arith, suc, true, false, not, inl, inr, Option, Some, None, eqb}
 use Rattle.std.specs.Option.{MatchOption}
 use Rattle.std.proofs.lemmas.Bool.{cases_lt, cases_order, cases_eq, both_ways, eq-eqb, ne_eqb, cond-true, cond-false, lt-ltb, le-ltb}
@@ -12,7 +12,7 @@ use Rattle.icu_invlist.proofs.Toggles.{odd_next, odd_before}
 use Rattle.icu_invlist.proofs.MemberLemmas.{no_single, rest_valid}
 use Rattle.icu_invlist.proofs.ValidLists.{run_from_valid, valid_from_run}
 
--- ---- the end of the code space put in or taken out
+-- ---- the end of the code space added or removed
 pub back_is : (e : ℕ) (xs : List ℕ) → e ≡ code_point_limit → toggle_back (e ∷ xs) ≡ []
 back_is e xs h = cond-true (eqb e code_point_limit) [] (e ∷ toggle_back xs) (eq-eqb e code_point_limit h)
 
@@ -50,7 +50,7 @@ back-ends_below lo c (e ∷ xs) h r = elim (cases_eq e code_point_limit) [
   ])
 ]
 
--- ---- 0 put in or taken out
+-- ---- 0 added or removed
 front_is : (e : ℕ) (xs : List ℕ) → e ≡ 0 → toggle_front (e ∷ xs) ≡ xs
 front_is e xs h = cond-true (eqb e 0) xs (0 ∷ e ∷ xs) (eq-eqb e 0 h)
 
@@ -90,7 +90,7 @@ complement-holds xs c v h = holds-ends_below (complement_of xs) c ∙ (front-hol
     ∙ ap not (ap is_odd (back-ends_below 0 c xs h (run_from_valid xs v)) ∙ sym (holds-ends_below xs c)))
 
 -- ---- the gaps that are left
--- a gap behind a range of the set
+-- A gap after a range of the set.
 pub gap_behind : (lo : ℕ) (ys zs : List ℕ) (r : Option ℕ) → 0 < length ys → Run lo (suc code_point_limit) (toggle_back ys)
     → MatchOption r ((ys ≡ []) × (zs ≡ [])) (λ x. ys ≡ x ∷ zs) → gaps_left (start_at r) zs ≡ toggle_back ys
 gap_behind lo ys zs None h up m = absurd (omega (arith, ap (λ (ws : List ℕ). length ws) m.0))
@@ -102,7 +102,7 @@ gap_behind lo ys zs (Some x) h up m = elim (cases_order x code_point_limit) [
   ]
 ]
 
--- the gap that comes next, and the gaps behind it
+-- The next gap, and the gaps after it.
 pub next_gap : (start e : ℕ) (ends ys zs : List ℕ) (o r s : Option ℕ) → IsValid (gaps_left o ends) → o ≡ Some start → ends ≡ e ∷ ys
     → MatchOption r ((ys ≡ []) × (zs ≡ [])) (λ x. ys ≡ x ∷ zs) → s ≡ start_at r
     → IsValid (gaps_left s zs) × (gaps_left o ends ≡ start ∷ e ∷ gaps_left s zs)
@@ -119,7 +119,7 @@ next_gap start e ends ys zs o r s v a b m t = elim (cases_eq e code_point_limit)
     some_behind [] h = absurd (omega arith)
     some_behind (y ∷ ys) h = omega arith
 
--- where the set holds 0
+-- The case that the set contains 0.
 zero_first : (x : ℕ) (ys : List ℕ) → Run 0 (suc code_point_limit) (x ∷ ys) → holds (x ∷ ys) 0 ≡ true → x ≡ 0
 zero_first x ys r h = elim (cases_eq x 0) [
   | inl e ↦ e
@@ -145,7 +145,7 @@ gaps_from_zero xs ys zs (Some x) r v h m n =
     some_behind [] h = absurd (omega arith)
     some_behind (y ∷ ys) h = omega arith
 
--- where the set does not hold 0
+-- The case that the set does not contain 0.
 pub gaps_from_start : (xs : List ℕ) → IsValid xs → holds xs 0 ≡ false → 0 ∷ toggle_back xs ≡ complement_of xs
 gaps_from_start [] v h = refl
 gaps_from_start (e ∷ xs) v h = elim (cases_eq e code_point_limit) [

@@ -1,4 +1,4 @@
--- Two valid lists with the same members are equal.
+-- Two valid lists of the same set are equal.
 use Rattle.std.proofs.Common.{◌≡◌, ℕ, ◌%◌, ◌<◌, ◌≤◌, List, [], ◌∷◌, Bool, refl, ap, sym, ◌∙◌, arith, suc, true, false, inl, inr}
 use Rattle.std.proofs.lemmas.Bool.{cases_lt, cases_order, cases_eq, eq-eqb, ne_eqb, eqb-true, eqb-false}
 use Rattle.icu_zerovec.specs.CodePoints.{code_point_limit}
@@ -8,7 +8,8 @@ use Rattle.icu_invlist.proofs.RunLemmas.{ends_below-before, ends_below-past, end
 use Rattle.icu_invlist.proofs.Parity.{holds-ends_below}
 use Rattle.icu_invlist.proofs.ValidLists.{run_from_valid}
 
--- parities of the numbers of ends not above c, at every c from lo on
+-- The parity of the number of boundaries that are at most c is the same in both lists, for all c
+-- from lo on.
 abbrev Agree : ℕ → List ℕ → List ℕ → Type 0
 Agree lo xs ys = (c : ℕ) → lo ≤ c → ends_below xs (suc c) % 2 ≡ ends_below ys (suc c) % 2
 
@@ -33,7 +34,7 @@ same lo hi (x ∷ xs) (y ∷ ys) r s a = elim (cases_order x y) [
   ]
 ]
 
--- past the code space a valid list holds nothing
+-- A valid list contains no number above the code space.
 pub holds-past : (xs : List ℕ) (c : ℕ) → IsValid xs → code_point_limit ≤ c → ends_below xs (suc c) % 2 ≡ 0
 holds-past xs c v h = let a = ends_below-past 0 (suc code_point_limit) xs (suc c) (run_from_valid xs v) (omega arith) in let b = v.even in
     omega arith
@@ -44,7 +45,7 @@ parity m n e = elim (cases_eq (m % 2) 1) [
   | inr h ↦ let k : is_odd n ≡ false = sym e ∙ ne_eqb _ _ h in let q = eqb-false _ _ k in omega arith
 ]
 
--- equal sets have equal lists
+-- Equal sets have equal lists.
 pub same_sets : (xs ys : List ℕ) → IsValid xs → IsValid ys → ((c : ℕ) → c < code_point_limit → holds xs c ≡ holds ys c) → xs ≡ ys
 same_sets xs ys v w h = same 0 (suc code_point_limit) xs ys (run_from_valid xs v) (run_from_valid ys w)
     (λ c _. elim (cases_lt c code_point_limit) [
@@ -57,6 +58,6 @@ both_imply true b f g = sym (f refl)
 both_imply false true f g = g refl
 both_imply false false f g = refl
 
--- sets that are part of each other are equal
+-- Sets that are subsets of each other are equal.
 pub same_parts : (xs ys : List ℕ) → IsValid xs → IsValid ys → IsSubset xs ys → IsSubset ys xs → xs ≡ ys
 same_parts xs ys v w f g = same_sets xs ys v w (λ c l. both_imply (holds xs c) (holds ys c) (f c l) (g c l))

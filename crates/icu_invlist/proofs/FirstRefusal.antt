@@ -1,4 +1,4 @@
--- A value that is refused says no set, by what its strings spell.
+-- If a value is rejected, its strings do not spell a set.
 use Rattle.std.proofs.Common.{◌≡◌, ℕ, ◌+◌, List, Option, Some, None, Result, Ok, Err, refl, sym, ap, ◌∙◌, subst, arith, suc}
 use Rattle.std.specs.Prelude.{◌≢◌}
 use Rattle.std.specs.Option.{ok_or}
@@ -12,15 +12,15 @@ use Rattle.icu_invlist.specs.declared.codepointinvlist.error.SetJsonError.TheVar
 use Rattle.icu_invlist.proofs.JsonLemmas.{ends_found, fault_of_ranges}
 use Rattle.icu_invlist.proofs.TextLemmas.{range_found, range_only}
 
--- an item that is no string
+-- An item that is not a string.
 abbrev pub NoString : Data → Type 0
 NoString d = (text : List ℕ) → d ≢ string text
 
--- item number j from place k on is place i, and the first with the fault
+-- With k items already read, item j is item i of the array, and is the first with the fault.
 abbrev FailsFrom : (Data → Type 0) → ℕ → ℕ → Items → Type 0
 FailsFrom Fault k i items = (j : ℕ) × (i ≡ k + j) × FailsFirst Fault j items
 
--- ---- the first string that spells no range
+-- ---- the first string that does not spell a range
 no_range_in : (k i : ℕ) (t : List ℕ) (items : Items) (r : Option (ℕ × ℕ)) (others : Result (List (ℕ × ℕ)) SetJsonError)
     → range_at (chars t) ≡ r
     → (others ≡ Err (errors.NotARange i) → FailsFrom SpellsNoRange (k + 1) i items)
@@ -44,7 +44,7 @@ no_range_from k i (item (string t) items) h =
 no_range_from k i (item (array ds) items) h = absurd cc
 no_range_from k i (item (object ms) items) h = absurd cc
 
--- ---- the first item that is no string
+-- ---- the first item that is not a string
 string_in : (k i : ℕ) (t : List ℕ) (items : Items) (r : Option (ℕ × ℕ)) (others : Result (List (ℕ × ℕ)) SetJsonError)
     → range_at (chars t) ≡ r
     → (others ≡ Err (errors.NotAString i) → FailsFrom NoString (k + 1) i items)
@@ -66,7 +66,7 @@ no_string_from k i (item (string t) items) h =
 no_string_from k i (item (array ds) items) h = let p : k ≡ i = cc in (0, omega arith, λ t e. absurd cc)
 no_string_from k i (item (object ms) items) h = let p : k ≡ i = cc in (0, omega arith, λ t e. absurd cc)
 
--- ---- an array is told from other values
+-- ---- an array differs from every other kind of value
 array_in : (k : ℕ) (r : Option (ℕ × ℕ)) (others : Result (List (ℕ × ℕ)) SetJsonError) → (others ≡ Err errors.NotAnArray → ⊥)
     → before (ok_or r (errors.NotARange k)) others ≡ Err errors.NotAnArray → ⊥
 array_in k None others go h = absurd cc
@@ -96,7 +96,7 @@ is_array (object ms) r h n = absurd (n (sym h))
 at_front : (Fault : Data → Type 0) (i : ℕ) (items : Items) → FailsFrom Fault 0 i items → FailsFirst Fault i items
 at_front Fault i items (j, p, f) = let e : j ≡ i = omega arith in subst (λ n. FailsFirst Fault n items) e f
 
--- a refused value says no set
+-- A rejected value does not spell a set.
 pub says_none : (d : Data) (e : SetJsonError) → IsRefusedJson d e → SaysNone d e
 says_none d errors.NotAnArray h = λ items e. items_of_array 0 items (fault_of_ranges errors.NotAnArray _ (ap ends_of (sym e) ∙ h))
 says_none d (errors.NotAString i) h =
@@ -109,7 +109,7 @@ says_none d errors.InvalidSet h =
     let a = is_array d _ h.1 (λ k. absurd cc) in (a.0, h.0, a.1, ends_found a.0 h.0 (ap ends_of (sym a.1) ∙ h.1), h.2)
 says_none d errors.Memory h = tt
 
--- what the reader of the ends refuses is refused
+-- If the reader of the boundaries fails, the value is rejected.
 pub given_none : (d : Data) (e : SetJsonError) → GivesEnds (Err e) (ends_of d) → SaysNone d e
 given_none d errors.NotAnArray h = says_none d errors.NotAnArray h
 given_none d (errors.NotAString i) h = says_none d (errors.NotAString i) h

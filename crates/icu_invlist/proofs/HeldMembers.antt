@@ -1,4 +1,4 @@
--- The members of a set are the code points that it holds, ascending.
+-- The members of a set are the code points that it contains, ascending.
 use Rattle.std.proofs.Common.{◌≡◌, ℕ, ◌+◌, ◌-◌, ◌%◌, ◌<◌, ◌≤◌, List, [], ◌∷◌, ◌++◌, length, get_or, refl, ap, sym, ◌∙◌, subst, arith, zero, suc, Bool, true, false, cond, inl, inr, ◌↔◌}
 use Rattle.std.proofs.lemmas.Bool.{cases_lt, false≢true, true≢false}
 use Rattle.std.proofs.lemmas.List.Elements.{All-contains, All-contains_itself, All-filter, All-cons, All-nil, All-weaker, Contains-append_left, Contains-append_right, Contains-append_cases, Contains-get_or, filter_passes}
@@ -23,7 +23,7 @@ pub more_members : (s e : ℕ) (ends : List ℕ) → members (s ∷ e ∷ ends) 
 unfolding members
 more_members s e ends = refl
 
--- ---- numbers in a row
+-- ---- consecutive numbers
 all_in_row : (low a n : ℕ) → low ≤ a → All (λ c. (low ≤ c) × (c < a + n)) (range_with_len a n)
 all_in_row low a zero h = All-nil (λ (c : ℕ). (low ≤ c) × (c < a + 0))
 all_in_row low a (suc n) h = All-cons (λ (c : ℕ). (low ≤ c) × (c < a + suc n)) a (range_with_len (a + 1) n) (h, omega arith)
@@ -51,7 +51,7 @@ row_rises a (suc n) = (
 none_contained : (c : ℕ) → Contains [] c → ⊥
 none_contained c (k, h, e) = omega (arith, h)
 
--- ---- the members of a list that rises
+-- ---- the members of a strictly ascending list
 none_held : (c : ℕ) → holds [] c ≡ false
 none_held c = holds-ends_below [] c
 

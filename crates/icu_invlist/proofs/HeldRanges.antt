@@ -1,4 +1,4 @@
--- The ranges of a valid list hold what the list holds, and stand apart from one another.
+-- The ranges of a valid list contain what the set contains, and have gaps between them.
 use Rattle.std.proofs.Common.{◌≡◌, ℕ, ◌+◌, ◌-◌, ◌%◌, ◌<◌, List, [], ◌∷◌, length, refl, sym, ◌∙◌, arith, suc, inl, inr}
 use Rattle.std.proofs.lemmas.Bool.{cases_lt, le-leb, lt-leb}
 use Rattle.icu_zerovec.specs.CodePoints.{code_point_limit}
@@ -33,7 +33,7 @@ in_ranges-ends_below lo (x ∷ y ∷ xs) c r even = let rest = in_ranges-ends_be
   ]
 ]
 
--- a code point is in a range exactly if it is held
+-- A code point is in a range if and only if the set contains it.
 pub ranges_hold : (xs : List ℕ) (c : ℕ) → IsValid xs → in_ranges (ranges_of xs) c ≡ holds xs c
 ranges_hold xs c v = in_ranges-ends_below 0 xs c (run_from_valid xs v) v.even ∙ sym (holds-ends_below xs c)
 
@@ -47,6 +47,6 @@ apart_from lo [] r = tt
 apart_from lo (x ∷ []) r = tt
 apart_from lo (x ∷ y ∷ xs) r = (starts_behind (y - 1 + 1) (suc y) xs (omega (arith, r.2.0)) r.2.2, apart_from (suc y) xs r.2.2)
 
--- the ranges ascend, with gaps between them
+-- The ranges are ascending, with gaps between them.
 pub ranges_apart : (xs : List ℕ) → IsValid xs → AreApart (ranges_of xs)
 ranges_apart xs v = apart_from 0 xs (run_from_valid xs v)

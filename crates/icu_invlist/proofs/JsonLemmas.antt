@@ -1,4 +1,4 @@
--- How the ends of the items are read, one item after another.
+-- The loop that reads the boundaries from the items.
 use Rattle.std.proofs.Common.{◌≡◌, ℕ, ◌+◌, ◌<◌, ◌≤◌, List, [], ◌∷◌, ◌++◌, Option, Some, None, Result, Ok, Err, refl, sym, ap, ◌∙◌, length, get_or, drop, map}
 use Rattle.std.specs.Option.{ok_or}
 use Rattle.std.specs.Str.{chars}
@@ -31,7 +31,7 @@ ends-append : (rs : List (ℕ × ℕ)) (r : ℕ × ℕ) → ends_of_ranges (rs +
 ends-append [] r = refl
 ends-append (s ∷ rs) r = ap (λ (z : List ℕ). s.0 ∷ (s.1 + 1) ∷ z) (ends-append rs r)
 
--- the ends so far are those of the ranges before item i
+-- The boundaries so far are those of the ranges before item i.
 pub record RangesRead (vs : List Value) (i : ℕ) (ends : List ℕ) : Type 0 where
   pub ranges : List (ℕ × ℕ)
   pub are : ends ≡ ends_of_ranges ranges
@@ -62,7 +62,7 @@ fault_read vs i x ends f s h e r = ends_in_view vs (Err f) (stops range_or view 
 pub all_read : (vs : List Value) (i : ℕ) (ends : List ℕ) → RangesRead vs i ends → length vs ≤ i → ends_in (items_view vs) ≡ Ok ends
 all_read vs i ends s h = ends_in_view vs (Ok s.ranges) (at_end range_or view vs i s.ranges _ h s.read) ∙ ap (λ z. Ok z) (sym s.are)
 
--- ---- the ends that are read are those that the strings say
+-- ---- the boundaries that are read are those that the strings spell
 pub same_ok : {A : Type 0} (a b : A) → ◌≡◌ {A = Result A SetJsonError} (Ok a) (Ok b) → a ≡ b
 same_ok a b h = cc
 
@@ -117,7 +117,7 @@ pub ends_only : (items : Items) (ends : List ℕ) → SayEnds items ends → end
 ends_only items ends h = let m = ranges_only 0 items ends h in
     ap (λ z. and_then z (λ rs. Ok (ends_of_ranges rs))) m.1 ∙ ap (λ z. Ok z) (sym m.2)
 
--- a fault of the ends is one of the ranges
+-- A fault of the boundaries is a fault of the ranges.
 pub fault_of_ranges : (e : SetJsonError) (r : Result (List (ℕ × ℕ)) SetJsonError)
     → ◌≡◌ {A = Result (List ℕ) SetJsonError} (and_then r (λ rs. Ok (ends_of_ranges rs))) (Err e) → r ≡ Err e
 fault_of_ranges e (Ok rs) h = absurd cc

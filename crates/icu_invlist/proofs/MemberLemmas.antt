@@ -18,13 +18,13 @@ length-ranges [] = refl
 length-ranges (x ∷ []) = refl
 length-ranges (x ∷ y ∷ xs) = let e = length-ranges xs in omega arith
 
--- what is left after a range
+-- What is left after a range.
 pub rest_valid : (x y : ℕ) (xs : List ℕ) → IsValid (x ∷ y ∷ xs) → IsValid xs
 rest_valid x y xs v = let r = run_from_valid (x ∷ y ∷ xs) v in
     valid_from_run xs (run-wider (suc y) (suc code_point_limit) 0 (suc code_point_limit) xs (omega arith) (omega arith) r.2.2)
     (let e = v.even in omega arith)
 
--- each range of a set has a code point, and none that is no code point
+-- Each range of a set is not empty, and all its numbers are code points.
 pub ranges_within : (xs : List ℕ) → IsValid xs → All IsOfCodePoints (ranges_of xs)
 ranges_within [] v = All-nil IsOfCodePoints
 ranges_within (x ∷ []) v = All-nil IsOfCodePoints
@@ -73,7 +73,7 @@ unfolding members_below
 members-none zero = refl
 members-none (suc m) = let a = members-none m in let b = held [] m in omega arith
 
--- the sum of the lengths of the ranges
+-- The sum of the lengths of the ranges.
 abbrev pub total : List ℕ → ℕ
 total [] = 0
 total (s ∷ []) = 0
@@ -101,7 +101,7 @@ total-le lo hi (s ∷ e ∷ xs) h r = let i = total-le (suc e) hi xs (omega (ari
 empty_valid : IsValid []
 empty_valid = valid_from_run [] tt refl
 
--- two ends taken off the front
+-- Two boundaries removed from the start.
 pub left_valid : (xs ys zs : List ℕ) (r q : Option ℕ) → IsValid xs → MatchOption r ((xs ≡ []) × (ys ≡ [])) (λ x. xs ≡ x ∷ ys)
     → MatchOption q ((ys ≡ []) × (zs ≡ [])) (λ y. ys ≡ y ∷ zs) → IsValid zs
 left_valid xs ys zs None None v a b = rw (b.1, ← a.0) v
@@ -115,7 +115,7 @@ members-before lo hi zero xs r h = refl
 members-before lo hi (suc m) xs r h = let a = members-before lo hi m xs r (omega arith) in let b = held xs m in
     let z = ends_below-before lo hi xs (suc m) r h in omega arith
 
--- a run from a place on
+-- A strictly ascending list from an index on.
 pub run-drop : (lo hi i : ℕ) (xs : List ℕ) → Run lo hi xs → Run lo hi (drop i xs)
 run-drop lo hi zero xs r = r
 run-drop lo hi (suc i) [] r = tt
@@ -125,7 +125,7 @@ pub drop_pair : (xs : List ℕ) (i : ℕ) → i + 1 < length xs → drop i xs �
 drop_pair xs i h = rw (drop_more xs i 0 (omega arith), drop_more xs (i + 1) 0 h)
     (ap (λ (n : ℕ). get_or xs i 0 ∷ get_or xs (i + 1) 0 ∷ drop n xs) (omega arith))
 
--- ---- where a point stands against the first range
+-- ---- a code point compared with the first range
 module _ (lo hi s e c : ℕ) (xs : List ℕ) (r : Run lo hi (s ∷ e ∷ xs)) where
   pub pair_past : e ≤ c → (holds (s ∷ e ∷ xs) c ≡ holds xs c) × (members_below (s ∷ e ∷ xs) c ≡ (e - s) + members_below xs c)
   pair_past h = (
@@ -145,7 +145,7 @@ module _ (lo hi s e c : ℕ) (xs : List ℕ) (r : Run lo hi (s ∷ e ∷ xs)) wh
   pair_before h = holds-ends_below (s ∷ e ∷ xs) c
       ∙ ne_eqb _ _ (λ k. let z = ends_below-before s hi (s ∷ e ∷ xs) (suc c) (omega arith, r.1, r.2) h in omega arith)
 
--- what a walk over the ranges knows at place i
+-- What a loop over the ranges knows at index i.
 pub record Walked (xs : List ℕ) (i c before : ℕ) : Type 0 where
   pub even : i % 2 ≡ 0
   pub held : holds xs c ≡ holds (drop i xs) c
@@ -179,7 +179,7 @@ module _ (xs : List ℕ) (i c before s e : ℕ) (v : IsValid xs) (w : Walked xs 
     small = (let t = ap total parts in let u = w.small in omega arith);
   }
 
--- ---- the range at a place
+-- ---- the range at an index
 pub nth : (xs : List ℕ) (k : ℕ) → k * 2 + 1 < length xs
     → slice_get (ranges_of xs) k ≡ Some (record { start = get_or xs (k * 2) 0; end = get_or xs (k * 2 + 1) 0 - 1; exhausted = false })
 nth [] k h = absurd (omega arith)

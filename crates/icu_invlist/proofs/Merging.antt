@@ -1,4 +1,4 @@
--- A walk over two lists of ends.
+-- The merge of two lists of boundaries.
 use Rattle.std.proofs.Common.{◌≡◌, ℕ, ◌+◌, ◌-◌, ◌%◌, ◌<◌, ◌≤◌, List, [], ◌∷◌, ◌++◌, length, set, take, drop, get_or, refl, ap, sym, ◌∙◌, add-zero, subst, arith, suc, Bool, true, false, not, inl, inr}
 use Rattle.std.specs.Prelude.{if◌then◌else◌, ◌⊎◌}
 use Rattle.std.proofs.Math.Bool.{not-not}
@@ -58,7 +58,8 @@ module _ (f : Bool → Bool → Bool) (a b out r : List ℕ) (passed i j n p q :
   merged_more : Merging f a b (out ++ r) (suc n) p q
   merged_more = record { first = pa; second = qb; run = grown-run; small = omega arith; parity = odd; set = set_at }
 
--- a list whose ends below `passed` are i, over an end n that is not below `passed`
+-- A list with i boundaries below `passed`, when the merge passes a boundary n that is not below
+-- `passed`.
 over : (xs : List ℕ) (i passed n p : ℕ) → IsValid xs → i ≡ ends_below xs passed → i < length xs → passed ≤ n → MovesOver n xs i p
     → (i ≡ ends_below xs n) × (p ≡ ends_below xs (suc n))
 over xs i passed n p v e h l o =
@@ -70,7 +71,7 @@ over xs i passed n p v e h l o =
       ],
     )
 
--- one step: the end n is written or not, as the answer past it asks
+-- One step: the boundary n is written if membership in the result changes there.
 pub merged_step : (f : Bool → Bool → Bool) (a b out r : List ℕ) (passed i j n p q : ℕ) → Merging f a b out passed i j → IsValid a
     → IsValid b
     → i < length a → j < length b → MovesOver n a i p → MovesOver n b j q → i + j < p + q
@@ -88,12 +89,12 @@ merged_step f a b out r passed i j n p q m v w hi hj s t on inside odd =
     let y = over b j passed n q w m.second hj after t in
     merged_more f a b out r passed i j n p q m after within x.0 y.0 x.1 y.1 inside odd
 
--- the parity past one end more
+-- The parity after one more boundary.
 odd_more : (n : ℕ) (v : Bool) → is_odd n ≡ not v → is_odd (n + 1) ≡ v
 odd_more n true h = eq-eqb _ _ (let k = eqb-false _ _ h in omega arith)
 odd_more n false h = ne_eqb _ _ (λ u. let k = eqb-true _ _ h in omega arith)
 
--- one step, with what is written to place k of a longer list
+-- One step that writes to index k of a longer list.
 written_step : (f : Bool → Bool → Bool) (a b out : List ℕ) (k i j n p q : ℕ) (held now : Bool) → Merged f a b (take k out) i j
     → held ≡ f (is_odd i) (is_odd j)
     → now ≡ f (is_odd p) (is_odd q) → k < length out → IsValid a → IsValid b → i < length a → j < length b → MovesOver n a i p
@@ -139,7 +140,7 @@ byte_small false = omega arith
 moves_within : (n : ℕ) (xs : List ℕ) (i p : ℕ) → MovesOver n xs i p → i < length xs → p ≤ length xs
 moves_within n xs i p o h = elim o.place [ inl k ↦ omega (arith, k.1) | inr k ↦ omega (arith, k.1) ]
 
--- ---- the walk, with what it has written
+-- ---- the merge, with what it has written
 pub walks_none : (f : Bool → Bool → Bool) (a b out : List ℕ) → f false false ≡ false → IsValid a → IsValid b
     → length a + length b ≤ length out → Walks f a b out 0 0 0
 walks_none f a b out e v w r = record {
@@ -151,7 +152,7 @@ walks_none f a b out e v w r = record {
   merged = record { passed = 0; so_far = none_yet f a b e };
 }
 
--- one step, which writes the end if the answer changes there
+-- One step, which writes the boundary if membership in the result changes there.
 walks_step : (f : Bool → Bool → Bool) (a b out : List ℕ) (w i j n p q : ℕ) → Walks f a b out i j w → i < length a → j < length b
     → MovesOver n a i p → MovesOver n b j q → i + j < p + q
     → Walks f a b (set out w n) p q (w + bool_byte (not (beq (f (is_odd p) (is_odd q)) (f (is_odd i) (is_odd j)))))
@@ -171,14 +172,16 @@ exchanged_differ true false = refl
 exchanged_differ false true = refl
 exchanged_differ false false = refl
 
--- the answer changes at an end of one set exactly if it differs in and out of that set
+-- Membership in the result changes at a boundary of one set if and only if it depends on that set
+-- there.
 turned : (f : Bool → Bool) (i : ℕ) → not (beq (f (is_odd (i + 1))) (f (is_odd i))) ≡ not (beq (f true) (f false))
 turned f i = elim (cases_Bool (is_odd i)) [
   | inl h ↦ rw (h, odd_more i false h) (exchanged_differ (f false) (f true))
   | inr h ↦ rw (h, odd_more i true h) refl
 ]
 
--- it changes at an end of both sets where it differs in both and out of both, or in each alone
+-- At a boundary of both sets, membership in the result changes if it differs between in both and in
+-- neither, or between in one and in the other.
 abbrev pub TurnsAtBoth : (Bool → Bool → Bool) → Bool → Bool → Bool
 TurnsAtBoth f x y = not (beq (f x y) (f (not x) (not y)))
 
@@ -211,8 +214,8 @@ walks_both f a b out w i j s hi hj e = rw (← turned_both f i j)
     (walks_step f a b out w i j (get_or a i 0) (i + 1) (j + 1) s hi hj
     (record { least = omega arith; place = inl (refl, refl) }) (record { least = omega arith; place = inl (sym e, refl) }) (omega arith))
 
--- the ends of the first up to the next of the second, those of both, and those of the second up to
--- the next of the first: at least one is passed
+-- The boundaries of the first list up to the next of the second, then the common ones, then those
+-- of the second up to the next of the first: at least one is passed.
 pub some_passed : (a b : List ℕ) (i j p q s t : ℕ) → i < length a → j < length b → i ≤ p → (p < length a → get_or b j 0 ≤ get_or a p 0)
     → p ≤ q → j ≤ s
     → (q < length a → s < length b → get_or a q 0 ≡ get_or b s 0 → ⊥) → s ≤ t → (t < length b → get_or a q 0 ≤ get_or b t 0) → i + j < q + t
@@ -232,12 +235,12 @@ some_passed a b i j p q s t hi hj ip first pq js both st second = elim (cases_lt
 is_even : (xs : List ℕ) (n : ℕ) → IsValid xs → n ≡ length xs → is_odd n ≡ false
 is_even xs n v e = rw e (ne_eqb _ _ (λ k. let t = v.even in omega arith))
 
--- past all ends of a list its set holds nothing
+-- After all boundaries of a list, its set contains nothing.
 holds_none : (xs : List ℕ) (i passed c : ℕ) → IsValid xs → i ≡ ends_below xs passed → i ≡ length xs → passed ≤ c → holds xs c ≡ false
 holds_none xs i passed c v e h l = holds-ends_below xs c ∙ is_even xs (ends_below xs (suc c)) v
     (let s = ends_below-mono xs passed (suc c) (omega arith) in let t = ends_below-le xs (suc c) in omega arith)
 
--- the second list is passed, and the operation leaves the rest of the first out
+-- The second list is used up, and the operation drops the rest of the first.
 rest_left : (f : Bool → Bool → Bool) (a b out : List ℕ) (passed i j : ℕ) → Merging f a b out passed i j → IsValid a → IsValid b
     → j ≡ length b
     → ((x : Bool) → f x false ≡ false) → IsValid out × Acts f a (holds b) out
@@ -254,7 +257,7 @@ rest_left f a b out passed i j m v w e none =
     even_from : (xs : List ℕ) → is_odd (length xs) ≡ false → length xs % 2 ≡ 0
     even_from xs h = let k = eqb-false _ _ h in omega arith
 
--- the second list is passed, and the operation keeps the rest of the first
+-- The second list is used up, and the operation copies the rest of the first.
 rest_kept : (f : Bool → Bool → Bool) (a b out : List ℕ) (passed i j : ℕ) → Merging f a b out passed i j → IsValid a → IsValid b
     → j ≡ length b
     → ((x : Bool) → f x false ≡ x) → IsValid (out ++ drop i a) × Acts f a (holds b) (out ++ drop i a)
@@ -288,7 +291,7 @@ rest_kept f a b out passed i j m v w e keep =
       ],
     )
 
--- an operation with its sides exchanged
+-- An operation with its two sets exchanged.
 exchanged : (f : Bool → Bool → Bool) (a b out : List ℕ) (passed i j : ℕ) → Merging f a b out passed i j
     → Merging (λ x y. f y x) b a out passed j i
 exchanged f a b out passed i j m = record {
@@ -309,7 +312,7 @@ leaves : (f : Bool → Bool) → f false ≡ false → f true ≡ false → (x :
 leaves f n h false = n
 leaves f n h true = h
 
--- the second list is passed
+-- The second list is used up.
 after_second : (f : Bool → Bool → Bool) (a b out : List ℕ) (i j p : ℕ) → f false false ≡ false → Merged f a b out i j → IsValid a
     → IsValid b → i ≤ length a → j ≡ length b
     → p ≡ (if f true false then i else length a) → IsValid (out ++ drop p a) × Acts f a (holds b) (out ++ drop p a)
@@ -323,7 +326,7 @@ same_cond : (t : Bool) (x y : ℕ) → x ≡ y → (if t then x else y) ≡ y
 same_cond true x y e = e
 same_cond false x y e = refl
 
--- one of the lists is passed, and what is wanted of the rest of either is appended
+-- One of the lists is used up, and the rest of either is appended if it is wanted.
 rests : (f : Bool → Bool → Bool) (a b out : List ℕ) (i j p q : ℕ) → f false false ≡ false → Merged f a b out i j → IsValid a → IsValid b
     → i ≤ length a → j ≤ length b
     → (i ≡ length a) ⊎ (j ≡ length b)
@@ -346,21 +349,22 @@ pub merged_all : (f : Bool → Bool → Bool) (a b out : List ℕ) (n i j p q : 
 merged_all f a b out n i j p q none s passed k l =
     rests f a b (take n out) i j p q none s.merged s.valid.0 s.valid.1 s.first s.second passed k l
 
--- what a list is after its rests are appended
+-- The list after the rests are appended.
 pub joined : (a b out cut more whole : List ℕ) (p q : ℕ) → cut ≡ out → more ≡ cut ++ take (length a - p) (drop p a)
     → whole ≡ more ++ drop q b → whole ≡ (out ++ drop p a) ++ drop q b
 joined a b out cut more whole p q x y z =
     z ∙ ap (λ (ys : List ℕ). ys ++ drop q b) (y ∙ (ap (λ (ys : List ℕ). ys ++ take (length a - p) (drop p a)) x
     ∙ ap (λ (ys : List ℕ). out ++ ys) (take_all (length a - p) (drop p a) (omega (arith, length-drop p a)))))
 
--- ---- sets whose ends stand apart
--- before its own ends begin, the second list holds nothing
+-- ---- sets whose boundaries do not interleave
+-- Before its first boundary, the second list contains nothing.
 second_none : (a b : List ℕ) (s : StandBefore a b) (c : ℕ) → c < s.end → holds b c ≡ false
 second_none a b s c h = holds-ends_below b c
     ∙ ap is_odd (let k = ends_below-mono b (suc c) s.end (omega arith) in let n = s.second in
     let z : ends_below b (suc c) ≡ 0 = omega arith in z)
 
--- all ends of the first list are passed and none of the second; the operation keeps the first, or leaves it out
+-- All boundaries of the first list are passed and none of the second. The operation keeps the first
+-- set or drops it.
 stood : (f : Bool → Bool → Bool) (a b out : List ℕ) → f false false ≡ false → IsValid a → (s : StandBefore a b)
     → (f true false ≡ true) × (out ≡ a) ⊎ (f true false ≡ false) × (out ≡ [])
     → Merging f a b out s.end (length a) 0
@@ -386,7 +390,7 @@ stood f a b out none v s (inr (t, e)) = rw e (record {
   set = λ c h. holds-nil c ∙ sym (ap (f (holds a c)) (second_none a b s c h) ∙ leaves (λ x. f x false) none t (holds a c));
 })
 
--- the operation keeps both
+-- The operation keeps both.
 pub stood_both : (f : Bool → Bool → Bool) (a b : List ℕ) → f false false ≡ false → IsValid a → IsValid b → StandBefore a b
     → f true false ≡ true → f false true ≡ true
     → IsValid (a ++ b) × Acts f a (holds b) (a ++ b)
@@ -397,7 +401,7 @@ stood_both f a b none v w s t u =
     (sym (cond-true _ _ _ t)) (sym (cond-true _ _ _ u)) in
     rw (drop_all (length a) a (omega arith), append-nil a) at all
 
--- the operation keeps none of the second
+-- The operation drops the second set.
 pub stood_first : (f : Bool → Bool → Bool) (a b out : List ℕ) → f false false ≡ false → IsValid a → IsValid b → StandBefore a b
     → f false true ≡ false → out ≡ (if f true false then a else [])
     → IsValid out × Acts f a (holds b) out
@@ -410,7 +414,7 @@ stood_first f a b out none v w s u e =
     (sym (same_cond (f true false) (length a) (length a) refl)) (sym (cond-false _ _ _ u)) in
     rw (drop_all (length a) a (omega arith), append-nil out, drop_all (length b) b (omega arith), append-nil out) at all
 
--- the same where the ends of the second stand before those of the first
+-- The operation drops the second set, whose boundaries are below those of the first.
 pub stood_second : (f : Bool → Bool → Bool) (a b out : List ℕ) → f false false ≡ false → IsValid a → IsValid b → StandBefore b a
     → f false true ≡ false → out ≡ (if f true false then a else [])
     → IsValid out × Acts f a (holds b) out
@@ -434,7 +438,8 @@ stood_second f a b out none v w s u e =
           ) at all)
     ]
 
--- where all ends of a list stand, by its last one and the other's first
+-- All boundaries of one list are below those of the other if its last one is below the first of the
+-- other.
 pub stand_by_ends : (a b : List ℕ) (n : ℕ) → IsValid a → IsValid b → n ≡ length a → 0 < n → 0 < length b → get_or a (n - 1) 0 < get_or b 0 0
     → StandBefore a b
 stand_by_ends a b n v w e some least h = record {

@@ -1,4 +1,4 @@
--- The packed bytes of the ends of a set.
+-- The packed bytes of the boundaries of a set.
 use Rattle.std.proofs.Common.{◌≡◌, ℕ, ◌+◌, ◌^◌, ◌<◌, List, [], ◌∷◌, ◌++◌, drop, slice_get, Some, refl, ap, sym, ◌∙◌, arith, append_assoc, zero, suc, lit<}
 use Rattle.std.specs.List.{flat_map, AllByRecursion}
 use Rattle.std.proofs.lemmas.List.Elements.{recursion_from_All}
@@ -18,13 +18,13 @@ packed_ends xs v = IsPacked-flat_map (λ b. Some (number_of 3 b)) 3 (low_bytes 3
     (λ x h. ap Some (number_of-3 x h))
     xs (small_ends xs v) (λ x h. low_bytes-small 3 x)
 
--- they give the ends back
+-- The bytes unpack to the boundaries.
 pub values_packed : (xs : List ℕ) → IsValid xs → values_of (λ b. Some (number_of 3 b)) 3 (flat_map (low_bytes 3) xs) ≡ xs
 values_packed xs v = values_of-flat_map (λ b. Some (number_of 3 b)) 3 (low_bytes 3) (λ x. x < 2 ^ 24) (lit< tt) (λ x h. refl)
     (λ x h. ap Some (number_of-3 x h))
     xs (small_ends xs v)
 
--- and are not refused
+-- The bytes are valid.
 pub no_fault : (xs : List ℕ) → IsValid xs → (e : UleError) → IsFault (λ b. Some (number_of 3 b)) 3 (flat_map (low_bytes 3) xs) e → ⊥
 no_fault xs v Length h = h ((packed_ends xs v).whole)
 no_fault xs v (Cell i) h = let k = h.2 in cc
@@ -34,7 +34,7 @@ drop_place [] i x e = cc
 drop_place (y ∷ ys) zero x e = let k : y ≡ x = cc in rw k refl
 drop_place (y ∷ ys) (suc i) x e = let k : suc i + 1 ≡ suc (i + 1) = omega arith in rw k (drop_place ys i x e)
 
--- one end more is unpacked
+-- One more boundary is unpacked.
 pub unpacked_more : (xs front whole : List ℕ) (i x : ℕ) → slice_get xs i ≡ Some x → front ++ drop i xs ≡ whole
     → (front ++ x ∷ []) ++ drop (i + 1) xs ≡ whole
 unpacked_more xs front whole i x e w = append_assoc front (x ∷ []) (drop (i + 1) xs)

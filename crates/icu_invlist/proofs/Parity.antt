@@ -1,4 +1,4 @@
--- A code point is held if the number of ends below the next one is odd.
+-- The set contains c if the number of boundaries below c + 1 is odd.
 use Rattle.std.proofs.Common.{◌≡◌, ℕ, ◌%◌, List, [], refl, ap, arith, suc, Bool, true, false, cond}
 use Rattle.std.proofs.lemmas.Bool.{eq-eqb, ne_eqb}
 use Rattle.icu_invlist.specs.InversionList.{holds, is_odd}

@@ -1,4 +1,4 @@
--- Where a code point stands among the ends of a valid list.
+-- The index of a code point among the boundaries of a valid list.
 use Rattle.std.proofs.Common.{◌≡◌, ℕ, ◌+◌, ◌-◌, ◌%◌, ◌<◌, ◌≤◌, List, [], ◌∷◌, length, get_or, refl, sym, ◌∙◌, arith, suc, true, false, inl, inr}
 use Rattle.std.proofs.lemmas.Bool.{cases_eq, cases_lt, eq-eqb, ne_eqb, eqb-true, le-leb, le-ltb, lt-leb, lt-ltb}
 use Rattle.icu_zerovec.specs.CodePoints.{code_point_limit}
@@ -16,7 +16,7 @@ pub stays_at : (xs : List ℕ) (i m n : ℕ) → IsValid xs → i ≡ ends_below
     → i ≡ ends_below xs n
 stays_at xs i m n v e h next = e ∙ ends_below-stays 0 (suc code_point_limit) m n xs (run_from_valid xs v) h (rw e at next)
 
--- the place moves on over n
+-- The index moves past n.
 pub moves_over : (xs : List ℕ) (i n : ℕ) → IsValid xs → i ≡ ends_below xs n → i < length xs → get_or xs i 0 ≡ n
     → i + 1 ≡ ends_below xs (suc n)
 moves_over xs i n v e h k = below_is xs (i + 1) (suc n) (omega arith)
@@ -36,7 +36,7 @@ run-length lo hi (x ∷ xs) h r = let a = run-length (suc x) hi xs (omega (arith
 pub valid-length : (xs : List ℕ) → IsValid xs → length xs ≤ suc code_point_limit
 valid-length xs v = let a = run-length 0 (suc code_point_limit) xs (omega arith) (run_from_valid xs v) in omega arith
 
--- what an end says of the place of c
+-- What a boundary says about the index of c.
 pub place_behind : (xs : List ℕ) (m c : ℕ) → IsValid xs → m < length xs → get_or xs m 0 ≤ c → m + 1 ≤ ends_below xs (suc c)
 place_behind xs m c v l h = let b = ends_below-more 0 (suc code_point_limit) (suc c) xs (run_from_valid xs v) m (omega arith) l in
     omega arith
@@ -53,7 +53,7 @@ all_below xs n c r e some h = below_is xs n c (omega arith)
     (λ k p. let q = run-rises 0 (suc code_point_limit) xs r k (n - 1) 0 (omega arith) (omega arith) in omega arith)
     (λ k p q. absurd (omega arith))
 
--- a point in a run of the set
+-- A code point in a range of the set.
 pub covers_all : (xs : List ℕ) (i s e : ℕ) → IsValid xs → i ≡ ends_below xs (suc s) → i % 2 ≡ 1 → i < length xs → e ≤ get_or xs i 0
     → HoldsAll xs s e
 covers_all xs i s e v p odd h l c a b = rw (holds-ends_below xs c, ← stays_at xs i (suc s) (suc c) v p (omega arith) (λ k. omega arith))
@@ -78,7 +78,7 @@ within-place xs i c v p odd = let a = ends_below-le xs c in let b = v.even in
 pub not_past_limit : (xs : List ℕ) (c : ℕ) → IsValid xs → code_point_limit ≤ c → holds xs c ≡ false
 not_past_limit xs c v h = let e = holds-past xs c v h in holds-ends_below xs c ∙ ne_eqb _ _ (λ k. omega arith)
 
--- the points of a run are held, and each held point is in a run
+-- The set contains the code points of its ranges, and each code point in the set is in a range.
 pub in_pair : (xs : List ℕ) (k c : ℕ) → IsValid xs → k % 2 ≡ 0 → k + 1 < length xs → get_or xs k 0 ≤ c → c < get_or xs (k + 1) 0
     → holds xs c ≡ true
 in_pair xs k c v even l a b =
@@ -112,8 +112,8 @@ pub all_from_subset : (part whole : List ℕ) (k : ℕ) → IsValid part → k %
     → HoldsAll whole (get_or part k 0) (get_or part (k + 1) 0)
 all_from_subset part whole k v even l sub c a b = sub c (let w = v.within (k + 1) 0 l in omega arith) (in_pair part k c v even l a b)
 
--- ---- parts of a set
--- the set `whole` holds the ranges of `part` before place i
+-- ---- subsets
+-- The set `whole` contains the ranges of `part` before index i.
 pub record HoldsBefore (part whole : List ℕ) (i : ℕ) : Type 0 where
   pub even : i % 2 ≡ 0
   pub ranges : (k : ℕ) → k + 1 < i → k % 2 ≡ 0 → HoldsAll whole (get_or part k 0) (get_or part (k + 1) 0)
@@ -137,7 +137,7 @@ holds_whole part whole i b v l = subset_from part whole i v l b.ranges
 pub last_of_pair : (xs : List ℕ) (i : ℕ) → IsValid xs → i % 2 ≡ 0 → i < length xs → i + 1 < length xs
 last_of_pair xs i v e l = let d = v.even in omega arith
 
--- nothing is part of no code points
+-- A set with no boundaries has only the empty set as a subset.
 pub no_part_of_none : (part whole : List ℕ) → IsValid part → 0 < length part → length whole ≡ 0 → IsSubset part whole → ⊥
 no_part_of_none part whole v some none sub =
     let r = all_from_subset part whole 0 v refl (last_of_pair part 0 v refl some) sub in
@@ -145,7 +145,7 @@ no_part_of_none part whole v some none sub =
     let p : 0 ≡ ends_below whole (suc (get_or part 0 0)) = (let l = ends_below-le whole (suc (get_or part 0 0)) in omega arith) in
     not_even whole 0 (get_or part 0 0) (get_or part 1 0) p a r (λ e. omega arith)
 
--- a part has its first start and its last end within those of the whole
+-- The first and the last boundary of a subset are within those of the whole set.
 pub first_within : (part whole : List ℕ) → IsValid part → IsValid whole → 0 < length part → IsSubset part whole
     → get_or whole 0 0 ≤ get_or part 0 0
 first_within part whole v w some sub = elim (cases_lt (get_or part 0 0) (get_or whole 0 0)) [
@@ -176,7 +176,7 @@ last_within part whole m n v w pm pn some more sub = elim (cases_lt (get_or whol
   | inr h ↦ h
 ]
 
--- the set of two ends is one range
+-- The set with two boundaries is one range.
 pub one_range : (xs : List ℕ) (c s e : ℕ) → IsValid xs → length xs ≡ 2 → s ≡ get_or xs 0 0 → e ≡ get_or xs 1 0 → between s e c ≡ holds xs c
 one_range (x ∷ y ∷ []) c s e v l p q =
     let up : x < y = v.ascending 0 (omega arith) in

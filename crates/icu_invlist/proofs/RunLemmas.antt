@@ -1,4 +1,5 @@
--- Lists that rise strictly from lo to before hi, and how many of their numbers stand below c.
+-- Lists that are strictly ascending from lo to before hi, and how many of their numbers are below
+-- c.
 use Rattle.std.proofs.Common.{◌≡◌, ℕ, ◌+◌, ◌<◌, ◌≤◌, List, [], ◌∷◌, ◌++◌, length, get_or, take, drop, refl, ap, arith, zero, suc, cond, inl, inr}
 use Rattle.std.proofs.lemmas.Bool.{cases_lt, cond-true, cond-false, lt-ltb, le-ltb, le-leb, lt-leb}
 use Rattle.std.proofs.lemmas.List.Sums.{sum_by-cons}
@@ -13,7 +14,7 @@ ends_below-yes x c xs h = cond-true _ _ _ (lt-ltb x c h)
 pub ends_below-no : (x c : ℕ) (xs : List ℕ) → c ≤ x → ends_below (x ∷ xs) c ≡ ends_below xs c
 ends_below-no x c xs h = cond-false _ _ _ (le-ltb x c h)
 
--- the number of ends not above c
+-- The number of boundaries that are at most c.
 count_cons : (x c n : ℕ) (xs : List ℕ) → count_by (λ e. nat_le e c) xs ≡ n
     → count_by (λ e. nat_le e c) (x ∷ xs) ≡ cond (nat_lt x (suc c)) (suc n) n
 count_cons x c n xs e = elim (cases_lt c x) [
@@ -57,7 +58,7 @@ pub run-append : (lo mid hi : ℕ) (xs ys : List ℕ) → lo ≤ mid → mid ≤
 run-append lo mid hi [] ys a b r s = run-wider mid hi lo hi ys a (omega arith) s
 run-append lo mid hi (x ∷ xs) ys a b r s = (r.0, omega (arith, r.1), run-append (suc x) mid hi xs ys (omega (arith, r.1)) b r.2 s)
 
--- what stands before place `below xs c` is below c, and the rest is not
+-- The numbers before index `below xs c` are below c, and the others are not.
 pub run-front : (lo hi c : ℕ) (xs : List ℕ) → Run lo hi xs → Run lo c (take (ends_below xs c) xs)
 run-front lo hi c [] r = tt
 run-front lo hi c (x ∷ xs) r = elim (cases_lt x c) [
@@ -82,7 +83,7 @@ ends_below-mono (x ∷ xs) c d h = let k = ends_below-mono xs c d h in elim (cas
   ])
 ]
 
--- the first i numbers are below c, and the others are not
+-- The first i numbers are below c, and the others are not.
 pub below_is : (xs : List ℕ) (i c : ℕ) → i ≤ length xs → ((k : ℕ) → k < i → get_or xs k 0 < c)
     → ((k : ℕ) → i ≤ k → k < length xs → c ≤ get_or xs k 0) → i ≡ ends_below xs c
 below_is [] i c h a b = omega arith
@@ -103,7 +104,7 @@ run-rises lo hi (x ∷ xs) r zero (suc j) d h l = let b = run-least (suc x) hi x
 run-rises lo hi (x ∷ xs) r (suc i) zero d h l = absurd (omega arith)
 run-rises lo hi (x ∷ xs) r (suc i) (suc j) d h l = run-rises (suc x) hi xs r.2 i j d (omega arith) (omega arith)
 
--- what stands before place `below xs m` is below m
+-- The numbers before index `below xs m` are below m.
 pub ends_below-front : (lo hi m : ℕ) (xs : List ℕ) → Run lo hi xs → (k : ℕ) → k < ends_below xs m → get_or xs k 0 < m
 ends_below-front lo hi m [] r k h = absurd (omega arith)
 ends_below-front lo hi m (x ∷ xs) r zero h = elim (cases_lt x m) [
@@ -115,7 +116,7 @@ ends_below-front lo hi m (x ∷ xs) r (suc k) h = elim (cases_lt x m) [
   | inr a ↦ absurd (let e = ends_below-no x m xs a in let f = ends_below-before (suc x) hi xs m r.2 (omega arith) in omega arith)
 ]
 
--- the place stays up to the next number
+-- The index is the same for all numbers up to the next boundary.
 pub ends_below-stays : (lo hi m n : ℕ) (xs : List ℕ) → Run lo hi xs → m ≤ n
     → (ends_below xs m < length xs → n ≤ get_or xs (ends_below xs m) 0) → ends_below xs m ≡ ends_below xs n
 ends_below-stays lo hi m n xs r h next = below_is xs (ends_below xs m) n (ends_below-le xs m)

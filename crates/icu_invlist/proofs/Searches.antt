@@ -1,4 +1,4 @@
--- How a search among ends narrows the place of a number.
+-- How a search narrows the index of a number among boundaries.
 use Rattle.std.proofs.Common.{ℕ, ◌+◌, ◌-◌, ◌*◌, ◌<◌, ◌≤◌, List, length, get_or, arith, refl, Bool, true, false, inl, inr}
 use Rattle.std.specs.Prelude.{IsTrue, ◌↔◌}
 use mir.Val.{bool_byte}
@@ -6,7 +6,7 @@ use Rattle.std.proofs.lemmas.Bool.{cases_lt, false≢true}
 use Rattle.icu_invlist.specs.Inside.Places.{AreStepsBelow, Run, ends_below}
 use Rattle.icu_invlist.proofs.RunLemmas.{ends_below-front, ends_below-more}
 
--- an end stands below m exactly before the place of m
+-- A boundary is below m if and only if it is before the index of m.
 pub place_of_end : (hi : ℕ) (xs : List ℕ) (k m : ℕ) → Run 0 hi xs → k < length xs → (get_or xs k 0 < m) ↔ (k < ends_below xs m)
 place_of_end hi xs k m r h = (λ l. ends_below-more 0 hi m xs r k l h, λ l. ends_below-front 0 hi m xs r k l)
 
@@ -35,7 +35,7 @@ pub steps_counted : (p low step : ℕ) (x y z : Bool) → 0 < step → low ≤ p
     → AreStepsBelow p low step (bool_byte x + bool_byte y + bool_byte z)
 steps_counted p low step x y z s f a b c = counted p low step x y z s f (told x _ p a) (told y _ p b) (told z _ p c)
 
--- one end that was looked at
+-- One boundary that was compared.
 pub one_counted : (p low size : ℕ) (x : Bool) → 0 < size → low ≤ p → p ≤ low + size → (IsTrue x ↔ (low < p))
     → (low + bool_byte x ≤ p) × (p ≤ low + bool_byte x + (size - 1)) × (low + bool_byte x + (size - 1) ≤ low + size)
 one_counted p low size true s f t h = let k = h.0 refl in (omega arith, omega arith, omega arith)

@@ -1,4 +1,4 @@
--- The walk of a span over the characters of a text.
+-- The loop of a span over the characters of a text.
 use Rattle.std.proofs.Common.{◌≡◌, ◌∙◌, sym, ap, refl, ℕ, ◌+◌, List, [], ◌∷◌, ◌++◌, append_assoc, length, take, drop, reverse, Bool, true, false, arith, encode_utf8}
 use Rattle.std.specs.List.{take_while}
 use Rattle.std.specs.Str.{IsCharBoundary, chars, encode_utf8_all, IsUtf8}
@@ -9,7 +9,7 @@ use Rattle.std.proofs.lemmas.List.Sums.{take_while-cons}
 use Rattle.std.specs.Char.{IsScalar}
 use Rattle.std.proofs.lemmas.Str.{chars_past_char, IsUtf8-past_char, chars_from_encodes, IsUtf8-nil, IsUtf8-encode, IsUtf8-append, IsUtf8-take, IsCharBoundary-at_seam, IsCharBoundary-from_drop, chars-append, chars-nil, drop_past_char, length-encode}
 
--- how long the front is that passes
+-- The length of the prefix that passes.
 abbrev pub front : (ℕ → Bool) → List ℕ → ℕ
 front p text = length (encode_utf8_all (take_while p (chars text)))
 
@@ -56,12 +56,12 @@ span_ends p text rest n s e =
     let f : front p rest ≡ 0 = ap (front p) r ∙ ap (λ (cs : List ℕ). length (encode_utf8_all (take_while p cs))) (sym k) in
     let b = s.so_far in omega arith
 
--- a character starts where the walk stands, or the text ends
+-- The current offset is a character boundary.
 pub span_boundary : (p : ℕ → Bool) (text rest : List ℕ) (n : ℕ) → Spanned p text rest n → IsCharBoundary text n
 span_boundary p text rest n s = IsCharBoundary-from_drop text n (let a = s.all in omega arith) (rw s.left s.utf8)
 
--- ---- from the back
--- how long the tail is that passes
+-- ---- from the end of the text
+-- The length of the suffix that passes.
 abbrev pub tail : (ℕ → Bool) → List ℕ → ℕ
 tail p text = length (encode_utf8_all (take_while p (reverse (chars text))))
 
@@ -122,6 +122,6 @@ back_ends p text rest s e =
 pub back_start : (p : ℕ → Bool) (text rest : List ℕ) → IsUtf8 text → rest ≡ text → SpannedBack p text rest
 back_start p text rest u e = rw e (record { utf8 = u; behind = []; behind_utf8 = IsUtf8-nil; parts = sym (append-nil text); so_far = refl })
 
--- a character starts where the walk stands, or the text ends
+-- The current offset is a character boundary.
 pub back_boundary : (p : ℕ → Bool) (text rest : List ℕ) → SpannedBack p text rest → IsCharBoundary text (length rest)
 back_boundary p text rest s = IsCharBoundary-at_seam text rest s.behind s.parts s.behind_utf8

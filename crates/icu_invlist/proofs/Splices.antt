@@ -1,4 +1,4 @@
--- A splice of a list of ends, and what its set holds then.
+-- A splice of a list of boundaries, and what the set contains after it.
 use mathlib.Core.Bool.{beq}
 use Rattle.std.proofs.Common.{◌≡◌, ℕ, ◌+◌, ◌-◌, ◌%◌, ◌<◌, ◌≤◌, List, [], ◌∷◌, ◌++◌, length, set, get_or, take, drop, refl, ap, sym, ◌∙◌, arith, min, suc, add-one, nat_eq, Bool, true, false, cond, not, ◌&&◌, ◌⊎◌, inl, inr}
 use Rattle.std.proofs.lemmas.Bool.{cases_lt, cases_eq, lt-ltb, le-ltb, le-leb, lt-leb, eq-eqb, ne_eqb, eqb-true}
@@ -21,14 +21,14 @@ in_range s e c h k = rw (le-leb s c h, lt-ltb c e k) refl
 pub past_range : (s e c : ℕ) → e ≤ c → between s e c ≡ false
 past_range s e c h = elim (cases_lt c s) [ inl k ↦ before_range s e c k | inr k ↦ rw (le-leb s c k, le-ltb c e h) refl ]
 
--- the ends that stand before place `below xs c`, and the others
+-- The boundaries before index `below xs c`, and the others.
 pub ends_below-split : (xs : List ℕ) (n c : ℕ) → ends_below xs c ≡ ends_below (take n xs) c + ends_below (drop n xs) c
 ends_below-split xs n c = ap (λ (ys : List ℕ). ends_below ys c) (sym (take-append-drop n xs)) ∙ ends_below-append (take n xs) (drop n xs) c
 
 pub length_front : (xs : List ℕ) (c : ℕ) → length (take (ends_below xs c) xs) ≡ ends_below xs c
 length_front xs c = length-take-le (ends_below xs c) xs (ends_below-le xs c)
 
--- r in place of the ends from s to e
+-- The list r in place of the boundaries from s to e.
 abbrev pub spliced : List ℕ → ℕ → ℕ → List ℕ → List ℕ
 spliced xs s e r = splice xs (ends_below xs s) (ends_below xs (suc e)) r
 
@@ -43,7 +43,7 @@ module _ (xs : List ℕ) (s e hi : ℕ) (r : List ℕ) (up : Run 0 hi xs) (less 
   spliced-ends_below c = ends_below-append (take (ends_below xs s) xs) (r ++ drop (ends_below xs (suc e)) xs) c
       ∙ ap (λ (n : ℕ). ends_below (take (ends_below xs s) xs) c + n) (ends_below-append r (drop (ends_below xs (suc e)) xs) c)
 
-  -- before the range nothing changes
+  -- Nothing changes before the range.
   pub spliced-before : (c : ℕ) → c < s → ends_below (spliced xs s e r) (suc c) ≡ ends_below xs (suc c)
   spliced-before c h =
       let a = spliced-ends_below (suc c) in
@@ -82,7 +82,7 @@ module _ (xs : List ℕ) (s e hi : ℕ) (r : List ℕ) (up : Run 0 hi xs) (less 
       let g = ends_below-le xs (suc e) in
       omega arith
 
--- at most the two borders
+-- At most the two borders are left.
 abbrev pub borders : Bool → Bool → ℕ → ℕ → List ℕ
 borders f g s e = cond f (s ∷ []) [] ++ cond g (e ∷ []) []
 
@@ -131,7 +131,8 @@ module _ (xs : List ℕ) (s e : ℕ) (value f g : Bool) (valid : IsValid xs) (le
     ]
   ]
 
--- whether a border is needed, so that the number of ends before it is odd exactly if the answer from it on is `value`
+-- Whether a border is needed: after it, the number of boundaries has to be odd if and only if
+-- membership is `value`.
 abbrev pub needed : ℕ → Bool → Bool
 needed n value = not (beq (nat_eq (n % 2) 1) value)
 
@@ -197,13 +198,13 @@ emptied xs s e last c l h k = let n : between s e c ≡ false =
     and_no true = refl
     and_no false = refl
 
--- ---- two ends put in
+-- ---- two boundaries inserted
 two_first : (ys : List ℕ) → 2 ≤ length ys → (a : ℕ) × (b : ℕ) × (take 2 ys ≡ a ∷ b ∷ [])
 two_first [] h = absurd (omega arith)
 two_first (a ∷ []) h = absurd (omega arith)
 two_first (a ∷ b ∷ ys) h = (a, b, refl)
 
--- two places more at the end, the ends from p on moved there, and two written over what they leave
+-- The list grows by two, the boundaries from index p on move there, and two are written at p.
 pub two_put_in : (xs zs : List ℕ) (p n s e : ℕ) → n ≡ length xs → p ≤ n → length zs ≡ 2
     → set (set (copy_within (xs ++ zs) p n (p + 2)) p s) (p + 1) e ≡ splice xs p p (s ∷ e ∷ [])
 two_put_in xs zs p n s e pn h two =
@@ -226,7 +227,7 @@ two_put_in xs zs p n s e pn h two =
     set-append_right front (s ∷ w.1 ∷ back) p (p + 1) e f (omega arith) in
     rw (moved, first, second, one) refl
 
--- the count stays where the next end is not below
+-- The count does not change if the next boundary is not below.
 pub stays_below : (hi : ℕ) (xs : List ℕ) (i c : ℕ) → Run 0 hi xs → i ≤ ends_below xs c → c ≤ get_or xs i 0 → i ≡ ends_below xs c
 stays_below hi xs i c r h k = elim (cases_lt i (ends_below xs c)) [
   | inl l ↦ absurd (let f = ends_below-front 0 hi c xs r i l in omega arith)

@@ -1,4 +1,4 @@
--- Reading a text, and the grammar.
+-- The reader of a text agrees with the grammar.
 use Rattle.std.proofs.Common.{◌≡◌, ℕ, ◌+◌, ◌*◌, ◌<◌, List, [], ◌∷◌, ◌++◌, Option, Some, None, Bool, true, false, cond, nat_eq, nat_lt, option_and_then, inl, inr, refl, sym, ap, subst, append-nil, ◌∙◌, arith}
 use Rattle.std.specs.Char.{digit_value}
 use Rattle.std.proofs.lemmas.Bool.{eqb-true, lt-ltb, ltb-true}
@@ -30,7 +30,7 @@ bind_some : {A B : Type 0} (r : Option A) (f : A → Option B) (y : B) → optio
 bind_some None f y h = absurd cc
 bind_some (Some x) f y h = (x, refl, h)
 
--- four digits off the front
+-- Four digits at the start.
 record TakesHex (cs : List ℕ) (x : ℕ × List ℕ) : Type 0 where
   digits : List ℕ
   is : cs ≡ digits ++ x.1
@@ -110,7 +110,7 @@ point_takes [] x h = absurd cc
 point_takes (c ∷ []) x h = one_char c [] x h
 point_takes (c ∷ d ∷ cs) x h = two_chars c d cs x (nat_eq c 0x55) (nat_eq d 0x2B) (eqb-true c 0x55) (eqb-true d 0x2B) h
 
--- a text that may follow a point: nothing, or one that begins with another character than +
+-- A text that may follow a code point: empty, or not starting with +.
 abbrev Follows : List ℕ → Type 0
 Follows [] = Unit {0}
 Follows (c ∷ cs) = nat_eq c 0x2B ≡ false

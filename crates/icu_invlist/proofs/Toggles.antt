@@ -1,4 +1,4 @@
--- One end put in or taken out.
+-- One boundary inserted or removed.
 use Rattle.std.proofs.Common.{◌≡◌, ℕ, ◌+◌, ◌%◌, ◌<◌, ◌≤◌, List, [], ◌∷◌, length, refl, ap, sym, ◌∙◌, arith, suc, add-one, Bool, true, not, inl, inr, Result, Ok, Err, Decides}
 use Rattle.std.proofs.lemmas.List.Sorted.{searched}
 use Rattle.std.specs.List.Sorted.{IsBinarySearchResult}
@@ -67,7 +67,7 @@ take_out xs ys x i j up w a b n y =
       ],
     )
 
--- what a binary search for x tells: its place and that it is an end, or that it is none
+-- What a binary search for x returns: its index if x is a boundary, and an error if it is not.
 abbrev pub EndFound : List ℕ → ℕ → Result ℕ ℕ → Type 0
 EndFound xs x r = MatchResult r (λ i. (i ≡ ends_below xs x) × (i < length xs) × (ends_below xs x ≡ ends_below xs (x + 1) → ⊥))
     (λ i. (i ≡ ends_below xs x) × (ends_below xs x ≡ ends_below xs (x + 1)))

@@ -1,4 +1,4 @@
--- Valid lists are runs of even length.
+-- Valid lists are strictly ascending lists of even length.
 use Rattle.std.proofs.Common.{◌≡◌, ℕ, ◌+◌, ◌%◌, ◌<◌, ◌≤◌, List, [], ◌∷◌, length, get_or, arith, zero, suc, subst}
 use Rattle.std.specs.List.Sorted.{IsStrictlyIncreasing}
 use Rattle.std.specs.List.{All}
@@ -22,7 +22,7 @@ run_from lo hi (x ∷ xs) up low high = (
 pub run_from_valid : (xs : List ℕ) → IsValid xs → Run 0 (suc code_point_limit) xs
 run_from_valid xs v = run_from 0 (suc code_point_limit) xs v.ascending (λ h. omega arith) (λ k h. let b = v.within k 0 h in omega arith)
 
--- a run ascends without a repetition
+-- A `Run` is strictly ascending.
 pub rises : (lo hi : ℕ) (xs : List ℕ) → Run lo hi xs → IsStrictlyIncreasing xs
 rises lo hi [] r k h = absurd (omega arith)
 rises lo hi (x ∷ []) r k h = absurd (omega arith)

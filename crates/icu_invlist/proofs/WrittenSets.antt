@@ -1,4 +1,4 @@
--- What is written of a set is read back as the set.
+-- A set that is written to JSON is read back unchanged.
 use Rattle.std.proofs.Common.{◌≡◌, ℕ, ◌+◌, ◌-◌, ◌/◌, ◌%◌, ◌<◌, ◌≤◌, List, [], ◌∷◌, ◌++◌, map, length, get_or, drop, refl, sym, ap, ◌∙◌, arith, suc, true, inl, inr, Ok, Err}
 use Rattle.std.specs.Char.{digit_value}
 use Rattle.std.specs.Str.{encode_utf8_all}
@@ -21,7 +21,7 @@ use Rattle.icu_invlist.proofs.JsonLemmas.{ends_found, ends_only, same_ok}
 use Rattle.icu_invlist.proofs.MemberLemmas.{drop_pair}
 use Rattle.icu_invlist.proofs.ValidLists.{run_from_valid}
 
--- ---- points
+-- ---- code points
 hex_value : (d : ℕ) → d < 16 → digit_value (upper_hex d) ≡ d
 hex_value d h = elim (cases_lt d 10) [
   | inl k ↦ rw (lt-ltb d 10 k) (grind (arith, nat_tests))
@@ -96,7 +96,7 @@ range_scalars a b h k = elim (cases_eq a b) [
 ]
 
 -- ---- sets
--- a string of characters
+-- A string of characters.
 abbrev pub text_data : List ℕ → Data
 text_data t = string (encode_utf8_all t)
 

@@ -1,4 +1,4 @@
--- Words for the contracts of private functions. No public contract needs them.
+-- Definitions for the contracts of private functions. No public contract uses them.
 pub mod Places
 pub mod Merging
 pub mod StillGiven

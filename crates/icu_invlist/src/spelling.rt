@@ -7,7 +7,7 @@ ghost use Rattle.icu_invlist.specs.SetJson.{first_of, digit_at, hex_at, point_at
 use icu_zerovec::MemoryError;
 use std::alloc::Global;
 
-/// The first character, and what follows.
+/// Returns the first character and the rest of the text.
 fn first_of(text: &str) -> Option<(char, &str)>
     ensures { option_map (λ x. (x.0, chars x.1.now)) result ≡ first_of (chars text.now) }
 {
@@ -16,7 +16,8 @@ fn first_of(text: &str) -> Option<(char, &str)>
     Some((first, rest.as_str()))
 }
 
-/// A hexadecimal digit, after the number so far, and what follows.
+/// Reads one hexadecimal digit. Returns `number` with that digit appended, and the rest of the
+/// text.
 #[tactic(auto, unfolding(crate::specs::SetJson::digit_at))]
 fn digit_at(number: u32, text: &str) -> Option<(u32, &str)>
     requires { number < 2 ^ 24 }
@@ -29,7 +30,7 @@ fn digit_at(number: u32, text: &str) -> Option<(u32, &str)>
     Some((number * 16 + digit, rest))
 }
 
-/// Four hexadecimal digits, and what follows.
+/// Reads four hexadecimal digits. Returns their number and the rest of the text.
 #[tactic(auto, unfolding(crate::specs::SetJson::hex_at))]
 fn hex_at(text: &str) -> Option<(u32, &str)>
     ensures hex { option_map (λ x. (x.0, chars x.1.now)) result ≡ hex_at (chars text.now) }
@@ -41,8 +42,8 @@ fn hex_at(text: &str) -> Option<(u32, &str)>
     digit_at(third, rest)
 }
 
-/// The point at the front of a text, and what follows: `U+` and four hexadecimal digits of either
-/// case, or a character.
+/// Reads a code point: `U+` and four hexadecimal digits of either case, or a character. Returns it
+/// and the rest of the text.
 #[tactic(auto, unfolding(crate::specs::SetJson::point_at))]
 fn point_at(text: &str) -> Option<(u32, &str)>
     ensures point { option_map (λ x. (x.0, chars x.1.now)) result ≡ point_at (chars text.now) }
@@ -57,7 +58,7 @@ fn point_at(text: &str) -> Option<(u32, &str)>
     Some((first as u32, rest))
 }
 
-/// The range that a whole text spells.
+/// Returns the first and the last code point of the range that the whole text spells.
 #[tactic(auto, unfolding(crate::specs::SetJson::range_at))]
 fn range_at(text: &str) -> Option<(u32, u32)>
     ensures exact { result ≡ range_at (chars text.now) }
@@ -78,11 +79,12 @@ fn range_at(text: &str) -> Option<(u32, u32)>
     }
 }
 
-/// The first and the last point of the range that a whole text spells.
+/// Returns the first and the last code point of the range that the whole text spells, or `None` if
+/// it does not spell a range.
 pub(crate) fn range_of(text: &str) -> Option<(u32, u32)>
-    // What is read is spelled so.
+    // Any result is a range that the text spells.
     ensures found { IfSome result (λ r. IsRange (chars text.now) r.0 r.1) }
-    // What is spelled so is read.
+    // Any range that the text spells is the result.
     ensures only { (a b : ℕ) → IsRange (chars text.now) a b → result ≡ Some (a, b) }
     ensures exact { result ≡ range_at (chars text.now) }
     ensures small { IfSome result (λ r. r.1 < code_point_limit) }
@@ -90,7 +92,7 @@ pub(crate) fn range_of(text: &str) -> Option<(u32, u32)>
     range_at(text)
 }
 
-/// The hexadecimal digit of a number below 16, in upper case.
+/// Returns the upper-case hexadecimal digit of a number below 16.
 fn upper_digit(digit: u32) -> char
     requires { digit < 16 }
     ensures { result ≡ upper_hex digit }
@@ -114,7 +116,7 @@ fn push_hex(text: &mut String, number: u32) -> Result<(), MemoryError>
     Ok(())
 }
 
-/// Appends a point to the text.
+/// Appends a code point to the text.
 fn push_point(text: &mut String, point: u32) -> Result<(), MemoryError>
     requires { point < code_point_limit }
     ensures { OnOk result
@@ -131,7 +133,7 @@ fn push_point(text: &mut String, point: u32) -> Result<(), MemoryError>
     Ok(())
 }
 
-/// The text of the range from `first` through `last`.
+/// Returns the text of the range from `first` to `last` inclusive.
 pub(crate) fn text_of_range(alloc: Global, first: u32, last: u32) -> Result<String, MemoryError>
     requires first { first < code_point_limit }
     requires last { last < code_point_limit }

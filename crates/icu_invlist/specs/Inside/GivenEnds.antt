@@ -1,10 +1,10 @@
--- What a reader of the ends of a set in JSON answers.
+-- What the reader of a set in JSON returns.
 use Rattle.std.specs.Prelude.{◌≡◌, ℕ, List, Result, Ok, Err}
 use Rattle.std.specs.Global.{Vec}
 use Rattle.icu_invlist.specs.declared.codepointinvlist.error.SetJsonError.{SetJsonError}
 use Rattle.icu_invlist.specs.declared.codepointinvlist.error.SetJsonError.TheVariants.{NotAnArray, NotAString, NotARange, InvalidSet, Memory}
 
--- the ends that are read, or the first fault. Want of memory may come in place of any answer
+-- The boundaries that were read, or the first fault. `Memory` is possible in any case.
 abbrev pub GivesEnds : Result (Vec ℕ) SetJsonError → Result (List ℕ) SetJsonError → Type 0
 GivesEnds (Ok v) read = read ≡ Ok v.items
 GivesEnds (Err Memory) read = Unit {0}

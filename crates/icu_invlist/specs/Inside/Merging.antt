@@ -1,11 +1,11 @@
--- A walk over the ends of two sets in ascending order, which makes the list of a third.
+-- A merge of the boundaries of two sets, in ascending order, into the boundaries of a third.
 use Rattle.std.specs.Prelude.{ℕ, suc, ◌+◌, ◌<◌, ◌≤◌, ◌≡◌, ◌⊎◌, List, length, slice_index, take, Bool}
 use Rattle.icu_zerovec.specs.CodePoints.{code_point_limit}
 use Rattle.icu_invlist.specs.InversionList.{holds, is_odd, IsValid}
 use Rattle.icu_invlist.specs.Inside.Places.{Run, ends_below}
 
--- The ends below `passed` are passed: i of a and j of b. The ends in `out` are those of f of the
--- two sets, as far as the walk has come
+-- The merge has passed all boundaries below `passed`: i of a and j of b. `out` has the boundaries
+-- below `passed` of the result of the operation f on the two sets.
 pub record Merging (f : Bool → Bool → Bool) (a b out : List ℕ) (passed i j : ℕ) : Type 0 where
   pub first : i ≡ ends_below a passed
   pub second : j ≡ ends_below b passed
@@ -14,18 +14,19 @@ pub record Merging (f : Bool → Bool → Bool) (a b out : List ℕ) (passed i j
   pub parity : is_odd (length out) ≡ f (is_odd i) (is_odd j)
   pub set : (c : ℕ) → c < passed → holds out c ≡ f (holds a c) (holds b c)
 
--- the same, wherever the walk has come to
+-- A merge that has passed i boundaries of a and j of b, up to some number.
 pub record Merged (f : Bool → Bool → Bool) (a b out : List ℕ) (i j : ℕ) : Type 0 where
   pub passed : ℕ
   pub so_far : Merging f a b out passed i j
 
--- the place i among xs moves on to p over the end n: by one if n stands there, and else it stays
+-- The index i into xs moves to p when the merge passes the boundary n: by one if n is at index i,
+-- and not at all if the number there is greater.
 pub record MovesOver (n : ℕ) (xs : List ℕ) (i p : ℕ) : Type 0 where
   pub least : n ≤ slice_index xs i
   pub place : (slice_index xs i ≡ n) × (p ≡ i + 1) ⊎ (n < slice_index xs i) × (p ≡ i)
 
--- A walk over two valid lists has passed i ends of a and j of b, and has written w ends to the
--- front of `out`, which has room for all
+-- A merge of two valid lists has passed i boundaries of a and j of b, and has written w boundaries
+-- to the start of `out`, which is long enough for all.
 pub record Walks (f : Bool → Bool → Bool) (a b out : List ℕ) (i j w : ℕ) : Type 0 where
   pub valid : IsValid a × IsValid b
   pub room : length a + length b ≤ length out
@@ -34,7 +35,7 @@ pub record Walks (f : Bool → Bool → Bool) (a b out : List ℕ) (i j w : ℕ)
   pub written : w ≤ i + j
   pub merged : Merged f a b (take w out) i j
 
--- all ends of a stand below some number, and none of b does
+-- All boundaries of a are below some number, and none of b is.
 pub record StandBefore (a b : List ℕ) : Type 0 where
   pub end : ℕ
   pub within : end ≤ suc code_point_limit

@@ -1,20 +1,23 @@
--- What an iterator still gives, from what it keeps. No public contract has these words.
+-- What an iterator still yields, computed from its fields. No public contract uses these
+-- definitions.
 use Rattle.std.specs.Prelude.{ℕ, ◌-◌, List, [], ◌∷◌, ◌++◌, Option, Some, None, nat_lt, if◌then◌else◌}
 use Rattle.std.specs.List.{filter, range_with_len}
 use Rattle.std.proofs.Math.Utf8.{scalar}
 use Rattle.icu_zerovec.specs.CodePoints.{code_point_limit}
 use Rattle.icu_invlist.specs.InversionList.{members, toggle_back}
 
--- the ends of the gaps of a set, from the start of the next gap and the set's ends past it
+-- The boundaries of the gaps of a set, from the start of the next gap and the set's boundaries
+-- after it.
 abbrev pub gaps_left : Option ℕ → List ℕ → List ℕ
 gaps_left None ends = []
 gaps_left (Some start) ends = start ∷ toggle_back ends
 
--- the next gap starts at this end of the set, if there is one in the code space
+-- The next gap starts at the exclusive end of a range, if that is below the end of the code space.
 abbrev pub start_at : Option ℕ → Option ℕ
 start_at None = None
 start_at (Some end) = if nat_lt end code_point_limit then Some end else None
 
--- the characters of a range that is left from `next` to before `end`, and of the ranges past it
+-- The characters from `next` to before `end`, followed by those in the ranges with the boundaries
+-- `ends`.
 abbrev pub characters_left : ℕ → ℕ → List ℕ → List ℕ
 characters_left next end ends = filter scalar (range_with_len next (end - next) ++ members ends)

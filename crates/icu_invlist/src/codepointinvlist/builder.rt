@@ -1,4 +1,4 @@
-//! The set that changes.
+//! The mutable set of code points.
 ghost use Rattle.std.specs.Prelude.{◌≡◌, ℕ, ◌+◌, ◌<◌, ◌≤◌, List, [], ◌∷◌, length, IfOk, OnOk, OnErr, IsTrue, ◌↔◌, nat_le, ◌==◌, if◌then◌else◌, false, not};
 ghost use Rattle.icu_invlist.specs.Changes.{Changes};
 ghost use Rattle.icu_zerovec.specs.CodePoints.{code_point_limit};
@@ -12,14 +12,16 @@ use icu_zerovec::{CODE_POINT_LIMIT, MemoryError};
 use std::alloc::Global;
 use std::marker::Model;
 
-/// A set of code points that changes, and becomes a [`CodePointInversionList`] by
-/// [`build`](CodePointInversionListBuilder::build). A clause sees its ends.
+/// A mutable set of code points. [`build`](CodePointInversionListBuilder::build) turns it into a
+/// [`CodePointInversionList`].
 ///
-/// A range is changed in place: its two borders are searched for, and the ends between them give
-/// way to it. Two sets are joined by one walk over both, into a new list.
+/// Changing a range edits the list of boundaries in place: the builder searches for the two borders
+/// of the range and replaces the boundaries between them. Combining with another set merges both
+/// lists into a new one.
 ///
-/// A call that changes the set answers `MemoryError` where memory was refused, and the set is then
-/// unchanged.
+/// If an allocation fails, the method returns `MemoryError` and leaves the set unchanged.
+///
+/// In contracts, a builder is the list of the set's boundaries.
 ///
 /// ```
 /// let mut builder = CodePointInversionListBuilder::new(alloc);
@@ -46,7 +48,8 @@ impl Model for CodePointInversionListBuilder {
 }
 
 impl CodePointInversionListBuilder {
-    /// The empty set, whose changes take their memory from `alloc`. It takes none yet.
+    /// Returns a builder that holds the empty set, whose changes take their memory from `alloc`.
+    /// This does not allocate.
     pub fn new(alloc: Global) -> Self
         ensures { result ≡ [] }
     {
@@ -56,7 +59,7 @@ impl CodePointInversionListBuilder {
         }
     }
 
-    /// Whether the set holds no code point.
+    /// Returns true if the set contains no code points.
     pub fn is_empty(&self) -> bool
         ensures empty { IsTrue result ↔ (self.now ≡ []) }
         ensures valid { IsValid self.now }
@@ -64,20 +67,20 @@ impl CodePointInversionListBuilder {
         self.ends.is_empty()
     }
 
-    /// The set, with its ends packed.
+    /// Returns the set as an inversion list, with its boundaries packed in three bytes each.
     ///
     /// # Errors
-    /// `MemoryError` where memory was refused. The builder is then dropped.
+    /// Returns `MemoryError` if an allocation fails. The builder is dropped in any case.
     pub fn build(self) -> Result<CodePointInversionList<'static>, MemoryError>
         ensures ok { IfOk result (λ s. s ≡ self) }
     {
         CodePointInversionList::from_valid_slice(self.alloc, &self.ends)
     }
 
-    /// A builder of the same set.
+    /// Returns a copy of the builder, which holds an equal set.
     ///
     /// # Errors
-    /// `MemoryError` where memory was refused.
+    /// Returns `MemoryError` if an allocation fails.
     pub fn try_clone(&self) -> Result<Self, MemoryError>
         ensures ok { IfOk result (λ b. b ≡ self.now) }
     {
@@ -88,9 +91,12 @@ impl CodePointInversionListBuilder {
     }
 }
 
-/// Union: what is named comes into the set.
+/// Union: methods that add code points.
 impl CodePointInversionListBuilder {
-    /// Adds the character.
+    /// Adds the character `c`.
+    ///
+    /// # Errors
+    /// Returns `MemoryError` if an allocation fails. The set is then unchanged.
     pub fn add_char(&mut self, c: char) -> Result<(), MemoryError>
         ensures { Changes either self.old (λ n. n == c) self.new result }
     {
@@ -98,15 +104,23 @@ impl CodePointInversionListBuilder {
         fill::add(&mut self.ends, number, number + 1)
     }
 
-    /// Adds the code point. A number above 0x10FFFF is ignored.
+    /// Adds the code point `c`. A number above 0x10FFFF is ignored.
+    ///
+    /// # Errors
+    /// Returns `MemoryError` if an allocation fails. The set is then unchanged.
     pub fn add32(&mut self, c: u32) -> Result<(), MemoryError>
         ensures { Changes either self.old (λ n. n == c) self.new result }
     {
         fill::add(&mut self.ends, c, c.saturating_add(1))
     }
 
-    /// Adds what the range names, surrogates between its characters too: `'A'..='Z'` adds 26
-    /// letters.
+    /// Adds all code points in `range`: `'A'..='Z'` adds 26 letters. Surrogates between the start
+    /// and the end are added too.
+    ///
+    /// `range` may be empty or reversed; it then adds nothing.
+    ///
+    /// # Errors
+    /// Returns `MemoryError` if an allocation fails. The set is then unchanged.
     pub fn add_range<R: RangeOf<char>>(&mut self, range: R) -> Result<(), MemoryError>
         ensures { Changes either self.old (between (R.start range) (R.end range)) self.new result }
     {
@@ -114,14 +128,19 @@ impl CodePointInversionListBuilder {
         fill::add(&mut self.ends, from, till)
     }
 
-    /// Adds what the range names. A range that names more than code points, so that its exclusive
-    /// end is above 0x110000, is ignored as a whole: 0x50..=0x110000 adds nothing.
+    /// Adds all code points in `range`.
+    ///
+    /// `range` may be empty or reversed; it then adds nothing. If its exclusive end is above
+    /// 0x110000, the whole range is ignored: 0x50..=0x110000 adds nothing.
+    ///
+    /// # Errors
+    /// Returns `MemoryError` if an allocation fails. The set is then unchanged.
     pub fn add_range32<R: RangeOf<u32>>(&mut self, range: R) -> Result<(), MemoryError>
         ensures { Changes either self.old
             (if nat_le (R.end range) code_point_limit then between (R.start range) (R.end range)
             else (λ _. false)) self.new result }
     {
-        // A set is known to be valid where its ends are named.
+        // Reading the field gives the proof the invariant: the set is valid.
         let _ = &self.ends;
         let (start, end) = range.deconstruct();
         if end > CODE_POINT_LIMIT {
@@ -130,7 +149,10 @@ impl CodePointInversionListBuilder {
         fill::add(&mut self.ends, start, end)
     }
 
-    /// Adds the members of the set.
+    /// Adds all code points in `set`.
+    ///
+    /// # Errors
+    /// Returns `MemoryError` if an allocation fails. The builder is then unchanged.
     #[inline]
     pub fn add_set(&mut self, set: &CodePointInversionList<'_>) -> Result<(), MemoryError>
         ensures { Changes either self.old (holds set.now) self.new result }
@@ -139,9 +161,12 @@ impl CodePointInversionListBuilder {
     }
 }
 
-/// Difference: what is named leaves the set.
+/// Difference: methods that remove code points.
 impl CodePointInversionListBuilder {
-    /// Removes the character.
+    /// Removes the character `c`.
+    ///
+    /// # Errors
+    /// Returns `MemoryError` if an allocation fails. The set is then unchanged.
     pub fn remove_char(&mut self, c: char) -> Result<(), MemoryError>
         ensures { Changes without self.old (λ n. n == c) self.new result }
     {
@@ -149,14 +174,23 @@ impl CodePointInversionListBuilder {
         fill::remove(&mut self.ends, number, number + 1)
     }
 
-    /// Removes the code point.
+    /// Removes the code point `c`. A number above 0x10FFFF is ignored.
+    ///
+    /// # Errors
+    /// Returns `MemoryError` if an allocation fails. The set is then unchanged.
     pub fn remove32(&mut self, c: u32) -> Result<(), MemoryError>
         ensures { Changes without self.old (λ n. n == c) self.new result }
     {
         fill::remove(&mut self.ends, c, c.saturating_add(1))
     }
 
-    /// Removes what the range names. Memory is needed where a range of the set is cut in two.
+    /// Removes all code points in `range`, including surrogates between its start and its end.
+    ///
+    /// `range` may be empty or reversed; it then removes nothing.
+    ///
+    /// # Errors
+    /// Returns `MemoryError` if an allocation fails. The set is then unchanged. This allocates only
+    /// if it splits a range of the set in two.
     pub fn remove_range<R: RangeOf<char>>(&mut self, range: R) -> Result<(), MemoryError>
         ensures { Changes without self.old (between (R.start range) (R.end range)) self.new result }
     {
@@ -164,7 +198,12 @@ impl CodePointInversionListBuilder {
         fill::remove(&mut self.ends, from, till)
     }
 
-    /// Removes what the range names: `0..=u32::MAX` removes all.
+    /// Removes all code points in `range`: `0..=u32::MAX` removes all.
+    ///
+    /// `range` may be empty or reversed; it then removes nothing.
+    ///
+    /// # Errors
+    /// Returns `MemoryError` if an allocation fails. The set is then unchanged.
     pub fn remove_range32<R: RangeOf<u32>>(&mut self, range: R) -> Result<(), MemoryError>
         ensures { Changes without self.old (between (R.start range) (R.end range)) self.new result }
     {
@@ -172,7 +211,10 @@ impl CodePointInversionListBuilder {
         fill::remove(&mut self.ends, start, end)
     }
 
-    /// Removes the members of the set.
+    /// Removes all code points in `set`.
+    ///
+    /// # Errors
+    /// Returns `MemoryError` if an allocation fails. The builder is then unchanged.
     #[inline]
     pub fn remove_set(&mut self, set: &CodePointInversionList<'_>) -> Result<(), MemoryError>
         ensures { Changes without self.old (holds set.now) self.new result }
@@ -181,9 +223,9 @@ impl CodePointInversionListBuilder {
     }
 }
 
-/// Intersection: what is not named leaves the set.
+/// Intersection: methods that remove all other code points.
 impl CodePointInversionListBuilder {
-    /// Keeps the character alone, if the set holds it. It takes no memory.
+    /// Removes all code points except the character `c`. This does not allocate.
     pub fn retain_char(&mut self, c: char)
         ensures set { Acts both self.old (λ n. n == c) self.new }
         ensures valid { IsValid self.new × IsValid self.old }
@@ -192,7 +234,8 @@ impl CodePointInversionListBuilder {
         fill::retain(&mut self.ends, number, number + 1);
     }
 
-    /// Keeps the code point alone, if the set holds it. It takes no memory.
+    /// Removes all code points except `c`. If `c` is above 0x10FFFF, the set becomes empty. This
+    /// does not allocate.
     pub fn retain32(&mut self, c: u32)
         ensures set { Acts both self.old (λ n. n == c) self.new }
         ensures valid { IsValid self.new × IsValid self.old }
@@ -200,7 +243,8 @@ impl CodePointInversionListBuilder {
         fill::retain(&mut self.ends, c, c.saturating_add(1));
     }
 
-    /// Keeps what the range names alone. It takes no memory.
+    /// Removes all code points outside `range`. If `range` is empty or reversed, the set becomes
+    /// empty. This does not allocate.
     pub fn retain_range<R: RangeOf<char>>(&mut self, range: R)
         ensures set { Acts both self.old (between (R.start range) (R.end range)) self.new }
         ensures valid { IsValid self.new × IsValid self.old }
@@ -209,8 +253,8 @@ impl CodePointInversionListBuilder {
         fill::retain(&mut self.ends, from, till);
     }
 
-    /// Keeps what the range names alone: nothing, where it is empty or reversed. It takes no
-    /// memory.
+    /// Removes all code points outside `range`. If `range` is empty or reversed, the set becomes
+    /// empty. This does not allocate.
     pub fn retain_range32<R: RangeOf<u32>>(&mut self, range: R)
         ensures set { Acts both self.old (between (R.start range) (R.end range)) self.new }
         ensures valid { IsValid self.new × IsValid self.old }
@@ -219,7 +263,10 @@ impl CodePointInversionListBuilder {
         fill::retain(&mut self.ends, start, end);
     }
 
-    /// Keeps the members of the set alone.
+    /// Removes all code points that are not in `set`.
+    ///
+    /// # Errors
+    /// Returns `MemoryError` if an allocation fails. The builder is then unchanged.
     #[inline]
     pub fn retain_set(&mut self, set: &CodePointInversionList<'_>) -> Result<(), MemoryError>
         ensures { Changes both self.old (holds set.now) self.new result }
@@ -228,11 +275,13 @@ impl CodePointInversionListBuilder {
     }
 }
 
-/// Complement and symmetric difference: what is named leaves the set where it was in it, and comes
-/// into it where it was not.
+/// Complement and symmetric difference: methods that flip code points. Flipping removes a code
+/// point that is in the set and adds one that is not.
 impl CodePointInversionListBuilder {
-    /// Flips all code points: the set becomes its complement. The complement of the complement is
-    /// the set again.
+    /// Flips all code points: the set becomes its complement. Doing it twice restores the set.
+    ///
+    /// # Errors
+    /// Returns `MemoryError` if an allocation fails. The set is then unchanged.
     pub fn complement(&mut self) -> Result<(), MemoryError>
         ensures ok { OnOk result
             ((c : ℕ) → c < code_point_limit → holds self.new c ≡ not (holds self.old c)) }
@@ -245,7 +294,10 @@ impl CodePointInversionListBuilder {
         fill::flip(&mut self.ends, 0, CODE_POINT_LIMIT)
     }
 
-    /// Flips the character.
+    /// Flips the character `c`: removes it if it is in the set, and adds it otherwise.
+    ///
+    /// # Errors
+    /// Returns `MemoryError` if an allocation fails. The set is then unchanged.
     pub fn complement_char(&mut self, c: char) -> Result<(), MemoryError>
         ensures { Changes one_of self.old (λ n. n == c) self.new result }
     {
@@ -253,14 +305,23 @@ impl CodePointInversionListBuilder {
         fill::flip(&mut self.ends, number, number + 1)
     }
 
-    /// Flips the code point. A number above 0x10FFFF changes nothing.
+    /// Flips the code point `c`: removes it if it is in the set, and adds it otherwise. A number
+    /// above 0x10FFFF is ignored.
+    ///
+    /// # Errors
+    /// Returns `MemoryError` if an allocation fails. The set is then unchanged.
     pub fn complement32(&mut self, c: u32) -> Result<(), MemoryError>
         ensures { Changes one_of self.old (λ n. n == c) self.new result }
     {
         fill::flip(&mut self.ends, c, c.saturating_add(1))
     }
 
-    /// Flips what the range names.
+    /// Flips all code points in `range`, including surrogates between its start and its end.
+    ///
+    /// `range` may be empty or reversed; it then changes nothing.
+    ///
+    /// # Errors
+    /// Returns `MemoryError` if an allocation fails. The set is then unchanged.
     pub fn complement_range<R: RangeOf<char>>(&mut self, range: R) -> Result<(), MemoryError>
         ensures { Changes one_of self.old (between (R.start range) (R.end range)) self.new result }
     {
@@ -268,7 +329,12 @@ impl CodePointInversionListBuilder {
         fill::flip(&mut self.ends, from, till)
     }
 
-    /// Flips what the range names: nothing, where it is empty or reversed.
+    /// Flips all code points in `range`. Numbers above 0x10FFFF are ignored.
+    ///
+    /// `range` may be empty or reversed; it then changes nothing.
+    ///
+    /// # Errors
+    /// Returns `MemoryError` if an allocation fails. The set is then unchanged.
     pub fn complement_range32<R: RangeOf<u32>>(&mut self, range: R) -> Result<(), MemoryError>
         ensures { Changes one_of self.old (between (R.start range) (R.end range)) self.new result }
     {
@@ -276,7 +342,11 @@ impl CodePointInversionListBuilder {
         fill::flip(&mut self.ends, start, end)
     }
 
-    /// Flips the members of the set. Done twice, it leaves the set as it was.
+    /// Flips all code points in `set`, so that the result is the symmetric difference. Doing it
+    /// twice restores the set.
+    ///
+    /// # Errors
+    /// Returns `MemoryError` if an allocation fails. The builder is then unchanged.
     #[inline]
     pub fn complement_set(&mut self, set: &CodePointInversionList<'_>) -> Result<(), MemoryError>
         ensures changes { Changes one_of self.old (holds set.now) self.new result }

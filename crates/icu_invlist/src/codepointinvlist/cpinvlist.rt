@@ -1,4 +1,4 @@
-//! The set of an inversion list.
+//! The immutable set of code points, stored as an inversion list.
 ghost use Rattle.std.specs.Prelude.{◌≡◌, ℕ, ◌+◌, ◌^◌, ◌<◌, ◌≤◌, List, [], ◌∷◌, length, slice_index, slice_get, min, not, Some, None, if◌then◌else◌, IfOk, OnOk, OnErr, IfErr, IfSome, IsTrue, ◌++◌, drop, true, false, ◌↔◌};
 ghost use Rattle.std.specs.List.{take_while, All, Contains};
 ghost use Rattle.std.specs.List.Sorted.{IsStrictlyIncreasing};
@@ -25,8 +25,10 @@ use std::alloc::Global;
 use std::marker::Model;
 use std::ops::RangeInclusive;
 
-/// A set of code points, surrogates among them. It lends or owns its ends, and a clause sees their
-/// list.
+/// An immutable set of code points, which may include surrogates. It borrows or owns the list of
+/// its boundaries.
+///
+/// In contracts, a set is the list of its boundaries.
 ///
 /// ```
 /// let letters = CodePointInversionList::try_from_u32_inversion_list_slice(alloc, &[0x41, 0x5B, 0x61, 0x7B])?;
@@ -48,13 +50,15 @@ impl<'data> Model for CodePointInversionList<'data> {
     ghost invariant = { λ a. IsValid a.ends };
 }
 
-/// How a set is made.
+/// Constructors and copies.
 impl<'data> CodePointInversionList<'data> {
-    /// The set of this list, which is taken over.
+    /// Returns the set with this list of boundaries, and takes over the list without copying it.
     ///
     /// # Errors
-    /// `SetError::Invalid` exactly where it is no inversion list, with the list. `SetError::Memory`
-    /// where the copy for that error was refused; a valid list takes no memory.
+    /// - `SetError::Invalid` if and only if `ends` is not an inversion list. The error contains a
+    ///   copy of the list.
+    /// - `SetError::Memory` if `ends` is not an inversion list and allocating that copy fails. A
+    ///   valid list needs no allocation.
     pub fn try_from_inversion_list(
         alloc: Global,
         ends: ZeroVec<'data, PotentialCodePoint>,
@@ -68,12 +72,12 @@ impl<'data> CodePointInversionList<'data> {
         Err(SetError::Invalid(InvalidSetError(unpacked(alloc, &ends)?)))
     }
 
-    /// The set of these numbers, which are copied.
+    /// Returns the set with these boundaries, and copies them.
     ///
     /// # Errors
-    /// `SetError::Invalid` exactly where they are no inversion list, with the numbers as code
-    /// points: one above 0xFFFFFF is shown as that one. `SetError::Memory` where memory was
-    /// refused.
+    /// - `SetError::Invalid` if and only if `ends` is not an inversion list. The error contains the
+    ///   numbers, with 0xFFFFFF in place of any number above it.
+    /// - `SetError::Memory` if an allocation fails.
     pub fn try_from_u32_inversion_list_slice(alloc: Global, ends: &[u32]) -> Result<Self, SetError>
         ensures ok { IfOk result (λ s. (s ≡ ends.now) × IsValid ends.now) }
         ensures err { IfErr result (IsRefusedSlice ends.now) }
@@ -84,13 +88,15 @@ impl<'data> CodePointInversionList<'data> {
         Ok(CodePointInversionList::from_valid_slice(alloc, ends)?)
     }
 
-    /// The set of an inversion list, which is copied: of even length, ascending, and within
-    /// 0x110000. Where that is not known, take
-    /// [`try_from_u32_inversion_list_slice`](Self::try_from_u32_inversion_list_slice), which tests
+    /// Returns the set with these boundaries, and copies them.
+    ///
+    /// `ends` must be an inversion list: of even length, strictly ascending, and with no number
+    /// above 0x110000. If that is not known, use
+    /// [`try_from_u32_inversion_list_slice`](Self::try_from_u32_inversion_list_slice), which checks
     /// it.
     ///
     /// # Errors
-    /// `MemoryError` where memory was refused.
+    /// Returns `MemoryError` if an allocation fails.
     pub fn from_valid_slice(
         alloc: Global,
         ends: &[u32],
@@ -105,7 +111,8 @@ impl<'data> CodePointInversionList<'data> {
         }
     }
 
-    /// All code points, 0 to 0x10FFFF, surrogates too. It takes no memory.
+    /// Returns the set of all code points, 0 to 0x10FFFF inclusive, with surrogates. This does not
+    /// allocate.
     pub fn all() -> CodePointInversionList<'static>
         ensures { result ≡ 0 ∷ code_point_limit ∷ [] }
     {
@@ -115,8 +122,8 @@ impl<'data> CodePointInversionList<'data> {
         }
     }
 
-    /// The code points of the basic multilingual plane, 0 to 0xFFFF, surrogates too. It takes no
-    /// memory.
+    /// Returns the set of all code points of the Basic Multilingual Plane, 0 to 0xFFFF inclusive,
+    /// with surrogates. This does not allocate.
     pub fn bmp() -> CodePointInversionList<'static>
         ensures { result ≡ 0 ∷ 0x10000 ∷ [] }
     {
@@ -126,11 +133,12 @@ impl<'data> CodePointInversionList<'data> {
         }
     }
 
-    /// The set with ends of its own. One that owns them already keeps them, and takes no memory.
+    /// Returns the same set, which then owns its boundaries. If the set already owns them, nothing
+    /// is allocated or copied.
     ///
     /// # Errors
-    /// `MemoryError` where memory was refused. The set is then dropped, and ends that it borrowed
-    /// are unchanged.
+    /// Returns `MemoryError` if an allocation fails. The set is then dropped; boundaries that it
+    /// borrowed are unchanged.
     pub fn into_owned(self, alloc: Global) -> Result<CodePointInversionList<'static>, MemoryError>
         ensures ok { IfOk result (λ s. s ≡ self.entry) }
     {
@@ -140,10 +148,10 @@ impl<'data> CodePointInversionList<'data> {
         })
     }
 
-    /// An equal set with ends of its own.
+    /// Returns an equal set that owns its boundaries.
     ///
     /// # Errors
-    /// `MemoryError` where memory was refused.
+    /// Returns `MemoryError` if an allocation fails.
     pub fn try_clone(&self, alloc: Global) -> Result<CodePointInversionList<'static>, MemoryError>
         ensures ok { IfOk result (λ s. s ≡ self.now) }
     {
@@ -153,9 +161,9 @@ impl<'data> CodePointInversionList<'data> {
     }
 }
 
-/// What a set holds.
+/// Queries.
 impl<'data> CodePointInversionList<'data> {
-    /// How many ends there are.
+    /// Returns the number of boundaries.
     pub(crate) fn count(&self) -> usize
         ensures count { result ≡ length self.now }
         ensures valid { IsValid self.now }
@@ -163,7 +171,7 @@ impl<'data> CodePointInversionList<'data> {
         self.ends.len()
     }
 
-    /// The end at place `i`, counted from 0.
+    /// Returns the boundary at index `i`, counted from 0.
     pub(crate) fn end_at(&self, i: usize) -> u32
         requires { i < length self.now }
         ensures end { result ≡ slice_index self.now i }
@@ -172,7 +180,7 @@ impl<'data> CodePointInversionList<'data> {
         u32::from(self.ends.as_slice().at(i))
     }
 
-    /// The ends, packed.
+    /// Returns a reference to the packed boundaries.
     pub(crate) fn packed(&self) -> &ZeroVec<'data, PotentialCodePoint>
         ensures ends { result.now ≡ self.now }
         ensures valid { IsValid self.now }
@@ -180,9 +188,11 @@ impl<'data> CodePointInversionList<'data> {
         &self.ends
     }
 
-    /// The ends, lent as they are kept, packed in three bytes each. What
-    /// [`try_from_inversion_list`](Self::try_from_inversion_list) takes, it lends again: that one
-    /// gives an equal set of these ends. It takes no memory.
+    /// Returns a view of the boundaries as they are stored, packed in three bytes each. This does
+    /// not allocate.
+    ///
+    /// [`try_from_inversion_list`](Self::try_from_inversion_list) turns such a view back into an
+    /// equal set.
     ///
     /// ```
     /// let ends = letters.as_inversion_list();
@@ -196,10 +206,10 @@ impl<'data> CodePointInversionList<'data> {
         self.ends.as_slice()
     }
 
-    /// The ends, copied.
+    /// Returns a copy of the boundaries as a vector of numbers.
     ///
     /// # Errors
-    /// `MemoryError` where memory was refused.
+    /// Returns `MemoryError` if an allocation fails.
     pub fn get_inversion_list_vec(&self, alloc: Global) -> Result<Vec<u32>, MemoryError>
         ensures ok { IfOk result (λ v. v.items ≡ self.now) }
     {
@@ -208,7 +218,8 @@ impl<'data> CodePointInversionList<'data> {
         Ok(ends)
     }
 
-    /// Appends the ends from place `from` on.
+    /// Appends the boundaries from index `from` on to `ends`, which is unchanged if an allocation
+    /// fails.
     pub(crate) fn push_ends(&self, ends: &mut Vec<u32>, from: usize) -> Result<(), MemoryError>
         requires { from ≤ length self.now }
         ensures ok { OnOk result (ends.new.items ≡ ends.old.items ++ drop from self.now) }
@@ -223,7 +234,8 @@ impl<'data> CodePointInversionList<'data> {
         Ok(())
     }
 
-    /// Whether the set holds the code point. No number above 0x10FFFF is held.
+    /// Returns true if the set contains the code point `c`. Returns false for any number above
+    /// 0x10FFFF.
     pub fn contains32(&self, c: u32) -> bool
         ensures held { result ≡ holds self.now c }
         ensures far { code_point_limit ≤ c → result ≡ false }
@@ -231,15 +243,15 @@ impl<'data> CodePointInversionList<'data> {
         self.place_of(c) % 2 == 1
     }
 
-    /// Whether the set holds the character.
+    /// Returns true if the set contains the character `c`.
     pub fn contains(&self, c: char) -> bool
         ensures { result ≡ holds self.now c }
     {
         self.contains32(u32::from(c))
     }
 
-    /// Whether the range names a code point, and the set holds all that it names. The surrogates
-    /// between two characters are named too.
+    /// Returns true if `range` is not empty and the set contains all code points in it, including
+    /// any surrogates between its start and its end.
     pub fn contains_range<R: RangeOf<char>>(&self, range: R) -> bool
         ensures { IsTrue result
             ↔ (R.start range < min (R.end range) code_point_limit)
@@ -250,12 +262,12 @@ impl<'data> CodePointInversionList<'data> {
         start < end && self.reaches(self.place_of(start), end)
     }
 
-    /// Whether the set holds all that the other one holds. The empty set is part of each.
+    /// Returns true if `other` is a subset of this set. The empty set is a subset of every set.
     pub fn contains_set(&self, other: &CodePointInversionList<'_>) -> bool
         ensures subset { IsTrue result ↔ IsSubset other.now self.now }
         ensures valid { IsValid self.now × IsValid other.now }
     {
-        // A set is known to be valid where its ends are named.
+        // Reading the field gives the proof the invariant: the set is valid.
         let _ = &self.ends;
         let count = other.count();
         if count == 0 {
@@ -271,7 +283,10 @@ impl<'data> CodePointInversionList<'data> {
         }
     }
 
-    /// How many smaller code points the set holds, if it holds the character: less than
+    /// Returns the index of `c` among the set's code points in ascending order, or `None` if the
+    /// set does not contain `c`.
+    ///
+    /// The index is the number of smaller code points in the set, and is less than
     /// [`size`](Self::size).
     pub fn position(&self, c: char) -> Option<usize>
         ensures place { result
@@ -282,8 +297,11 @@ impl<'data> CodePointInversionList<'data> {
         self.position32(u32::from(c))
     }
 
-    /// How many smaller code points the set holds, if it holds this one: less than
-    /// [`size`](Self::size). No number above 0x10FFFF has a place.
+    /// Returns the index of `c` among the set's code points in ascending order, or `None` if the
+    /// set does not contain `c`.
+    ///
+    /// The index is the number of smaller code points in the set, and is less than
+    /// [`size`](Self::size). For any number above 0x10FFFF the result is `None`.
     pub fn position32(&self, c: u32) -> Option<usize>
         ensures place { result
             ≡ (if holds self.now c then Some (members_below self.now c) else None) }
@@ -304,7 +322,7 @@ impl<'data> CodePointInversionList<'data> {
         Some(before + (c - self.end_at(i)) as usize)
     }
 
-    /// How many code points the set holds, surrogates among them.
+    /// Returns the number of code points in the set, including surrogates.
     pub fn size(&self) -> usize
         ensures size { result ≡ members_below self.now code_point_limit }
         ensures valid { IsValid self.now }
@@ -319,7 +337,7 @@ impl<'data> CodePointInversionList<'data> {
         size
     }
 
-    /// Whether the set holds no code point.
+    /// Returns true if the set contains no code points.
     pub fn is_empty(&self) -> bool
         ensures empty { IsTrue result ↔ (self.now ≡ []) }
         ensures valid { IsValid self.now }
@@ -328,9 +346,9 @@ impl<'data> CodePointInversionList<'data> {
     }
 }
 
-/// The ranges and the characters of a set.
+/// Ranges and characters.
 impl<'data> CodePointInversionList<'data> {
-    /// How many ranges the set has.
+    /// Returns the number of ranges in the set. Two ranges never touch.
     pub fn get_range_count(&self) -> usize
         ensures count { result ≡ length (ranges_of self.now) }
         ensures valid { IsValid self.now }
@@ -338,8 +356,8 @@ impl<'data> CodePointInversionList<'data> {
         self.ends.len() / 2
     }
 
-    /// The range at place `index`, counted from 0, with its last code point included. `None` at or
-    /// past the count.
+    /// Returns the range at `index`, counted from 0, or `None` if there are not that many ranges.
+    /// The range includes its last code point.
     pub fn get_nth_range(&self, index: usize) -> Option<RangeInclusive<u32>>
         ensures nth { result ≡ slice_get (ranges_of self.now) index }
         ensures within { IfSome result IsOfCodePoints }
@@ -351,8 +369,8 @@ impl<'data> CodePointInversionList<'data> {
         Some(RangeInclusive::new(self.end_at(2 * index), self.end_at(2 * index + 1) - 1))
     }
 
-    /// The ranges that the set holds, ascending: of `[0x41, 0x44, 0x61, 0x62]` 0x41..=0x43 and
-    /// 0x61..=0x61.
+    /// Returns an iterator over the ranges of the set, in ascending order: for `[0x41, 0x44, 0x61,
+    /// 0x62]` it yields 0x41..=0x43 and 0x61..=0x61.
     pub fn iter_ranges(&self) -> IterRanges<'_>
         ensures gives { result ≡ self.now }
         ensures bound { length (ranges_of result) < 2 ^ 64 }
@@ -364,8 +382,8 @@ impl<'data> CodePointInversionList<'data> {
         IterRanges::from_ends(self.ends.iter())
     }
 
-    /// The ranges of code points that the set does not hold, ascending: of the empty set
-    /// 0..=0x10FFFF.
+    /// Returns an iterator over the ranges of code points that are not in the set, in ascending
+    /// order: for the empty set it yields 0..=0x10FFFF.
     pub fn iter_ranges_complemented(&self) -> IterRangesComplemented<'_>
         ensures gives { result ≡ complement_of self.now }
         ensures complement { (c : ℕ) → c < code_point_limit
@@ -385,7 +403,7 @@ impl<'data> CodePointInversionList<'data> {
         IterRangesComplemented::from_gap(Some(0), ends)
     }
 
-    /// The characters that the set holds, ascending. Its surrogates are left out.
+    /// Returns an iterator over the characters in the set, in ascending order. It skips surrogates.
     pub fn iter_chars(&self) -> IterChars<'_>
         ensures gives { result ≡ characters self.now }
         ensures held { (c : ℕ)
@@ -397,11 +415,13 @@ impl<'data> CodePointInversionList<'data> {
     }
 }
 
-/// How far a text lies in a set.
+/// Spans of text.
 impl<'data> CodePointInversionList<'data> {
-    /// The length in bytes of the longest front of the text whose characters are all held, or, for
-    /// `held` false, all not held. A character starts there, or the text ends: so
-    /// `&text[set.span(text, true)..]` is what follows.
+    /// Returns the length in bytes of the longest prefix of `text` whose characters are all in the
+    /// set, or all outside it if `held` is false.
+    ///
+    /// The result is a character boundary, so `&text[set.span(text, true)..]` is the rest of the
+    /// text.
     pub fn span(&self, text: &str, held: bool) -> usize
         ensures place { result
             ≡ length (encode_utf8_all
@@ -418,9 +438,11 @@ impl<'data> CodePointInversionList<'data> {
         length
     }
 
-    /// The place of the byte from which on all characters of the text are held, or, for `held`
-    /// false, all not held: the start of its longest such tail. A character starts there, or the
-    /// text ends: so `&text[..set.span_back(text, true)]` is what stands before.
+    /// Returns the byte offset at which the longest suffix starts whose characters are all in the
+    /// set, or all outside it if `held` is false.
+    ///
+    /// The result is a character boundary, so `&text[..set.span_back(text, true)]` is the text
+    /// before that suffix.
     pub fn span_back(&self, text: &str, held: bool) -> usize
         ensures place { result + length
             (encode_utf8_all

@@ -1,4 +1,5 @@
-//! Sets are equal, and hash alike, exactly if they hold the same code points.
+//! Equality and hashing: two sets are equal, and have equal hashes, if they contain the same code
+//! points.
 ghost use Rattle.std.specs.Prelude.{◌≡◌, ℕ, ◌<◌, ◌↔◌, IsTrue, nat_eq};
 ghost use Rattle.std.specs.Cmp.{partial_equiv_from_equiv};
 ghost use Rattle.std.specs.Cmp.Lexicographic.{pointwise, nat_list_eq_equiv};
@@ -13,7 +14,8 @@ ghost use Rattle.icu_invlist.specs.InversionList.{holds};
 use crate::codepointinvlist::cpinvlist::CodePointInversionList;
 use std::hash::{Hash, Hasher};
 
-/// Whichever of them borrows. A set has one inversion list, so its packed ends decide.
+/// Compares the packed boundaries, because each set has exactly one inversion list. Whether a set
+/// borrows or owns its boundaries makes no difference.
 impl<'data> PartialEq for CodePointInversionList<'data> {
     ghost eq = { pointwise nat_eq };
 

@@ -1,4 +1,4 @@
-//! Why lists and ranges are refused.
+//! Errors for invalid lists, ranges and JSON values.
 ghost use Rattle.std.specs.Prelude.{◌≡◌};
 ghost use Rattle.icu_invlist.specs.declared.codepointinvlist.error.SetError.TheVariants.{Memory};
 ghost use Rattle.icu_invlist.specs.declared.codepointinvlist.error.TryRangeError.TheVariants.{Memory as RangeMemory};
@@ -7,19 +7,19 @@ ghost use Rattle.icu_invlist.specs.declared.codepointinvlist.error.SetJsonError.
 use icu_zerovec::{MemoryError, PotentialCodePoint};
 use thiserror::Error;
 
-/// This list is no inversion list: it has an odd number of ends, does not ascend, or has an end
-/// above 0x110000.
+/// The list that was rejected because it is not an inversion list: its length is odd, it is not
+/// strictly ascending, or it has a number above 0x110000.
 #[derive(Debug, Drop, PartialEq, Error)]
 #[error("Invalid set")]
 pub struct InvalidSetError(pub Vec<PotentialCodePoint>);
 
-/// Why no set was made of a list of ends.
+/// The error of the constructors that take a list of boundaries.
 #[derive(Debug, Drop, PartialEq, Error)]
 pub enum SetError {
-    /// The list is no inversion list.
+    /// The list is not an inversion list.
     #[error(transparent)]
     Invalid(#[from] InvalidSetError),
-    /// Memory was refused.
+    /// An allocation failed.
     #[error("no memory")]
     Memory,
 }
@@ -32,19 +32,18 @@ impl From<MemoryError> for SetError {
     }
 }
 
-/// From the first number to before the second there is none: they are the start and the exclusive
-/// end of a range.
+/// The inclusive start and the exclusive end of a range that is empty or reversed.
 #[derive(Clone, Copy, Debug, PartialEq, Eq, Error)]
 #[error("Invalid range: {0}..{1}")]
 pub struct RangeError(pub u32, pub u32);
 
-/// Why no set was made of a range.
+/// The error of the conversion from a range to a set.
 #[derive(Clone, Copy, Debug, PartialEq, Eq, Error)]
 pub enum TryRangeError {
     /// The range is empty or reversed.
     #[error(transparent)]
     Invalid(#[from] RangeError),
-    /// Memory was refused.
+    /// An allocation failed.
     #[error("no memory")]
     Memory,
 }
@@ -57,22 +56,22 @@ impl From<MemoryError> for TryRangeError {
     }
 }
 
-/// Why no set was read from JSON.
+/// The error of the conversion from JSON to a set.
 #[derive(Clone, Copy, Debug, PartialEq, Eq, Error)]
 pub enum SetJsonError {
-    /// The value is no array.
+    /// The value is not an array.
     #[error("no array")]
     NotAnArray,
-    /// The item at this place, counted from 0, is no string.
+    /// The item at this index, counted from 0, is not a string.
     #[error("item {0} is no string")]
     NotAString(usize),
-    /// The item at this place, counted from 0, spells no range.
+    /// The item at this index, counted from 0, is a string that does not spell a range.
     #[error("item {0} is no range")]
     NotARange(usize),
-    /// The ranges are not in order, or touch one another.
+    /// A range is reversed, or the ranges are not ascending with gaps between them.
     #[error("the ranges are no set")]
     InvalidSet,
-    /// Memory was refused.
+    /// An allocation failed.
     #[error("no memory")]
     Memory,
 }

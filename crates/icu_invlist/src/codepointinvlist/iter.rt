@@ -1,4 +1,4 @@
-//! The ranges and the characters of a set, one after another.
+//! Iterators over the ranges and the characters of a set.
 ghost use Rattle.std.specs.Prelude.{◌≡◌, ◌<◌, ◌≤◌, ◌-◌, ◌^◌, ◌∷◌, [], length, Some, IfSome};
 ghost use Rattle.std.specs.Iterator.{YieldsFirst, item_count, at_most, UpTo};
 ghost use Rattle.std.specs.Iterator.SizeHint.{IsWithinCount};
@@ -14,9 +14,12 @@ use icu_zerovec::{CODE_POINT_LIMIT, PotentialCodePoint};
 use std::marker::Model;
 use std::ops::RangeInclusive;
 
-/// The ranges of a set, ascending, as
-/// [`iter_ranges`](crate::codepointinvlist::CodePointInversionList::iter_ranges) gives them. It
-/// knows how many are left, and a clause sees the ends of those.
+/// An iterator over the ranges of a set, in ascending order.
+/// [`iter_ranges`](crate::codepointinvlist::CodePointInversionList::iter_ranges) returns it.
+///
+/// It knows how many ranges are left.
+///
+/// In contracts, it is the list of the boundaries of the ranges that are left.
 #[derive(Debug, Drop)]
 pub struct IterRanges<'a> {
     ends: Iter<'a, PotentialCodePoint>,
@@ -34,7 +37,7 @@ impl<'a> Model for IterRanges<'a> {
 }
 
 impl<'a> IterRanges<'a> {
-    /// The ranges of these ends.
+    /// Returns an iterator over the ranges with these boundaries.
     pub(crate) fn from_ends(ends: Iter<'a, PotentialCodePoint>) -> Self
         requires { IsValid ends }
         ensures { result ≡ ends.entry }
@@ -73,9 +76,11 @@ impl<'a> ExactSizeIterator for IterRanges<'a> {
     }
 }
 
-/// The ranges that a set does not hold, ascending, as
+/// An iterator over the ranges of code points that are not in a set, in ascending order.
 /// [`iter_ranges_complemented`](crate::codepointinvlist::CodePointInversionList::iter_ranges_complemented)
-/// gives them. A clause sees the ends of those that are left.
+/// returns it.
+///
+/// In contracts, it is the list of the boundaries of the ranges that are left.
 #[derive(Debug, Drop)]
 pub struct IterRangesComplemented<'a> {
     start: Option<u32>,
@@ -94,7 +99,8 @@ impl<'a> Model for IterRangesComplemented<'a> {
     ghost invariant = { λ a. IsValid (gaps_left a.start a.ends) };
 }
 
-/// Where the next gap starts, if the set's range has this end.
+/// Returns the start of the next gap, given the exclusive end of the set's range before it. There
+/// is no gap if that end is the end of the code space.
 pub(crate) fn start_of_gap(end: Option<PotentialCodePoint>) -> Option<u32>
     ensures { result ≡ start_at end }
 {
@@ -107,7 +113,8 @@ pub(crate) fn start_of_gap(end: Option<PotentialCodePoint>) -> Option<u32>
 }
 
 impl<'a> IterRangesComplemented<'a> {
-    /// The gaps from this start on, past which the set has these ends.
+    /// Returns an iterator over the gaps from `start` on. `ends` are the set's boundaries after
+    /// that start.
     pub(crate) fn from_gap(start: Option<u32>, ends: Iter<'a, PotentialCodePoint>) -> Self
         requires { IsValid (gaps_left start ends) }
         ensures { result ≡ gaps_left start ends.entry }
@@ -138,9 +145,10 @@ impl<'a> Iterator for IterRangesComplemented<'a> {
     }
 }
 
-/// The characters of a set, ascending, as
-/// [`iter_chars`](crate::codepointinvlist::CodePointInversionList::iter_chars) gives them. A clause
-/// sees those that are left.
+/// An iterator over the characters in a set, in ascending order.
+/// [`iter_chars`](crate::codepointinvlist::CodePointInversionList::iter_chars) returns it.
+///
+/// In contracts, it is the list of the characters that are left.
 #[derive(Debug, Drop)]
 pub struct IterChars<'a> {
     next: u32,
@@ -158,7 +166,7 @@ impl<'a> Model for IterChars<'a> {
 }
 
 impl<'a> IterChars<'a> {
-    /// The characters of the ranges of these ends.
+    /// Returns an iterator over the characters in the ranges with these boundaries.
     pub(crate) fn from_ends(ends: Iter<'a, PotentialCodePoint>) -> Self
         ensures { result ≡ characters_left 0 0 ends.entry }
     {
@@ -170,8 +178,8 @@ impl<'a> IterChars<'a> {
     }
 }
 
-/// Goes over the next character from `next` to before `end`, and answers it. Surrogates on the way
-/// are left out.
+/// Returns the first character from `next` to `end` exclusive and moves `next` past it. Skips
+/// surrogates.
 fn take_char(next: &mut u32, end: u32) -> Option<char>
     ensures { MatchOption result
         ((filter scalar (range_with_len next.old (end - next.old)) ≡ [])

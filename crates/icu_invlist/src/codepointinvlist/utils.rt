@@ -1,4 +1,4 @@
-//! What ranges name, and what makes a list of ends valid.
+//! The numbers in a range, and the validity of an inversion list.
 ghost use Rattle.std.specs.Prelude.{◌≡◌, ◌≤◌, ℕ, ◌-◌, ◌^◌, ◌↔◌, IsTrue};
 ghost use Rattle.std.specs.Range.{range_inclusive_start};
 ghost use Rattle.std.proofs.Common.{lit≤};
@@ -9,24 +9,26 @@ ghost use Rattle.icu_invlist.specs.NamedCodePoints.{open_start, open_end, end_of
 use icu_zerovec::{CODE_POINT_LIMIT, PotentialCodePoint, ZeroVec};
 use std::ops::{Range, RangeFrom, RangeFull, RangeInclusive, RangeTo, RangeToInclusive};
 
-/// What ranges are made of: `char` and `u32`.
+/// A type that ranges can be made of: `char` or `u32`.
 pub trait RangePoint: Copy {
-    /// The greatest end that a range of them can have.
+    /// The greatest exclusive end that a range of this type can have.
     ghost last_end: { ℕ };
 
-    /// The number of a point: of a character its code.
+    /// The number of a value; for a character, its code point.
     ghost number: { Self → ℕ };
 
-    /// The same.
+    /// Returns the number of the value; for a character, its code point.
     fn number(self) -> u32
         ensures number { result ≡ number self }
         ensures within { end_of_included result ≤ last_end };
 
-    /// Whether the range was iterated to its last number: its ends are in order, and it is empty.
+    /// Returns true if `range` was iterated to its end: it is empty, although its start is not
+    /// above its end.
     fn is_used_up(range: &RangeInclusive<Self>) -> bool
         ensures { result ≡ is_used_up (range_of_numbers number range.now) };
 
-    /// A range with no end of its own ends within them.
+    /// The end of the code space, which is the end of an unbounded range, is not above the greatest
+    /// end.
     ghost open_end_fits: { code_point_limit ≤ last_end };
 }
 
@@ -62,26 +64,28 @@ impl RangePoint for u32 {
     }
 }
 
-/// A range of characters or of numbers: `a..b`, `a..=b`, `a..`, `..b`, `..=b` or `..` of `char` or
-/// of `u32`. The numbers that it names are those from its start to before its end; a range of
-/// characters names the surrogates between them too.
+/// A range of `char` or of `u32`: `a..b`, `a..=b`, `a..`, `..b`, `..=b` or `..`.
+///
+/// It contains all numbers from its start to its end, so a range of characters includes the
+/// surrogates between them.
 pub trait RangeOf<X: RangePoint> {
-    /// The first number that it names, if it names one.
+    /// The inclusive start.
     ghost start: { Self → ℕ };
 
-    /// The number after the last one that it names.
+    /// The exclusive end.
     ghost end: { Self → ℕ };
 
-    /// Start and end.
+    /// Returns the inclusive start and the exclusive end.
     fn deconstruct(self) -> (u32, u32)
         ensures start { result.0 ≡ start self }
         ensures end { result.1 ≡ end self }
         ensures within { result.1 ≤ X.last_end };
 }
 
-/// The inclusive start and the exclusive end of a range. A missing start is 0, and a missing end
-/// 0x110000. An included end `u32::MAX`, after which there is no number, is the end itself:
-/// `0..=u32::MAX` gives `(0, u32::MAX)`.
+/// Returns the inclusive start and the exclusive end of a range.
+///
+/// A missing start is 0, and a missing end is 0x110000. An included end of `u32::MAX` has no
+/// successor and becomes the exclusive end itself: `0..=u32::MAX` gives `(0, u32::MAX)`.
 pub fn deconstruct_range<X: RangePoint, R: RangeOf<X>>(range: R) -> (u32, u32)
     ensures start { result.0 ≡ R.start range }
     ensures end { result.1 ≡ R.end range }
@@ -155,8 +159,10 @@ impl<X: RangePoint> RangeOf<X> for RangeFull {
     }
 }
 
-/// Whether the ends are an inversion list: of even number, ascending without a repetition, and none
-/// above 0x110000. `[0x41, 0x5B]` is one, and so is the empty list. `[1, 2, 2, 3]` is none.
+/// Returns true if `ends` is an inversion list: its length is even, it is strictly ascending, and
+/// no number is above 0x110000.
+///
+/// `[0x41, 0x5B]` and the empty list are inversion lists, and `[1, 2, 2, 3]` is not.
 pub fn is_valid_zv(ends: &ZeroVec<'_, PotentialCodePoint>) -> bool
     ensures { IsTrue result ↔ IsValid ends.now }
 {
@@ -174,7 +180,8 @@ pub fn is_valid_zv(ends: &ZeroVec<'_, PotentialCodePoint>) -> bool
     true
 }
 
-/// Whether the ends are an inversion list, before they are packed.
+/// Returns true if `ends` is an inversion list. The same test as `is_valid_zv`, for numbers that
+/// are not packed yet.
 pub(crate) fn is_valid_slice(ends: &[u32]) -> bool
     ensures { IsTrue result ↔ IsValid ends.now }
 {

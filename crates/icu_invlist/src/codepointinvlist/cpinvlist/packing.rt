@@ -1,4 +1,4 @@
-//! Ends packed and unpacked.
+//! Packing and unpacking of boundaries.
 ghost use Rattle.std.specs.Prelude.{◌≡◌, map, min, IfOk};
 ghost use Rattle.std.specs.List.{flat_map};
 ghost use Rattle.icu_zerovec.specs.PackedBytes.{low_bytes};
@@ -8,7 +8,7 @@ use icu_zerovec::ule::AsULE;
 use icu_zerovec::{MemoryError, PotentialCodePoint, ZeroVec};
 use std::alloc::Global;
 
-/// Copies ends that are packed.
+/// Copies packed boundaries into a vector.
 pub(super) fn unpacked(
     alloc: Global,
     ends: &ZeroVec<'_, PotentialCodePoint>,
@@ -22,7 +22,7 @@ pub(super) fn unpacked(
     Ok(points)
 }
 
-/// The packed bytes of the ends, the lowest byte of each first.
+/// Returns the boundaries packed in three bytes each, lowest byte first.
 pub(super) fn pack(alloc: Global, ends: &[u32]) -> Result<Vec<u8>, MemoryError>
     requires { IsValid ends.now }
     ensures { IfOk result (λ v. v.items ≡ flat_map (low_bytes 3) ends.now) }
@@ -37,7 +37,8 @@ pub(super) fn pack(alloc: Global, ends: &[u32]) -> Result<Vec<u8>, MemoryError>
     Ok(bytes)
 }
 
-/// Cuts the numbers to 24 bits: what has more becomes 0xFFFFFF, which is no end either.
+/// Copies the numbers, with 0xFFFFFF in place of any number that needs more than 24 bits. That is
+/// not a valid boundary either.
 pub(super) fn cut_to_points(
     alloc: Global,
     ends: &[u32],

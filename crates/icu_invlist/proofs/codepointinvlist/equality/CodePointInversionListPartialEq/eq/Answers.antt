@@ -9,7 +9,8 @@ use Rattle.icu_invlist.specs.InversionList.{holds}
 use Rattle.icu_invlist.proofs.EqualSets.{same_sets}
 use Rattle.icu_invlist.proofs.codepointinvlist.equality.CodePointInversionListPartialEq.eq.Goals as goal
 
--- bytes that give the lists, and that the lists give, decide whether these are equal
+-- The bytes determine the lists and the lists the bytes, so comparing bytes decides whether the
+-- lists are equal.
 decided : (values bytes : List ℕ → List ℕ) (a b xs ys : List ℕ) (r : Bool) → Decides r (a ≡ b) → xs ≡ values a → ys ≡ values b
     → a ≡ bytes xs → b ≡ bytes ys
     → Decides r (xs ≡ ys)
