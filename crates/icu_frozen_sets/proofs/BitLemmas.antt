@@ -34,7 +34,7 @@ between_low r m e c l h = rw (lt-ltb c m l, lt-ltb c e (omega arith)) refl
 pub between_high : (r m e c : ℕ) → m ≤ c → r ≤ m → between m e c ≡ between r e c
 between_high r m e c l h = rw (le-leb m c l, le-leb r c (omega arith)) refl
 
--- one range directly behind another
+-- Two adjacent ranges.
 pub or_joined : (b : Bool) (a m e c : ℕ) → a ≤ m → m ≤ e → ((b || between a m c) || between m e c) ≡ (b || between a e c)
 or_joined b a m e c l h = elim (cases_lt c m) [
   | inl k ↦ rw (between_before m e c k) (or_false _ ∙ ap (λ (x : Bool). b || x) (between_low a m e c k h))
@@ -45,7 +45,7 @@ or_joined b a m e c l h = elim (cases_lt c m) [
 pub bit_tested : (word k : ℕ) → nat_eq (bit_and (word / 2 ^ k) 1) 1 ≡ nat_eq (bit_at word k) 1
 bit_tested word k = ap (λ (n : ℕ). nat_eq n 1) (shr_and_one word k)
 
--- the ones from bit `from` on, up to bit `last`
+-- The word with ones from bit `from` to bit `last` inclusive.
 abbrev pub mask : ℕ → ℕ → ℕ
 mask from last = bit_and ((2 ^ 64 - 1) * 2 ^ from % 2 ^ 64) ((2 ^ 64 - 1) / 2 ^ (63 - last))
 
@@ -82,7 +82,7 @@ module _ (block : List ℕ) (from to c : ℕ) (some : from < to) (one_word : to 
   abbrev with_mask : ℕ
   with_mask = bit_or (get_or block (from / 64 % 4) 0) (mask (from % 64) ((to - 1) % 64))
 
-  -- in the word itself
+  -- In the word itself.
   same_word : c / 64 ≡ from / 64 → nat_eq (bit_at with_mask (c % 64)) 1
       ≡ (nat_eq (bit_at (get_or block (from / 64 % 4) 0) (c % 64)) 1 || between from to c)
   same_word e = elim (cases_lt c from) [

@@ -1,4 +1,4 @@
--- Blocks are appended to the tables.
+-- Appending blocks to the tables.
 use Rattle.std.proofs.Common.{◌≡◌, ◌∙◌, ℕ, ◌+◌, ◌-◌, ◌*◌, ◌/◌, ◌%◌, ◌^◌, ◌<◌, ◌≤◌, List, [], ◌∷◌, ◌++◌, length, get_or, set, refl, ap, sym, arith, zero, suc, zero-add, Bool, true, false, cond, inl, inr}
 use Rattle.std.specs.Int.{bit_at}
 use lib.Bits.{bit_and}
@@ -11,7 +11,7 @@ use Rattle.icu_frozen_sets.proofs.BitLemmas.{bit_tested}
 use Rattle.icu_frozen_sets.specs.CodePointBits.{BitTables, has_bit, word_with}
 use Rattle.icu_frozen_sets.specs.Inside.Filling.{AreTables, AddsBlocks, block_bit}
 
--- ---- the tables of no block
+-- ---- tables without blocks
 abbrev pub two_blocks : List ℕ
 two_blocks = 0 ∷ 0 ∷ 0 ∷ 0 ∷ (2 ^ 64 - 1) ∷ (2 ^ 64 - 1) ∷ (2 ^ 64 - 1) ∷ (2 ^ 64 - 1) ∷ []
 
@@ -38,7 +38,7 @@ no_blocks index words e w = rw (e, w) (record {
   all = last_four;
 })
 
--- ---- the bits of words that are all alike
+-- ---- the bits of equal words
 pub bit_of_uniform : (value : Bool) (word k : ℕ) → word ≡ cond value (2 ^ 64 - 1) 0 → k < 64 → nat_eq (bit_at word k) 1 ≡ value
 bit_of_uniform true word k e h = rw (e, bit_at_ones 64 k h) refl
 bit_of_uniform false word k e h = rw (e, bit_at-zero k) refl
@@ -52,7 +52,7 @@ shared_place : (value : Bool) → cond value 4 0 ≤ 4
 shared_place true = omega arith
 shared_place false = omega arith
 
--- ---- blocks that hold nothing or everything
+-- ---- empty and full blocks
 module _ (t : BitTables) (index : List ℕ) (count : ℕ) (value : Bool) (a : AreTables t)
     (len : length index ≡ length t.index + count)
     (kept : (k : ℕ) → k < length t.index → get_or index k 0 ≡ get_or t.index k 0)
@@ -119,7 +119,7 @@ module _ (t : BitTables) (block : List ℕ) (a : AreTables t) (four : length blo
     added = own_added;
   }
 
--- ---- a block whose words are all alike
+-- ---- a block of equal words
 pub uniform_block : (t new : BitTables) (block : List ℕ) (value : Bool) → AddsBlocks t new 1 (λ c. value)
     → ((k : ℕ) → k < 4 → get_or block k 0 ≡ cond value (2 ^ 64 - 1) 0) → AddsBlocks t new 1 (block_bit block)
 uniform_block t new block value a all = record {
@@ -129,12 +129,12 @@ uniform_block t new block value a all = record {
   added = λ c l h. a.added c l h ∙ sym (bit_of_uniform value _ (c % 64) (all (c / 64 % 4) (omega arith)) (omega arith));
 }
 
--- ---- the bits of ASCII, which are of the first two words of the first block
+-- ---- the bits of ASCII, which are in the first two words of the first block
 module _ (t : BitTables) (a : AreTables t) (some : 0 < length t.index) (first : ℕ) (f : first ≡ get_or t.index 0 first) where
   placed_first : first ≡ get_or t.index 0 0
   placed_first = f ∙ get_or_default t.index 0 first 0 some
 
-  -- the bit k of the word, which is one of these two
+  -- Bit k of the word, which is one of these two.
   pub ascii_bit : (word at part k : ℕ) → part < 2 → at ≡ first + part → word ≡ get_or t.words at word → k < 64
       → nat_eq (bit_and (word / 2 ^ k) 1) 1 ≡ has_bit t (64 * part + k)
   ascii_bit word at part k two q w h =
@@ -148,7 +148,7 @@ module _ (t : BitTables) (a : AreTables t) (some : 0 < length t.index) (first : 
       bit_tested word k ∙ (ap (λ (n : ℕ). nat_eq (bit_at n k) 1) same
       ∙ ap (λ (j : ℕ). nat_eq (bit_at (get_or t.words (get_or t.index (c / 256) 0 + c / 64 % 4) 0) j) 1) bit)
 
--- two entries are written
+-- Two entries are written.
 pub ascii_more : (ascii : List Bool) (bit : ℕ → Bool) (k : ℕ) (low high : Bool) → length ascii ≡ 128 → k < 64 → low ≡ bit k
     → high ≡ bit (64 + k)
     → ((c : ℕ) → c < 128 → c % 64 < k → get_or ascii c false ≡ bit c) → (c : ℕ) → c < 128 → c % 64 < k + 1
@@ -162,7 +162,7 @@ ascii_more ascii bit k low high n h l e same c d m = elim (cases_eq c (64 + k)) 
 ]
 
 -- ---- the words of the first code points
--- one word more is copied
+-- One more word is copied.
 pub words_more : (t : BitTables) (words : List ℕ) (k first word : ℕ) → AreTables t → length words ≡ 32 → k < 32 → 8 ≤ length t.index
     → first ≡ get_or t.index (k / 4) first → word ≡ get_or t.words (first + k % 4) word
     → ((c : ℕ) → c / 64 < k → get_or words (c / 64) 0 ≡ word_with t c)

@@ -1,4 +1,4 @@
--- A character of a text is told by its lead and trail bytes, and so is the place of its bit.
+-- The lead and trail bytes of a character determine it and the position of its bit.
 use Rattle.std.proofs.Common.{◌≡◌, ◌∙◌, ℕ, ◌+◌, ◌*◌, ◌/◌, ◌%◌, ◌<◌, ◌≤◌, List, [], ◌∷◌, ◌++◌, length, get_or, drop, refl, ap, sym, arith, Bool, true, false, inl, inr}
 use lib.Utf8.{scalar_cases}
 use Rattle.std.specs.Char.{IsScalar, encode_utf8}
@@ -32,7 +32,7 @@ encode_four : (c : ℕ) → 65536 ≤ c → encode_utf8 c ≡ (240 + c / 262144)
 unfolding encode_utf8
 encode_four c l = rw (le-ltb c 128 (omega arith), le-ltb c 2048 (omega arith), le-ltb c 65536 l) refl
 
--- the first byte says how many follow, and together they say the character
+-- The first byte determines the length, and all bytes together determine the character.
 data Shape (c : ℕ) : Type 0 where
   of_one : c < 128 → encode_utf8 c ≡ c ∷ [] → Shape c
   of_two : (a b : ℕ) → 192 ≤ a → a < 224 → 128 ≤ b → b < 192 → c + 12416 ≡ a * 64 + b → encode_utf8 c ≡ a ∷ b ∷ [] → Shape c
@@ -106,7 +106,7 @@ module _ (ends text : List ℕ) (ascii : List Bool) (two : List ℕ) (t : BitTab
         told = told;
       }
 
-  -- the bit of the character that stands there
+  -- The bit of the character at this offset.
   told_by : (place : ℕ) (held : Bool) → held ≡ has_bit t place → place ≡ head.c → held ≡ holds ends head.c
   told_by place held e p = e ∙ (ap (λ (n : ℕ). has_bit t n) p ∙ f.bits head.c (below_limit head.c head.scalar))
 
@@ -164,7 +164,7 @@ module _ (ends text : List ℕ) (ascii : List Bool) (two : List ℕ) (t : BitTab
     pub three_bytes : IsAsked ends text start held (start + 3)
     three_bytes = by_three formed
 
-  -- the place of a character of four bytes
+  -- The position of the bit of a character of four bytes.
   module _ (l0 : 240 ≤ get_or text start 0) where
     abbrev word : ℕ
     word = get_or text start 0 % 8 * 4096 + get_or text (start + 1) 0 % 64 * 64 + get_or text (start + 2) 0 % 64

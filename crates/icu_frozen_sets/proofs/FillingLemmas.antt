@@ -1,4 +1,4 @@
--- What is filled in, step by step.
+-- Filling the bits, step by step.
 use Rattle.std.proofs.Common.{◌≡◌, ◌∙◌, ℕ, ◌+◌, ◌*◌, ◌/◌, ◌%◌, ◌<◌, ◌≤◌, List, [], ◌∷◌, length, get_or, refl, ap, sym, arith, zero, suc, Bool, true, false, inl, inr}
 use Rattle.std.specs.Prelude.{◌&&◌, ◌||◌}
 use Rattle.std.proofs.lemmas.Bool.{cases_lt, lt-ltb, le-ltb}
@@ -18,7 +18,7 @@ and_yes : (b v : Bool) → b ≡ true → (v && b) ≡ v
 and_yes b true e = e
 and_yes b false e = refl
 
--- ---- where a code point stands
+-- ---- the block of a code point
 pub filled_past : (t : BitTables) (block : List ℕ) (reached c : ℕ) → reached ≤ c → filled t block reached c ≡ false
 unfolding filled
 filled_past t block reached c h = rw (le-ltb c reached h) refl
@@ -48,7 +48,7 @@ no_bits c block e =
     let w : get_or block (c / 64 % 4) 0 ≡ 0 = ap (λ (b : List ℕ). get_or b (c / 64 % 4) 0) e ∙ no_word (c / 64 % 4) (omega arith) in
     rw (w, bit_at-zero (c % 64)) refl
 
--- ---- nothing is filled in
+-- ---- nothing is filled
 pub filling_none : (t : BitTables) (block : List ℕ) → AreTables t → t.index ≡ [] → block ≡ no_words → IsFilling t block 0
 filling_none t block a e z =
     let l : length t.index ≡ 0 = ap (λ (xs : List ℕ). length xs) e in
@@ -97,7 +97,7 @@ module _ (t : BitTables) (block more : List ℕ) (reached next : ℕ) (value : B
     bits = word_bits;
   }
 
--- the bits are set, or there is nothing to set
+-- The bits are set, or there is none to set.
 pub word_set : (t : BitTables) (block more : List ℕ) (reached next : ℕ) (value : Bool) → value ≡ true → IsFilling t block reached
     → length t.index ≡ reached / 256 → reached < next → next ≤ (reached / 256 + 1) * 256 → next ≤ code_point_limit
     → ((c : ℕ) → c / 256 ≡ reached / 256 → block_bit more c ≡ (block_bit block c || between reached next c))
@@ -171,7 +171,7 @@ module _ (t new : BitTables) (block : List ℕ) (reached count : ℕ) (value : B
     ]
   ]
 
-  -- no bit of the next block is there yet
+  -- No bit of the next block is filled yet.
   none_ahead : (c : ℕ) → block_bit block c ≡ false
   none_ahead c =
       let d = length t.index * 256 + c % 256 in

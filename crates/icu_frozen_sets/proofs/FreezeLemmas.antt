@@ -1,4 +1,4 @@
--- The ranges of a set are filled in, one after another.
+-- The ranges of a set are filled one after another.
 use Rattle.std.proofs.Common.{◌≡◌, ◌∙◌, ℕ, ◌+◌, ◌/◌, ◌<◌, ◌≤◌, List, [], ◌∷◌, length, get_or, refl, ap, sym, arith, suc, Bool, true, false, inl, inr}
 use Rattle.std.specs.Prelude.{nat_lt, nat_le, ◌&&◌, ◌||◌}
 use Rattle.std.specs.List.{All}
@@ -11,12 +11,12 @@ use Rattle.icu_frozen_sets.specs.Inside.Filling.{Fills, IsFilling, IsFrozen, bit
 use Rattle.icu_frozen_sets.proofs.BitLemmas.{or_false}
 use Rattle.icu_frozen_sets.proofs.FillingLemmas.{filled_past, filled_table}
 
--- the first of the ranges, if there is one, does not start before n
+-- The first of the ranges, if there is one, starts at n or above.
 abbrev pub StartsFrom : ℕ → List (RangeInclusive ℕ) → Type 0
 StartsFrom n [] = Unit {0}
 StartsFrom n (r ∷ rs) = n ≤ r.start
 
--- what the set of these ends holds is filled in, or in one of the ranges that are left
+-- Each code point in the set is filled, or in one of the ranges that are left.
 pub record Freezes (ends : List ℕ) (left : List (RangeInclusive ℕ)) (t : BitTables) (block : List ℕ) (reached : ℕ) : Type 0 where
   pub filling : IsFilling t block reached
   pub settled : length t.index ≡ reached / 256
@@ -89,7 +89,7 @@ module _ (ends : List ℕ) (left rest : List (RangeInclusive ℕ)) (r : RangeInc
         ∙ ap (λ (x : Bool). filled t block reached c || (nat_le r.start c && x)) (ap (λ (n : ℕ). nat_lt c n) e ∙ through c r.end))))));
   }
 
--- the same, as the calls name the numbers
+-- The same step with the numbers as the function calls have them.
 pub freezes_range : (ends : List ℕ) (left rest : List (RangeInclusive ℕ)) (r : RangeInclusive ℕ) → left ≡ r ∷ rest
     → (t : BitTables) (block : List ℕ) (reached : ℕ) → Freezes ends left t block reached
     → (t1 : BitTables) (block1 : List ℕ) (start mid : ℕ) (t2 : BitTables) (block2 : List ℕ) (end new : ℕ) → start ≡ r.start → mid ≡ start

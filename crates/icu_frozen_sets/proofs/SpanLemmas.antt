@@ -1,4 +1,4 @@
--- The walk of a span over the characters of a text.
+-- The loop of a span over the characters of a text.
 use Rattle.std.proofs.Common.{◌≡◌, ◌∙◌, sym, ap, refl, ℕ, ◌+◌, ◌<◌, ◌≤◌, slice_index, List, [], ◌∷◌, ◌++◌, append_assoc, length, take, drop, reverse, Bool, true, false, arith, encode_utf8}
 use Rattle.std.specs.List.{take_while}
 use Rattle.std.specs.Str.{IsCharBoundary, chars, encode_utf8_all, IsUtf8}
@@ -9,11 +9,11 @@ use Rattle.std.proofs.lemmas.List.Sums.{take_while-cons}
 use Rattle.std.specs.Char.{IsScalar}
 use Rattle.std.proofs.lemmas.Str.{chars_past_char, IsUtf8-past_char, chars_from_encodes, IsUtf8-nil, IsUtf8-encode, IsUtf8-append, IsUtf8-take, IsUtf8-drop, IsCharBoundary-at_seam, IsCharBoundary-from_drop, chars-append, chars-nil, encode_ascii}
 
--- how long the front is that passes
+-- The length of the prefix that passes.
 abbrev pub front : (ℕ → Bool) → List ℕ → ℕ
 front p text = length (encode_utf8_all (take_while p (chars text)))
 
--- the characters from `start` to `end` all pass
+-- The characters from `start` to `end` all pass.
 pub record Passed (p : ℕ → Bool) (text : List ℕ) (start end : ℕ) : Type 0 where
   pub utf8 : IsUtf8 (drop end text)
   pub order : start ≤ end
@@ -61,11 +61,11 @@ passed_ends p text start end s e =
     let f : front p (drop end text) ≡ 0 = ap (front p) r ∙ ap (λ (cs : List ℕ). length (encode_utf8_all (take_while p cs))) (sym k) in
     omega (arith, f, s.so_far)
 
--- a character starts where the walk stands, or the text ends
+-- The current offset is a character boundary.
 pub passed_boundary : (p : ℕ → Bool) (text : List ℕ) (start end : ℕ) → Passed p text start end → IsCharBoundary text end
 passed_boundary p text start end s = IsCharBoundary-from_drop text end s.within s.utf8
 
--- one walk after another
+-- Two such stretches of characters, one after the other.
 pub passed_both : (p : ℕ → Bool) (text : List ℕ) (start mid end : ℕ) → IsUtf8 text → Passed p text start mid → mid ≤ end
     → IsCharBoundary text end
     → end + front p (drop end text) ≡ mid + front p (drop mid text) → Passed p text start end
@@ -77,7 +77,7 @@ passed_both p text start mid end u s order b e = record {
 }
 
 -- ---- by bytes
--- a byte of ASCII is a character
+-- An ASCII byte is a character.
 ascii_step : (text : List ℕ) (n : ℕ) → n < length text → slice_index text n < 128
     → drop n text ≡ encode_utf8 (slice_index text n) ++ drop (n + 1) text
 ascii_step text n h a = drop_more text n 0 h ∙ ap (λ (bs : List ℕ). bs ++ drop (n + 1) text) (sym (encode_ascii (slice_index text n) a))
@@ -87,8 +87,8 @@ pub passed_ascii : (p : ℕ → Bool) (text : List ℕ) (start n : ℕ) → Pass
 passed_ascii p text start n s h a y = passed_more p text start n (n + 1) (slice_index text n) s (omega arith) (omega arith)
     (ascii_step text n h a) y
 
--- ---- from the back
--- how long the tail is that passes
+-- ---- from the end of the text
+-- The length of the suffix that passes.
 abbrev pub tail : (ℕ → Bool) → List ℕ → ℕ
 tail p text = length (encode_utf8_all (take_while p (reverse (chars text))))
 
@@ -149,6 +149,6 @@ back_ends p text rest s e =
 pub back_start : (p : ℕ → Bool) (text rest : List ℕ) → IsUtf8 text → rest ≡ text → SpannedBack p text rest
 back_start p text rest u e = rw e (record { utf8 = u; behind = []; behind_utf8 = IsUtf8-nil; parts = sym (append-nil text); so_far = refl })
 
--- a character starts where the walk stands, or the text ends
+-- The current offset is a character boundary.
 pub back_boundary : (p : ℕ → Bool) (text rest : List ℕ) → SpannedBack p text rest → IsCharBoundary text (length rest)
 back_boundary p text rest s = IsCharBoundary-at_seam text rest s.behind s.parts s.behind_utf8

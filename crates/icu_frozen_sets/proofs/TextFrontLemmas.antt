@@ -1,11 +1,11 @@
--- The text that bytes begin with.
+-- The longest valid UTF-8 prefix of bytes.
 use Rattle.std.proofs.Common.{◌≡◌, ◌∙◌, sym, ap, subst, ℕ, ◌++◌, List, length, take, drop, arith}
 use Rattle.std.specs.Str.{IsCharBoundary, IsUtf8, IsValidUpTo}
 use Rattle.std.proofs.lemmas.List.{length-take-le, take-append-drop, take-append-le}
 use Rattle.std.proofs.lemmas.Str.{IsUtf8-take}
 use Rattle.icu_frozen_sets.specs.TextFronts.{IsTextUpTo}
 
--- what stands before the first ill-formed sequence
+-- The bytes before the first ill-formed sequence.
 pub text_before_fault : (bytes text : List ℕ) (n : ℕ) → IsValidUpTo bytes n → text ≡ take n bytes → IsTextUpTo bytes (length text)
 text_before_fault bytes text n v e =
     let short = v.short in
@@ -16,7 +16,7 @@ text_before_fault bytes text n v e =
       longest = λ m h _. v.longest m (omega (arith, h, same));
     }
 
--- a text's front is one of the bytes that the text begins
+-- A prefix of the text is a prefix of the bytes.
 pub front_of_front : (bytes text : List ℕ) (n k : ℕ) → text ≡ take k bytes → IsUtf8 text → IsCharBoundary text n → IsUtf8 (take n bytes)
 front_of_front bytes text n k e u b =
     let parts : text ++ drop k bytes ≡ bytes = ap (λ (bs : List ℕ). bs ++ drop k bytes) e ∙ take-append-drop k bytes in

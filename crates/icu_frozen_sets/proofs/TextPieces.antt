@@ -1,4 +1,4 @@
--- A text cut into its spans.
+-- Cutting a text into its spans.
 use Rattle.std.proofs.Common.{◌≡◌, ◌∙◌, sym, ap, subst, refl, ℕ, ◌+◌, ◌<◌, List, [], ◌∷◌, ◌++◌, length, take, drop, Bool, true, false, not, ◌&&◌, arith, encode_utf8}
 use Rattle.std.specs.List.{All, take_while}
 use Rattle.std.specs.Iterator.{Drains, Yields}
@@ -15,12 +15,12 @@ use Rattle.icu_frozen_sets.specs.Spans.{AreAlternating, AreSpans, GivesSpan, IsF
 use Rattle.icu_frozen_sets.specs.declared.spans.Span.{Span}
 
 -- ---- lists
--- the first one, if there is one, does not pass
+-- The first element, if there is one, does not pass.
 abbrev pub StopsAt : (ℕ → Bool) → List ℕ → Type 0
 StopsAt p [] = Unit {0}
 StopsAt p (d ∷ ds) = p d ≡ false
 
--- cs is its longest front that passes, and then ds
+-- The list is cs, its longest prefix that passes, followed by ds.
 pub record IsCut (p : ℕ → Bool) (cs ds : List ℕ) : Type 0 where
   pub parts : cs ≡ take_while p cs ++ ds
   pub passes : All (λ c. p c ≡ true) (take_while p cs)
@@ -79,7 +79,7 @@ other_kind false false true e f = refl
 other_kind false false false e f = absurd (true≢false e)
 
 -- ---- the first span
--- whether a character is of this kind
+-- Whether the membership of a character is as given.
 abbrev pub is_kind : List ℕ → Bool → ℕ → Bool
 is_kind set is_held = λ c. beq (holds set c) is_held
 
@@ -107,7 +107,7 @@ module _ (set text : List ℕ) (u : IsUtf8 text) (is_held : Bool) where
       let front = front_of set is_held text in
       ap (λ (bs : List ℕ). take (length front) bs) text_parts ∙ take-append_seam front (encode_utf8_all behind)
 
-  -- the characters of the front
+  -- The characters of the prefix.
   front_chars : chars (front_of set is_held text) ≡ take_while passes (chars text)
   front_chars = chars-encodes (take_while passes (chars text)) front_scalars.0
 
@@ -124,7 +124,7 @@ module _ (set text : List ℕ) (u : IsUtf8 text) (is_held : Bool) where
     pub rest_stops : StopsAt passes (chars rest)
     rest_stops = rw (← chars_from_encodes behind rest rest_utf8 rest_is) is_cut.stops
 
--- the front is not empty where the first character is of its kind
+-- The prefix is not empty if the first character passes.
 pub front_some : (set text more : List ℕ) (c : ℕ) → IsUtf8 text → text ≡ encode_utf8 c ++ more
     → 0 < length (front_of set (holds set c) text)
 front_some set text more c u step =
@@ -149,7 +149,7 @@ is_first_span set text more c span rest end u step kind e t r =
     }
 
 -- ---- all spans
--- a span behind one of the other kind
+-- A span after one of the other kind.
 unlike : (h : ℕ → Bool) (a b : Bool) (cs : List ℕ) → StopsAt (λ c. beq (h c) b) cs
     → 0 < length (encode_utf8_all (take_while (λ c. beq (h c) a) cs)) → a ≡ not b
 unlike h a b [] s l = absurd (omega (arith, l))
@@ -186,6 +186,6 @@ spans_of_run s t (x ∷ xs) u n y =
       alternating = alternates s.set x j t xs y.1.set (rest_stops s.set s.text u x.is_held j.text joined) y.2 r.alternating;
     }
 
--- what the calls give until nothing is left are the spans of the text
+-- What `next` yields until nothing is left are the spans of the text.
 pub spans_of_drained : (s : TextToCut) (xs : List Span) → IsUtf8 s.text → Drains GivesSpan s xs → AreSpans s.set s.text xs
 spans_of_drained s xs u d = spans_of_run s d.1.0 xs u d.1.2.steps.0 d.1.1

@@ -1,25 +1,26 @@
--- Bits of the code points in two stages. The index has, for each block of 256 code points, the
--- place of its first word; a word has the bits of 64 code points, that of the first one lowest.
+-- Bits of the code points in two stages. For each block of 256 code points, the index has the
+-- position of its first word. Each word has the bits of 64 code points, lowest first.
 use Rattle.std.specs.Prelude.{ℕ, ◌+◌, ◌*◌, ◌/◌, ◌%◌, ◌<◌, ◌≤◌, ◌≡◌, List, length, slice_index, Bool, ◌==◌}
 use Rattle.std.specs.Int.{bit_at}
 use Rattle.icu_zerovec.specs.CodePoints.{code_point_limit}
 use Rattle.icu_invlist.specs.InversionList.{holds}
 
+-- The two tables.
 pub record BitTables : Type 0 where
   pub index : List ℕ
   pub words : List ℕ
 
--- the word that has the bit of c
+-- The word that has the bit of c.
 abbrev pub word_with : BitTables → ℕ → ℕ
 word_with t c = slice_index t.words (slice_index t.index (c / 256) + c / 64 % 4)
 
--- whether the bit of c is 1
+-- Whether the bit of c is 1.
 abbrev pub has_bit : BitTables → ℕ → Bool
 has_bit t c = bit_at (word_with t c) (c % 64) == 1
 
--- the tables of the set of these ends: the index has each of the 4,352 blocks, whose four words are
--- there; there are eight words more than all blocks have, at most; and a code point's bit says
--- whether the set holds it
+-- The tables of the set with these boundaries. The index has all 4,352 blocks, and the words have
+-- the four words of each. There are at most four words for each block, plus eight. The bit of a
+-- code point is 1 if and only if the set contains it.
 pub record AreTablesOf (ends : List ℕ) (t : BitTables) : Type 0 where
   pub blocks : length t.index ≡ 4352
   pub placed : (b : ℕ) → b < 4352 → slice_index t.index b + 4 ≤ length t.words

@@ -1,3 +1,3 @@
--- Words that the functions inside the crate and their proofs need. No public contract cites them.
+-- Definitions for the contracts of private functions and for proofs. No public contract uses them.
 pub mod Characters
 pub mod Filling

@@ -1,4 +1,4 @@
--- A text's spans: its longest pieces whose characters a set all holds, or all does not hold.
+-- The spans of a text: its longest pieces whose characters are all in a set, or all outside it.
 use Rattle.std.specs.Prelude.{◌≡◌, ℕ, ◌<◌, Bool, not, List, [], ◌∷◌, ◌++◌, length, Option, MatchOption}
 use Rattle.std.specs.List.{All, flat_map, take_while}
 use Rattle.std.specs.Str.{chars, encode_utf8_all}
@@ -6,42 +6,44 @@ use mathlib.Core.Bool.{beq}
 use Rattle.icu_invlist.specs.InversionList.{holds}
 use Rattle.icu_frozen_sets.specs.declared.spans.Span.{Span}
 
--- a text, or what is left of it, and the ends of the set that it is cut by
+-- The boundaries of a set, and the text, or the rest of it, that is cut by the set.
 pub record TextToCut : Type 0 where
   pub set : List ℕ
   pub text : List ℕ
 
--- the longest front of a text whose characters are all held, or all not held
+-- The longest prefix of a text whose characters are all in the set, or all outside it if `is_held`
+-- is false.
 abbrev pub front_of : List ℕ → Bool → List ℕ → List ℕ
 front_of set is_held text =
     encode_utf8_all (take_while (λ c. beq (holds set c) is_held) (chars text))
 
--- the span is the longest such front of the text and not empty, and the rest follows it
+-- The span is the longest such prefix of the text and is not empty. The rest of the text follows
+-- it.
 pub record IsFirstSpan (set text : List ℕ) (span : Span) (rest : List ℕ) : Type 0 where
   pub joined : text ≡ span.text.now ++ rest
   pub some : 0 < length span.text.now
   pub longest : span.text.now ≡ front_of set span.is_held text
 
--- one call gives the first span of what is left, and leaves the rest; or nothing, where nothing is
--- left, and leaves nothing
+-- One call of `next` yields the first span of the text that is left, and the rest of the text
+-- remains. If no text is left, it yields nothing.
 pub record GivesSpan (old : TextToCut) (given : Option Span) (new : TextToCut) : Type 0 where
   pub set : new.set ≡ old.set
   pub steps : MatchOption given ((old.text ≡ []) × (new.text ≡ []))
       (λ span. IsFirstSpan old.set old.text span new.text)
 
--- the span is not empty, and each of its characters is held or not, as it says
+-- The span is not empty, and the membership of all its characters is `is_held`.
 pub record IsOfOneKind (set : List ℕ) (span : Span) : Type 0 where
   pub some : 0 < length span.text.now
   pub alike : All (λ c. holds set c ≡ span.is_held) (chars span.text.now)
 
--- of two neighbours one is held and the other one is not
+-- Of two neighbouring spans, one is in the set and the other is not.
 abbrev pub AreAlternating : List Span → Type 0
 AreAlternating [] = Unit {0}
 AreAlternating (a ∷ []) = Unit {0}
 AreAlternating (a ∷ b ∷ spans) = (b.is_held ≡ not a.is_held) × AreAlternating (b ∷ spans)
 
--- the spans of a whole text: joined they are the text, each is of one kind, and neighbours are not
--- of the same; so none could be longer
+-- The spans of a whole text. Joined, they are the text. Each has characters of one kind and
+-- neighbours differ, so none could be longer.
 pub record AreSpans (set text : List ℕ) (spans : List Span) : Type 0 where
   pub joined : flat_map (λ span. span.text.now) spans ≡ text
   pub alike : All (IsOfOneKind set) spans

@@ -1,4 +1,4 @@
-//! A bit for each code point, in two stages, so that each look-up is two loads.
+//! A bit for each code point, in two stages, so that each look-up takes two loads.
 ghost use Rattle.std.specs.Prelude.{◌≡◌, ℕ, ◌+◌, ◌*◌, ◌/◌, ◌<◌, ◌≤◌, ◌↔◌, [], Bool, false, length, slice_index, slice_index_or, IfOk, OnOk, IsTrue, if◌then◌else◌};
 ghost use Rattle.icu_frozen_sets.specs.CodePointBits.{has_bit};
 ghost use Rattle.icu_frozen_sets.specs.Inside.Filling.{AddsBlocks, AreTables, IsUniform, bit_among, block_bit};
@@ -7,29 +7,30 @@ use icu_zerovec::{CODE_POINT_LIMIT, MemoryError};
 use std::alloc::Global;
 use std::marker::Model;
 
-/// How many blocks of 256 code points there are.
+/// The number of blocks of 256 code points.
 pub(crate) const BLOCKS: u32 = CODE_POINT_LIMIT / 256;
 
-/// The words of the block that holds nothing, and of the one that holds everything.
+/// The words of the empty block, followed by those of the full block.
 const TWO_BLOCKS: [u64; 8] = [0, 0, 0, 0, u64::MAX, u64::MAX, u64::MAX, u64::MAX];
 
-/// How many blocks of their own there is room for at first, at most: letters, marks and unassigned
-/// code points have fewer, and a set has seldom more than ranges.
+/// The greatest number of blocks for which capacity is reserved at first, besides the two shared
+/// ones. The sets of letters, marks and unassigned code points have fewer blocks that are neither
+/// empty nor full, and a set rarely has more such blocks than ranges.
 const ROOM: usize = 142;
 
-/// The place of the block that holds nothing.
+/// The index of the first word of the empty block.
 const EMPTY_BLOCK: u16 = 0;
 
-/// The place of the block that holds everything.
+/// The index of the first word of the full block.
 const FULL_BLOCK: u16 = 4;
 
-/// A bit for each code point, in blocks of 256. All blocks that hold nothing share their words, and
-/// all that hold everything; each other one has four words of its own.
+/// A bit for each code point, in blocks of 256. All empty blocks share their words, and so do all
+/// full blocks. Each other block has four words of its own.
 #[derive(Debug, Drop)]
 pub(crate) struct CodePointBits {
-    /// The place of each block's first word.
+    /// For each block, the index of its first word.
     index: Vec<u16>,
-    /// The bits of 64 code points each, that of the first one lowest.
+    /// Each word has the bits of 64 code points, lowest first.
     words: Vec<u64>,
 }
 
@@ -41,7 +42,7 @@ impl Model for CodePointBits {
     ghost view = { λ b. record { index = b.index.items; words = b.words.items } };
 }
 
-/// The place of the block that holds everything, or, for `value` false, nothing.
+/// Returns the index of the full block if `value` is true, and of the empty block otherwise.
 #[inline(always)]
 fn shared_place(value: bool) -> u16
     ensures { result ≡ (if value then 4 else 0) }
@@ -49,7 +50,7 @@ fn shared_place(value: bool) -> u16
     if value { FULL_BLOCK } else { EMPTY_BLOCK }
 }
 
-/// Whether each of the block's words is this one.
+/// Returns true if all words of the block equal `word`.
 fn is_all(block: &[u64; 4], word: u64) -> bool
     ensures { IsTrue result ↔ ((k : ℕ) → k < 4 → slice_index block.now k ≡ word) }
 {
@@ -57,10 +58,10 @@ fn is_all(block: &[u64; 4], word: u64) -> bool
 }
 
 impl CodePointBits {
-    /// No block yet, of a set of so many ranges.
+    /// Returns tables without any block, with capacity for the blocks of a set of `ranges` ranges.
     ///
     /// # Errors
-    /// `MemoryError` where memory was refused.
+    /// Returns `MemoryError` if an allocation fails.
     pub(crate) fn new(alloc: Global, ranges: usize) -> Result<CodePointBits, MemoryError>
         ensures tables { IfOk result (λ b. AreTables b) }
         ensures none { IfOk result (λ b. b.index ≡ []) }
@@ -72,21 +73,21 @@ impl CodePointBits {
         Ok(CodePointBits { index, words })
     }
 
-    /// The place of each block's first word.
+    /// Returns the index of each block's first word.
     pub(crate) fn index(&self) -> &[u16]
         ensures { result.now ≡ self.now.index }
     {
         &self.index
     }
 
-    /// The bits of 64 code points each, that of the first one lowest.
+    /// Returns the words. Each has the bits of 64 code points, lowest first.
     pub(crate) fn words(&self) -> &[u64]
         ensures { result.now ≡ self.now.words }
     {
         &self.words
     }
 
-    /// The bit of the code point, whose block is there.
+    /// Returns the bit of the code point `c`, whose block must be in the tables.
     #[inline(always)]
     pub(crate) fn contains32(&self, c: u32) -> bool
         requires tables { AreTables self.now }
@@ -96,8 +97,8 @@ impl CodePointBits {
         self.contains_in(c / 64, c % 64)
     }
 
-    /// The bit of the code point at `place` among the 64 of a word, which are those from
-    /// `64 * word` on: as its last trail byte and the bytes before it tell them.
+    /// Returns the bit of the code point `64 * word + place`. In UTF-8, `place` is the payload of
+    /// the last trail byte, and `word` that of the bytes before it.
     #[inline(always)]
     pub(crate) fn contains_in(&self, word: u32, place: u32) -> bool
         requires tables { AreTables self.now }
@@ -110,7 +111,7 @@ impl CodePointBits {
         (bits >> place) & 1 == 1
     }
 
-    /// The bits of ASCII, whose block is there.
+    /// Returns the bits of the ASCII characters. The first block must be in the tables.
     pub(crate) fn ascii(&self) -> [bool; 128]
         requires tables { AreTables self.now }
         requires there { 0 < length self.now.index }
@@ -126,7 +127,8 @@ impl CodePointBits {
         ascii
     }
 
-    /// The bits of the first 2,048 code points, whose blocks are there, 64 a word.
+    /// Returns the bits of the first 2,048 code points, 64 in each word. Their blocks must be in
+    /// the tables.
     pub(crate) fn first_words(&self) -> [u64; 32]
         requires tables { AreTables self.now }
         requires there { 8 ≤ length self.now.index }
@@ -140,10 +142,10 @@ impl CodePointBits {
         words
     }
 
-    /// Appends so many blocks that hold everything, or, for `value` false, nothing.
+    /// Appends `count` blocks, all full if `value` is true and all empty otherwise.
     ///
     /// # Errors
-    /// `MemoryError` where memory was refused.
+    /// Returns `MemoryError` if an allocation fails.
     pub(crate) fn push_run(&mut self, count: usize, value: bool) -> Result<(), MemoryError>
         requires tables { AreTables self.old }
         requires room { length self.old.index + count < 0x10000 }
@@ -166,10 +168,11 @@ impl CodePointBits {
         Ok(())
     }
 
-    /// Appends a block of these words. One that holds nothing or everything takes no words.
+    /// Appends a block with these words. An empty or full block shares its words with the others of
+    /// its kind.
     ///
     /// # Errors
-    /// `MemoryError` where memory was refused.
+    /// Returns `MemoryError` if an allocation fails.
     pub(crate) fn push_block(&mut self, block: &[u64; 4]) -> Result<(), MemoryError>
         requires tables { AreTables self.old }
         requires room { length self.old.index < BLOCKS }
@@ -186,10 +189,10 @@ impl CodePointBits {
         self.push_own(block)
     }
 
-    /// A copy.
+    /// Returns a copy.
     ///
     /// # Errors
-    /// `MemoryError` where memory was refused.
+    /// Returns `MemoryError` if an allocation fails.
     pub(crate) fn try_clone(&self, alloc: Global) -> Result<CodePointBits, MemoryError>
         ensures { IfOk result (λ b. b ≡ self.now) }
     {

@@ -1,4 +1,4 @@
-//! How far bytes that may be no text lie in a frozen set.
+//! Spans of bytes that may not be valid UTF-8.
 ghost use Rattle.std.specs.Prelude.{◌≡◌, ℕ, ◌≤◌, length, take};
 ghost use Rattle.std.specs.List.{take_while};
 ghost use Rattle.std.specs.Str.{IsUtf8, chars, encode_utf8_all};
@@ -8,8 +8,8 @@ ghost use Rattle.icu_frozen_sets.specs.TextFronts.{IsTextUpTo};
 
 use crate::frozen::FrozenCodePointSet;
 
-/// The longest text that the bytes begin with: all of them, or those before the first ill-formed
-/// sequence.
+/// Returns the longest prefix of the bytes that is valid UTF-8: all bytes, or those before the
+/// first ill-formed sequence.
 fn front_text(bytes: &[u8]) -> &str
     ensures front { result.now ≡ take (length result.now) bytes.now }
     ensures longest { IsTextUpTo bytes.now (length result.now) }
@@ -24,14 +24,15 @@ fn front_text(bytes: &[u8]) -> &str
     }
 }
 
-/// Bytes in a frozen set.
+/// Spans of bytes.
 impl FrozenCodePointSet {
-    /// The length in bytes of the longest front of the bytes whose characters are all held, or, for
-    /// `held` false, all not held, where the bytes may be no text: as
-    /// [`span`](FrozenCodePointSet::span) of the text that stands before the first ill-formed
-    /// sequence. That sequence ends a span of either kind (ICU: `UnicodeSet::spanUTF8` takes it for
-    /// U+FFFD). What the length cuts off is text, and the bytes are tested first, up to the
-    /// ill-formed sequence.
+    /// Returns the length in bytes of the longest prefix of `bytes` whose characters are all in the
+    /// set, or all outside it if `held` is false. `bytes` may be ill-formed UTF-8.
+    ///
+    /// An ill-formed sequence ends the span for both values of `held`; ICU's `UnicodeSet::spanUTF8`
+    /// treats it as U+FFFD instead. So the result is that of [`span`](FrozenCodePointSet::span) for
+    /// the text before the first ill-formed sequence, and the prefix is valid UTF-8. The method
+    /// first validates the bytes up to that sequence.
     ///
     /// ```
     /// // letters.span_utf8(b"ab\xFFc", true) is 2, and letters.span_utf8(b"\xFFab", false) is 0

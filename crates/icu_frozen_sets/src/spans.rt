@@ -1,4 +1,4 @@
-//! The pieces of a text that are, and are not, in a frozen set.
+//! An iterator over the pieces of a text that are in a frozen set and those that are not.
 ghost use Rattle.std.specs.Prelude.{◌≡◌, List, []};
 ghost use Rattle.std.specs.Option.{MatchOption};
 ghost use Rattle.std.specs.Iterator.{Drains, item_count};
@@ -7,18 +7,19 @@ ghost use Rattle.icu_frozen_sets.specs.Spans.{AreSpans, GivesSpan, IsFirstSpan, 
 use crate::frozen::FrozenCodePointSet;
 use std::marker::Model;
 
-/// A piece of a text whose characters are all in a set, or all not in it.
+/// A piece of a text whose characters are all in a set, or all outside it.
 #[derive(Clone, Copy, Debug)]
 pub struct Span<'t> {
-    /// The piece itself, which is not empty.
+    /// The piece, which is not empty.
     pub text: &'t str,
-    /// Whether the set holds its characters.
+    /// Whether the set contains its characters.
     pub is_held: bool,
 }
 
-/// The spans of a text, from its front on, as
-/// [`spans`](crate::frozen::FrozenCodePointSet::spans) gives them. A clause sees the text that is
-/// left, and the ends of the set.
+/// An iterator over the spans of a text, from its start to its end.
+/// [`spans`](crate::frozen::FrozenCodePointSet::spans) returns it.
+///
+/// In contracts, it is the text that is left and the boundaries of the set.
 #[derive(Debug, Drop)]
 pub struct Spans<'s, 't> {
     set: &'s FrozenCodePointSet,
@@ -33,7 +34,7 @@ impl<'s, 't> Model for Spans<'s, 't> {
     ghost view = { λ a. record { set = a.set.now; text = a.rest.now } };
 }
 
-/// The first span of a text, with what follows it. `None` exactly where the text is empty.
+/// Returns the first span of a text and the rest of the text, or `None` if the text is empty.
 fn first_span<'t>(set: &FrozenCodePointSet, text: &'t str) -> Option<(Span<'t>, &'t str)>
     ensures { MatchOption result (text.now ≡ [])
         (λ found. IsFirstSpan set.now text.now found.0 found.1.now) }
@@ -62,11 +63,13 @@ impl<'s, 't> Iterator for Spans<'s, 't> {
     }
 }
 
-/// How a text is cut by a frozen set.
+/// Cutting a text into spans.
 impl FrozenCodePointSet {
-    /// The spans of a text, from its front on: its longest pieces whose characters are all held, or
-    /// all not held, in turn. Joined they are the text, none is empty, and each is a slice of it,
-    /// so no memory is taken.
+    /// Returns an iterator over the spans of `text`, from its start to its end: its longest pieces
+    /// whose characters are all in the set, and all outside it, in turn.
+    ///
+    /// Joined, the spans are the text. None is empty, and each is a slice of `text`, so nothing is
+    /// allocated.
     ///
     /// ```
     /// for span in letters.spans("ab, c") {

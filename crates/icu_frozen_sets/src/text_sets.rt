@@ -1,4 +1,4 @@
-//! Frozen sets of code points and texts.
+//! Frozen sets of code points and strings.
 ghost use Rattle.std.specs.Prelude.{◌≡◌, ℕ, ◌<◌, ◌≤◌, ◌↔◌, List, IfOk, IsTrue, false};
 ghost use Rattle.std.specs.Cmp.{partial_equiv_from_equiv};
 ghost use Rattle.icu_zerovec.specs.CodePoints.{code_point_limit};
@@ -12,8 +12,10 @@ use icu_zerovec::MemoryError;
 use std::alloc::Global;
 use std::marker::Model;
 
-/// A set of code points and strings for many look-ups (ICU: a frozen UnicodeSet with strings): the
-/// set beside its code points, frozen. A clause sees the set's ends and strings.
+/// A set of code points and strings for many look-ups (ICU: a frozen UnicodeSet with strings). It
+/// stores the set and a frozen set of its code points.
+///
+/// In contracts, a frozen set is the boundaries and the strings of the set.
 ///
 /// ```
 /// let words = FrozenCodePointSetAndStrings::freeze(alloc, &set)?;
@@ -36,13 +38,13 @@ impl Model for FrozenCodePointSetAndStrings {
     ghost invariant = { λ a. a.code_points ≡ a.set.code_points };
 }
 
-/// How a set is frozen.
+/// Constructors and copies.
 impl FrozenCodePointSetAndStrings {
-    /// The set with a bit for each code point (ICU: `UnicodeSet::freeze`). The given set stays as
-    /// it is, and the frozen one has a copy of its ends and of its strings.
+    /// Returns a frozen set with the code points and the strings of `set` (ICU:
+    /// `UnicodeSet::freeze`). It has its own copy of both, and `set` is unchanged.
     ///
     /// # Errors
-    /// `MemoryError` where memory was refused.
+    /// Returns `MemoryError` if an allocation fails.
     pub fn freeze(
         alloc: Global,
         set: &CodePointInversionListAndStringList<'_>,
@@ -56,10 +58,10 @@ impl FrozenCodePointSetAndStrings {
         })
     }
 
-    /// A copy, which takes no new look at the ranges.
+    /// Returns an equal frozen set. This copies the bits and does not compute them again.
     ///
     /// # Errors
-    /// `MemoryError` where memory was refused.
+    /// Returns `MemoryError` if an allocation fails.
     pub fn try_clone(&self, alloc: Global) -> Result<FrozenCodePointSetAndStrings, MemoryError>
         ensures ok { IfOk result (λ s. s ≡ self.now) }
     {
@@ -71,17 +73,19 @@ impl FrozenCodePointSetAndStrings {
     }
 }
 
-/// What a frozen set holds.
+/// Queries.
 impl FrozenCodePointSetAndStrings {
-    /// The set itself.
+    /// Returns a reference to the set that was frozen.
     pub fn as_set(&self) -> &CodePointInversionListAndStringList<'static>
         ensures set { result.now ≡ self.now }
     {
         &self.set
     }
 
-    /// Whether the set holds the text: one of exactly one character if that is among the code
-    /// points, any other one if it is among the strings. A character takes no search.
+    /// Returns true if the set contains the text: as a code point if it has exactly one character,
+    /// and otherwise as a string.
+    ///
+    /// A text of one character takes no search.
     pub fn contains_str(&self, text: &str) -> bool
         ensures { result ≡ member self.now text.now }
     {
@@ -92,7 +96,8 @@ impl FrozenCodePointSetAndStrings {
         }
     }
 
-    /// Whether the set holds the code point. No number above 0x10FFFF is held.
+    /// Returns true if the set contains the code point `cp`. Returns false for any number above
+    /// 0x10FFFF.
     #[inline(always)]
     pub fn contains32(&self, cp: u32) -> bool
         ensures held { result ≡ holds self.now.code_points cp }
@@ -101,7 +106,7 @@ impl FrozenCodePointSetAndStrings {
         self.code_points.contains32(cp)
     }
 
-    /// Whether the set holds the character.
+    /// Returns true if the set contains the character `ch`.
     #[inline(always)]
     pub fn contains(&self, ch: char) -> bool
         ensures { result ≡ holds self.now.code_points ch }
@@ -110,7 +115,7 @@ impl FrozenCodePointSetAndStrings {
     }
 }
 
-/// Equal exactly where the sets are: what each keeps beside its set follows from it.
+/// Compares the sets, because the set determines the bits.
 impl PartialEq for FrozenCodePointSetAndStrings {
     ghost eq = { same_set };
 

@@ -13,7 +13,7 @@ returns-then-is_all-2-clause-adds c = on_ok_weaker _
     (λ a. uniform_block c.args.self.now c.push_run-then-is_all-2.new.self c.args.block.now true a (c.if-is_all-2.ensures.0 refl))
     c.push_run-then-is_all-2.ensures.adds
 
--- a block that is neither empty nor full is not uniform
+-- A block that is neither empty nor full is not uniform.
 mixed : (block : List ℕ) (value none all : Bool) → none ≡ false → all ≡ false
     → (((k : ℕ) → k < 4 → slice_index block k ≡ 0) → none ≡ true)
     → (((k : ℕ) → k < 4 → slice_index block k ≡ 2 ^ 64 - 1) → all ≡ true) → IsUniform block value → ⊥
