@@ -1,5 +1,5 @@
--- Each type of this crate has one encoding of each value, for a caller's proof that meets the premise
--- `IsCanonical` of a clause: bytes are those of the number that they make.
+-- Each type of this crate has one encoding of each value. A caller's proof uses this to meet the
+-- premise `IsCanonical` of a clause.
 use Rattle.std.specs.Prelude.{◌≡◌, ℕ, ◌^◌, ◌<◌, List, [], ◌∷◌, length, Some}
 use Rattle.std.specs.Int.{w8, w16, w32, cast_signed, cast_unsigned}
 use Rattle.std.proofs.Common.{arith, sym, ◌∙◌, ap}
@@ -8,7 +8,7 @@ use Rattle.std.proofs.lemmas.Option.{same_Some, cond_some}
 use Rattle.icu_zerovec.specs.Canonical.{IsCanonical}
 use Rattle.icu_zerovec.specs.PackedBytes.{low_bytes, number_of, scalar_of, AreBytes}
 
--- k bytes that are the bytes of the number that they make
+-- These k bytes are the bytes of their number.
 abbrev pub MakesBack : ℕ → Type 0
 MakesBack k = (b : List ℕ) → length b ≡ k → AreBytes b → low_bytes k (number_of k b) ≡ b
 
@@ -19,7 +19,7 @@ one_list x y e = ap (λ k. k ∷ []) e
 more_list : (x y : ℕ) (xs ys : List ℕ) → x ≡ y → xs ≡ ys → x ∷ xs ≡ y ∷ ys
 more_list x y xs ys e h = cc
 
--- ---- bytes are the bytes of the number that they make
+-- ---- bytes are the bytes of their number
 pub low_bytes-1 : MakesBack 1
 low_bytes-1 [] e h = absurd (omega arith)
 low_bytes-1 (x ∷ []) e h = let p : x < 256 = h 0 in one_list _ x (omega arith)
@@ -63,7 +63,7 @@ pub below-4 : (b : List ℕ) → AreBytes b → number_of 4 b < 2 ^ 32
 below-4 b h = omega (arith, h 0, h 1, h 2, h 3)
 
 -- ---- the types of this crate
--- for unsigned numbers of k bytes
+-- Unsigned numbers of k bytes.
 unsigned_by : (k : ℕ) → MakesBack k → IsCanonical (low_bytes k) (λ b. Some (number_of k b)) k
 unsigned_by k m = record { packs = λ b x e h u. ap (low_bytes k) (sym (same_Some _ _ u)) ∙ m b e h }
 

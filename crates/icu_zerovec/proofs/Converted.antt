@@ -9,17 +9,17 @@ use Rattle.icu_zerovec.specs.declared.ule.UleError.{UleError}
 use Rattle.icu_zerovec.specs.declared.ule.UleError.TheVariants.{Length, Cell}
 use Rattle.icu_zerovec.proofs.CellsLemmas.{pack-get, get-values_of, get_past-values_of, length-values_of}
 
--- a conversion, value by value, where each value of the first type has one encoding
+-- A conversion, value by value, if each value of the first type has one encoding.
 module _ {T P : Type 0} (f : List ℕ → Option T) (w : ℕ) (g : List ℕ → Option P) (pack : T → List ℕ) (one : IsCanonical pack f w)
     (xs : List T) where
-  -- what the second type reads from the bytes of value i is what it reads from cell i
+  -- What the second type reads from the bytes of value i is what it reads from cell i.
   read_at : (r : Result (List P) UleError) (c : IsConverted f w g w xs r) (i : ℕ) → i < length c.bytes / w
       → option_and_then g (option_map pack (slice_get xs i)) ≡ g (cell w c.bytes i)
   read_at r c i l =
       ap (λ l. option_and_then g (option_map pack (slice_get l i))) (sym c.values)
       ∙ ap (option_and_then g) (pack-get f w pack one c.bytes i c.packed l)
 
-  -- value i is what the second type reads from the bytes of value i
+  -- Value i of the result is what the second type reads from the bytes of value i.
   pub converted_ok : (r : Result (List P) UleError) → IsConverted f w g w xs r
       → IfOk r (λ ys. (i : ℕ) → slice_get ys i ≡ option_and_then g (option_map pack (slice_get xs i)))
   converted_ok (Ok ys) c = λ i. elim (cases_lt i (length c.bytes / w)) [
@@ -30,7 +30,7 @@ module _ {T P : Type 0} (f : List ℕ → Option T) (w : ℕ) (g : List ℕ → 
   ]
   converted_ok (Err e) c = tt
 
-  -- the fault is the first value whose bytes the second type does not read
+  -- The fault is the first value whose bytes the second type does not read.
   pub converted_err : (r : Result (List P) UleError) → IsConverted f w g w xs r → IfErr r (IsFirstRefusedCell pack g xs)
   converted_err (Ok ys) c = tt
   converted_err (Err Length) c = absurd (c.err c.packed.whole)

@@ -1,9 +1,9 @@
--- How items are read one after another, as a loop does.
+-- Reading items one after another, as a loop does.
 use Rattle.std.proofs.Common.{◌≡◌, ℕ, ◌+◌, ◌<◌, ◌≤◌, List, [], ◌∷◌, ◌++◌, Result, Ok, Err, refl, sym, ap, ◌∙◌, length, get_or, drop, drop-cons, append_assoc, append-nil, add-one, map}
 use Rattle.std.proofs.lemmas.List.{drop_all}
 use Rattle.icu_zerovec.specs.FirstFault.{before, read_from}
 
--- the front before what is read
+-- A prefix, followed by what is read.
 abbrev pub with_front : {B F : Type 0} → List B → Result (List B) F → Result (List B) F
 with_front front (Ok xs) = Ok (front ++ xs)
 with_front front (Err e) = Err e
@@ -28,13 +28,13 @@ one_more : {B F : Type 0} (front : List B) (u : B) (r : Result (List B) F)
 one_more front u (Ok xs) = ap (λ z. Ok z) (append_assoc front (u ∷ []) xs)
 one_more front u (Err e) = refl
 
--- an item with a fault
+-- An item with a fault.
 pub stops : {A B C F : Type 0} (read : ℕ → A → Result B F) (p : C → A) (vs : List C) (i : ℕ) (x : C) (front : List B)
     (whole : Result (List B) F) (f : F) → i < length vs → x ≡ get_or vs i x
     → with_front front (read_from read i (map p (drop i vs))) ≡ whole → read i (p x) ≡ Err f → whole ≡ Err f
 stops read p vs i x front whole f h e w n = sym w ∙ ap (with_front front) (at_item read p vs i x (Err f) h e n)
 
--- an item with no fault
+-- An item without a fault.
 pub goes_on : {A B C F : Type 0} (read : ℕ → A → Result B F) (p : C → A) (vs : List C) (i : ℕ) (x : C) (front front' : List B)
     (whole : Result (List B) F) (u : B) → i < length vs → x ≡ get_or vs i x
     → with_front front (read_from read i (map p (drop i vs))) ≡ whole → read i (p x) ≡ Ok u → front' ≡ front ++ u ∷ []
@@ -52,7 +52,7 @@ at_end read p vs i front whole h w =
     let none : drop i vs ≡ [] = drop_all i vs h in
     sym w ∙ ap (λ z. with_front front (read_from read i (map p z))) none ∙ ap (λ z. Ok z) (append-nil front)
 
--- before anything was read
+-- Before anything was read.
 pub at_start : {B F : Type 0} (r : Result (List B) F) → with_front [] r ≡ r
 at_start (Ok xs) = refl
 at_start (Err e) = refl

@@ -1,5 +1,4 @@
--- Lists of values are the same exactly if the bytes that the values are packed to are, and what a hasher is
--- fed.
+-- Lists of values are equal if and only if their packed bytes are, and what a hasher is fed.
 use Rattle.std.proofs.Common.{◌≡◌, ℕ, zero, suc, ◌+◌, ◌-◌, ◌*◌, ◌/◌, ◌%◌, ◌<◌, ◌≤◌, not, drop, ap₂, inl, inr, add-one, subst, List, [], ◌∷◌, ◌++◌, length, take, slice_get, Option, Some, Bool, true, false, true≢false, refl, arith, sym, ◌∙◌, ap, append_assoc}
 use Rattle.std.specs.Prelude.{nat_eq, IsTrue, ◌↔◌}
 use Rattle.std.specs.Bool.{MatchBool}
@@ -19,14 +18,14 @@ use Rattle.std.proofs.lemmas.List.{drop-take, take-take}
 use Rattle.std.proofs.lemmas.Nat.{div-add-mod', row_fits}
 use Rattle.icu_zerovec.proofs.CellsLemmas.{take-pack, get-values_of, get_past-values_of, length-values_of}
 
--- ---- values that are packed to the same bytes
+-- ---- values that pack to the same bytes
 module _ {T : Type 0} (f : List ℕ → Option T) (w : ℕ) (pack : T → List ℕ) (V : T → Type 0) (positive : 0 < w)
     (long : (x : T) → V x → length (pack x) ≡ w) (back : (x : T) → V x → f (pack x) ≡ Some x) where
-  -- values with the same bytes are the same
+  -- Values with the same bytes are equal.
   pub same_by_bytes : (x y : T) → V x → V y → pack x ≡ pack y → x ≡ y
   same_by_bytes x y p q e = same_Some _ _ (sym (back x p) ∙ ap f e ∙ back y q)
 
-  -- what a comparison of the bytes, with the same bytes z after them, says
+  -- The result of comparing the bytes, with the same bytes z after them.
   pub decided : (x y : T) (z : List ℕ) (r : Bool) → V x → V y → r ≡ pointwise nat_eq (pack x ++ z) (pack y ++ z)
       → MatchBool r (x ≡ y) (same_bytes pack x y ≡ false)
   decided x y z true p q e =
@@ -38,7 +37,7 @@ module _ {T : Type 0} (f : List ℕ → Option T) (w : ℕ) (pack : T → List �
       ∙ sym e))
 
 -- ---- lists
--- lists that differ in one place are not equal
+-- Lists that differ at one index are not equal.
 pub differs : {T : Type 0} (E : T → T → Bool) (xs ys : List T) (i : ℕ) (x y : T) → slice_get xs i ≡ Some x → slice_get ys i ≡ Some y
     → E x y ≡ false
     → pointwise E xs ys ≡ false
@@ -47,13 +46,13 @@ differs E (u ∷ xs) [] i x y a b e = refl
 differs E (u ∷ xs) (v ∷ ys) zero x y a b e = rw (same_Some u x a, same_Some v y b, e) refl
 differs E (u ∷ xs) (v ∷ ys) (suc i) x y a b e = and_right (E u v) _ (differs E xs ys i x y a b e)
 
--- lists with the same elements are the same
+-- Lists with the same elements are equal.
 pub same_gets : {T : Type 0} (xs ys : List T) → length xs ≡ length ys → ((j : ℕ) → j < length xs → slice_get xs j ≡ slice_get ys j)
     → xs ≡ ys
 same_gets xs ys e h = same_lists xs ys e (λ k d l. sym (unwrap_or-slice_get xs k d) ∙ ap (λ o. unwrap_or o d) (h k l)
     ∙ unwrap_or-slice_get ys k d)
 
--- what is fed once one more element is
+-- What is fed after one more element.
 pub fed_more : {S T : Type 0} (write : S → List ℕ → S) (F : T → HashWrites) (s t u : S) (us : HashWrites) (xs : List T) (i : ℕ) (x : T)
     → slice_get xs i ≡ Some x → t ≡ fold write s (us ++ flat_map F (take i xs)) → u ≡ fold write t (F x)
     → u ≡ fold write s (us ++ flat_map F (take (i + 1) xs))
@@ -65,28 +64,28 @@ fed_more write F s t u us xs i x a p q =
     fed_then write s t u (us ++ flat_map F (take i xs)) (F x) p q
     ∙ ap (fold write s) (append_assoc us (flat_map F (take i xs)) (F x) ∙ ap (λ l. us ++ l) (sym all))
 
--- ---- what a comparison of two lists says
+-- ---- the result of comparing two lists
 module _ {T : Type 0} (pack : T → List ℕ) (xs ys : List T) where
-  -- a list is the same as itself
+  -- A list is equal to itself.
   itself : pointwise (same_bytes pack) xs xs ≡ true
   itself = (lists_equiv (on_equiv pack nat_list_eq_equiv)).refl xs
 
-  -- so are lists that are equal
+  -- Equal lists compare as equal.
   along : xs ≡ ys → pointwise (same_bytes pack) xs ys ≡ true
   along e = subst (λ l. pointwise (same_bytes pack) xs l ≡ true) e itself
 
-  -- the answer is that of the comparison value by value
+  -- The result is that of the comparison value by value.
   pub told_value : (r : Bool) → MatchBool r (xs ≡ ys) (pointwise (same_bytes pack) xs ys ≡ false) → r ≡ pointwise (same_bytes pack) xs ys
   told_value true m = sym (along m)
   told_value false m = sym m
 
-  -- the answer is true exactly if the lists are equal
+  -- The result is true if and only if the lists are equal.
   pub told_same : (r : Bool) → MatchBool r (xs ≡ ys) (pointwise (same_bytes pack) xs ys ≡ false) → IsTrue r ↔ (xs ≡ ys)
   told_same true m = (λ _. m, λ _. refl)
   told_same false m = (λ t. absurd (true≢false (sym t)), λ e. absurd (true≢false (sym (along e) ∙ m)))
 
--- ---- blocks of bytes that are the same
--- the same bytes so far, and the next n
+-- ---- blocks of equal bytes
+-- The bytes so far are equal, and so are the next n.
 pub block_more : (at n m : ℕ) (a b : List ℕ) → m ≡ n → false ≡ not (pointwise nat_eq (take m (drop at a)) (take m (drop at b)))
     → take at a ≡ take at b
     → take (at + n) a ≡ take (at + n) b
@@ -95,23 +94,23 @@ block_more at n m a b e h p =
     subst (λ k. take k (drop at a) ≡ take k (drop at b)) e ((bytes_decides _ _).0 (not-false _ (sym h))) in
     take-add at n a ∙ ap₂ ◌++◌ p q ∙ sym (take-add at n b)
 
--- a cell that lies in the first p bytes
+-- A cell within the first p bytes.
 cell_of_front : (w p j : ℕ) (b : List ℕ) → j * w + w ≤ p → cell w (take p b) j ≡ cell w b j
 cell_of_front w p j b l =
     let e : p ≡ j * w + (p - j * w) = omega arith in
     ap (λ q. take w (drop (j * w) (take q b))) e ∙ ap (take w) (drop-take (j * w) (p - j * w) b)
     ∙ take-take w (p - j * w) (drop (j * w) b) (omega arith)
 
--- packed bytes with as many cells are as long
+-- Packed bytes with the same number of cells have the same length.
 same_length : (w : ℕ) (a b : List ℕ) → length a % w ≡ 0 → length b % w ≡ 0 → length a / w ≡ length b / w → length a ≡ length b
 same_length w a b p q e = omega (arith, div-add-mod' (length a) w, div-add-mod' (length b) w, p, q, ap (λ k. k * w) e)
 
 module _ {T : Type 0} (f : List ℕ → Option T) (w : ℕ) (a b : List ℕ) (p : IsPacked f w a) (q : IsPacked f w b) where
-  -- as many values take as many bytes
+  -- The same number of values has the same number of bytes.
   pub same_count : length (values_of f w a) ≡ length (values_of f w b) → length a ≡ length b
   same_count e = same_length w a b p.whole q.whole (sym (length-values_of f w a p) ∙ e ∙ length-values_of f w b q)
 
-  -- values in the first n bytes, where these are the same
+  -- Values within the first n bytes, if these are equal.
   pub same_front : (n : ℕ) → length a ≡ length b → take n a ≡ take n b → (j : ℕ) → j < n / w
       → slice_get (values_of f w a) j ≡ slice_get (values_of f w b) j
   same_front n e h j l = elim (cases_lt j (length a / w)) [

@@ -9,13 +9,13 @@ use Rattle.std.specs.List.Sorted.{IsPartitionPoint}
 use Rattle.std.proofs.lemmas.Option.{get_or_from_slice_get, slice_get_within}
 use Rattle.icu_zerovec.specs.Inside.Searches.{Rises, IsNarrowed, IsStepCount}
 
--- before one that is `Less` all are
+-- All values before one that is `Less` are `Less`.
 least : (o p : Ordering) → ordering_index o ≤ ordering_index p → p ≡ Less → o ≡ Less
 least Less p h e = refl
 least Equal p h e = let k : ordering_index p ≡ 0 = ap ordering_index e in absurd (omega arith)
 least Greater p h e = let k : ordering_index p ≡ 0 = ap ordering_index e in absurd (omega arith)
 
--- past one that is `Greater` all are
+-- All values after one that is `Greater` are `Greater`.
 greatest : (o p : Ordering) → ordering_index o ≤ ordering_index p → is_le o ≡ false → p ≡ Greater
 greatest Less p h e = cc
 greatest Equal p h e = cc
@@ -23,20 +23,20 @@ greatest Greater Less h e = absurd (omega arith)
 greatest Greater Equal h e = absurd (omega arith)
 greatest Greater Greater h e = refl
 
--- a test counts at most one
+-- A comparison counts at most one.
 pub byte_le : (b : Bool) → bool_byte b ≤ 1
 byte_le true = omega arith
 byte_le false = omega arith
 
 module _ {X : Type 0} (ord : X → Ordering) (xs : List X) where
-  -- the answer at i is not too great, or it is
+  -- The result at i is `Greater` or it is not.
   abbrev Low : Bool → ℕ → Type 0
   Low b i = HoldsAt (λ y. is_le (ord y) ≡ b) xs i
 
   moved : (b : Bool) (i j : ℕ) → i ≡ j → Low b i → Low b j
   moved b i j e h = λ d. ap (λ k. is_le (ord (get_or xs k d))) (sym e) ∙ h d
 
-  -- past one that is too great all are
+  -- All values after one that is `Greater` are `Greater`, as a range.
   great : Rises ord xs → (i j : ℕ) → Low false i → i ≤ j → j < length xs → HoldsAt (λ y. ord y ≡ Greater) xs j
   great r i j h a b = λ d. greatest _ _ (r i j d a b) (h d)
 
@@ -87,7 +87,7 @@ module _ {X : Type 0} (ord : X → Ordering) (xs : List X) where
     past = λ r h. great r _ _ p (omega arith) (omega arith);
   }
 
-  -- the search goes on from the last of them that is not too great
+  -- The search continues from the last of them that is not `Greater`.
   reached_from : (low end step k : ℕ) → IsNarrowed ord xs low end → IsStepCount ord xs low step k → Rises ord xs → 0 < low + step * k
       → Low true (low + step * k)
   reached_from low end step zero n s r h = moved true low _ (omega arith) (n.reached r (omega arith))
@@ -120,12 +120,12 @@ module _ {X : Type 0} (ord : X → Ordering) (xs : List X) where
     past = λ r j d a b. great r (low + 1) j h (omega arith) b d;
   }
 
-  -- ---- where one value is left
-  -- what it answers holds at its place
+  -- ---- one value is left
+  -- What is returned for its index is right.
   pub holds_at : (low : ℕ) (y : X) → slice_get xs low ≡ Some y → (o : Ordering) → ord y ≡ o → HoldsAt (λ z. ord z ≡ o) xs low
   holds_at low y at o e d = ap ord (get_or_from_slice_get xs low y d at) ∙ e
 
-  -- a smaller one is the last before the place
+  -- A smaller value is the last one before the index.
   pub place_past : (low end : ℕ) (y : X) → slice_get xs low ≡ Some y → ord y ≡ Less → end ≤ low + 1 → IsNarrowed ord xs low end
       → Rises ord xs → IsPartitionPoint (λ y. ord y ≡ Less) (λ y. ord y ≡ Greater) xs (low + 1)
   place_past low end y at e l n r = (
@@ -133,7 +133,7 @@ module _ {X : Type 0} (ord : X → Ordering) (xs : List X) where
     λ k d a b. n.past r k d (omega arith) b,
   )
 
-  -- a greater one is the first of all
+  -- A greater value is the first of all.
   pub place_of_first : (low end : ℕ) (y : X) → slice_get xs low ≡ Some y → ord y ≡ Greater → IsNarrowed ord xs low end
       → Rises ord xs → IsPartitionPoint (λ y. ord y ≡ Less) (λ y. ord y ≡ Greater) xs low
   place_of_first low end y at e n r =

@@ -1,6 +1,6 @@
--- Packed bytes: cells of w bytes each, one for each value, with nothing between them. In these
--- definitions f is the function that reads a cell: it gives the value of w bytes, or `None` where
--- they give none.
+-- Packed bytes: cells of w bytes each, one for each value, with nothing in between. In these
+-- definitions, f is the function that reads a cell. It returns the value of w bytes, or `None` if
+-- they are not a value.
 use Rattle.std.specs.Prelude.{◌≡◌, ℕ, ◌*◌, ◌/◌, ◌%◌, ◌<◌, List, [], ◌++◌, length, take, drop, Option, IsSome, IsNone, ◌≢◌, slice_get, ◌∷◌, Bool, nat_eq, Result, IfOk, IfErr}
 use Rattle.std.specs.Cmp.Lexicographic.{pointwise}
 use Rattle.std.specs.Hash.{HashWrites}
@@ -11,43 +11,43 @@ use Rattle.icu_zerovec.specs.declared.ule.UleError.{UleError}
 use Rattle.icu_zerovec.specs.declared.ule.UleError.TheVariants.{Length, Cell}
 
 -- ---- what packed bytes are
--- cell i of the bytes, counted from 0: w bytes from byte i * w on
+-- Cell i of the bytes, counted from 0: the w bytes from offset i * w on.
 abbrev pub cell : ℕ → List ℕ → ℕ → List ℕ
 cell w b i = take w (drop (i * w) b)
 
--- the values of the first n cells
+-- The values of the first n cells.
 abbrev pub values_from : {T : Type 0} → (List ℕ → Option T) → ℕ → List ℕ → ℕ → List T
 values_from f w b zero = []
 values_from f w b (suc n) = option_to_list (f (take w b)) ++ values_from f w (drop w b) n
 
--- the values of the whole cells, one after another
+-- The values of all whole cells, in order.
 unfoldable pub values_of : {T : Type 0} → (List ℕ → Option T) → ℕ → List ℕ → List T
 values_of f w b = values_from f w b (length b / w)
 
--- the bytes are whole cells, and each cell is a value
+-- The bytes are whole cells, and each cell is a value.
 pub record IsPacked {T : Type 0} (f : List ℕ → Option T) (w : ℕ) (b : List ℕ) : Type 0 where
   pub whole : length b % w ≡ 0
   pub valued : (i : ℕ) → i < length b / w → IsSome (f (cell w b i))
   pub small : AreBytes b
 
 -- ---- why bytes are not packed
--- the first fault of bytes: their number is no multiple of w, or else cell i is the first that is
--- no value
+-- The first fault of bytes: their number is not a multiple of w, or otherwise cell i is the first
+-- that is not a value.
 abbrev pub IsFault : {T : Type 0} → (List ℕ → Option T) → ℕ → List ℕ → UleError → Type 0
 IsFault f w b Length = length b % w ≢ 0
 IsFault f w b (Cell i) =
     (length b % w ≡ 0) × (i < length b / w) × IsNone (f (cell w b i))
     × ((j : ℕ) → j < i → IsSome (f (cell w b j)))
 
--- the fault is one of a cell
+-- The fault is that of a cell.
 abbrev pub IsCell : UleError → Type 0
 IsCell Length = ⊥
 IsCell (Cell i) = Unit {0}
 
 -- ---- the same bytes, read as values of another type
--- Some bytes that are the values xs, in cells of w bytes that f reads, were read by g in cells of v
--- bytes: either each cell was a value, or the fault is the first. Where values have one encoding
--- these are the bytes that xs is packed to.
+-- Some bytes that unpack to the values xs, in cells of w bytes that f reads, were read by g in
+-- cells of v bytes. Either each cell is a value, or the fault is the first one. If each value has
+-- one encoding, these are the bytes that xs packs to.
 pub record IsConverted {T P : Type 0} (f : List ℕ → Option T) (w : ℕ) (g : List ℕ → Option P)
     (v : ℕ) (xs : List T) (r : Result (List P) UleError) : Type 0 where
   pub bytes : List ℕ
@@ -56,7 +56,7 @@ pub record IsConverted {T P : Type 0} (f : List ℕ → Option T) (w : ℕ) (g :
   pub ok : IfOk r (λ ys. IsPacked g v bytes × (ys ≡ values_of g v bytes))
   pub err : IfErr r (IsFault g v bytes)
 
--- the same fault by values: value i is the first of xs whose packed bytes g does not read
+-- The same fault in terms of values: value i is the first of xs whose packed bytes g does not read.
 abbrev pub IsFirstRefusedCell : {T P : Type 0} → (T → List ℕ) → (List ℕ → Option P) → List T
     → UleError → Type 0
 IsFirstRefusedCell pack g xs Length = ⊥
@@ -65,11 +65,11 @@ IsFirstRefusedCell pack g xs (Cell i) =
     × ((j : ℕ) → j < i → IsSome (option_and_then g (option_map pack (slice_get xs j))))
 
 -- ---- equality and hash
--- whether two values are packed to the same bytes, which lawful values are exactly if they are the
--- same
+-- Whether two values pack to the same bytes. For lawful values, this is the case if and only if
+-- they are equal.
 abbrev pub same_bytes : {T : Type 0} → (T → List ℕ) → T → T → Bool
 same_bytes pack x y = pointwise nat_eq (pack x) (pack y)
 
--- what a value feeds a hasher: its packed bytes, in one write
+-- What a value feeds to a hasher: its packed bytes, in one write.
 abbrev pub one_write : {T : Type 0} → (T → List ℕ) → T → HashWrites
 one_write pack x = pack x ∷ []

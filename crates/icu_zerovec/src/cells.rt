@@ -1,4 +1,4 @@
-//! The work on packed bytes: cells of `WIDTH` bytes each, one for each value.
+//! The work on packed bytes. A cell is the `WIDTH` bytes of one value.
 ghost use Rattle.std.specs.Prelude.{◌≡◌, ◌+◌, ◌*◌, ◌/◌, ◌^◌, ◌<◌, ◌≤◌, List, [], ◌∷◌, length, slice_get, OnOk, IfErr, IfOk, IfSome, MatchOption, Some, fold, false, take};
 ghost use Rattle.std.specs.Bool.{MatchBool};
 ghost use Rattle.std.specs.Iterator.{Drains, IsFinite};
@@ -15,7 +15,7 @@ use std::alloc::{AllocError, Global};
 use std::cmp::Ordering;
 use std::hash::Hasher;
 
-/// How many whole cells there are.
+/// Returns the number of whole cells.
 #[inline(always)]
 pub(crate) fn count<T: AsULE>(bytes: &[u8]) -> usize
     ensures count { result ≡ length bytes.now / T.WIDTH }
@@ -24,7 +24,7 @@ pub(crate) fn count<T: AsULE>(bytes: &[u8]) -> usize
     bytes.len() / T::WIDTH
 }
 
-/// How many values packed bytes have.
+/// Returns the number of values in packed bytes.
 #[inline(always)]
 pub(crate) fn len<T: AsULE>(bytes: &[u8]) -> usize
     requires { IsPacked T.unpack T.WIDTH bytes.now }
@@ -34,7 +34,7 @@ pub(crate) fn len<T: AsULE>(bytes: &[u8]) -> usize
     count::<T>(bytes)
 }
 
-/// The value that the cell at place `i` gives, if it gives one.
+/// Returns the value of the cell at index `i`, or `None` if the cell is not a value.
 #[inline(always)]
 pub(crate) fn read<T: AsULE>(bytes: &[u8], i: usize) -> Option<T>
     requires { i < length bytes.now / T.WIDTH }
@@ -44,7 +44,7 @@ pub(crate) fn read<T: AsULE>(bytes: &[u8], i: usize) -> Option<T>
     T::from_unaligned(&bytes[start..start + T::WIDTH])
 }
 
-/// The value at place `i` of packed bytes, `None` at or past the end.
+/// Returns the value at index `i` of packed bytes, or `None` if `i` is not less than the length.
 #[inline(always)]
 pub(crate) fn get<T: AsULE>(bytes: &[u8], i: usize) -> Option<T>
     requires { IsPacked T.unpack T.WIDTH bytes.now }
@@ -57,7 +57,8 @@ pub(crate) fn get<T: AsULE>(bytes: &[u8], i: usize) -> Option<T>
     }
 }
 
-/// Refuses bytes that are not packed: by their number, then by the first cell that is no value.
+/// Checks that bytes are packed values. The error is the length if it is not a multiple of the
+/// width, and otherwise the first cell that is not a value.
 pub(crate) fn test<T: AsULE>(bytes: &[u8]) -> Result<(), UleError>
     ensures ok { OnOk result (IsPacked T.unpack T.WIDTH bytes.now) }
     ensures err { IfErr result (IsFault T.unpack T.WIDTH bytes.now) }
@@ -73,8 +74,8 @@ pub(crate) fn test<T: AsULE>(bytes: &[u8]) -> Result<(), UleError>
     Ok(())
 }
 
-/// The packed bytes of the values that an iterator gives. Memory is asked for once where it knows
-/// how many there are.
+/// Packs the values that an iterator yields. Allocates once if the iterator knows how many values
+/// it has.
 pub(crate) fn pack<T: AsULE, I: Iterator<Item = T> + Drop>(
     alloc: Global,
     values: I,
@@ -94,7 +95,8 @@ pub(crate) fn pack<T: AsULE, I: Iterator<Item = T> + Drop>(
     Ok(bytes)
 }
 
-/// The first value of packed bytes, and the bytes of the others. `None` where there are no bytes.
+/// Returns the first value of packed bytes and the bytes of the others, or `None` if there are no
+/// bytes.
 #[inline(always)]
 pub(crate) fn split_first<T: AsULE>(bytes: &[u8]) -> Option<(T, &[u8])>
     requires { IsPacked T.unpack T.WIDTH bytes.now }
@@ -110,7 +112,8 @@ pub(crate) fn split_first<T: AsULE>(bytes: &[u8]) -> Option<(T, &[u8])>
     Some((value, others))
 }
 
-/// A value of packed bytes that is there. Its place is proved, and no code tests it.
+/// Returns the value at index `i` of packed bytes. The contract requires that `i` is less than the
+/// length, so no code tests it.
 #[inline(always)]
 pub(crate) fn at<T: AsULE>(bytes: &[u8], i: usize) -> T
     requires packed { IsPacked T.unpack T.WIDTH bytes.now }
@@ -123,7 +126,7 @@ pub(crate) fn at<T: AsULE>(bytes: &[u8], i: usize) -> T
     }
 }
 
-/// Whether the value at place `i` is `x` or less.
+/// Returns true if the value at index `i` is less than or equal to `x`.
 #[inline(always)]
 fn is_at_most<T: AsULE + Ord>(bytes: &[u8], i: usize, x: &T) -> bool
     requires packed { IsPacked T.unpack T.WIDTH bytes.now }
@@ -134,7 +137,8 @@ fn is_at_most<T: AsULE + Ord>(bytes: &[u8], i: usize, x: &T) -> bool
     at::<T>(bytes, i).cmp(x).is_le()
 }
 
-/// How many of the three values that follow `low` in steps are `x` or less.
+/// Returns how many of the values at the indices `low + step`, `low + 2 * step` and `low + 3 *
+/// step` are less than or equal to `x`.
 #[inline(always)]
 fn count_at_most<T: AsULE + Ord>(bytes: &[u8], low: usize, step: usize, x: &T) -> usize
     requires packed { IsPacked T.unpack T.WIDTH bytes.now }
@@ -149,8 +153,10 @@ fn count_at_most<T: AsULE + Ord>(bytes: &[u8], low: usize, step: usize, x: &T) -
     usize::from(first) + usize::from(second) + usize::from(third)
 }
 
-/// Where at most three values are left among which `x` may stand, and how many. Each step leaves a
-/// quarter. It counts what it reads, so that no jump depends on a value.
+/// Narrows a binary search for `x` to at most three values. Returns the index of the first of them
+/// and their number.
+///
+/// Each step leaves a quarter. It adds up comparisons, so no branch depends on a value.
 #[inline(always)]
 fn narrowed<T: AsULE + Ord>(bytes: &[u8], x: &T) -> (usize, usize)
     requires packed { IsPacked T.unpack T.WIDTH bytes.now }
@@ -170,8 +176,8 @@ fn narrowed<T: AsULE + Ord>(bytes: &[u8], x: &T) -> (usize, usize)
     (low, size)
 }
 
-/// The place of an equal value of ascending packed bytes as `Ok`, or as `Err` the place where it
-/// could be inserted.
+/// Searches ascending packed bytes for `x`. Returns the index of an equal value as `Ok`, or as
+/// `Err` the index at which `x` could be inserted.
 pub(crate) fn binary_search<T: AsULE + Ord>(bytes: &[u8], x: &T) -> Result<usize, usize>
     requires { IsPacked T.unpack T.WIDTH bytes.now }
     ensures bound { IsSearchInRange result (length (values_of T.unpack T.WIDTH bytes.now)) }
@@ -193,7 +199,7 @@ pub(crate) fn binary_search<T: AsULE + Ord>(bytes: &[u8], x: &T) -> Result<usize
     }
 }
 
-/// Whether two values are the same, by their bytes.
+/// Returns true if two values have the same bytes.
 fn alike<T: AsULE>(x: T, y: T) -> bool
     ensures { MatchBool result (x ≡ y) (same_bytes T.pack x y ≡ false) }
 {
@@ -202,8 +208,8 @@ fn alike<T: AsULE>(x: T, y: T) -> bool
     x.to_unaligned() == y.to_unaligned()
 }
 
-/// How many bytes to compare next. A block is compared as memory, which is fast, and only one that
-/// differs is gone through value by value.
+/// Returns how many bytes to compare next. Comparing a block of bytes is fast; only a block that
+/// differs is compared value by value.
 fn block(left: usize) -> usize
     requires { 0 < left }
     ensures some { 0 < result }
@@ -212,8 +218,8 @@ fn block(left: usize) -> usize
     if left < 1024 { left } else { 1024 }
 }
 
-/// How many of the first bytes are the same, in whole blocks: all of them, where the bytes are the
-/// same.
+/// Returns how many bytes at the start are equal, in whole blocks. If all bytes are equal, returns
+/// their number.
 fn same_blocks(a: &[u8], b: &[u8]) -> usize
     requires { length a.now ≡ length b.now }
     ensures { take result a.now ≡ take result b.now }
@@ -229,8 +235,8 @@ fn same_blocks(a: &[u8], b: &[u8]) -> usize
     at
 }
 
-/// Whether two lists of values are the same. Bytes are compared, and values only from the first
-/// block of bytes that differ.
+/// Returns true if two lists of values are equal. Compares bytes, and values only from the first
+/// block of bytes that differs.
 pub(crate) fn same<T: AsULE>(a: &[u8], b: &[u8]) -> bool
     requires a_packed { IsPacked T.unpack T.WIDTH a.now }
     requires b_packed { IsPacked T.unpack T.WIDTH b.now }
@@ -250,7 +256,7 @@ pub(crate) fn same<T: AsULE>(a: &[u8], b: &[u8]) -> bool
     true
 }
 
-/// Writes the bytes of a value.
+/// Feeds the bytes of a value to a hasher.
 fn feed_one<T: AsULE, H: Hasher>(value: T, state: &mut H)
     ensures { state.new ≡ H.write state.old (T.pack value) }
 {
@@ -259,7 +265,7 @@ fn feed_one<T: AsULE, H: Hasher>(value: T, state: &mut H)
     state.write(&cell[..T::WIDTH]);
 }
 
-/// Writes how many values there are, and the bytes of each.
+/// Feeds the number of values and the bytes of each value to a hasher.
 pub(crate) fn feed<T: AsULE, H: Hasher>(bytes: &[u8], state: &mut H)
     requires { IsPacked T.unpack T.WIDTH bytes.now }
     ensures { state.new

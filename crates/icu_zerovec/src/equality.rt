@@ -1,4 +1,4 @@
-//! Vectors are equal, and hash alike, by their lists of values, for every lawful type.
+//! Equality and hashing of vectors, by their lists of values, for every lawful type.
 ghost use Rattle.std.specs.Prelude.{◌≡◌, ◌↔◌, IsTrue, [], ◌∷◌};
 ghost use Rattle.std.specs.Cmp.{on_equiv, on_per, partial_equiv_from_equiv};
 ghost use Rattle.std.specs.Cmp.Lexicographic.{pointwise, lists_per, lists_equiv, nat_list_eq_equiv, bytes_decides};

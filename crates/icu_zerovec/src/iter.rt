@@ -1,4 +1,4 @@
-//! The values of a packed vector, one after another.
+//! The iterator over the values of a packed vector.
 ghost use Rattle.std.specs.Prelude.{◌≡◌, ◌<◌, ◌^◌, length, IfSome, Some};
 ghost use Rattle.std.specs.Iterator.{YieldsFirst, item_count, UpTo};
 ghost use Rattle.std.specs.Iterator.SizeHint.{IsWithinCount};
@@ -8,9 +8,11 @@ use crate::ule::AsULE;
 use std::fmt;
 use std::marker::{Model, PhantomData};
 
-/// The values of a packed vector from the first that was not given yet to the last, as
-/// `ZeroVec::iter` and `ZeroSlice::iter` give them. It knows how many are left, and a clause sees
-/// their list.
+/// An iterator over the values of a packed vector. `ZeroVec::iter` and `ZeroSlice::iter` return it.
+///
+/// It knows how many values are left.
+///
+/// In contracts, it is the list of the values that are left.
 #[derive(Drop)]
 pub struct Iter<'a, T: AsULE> {
     bytes: &'a [u8],
@@ -31,7 +33,7 @@ impl<'a, T: AsULE> Model for Iter<'a, T> {
 impl<'a, T: AsULE> Iter<'a, T> {
     ghost use Rattle.icu_zerovec.specs.Cells.{values_of, IsPacked};
 
-    /// The values of bytes that were tested.
+    /// Returns an iterator over bytes that have been validated.
     #[inline]
     pub(crate) fn from_packed(bytes: &'a [u8]) -> Self
         requires { IsPacked T.unpack T.WIDTH bytes.now }
@@ -77,7 +79,7 @@ impl<'a, T: AsULE> ExactSizeIterator for Iter<'a, T> {
     }
 }
 
-/// The list of the values that are left, as a slice of them is shown: `[1, 2]`.
+/// Formats the values that are left as a list, like a slice: `[1, 2]`.
 impl<'a, T: AsULE + fmt::Debug> fmt::Debug for Iter<'a, T> {
     fn fmt<W: fmt::Write>(&self, f: &mut fmt::Formatter<W>) -> fmt::Result {
         f.debug_list()

@@ -1,16 +1,17 @@
-//! Want of memory, the one error that every call which may grow something can give, and that of a
-//! call that makes a list of changes.
+//! The error of every function that may fail to allocate, and the error of a function that makes a
+//! list of changes.
 ghost use Rattle.std.specs.Prelude.{◌≡◌};
 
 use std::alloc::{AllocError, AllocFailed};
 use thiserror::Error;
 
-/// Memory was refused. What was lent is unchanged.
+/// An allocation failed. Values passed by reference are unchanged unless the function says
+/// otherwise.
 #[derive(Clone, Copy, Debug, PartialEq, Eq, Hash, Error)]
 #[error("no memory")]
 pub struct MemoryError;
 
-/// For `?` after a call that allocates.
+/// Converts the error of an allocation, so that `?` works.
 impl From<AllocError> for MemoryError {
     ghost from_gives = { λ _ e. e ≡ record {} };
 
@@ -19,8 +20,8 @@ impl From<AllocError> for MemoryError {
     }
 }
 
-/// For `?` after a call that gives back the value for which there was no room, as `Vec::push`. The
-/// value is dropped.
+/// Converts the error of a function such as `Vec::push`, which returns the value that did not fit.
+/// The value is dropped.
 impl<T: Drop> From<AllocFailed<T>> for MemoryError {
     ghost from_gives = { λ _ e. e ≡ record {} };
 
@@ -29,16 +30,16 @@ impl<T: Drop> From<AllocFailed<T>> for MemoryError {
     }
 }
 
-/// Memory was refused for the write at this place of a list, counted from 0. The writes before it
-/// are made, and no other.
+/// An allocation failed for the write at this index of a list, counted from 0. All writes before it
+/// were made, and no others.
 ///
-/// It stands beside [`MemoryError`], whatever the list is written into, so that `?` goes on with it
-/// in a function that answers want of memory.
+/// It is defined here, next to [`MemoryError`], so that `?` converts it in every function that
+/// returns `MemoryError`.
 #[derive(Clone, Copy, Debug, PartialEq, Eq, Error)]
 #[error("no memory for write {0}")]
 pub struct ApplyRefused(pub usize);
 
-/// For `?` after a list of writes, where the place is of no use.
+/// Converts the error and drops the index.
 impl From<ApplyRefused> for MemoryError {
     ghost from_gives = { λ _ e. e ≡ record {} };
 

@@ -1,4 +1,4 @@
-//! Views of packed vectors, with the same reads.
+//! Views of packed vectors, with the same queries.
 ghost use Rattle.std.specs.Prelude.{◌≡◌, ◌-◌, ◌*◌, ◌^◌, ◌<◌, [], ◌∷◌, length, slice_get, Option, Some, None, IsTrue, ◌↔◌, ⊤};
 ghost use Rattle.std.specs.Cmp.{on_equiv, on_per, partial_equiv_from_equiv};
 ghost use Rattle.std.specs.Cmp.Lexicographic.{pointwise, lists_per, lists_equiv, nat_list_eq_equiv, bytes_decides};
@@ -17,8 +17,9 @@ use std::fmt;
 use std::hash::{Hash, Hasher};
 use std::marker::PhantomData;
 
-/// A view of a packed vector, `Copy` as a `&[T]` is, with the reads of [`ZeroVec`]. A clause sees
-/// the list of its values as `slice_values`.
+/// A view of a packed vector, with the queries of [`ZeroVec`]. It is `Copy`, like `&[T]`.
+///
+/// In contracts, `slice_values` is the list of its values.
 ///
 /// ```
 /// let numbers = ZeroVec::<u16>::parse_bytes(&[1, 0, 2, 0])?;
@@ -26,7 +27,8 @@ use std::marker::PhantomData;
 /// // view.last() is Some(2), and view.as_zerovec() == numbers
 /// ```
 ///
-/// Two views are equal, and hash alike, exactly if their lists are equal.
+/// Two views are equal if and only if their lists of values are equal. Equal views have equal
+/// hashes.
 pub struct ZeroSlice<'a, T: AsULE> {
     bytes: &'a [u8],
     of: PhantomData<T>,
@@ -51,7 +53,7 @@ impl<'a, T: AsULE> ZeroSlice<'a, T> {
     ghost use Rattle.std.specs.List.{flat_map};
     ghost use Rattle.icu_zerovec.specs.Canonical.{IsCanonical};
 
-    /// The view of bytes that were tested.
+    /// Returns a view of bytes that have been validated.
     #[inline]
     pub(crate) fn from_packed(bytes: &'a [u8]) -> Self
         requires { IsPacked T.unpack T.WIDTH bytes.now }
@@ -63,7 +65,7 @@ impl<'a, T: AsULE> ZeroSlice<'a, T> {
         }
     }
 
-    /// How many values there are.
+    /// Returns the number of values.
     #[inline]
     pub fn len(&self) -> usize
         ensures len { result ≡ length (slice_values self.now) }
@@ -72,7 +74,7 @@ impl<'a, T: AsULE> ZeroSlice<'a, T> {
         cells::len::<T>(self.bytes)
     }
 
-    /// Whether there is no value.
+    /// Returns true if there are no values.
     #[inline]
     pub fn is_empty(&self) -> bool
         ensures { IsTrue result ↔ (slice_values self.now ≡ []) }
@@ -80,7 +82,8 @@ impl<'a, T: AsULE> ZeroSlice<'a, T> {
         self.len() == 0
     }
 
-    /// The value at place `i`, counted from 0. `None` at or past the end.
+    /// Returns the value at index `i`, counted from 0, or `None` if `i` is not less than the
+    /// length.
     #[inline]
     pub fn get(&self, i: usize) -> Option<T>
         ensures { result ≡ slice_get (slice_values self.now) i }
@@ -88,8 +91,8 @@ impl<'a, T: AsULE> ZeroSlice<'a, T> {
         cells::get(self.bytes, i)
     }
 
-    /// The value at place `i`, counted from 0, which has to be there: for callers who know that it
-    /// is, and so need no test.
+    /// Returns the value at index `i`, counted from 0, which must be less than the length. Use it
+    /// if the caller has already tested the index.
     #[inline]
     pub fn at(&self, i: usize) -> T
         requires { i < length (slice_values self.now) }
@@ -98,7 +101,7 @@ impl<'a, T: AsULE> ZeroSlice<'a, T> {
         cells::at(self.bytes, i)
     }
 
-    /// The first value. `None` where there is none.
+    /// Returns the first value, or `None` if there are no values.
     #[inline]
     pub fn first(&self) -> Option<T>
         ensures { result ≡ slice_get (slice_values self.now) 0 }
@@ -106,7 +109,7 @@ impl<'a, T: AsULE> ZeroSlice<'a, T> {
         self.get(0)
     }
 
-    /// The last value. `None` where there is none.
+    /// Returns the last value, or `None` if there are no values.
     #[inline]
     pub fn last(&self) -> Option<T>
         ensures { result ≡ slice_get (slice_values self.now) (length (slice_values self.now) - 1) }
@@ -115,7 +118,8 @@ impl<'a, T: AsULE> ZeroSlice<'a, T> {
         if len == 0 { None } else { self.get(len - 1) }
     }
 
-    /// The values, one after another. They can be gone through after the view is dropped.
+    /// Returns an iterator over the values. It borrows the bytes and not the view, so it may
+    /// outlive the view.
     #[inline]
     pub fn iter(&self) -> Iter<'a, T>
         ensures items { result ≡ slice_values self.now }
@@ -124,11 +128,15 @@ impl<'a, T: AsULE> ZeroSlice<'a, T> {
         Iter::from_packed(self.bytes)
     }
 
-    /// The place of a value that is equal to `x`, as [`ZeroVec::binary_search`] gives it.
+    /// Searches for a value that is equal to `x` and returns its index. If several are equal, the
+    /// index may be that of any of them.
+    ///
+    /// The values must be in ascending order. Otherwise the result is unspecified, but within the
+    /// bounds of the view.
     ///
     /// # Errors
-    /// The place at which `x` could be inserted so that the values still ascend, where none is
-    /// equal to it.
+    /// Returns the index at which `x` could be inserted to keep the order if no value is equal to
+    /// it.
     pub fn binary_search(&self, x: &T) -> Result<usize, usize>
     where
         T: Ord,
@@ -139,7 +147,10 @@ impl<'a, T: AsULE> ZeroSlice<'a, T> {
         cells::binary_search(self.bytes, x)
     }
 
-    /// The packed bytes of the values, one after another, as [`ZeroVec::as_bytes`] gives them.
+    /// Returns the packed bytes of the values, in order.
+    ///
+    /// If each value of the type has one encoding, as for all types of this crate, these are the
+    /// bytes that the values pack to. Otherwise they are some bytes that unpack to the values.
     #[inline]
     pub fn as_bytes(&self) -> &'a [u8]
         ensures packed { IsPacked T.unpack T.WIDTH result.now }
@@ -150,7 +161,7 @@ impl<'a, T: AsULE> ZeroSlice<'a, T> {
         self.bytes
     }
 
-    /// The same list as a vector that borrows the bytes.
+    /// Returns a vector with the same values that borrows the bytes.
     #[inline]
     pub fn as_zerovec(self) -> ZeroVec<'a, T>
         ensures { result ≡ slice_values self.entry }
@@ -195,7 +206,7 @@ impl<'a, T: AsULE> Hash for ZeroSlice<'a, T> {
     }
 }
 
-/// The list of the values, as a slice of them is shown: `[1, 2]`.
+/// Formats the values as a list, like a slice: `[1, 2]`.
 impl<'a, T: AsULE + fmt::Debug> fmt::Debug for ZeroSlice<'a, T> {
     fn fmt<W: fmt::Write>(&self, f: &mut fmt::Formatter<W>) -> fmt::Result {
         f.debug_list().entries(self.iter()).finish()

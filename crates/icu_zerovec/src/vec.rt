@@ -1,4 +1,4 @@
-//! Vectors of packed values that lend or own their bytes.
+//! Vectors of packed values that borrow or own their bytes.
 ghost use Rattle.std.specs.Iterator.{Drains, IsFinite};
 ghost use Rattle.std.specs.List.Sorted.{IsSearchInRange, IsBinarySearchResult};
 ghost use Rattle.std.specs.Prelude.{◌≡◌, ◌-◌, ◌*◌, ◌^◌, ◌<◌, List, [], length, slice_get, Option, None, IfOk, IfErr, IsTrue, ◌↔◌};
@@ -12,8 +12,8 @@ use std::alloc::Global;
 use std::fmt;
 use std::marker::{Model, PhantomData};
 
-/// Bytes that are lent or owned. Both kinds keep the address and the number of their bytes at the
-/// same places, so a read does not look which one it is.
+/// Bytes that are borrowed or owned. Both variants have the address and the length of the bytes at
+/// the same offsets, so reading does not branch on the variant.
 #[derive(Drop)]
 enum Store<'a> {
     Borrowed(&'a [u8]),
@@ -23,7 +23,7 @@ enum Store<'a> {
 impl<'a> Store<'a> {
     ghost use Rattle.icu_zerovec.specs.Store.{bytes_of};
 
-    /// The bytes, whoever owns them.
+    /// Returns the bytes.
     #[inline(always)]
     fn bytes(&self) -> &[u8]
         ensures { result.now ≡ bytes_of self.now }
@@ -35,8 +35,9 @@ impl<'a> Store<'a> {
     }
 }
 
-/// A vector of values that are kept as bytes, which it borrows or owns. A clause sees the list of
-/// the values.
+/// A vector of values that are stored as bytes, which it borrows or owns.
+///
+/// In contracts, a vector is the list of its values.
 ///
 /// ```
 /// let points = ZeroVec::<char>::parse_bytes(&[0x41, 0, 0, 0, 0xf6, 1])?;
@@ -44,8 +45,8 @@ impl<'a> Store<'a> {
 /// // ZeroVec::<char>::parse_bytes(&[0x41, 0, 0, 0, 0xd8, 0]) is Err(UleError::Cell(1)), since 0xD800 is a surrogate
 /// ```
 ///
-/// Two vectors are equal, and hash alike, exactly if their lists are equal, whichever of them
-/// borrows.
+/// Two vectors are equal if and only if their lists of values are equal. Equal vectors have equal
+/// hashes. Whether a vector borrows or owns its bytes makes no difference.
 #[derive(Drop)]
 pub struct ZeroVec<'a, T: AsULE> {
     store: Store<'a>,
@@ -64,16 +65,16 @@ impl<'a, T: AsULE> Model for ZeroVec<'a, T> {
     ghost invariant = { λ a. IsPacked T.unpack T.WIDTH (bytes_of a.store) };
 }
 
-/// How a vector is made.
+/// Constructors and copies.
 impl<'a, T: AsULE> ZeroVec<'a, T> {
     ghost use Rattle.icu_zerovec.specs.Cells.{values_of, IsPacked, IsFault};
 
-    /// The vector that these bytes are, which it borrows: `ZeroVec::<u16>::parse_bytes(&[1, 2])`
-    /// holds 0x0201 alone.
+    /// Returns the vector with these bytes, which it borrows: `ZeroVec::<u16>::parse_bytes(&[1,
+    /// 2])` has the single value 0x0201.
     ///
     /// # Errors
-    /// `UleError::Length` where their number is no multiple of the width of a value, and otherwise
-    /// `UleError::Cell` with the first cell that is no value.
+    /// - `UleError::Length` if the number of bytes is not a multiple of the width of a value.
+    /// - `UleError::Cell` otherwise, with the index of the first cell that is not a value.
     pub fn parse_bytes(bytes: &'a [u8]) -> Result<Self, UleError>
         ensures ok { IfOk result
             (λ v. IsPacked T.unpack T.WIDTH bytes.now
@@ -84,10 +85,13 @@ impl<'a, T: AsULE> ZeroVec<'a, T> {
         Ok(ZeroVec::from_packed(bytes))
     }
 
-    /// The vector that these bytes are, which it takes over: what was just packed is not copied.
+    /// Returns the vector with these bytes, which it takes over without copying them.
     ///
     /// # Errors
-    /// Those of [`parse_bytes`](Self::parse_bytes). The bytes are then dropped.
+    /// - `UleError::Length` if the number of bytes is not a multiple of the width of a value.
+    /// - `UleError::Cell` otherwise, with the index of the first cell that is not a value.
+    ///
+    /// The bytes are dropped on error.
     pub fn parse_owned(bytes: Vec<u8>) -> Result<Self, UleError>
         ensures ok { IfOk result
             (λ v. IsPacked T.unpack T.WIDTH bytes.items
@@ -101,7 +105,7 @@ impl<'a, T: AsULE> ZeroVec<'a, T> {
         })
     }
 
-    /// The vector of bytes that were tested, which it borrows.
+    /// Returns the vector with bytes that have been validated, which it borrows.
     #[inline]
     pub(crate) fn from_packed(bytes: &'a [u8]) -> Self
         requires { IsPacked T.unpack T.WIDTH bytes.now }
@@ -113,7 +117,7 @@ impl<'a, T: AsULE> ZeroVec<'a, T> {
         }
     }
 
-    /// A vector of these values that owns its bytes.
+    /// Returns a vector with these values that owns its bytes.
     ///
     /// ```
     /// let numbers = ZeroVec::<u16>::alloc_from_slice(alloc, &[0x1234, 255])?;
@@ -121,7 +125,7 @@ impl<'a, T: AsULE> ZeroVec<'a, T> {
     /// ```
     ///
     /// # Errors
-    /// `MemoryError` where memory was refused.
+    /// Returns `MemoryError` if an allocation fails.
     pub fn alloc_from_slice(alloc: Global, values: &[T]) -> Result<Self, MemoryError>
         ensures { IfOk result (λ v. v ≡ values.now) }
     {
@@ -129,9 +133,10 @@ impl<'a, T: AsULE> ZeroVec<'a, T> {
         Ok(vector)
     }
 
-    /// A vector of the values that an iterator gives, in their order, which owns its bytes. Each
-    /// value is packed as it comes, so that a conversion needs no list of the converted values. The
-    /// iterator is one that ends.
+    /// Returns a vector with the values that an iterator yields, in order, that owns its bytes.
+    ///
+    /// Each value is packed as it is yielded, so converting values needs no intermediate list. The
+    /// iterator must be finite.
     ///
     /// ```
     /// let codes = ZeroVec::<u32>::alloc_from_iter(alloc, "AZ".chars().map(|c| u32::from(c)))?;
@@ -139,7 +144,8 @@ impl<'a, T: AsULE> ZeroVec<'a, T> {
     /// ```
     ///
     /// # Errors
-    /// `MemoryError` where memory was refused. The iterator is then dropped where it stands.
+    /// Returns `MemoryError` if an allocation fails. The iterator is then dropped with its
+    /// remaining items.
     pub fn alloc_from_iter<I: Iterator<Item = T> + Drop>(
         alloc: Global,
         values: I,
@@ -155,10 +161,10 @@ impl<'a, T: AsULE> ZeroVec<'a, T> {
         })
     }
 
-    /// An equal vector that owns its bytes, which are the same as those of this one.
+    /// Returns an equal vector that owns a copy of the bytes.
     ///
     /// # Errors
-    /// `MemoryError` where memory was refused.
+    /// Returns `MemoryError` if an allocation fails.
     pub fn try_clone(&self, alloc: Global) -> Result<ZeroVec<'static, T>, MemoryError>
         ensures { IfOk result (λ v. v ≡ self.now) }
     {
@@ -168,11 +174,11 @@ impl<'a, T: AsULE> ZeroVec<'a, T> {
         })
     }
 
-    /// The vector with bytes of its own. One that owns its bytes already keeps them, and takes no
-    /// memory.
+    /// Returns the same vector, which then owns its bytes. If the vector already owns them, nothing
+    /// is allocated or copied.
     ///
     /// # Errors
-    /// `MemoryError` where memory was refused. The vector is then dropped, and bytes that it
+    /// Returns `MemoryError` if an allocation fails. The vector is then dropped; bytes that it
     /// borrowed are unchanged.
     pub fn into_owned(self, alloc: Global) -> Result<ZeroVec<'static, T>, MemoryError>
         ensures { IfOk result (λ v. v ≡ self.entry) }
@@ -189,14 +195,14 @@ impl<'a, T: AsULE> ZeroVec<'a, T> {
     }
 }
 
-/// What a vector holds.
+/// Queries.
 impl<'a, T: AsULE> ZeroVec<'a, T> {
     ghost use Rattle.icu_zerovec.specs.Canonical.{IsCanonical};
     ghost use Rattle.icu_zerovec.specs.Cells.{values_of, IsPacked};
     ghost use Rattle.icu_zerovec.specs.Slice.{slice_values};
     ghost use Rattle.std.specs.List.{flat_map};
 
-    /// The bytes, whoever owns them.
+    /// Returns the bytes.
     #[inline(always)]
     pub(crate) fn bytes(&self) -> &[u8]
         ensures packed { IsPacked T.unpack T.WIDTH result.now }
@@ -205,7 +211,7 @@ impl<'a, T: AsULE> ZeroVec<'a, T> {
         self.store.bytes()
     }
 
-    /// How many values there are.
+    /// Returns the number of values.
     #[inline]
     pub fn len(&self) -> usize
         ensures len { result ≡ length self.now }
@@ -214,7 +220,7 @@ impl<'a, T: AsULE> ZeroVec<'a, T> {
         cells::len::<T>(self.bytes())
     }
 
-    /// Whether there is no value.
+    /// Returns true if there are no values.
     #[inline]
     pub fn is_empty(&self) -> bool
         ensures { IsTrue result ↔ (self.now ≡ []) }
@@ -222,7 +228,8 @@ impl<'a, T: AsULE> ZeroVec<'a, T> {
         self.len() == 0
     }
 
-    /// The value at place `i`, counted from 0. `None` at or past the end.
+    /// Returns the value at index `i`, counted from 0, or `None` if `i` is not less than the
+    /// length.
     #[inline]
     pub fn get(&self, i: usize) -> Option<T>
         ensures { result ≡ slice_get self.now i }
@@ -230,7 +237,7 @@ impl<'a, T: AsULE> ZeroVec<'a, T> {
         cells::get(self.bytes(), i)
     }
 
-    /// The first value. `None` where there is none.
+    /// Returns the first value, or `None` if there are no values.
     #[inline]
     pub fn first(&self) -> Option<T>
         ensures { result ≡ slice_get self.now 0 }
@@ -238,7 +245,7 @@ impl<'a, T: AsULE> ZeroVec<'a, T> {
         self.get(0)
     }
 
-    /// The last value. `None` where there is none.
+    /// Returns the last value, or `None` if there are no values.
     #[inline]
     pub fn last(&self) -> Option<T>
         ensures { result ≡ slice_get self.now (length self.now - 1) }
@@ -247,7 +254,7 @@ impl<'a, T: AsULE> ZeroVec<'a, T> {
         if len == 0 { None } else { self.get(len - 1) }
     }
 
-    /// The values, one after another.
+    /// Returns an iterator over the values.
     #[inline]
     pub fn iter(&self) -> Iter<'_, T>
         ensures items { result ≡ self.now }
@@ -256,8 +263,11 @@ impl<'a, T: AsULE> ZeroVec<'a, T> {
         Iter::from_packed(self.bytes())
     }
 
-    /// The place of a value that is equal to `x`, as `Ok`, in a vector whose values ascend. Where
-    /// several are equal, the place of any of them.
+    /// Searches for a value that is equal to `x` and returns its index. If several are equal, the
+    /// index may be that of any of them.
+    ///
+    /// The values must be in ascending order. Otherwise the result is unspecified, but within the
+    /// bounds of the vector.
     ///
     /// ```
     /// let numbers = ZeroVec::<u32>::alloc_from_slice(alloc, &[10, 20, 30])?;
@@ -265,8 +275,8 @@ impl<'a, T: AsULE> ZeroVec<'a, T> {
     /// ```
     ///
     /// # Errors
-    /// The place at which `x` could be inserted so that the values still ascend, where none is
-    /// equal to it.
+    /// Returns the index at which `x` could be inserted to keep the order if no value is equal to
+    /// it.
     pub fn binary_search(&self, x: &T) -> Result<usize, usize>
     where
         T: Ord,
@@ -276,11 +286,10 @@ impl<'a, T: AsULE> ZeroVec<'a, T> {
         cells::binary_search(self.bytes(), x)
     }
 
-    /// The packed bytes of the values, one after another: as they are kept, borrowed or owned.
+    /// Returns the packed bytes of the values, in order, as they are stored.
     ///
-    /// Where each value of the type has one encoding, as in all types of this crate, these are the
-    /// bytes that the values pack to. For a type of which several bytes are one value they are
-    /// bytes that give the values.
+    /// If each value of the type has one encoding, as for all types of this crate, these are the
+    /// bytes that the values pack to. Otherwise they are some bytes that unpack to the values.
     #[inline]
     pub fn as_bytes(&self) -> &[u8]
         ensures packed { IsPacked T.unpack T.WIDTH result.now }
@@ -291,7 +300,7 @@ impl<'a, T: AsULE> ZeroVec<'a, T> {
         self.store.bytes()
     }
 
-    /// A view of the vector.
+    /// Returns a view of the vector.
     #[inline]
     pub fn as_slice(&self) -> ZeroSlice<'_, T>
         ensures { slice_values result ≡ self.now }
@@ -300,23 +309,24 @@ impl<'a, T: AsULE> ZeroVec<'a, T> {
     }
 }
 
-/// What a vector can become.
+/// Conversions.
 impl<'a, T: AsULE> ZeroVec<'a, T> {
     ghost use Rattle.icu_zerovec.specs.Canonical.{IsCanonical};
     ghost use Rattle.icu_zerovec.specs.Cells.{values_of, IsFault, IsCell, IsConverted};
     ghost use Rattle.std.specs.List.{flat_map};
 
-    /// The same bytes as values of another type of the same width: borrowed or owned as they were,
-    /// none of them copied.
+    /// Returns the same bytes as a vector of another type, which must have the same width. The
+    /// bytes stay borrowed or owned, and none are copied.
     ///
-    /// Each vector of `char` is one of `PotentialCodePoint`, and the other way round the cells
-    /// decide. The clauses speak of some bytes that give the values, which are known exactly where
-    /// each value has one encoding. That they are the vector's own, and stay where they are, is in
-    /// no clause.
+    /// Converting `char` to `PotentialCodePoint` always succeeds; the other direction depends on
+    /// the cells.
+    ///
+    /// In contracts, the bytes of the result are determined by the values only if each value has
+    /// one encoding, and it is not stated that nothing is copied.
     ///
     /// # Errors
-    /// `UleError::Cell` with the first cell that is no value of the other type. The vector is then
-    /// dropped.
+    /// Returns `UleError::Cell` with the index of the first cell that is not a value of the other
+    /// type. The vector is then dropped.
     pub fn try_into_converted<P: AsULE>(self) -> Result<ZeroVec<'a, P>, UleError>
         requires { T.WIDTH ≡ P.WIDTH }
         ensures bytes { IsConverted T.unpack T.WIDTH P.unpack P.WIDTH self.entry result }
@@ -337,7 +347,7 @@ impl<'a, T: AsULE> ZeroVec<'a, T> {
     }
 }
 
-/// The list of the values, as a slice of them is shown: `[1, 2]`.
+/// Formats the values as a list, like a slice: `[1, 2]`.
 impl<'a, T: AsULE + fmt::Debug> fmt::Debug for ZeroVec<'a, T> {
     fn fmt<W: fmt::Write>(&self, f: &mut fmt::Formatter<W>) -> fmt::Result {
         f.debug_list().entries(self.iter()).finish()

@@ -1,5 +1,5 @@
--- What a binary search knows of a list. `ord` compares a value with the one that is sought, and its
--- answers rise where the list ascends: `Less`, then `Equal`, then `Greater`.
+-- What a binary search knows about a list. `ord` compares a value with the one that is searched
+-- for. If the list is ascending, its results are `Less`, then `Equal`, then `Greater`.
 use Rattle.std.specs.Prelude.{◌≡◌, ℕ, ◌+◌, ◌*◌, ◌<◌, ◌≤◌, List, length, true}
 use Rattle.std.specs.List.{AllWithin, HoldsAt}
 use Rattle.std.specs.List.Sorted.{IsNonDecreasingBy}
@@ -7,18 +7,18 @@ use Rattle.std.specs.Ordering.{is_le, ordering_index}
 use Rattle.std.specs.declared.cmp.Ordering.{Ordering}
 use Rattle.std.specs.declared.cmp.Ordering.TheVariants.{Greater}
 
--- the answers rise
+-- The results of `ord` never decrease.
 abbrev pub Rises : {X : Type 0} → (X → Ordering) → List X → Type 0
 Rises ord xs = IsNonDecreasingBy (λ y. ordering_index (ord y)) xs
 
--- what is left stands from low to before end: the value at low, past the first place, is not too
--- great, and all from end on are
+-- The search is narrowed to the indices from low to before end. The value at low is not `Greater`,
+-- unless low is 0, and all from end on are `Greater`.
 pub record IsNarrowed {X : Type 0} (ord : X → Ordering) (xs : List X) (low end : ℕ) : Type 0 where
   pub reached : Rises ord xs → 0 < low → HoldsAt (λ y. is_le (ord y) ≡ true) xs low
   pub past : Rises ord xs → AllWithin (λ y. ord y ≡ Greater) xs end (length xs)
 
--- k of the three values that follow low in steps are not too great: the k-th of them is not, and
--- the next one is
+-- Of the three values after low in steps of `step`, the first k are not `Greater`, and the next one
+-- is.
 pub record IsStepCount {X : Type 0} (ord : X → Ordering) (xs : List X)
     (low step k : ℕ) : Type 0 where
   pub within : step * k ≤ 3 * step

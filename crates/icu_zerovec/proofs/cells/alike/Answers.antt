@@ -1,4 +1,4 @@
--- Values are the same exactly if their packed bytes are.
+-- Values are equal if and only if their packed bytes are.
 use Rattle.std.proofs.Common.{◌-◌, replicate, ◌∙◌}
 use Rattle.std.proofs.Common.{ap₂}
 use Rattle.std.specs.Prelude.{nat_eq}

@@ -1,4 +1,4 @@
--- A value that is there is that of its cell, which is a value.
+-- The value at an index is that of its cell, which is a value.
 use Rattle.std.proofs.Common.{◌<◌, ◌/◌, length, sym, ◌∙◌, arith}
 use Rattle.icu_zerovec.proofs.CellsLemmas.{length-values_of, get-values_of, not_none}
 use Rattle.icu_zerovec.proofs.cells.at.Goals as goal

@@ -1,4 +1,4 @@
--- The one value that is left at the end tells the place.
+-- The one value that is left at the end determines the index.
 use Rattle.std.proofs.Common.{arith, sym}
 use Rattle.std.specs.declared.cmp.Ordering.TheVariants.{Equal}
 use Rattle.icu_zerovec.specs.Cells.{values_of}

@@ -1,4 +1,4 @@
--- Some value is left, and those past what is left are greater.
+-- Some value is left, and those after the rest are greater.
 use Rattle.std.proofs.Common.{length, ◌+◌, ◌<◌, ◌≤◌}
 use Rattle.icu_zerovec.specs.Cells.{values_of}
 use Rattle.icu_zerovec.specs.Inside.Searches.{IsNarrowed}

@@ -1,4 +1,4 @@
--- The count of three tests.
+-- The sum of three comparisons.
 use Rattle.icu_zerovec.specs.Cells.{values_of}
 use Rattle.icu_zerovec.proofs.Searches.{counted}
 use Rattle.icu_zerovec.proofs.cells.count_at_most.Goals as goal

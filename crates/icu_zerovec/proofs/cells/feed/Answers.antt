@@ -1,4 +1,4 @@
--- One more value that is fed.
+-- One more value is fed.
 use Rattle.std.proofs.Common.{length}
 use Rattle.std.specs.Hash as fed
 use Rattle.icu_zerovec.specs.Cells.{values_of, one_write}

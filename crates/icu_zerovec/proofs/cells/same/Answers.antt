@@ -1,5 +1,4 @@
--- The first bytes that are the same give values that are the same, and values that differ make lists that
--- differ.
+-- Equal bytes at the start have equal values, and values that differ make lists that differ.
 use Rattle.std.proofs.Common.{◌≡◌, length, arith, rules}
 use Rattle.icu_zerovec.specs.Cells.{values_of, same_bytes}
 use Rattle.icu_zerovec.proofs.SameLemmas.{differs, same_gets, same_front, same_count}

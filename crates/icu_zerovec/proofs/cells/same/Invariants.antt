@@ -1,4 +1,4 @@
--- The values before i are the same.
+-- The values before i are equal.
 use Rattle.std.proofs.Common.{◌≡◌, ℕ, ◌<◌, slice_get}
 use Rattle.icu_zerovec.specs.Cells.{values_of}
 use Rattle.icu_zerovec.proofs.cells.same.Given as goal

@@ -1,4 +1,4 @@
--- One more block that is the same.
+-- One more equal block.
 use Rattle.std.proofs.Common.{arith}
 use Rattle.icu_zerovec.proofs.SameLemmas.{block_more}
 use Rattle.icu_zerovec.proofs.cells.same_blocks.Goals as goal

@@ -1,4 +1,4 @@
--- The bytes before `at` are the same.
+-- The bytes before `at` are equal.
 use Rattle.std.proofs.Common.{◌≡◌, ◌-◌, ◌≤◌, length, take}
 use Rattle.icu_zerovec.proofs.cells.same_blocks.Given as goal
 

@@ -1,4 +1,4 @@
--- The first cell is there and is a value, and the bytes after it are packed.
+-- The first cell exists and is a value, and the bytes after it are packed.
 use Rattle.std.proofs.Common.{◌≡◌, ◌<◌, length, take, None, sym, ◌∙◌, ap, rules}
 use Rattle.std.specs.Option.{is_some}
 use Rattle.icu_zerovec.proofs.CellsLemmas.{first_fits, first_value, IsPacked-drop, values_of-first, values_of-nil}

@@ -1,4 +1,4 @@
--- The bytes are whole cells, and those before i are values.
+-- The bytes are whole cells, and the cells before i are values.
 use Rattle.std.proofs.Common.{◌≡◌, ℕ, ◌%◌, ◌<◌, length}
 use Rattle.std.specs.Prelude.{IsSome}
 use Rattle.icu_zerovec.specs.Cells.{cell}

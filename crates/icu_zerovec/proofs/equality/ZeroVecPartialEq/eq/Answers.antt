@@ -1,4 +1,4 @@
--- What the comparison of the bytes says of the lists.
+-- What the comparison of the bytes says about the lists.
 use Rattle.icu_zerovec.proofs.SameLemmas.{told_value, told_same}
 use Rattle.icu_zerovec.proofs.equality.ZeroVecPartialEq.eq.Goals as goal
 

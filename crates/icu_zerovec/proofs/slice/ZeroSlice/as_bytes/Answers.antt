@@ -1,4 +1,4 @@
--- Bytes that have one encoding are those that their values are packed to.
+-- If each value has one encoding, the bytes are those that their values pack to.
 use Rattle.std.proofs.Common.{sym}
 use Rattle.icu_zerovec.proofs.CellsLemmas.{flat_map-values_of}
 use Rattle.icu_zerovec.proofs.slice.ZeroSlice.as_bytes.Goals as goal

@@ -1,4 +1,4 @@
--- The bytes of values are packed, and give them back.
+-- The bytes of values are packed, and unpack to the values.
 use Rattle.std.proofs.lemmas.List.Elements.{recursion_from_All}
 use Rattle.icu_zerovec.proofs.CellsLemmas.{values_of-flat_map, IsPacked-flat_map}
 use Rattle.icu_zerovec.proofs.vec.ZeroVec.alloc_from_iter.Goals as goal

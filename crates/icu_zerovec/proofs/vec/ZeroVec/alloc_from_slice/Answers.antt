@@ -1,4 +1,4 @@
--- The values are those that the slice gives.
+-- The values are those in the slice.
 use Rattle.std.proofs.Common.{sym, ◌∙◌}
 use Rattle.std.proofs.lemmas.List.{map-id}
 use Rattle.std.proofs.lemmas.Iterator.{YieldsList-from_slice}

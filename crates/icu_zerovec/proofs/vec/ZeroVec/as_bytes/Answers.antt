@@ -1,4 +1,4 @@
--- Bytes that have one encoding are those that their values are packed to.
+-- If each value has one encoding, the bytes are those that their values pack to.
 use Rattle.std.proofs.Common.{sym, ◌∙◌, ap}
 use Rattle.std.specs.List.{flat_map}
 use Rattle.icu_zerovec.specs.Store.{bytes_of}

@@ -1,4 +1,4 @@
--- The bytes that are kept are those that the values are packed to, where these have one encoding.
+-- If each value has one encoding, the bytes of the vector are those that the values pack to.
 use Rattle.std.proofs.Common.{◌≡◌, sym, ◌∙◌, ap, rules}
 use Rattle.std.specs.List.{flat_map}
 use Rattle.icu_zerovec.specs.Store.{bytes_of}
