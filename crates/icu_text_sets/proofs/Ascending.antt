@@ -1,4 +1,4 @@
--- Ascending texts: where one of them stands or a new one belongs, and that they ascend with the new one too.
+-- Sorted texts: the index of a text or of a new one, and that they stay sorted with the new one.
 use Rattle.std.proofs.Common.{◌≡◌, ℕ, zero, suc, ◌<◌, ◌≤◌, List, [], ◌∷◌, false, Result, Ok, Err, refl, sym, ap, ◌∙◌, arith, length, get_or, add-one, inl, inr, subst, String, Global, string_bytes}
 use Rattle.std.specs.Str.{bytes_eq}
 use Rattle.std.specs.List.Sorted.{IsNonDecreasingBy, IsBinarySearchResult, IsSearchInRange}
@@ -22,11 +22,11 @@ use Rattle.icu_text_sets.specs.Inside.StringPlaces.{IsPlaceOf}
 total : IsTotalOrder text_cmp
 total = nat_list_cmp_total
 
--- what is smaller than a text comes before it
+-- Any text less than another comes before it.
 turned : (a b : List ℕ) → text_cmp a b ≡ Greater → text_cmp b a ≡ Less
 turned a b h = total.antisymm b a ∙ ap ordering_reverse h
 
--- the greater of two texts compares no lower with a third
+-- The greater of two texts does not compare as less with a third.
 ranks_as : (a b x : List ℕ) (o : Ordering) → text_cmp b x ≡ o → text_cmp a b ≡ Less
     → ordering_index (text_cmp a x) ≤ ordering_index (text_cmp b x)
 ranks_as a b x Less e h = let k : text_cmp a x ≡ Less = total.trans a b x h e in rw (k, e) (omega arith)
@@ -68,7 +68,7 @@ rises strings text s =
     rw add-one (ranks (string_bytes (get_or strings k d)) (string_bytes (get_or strings (suc k) d)) text (rw (here, next) at step)))
 
 -- ---- the search
--- what holds of the string at k, whatever stands past the end, holds of the text there
+-- What holds for the string at k, with any default past the end, holds for the text there.
 at_text : (P : List ℕ → Type 0) (strings : List (String Global)) (k : ℕ) → k < length strings
     → ((d : String Global) → P (string_bytes (get_or strings k d))) → P (get_or (texts_of strings) k [])
 at_text P [] k h p = absurd (omega arith)
@@ -101,7 +101,7 @@ found_among ts text (Ok i) p = sym (list_any_at (λ t. bytes_eq t text) ts i [] 
 found_among ts text (Err i) p =
     sym (list_any_none (λ t. bytes_eq t text) ts (λ k d h. rw (get_or_default ts k d [] h) (before_or_after ts text i k h p)))
 
--- ---- a closure that each call leaves as it was
+-- ---- a closure that is unchanged by each call
 each_call : {F X R : Type 0} (g : Mut F X R) (P : X → R → Type 0) (f : F)
     → ((a : X) (r : R) (f' : F) → Called g f a r f' → P a r × (f' ≡ f)) → (xs : List X) → ReturnsEach g P f xs
 each_call g P f h [] = tt

@@ -1,8 +1,9 @@
--- How strings are copied, one after another.
+-- Copying strings one after another.
 use Rattle.std.proofs.Common.{◌≡◌, ℕ, ◌+◌, ◌<◌, ◌≤◌, List, [], ◌∷◌, ◌++◌, refl, sym, ap, ◌∙◌, length, get_or, drop, drop-cons, append_assoc, append-nil, add-one, String, Global}
 use Rattle.std.proofs.lemmas.List.{drop_all}
 
--- what g makes of the strings from i on stands after what was made so far, and h makes the next
+-- The results of g for the strings from i on follow the results so far, and h computes the next
+-- one.
 pub copy_step : {Y : Type 0} (g : List (String Global) → List Y) (h : String Global → Y)
     → ((x : String Global) (xs : List (String Global)) → g (x ∷ xs) ≡ h x ∷ g xs)
     → (strings : List (String Global)) (i : ℕ) (x : String Global) (front front' whole : List Y) → i < length strings

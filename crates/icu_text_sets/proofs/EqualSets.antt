@@ -19,7 +19,7 @@ total = nat_list_cmp_total
 equal : (x y : List ℕ) → bytes_eq x y ≡ true → x ≡ y
 equal x y h = (bytes_eq-Decides x y).0 h
 
--- ---- what a list holds
+-- ---- what a list contains
 first_among : (x : List ℕ) (xs : List (List ℕ)) → is_among (x ∷ xs) x ≡ true
 first_among x xs = ap (λ z. z || is_among xs x) ((bytes_eq-Decides x x).1 refl)
 
@@ -27,7 +27,7 @@ tail : (x : List ℕ) (xs : List (List ℕ)) → IsStringList (x ∷ xs) → IsS
 tail x [] s = tt
 tail x (y ∷ xs) s = s.2
 
--- the first is smaller than the others
+-- The first is less than the others.
 leads : (x : List ℕ) (xs : List (List ℕ)) (t : List ℕ) → IsStringList (x ∷ xs) → is_among xs t ≡ true → text_cmp x t ≡ Less
 leads x [] t s h = absurd cc
 leads x (y ∷ xs) t s h = elim (or_cases (bytes_eq y t) (is_among xs t) h) [
@@ -38,7 +38,7 @@ leads x (y ∷ xs) t s h = elim (or_cases (bytes_eq y t) (is_among xs t) h) [
 no_less_equal : (x y : List ℕ) → text_cmp x y ≡ Less → text_cmp x y ≡ Equal → ⊥
 no_less_equal x y h e = let k : Less ≡ Equal = sym h ∙ e in cc
 
--- what is smaller than the first of a list is not there
+-- A text less than the first of a list is not in the list.
 not_before : (x y : List ℕ) (ys : List (List ℕ)) → IsStringList (y ∷ ys) → text_cmp x y ≡ Less → is_among (y ∷ ys) x ≡ true → ⊥
 not_before x y ys s h a = elim (or_cases (bytes_eq y x) (is_among ys x) a) [
   | inl e ↦ no_less_equal x y h (ap (text_cmp x) (equal y x e) ∙ tied_itself total x)
@@ -85,7 +85,7 @@ sets_decide a b =
       λ e. parts.1 (ap (λ s. s.code_points) e, ap (λ s. s.strings) e),
     )
 
--- equal sets hold the same texts
+-- Equal sets contain the same texts.
 pub equal_sets_hold_alike : (a b : TextSet) (text : List ℕ) → same_set a b ≡ true → member a text ≡ member b text
 equal_sets_hold_alike a b text h = ap (λ s. member s text) ((sets_decide a b).0 h)
 

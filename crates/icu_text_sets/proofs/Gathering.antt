@@ -1,4 +1,4 @@
--- How a set is gathered from texts, one after another.
+-- Building a set from texts, one after another.
 use Rattle.std.proofs.Common.{◌≡◌, ℕ, ◌<◌, List, [], ◌∷◌, ◌++◌, Bool, true, false, ◌||◌, ◌&&◌, ◌==◌, Option, Some, None, refl, sym, ap, ◌∙◌, arith, inl, inr}
 use Rattle.std.specs.Str.{chars, bytes_eq, IsUtf8, encode_utf8_all, all_scalars}
 use Rattle.std.proofs.Math.Utf8.{scalar, scalar_cases}
@@ -12,7 +12,7 @@ use Rattle.icu_zerovec.specs.CodePoints.{code_point_limit}
 use Rattle.icu_invlist.specs.InversionList.{holds, ends_up_to, Acts, either}
 use Rattle.icu_text_sets.specs.TextSet.{only_of, only_char, is_among}
 
--- the ends and the texts hold what was given so far
+-- The boundaries and the texts contain what was added so far.
 pub record IsGathered (given : List (List ℕ)) (ends : List ℕ) (texts : List (List ℕ)) : Type 0 where
   pub plain : (t : List ℕ) → is_among texts t ≡ true → only_char t ≡ None
   pub strings : (t : List ℕ) → only_char t ≡ None → is_among texts t ≡ is_among given t
@@ -47,7 +47,7 @@ scalar_of t c u o = scalar_first c (sym (ap all_scalars (only_is (chars t) c o))
 scalar_small : (c : ℕ) → scalar c ≡ true → c < code_point_limit
 scalar_small c h = elim (scalar_cases c h) [ inl k ↦ omega arith | inr k ↦ omega (arith, k.1) ]
 
--- texts of one character are equal exactly if the characters are
+-- Texts of one character are equal if and only if the characters are.
 same_char : (x t : List ℕ) (d c : ℕ) → IsUtf8 x → IsUtf8 t → only_char x ≡ Some d → only_char t ≡ Some c → bytes_eq x t ≡ (c == d)
 same_char x t d c u v o p =
     let spelled : (y : List ℕ) (e : ℕ) → IsUtf8 y → only_char y ≡ Some e → y ≡ encode_utf8_all (e ∷ []) =
@@ -58,7 +58,7 @@ same_char x t d c u v o p =
     (λ e. same_Some c d (sym p ∙ sym (ap only_char e) ∙ o))
     (Decides-eqb c d))
 
--- texts of different kinds are different
+-- A text of one character differs from every other text.
 other_kind : (x t : List ℕ) (d : ℕ) (a b : Option ℕ) → only_char x ≡ a → only_char t ≡ b → (a ≡ b → ⊥) → bytes_eq x t ≡ false
 other_kind x t d a b o p n = ne_from (bytes_eq x t) refl
   where
@@ -77,7 +77,7 @@ among_one x t = or_none (bytes_eq x t) false refl
 among_more : (given : List (List ℕ)) (x t : List ℕ) → is_among (given ++ x ∷ []) t ≡ (is_among given t || bytes_eq x t)
 among_more given x t = list_any-append (λ y. bytes_eq y t) given (x ∷ []) ∙ ap (λ z. is_among given t || z) (among_one x t)
 
--- a text among strings and one more that is no character
+-- A text among the strings and one more that does not have exactly one character.
 plain_more : (texts : List (List ℕ)) (x t : List ℕ) → ((t : List ℕ) → is_among texts t ≡ true → only_char t ≡ None) → only_char x ≡ None
     → is_among (texts ++ x ∷ []) t ≡ true → only_char t ≡ None
 plain_more texts x t p o h = elim (or_cases (is_among texts t) (bytes_eq x t) (sym (among_more texts x t) ∙ h)) [

@@ -1,4 +1,4 @@
--- What a JSON value is read as, once its parts are read.
+-- What a JSON value is read as, after its parts are read.
 use Rattle.std.proofs.Common.{◌≡◌, ℕ, List, Option, Some, None, Result, Ok, Err, refl, sym, ap, subst, ◌∙◌, codes, inl, inr}
 use Rattle.serde_json.specs.Data.{Data, null, boolean, number, string, array, object}
 use Rattle.serde_json.specs.Find.{get}
@@ -23,7 +23,7 @@ read_at (string s) p r g h = absurd cc
 read_at (array ds) p r g h = absurd cc
 read_at (object ms) p r g h = subst (λ o. IsReadAt o (object ms) r) (sym g) h
 
--- ---- a refused set of code points
+-- ---- a set of code points that is rejected
 refused_points : (d p : Data) (e : SetJsonError) → PointsAt d p → ends_of p ≡ Err e → IsRead d (Err (no_set e))
 refused_points d p e g h = read_at d p (Err (no_set e)) g (subst (λ z. IsReadWith z (texts_said d) (Err (no_set e))) (sym h) refl)
 

@@ -1,4 +1,4 @@
--- The strings of a JSON array, and that what is written of a set is read back.
+-- The strings of a JSON array. A set that is written to JSON is read back unchanged.
 use Rattle.std.proofs.Common.{◌≡◌, ℕ, ◌+◌, List, [], ◌∷◌, None, Result, Ok, refl, sym, ap, ◌∙◌, map, inl}
 use Rattle.serde_json.proofs.OnLiterals.{serde_json_on_literals}
 use Rattle.serde_json.specs.Data.{Data, string}
@@ -12,7 +12,7 @@ use Rattle.icu_text_sets.specs.TextFaults.{strings_fault}
 use Rattle.icu_text_sets.specs.TextSetJson.{JsonFault, text_or, texts_said, set_unless, json_of, IsReadWith, IsRead}
 use Rattle.icu_text_sets.proofs.Walks.{no_fault}
 
--- ---- what is written is read back
+-- ---- a written set is read back
 list_of-items_of : (ds : List Data) → list_of (items_of ds) ≡ ds
 list_of-items_of [] = refl
 list_of-items_of (d ∷ ds) = ap (λ z. d ∷ z) (list_of-items_of ds)

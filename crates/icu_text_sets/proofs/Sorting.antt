@@ -1,4 +1,4 @@
--- Strings that are sorted, each once, are a list of a set's strings with the same members.
+-- Strings that are sorted, without duplicates, are a list of a set's strings with the same members.
 use Rattle.std.proofs.Common.{◌≡◌, ℕ, List, [], ◌∷◌, Bool, true, false, ◌||◌, None, refl, sym, ap, ◌∙◌, String, Global, string_bytes, cond}
 use Rattle.std.specs.Str.{bytes_eq}
 use Rattle.std.specs.String.{string_cmp, string_eq, string_cmp_total}
@@ -21,7 +21,7 @@ first t ts = ap (λ z. z || is_among ts t) ((bytes_eq-Decides t t).1 refl)
 later : (t u : List ℕ) (ts : List (List ℕ)) → is_among ts u ≡ true → is_among (t ∷ ts) u ≡ true
 later t u ts h = ap (λ z. bytes_eq t u || z) h ∙ or-true (bytes_eq t u)
 
--- strings that ascend, none of them one character, are those of a set
+-- Sorted strings, none of which has exactly one character, are the strings of a set.
 pub strict_list : (xs : List (String Global)) → ((t : List ℕ) → is_among (texts_of xs) t ≡ true → only_char t ≡ None)
     → IsStrictlySortedBy string_cmp xs → IsStringList (texts_of xs)
 unfolding IsStrictlySortedBy
@@ -49,7 +49,8 @@ kept_step : (p : String Global → Bool) (k x : String Global) (xs : List (Strin
 kept_step p k x xs true r h g = h ∙ or_again (p k) (p x) (list_any p xs) (r refl)
 kept_step p k x xs false r h g = ap (λ z. p k || z) g
 
--- a test that equal strings answer alike holds of one that is left exactly if it held of one before
+-- If a test gives the same result for equal strings, some string passes it after removing
+-- duplicates if and only if some string did before.
 kept_from : (p : String Global → Bool) → ((x y : String Global) → string_eq x y ≡ true → p x ≡ p y)
     → (k : String Global) (xs : List (String Global))
     → list_any p (dedup_from string_eq k xs) ≡ (p k || list_any p xs)
@@ -64,7 +65,7 @@ kept p r (x ∷ xs) = kept_from p r x xs
 alike : (t : List ℕ) (x y : String Global) → string_eq x y ≡ true → bytes_eq (string_bytes x) t ≡ bytes_eq (string_bytes y) t
 alike t x y h = ap (λ z. bytes_eq z t) ((bytes_eq-Decides (string_bytes x) (string_bytes y)).0 h)
 
--- the members of strings that were sorted
+-- The members of strings that were sorted.
 pub same_among : (xs ys : List (String Global)) → IsPermutation xs ys → (t : List ℕ)
     → is_among (texts_of (dedup string_eq ys)) t ≡ is_among (texts_of xs) t
 same_among xs ys m t =

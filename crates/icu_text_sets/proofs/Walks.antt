@@ -1,4 +1,4 @@
--- How the first fault of a list of texts is found, from its front.
+-- Finding the first fault of a list of texts, from its start.
 use Rattle.std.proofs.Common.{◌≡◌, ℕ, zero, suc, ◌+◌, ◌<◌, ◌≤◌, List, [], ◌∷◌, Option, Some, None, refl, sym, ap, ◌∙◌, arith, length, get_or, drop, drop-cons, add-one, Bor, String, Global, string_bytes, option_map}
 use Rattle.std.specs.Slice.{IsItemAt}
 use Rattle.std.proofs.lemmas.List.{drop_all}
@@ -25,7 +25,7 @@ shown t u OneCodePoint = one_code_point t
 shown t u Repeated = repeated t
 shown t u Unsorted = unsorted t u
 
--- no fault
+-- No fault.
 neighbours_on : (t u : List ℕ) (o : Ordering) (later : Option TextFault) → next_kind o ≡ None → fault_of_two t u o later ≡ later
 neighbours_on t u Less later h = refl
 neighbours_on t u Equal later h = absurd cc
@@ -46,7 +46,7 @@ unfolding strings_fault
 on t [] h = alone_on t (only_char t) h
 on t (s ∷ rest) h = before_on t (string_bytes s) (only_char t) (strings_fault (texts_of (s ∷ rest))) h
 
--- a fault
+-- A fault.
 neighbours_at : (t u : List ℕ) (o : Ordering) (later : Option TextFault) (f : Fault) → next_kind o ≡ Some f
     → (fault_of_two t u o later ≡ Some (shown t u f)) × (fault_length f ≤ 2)
 neighbours_at t u Less later f h = absurd cc
@@ -70,7 +70,7 @@ stop t [] f h = alone_at t (only_char t) f h
 stop t (s ∷ rest) f h = let p = before_at t (string_bytes s) (only_char t) (strings_fault (texts_of (s ∷ rest))) f h in
     (p.0, omega (arith, p.1))
 
--- ---- a place of the list
+-- ---- an index of the list
 here : (strings : List (String Global)) (i : ℕ) (x : String Global) → i < length strings → x ≡ get_or strings i x
     → drop i strings ≡ x ∷ drop (suc i) strings
 here strings i x h e = rw (drop-cons strings i x h, ← e) refl
@@ -91,7 +91,7 @@ shown_at texts i OneCodePoint = refl
 shown_at texts i Repeated = refl
 shown_at texts i Unsorted = refl
 
--- the kind of fault that stands at i, from what `get` gives of the next place
+-- The kind of fault at index i, from what `get` returns for the next index.
 pub kind_here : (strings : List (String Global)) (i : ℕ) (x : String Global) (next : Option (Bor (String Global))) (r : Option Fault)
     → IsItemAt strings (i + 1) next
     → r ≡ kind_of (string_bytes x) (option_map (λ s. string_bytes s.now) next)
@@ -127,7 +127,7 @@ pub at_end : (strings : List (String Global)) (i : ℕ) (whole : Option TextFaul
 unfolding strings_fault
 at_end strings i whole h w = sym w ∙ ap (λ z. strings_fault (texts_of z)) (drop_all i strings h)
 
--- ---- a list with no fault is one of a set
+-- ---- a list without a fault is a list of a set's strings
 only_none : (t : List ℕ) (o : Option ℕ) (later : Option TextFault) → fault_of_one t o later ≡ None → (o ≡ None) × (later ≡ None)
 only_none t None later h = (refl, h)
 only_none t (Some c) later h = absurd cc
@@ -146,7 +146,7 @@ faultless (t ∷ u ∷ ts) h =
     let q = less_none t u (text_cmp t u) (strings_fault (u ∷ ts)) p.1 in
     (p.0, q.0, faultless (u ∷ ts) q.1)
 
--- and the other way round
+-- A list of a set's strings has no fault.
 pub no_fault : (ts : List (List ℕ)) → IsStringList ts → strings_fault ts ≡ None
 unfolding strings_fault
 no_fault [] s = refl

@@ -1,4 +1,4 @@
--- Words that the functions inside the crate and their proofs need. No public contract cites them.
+-- Definitions for the contracts of private functions and for proofs. No public contract uses them.
 pub mod StringPlaces
 pub mod StringFaults
 pub mod JsonParts

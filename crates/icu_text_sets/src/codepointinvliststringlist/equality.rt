@@ -1,4 +1,4 @@
-//! Sets of code points and texts are equal exactly if they hold the same code points and strings.
+//! Equality: two sets are equal if and only if they contain the same code points and strings.
 ghost use Rattle.std.specs.Prelude.{◌≡◌, ◌&&◌, ◌<◌, ◌↔◌, ℕ, List, IsTrue, nat_eq};
 ghost use Rattle.std.specs.Cmp.{partial_equiv_from_equiv};
 ghost use Rattle.std.specs.Cmp.Lexicographic.{pointwise};
@@ -9,7 +9,8 @@ ghost use Rattle.icu_text_sets.specs.TextSetLaws.{same_set_equiv};
 
 use crate::codepointinvliststringlist::set::CodePointInversionListAndStringList;
 
-/// Whichever of them borrows. A set has one list of ends and one list of strings, so these decide.
+/// Compares the boundaries and the strings, because each set has exactly one list of either.
+/// Whether a set borrows or owns its code points makes no difference.
 impl<'data> PartialEq for CodePointInversionListAndStringList<'data> {
     ghost eq = { same_set };
 

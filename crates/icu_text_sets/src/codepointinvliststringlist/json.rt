@@ -1,4 +1,4 @@
-//! Sets of code points and texts to and from JSON.
+//! Conversion of sets of code points and strings to and from JSON.
 ghost use Rattle.std.specs.Prelude.{◌≡◌, ℕ, ◌+◌, List, [], ◌∷◌, Ok, Err, IfOk, IfErr, map};
 ghost use Rattle.serde_json.specs.Data.{string};
 ghost use Rattle.serde_json.specs.View.{view, items_view};
@@ -13,7 +13,7 @@ use icu_zerovec::MemoryError;
 use serde_json::{Value, json};
 use std::alloc::Global;
 
-/// The strings as JSON strings, in their order.
+/// Returns the strings as JSON strings, in order.
 fn items_of(alloc: Global, strings: &[String]) -> Result<Vec<Value>, MemoryError>
     ensures { IfOk result (λ v. map view v.items ≡ map (λ t. string t) (texts_of strings.now)) }
 {
@@ -24,14 +24,14 @@ fn items_of(alloc: Global, strings: &[String]) -> Result<Vec<Value>, MemoryError
     Ok(items)
 }
 
-/// The object of a set, from what its parts are written as.
+/// Returns the JSON object of a set, from its code points and strings in JSON.
 fn object_of(alloc: Global, code_points: Value, strings: Vec<Value>) -> Result<Value, MemoryError>
     ensures { IfOk result (λ v. view v ≡ object_of (view code_points) (map view strings.items)) }
 {
     Ok(json!(in alloc; { "cp_inv_list": code_points, "str_list": Value::Array(strings) })?)
 }
 
-/// The strings that the items are, in their order.
+/// Returns the strings in the items, in order.
 fn strings_of_items(alloc: Global, items: &[Value]) -> Result<Vec<String>, StringListJsonError>
     ensures ok { IfOk result (λ v. texts_in (items_view items.now) ≡ Ok (texts_of v.items)) }
     ensures err { IfErr result
@@ -54,7 +54,7 @@ fn strings_of_items(alloc: Global, items: &[Value]) -> Result<Vec<String>, Strin
     Ok(strings)
 }
 
-/// The strings at the key `str_list`.
+/// Returns the strings in the array at the key `str_list`.
 fn strings_of(alloc: Global, value: &Value) -> Result<Vec<String>, StringListJsonError>
     ensures ok { IfOk result (λ v. texts_said (view value.now) ≡ Ok (texts_of v.items)) }
     ensures err { IfErr result (λ e. GivesTexts (texts_said (view value.now)) (json_fault_of e)) }
@@ -68,7 +68,7 @@ fn strings_of(alloc: Global, value: &Value) -> Result<Vec<String>, StringListJso
     strings_of_items(alloc, items)
 }
 
-/// The error of a set of code points that was not read.
+/// Converts the error of reading the set of code points.
 fn set_error(error: SetJsonError) -> StringListJsonError
     ensures { json_fault_of result ≡ set_fault_of error }
 {
@@ -76,16 +76,16 @@ fn set_error(error: SetJsonError) -> StringListJsonError
 }
 
 impl<'data> CodePointInversionListAndStringList<'data> {
-    /// The set as a JSON object: at the key `cp_inv_list` the code points, as
-    /// [`CodePointInversionList::to_json`] writes them, and at `str_list` the array of the strings,
-    /// in their order.
+    /// Returns the set as a JSON object. The key `cp_inv_list` has the code points as
+    /// [`CodePointInversionList::to_json`] writes them, and `str_list` has the array of the
+    /// strings, in order.
     ///
     /// ```
     /// // the set of "a" and "abc": {"cp_inv_list":["a"],"str_list":["abc"]}
     /// ```
     ///
     /// # Errors
-    /// `MemoryError` where memory was refused.
+    /// Returns `MemoryError` if an allocation fails.
     pub fn to_json(&self, alloc: Global) -> Result<Value, MemoryError>
         ensures ok { IfOk result (λ v. view v ≡ json_of self.now) }
         ensures read_back { IfOk result (λ v. IsRead (view v) (Ok self.now)) }
@@ -96,8 +96,8 @@ impl<'data> CodePointInversionListAndStringList<'data> {
         Ok(value)
     }
 
-    /// The set that a JSON object says, as [`to_json`](Self::to_json) writes it. Other keys are
-    /// ignored.
+    /// Returns the set in a JSON object of the form that [`to_json`](Self::to_json) writes. Other
+    /// keys are ignored.
     ///
     /// ```
     /// let value = Value::from_str(alloc, r#"{"cp_inv_list":["a"],"str_list":["abc"]}"#)?;
@@ -106,15 +106,16 @@ impl<'data> CodePointInversionListAndStringList<'data> {
     /// ```
     ///
     /// # Errors
-    /// The first fault, in this order:
-    /// - `Shape("")` where the value is no object,
-    /// - `Shape("cp_inv_list")` where it has no such key,
-    /// - `Set` where [`CodePointInversionList::from_json`] refuses what stands there,
-    /// - `Shape("str_list")` where there is no such key, or no array at it,
-    /// - `NotAString` with the place of the first item that is no string,
-    /// - `Strings` where [`try_from`](Self::try_from) refuses the strings.
+    /// Returns the first error in this order:
+    /// - `Shape("")` if `value` is not an object,
+    /// - `Shape("cp_inv_list")` if it does not have this key,
+    /// - `Set` if [`CodePointInversionList::from_json`] rejects the value at that key,
+    /// - `Shape("str_list")` if it does not have this key, or the value at that key is not an
+    ///   array,
+    /// - `NotAString` with the index of the first item that is not a string,
+    /// - `Strings` if [`try_from`](Self::try_from) rejects the strings.
     ///
-    /// `Memory` where memory was refused, in place of any answer.
+    /// Returns `Memory` if an allocation fails, whatever the value is.
     pub fn from_json(
         alloc: Global,
         value: &Value,

@@ -1,4 +1,4 @@
-//! How sets of code points and texts are made.
+//! Constructors of sets of code points and strings.
 ghost use Rattle.std.specs.Prelude.{◌≡◌, ◌+◌, ◌≤◌, ◌++◌, ℕ, List, [], ◌∷◌, length, map, true, Some, None, IfOk, IfErr, OnOk, IfSome, option_map};
 ghost use Rattle.std.specs.String.{string_bytes};
 ghost use Rattle.std.specs.Iterator.{Drains, IsFinite};
@@ -13,7 +13,7 @@ use icu_zerovec::MemoryError;
 use std::alloc::Global;
 use std::cmp::Ordering;
 
-/// What is wrong with a string of a list.
+/// The fault of a string in a list.
 #[derive(Clone, Copy)]
 enum Fault {
     OneCodePoint,
@@ -21,7 +21,7 @@ enum Fault {
     Unsorted,
 }
 
-/// What is wrong with a string before the next one, if there is one.
+/// Returns the fault of a string, given the next one if there is one.
 fn fault_before(text: &String, next: Option<&String>) -> Option<Fault>
     ensures { result
         ≡ kind_of (string_bytes text.now) (option_map (λ s. string_bytes s.now) next.entry) }
@@ -36,7 +36,7 @@ fn fault_before(text: &String, next: Option<&String>) -> Option<Fault>
     }
 }
 
-/// The first fault on a walk from the front, with the place of its string.
+/// Returns the first fault in a list and the index of its string.
 fn first_fault(strings: &[String]) -> Option<(usize, Fault)>
     ensures first { strings_fault (texts_of strings.now)
         ≡ option_map (λ x. fault_at (texts_of strings.now) x.0 x.1) result }
@@ -50,7 +50,7 @@ fn first_fault(strings: &[String]) -> Option<(usize, Fault)>
     None
 }
 
-/// The error that has the strings at fault, which are taken out of the list.
+/// Returns the error for a fault. Moves the strings at fault out of the list.
 fn refused(mut strings: Vec<String>, place: usize, fault: Fault) -> InvalidStringList
     requires { place + fault_length fault ≤ length strings.items }
     ensures { fault_of result ≡ fault_at (texts_of strings.items) place fault }
@@ -65,7 +65,7 @@ fn refused(mut strings: Vec<String>, place: usize, fault: Fault) -> InvalidStrin
     }
 }
 
-/// Appends a text to strings.
+/// Appends a copy of `text` to `strings`.
 fn push_text(alloc: Global, strings: &mut Vec<String>, text: &str) -> Result<(), MemoryError>
     ensures { OnOk result
         (texts_of strings.new.items ≡ texts_of strings.old.items ++ text.now ∷ []) }
@@ -75,7 +75,7 @@ fn push_text(alloc: Global, strings: &mut Vec<String>, text: &str) -> Result<(),
     Ok(())
 }
 
-/// Brings strings into the order of a set: ascending by their bytes, each once.
+/// Sorts strings by their bytes and removes duplicates, as in a set.
 fn sort_strings(strings: &mut Vec<String>)
     requires { (t : List ℕ) → is_among (texts_of strings.old.items) t ≡ true → only_char t ≡ None }
     ensures list { IsStringList (texts_of strings.new.items) }
@@ -86,16 +86,17 @@ fn sort_strings(strings: &mut Vec<String>)
     strings.dedup();
 }
 
-/// How a set is made.
+/// Constructors.
 impl<'data> CodePointInversionListAndStringList<'data> {
-    /// The set of these code points and strings, which are taken over. It takes no memory.
+    /// Returns the set with these code points and strings, which it takes over. This does not
+    /// allocate.
     ///
     /// # Errors
-    /// The first fault on a walk from the front of the strings, with the strings at fault. At each
-    /// place it is, in this order:
-    /// - `InvalidStringLength` where the string is exactly one code point,
-    /// - `StringListNotUnique` where the next string is equal,
-    /// - `StringListNotSorted` where the next string has the smaller bytes, with both.
+    /// Returns the first fault in `str_list`, with the strings at fault. Each string is tested in
+    /// this order:
+    /// - `InvalidStringLength` if the string has exactly one code point,
+    /// - `StringListNotUnique` if the next string is equal,
+    /// - `StringListNotSorted` with both strings if the next string is less, compared by bytes.
     pub fn try_from(
         cp_inv_list: CodePointInversionList<'data>,
         str_list: Vec<String>,
@@ -116,8 +117,10 @@ impl<'data> CodePointInversionListAndStringList<'data> {
         }
     }
 
-    /// The set of these texts, in any order, also more than once. A text of exactly one character
-    /// becomes a code point, any other one a string. The iterator is one that ends.
+    /// Returns the set of the texts that `iter` yields.
+    ///
+    /// The texts may be in any order and may repeat. A text of exactly one character becomes a code
+    /// point, and any other text becomes a string. The iterator must be finite.
     ///
     /// ```
     /// let texts = ["a", "abc", "xyz", "abc"];
@@ -126,7 +129,8 @@ impl<'data> CodePointInversionListAndStringList<'data> {
     /// ```
     ///
     /// # Errors
-    /// `MemoryError` where memory was refused. The iterator is then dropped where it stands.
+    /// Returns `MemoryError` if an allocation fails. The iterator is then dropped with its
+    /// remaining items.
     pub fn from_iter<'text, I: Iterator<Item = &'text str> + Drop>(
         alloc: Global,
         iter: I,

@@ -1,4 +1,4 @@
-//! Sets of code points and texts, and what they can be asked.
+//! The set of code points and strings, and its queries.
 ghost use Rattle.std.specs.Prelude.{◌≡◌, ◌≤◌, ◌==◌, ◌&&◌, ℕ, List, [], ◌∷◌, length, not, IfOk, false};
 ghost use Rattle.std.specs.Result.{is_ok};
 ghost use Rattle.std.specs.Option.{option_map, IfSome};
@@ -13,11 +13,13 @@ use icu_zerovec::MemoryError;
 use std::alloc::Global;
 use std::marker::Model;
 
-/// A set of code points, surrogates among them, and of strings: what ICU calls a UnicodeSet. A
-/// string is any text but one of exactly one code point, also the empty text.
+/// A set of code points, which may include surrogates, and of strings, like ICU's UnicodeSet. A
+/// string is any text, even the empty one, that does not have exactly one code point.
 ///
-/// It lends or owns its code points, and owns its strings, which ascend by their bytes, each once.
-/// A clause sees the ends of the code points' ranges, and the bytes of the strings.
+/// It borrows or owns its code points, and owns its strings. The strings are sorted by their bytes,
+/// without duplicates.
+///
+/// In contracts, a set is the boundaries of its code points and the bytes of its strings.
 ///
 /// ```
 /// let set = CodePointInversionListAndStringList::from_iter(alloc, ["a", "abc", "xyz", "abc"].into_iter())?;
@@ -40,7 +42,7 @@ impl<'data> Model for CodePointInversionListAndStringList<'data> {
     ghost invariant = { λ a. IsStringList (texts_of a.str_list.items) };
 }
 
-/// The character of a text that is exactly one.
+/// Returns the character of a text that has exactly one.
 pub(super) fn only_char(text: &str) -> Option<char>
     ensures only { result ≡ only_char text.now }
     ensures utf8 { IsUtf8 text.now }
@@ -53,7 +55,8 @@ pub(super) fn only_char(text: &str) -> Option<char>
     }
 }
 
-/// Where a text stands among strings of a set, or where it belongs.
+/// Returns the index of a text among the strings of a set, or as `Err` the index at which it could
+/// be inserted.
 pub(super) fn find(strings: &[String], text: &str) -> Result<usize, usize>
     requires { IsStringList (texts_of strings.now) }
     ensures found { is_ok result ≡ is_among (texts_of strings.now) text.now }
@@ -62,7 +65,7 @@ pub(super) fn find(strings: &[String], text: &str) -> Result<usize, usize>
     strings.binary_search_by(|string| string.as_str().cmp(text))
 }
 
-/// Copies strings.
+/// Returns copies of the strings.
 fn copied(alloc: Global, strings: &[String]) -> Result<Vec<String>, MemoryError>
     ensures { IfOk result (λ v. texts_of v.items ≡ texts_of strings.now) }
 {
@@ -73,12 +76,12 @@ fn copied(alloc: Global, strings: &[String]) -> Result<Vec<String>, MemoryError>
     Ok(copies)
 }
 
-/// How a set is copied.
+/// Copies.
 impl<'data> CodePointInversionListAndStringList<'data> {
-    /// An equal set with code points and strings of its own.
+    /// Returns an equal set that owns its code points and strings.
     ///
     /// # Errors
-    /// `MemoryError` where memory was refused.
+    /// Returns `MemoryError` if an allocation fails.
     pub fn try_clone(
         &self,
         alloc: Global,
@@ -92,24 +95,25 @@ impl<'data> CodePointInversionListAndStringList<'data> {
     }
 }
 
-/// What a set holds. None of these calls takes memory.
+/// Queries. None of them allocates.
 impl<'data> CodePointInversionListAndStringList<'data> {
-    /// How many members the set has: its code points, surrogates among them, and its strings.
+    /// Returns the number of members of the set: its code points, including surrogates, and its
+    /// strings.
     pub fn size(&self) -> usize
         ensures { result ≡ member_count self.now }
     {
         self.cp_inv_list.size() + self.str_list.len()
     }
 
-    /// Whether the set has a string: a text of more than one code point, or the empty text.
+    /// Returns true if the set has at least one string.
     pub fn has_strings(&self) -> bool
         ensures { result ≡ not (length self.now.strings == 0) }
     {
         !self.str_list.is_empty()
     }
 
-    /// Whether the set holds the text: one of exactly one character if that is among the code
-    /// points, any other one if it is among the strings.
+    /// Returns true if the set contains the text: as a code point if it has exactly one character,
+    /// and otherwise as a string.
     pub fn contains_str(&self, text: &str) -> bool
         ensures { result ≡ member self.now text.now }
     {
@@ -119,8 +123,8 @@ impl<'data> CodePointInversionListAndStringList<'data> {
         }
     }
 
-    /// Whether the set holds the text of these bytes, as [`contains_str`](Self::contains_str) has
-    /// it. Bytes that are no UTF-8 are no text, and not held.
+    /// Returns true if `bytes` are the UTF-8 of a text that the set contains, as defined by
+    /// [`contains_str`](Self::contains_str). Returns false if they are not valid UTF-8.
     pub fn contains_utf8(&self, bytes: &[u8]) -> bool
         ensures held { result ≡ is_utf8 bytes.now && member self.now bytes.now }
         ensures text { IsUtf8 bytes.now → result ≡ member self.now bytes.now }
@@ -131,7 +135,8 @@ impl<'data> CodePointInversionListAndStringList<'data> {
         }
     }
 
-    /// Whether the set holds the code point. No number above 0x10FFFF is held.
+    /// Returns true if the set contains the code point `cp`. Returns false for any number above
+    /// 0x10FFFF.
     pub fn contains32(&self, cp: u32) -> bool
         ensures held { result ≡ holds self.now.code_points cp }
         ensures far { code_point_limit ≤ cp → result ≡ false }
@@ -139,21 +144,21 @@ impl<'data> CodePointInversionListAndStringList<'data> {
         self.cp_inv_list.contains32(cp)
     }
 
-    /// Whether the set holds the character.
+    /// Returns true if the set contains the character `ch`.
     pub fn contains(&self, ch: char) -> bool
         ensures { result ≡ holds self.now.code_points ch }
     {
         self.cp_inv_list.contains(ch)
     }
 
-    /// The code points of the set.
+    /// Returns a reference to the code points of the set.
     pub fn code_points(&self) -> &CodePointInversionList<'data>
         ensures { result.now ≡ self.now.code_points }
     {
         &self.cp_inv_list
     }
 
-    /// The strings of the set, ascending by their bytes.
+    /// Returns a reference to the strings of the set, sorted by their bytes.
     pub fn strings(&self) -> &[String]
         ensures strings { texts_of result.now ≡ self.now.strings }
         ensures valid { IsStringList self.now.strings }
