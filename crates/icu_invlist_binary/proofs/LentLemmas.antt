@@ -1,4 +1,4 @@
--- Ends that are lent in their units, by their places, and whether they are an inversion list.
+-- Boundaries in borrowed units, by their indices, and whether they are an inversion list.
 use Rattle.std.proofs.Common.{◌≡◌, ◌∙◌, ℕ, ◌+◌, ◌-◌, ◌*◌, ◌/◌, ◌%◌, ◌<◌, ◌≤◌, List, [], ◌∷◌, ◌++◌, length, get_or, refl, ap, sym, arith, zero, suc, subst, inl, inr, ◌⊎◌, ◌↔◌}
 use Rattle.std.proofs.lemmas.Bool.{cases_lt}
 use Rattle.std.proofs.lemmas.List.{get_or_append_left, get_or-append_right, length-append, length_push, get_or_at, get_or_default}
@@ -6,7 +6,7 @@ use Rattle.icu_zerovec.specs.CodePoints.{code_point_limit}
 use Rattle.icu_invlist.specs.InversionList.{IsValid}
 use Rattle.icu_invlist_binary.specs.SerializedSet.{closed, ends_of_pairs}
 
--- ---- ends of two units
+-- ---- boundaries of two units
 pub length-pairs : (us : List ℕ) → length (ends_of_pairs us) ≡ length us / 2
 length-pairs [] = refl
 length-pairs (u ∷ []) = refl
@@ -22,7 +22,7 @@ pair_at (u ∷ w ∷ us) (suc k) h =
     let b : 2 * suc k + 1 ≡ suc (suc (2 * k + 1)) = omega arith in
     rw (b, a) (pair_at us k (omega arith))
 
--- ---- ends of one unit, and behind them those of two
+-- ---- boundaries of one unit, followed by those of two
 pub length-lent : (ss ps : List ℕ) → length (ss ++ ends_of_pairs ps) ≡ length ss + length ps / 2
 length-lent ss ps = let a = length-append ss (ends_of_pairs ps) in let b = length-pairs ps in omega arith
 
@@ -38,7 +38,7 @@ pair_end ss ps i h l =
     let a = length-append ss (ends_of_pairs ps) in
     sym (get_or-append_right ss (ends_of_pairs ps) (length ss) i 0 refl l ∙ pair_at ps (i - length ss) (omega arith))
 
--- ---- ends that are closed
+-- ---- boundaries with the end of the code space appended
 pub closed_even : (xs : List ℕ) → length xs % 2 ≡ 0 → closed xs ≡ xs
 closed_even xs h = rw h refl
 
@@ -48,7 +48,7 @@ closed_odd xs h = rw h refl
 even_or_odd : (n : ℕ) → (n % 2 ≡ 0) ⊎ (n % 2 ≡ 1)
 even_or_odd n = elim (cases_lt (n % 2) 1) [ inl h ↦ inl (omega arith) | inr h ↦ inr (omega arith) ]
 
--- their ends stand where they stood
+-- The boundaries are at the same indices as before.
 closed_at : (xs : List ℕ) (k : ℕ) → k < length xs → get_or (closed xs) k 0 ≡ get_or xs k 0
 closed_at xs k h = elim (even_or_odd (length xs)) [
   | inl e ↦ rw (closed_even xs e) refl
@@ -61,8 +61,9 @@ closed_longer xs = elim (even_or_odd (length xs)) [
   | inr e ↦ rw (closed_odd xs e) (let a = length_push xs code_point_limit in omega arith)
 ]
 
--- ---- the walk of a test
--- the first i ends ascend below `next`, which is 0 or one more than the last of them
+-- ---- the loop of the test
+-- The first i boundaries are ascending and below `next`, which is 0 or one more than the last of
+-- them.
 pub record Walked (xs : List ℕ) (i next : ℕ) : Type 0 where
   pub rises : (k : ℕ) → k + 1 < i → get_or xs k 0 < get_or xs (k + 1) 0
   pub below : (k : ℕ) → k < i → get_or xs k 0 < next
@@ -99,7 +100,7 @@ walked_more xs i next e w a h l = record {
   tight = inr (i, refl, ap (λ (n : ℕ). n + 1) a);
 }
 
--- an end that is too low
+-- A boundary that is too low.
 pub walked_low : (xs : List ℕ) (i next e : ℕ) → Walked xs i next → get_or xs i 0 ≡ e → i < length xs → e < next → IsValid (closed xs) → ⊥
 walked_low xs i next e w a inside h v = elim w.tight [
   | inl z ↦ absurd (omega arith)
@@ -112,14 +113,14 @@ walked_low xs i next e w a inside h v = elim w.tight [
       omega (arith, t.2)
 ]
 
--- one that is too high
+-- A boundary that is too high.
 pub walked_high : (xs : List ℕ) (i e : ℕ) → get_or xs i 0 ≡ e → i < length xs → code_point_limit < e → IsValid (closed xs) → ⊥
 walked_high xs i e a inside h v =
     let m = closed_longer xs in
     let b = v.within i 0 (omega arith) in
     let c = closed_at xs i inside in omega arith
 
--- no end is left
+-- No boundary is left.
 valid_even : (xs : List ℕ) (next : ℕ) → Walked xs (length xs) next → length xs % 2 ≡ 0 → IsValid xs
 valid_even xs next w e = record {
   even = e;

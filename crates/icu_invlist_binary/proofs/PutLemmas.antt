@@ -1,4 +1,4 @@
--- Units that are put one after another.
+-- Writing units one after another.
 use Rattle.std.proofs.Common.{◌≡◌, ◌∙◌, ℕ, ◌+◌, ◌<◌, ◌≤◌, List, [], ◌∷◌, ◌++◌, length, get_or, slice_get, Some, take, drop, set, refl, ap, sym, arith, suc, zero, append_assoc, append-nil, length-append, subst}
 use Rattle.std.proofs.lemmas.List.{drop-drop, drop-set-lt, length-set, take_more, take_more_set, take_all, take-append-drop}
 use Rattle.std.proofs.lemmas.Grind.{flat_map-append}
@@ -18,7 +18,7 @@ put_one old at x h = record {
       length-set old at x;
 }
 
--- units behind others
+-- Units after others.
 pub put_more : (old middle new us vs : List ℕ) (at next : ℕ) → IsPut old at us middle → next ≡ at + length us → IsPut middle next vs new
     → IsPut old at (us ++ vs) new
 put_more old middle new us vs at next p n q =
@@ -47,7 +47,7 @@ units_more xs more i x h e u =
     ∙ (ap (λ (ys : List ℕ). units_of_ends (take i xs) ++ ys) (append-nil (units_of_end x))
     ∙ ap (λ (ys : List ℕ). units_of_ends (take i xs) ++ ys) u))
 
--- the units of the first i ends are put, and `next` is the place behind them
+-- The units of the first i boundaries are written, and `next` is the index after them.
 pub record PutUpTo (old xs : List ℕ) (at i next : ℕ) (new : List ℕ) : Type 0 where
   pub place : next ≡ at + length (units_of_ends (take i xs))
   pub put : IsPut old at (units_of_ends (take i xs)) new
@@ -68,7 +68,7 @@ up_to_more old xs middle new more at i next x p h e u q =
           (put_more old middle new (units_of_ends (take i xs)) more at next p.put p.place q);
     }
 
--- there is room for the units of the next end
+-- The slice is long enough for the units of the next boundary.
 pub room : (old xs new more : List ℕ) (at i next x : ℕ) → PutUpTo old xs at i next new → i < length xs → slice_get xs i ≡ Some x
     → units_of_end x ≡ more → at + length (units_of_ends xs) ≤ length old
     → next + length more ≤ length new
@@ -82,7 +82,7 @@ pub up_to_all : (old xs new : List ℕ) (at i next : ℕ) → length xs ≤ i �
 up_to_all old xs new at i next h p = subst (λ (ys : List ℕ). IsPut old at (units_of_ends ys) new) (take_all i xs h) p.put
 
 -- ---- the whole set
--- its head, and the units of its ends behind it
+-- Its first units, followed by the units of its boundaries.
 pub set_put : (ends old middle new : List ℕ) (u s at : ℕ) → u ≡ length (units_of_ends ends) → s ≡ count_of_singles ends
     → at ≡ length (head_units u s) → IsPut old 0 (head_units u s) middle
     → IsPut middle at (units_of_ends ends) new → IsPut old 0 (units_of ends) new
@@ -97,13 +97,13 @@ length_of_set ends u s e f =
     let a = length-append (head_units (length (units_of_ends ends)) (count_of_singles ends)) (units_of_ends ends) in
     rw (e, f) (sym a)
 
--- a slice of its length is the set
+-- A slice of exactly its length is the set.
 pub all_put : (old us new : List ℕ) → IsPut old 0 us new → length old ≡ length us → new ≡ us
 all_put old us new p h =
     let a = p.same_length in
     sym (take_all (0 + length us) new (omega arith)) ∙ p.front
 
--- a longer one keeps its rest
+-- The rest of a longer slice is unchanged.
 pub part_put : (old us new : List ℕ) (n : ℕ) → IsPut old 0 us new → n ≡ length us → new ≡ us ++ drop n old
 part_put old us new n p h =
     let e : n ≡ 0 + length us = omega arith in

@@ -1,4 +1,4 @@
--- What is written of a set is read as that set.
+-- A set that is written is read back unchanged.
 use Rattle.std.proofs.Common.{◌≡◌, ◌∙◌, ℕ, ◌+◌, ◌-◌, ◌*◌, ◌/◌, ◌%◌, ◌<◌, ◌≤◌, List, [], ◌∷◌, ◌++◌, length, get_or, take, drop, refl, ap, sym, arith, suc, subst, inl, inr, ◌⊎◌, Ok, length-append}
 use Rattle.std.proofs.lemmas.Bool.{cases_lt, lt-ltb, le-ltb, le-leb, lt-leb, cond-true, cond-false}
 use Rattle.std.proofs.lemmas.List.{take_all}
@@ -10,7 +10,7 @@ use Rattle.icu_invlist.specs.InversionList.{IsValid}
 use Rattle.icu_invlist_binary.specs.SerializedSet.{HasForm, IsSerialized, closed, count_of_singles, ends_in, ends_of_pairs, ends_of_units, head_units, serialized_length, singles_length, units_of, units_of_ends, units_of_ends_in}
 use Rattle.icu_invlist_binary.proofs.UnitLemmas.{units_of_single, units_of_pair, units_of_limit}
 
--- ---- ends that ascend from lo on, none of them above the limit
+-- ---- boundaries that are ascending from lo on, none of them above the limit
 abbrev Rising : ℕ → List ℕ → Type 0
 Rising lo [] = Unit {0}
 Rising lo (e ∷ ends) = (lo ≤ e) × (e ≤ code_point_limit) × Rising (suc e) ends
@@ -31,7 +31,7 @@ rising_from lo (x ∷ xs) up low high = (
 rising : (xs : List ℕ) → IsValid xs → Rising 0 xs
 rising xs v = rising_from 0 xs v.ascending (λ h. omega arith) (λ k h. v.within k 0 h)
 
--- ---- the ends that are written
+-- ---- the boundaries that are written
 abbrev written : List ℕ → List ℕ
 written ends = filter (λ e. nat_lt e code_point_limit) ends
 
@@ -45,7 +45,7 @@ none_past : (lo : ℕ) (ends : List ℕ) → code_point_limit < lo → Rising lo
 none_past lo [] h r = refl
 none_past lo (e ∷ ends) h r = absurd (omega (arith, r.0, r.1))
 
--- they are all ends, or all but the end of the code space
+-- They are all boundaries, or all except the end of the code space.
 written_cases : (lo : ℕ) (ends : List ℕ) → Rising lo ends → (written ends ≡ ends) ⊎ (written ends ++ code_point_limit ∷ [] ≡ ends)
 written_cases lo [] r = inl refl
 written_cases lo (e ∷ ends) r = elim (cases_lt e code_point_limit) [
@@ -108,7 +108,7 @@ pairs_even (e ∷ ends) p = let b = pairs_even ends p.1 in elim (cases_lt e code
       ap (λ (us : List ℕ). length (us ++ units_of_ends ends)) (units_of_limit e h) in omega arith
 ]
 
--- the units of ends, of which so many are an end each, give the ends back
+-- The units of boundaries, some of one unit each, are read as these boundaries.
 record Split (ends units : List ℕ) (n : ℕ) : Type 0 where
   fits : n ≤ length units
   even : (length units - n) % 2 ≡ 0
@@ -140,8 +140,8 @@ split_units lo (e ∷ ends) r = elim (cases_lt e 0x10000) [
       subst (λ (n : ℕ). Split (e ∷ ends) (units_of_ends (e ∷ ends)) n) (sym (no_singles (e ∷ ends) p)) (split_pairs (e ∷ ends) p)
 ]
 
--- ---- the head
--- these units say these units of ends, of which so many are an end each
+-- ---- the first units
+-- The units start with the right counts for these units of boundaries.
 record Says (units body : List ℕ) (n : ℕ) : Type 0 where
   ends : units_of_ends_in units ≡ Ok body
   singles : singles_length units ≡ n

@@ -30,6 +30,6 @@ told u Invalid (inr k) h = cc
 told u Memory (inl k) h = cc
 told u Memory (inr k) h = cc
 
--- no other fault comes of them
+-- They cause no other fault.
 pub refused_counts : (u : List ℕ) (e : SerializedSetError) → ends_in u ≡ Err e → IsWhyNotRead u e
 refused_counts u e h = told u e (head_fault u e h) h

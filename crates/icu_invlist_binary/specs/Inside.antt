@@ -1,3 +1,3 @@
--- Words for the contracts of private functions. No public contract needs them.
+-- Definitions for the contracts of private functions. No public contract uses them.
 pub mod LentEnds
 pub mod Target

@@ -1,4 +1,4 @@
-//! Why a set has no serialized form, and why units are none.
+//! Errors of writing and reading the serialized form.
 ghost use Rattle.std.specs.Prelude.{◌≡◌};
 ghost use Rattle.icu_invlist_binary.specs.declared.error.SerializeError.TheVariants.{Memory};
 ghost use Rattle.icu_invlist_binary.specs.declared.error.SerializedSetError.TheVariants.{Memory as ReadMemory};
@@ -7,13 +7,13 @@ use icu_zerovec::MemoryError;
 use std::alloc::AllocError;
 use thiserror::Error;
 
-/// Why no set was serialized.
+/// The error of [`to_serialized`](crate::serialized::to_serialized).
 #[derive(Clone, Copy, Debug, PartialEq, Eq, Error)]
 pub enum SerializeError {
-    /// The ends take more than 0x7FFF units (U_INDEX_OUTOFBOUNDS_ERROR).
+    /// The boundaries take more than 0x7FFF units (ICU: `U_INDEX_OUTOFBOUNDS_ERROR`).
     #[error("the set has too many ends")]
     TooLong,
-    /// Memory was refused.
+    /// An allocation failed.
     #[error("no memory")]
     Memory,
 }
@@ -26,30 +26,33 @@ impl From<AllocError> for SerializeError {
     }
 }
 
-/// Why no set was written into a slice. Where there are both causes, the first is told.
+/// The error of [`write_serialized`](crate::serialized::write_serialized). If both variants apply,
+/// the first is returned.
 #[derive(Clone, Copy, Debug, PartialEq, Eq, Error)]
 pub enum WriteError {
-    /// The ends take more than 0x7FFF units (U_INDEX_OUTOFBOUNDS_ERROR).
+    /// The boundaries take more than 0x7FFF units (ICU: `U_INDEX_OUTOFBOUNDS_ERROR`).
     #[error("the set has too many ends")]
     TooLong,
-    /// The slice has fewer units than the set takes (U_BUFFER_OVERFLOW_ERROR).
+    /// The slice is shorter than the serialized form (ICU: `U_BUFFER_OVERFLOW_ERROR`).
     #[error("the slice is too short")]
     Short,
 }
 
-/// Why no set was read of its units. Where there are several causes, the first of these is told.
+/// The error of [`from_serialized`](crate::serialized::from_serialized). If several variants apply,
+/// the first is returned.
 #[derive(Clone, Copy, Debug, PartialEq, Eq, Error)]
 pub enum SerializedSetError {
-    /// There is no unit, or there are fewer than the first one says.
+    /// There is no unit, or there are fewer units than the first one says.
     #[error("the set is cut off")]
     Short,
-    /// There are fewer units of ends than ends of one unit, or those that are left are no pairs.
+    /// There are fewer units of boundaries than boundaries of one unit, or an odd number of units
+    /// is left for boundaries of two units.
     #[error("the counts of the ends do not fit")]
     Count,
-    /// The ends do not ascend, or one is above 0x110000.
+    /// The boundaries are not strictly ascending, or one is above 0x110000.
     #[error("the ends are no set")]
     Invalid,
-    /// Memory was refused.
+    /// An allocation failed.
     #[error("no memory")]
     Memory,
 }

@@ -1,4 +1,4 @@
-//! The ends that units have, read in place.
+//! The boundaries in serialized units, read in place.
 ghost use Rattle.std.specs.Prelude.{◌≡◌, ◌<◌, ◌≤◌, ◌^◌, ◌↔◌, IsTrue, length, slice_index, Ok, Err, IfOk, MatchResult};
 ghost use Rattle.icu_invlist.specs.InversionList.{IsValid};
 ghost use Rattle.icu_invlist_binary.specs.SerializedSet.{closed, ends_in, ends_length, head_length, serialized_length, singles_length, units_of_ends_in};
@@ -8,7 +8,7 @@ use crate::error::SerializedSetError;
 use icu_zerovec::{CODE_POINT_LIMIT, MemoryError};
 use std::alloc::Global;
 
-/// The unit at place `i`, and 0 where there is none.
+/// Returns the unit at index `i`, or 0 if there is none.
 fn unit_at(units: &[u16], i: usize) -> usize
     ensures { result ≡ slice_index units.now i }
 {
@@ -18,21 +18,21 @@ fn unit_at(units: &[u16], i: usize) -> usize
     }
 }
 
-/// How many units stand before those of the ends.
+/// Returns the number of units before the units of the boundaries.
 fn head_length(units: &[u16]) -> usize
     ensures { result ≡ head_length units.now }
 {
     if unit_at(units, 0) >= 0x8000 { 2 } else { 1 }
 }
 
-/// How many units the ends take.
+/// Returns the number of units that the boundaries take.
 fn ends_length(units: &[u16]) -> usize
     ensures { result ≡ ends_length units.now }
 {
     unit_at(units, 0) % 0x8000
 }
 
-/// How many ends take one unit.
+/// Returns the number of boundaries that take one unit.
 fn singles_length(units: &[u16]) -> usize
     ensures { result ≡ singles_length units.now }
 {
@@ -43,14 +43,14 @@ fn singles_length(units: &[u16]) -> usize
     }
 }
 
-/// How many units the whole set takes.
+/// Returns the number of units that the whole set takes.
 pub(crate) fn serialized_length(units: &[u16]) -> usize
     ensures { result ≡ serialized_length units.now }
 {
     head_length(units) + ends_length(units)
 }
 
-/// The units of the ends.
+/// Returns the units of the boundaries.
 fn units_of_ends(units: &[u16]) -> Result<&[u16], SerializedSetError>
     ensures { MatchResult result (λ s. units_of_ends_in units.now ≡ Ok s.now)
         (λ e. units_of_ends_in units.now ≡ Err e) }
@@ -63,14 +63,14 @@ fn units_of_ends(units: &[u16]) -> Result<&[u16], SerializedSetError>
     Ok(&ends[..ends_length(units)])
 }
 
-/// The ends of a set in their units: those of one unit each, and those of two.
+/// The boundaries of a set in serialized units: those of one unit, and those of two.
 #[derive(Clone, Copy, Debug)]
 pub(crate) struct LentEnds<'a> {
     pub(crate) singles: &'a [u16],
     pub(crate) pairs: &'a [u16],
 }
 
-/// The ends that the units have.
+/// Returns the boundaries in the units.
 #[tactic(auto, unfolding(crate::specs::SerializedSet::ends_in))]
 pub(crate) fn lent_ends(units: &[u16]) -> Result<LentEnds<'_>, SerializedSetError>
     ensures says { MatchResult result (λ s. ends_in units.now ≡ Ok (closed (ends_lent s)))
@@ -89,7 +89,7 @@ pub(crate) fn lent_ends(units: &[u16]) -> Result<LentEnds<'_>, SerializedSetErro
 }
 
 impl<'a> LentEnds<'a> {
-    /// How many ends there are.
+    /// Returns the number of boundaries.
     fn count(&self) -> usize
         ensures count { result ≡ length (ends_lent self.now) }
         ensures bound { result < 2 ^ 63 }
@@ -97,7 +97,7 @@ impl<'a> LentEnds<'a> {
         self.singles.len() + self.pairs.len() / 2
     }
 
-    /// The end at place `i`, counted from 0.
+    /// Returns the boundary at index `i`, counted from 0.
     fn end_at(&self, i: usize) -> u32
         requires { i < length (ends_lent self.now) }
         ensures { result ≡ slice_index (ends_lent self.now) i }
@@ -110,7 +110,8 @@ impl<'a> LentEnds<'a> {
         u32::from(self.pairs[pair]) * 0x1_0000 + u32::from(self.pairs[pair + 1])
     }
 
-    /// Whether they are an inversion list, with 0x110000 after an odd number of them.
+    /// Returns true if the boundaries are an inversion list, with 0x110000 appended if their number
+    /// is odd.
     pub(crate) fn is_valid(&self) -> bool
         ensures { IsTrue result ↔ IsValid (closed (ends_lent self.now)) }
     {
@@ -126,7 +127,7 @@ impl<'a> LentEnds<'a> {
         count % 2 == 0 || next <= CODE_POINT_LIMIT
     }
 
-    /// The ends, copied, with 0x110000 after an odd number of them.
+    /// Returns a copy of the boundaries, with 0x110000 appended if their number is odd.
     pub(crate) fn copied(&self, alloc: Global) -> Result<Vec<u32>, MemoryError>
         ensures { IfOk result (λ v. v.items ≡ closed (ends_lent self.now)) }
     {

@@ -1,4 +1,4 @@
-//! Units written into a caller's slice.
+//! Writing units into a caller's slice.
 ghost use Rattle.std.specs.Prelude.{◌≡◌, ◌+◌, ◌<◌, ◌≤◌, [], ◌∷◌, length};
 ghost use Rattle.icu_zerovec.specs.Slice.{slice_values};
 ghost use Rattle.icu_invlist_binary.specs.SerializedSet.{units_of_ends};
@@ -6,7 +6,7 @@ ghost use Rattle.icu_invlist_binary.specs.Inside.Target.{IsPut};
 
 use icu_zerovec::{CODE_POINT_LIMIT, PotentialCodePoint, ZeroSlice};
 
-/// Puts the unit at place `at`, and answers the place behind it.
+/// Writes the unit at index `at`, and returns the index after it.
 pub(crate) fn put_unit(target: &mut [u16], at: usize, unit: u16) -> usize
     requires { at < length target.old }
     ensures place { result ≡ at + 1 }
@@ -16,7 +16,7 @@ pub(crate) fn put_unit(target: &mut [u16], at: usize, unit: u16) -> usize
     at + 1
 }
 
-/// Puts the units of the ends at place `at`. There is room for them.
+/// Writes the units of the boundaries from index `at` on. `target` must be long enough.
 pub(crate) fn put_ends(target: &mut [u16], at: usize, ends: ZeroSlice<'_, PotentialCodePoint>)
     requires { at + length (units_of_ends (slice_values ends)) ≤ length target.old }
     ensures { IsPut target.old at (units_of_ends (slice_values ends.entry)) target.new }

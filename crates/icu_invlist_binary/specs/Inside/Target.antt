@@ -1,7 +1,7 @@
--- What is put into a caller's slice.
+-- Units written into a caller's slice.
 use Rattle.std.specs.Prelude.{◌≡◌, ℕ, ◌+◌, List, ◌++◌, length, take, drop}
 
--- these units stand in the new list from place `at` on; before and after them it is the old one
+-- The new list has these units from index `at` on, and is the old list before and after them.
 pub record IsPut (old : List ℕ) (at : ℕ) (units new : List ℕ) : Type 0 where
   pub front : take (at + length units) new ≡ take at old ++ units
   pub back : drop (at + length units) new ≡ drop (at + length units) old
