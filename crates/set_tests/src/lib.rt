@@ -1,4 +1,4 @@
-//! Tests of sets of code points, and of code points and texts, by their public calls.
+//! Tests of sets of code points, and of code points and strings, through their public functions.
 #![tactic(auto)]
 
 #[cfg(test)]

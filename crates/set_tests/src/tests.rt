@@ -1,7 +1,9 @@
-//! What no clause says of sets: examples from outside, printed texts, that calls succeed, refused
-//! memory. An assertion stands only in a helper that takes what it compares by value, since each
-//! assertion is checked once for every value that is still to be dropped there; and a call that
-//! several tests make stands in one helper, since its contract is read wherever it stands.
+//! Tests of what contracts do not state: examples from other sources, printed texts, that functions
+//! succeed, and failed allocations.
+//!
+//! An assertion is in a helper that takes the compared values by value, because each assertion is
+//! checked once for every value in scope that still has to be dropped. A function that several
+//! tests call is called in one helper, because its contract is read at every call.
 mod code_points;
 mod frozen;
 mod points;
@@ -11,24 +13,24 @@ use std::fmt::{Debug, Display};
 use std::hash::{DefaultHasher, Hash, Hasher};
 use std::process::Abort;
 
-/// What is said holds.
+/// Panics if `holds` is false.
 fn expect(rt: &impl Abort, holds: bool, what: &'static str) {
     if !holds {
         rt.panic(what);
     }
 }
 
-/// What was found is what is wanted.
+/// Expects `found` to equal `want`.
 fn expect_same<T: Copy + Debug + PartialEq>(rt: &impl Abort, found: T, want: T, what: &str) {
     assert_eq!(rt; found, want, "{what}");
 }
 
-/// The text is the wanted one.
+/// Expects the text to be `want`.
 fn expect_text(rt: &impl Abort, text: String, want: &str) {
     expect_same(rt, text.as_str(), want, "the text");
 }
 
-/// What is shown has this text, for which there has to be memory.
+/// Expects `Display` to print `want`. Panics if an allocation fails.
 fn expect_told<T: Display>(rt: &(impl Abort + AllocGlobal), shown: &T, want: &str) {
     match shown.to_string(rt.alloc()) {
         Ok(text) => expect_text(rt, text, want),
@@ -36,7 +38,7 @@ fn expect_told<T: Display>(rt: &(impl Abort + AllocGlobal), shown: &T, want: &st
     }
 }
 
-/// The hash of a value by the standard hasher.
+/// Returns the hash of a value by the standard hasher.
 fn hash_of<T: Hash>(x: &T) -> u64 {
     let mut state = DefaultHasher::new();
     x.hash(&mut state);
@@ -50,7 +52,7 @@ fn say(rt: &(impl Abort + Print), line: &str) {
     }
 }
 
-/// Says that a call is over, and whether it was refused.
+/// Prints that a call is done, and whether an allocation failed in it.
 fn tell(rt: &(impl Abort + Print), refused: bool) {
     say(rt, "done");
     if refused {

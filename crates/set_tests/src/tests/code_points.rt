@@ -1,5 +1,5 @@
-//! What no clause says: texts, that calls succeed, want of memory. Wanted values are those of ICU's
-//! UnicodeSet and of the Rust crate, or worked out by hand.
+//! Tests of what contracts do not state: texts, that functions succeed, and failed allocations.
+//! Expected values are those of ICU's UnicodeSet and of the Rust crate, or computed by hand.
 mod builder;
 mod changes;
 mod errors;

@@ -1,4 +1,4 @@
-//! Frozen sets: that they are made, and answer as the set does; want of memory.
+//! Frozen sets: that they are made and return what the set returns, and failed allocations.
 use super::points::{expect_listed, set_of};
 use super::{expect, expect_same, say, tell};
 use icu_frozen_sets::frozen::{FrozenCodePointSet, FrozenTables};
@@ -7,23 +7,24 @@ use icu_invlist::codepointinvlist::CodePointInversionList;
 use std::alloc::Global;
 use std::process::Abort;
 
-/// The letters of ASCII.
+/// The ASCII letters.
 const LETTERS: [u32; 4] = [0x41, 0x5B, 0x61, 0x7B];
 
-/// The set, frozen. `None` where memory was refused.
+/// Freezes the set. Returns `None` if an allocation fails.
 fn frozen(alloc: Global, set: &CodePointInversionList<'_>) -> Option<FrozenCodePointSet> {
     FrozenCodePointSet::freeze(alloc, set).ok()
 }
 
-/// The set of these ends, frozen. `None` where memory was refused.
+/// Freezes the set with these boundaries. Returns `None` if an allocation fails.
 fn frozen_of(alloc: Global, ends: &[u32]) -> Option<FrozenCodePointSet> {
     frozen(alloc, &set_of(alloc, ends)?)
 }
 
-/// A text, and how far it lies in a set and beside it, by the front and by the tail.
+/// A text, and the results of `span` for in the set and outside it, and of `span_back` for the
+/// same.
 type TextSpans = (&'static str, [usize; 4]);
 
-/// Sets by their ends, and texts.
+/// Sets by their boundaries, and texts.
 static SPANS: [(&[u32], &[TextSpans]); 4] = [
     (
         &[0xE9, 0xEA],
@@ -37,7 +38,7 @@ static SPANS: [(&[u32], &[TextSpans]); 4] = [
         &[0x41, 0x44, 0x46, 0x4B],
         &[("XYZABFH", [0, 3, 3, 7]), ("ABCXYZ", [3, 0, 6, 3])],
     ),
-    // The letters of ASCII and the block of Han.
+    // The ASCII letters and a block of Han.
     (
         &[0x41, 0x5B, 0x61, 0x7B, 0x4E00, 0xA000],
         &[
@@ -49,8 +50,7 @@ static SPANS: [(&[u32], &[TextSpans]); 4] = [
             ("é𠀀 ", [0, 7, 7, 0]),
         ],
     ),
-    // Code points on both sides of where a character takes a byte more, and of where its lead byte
-    // is another one.
+    // Code points around those at which a character takes one more byte, or has another lead byte.
     (
         &[0x7F, 0x81, 0xBF, 0xC1, 0x7BF, 0x7C1, 0x7FF, 0x801],
         &[
@@ -66,7 +66,7 @@ static SPANS: [(&[u32], &[TextSpans]); 4] = [
     ),
 ];
 
-/// The texts lie so far in the set.
+/// Expects these spans for the set.
 fn expect_in_set(rt: &impl Abort, set: &CodePointInversionList<'_>, rows: &[TextSpans]) {
     for (text, want) in rows {
         let found = [
@@ -79,7 +79,7 @@ fn expect_in_set(rt: &impl Abort, set: &CodePointInversionList<'_>, rows: &[Text
     }
 }
 
-/// The texts lie so far in the frozen set.
+/// Expects these spans for the frozen set.
 fn expect_in_frozen(rt: &impl Abort, frozen: &FrozenCodePointSet, rows: &[TextSpans]) {
     for (text, want) in rows {
         let found = [
@@ -107,13 +107,13 @@ fn spans_quiet(rt: HostRuntime) {
     }
 }
 
-/// The next span: its text, and whether it is held.
+/// Returns the next span: its text, and whether it is in the set.
 fn next_span<'t>(spans: &mut Spans<'_, 't>) -> Option<(&'t str, bool)> {
     let span = spans.next()?;
     Some((span.text, span.is_held))
 }
 
-/// The spans that are left are these, and no more.
+/// Expects exactly these spans to be left.
 fn expect_spans(rt: &impl Abort, mut spans: Spans<'_, '_>, want: &[(&str, bool)], text: &str) {
     for piece in want {
         expect_same(rt, next_span(&mut spans), Some(*piece), text);
@@ -121,11 +121,11 @@ fn expect_spans(rt: &impl Abort, mut spans: Spans<'_, '_>, want: &[(&str, bool)]
     expect_same(rt, next_span(&mut spans), None, text);
 }
 
-/// A text, and its spans, each with whether it is held.
+/// A text and its spans, each with whether it is in the set.
 type TextPieces = (&'static str, &'static [(&'static str, bool)]);
 
-/// Texts, and their spans by the block of Han, by U+D7FF to U+E000, between which there are
-/// surrogates alone, and by U+FFFF and U+10000: characters of one to four bytes.
+/// Texts and their spans. The set has a block of Han, U+D7FF to U+E000 (all but the first and the
+/// last are surrogates), and U+FFFF and U+10000. So there are characters of one to four bytes.
 static PIECES: [TextPieces; 7] = [
     ("", &[]),
     ("漢字", &[("漢字", true)]),
@@ -163,7 +163,7 @@ fn pieces_quiet(rt: HostRuntime) {
     say(&rt, "done");
 }
 
-/// How far bytes lie in the letters of ASCII, and how far in what is no such letter: an ill-formed
+/// Bytes, and the lengths of their spans inside and outside the ASCII letters. An ill-formed
 /// sequence ends both.
 static BYTES: [(&[u8], [usize; 2]); 10] = [
     (b"", [0, 0]),
@@ -178,7 +178,7 @@ static BYTES: [(&[u8], [usize; 2]); 10] = [
     (b"\xC0\x80", [0, 0]),
 ];
 
-/// Bytes, code points, and ranges in the letters of ASCII, one of which names no character.
+/// Queries of the ASCII letters with bytes, code points and ranges, one of which is empty.
 ///
 /// Calls: `FrozenCodePointSet::span_utf8`, `FrozenCodePointSet::contains_range`,
 /// `FrozenCodePointSet::contains`, `FrozenCodePointSet::contains32`, `FrozenCodePointSet::as_set`.
@@ -214,7 +214,8 @@ fn frozen_calls_quiet(rt: HostRuntime) {
     expect_same(&rt, size, 52, "size");
 }
 
-/// The call is over: the set answers as it has to, where it was frozen.
+/// Prints that the call is done. Expects the frozen set, if it was made, to return the right
+/// results.
 fn expect_frozen(rt: &(impl Abort + Print), made: Option<FrozenCodePointSet>) {
     tell(rt, made.is_none());
     if let Some(frozen) = made {
@@ -223,7 +224,7 @@ fn expect_frozen(rt: &(impl Abort + Print), made: Option<FrozenCodePointSet>) {
     }
 }
 
-/// The set that was lent is as it was.
+/// The set that was frozen is unchanged.
 ///
 /// Calls: `FrozenCodePointSet::freeze`.
 #[test]
@@ -249,7 +250,7 @@ fn try_clone_of_frozen_refused(rt: HostRuntime) {
     expect(&rt, frozen.contains('A'), "the set that was lent");
 }
 
-/// Whether all blocks have their words at this place.
+/// Returns true if all entries of the index equal `place`.
 fn are_all(index: &[u16], place: u16) -> bool {
     for found in index {
         if *found != place {
@@ -259,8 +260,8 @@ fn are_all(index: &[u16], place: u16) -> bool {
     true
 }
 
-/// The letters are bits 1 to 26 of each half of the second word of the first block, and all blocks
-/// behind it hold nothing.
+/// The letters are bits 1 to 26 of both halves of the second word of the first block. All later
+/// blocks are empty.
 ///
 /// Calls: `FrozenCodePointSet::tables`.
 #[test]

@@ -1,5 +1,5 @@
-//! Sets of code points: how tests make them, and what they ask them. A call of the library that
-//! several tests make stands here alone.
+//! How tests make and query sets of code points. A function of the library that several tests call
+//! is called only here.
 use super::expect_same;
 use icu_invlist::codepointinvlist::{CodePointInversionList, RangeOf, SetError, TryRangeError};
 use icu_zerovec::{PotentialCodePoint, ZeroVec};
@@ -7,7 +7,7 @@ use std::alloc::Global;
 use std::ops::RangeInclusive;
 use std::process::Abort;
 
-/// The set with these ends, or why they are none of a set.
+/// Returns the set with these boundaries, or the error.
 pub fn set_or_fault(
     alloc: Global,
     ends: &[u32],
@@ -15,12 +15,12 @@ pub fn set_or_fault(
     CodePointInversionList::try_from_u32_inversion_list_slice(alloc, ends)
 }
 
-/// The set with these ends, which have to be valid. `None` where memory was refused.
+/// Returns the set with these boundaries, which must be valid, or `None` if an allocation fails.
 pub fn set_of(alloc: Global, ends: &[u32]) -> Option<CodePointInversionList<'static>> {
     set_or_fault(alloc, ends).ok()
 }
 
-/// The set with these ends, for which there has to be memory.
+/// Returns the set with these boundaries. Panics if an allocation fails.
 pub fn made_set(rt: &(impl Abort + AllocGlobal), ends: &[u32]) -> CodePointInversionList<'static> {
     match set_of(rt.alloc(), ends) {
         Some(set) => set,
@@ -28,17 +28,17 @@ pub fn made_set(rt: &(impl Abort + AllocGlobal), ends: &[u32]) -> CodePointInver
     }
 }
 
-/// All code points.
+/// Returns the set of all code points.
 pub fn all() -> CodePointInversionList<'static> {
     CodePointInversionList::all()
 }
 
-/// The code points of the basic plane.
+/// Returns the set of the code points of the Basic Multilingual Plane.
 pub fn basic() -> CodePointInversionList<'static> {
     CodePointInversionList::bmp()
 }
 
-/// The set of a range of characters, or why it is none.
+/// Returns the set of a range of characters, or the error.
 pub fn set_of_range<R: RangeOf<char>>(
     alloc: Global,
     range: R,
@@ -46,7 +46,7 @@ pub fn set_of_range<R: RangeOf<char>>(
     CodePointInversionList::try_from(alloc, range)
 }
 
-/// The list that borrows these bytes.
+/// Returns the list that borrows these bytes.
 pub fn list_of<'a>(rt: &impl Abort, bytes: &'a [u8]) -> ZeroVec<'a, PotentialCodePoint> {
     match ZeroVec::<PotentialCodePoint>::parse_bytes(bytes) {
         Ok(list) => list,
@@ -54,7 +54,7 @@ pub fn list_of<'a>(rt: &impl Abort, bytes: &'a [u8]) -> ZeroVec<'a, PotentialCod
     }
 }
 
-/// The set over this list, or why it is none.
+/// Returns the set with this list, or the error.
 pub fn set_over<'a>(
     alloc: Global,
     list: ZeroVec<'a, PotentialCodePoint>,
@@ -62,17 +62,17 @@ pub fn set_over<'a>(
     CodePointInversionList::try_from_inversion_list(alloc, list)
 }
 
-/// The ends of the set. `None` where memory was refused.
+/// Returns the boundaries of the set, or `None` if an allocation fails.
 pub fn list_of_ends(alloc: Global, set: &CodePointInversionList<'_>) -> Option<Vec<u32>> {
     set.get_inversion_list_vec(alloc).ok()
 }
 
-/// The ends are the wanted ones.
+/// Expects the boundaries to be `want`.
 pub fn expect_ends(rt: &impl Abort, ends: Vec<u32>, want: &[u32]) {
     expect_same(rt, ends.as_slice(), want, "the ends");
 }
 
-/// The set, which has to be there, has these ends, for whose list there has to be memory.
+/// Expects a set with these boundaries. Panics if there is no set or an allocation fails.
 pub fn expect_set(
     rt: &(impl Abort + AllocGlobal),
     set: Option<CodePointInversionList<'_>>,
@@ -87,7 +87,7 @@ pub fn expect_set(
     }
 }
 
-/// The set has these ends, where there is memory to list them.
+/// Expects the set to have these boundaries. Checks nothing if an allocation fails.
 pub fn expect_listed(
     rt: &(impl Abort + AllocGlobal),
     set: &CodePointInversionList<'_>,
@@ -98,12 +98,12 @@ pub fn expect_listed(
     }
 }
 
-/// How many numbers the set holds, and how many ranges it has.
+/// Returns the number of code points and the number of ranges.
 pub fn counts_of(set: &CodePointInversionList<'_>) -> [usize; 2] {
     [set.size(), set.get_range_count()]
 }
 
-/// The first and the last number of a range.
+/// Returns the first and the last number of a range.
 pub fn ends_of(range: Option<RangeInclusive<u32>>) -> Option<(u32, u32)> {
     let range = range?;
     Some((*range.start(), *range.end()))

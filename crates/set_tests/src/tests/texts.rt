@@ -1,5 +1,5 @@
-//! What no clause says: texts, that calls succeed, want of memory. Wanted values are those of the
-//! Rust crate and of its documentation, or worked out by hand.
+//! Tests of what contracts do not state: texts, that functions succeed, and failed allocations.
+//! Expected values are those of the Rust crate and its documentation, or computed by hand.
 mod frozen;
 mod json;
 mod memory;
@@ -16,7 +16,7 @@ use std::alloc::Global;
 use std::fmt::Display;
 use std::process::Abort;
 
-/// The strings of these texts, in their order.
+/// Returns these texts as strings, in order.
 fn strings_of(alloc: Global, texts: &[&str]) -> Result<Vec<String>, MemoryError> {
     let mut strings = Vec::with_capacity(alloc, texts.len())?;
     for text in texts {
@@ -25,7 +25,7 @@ fn strings_of(alloc: Global, texts: &[&str]) -> Result<Vec<String>, MemoryError>
     Ok(strings)
 }
 
-/// The set of these code points and strings, or why it is none.
+/// Returns the set of these code points and strings, or the error.
 fn set_or_fault(
     points: CodePointInversionList<'static>,
     strings: Vec<String>,
@@ -33,7 +33,7 @@ fn set_or_fault(
     CodePointInversionListAndStringList::try_from(points, strings)
 }
 
-/// The set of these code points and texts. `None` where memory was refused.
+/// Returns the set of these code points and texts, or `None` if an allocation fails.
 fn set_of_both(
     alloc: Global,
     points: CodePointInversionList<'static>,
@@ -42,17 +42,17 @@ fn set_of_both(
     set_or_fault(points, strings_of(alloc, texts).ok()?).ok()
 }
 
-/// The set of all code points and "ab", where there is memory for it.
+/// Returns the set of all code points and "ab", or `None` if an allocation fails.
 fn all_and_ab(alloc: Global) -> Option<CodePointInversionListAndStringList<'static>> {
     set_of_both(alloc, all(), &["ab"])
 }
 
-/// The set of these texts, in any order. `None` where memory was refused.
+/// Returns the set of these texts, in any order, or `None` if an allocation fails.
 fn gathered(alloc: Global, texts: &[&str]) -> Option<CodePointInversionListAndStringList<'static>> {
     CodePointInversionListAndStringList::from_iter(alloc, texts.iter().copied()).ok()
 }
 
-/// Whether the two sets are equal.
+/// Returns true if the two sets are equal.
 fn are_equal(
     a: &CodePointInversionListAndStringList<'_>,
     b: &CodePointInversionListAndStringList<'_>,
@@ -60,12 +60,12 @@ fn are_equal(
     *a == *b
 }
 
-/// How many members the set has, how many of them code points, and how many strings.
+/// Returns the number of members, of code points and of strings.
 fn counts_of(set: &CodePointInversionListAndStringList<'_>) -> [usize; 3] {
     [set.size(), set.code_points().size(), set.strings().len()]
 }
 
-/// What is printed of a refusal.
+/// Expects an error that prints `want`.
 fn expect_said<E: Display + Drop>(rt: &(impl Abort + AllocGlobal), refusal: Option<E>, want: &str) {
     match refusal {
         Some(error) => expect_told(rt, &error, want),

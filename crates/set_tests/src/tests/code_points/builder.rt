@@ -1,4 +1,4 @@
-//! What the builder's calls leave, by the examples of UnicodeSet and of the Rust crate.
+//! The builder's methods, with the examples of UnicodeSet and of the Rust crate.
 use super::changes::{
     Addition, Change, Keeping, Removal, Turn, builder_of, copy_of_builder, set_built,
 };
@@ -7,12 +7,12 @@ use crate::tests::expect;
 use crate::tests::points::expect_set;
 use icu_invlist::codepointinvlist::CodePointInversionListBuilder;
 
-/// The set that the builder has so far. `None` where memory was refused.
+/// Returns the set that the builder has so far, or `None` if an allocation fails.
 fn set_so_far(builder: &CodePointInversionListBuilder) -> Option<CodePointInversionList<'static>> {
     set_built(copy_of_builder(builder)?)
 }
 
-/// The builder's set has after each change, one after another, the ends beside it.
+/// Applies the changes in order, and expects the boundaries of the set after each.
 fn expect_changes(
     rt: &(impl Abort + AllocGlobal),
     mut builder: CodePointInversionListBuilder,
@@ -24,13 +24,13 @@ fn expect_changes(
     }
 }
 
-/// The ends of a set, and changes of it one after another, each with the ends of the set then.
+/// The boundaries of a set, and a list of changes, each with the boundaries of the set after it.
 type Turns = (&'static [u32], &'static [(Change, &'static [u32])]);
 
-/// What lies past the end of the code space is ignored by additions, and cut off by all other
-/// calls.
+/// Additions above the end of the code space are ignored. In all other methods, ranges are cut off
+/// at that end.
 static IN_TURN: [Turns; 14] = [
-    // Additions past the end of the code space.
+    // Additions above the end of the code space.
     (
         &[0x41, 0x5B],
         &[
@@ -50,7 +50,7 @@ static IN_TURN: [Turns; 14] = [
             (Change::Add(Addition::All), &[0, 0x11_0000]),
         ],
     ),
-    // Changes at no number, and past the end of the code space.
+    // Changes by an empty range, and above the end of the code space.
     (
         &[0xA, 0x14],
         &[
@@ -67,7 +67,7 @@ static IN_TURN: [Turns; 14] = [
             (Change::Remove(Removal::Number(u32::MAX)), &[0x41, 0x5B]),
         ],
     ),
-    // Removals to past the end.
+    // Removals of ranges that go beyond the end.
     (
         &[0x41, 0x5B],
         &[
@@ -86,7 +86,7 @@ static IN_TURN: [Turns; 14] = [
         &[0x41, 0x5B],
         &[(Change::Remove(Removal::Numbers(0, u32::MAX)), &[])],
     ),
-    // Numbers that are kept.
+    // Retained numbers.
     (
         &[0x41, 0x5B],
         &[
@@ -102,7 +102,7 @@ static IN_TURN: [Turns; 14] = [
         &[0x41, 0x5B],
         &[(Change::Keep(Keeping::Number(u32::MAX)), &[])],
     ),
-    // Ranges that are kept.
+    // Retained ranges.
     (
         &[0x41, 0x5A],
         &[
@@ -115,7 +115,7 @@ static IN_TURN: [Turns; 14] = [
         &[0x41, 0x46],
         &[(Change::Keep(Keeping::NumbersBelow(9, 3)), &[])],
     ),
-    // Characters added and removed.
+    // Added and removed characters.
     (
         &[],
         &[
@@ -147,7 +147,7 @@ static IN_TURN: [Turns; 14] = [
             ),
         ],
     ),
-    // Sets turned round.
+    // Complements.
     (
         &[0x41, 0x42, 0x45, 0x46, 0x47, 0x48],
         &[

@@ -1,11 +1,11 @@
-//! The builder's calls, as rows of tables name them.
+//! The builder's methods as values, for tables of test cases.
 use crate::tests::points::set_of;
 use icu_invlist::codepointinvlist::{CodePointInversionList, CodePointInversionListBuilder};
 use icu_zerovec::MemoryError;
 use std::alloc::Global;
 use std::ops::Range;
 
-/// A builder of the set with these ends. `None` where memory was refused.
+/// Returns a builder of the set with these boundaries, or `None` if an allocation fails.
 pub fn builder_of(alloc: Global, ends: &[u32]) -> Option<CodePointInversionListBuilder> {
     let set = set_of(alloc, ends)?;
     let mut builder = CodePointInversionListBuilder::new(alloc);
@@ -15,14 +15,14 @@ pub fn builder_of(alloc: Global, ends: &[u32]) -> Option<CodePointInversionListB
     }
 }
 
-/// A copy of the builder, which has no room left. `None` where memory was refused.
+/// Returns a copy of the builder, which has no spare capacity, or `None` if an allocation fails.
 pub fn copy_of_builder(
     builder: &CodePointInversionListBuilder,
 ) -> Option<CodePointInversionListBuilder> {
     builder.try_clone().ok()
 }
 
-/// The set that the builder makes. `None` where memory was refused.
+/// Returns the set that the builder makes, or `None` if an allocation fails.
 pub fn set_built(
     builder: CodePointInversionListBuilder,
 ) -> Option<CodePointInversionList<'static>> {
@@ -53,8 +53,8 @@ impl Operation {
     }
 }
 
-/// An addition to a builder's set. A range reaches to its second number, which it holds unless it
-/// is named by the end that it stays below.
+/// An addition to a builder's set. The second number of a range is inclusive, except in variants
+/// named `Below`, where it is exclusive.
 pub enum Addition {
     Char(char),
     Number(u32),
@@ -78,8 +78,8 @@ impl Addition {
     }
 }
 
-/// A removal from a builder's set. A range reaches to its second number, which it holds unless it
-/// is named by the end that it stays below.
+/// A removal from a builder's set. The second number of a range is inclusive, except in variants
+/// named `Below`, where it is exclusive.
 pub enum Removal {
     Char(char),
     Number(u32),
@@ -103,8 +103,8 @@ impl Removal {
     }
 }
 
-/// What is kept of a builder's set. A range reaches to its second number, which it holds unless it
-/// is named by the end that it stays below.
+/// What a builder's set retains. The second number of a range is inclusive, except in variants
+/// named `Below`, where it is exclusive.
 pub enum Keeping {
     Char(char),
     Number(u32),
@@ -115,7 +115,7 @@ pub enum Keeping {
 }
 
 impl Keeping {
-    /// Keeps this of the builder's set alone.
+    /// Removes everything else from the builder's set.
     fn apply(&self, builder: &mut CodePointInversionListBuilder) {
         match self {
             Keeping::Char(c) => builder.retain_char(*c),
@@ -131,8 +131,8 @@ impl Keeping {
     }
 }
 
-/// What is turned round in a builder's set. A range reaches to its second number, which it holds
-/// unless it is named by the end that it stays below.
+/// What is complemented in a builder's set. The second number of a range is inclusive, except in
+/// variants named `Below`, where it is exclusive.
 pub enum Turn {
     All,
     Char(char),
@@ -144,7 +144,7 @@ pub enum Turn {
 }
 
 impl Turn {
-    /// Turns this round in the builder's set.
+    /// Complements this in the builder's set.
     fn apply(&self, builder: &mut CodePointInversionListBuilder) -> Result<(), MemoryError> {
         match self {
             Turn::All => builder.complement(),

@@ -1,4 +1,4 @@
-//! Lists and ranges that are no sets, and the texts of errors.
+//! Invalid lists and ranges, and the texts of errors.
 use super::*;
 use crate::tests::points::{set_of_range, set_or_fault};
 use crate::tests::{expect_same, expect_told};
@@ -8,12 +8,12 @@ use icu_invlist::codepointinvlist::{
 use icu_zerovec::PotentialCodePoint;
 use std::ops::Range;
 
-/// The number that is shown at this place.
+/// Returns the number in an error at this index.
 fn shown_at(points: &[PotentialCodePoint], place: usize) -> Option<u32> {
     Some(u32::from(*points.get(place)?))
 }
 
-/// The numbers that are shown are these.
+/// Expects the numbers in an error to be `shown`.
 pub fn expect_points(rt: &impl Abort, points: &[PotentialCodePoint], shown: &[u32]) {
     expect_same(rt, points.len(), shown.len(), "numbers shown");
     for (place, want) in shown.iter().enumerate() {
@@ -21,7 +21,7 @@ pub fn expect_points(rt: &impl Abort, points: &[PotentialCodePoint], shown: &[u3
     }
 }
 
-/// The refused list shows these numbers.
+/// Expects an error for an invalid list that contains the numbers `shown`.
 fn expect_refused(
     rt: &impl Abort,
     made: Result<CodePointInversionList<'static>, SetError>,
@@ -33,7 +33,7 @@ fn expect_refused(
     }
 }
 
-/// Lists that are no sets, and the numbers that are shown of them.
+/// Invalid lists, and the numbers that their errors contain.
 static INVALID: [(&[u32], &[u32]); 4] = [
     (&[1, 2, 2, 3], &[1, 2, 2, 3]),
     (&[0x41, 0x100_0000], &[0x41, 0xFF_FFFF]),
@@ -48,7 +48,7 @@ fn invalid_lists(rt: HostRuntime) {
     }
 }
 
-/// Why the range is refused.
+/// Returns the error for the range.
 fn fault_of<R: RangeOf<char>>(alloc: Global, range: R) -> Option<TryRangeError> {
     set_of_range(alloc, range).err()
 }

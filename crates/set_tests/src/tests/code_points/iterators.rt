@@ -3,7 +3,7 @@ use super::*;
 use crate::tests::points::{ends_of, set_of};
 use crate::tests::{expect_same, say};
 
-/// The set's ranges are these, by their first and their last number, and no more.
+/// Expects the set to have exactly these ranges, given by their first and their last number.
 fn expect_ranges(rt: &impl Abort, set: &CodePointInversionList<'_>, want: &[(u32, u32)]) {
     let mut ranges = set.iter_ranges();
     let counts = [ranges.len(), ranges.size_hint().0];
@@ -14,7 +14,7 @@ fn expect_ranges(rt: &impl Abort, set: &CodePointInversionList<'_>, want: &[(u32
     expect_same(rt, ends_of(ranges.next()), None, "a range too many");
 }
 
-/// The set's gaps are these, by their first and their last number, and no more.
+/// Expects the set to have exactly these gaps, given by their first and their last number.
 fn expect_gaps(rt: &impl Abort, set: &CodePointInversionList<'_>, want: &[(u32, u32)]) {
     let mut gaps = set.iter_ranges_complemented();
     for gap in want {
@@ -23,10 +23,10 @@ fn expect_gaps(rt: &impl Abort, set: &CodePointInversionList<'_>, want: &[(u32, 
     expect_same(rt, ends_of(gaps.next()), None, "a gap too many");
 }
 
-/// A set's ranges and gaps, by their first and their last number.
+/// The ranges or the gaps of a set, each with its first and its last number.
 type Pieces = &'static [(u32, u32)];
 
-/// Sets by their ends, their ranges and their gaps.
+/// Sets by their boundaries, with their ranges and their gaps.
 static GAPS: [(&[u32], Pieces, Pieces); 4] = [
     (
         &[0xA, 0x14, 0x28, 0x32],
@@ -58,10 +58,10 @@ fn ranges_and_gaps_quiet(rt: HostRuntime) {
     }
 }
 
-/// The characters of a set, and its end.
+/// The characters in a set, followed by the end of the iterator.
 static GIVEN: [Option<char>; 5] = [Some('A'), Some('B'), Some('C'), Some('E'), None];
 
-/// The surrogate is no character.
+/// The surrogate is skipped, since it is not a character.
 ///
 /// Calls: `CodePointInversionList::iter_chars`, `IterChars::next`.
 #[test]

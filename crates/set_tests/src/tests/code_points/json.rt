@@ -1,16 +1,16 @@
-//! Sets to and from JSON.
+//! Conversion of sets to and from JSON.
 use super::*;
 use crate::tests::points::{basic, expect_listed, expect_set, set_of};
 use crate::tests::{expect_same, expect_text, expect_told, say, tell};
 use icu_invlist::codepointinvlist::SetJsonError;
 use serde_json::Value;
 
-/// The value that a text is in JSON. `None` where memory was refused.
+/// Parses a JSON text. Returns `None` if an allocation fails.
 pub fn value_of(alloc: Global, text: &str) -> Option<Value> {
     Value::from_str(alloc, text).ok()
 }
 
-/// The value that a text is in JSON, for which there has to be memory.
+/// Parses a JSON text. Panics if an allocation fails.
 pub fn made_value(rt: &(impl Abort + AllocGlobal), text: &str) -> Value {
     match value_of(rt.alloc(), text) {
         Some(value) => value,
@@ -18,14 +18,14 @@ pub fn made_value(rt: &(impl Abort + AllocGlobal), text: &str) -> Value {
     }
 }
 
-/// The value has this text, where there is memory for it.
+/// Expects the value to have this text. Checks nothing if an allocation fails.
 pub fn expect_value(rt: &(impl Abort + AllocGlobal), value: &Value, want: &str) {
     if let Ok(text) = value.to_string(rt.alloc()) {
         expect_text(rt, text, want);
     }
 }
 
-/// The value, which has to be there, has this text, for which there has to be memory.
+/// Expects a value with this text. Panics if there is no value or an allocation fails.
 pub fn expect_written(rt: &(impl Abort + AllocGlobal), value: Option<Value>, want: &str) {
     match value {
         Some(value) => expect_told(rt, &value, want),
@@ -33,17 +33,17 @@ pub fn expect_written(rt: &(impl Abort + AllocGlobal), value: Option<Value>, wan
     }
 }
 
-/// The value of the set. `None` where memory was refused.
+/// Returns the JSON value of the set, or `None` if an allocation fails.
 fn json_of(alloc: Global, set: &CodePointInversionList<'_>) -> Option<Value> {
     set.to_json(alloc).ok()
 }
 
-/// The set of the value, or why it is none.
+/// Returns the set in the value, or the error.
 fn set_read(alloc: Global, value: &Value) -> Result<CodePointInversionList<'static>, SetJsonError> {
     CodePointInversionList::from_json(alloc, value)
 }
 
-/// Texts, and the ends of their sets.
+/// Texts, and the boundaries of their sets.
 static READ: [(&str, &[u32]); 8] = [
     ("[\"A-A\"]", &[0x41, 0x42]),
     ("[\"U+d800\"]", &[0xD800, 0xD801]),
@@ -66,7 +66,7 @@ fn read_from_json(rt: HostRuntime) {
     }
 }
 
-/// Texts that are no sets, and why.
+/// Texts that do not spell sets, and the errors.
 static REFUSED: [(&str, SetJsonError); 6] = [
     ("[\"A-B\", \"C-D\"]", SetJsonError::InvalidSet),
     ("[\"A--\"]", SetJsonError::InvalidSet),
@@ -84,7 +84,7 @@ fn refused_in_json(rt: HostRuntime) {
     }
 }
 
-/// Sets by their ends, and their texts.
+/// Sets by their boundaries, and their texts.
 static WRITTEN: [(&[u32], &str); 2] = [
     (
         &[0x2D, 0x2E, 0x55, 0x56, 0xD800, 0xE000],
@@ -93,7 +93,7 @@ static WRITTEN: [(&[u32], &str); 2] = [
     (&[0x41, 0x5B, 0xDABC, 0xDABD], "[\"A-Z\",\"U+DABC\"]"),
 ];
 
-/// The value of the set with these ends. `None` where memory was refused.
+/// Returns the JSON value of the set with these boundaries, or `None` if an allocation fails.
 fn json_of_ends(alloc: Global, ends: &[u32]) -> Option<Value> {
     json_of(alloc, &set_of(alloc, ends)?)
 }
@@ -118,7 +118,8 @@ fn to_json_refused(rt: HostRuntime) {
     expect_listed(&rt, &basic, &[0, 0x1_0000]);
 }
 
-/// The set that was read has these ends; nothing but memory was wanting where none was.
+/// Expects the set that was read to have these boundaries. If none was read, expects the error for
+/// a failed allocation.
 fn expect_read_or_refused(
     rt: &(impl Abort + AllocGlobal + Print),
     made: Result<CodePointInversionList<'_>, SetJsonError>,

@@ -1,6 +1,6 @@
-//! Want of memory: each call that may grow something says so at once where a growth was refused,
-//! and leaves what it would have changed as it was. Calls that take no memory ask for none. A test
-//! prints `call` before the calls that it is about, and `done` after them.
+//! Failed allocations. Each function that may allocate returns an error as soon as an allocation
+//! fails, and leaves unchanged what it would have changed. Functions that do not allocate request
+//! no memory. A test prints `call` before the calls that it tests, and `done` after them.
 mod builder;
 mod made;
 mod quiet;
@@ -11,15 +11,16 @@ use crate::tests::points::expect_listed;
 use crate::tests::{say, tell};
 use icu_invlist::codepointinvlist::CodePointInversionListBuilder;
 
-/// The ends of the set that the builders begin with: that of A to Z.
+/// The boundaries of the set that the builders start with: A to Z.
 const LETTERS: [u32; 2] = [0x41, 0x5B];
 
-/// A builder of the set with these ends that has no room for more.
+/// Returns a builder of the set with these boundaries that has no spare capacity.
 fn full_builder_of(alloc: Global, ends: &[u32]) -> Option<CodePointInversionListBuilder> {
     copy_of_builder(&builder_of(alloc, ends)?)
 }
 
-/// The set, where it was made, has these ends, where there is memory to list them.
+/// Expects the set, if it was made, to have these boundaries. Checks nothing if listing them fails
+/// to allocate.
 fn expect_ends_of(
     rt: &(impl Abort + AllocGlobal),
     made: Option<CodePointInversionList<'_>>,
@@ -30,8 +31,8 @@ fn expect_ends_of(
     }
 }
 
-/// The call is over, which was answered or refused: the builder's set is `after`, and where the
-/// call was refused it is `own` still.
+/// Prints that the call is done. Expects the builder's set to be `after` if the call succeeded, and
+/// still `own` if an allocation failed.
 fn expect_answer(
     rt: &(impl Abort + AllocGlobal + Print),
     is_answered: bool,

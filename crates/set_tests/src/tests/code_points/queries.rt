@@ -1,4 +1,4 @@
-//! What sets answer.
+//! Queries of sets.
 use super::*;
 use crate::tests::points::{all, basic, counts_of, ends_of, set_of};
 use crate::tests::{expect_same, hash_of, say};
@@ -7,7 +7,7 @@ const GREATER: [u32; 8] = [0xA, 0x14, 0x28, 0x32, 0x46, 0x50, 0x64, 0x6E];
 
 const SMALLER: [u32; 8] = [0xF, 0x14, 0x2C, 0x31, 0x46, 0x50, 0x64, 0x6D];
 
-/// Two sets, whether the first holds the second, and what they are.
+/// Two sets, whether the second is a subset of the first, and a description.
 static SUBSETS: [(&[u32], &[u32], bool, &str); 4] = [
     (&[0x41, 0x44], &[0x42, 0x45], false, "overlapping"),
     (&[0x41, 0x44], &[], true, "empty"),
@@ -32,7 +32,7 @@ fn subsets_quiet(rt: HostRuntime) {
     }
 }
 
-/// A set that is made twice has one hash.
+/// A set that is made twice has the same hash.
 ///
 /// Calls: `CodePointInversionList::all`, `CodePointInversionList::bmp`,
 /// `CodePointInversionList::contains_range`, `CodePointInversionList::is_empty`.
@@ -49,10 +49,10 @@ fn all_and_basic_quiet(rt: HostRuntime) {
     expect_same(&rt, hashes[0], hashes[1], "hashes");
 }
 
-/// Numbers, and how many of the set's numbers stand below each, where the set holds it.
+/// Numbers, each with its index in the set if the set contains it.
 type Places = &'static [(u32, Option<usize>)];
 
-/// The set has these ranges, by their places.
+/// Expects the set to have these ranges at these indices.
 fn expect_nth(
     rt: &impl Abort,
     set: &CodePointInversionList<'_>,
@@ -64,7 +64,7 @@ fn expect_nth(
     }
 }
 
-/// The set holds the numbers that have a place, and these are their places.
+/// Expects the set to contain exactly the numbers that have an index, at that index.
 fn expect_positions(rt: &impl Abort, set: &CodePointInversionList<'_>, rows: Places) {
     for (c, want) in rows {
         let found = (*c, set.contains32(*c), set.position32(*c));
@@ -72,7 +72,7 @@ fn expect_positions(rt: &impl Abort, set: &CodePointInversionList<'_>, rows: Pla
     }
 }
 
-/// The ranges of A to C, of E, and of a surrogate.
+/// The ranges of the set of A to C, E and a surrogate, by index.
 static NTH: [(usize, Option<(u32, u32)>); 5] = [
     (0, Some((0x41, 0x43))),
     (1, Some((0x45, 0x45))),
@@ -81,7 +81,7 @@ static NTH: [(usize, Option<(u32, u32)>); 5] = [
     (usize::MAX, None),
 ];
 
-/// The places of numbers among them.
+/// The indices of numbers in that set.
 static POSITIONS: [(u32, Option<usize>); 7] = [
     (0x40, None),
     (0x41, Some(0)),

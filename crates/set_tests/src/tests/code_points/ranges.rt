@@ -1,10 +1,10 @@
-//! What each type of range names.
+//! The bounds of each type of range.
 use super::*;
 use crate::tests::{expect_same, say};
 use icu_invlist::codepointinvlist::{RangeOf, RangePoint, deconstruct_range};
 use std::ops::{Range, RangeFull};
 
-/// What the ranges of numbers name.
+/// The bounds of ranges of numbers.
 static OF_NUMBERS: [(u32, u32); 10] = [
     (5, 5),
     (3, 7),
@@ -18,7 +18,7 @@ static OF_NUMBERS: [(u32, u32); 10] = [
     (0, 0x11_0000),
 ];
 
-/// Ranges of numbers, and one that its one number was taken from.
+/// Ranges of numbers, one of which had a single number that was already taken.
 ///
 /// Calls: `codepointinvlist::deconstruct_range`, `RangePoint::number`, `RangePoint::is_used_up`.
 #[test]
@@ -44,7 +44,7 @@ fn ranges_of_numbers_quiet(rt: HostRuntime) {
     expect_same(&rt, points, (7, false), "a number, and a range not used up");
 }
 
-/// What the ranges of characters name.
+/// The bounds of ranges of characters.
 static OF_CHARACTERS: [(u32, u32); 7] = [
     (0x41, 0x5A),
     (0x41, 0x5B),

@@ -1,5 +1,5 @@
-//! Sets in ICU's serialized form. The units are those that `uset_serialize` of ICU4C 72 writes, and
-//! refused ones are worked out by hand.
+//! Sets in ICU's serialized form. The units are those that `uset_serialize` of ICU4C 72 writes;
+//! invalid ones are made by hand.
 use super::*;
 use crate::tests::points::{basic, expect_listed, expect_set, made_set, set_of};
 use crate::tests::{expect_same, say, tell};
@@ -8,7 +8,7 @@ use icu_invlist_binary::serialized::{
     write_serialized,
 };
 
-/// Sets by their ends, and their units.
+/// Sets by their boundaries, and their units.
 static WRITTEN: [(&[u32], &[u16]); 9] = [
     (&[], &[0]),
     (&[0x61, 0x7B], &[2, 0x61, 0x7B]),
@@ -24,17 +24,17 @@ static WRITTEN: [(&[u32], &[u16]); 9] = [
     (&[0xFFFF, 0x1_0000], &[0x8003, 1, 0xFFFF, 1, 0]),
 ];
 
-/// The units are the wanted ones.
+/// Expects the units to be `want`.
 fn expect_units(rt: &impl Abort, found: Vec<u16>, want: &[u16]) {
     expect_same(rt, found.as_slice(), want, "the units");
 }
 
-/// The units of the set, or why there are none.
+/// Returns the units of the set, or the error.
 fn units_of(alloc: Global, set: &CodePointInversionList<'_>) -> Result<Vec<u16>, SerializeError> {
     to_serialized(alloc, set)
 }
 
-/// The set that the units begin with, and how many of them it takes, or why there is none.
+/// Returns the set at the start of the units and the number of units that it takes, or the error.
 fn set_read(
     alloc: Global,
     units: &[u16],
@@ -42,7 +42,8 @@ fn set_read(
     from_serialized(alloc, units)
 }
 
-/// The set of `a` to `z` in a slice that has room for more, and in one that is too short.
+/// Writes the set of `a` to `z` into a slice that is longer than needed, and into one that is too
+/// short.
 ///
 /// Calls: `serialized::write_serialized`, `serialized::serialized_len`.
 #[test]
@@ -65,7 +66,7 @@ fn written_into_slices_quiet(rt: HostRuntime) {
     expect_same(&rt, short, [7, 7], "nothing written");
 }
 
-/// The set with these ends has these units.
+/// Expects the set with these boundaries to have these units.
 fn expect_written(rt: &(impl Abort + AllocGlobal), ends: &[u32], want: &[u16]) {
     match units_of(rt.alloc(), &made_set(rt, ends)) {
         Ok(units) => expect_units(rt, units, want),
@@ -73,7 +74,7 @@ fn expect_written(rt: &(impl Abort + AllocGlobal), ends: &[u32], want: &[u16]) {
     }
 }
 
-/// The set that the units begin with has these ends, and takes so many units.
+/// Expects the set at the start of the units to have these boundaries, and to take `len` units.
 fn expect_read(rt: &(impl Abort + AllocGlobal), units: &[u16], ends: &[u32], len: usize) {
     match set_read(rt.alloc(), units) {
         Ok((set, found)) => {
@@ -92,9 +93,10 @@ fn written_and_read(rt: HostRuntime) {
     }
 }
 
-/// Units that `uset_serialize` does not write, whose ranges `uset_getSerializedRange` gives: an end
-/// of the code space, an end below 0x10000 as a pair, and a count of all ends. Two units more are
-/// not the set's.
+/// Units that `uset_serialize` does not write, with the ranges that `uset_getSerializedRange`
+/// returns for them: the end of the code space as a boundary, a boundary below 0x10000 in two
+/// units, and bit 15 although all boundaries take one unit. The last row has two units after the
+/// set.
 static OTHER: [(&[u16], &[u32], usize); 4] = [
     (&[0x8003, 1, 0x61, 0x11, 0], &[0x61, 0x11_0000], 5),
     (&[0x8002, 0, 0, 0x41], &[0x41, 0x11_0000], 4),
@@ -109,7 +111,7 @@ fn read_of_other_units(rt: HostRuntime) {
     }
 }
 
-/// Units that are no set, and why.
+/// Invalid units, and the errors.
 static REFUSED: [(&[u16], SerializedSetError); 11] = [
     (&[], SerializedSetError::Short),
     (&[2, 0x41], SerializedSetError::Short),
@@ -127,7 +129,7 @@ static REFUSED: [(&[u16], SerializedSetError); 11] = [
     ),
 ];
 
-/// Units that say no set are refused before memory is asked for.
+/// Invalid units are rejected before any allocation.
 ///
 /// Calls: `serialized::from_serialized`.
 #[test]
@@ -140,7 +142,8 @@ fn refused_units_quiet(rt: HostRuntime) {
     say(&rt, "done");
 }
 
-/// The set of every second code point below `limit`, which is even: its ends are all numbers below.
+/// Returns the set of every second code point below `limit`, which is even. Its boundaries are all
+/// numbers below `limit`.
 fn every_second(rt: &(impl Abort + AllocGlobal), limit: u32) -> CodePointInversionList<'static> {
     let mut ends = Vec::new(rt.alloc());
     for end in 0..limit {
@@ -151,7 +154,7 @@ fn every_second(rt: &(impl Abort + AllocGlobal), limit: u32) -> CodePointInversi
     made_set(rt, &ends)
 }
 
-/// 0x7FFE units of ends, and two more than that.
+/// A set whose boundaries take 0x7FFE units, and one whose boundaries take two more.
 #[test]
 fn longest_in_units(rt: HostRuntime) {
     let longest = serialized_len(&every_second(&rt, 0x7FFE));
@@ -172,7 +175,7 @@ fn longest_in_units(rt: HostRuntime) {
     expect_same(&rt, found, want, "two lengths, and twice too long");
 }
 
-/// The units are those of the basic plane, where they were written.
+/// Expects the units, if they were written, to be those of the Basic Multilingual Plane.
 fn expect_units_of_basic(rt: &(impl Abort + Print), made: Result<Vec<u16>, SerializeError>) {
     tell(rt, made.is_err());
     if let Ok(units) = made {
@@ -190,7 +193,8 @@ fn to_serialized_refused(rt: HostRuntime) {
     expect_listed(&rt, &basic, &[0, 0x1_0000]);
 }
 
-/// The set that was read is that of the basic plane; nothing but memory was wanting where none was.
+/// Expects the set that was read to be the Basic Multilingual Plane. If none was read, expects the
+/// error for a failed allocation.
 fn expect_basic_or_refused(
     rt: &(impl Abort + AllocGlobal + Print),
     made: Result<(CodePointInversionList<'_>, usize), SerializedSetError>,

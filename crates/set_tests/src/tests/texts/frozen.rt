@@ -1,16 +1,18 @@
-//! Frozen sets with strings: that they are made, and answer as the set does; want of memory.
+//! Frozen sets with strings: that they are made and return what the set returns, and failed
+//! allocations.
 use super::*;
 use crate::tests::points::set_of;
 use crate::tests::{expect, expect_same, say, tell};
 use icu_frozen_sets::text_sets::FrozenCodePointSetAndStrings;
 
-/// The letters of ASCII, the empty text, and strings, one of which is of two characters.
+/// Returns a set of the ASCII letters, the empty string and other strings, one of which has two Han
+/// characters. Returns `None` if an allocation fails.
 fn words(alloc: Global) -> Option<CodePointInversionListAndStringList<'static>> {
     let letters = set_of(alloc, &[0x41, 0x5B, 0x61, 0x7B])?;
     set_of_both(alloc, letters, &["", "a1", "abc", "漢字"])
 }
 
-/// The set, frozen. `None` where memory was refused.
+/// Freezes the set. Returns `None` if an allocation fails.
 fn frozen(
     alloc: Global,
     set: &CodePointInversionListAndStringList<'_>,
@@ -18,12 +20,12 @@ fn frozen(
     FrozenCodePointSetAndStrings::freeze(alloc, set).ok()
 }
 
-/// The words, frozen. `None` where memory was refused.
+/// Freezes the set of the words. Returns `None` if an allocation fails.
 fn frozen_words(alloc: Global) -> Option<FrozenCodePointSetAndStrings> {
     frozen(alloc, &words(alloc)?)
 }
 
-/// Texts, and whether the set of the words holds them.
+/// Texts, and whether the set of the words contains them.
 static TEXTS: [(&str, bool); 9] = [
     ("", true),
     ("a", true),
@@ -60,7 +62,8 @@ fn frozen_with_strings_quiet(rt: HostRuntime) {
     expect_same(&rt, counts, [56, 52, 4], "members");
 }
 
-/// The call is over: the set answers as it has to, where it was frozen.
+/// Prints that the call is done. Expects the frozen set, if it was made, to return the right
+/// results.
 fn expect_frozen(rt: &(impl Abort + Print), made: Option<FrozenCodePointSetAndStrings>) {
     tell(rt, made.is_none());
     if let Some(frozen) = made {
@@ -74,7 +77,7 @@ fn expect_frozen(rt: &(impl Abort + Print), made: Option<FrozenCodePointSetAndSt
     }
 }
 
-/// The set that was lent is as it was.
+/// The set that was frozen is unchanged.
 ///
 /// Calls: `FrozenCodePointSetAndStrings::freeze`.
 #[test]

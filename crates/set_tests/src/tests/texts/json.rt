@@ -1,4 +1,4 @@
-//! Sets to and from JSON.
+//! Conversion of sets to and from JSON.
 use super::*;
 use crate::tests::code_points::json::{expect_value, expect_written, made_value, value_of};
 use crate::tests::texts::memory::{expect_all_and_ab, expect_gathered};
@@ -6,12 +6,12 @@ use crate::tests::{say, tell};
 use icu_text_sets::codepointinvliststringlist::StringListJsonError;
 use serde_json::Value;
 
-/// The value of the set. `None` where memory was refused.
+/// Returns the JSON value of the set, or `None` if an allocation fails.
 fn json_of(alloc: Global, set: &CodePointInversionListAndStringList<'_>) -> Option<Value> {
     set.to_json(alloc).ok()
 }
 
-/// The set of the value, or why it is none.
+/// Returns the set in the value, or the error.
 fn set_read(
     alloc: Global,
     value: &Value,
@@ -19,7 +19,7 @@ fn set_read(
     CodePointInversionListAndStringList::from_json(alloc, value)
 }
 
-/// Texts that are no sets, and what is said of them.
+/// Texts that do not spell sets, and the texts of the errors.
 static REFUSED: [(&str, &str); 6] = [
     (
         "[]",
@@ -53,7 +53,8 @@ fn refused_in_json(rt: HostRuntime) {
     expect_said(&rt, Some(StringListJsonError::Memory), "no memory");
 }
 
-/// The value of the set of two characters and two other texts. `None` where memory was refused.
+/// Returns the JSON value of the set of two characters and two other texts, or `None` if an
+/// allocation fails.
 fn json_of_four(alloc: Global) -> Option<Value> {
     json_of(alloc, &gathered(alloc, &["abc", "a", "", "b"])?)
 }
@@ -76,8 +77,8 @@ fn to_json_refused(rt: HostRuntime) {
     expect_all_and_ab(&rt, &set);
 }
 
-/// The call is over: the set has a code point and two strings; nothing but memory was wanting where
-/// none was read.
+/// Prints that the call is done. Expects the set to have a code point and two strings. If none was
+/// read, expects the error for a failed allocation.
 fn expect_read(
     rt: &(impl Abort + Print),
     answer: Result<CodePointInversionListAndStringList<'_>, StringListJsonError>,

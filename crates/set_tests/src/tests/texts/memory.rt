@@ -1,9 +1,10 @@
-//! Want of memory: each call that may grow something says so at once where a growth was refused.
-//! Calls that take no memory ask for none.
+//! Failed allocations. Each function that may allocate returns an error as soon as an allocation
+//! fails. Functions that do not allocate request no memory.
 use super::*;
 use crate::tests::{expect, expect_same, say, tell};
 
-/// The set is still that of all code points and "ab", where there is memory to make another.
+/// Expects the set to be all code points and "ab". Checks nothing if making another one fails to
+/// allocate.
 pub fn expect_all_and_ab(
     rt: &(impl Abort + AllocGlobal),
     set: &CodePointInversionListAndStringList<'_>,
@@ -13,7 +14,8 @@ pub fn expect_all_and_ab(
     }
 }
 
-/// The call is over: the set has a code point and two strings, where there was memory for it.
+/// Prints that the call is done. Expects the set, if it was made, to have a code point and two
+/// strings.
 pub fn expect_gathered(
     rt: &(impl Abort + Print),
     made: Option<CodePointInversionListAndStringList<'_>>,
@@ -24,7 +26,7 @@ pub fn expect_gathered(
     }
 }
 
-/// The texts are gathered, where there was memory for it, and are lent as they were.
+/// A set is made from texts, which are unchanged.
 ///
 /// Calls: `CodePointInversionListAndStringList::from_iter`.
 #[test]
@@ -66,17 +68,17 @@ fn try_from_quiet(rt: HostRuntime) {
     expect_same(&rt, answers, [true, true], "sorted and unsorted strings");
 }
 
-/// Whether the set holds the text, and whether that of its bytes.
+/// Returns whether the set contains the text, and whether it contains the text of its bytes.
 fn holds_text(set: &CodePointInversionListAndStringList<'_>, text: &str) -> [bool; 2] {
     [set.contains_str(text), set.contains_utf8(text.as_bytes())]
 }
 
-/// Whether the set holds the character, and whether the number.
+/// Returns whether the set contains the character, and whether it contains its number.
 fn holds_points(set: &CodePointInversionListAndStringList<'_>, ch: char, cp: u32) -> [bool; 2] {
     [set.contains(ch), set.contains32(cp)]
 }
 
-/// Texts that are given in any order, one of them twice, and one of them a character.
+/// Texts in any order, one of them twice, and one of them a single character.
 ///
 /// Calls: `CodePointInversionListAndStringList::size`,
 /// `CodePointInversionListAndStringList::code_points`,

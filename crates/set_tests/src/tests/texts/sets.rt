@@ -1,9 +1,9 @@
-//! Sets and what they are asked.
+//! Sets and their queries.
 use super::*;
 use crate::tests::expect_same;
 use crate::tests::points::{basic, made_set};
 
-/// Texts that are no list of strings, and what is said of them.
+/// Invalid lists of strings, and the texts of the errors.
 static REFUSED: [(&[&str], &str); 5] = [
     (&["ab", "é"], "Invalid string length for string: é"),
     (&["abc", "abc"], "String list has duplicate: abc"),
@@ -18,7 +18,7 @@ static REFUSED: [(&[&str], &str); 5] = [
     (&["a", "a"], "Invalid string length for string: a"),
 ];
 
-/// Why the basic plane has no set with these strings.
+/// Returns the error for a set of the Basic Multilingual Plane and these strings.
 fn fault_of(alloc: Global, texts: &[&str]) -> Option<InvalidStringList> {
     set_or_fault(basic(), strings_of(alloc, texts).ok()?).err()
 }
@@ -30,7 +30,7 @@ fn lists_of_strings(rt: HostRuntime) {
     }
 }
 
-/// The set of the last code points of some ranges, and of texts for them.
+/// A set of the last code points of some ranges, and of strings that name them.
 #[test]
 fn members_counted(rt: HostRuntime) {
     let ends = [0, 1, 0x7F, 0x80, 0xFFFF, 0x1_0000, 0x10_FFFF, 0x11_0000];
@@ -41,7 +41,8 @@ fn members_counted(rt: HostRuntime) {
     }
 }
 
-/// Whether the set, shown for debugging, says this of its strings. `None` where memory was refused.
+/// Returns whether the `Debug` text of the set contains this text of its strings, or `None` if an
+/// allocation fails.
 fn is_shown(
     rt: &(impl Abort + AllocGlobal),
     set: &CodePointInversionListAndStringList<'_>,

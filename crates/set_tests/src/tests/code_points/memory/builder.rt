@@ -3,8 +3,8 @@ use super::*;
 use crate::tests::code_points::changes::{Addition, Change, Operation, Removal, Turn};
 use crate::tests::points::set_of;
 
-/// Changes a full builder of A to Z: its set is `after` then, and where the change was refused it
-/// is that of A to Z.
+/// Changes a builder of A to Z without spare capacity. Expects its set to be `after`, or still A to
+/// Z if an allocation failed.
 fn expect_change(rt: &(impl Abort + AllocGlobal + Print), change: &Change, after: &[u32]) {
     let Some(mut builder) = full_builder_of(rt.alloc(), &LETTERS) else {
         return;
@@ -14,7 +14,7 @@ fn expect_change(rt: &(impl Abort + AllocGlobal + Print), change: &Change, after
     expect_answer(rt, is_answered, builder, &LETTERS, after);
 }
 
-/// Changes, one by each call, and the ends of the set of A to Z then.
+/// Changes of the set of A to Z, one for each method, with the boundaries of the set after them.
 static CHANGES: [(Change, &[u32]); 13] = [
     (Change::Add(Addition::Char('a')), &[0x41, 0x5B, 0x61, 0x62]),
     (
@@ -73,8 +73,8 @@ fn changes_refused(rt: HostRuntime) {
     }
 }
 
-/// Changes a full builder of a set with the ends `own` by one with the ends `lent`, which has them
-/// still: its set is `after` then, and where the change was refused it is as it was.
+/// Changes a builder of the set `own` without spare capacity by the set `lent`. Expects its set to
+/// be `after`, or still `own` if an allocation failed, and `lent` to be unchanged.
 fn expect_change_by(
     rt: &(impl Abort + AllocGlobal + Print),
     own: &[u32],
@@ -94,10 +94,11 @@ fn expect_change_by(
     expect_listed(rt, &set, lent);
 }
 
-/// The ends of a set, what changes it by which other set, and its ends then.
+/// The boundaries of a set, the operation, the boundaries of the other set, and those of the
+/// result.
 type ChangeBy = (&'static [u32], Operation, &'static [u32], &'static [u32]);
 
-/// Changes of sets by others: the examples of UnicodeSet and of the Rust crate, and then others of
+/// Operations on two sets: first the examples of UnicodeSet and of the Rust crate, then others with
 /// A to Z.
 static CHANGES_BY: [ChangeBy; 10] = [
     (
@@ -130,14 +131,14 @@ static CHANGES_BY: [ChangeBy; 10] = [
         &[0x61, 0x63, 0x70, 0x71, 0x80, 0x81, 0x90, 0x91],
         &[0x41, 0x5B, 0x61, 0x63, 0x70, 0x71, 0x80, 0x81, 0x90, 0x91],
     ),
-    // The sets have members in common.
+    // The sets have common members.
     (
         &LETTERS,
         Operation::Union,
         &[0x3F, 0x43, 0x50, 0x52, 0x5A, 0x60, 0x70, 0x71],
         &[0x3F, 0x60, 0x70, 0x71],
     ),
-    // The set is one range, below the letters.
+    // The set is one range below the letters.
     (
         &LETTERS,
         Operation::Union,

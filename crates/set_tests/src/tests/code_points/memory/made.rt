@@ -1,4 +1,4 @@
-//! Sets and lists that are made.
+//! Functions that make sets and lists.
 use super::*;
 use crate::tests::code_points::errors::expect_points;
 use crate::tests::expect_same;
@@ -8,7 +8,7 @@ use crate::tests::points::{
 use icu_invlist::codepointinvlist::SetError;
 use std::ops::RangeInclusive;
 
-/// The call is over: the set has these ends, where it was made.
+/// Prints that the call is done. Expects the set, if it was made, to have these boundaries.
 fn expect_made(
     rt: &(impl Abort + AllocGlobal + Print),
     made: Option<CodePointInversionList<'_>>,
@@ -18,7 +18,7 @@ fn expect_made(
     expect_ends_of(rt, made, ends);
 }
 
-/// The builder has room left, which the set that it makes does not keep.
+/// The builder has spare capacity, and the set that it makes does not.
 ///
 /// Calls: `CodePointInversionListBuilder::build`.
 #[test]
@@ -44,7 +44,7 @@ fn try_clone_of_builder_refused(rt: HostRuntime) {
     }
 }
 
-/// The set of two ranges. `None` where memory was refused.
+/// Returns the set of two ranges, or `None` if an allocation fails.
 fn set_of_ranges(
     alloc: Global,
     ranges: [RangeInclusive<u32>; 2],
@@ -63,7 +63,7 @@ enum Way {
     Owned,
 }
 
-/// The set that is made so. `None` where memory was refused.
+/// Returns the set that is made this way, or `None` if an allocation fails.
 fn made_by(way: &Way, alloc: Global) -> Option<CodePointInversionList<'static>> {
     match way {
         Way::Ends => set_of(alloc, &LETTERS),
@@ -76,7 +76,7 @@ fn made_by(way: &Way, alloc: Global) -> Option<CodePointInversionList<'static>> 
     }
 }
 
-/// Each way, and the ends of the set.
+/// Each way, with the boundaries of the set.
 static WAYS: [(Way, [u32; 2]); 7] = [
     (Way::Ends, LETTERS),
     (Way::Letters, LETTERS),
@@ -122,8 +122,8 @@ fn try_clone_refused(rt: HostRuntime) {
     expect_listed(&rt, &basic, &[0, 0x1_0000]);
 }
 
-/// The call is over: the list is refused, and its two numbers are shown where there was memory for
-/// them.
+/// Prints that the call is done. Expects an error for an invalid list that contains its two
+/// numbers, or for a failed allocation.
 fn expect_two_shown(rt: &(impl Abort + Print), made: Result<CodePointInversionList<'_>, SetError>) {
     match made {
         Ok(_) => rt.panic("an invalid list"),
@@ -135,7 +135,7 @@ fn expect_two_shown(rt: &(impl Abort + Print), made: Result<CodePointInversionLi
     }
 }
 
-/// A refused list is copied for the error.
+/// The error contains a copy of the invalid list.
 ///
 /// Calls: `CodePointInversionList::try_from_inversion_list`.
 #[test]
@@ -146,7 +146,8 @@ fn try_from_inversion_list_refused(rt: HostRuntime) {
     expect_two_shown(&rt, made);
 }
 
-/// The call is over: the ends are those of the basic plane, where they were listed.
+/// Prints that the call is done. Expects the boundaries, if they were listed, to be those of the
+/// Basic Multilingual Plane.
 fn expect_list_of_basic(rt: &(impl Abort + Print), made: Option<Vec<u32>>) {
     tell(rt, made.is_none());
     if let Some(ends) = made {

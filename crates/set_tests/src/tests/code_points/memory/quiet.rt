@@ -1,4 +1,4 @@
-//! Calls that ask for no memory.
+//! Functions that do not allocate.
 use super::*;
 use crate::tests::code_points::changes::{Addition, Change, Keeping, Operation, Removal, Turn};
 use crate::tests::points::{basic, list_of, set_of, set_over};
@@ -6,8 +6,8 @@ use crate::tests::{expect, expect_same};
 use icu_invlist::codepointinvlist::is_valid_zv;
 use icu_zerovec::{PotentialCodePoint, ZeroVec};
 
-/// Each change of a full builder of A to Z and a to z is answered, and leaves a set with the ends
-/// `after` at last.
+/// Applies the changes to a builder of A to Z and a to z without spare capacity. Expects each to
+/// succeed, and the boundaries of the final set to be `after`.
 fn expect_changes(rt: &(impl Abort + AllocGlobal + Print), changes: &[Change], after: &[u32]) {
     let Some(mut builder) = full_builder_of(rt.alloc(), &[0x41, 0x5B, 0x61, 0x7B]) else {
         return;
@@ -22,14 +22,14 @@ fn expect_changes(rt: &(impl Abort + AllocGlobal + Print), changes: &[Change], a
     expect_ends_of(rt, set_built(builder), after);
 }
 
-/// Changes that put no end in, or as many as they take out.
+/// Changes that insert no more boundaries than they remove.
 static CHANGES: [Change; 3] = [
     Change::Add(Addition::CharsBelow('[', 'a')),
     Change::Remove(Removal::Numbers(0x70, u32::MAX)),
     Change::Turn(Turn::NumbersBelow(0x41, 0x43)),
 ];
 
-/// Intersection with ranges.
+/// Intersections with ranges.
 static KEPT: [Change; 4] = [
     Change::Keep(Keeping::Chars('D', 'Z')),
     Change::Keep(Keeping::NumbersBelow(0x45, 0x50)),
@@ -49,14 +49,14 @@ fn changes_quiet(rt: HostRuntime) {
     expect_changes(&rt, &KEPT, &[0x46, 0x47]);
 }
 
-/// What a set of nothing changes nothing by.
+/// Operations by which the empty set changes nothing.
 static CHANGING_NOTHING: [Operation; 3] = [
     Operation::Union,
     Operation::Difference,
     Operation::SymmetricDifference,
 ];
 
-/// Whether a set of nothing changes the builder's set without an error.
+/// Applies these operations with the empty set. Returns whether all succeeded.
 fn is_changed_by(
     builder: &mut CodePointInversionListBuilder,
     nothing: &CodePointInversionList<'_>,
@@ -68,7 +68,7 @@ fn is_changed_by(
     answered
 }
 
-/// Sets of nothing, which change nothing.
+/// The empty set changes nothing.
 ///
 /// Calls: `CodePointInversionListBuilder::add_set`, `CodePointInversionListBuilder::remove_set`,
 /// `CodePointInversionListBuilder::complement_set`.
@@ -96,12 +96,12 @@ fn new_builder_quiet(rt: HostRuntime) {
     expect(&rt, is_empty, "empty");
 }
 
-/// Whether the list is an inversion list.
+/// Returns true if the list is an inversion list.
 fn is_valid(list: &ZeroVec<'_, PotentialCodePoint>) -> bool {
     is_valid_zv(list)
 }
 
-/// A valid list is taken as it is.
+/// A valid list is used without a copy.
 ///
 /// Calls: `codepointinvlist::is_valid_zv`, `CodePointInversionList::try_from_inversion_list`.
 #[test]
@@ -118,12 +118,12 @@ fn lists_quiet(rt: HostRuntime) {
     );
 }
 
-/// Whether the two sets are equal.
+/// Returns true if the two sets are equal.
 fn are_equal(a: &CodePointInversionList<'_>, b: &CodePointInversionList<'_>) -> bool {
     *a == *b
 }
 
-/// Whether a set of the ends that a set lends is equal to it.
+/// Returns true if a set made from the boundaries that a set returns is equal to it.
 fn is_same_by_its_ends(alloc: Global, set: &CodePointInversionList<'_>) -> bool {
     match set_over(alloc, set.as_inversion_list().as_zerovec()) {
         Ok(same) => are_equal(&same, set),
