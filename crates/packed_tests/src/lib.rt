@@ -1,4 +1,5 @@
-//! Tests of packed vectors, and of the unit tries that are packed in them, by their public calls.
+//! Tests of packed vectors, and of the unit tries that are stored in them, through their public
+//! functions.
 #![tactic(auto)]
 
 #[cfg(test)]

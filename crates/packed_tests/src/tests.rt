@@ -1,7 +1,8 @@
-//! What no clause says: worked values and tries, text, want of memory, that calls succeed.
+//! Tests of what contracts do not state: computed values and tries, texts, failed allocations, and
+//! that functions succeed.
 //!
-//! An assert stands in a helper without a contract, which takes what it compares by value, and a
-//! test calls helpers: the proof of an assert goes over all values that are alive beside it.
+//! An assertion is in a helper without a contract, which takes the compared values by value, and
+//! tests call such helpers. The proof of an assertion depends on all values in scope.
 
 mod built_unit_tries;
 mod support;

@@ -1,4 +1,4 @@
-//! Unit tries that are built; and that what was added is read back, as a user would read it. The
+//! Unit tries that are built. The added entries are read back as a user would read them. The
 //! entries are those of the format's description, or of ICU.
 
 mod refused_memory;

@@ -1,22 +1,22 @@
-//! What all tests compare with, and print.
+//! How all tests compare and print.
 use icu_zerovec::MemoryError;
 use std::fmt::{Debug, Display};
 use std::hash::{DefaultHasher, Hash, Hasher};
 use std::process::Abort;
 
-/// What is said holds.
+/// Panics if `holds` is false.
 pub fn expect(rt: &impl Abort, holds: bool, what: &'static str) {
     if !holds {
         rt.panic(what);
     }
 }
 
-/// What was found is what is wanted.
+/// Expects `found` to equal `want`.
 pub fn expect_same<T: Copy + Debug + PartialEq>(rt: &impl Abort, found: T, want: T, what: &str) {
     assert_eq!(rt; found, want, "{what}");
 }
 
-/// What a call gave, which has to be no error.
+/// Returns the value of a result. Panics if it is an error.
 pub fn given<T, E: Drop>(rt: &impl Abort, answer: Result<T, E>) -> T {
     match answer {
         Ok(found) => found,
@@ -24,7 +24,7 @@ pub fn given<T, E: Drop>(rt: &impl Abort, answer: Result<T, E>) -> T {
     }
 }
 
-/// The text is the other one, where there was memory for it.
+/// Expects the text to be `want`. Panics if an allocation failed.
 pub fn expect_text<E>(rt: &impl Abort, text: Result<String, E>, want: &str) {
     match text {
         Ok(text) => expect_same(rt, text.as_str(), want, "the text"),
@@ -32,12 +32,12 @@ pub fn expect_text<E>(rt: &impl Abort, text: Result<String, E>, want: &str) {
     }
 }
 
-/// A value is told so.
+/// Expects `Display` to print `want`.
 pub fn expect_told<T: Display>(rt: &(impl Abort + AllocGlobal), told: &T, want: &str) {
     expect_text(rt, told.to_string(rt.alloc()), want);
 }
 
-/// A value is shown so, as for one who looks for a fault.
+/// Expects `Debug` to print `want`.
 pub fn expect_shown<T: Debug>(rt: &(impl Abort + AllocGlobal), shown: &T, want: &str) {
     expect_text(rt, format!(in rt.alloc(); "{shown:?}"), want);
 }
@@ -49,7 +49,7 @@ pub fn say(rt: &(impl Abort + Print), line: &str) {
     }
 }
 
-/// The calls that the line `call` stands before are done, and what they gave is what is wanted.
+/// Prints `done` for the calls since the line `call`, and expects their result to be `want`.
 pub fn expect_done<T: Copy + Debug + PartialEq>(
     rt: &(impl Abort + Print),
     found: T,
@@ -60,14 +60,14 @@ pub fn expect_done<T: Copy + Debug + PartialEq>(
     expect_same(rt, found, want, what);
 }
 
-/// Says that memory was refused.
+/// Prints that an allocation failed.
 pub fn say_refused(rt: &(impl Abort + Print), error: MemoryError) {
     expect_same(rt, error, MemoryError, "the error");
     say(rt, "refused");
 }
 
-/// The call that the line `call` stands before is done, and what it gave is what is wanted, or
-/// memory was refused.
+/// Prints `done` for the call since the line `call`. Expects its result to be `want`, or prints
+/// `refused` if an allocation failed.
 pub fn expect_answer<T: Copy + Debug + PartialEq>(
     rt: &(impl Abort + Print),
     answer: Result<T, MemoryError>,
@@ -81,7 +81,7 @@ pub fn expect_answer<T: Copy + Debug + PartialEq>(
     }
 }
 
-/// The hash of a value by the standard hasher.
+/// Returns the hash of a value by the standard hasher.
 pub fn hash_of<T: Hash>(x: &T) -> u64 {
     let mut state = DefaultHasher::new();
     x.hash(&mut state);

@@ -1,4 +1,4 @@
-//! Unit tries. The units and what they say are those of the format's description.
+//! Unit tries. The units and their entries are those of the format's description.
 
 mod completions;
 mod cursors;

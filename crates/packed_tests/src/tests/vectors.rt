@@ -1,6 +1,8 @@
-//! Packed vectors. Wanted values are worked out by hand: byte `i` of a value is worth 256 to the
-//! power `i`. The script `tests/refused_memory` refuses each request of a test whose name ends in
-//! `_refused` in turn, and sees that one whose name ends in `_quiet` asks for nothing between the
+//! Packed vectors. Expected values are computed by hand: byte `i` of a value counts 256 to the
+//! power `i`.
+//!
+//! The script `tests/refused_memory` makes each allocation of a test whose name ends in `_refused`
+//! fail in turn. It checks that a test whose name ends in `_quiet` does not allocate between the
 //! lines `call` and `done`.
 
 mod comparisons;

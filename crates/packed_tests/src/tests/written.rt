@@ -5,7 +5,8 @@ use icu_zerovec::ule::UleError;
 use icu_zerovec::{MemoryError, ZeroVec};
 use std::process::Abort;
 
-/// A vector of two numbers, its view, and what is left of its values after the first are shown so.
+/// Expects the `Debug` texts of a vector of two numbers, of its view, and of an iterator after the
+/// first value.
 fn expect_list_shown(rt: &(impl Abort + AllocGlobal), vector: &ZeroVec<'_, u16>) {
     expect_shown(rt, vector, "[4660, 255]");
     expect_shown(rt, &vector.as_slice(), "[4660, 255]");

@@ -1,7 +1,8 @@
-//! Calls whose requests for memory are refused in turn. The script `tests/refused_memory` runs each
-//! test whose name ends in `_refused` with its first, second, .. request refused, until a run
-//! refuses nothing: a refusal between the lines `call` and `done` has to be answered by the line
-//! `refused`. In a test whose name ends in `_quiet` nothing is asked for between the two.
+//! Functions that may allocate. The script `tests/refused_memory` runs each test whose name ends in
+//! `_refused` with its first allocation failing, then its second, and so on, until a run has no
+//! failing allocation. If an allocation fails between the lines `call` and `done`, the test must
+//! print the line `refused`. A test whose name ends in `_quiet` must not allocate between these two
+//! lines.
 use super::support::{add, build, new_builder};
 use crate::tests::support::{expect, expect_done, expect_same, say};
 use crate::tests::unit_tries::support::{are_same, value_of};
@@ -10,11 +11,12 @@ use icu_char16trie_builder::error::{AddError, BuildError};
 use std::alloc::Global;
 use std::process::Abort;
 
-/// How many entries are added: so many that the map of the entries grows in each of its ways.
+/// The number of entries that are added. It is large enough for the map of the entries to grow in
+/// each of its ways.
 const MANY: u16 = 90;
 
-/// Adds keys of one and two units up to the first that is refused, at most `count` of them: how
-/// many were added, and the refusal.
+/// Adds at most `count` keys of one and two units until one fails. Returns how many were added, and
+/// the last result.
 fn add_keys(builder: &mut Char16TrieBuilder, count: u16) -> (u16, Result<(), AddError>) {
     for k in 0..count {
         let unit = k % 40;
@@ -30,7 +32,7 @@ fn add_keys(builder: &mut Char16TrieBuilder, count: u16) -> (u16, Result<(), Add
     (count, Ok(()))
 }
 
-/// A builder to which so many keys were added, and no more were tried.
+/// Returns a builder with `count` keys, to which no other key was added.
 fn with_keys(alloc: Global, count: u16) -> Option<Char16TrieBuilder> {
     let mut builder = new_builder(alloc);
     let (_, added) = add_keys(&mut builder, count);
@@ -38,7 +40,7 @@ fn with_keys(alloc: Global, count: u16) -> Option<Char16TrieBuilder> {
     Some(builder)
 }
 
-/// Both builders build the same trie, if they find memory.
+/// Expects both builders to build the same trie. Checks nothing if an allocation fails.
 fn expect_same_built(rt: &impl Abort, found: Char16TrieBuilder, want: Char16TrieBuilder) {
     if let (Ok(found), Ok(want)) = (build(found), build(want)) {
         let same = are_same(&found, &want);
@@ -46,7 +48,7 @@ fn expect_same_built(rt: &impl Abort, found: Char16TrieBuilder, want: Char16Trie
     }
 }
 
-/// Memory was refused for the key that is refused.
+/// Expects any error to be that of a failed allocation, and prints `refused` for it.
 fn expect_memory(rt: &(impl Abort + Print), refusal: Result<(), AddError>) {
     if let Err(error) = refusal {
         expect_same(rt, error, AddError::Memory, "the error");
@@ -54,8 +56,8 @@ fn expect_memory(rt: &(impl Abort + Print), refusal: Result<(), AddError>) {
     }
 }
 
-/// A refused key leaves the entries as they were: those of a builder to which the keys before it
-/// were added.
+/// If adding a key fails, the entries are unchanged: they equal those of a builder to which only
+/// the keys before it were added.
 ///
 /// Calls: `Char16TrieBuilder::add`.
 #[test]
@@ -70,7 +72,7 @@ fn add_refused(rt: HostRuntime) {
     }
 }
 
-/// Texts that differ, one of them with a character of two units.
+/// Different texts, one of which is a character of two units.
 static TEXTS: [&str; 12] = [
     "a",
     "ab",
@@ -86,7 +88,7 @@ static TEXTS: [&str; 12] = [
     "j",
 ];
 
-/// Adds the texts as keys up to the first that is refused: how many were added, and the refusal.
+/// Adds the texts as keys until one fails. Returns how many were added, and the last result.
 fn add_texts(builder: &mut Char16TrieBuilder) -> (u16, Result<(), AddError>) {
     for k in 0..12u16 {
         let added = builder.add_str(TEXTS[usize::from(k)], i32::from(k));
@@ -97,7 +99,7 @@ fn add_texts(builder: &mut Char16TrieBuilder) -> (u16, Result<(), AddError>) {
     (12, Ok(()))
 }
 
-/// A refused text leaves as many entries as there were.
+/// If adding a text fails, the number of entries is unchanged.
 ///
 /// Calls: `Char16TrieBuilder::add_str`.
 #[test]
@@ -111,7 +113,7 @@ fn add_str_refused(rt: HostRuntime) {
     expect_same(&rt, builder.len(), usize::from(count), what);
 }
 
-/// The value of the last key in the trie that the builder builds.
+/// Returns the value of the last key in the trie that the builder builds.
 fn last_built(builder: Char16TrieBuilder) -> Result<Option<i32>, BuildError> {
     match build(builder) {
         Ok(trie) => Ok(value_of(&trie, &[9, 89])),
@@ -119,7 +121,7 @@ fn last_built(builder: Char16TrieBuilder) -> Result<Option<i32>, BuildError> {
     }
 }
 
-/// The trie has the last key's value, or memory was refused.
+/// Expects the value of the last key, or prints `refused` if an allocation failed.
 fn expect_built(rt: &(impl Abort + Print), found: Result<Option<i32>, BuildError>) {
     if found == Err(BuildError::Memory) {
         say(rt, "refused");
@@ -140,7 +142,7 @@ fn build_refused(rt: HostRuntime) {
     expect_built(&rt, found);
 }
 
-/// A new builder takes no memory, and none is taken to count its entries.
+/// A new builder does not allocate, and neither does counting its entries.
 ///
 /// Calls: `Char16TrieBuilder::new`, `Char16TrieBuilder::len`, `Char16TrieBuilder::is_empty`.
 #[test]

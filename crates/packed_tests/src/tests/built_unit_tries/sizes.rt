@@ -1,4 +1,4 @@
-//! How many units tries have, and that large ones are built.
+//! How many units tries have, and that large tries are built.
 use super::support::{Entry, add, build, built, expect_added, new_builder};
 use super::worked_tries::TWELVE;
 use crate::tests::support::{expect_same, given};
@@ -9,19 +9,19 @@ use icu_char16trie_builder::error::AddError;
 use std::alloc::{AllocError, Global};
 use std::process::Abort;
 
-/// A key of a letter and forty units 7.
+/// Returns a key of a letter followed by the unit 7 forty times.
 fn key_of(letter: u16) -> [u16; 41] {
     let mut key = [7; 41];
     key[0] = letter;
     key
 }
 
-/// How many units the trie of these entries has.
+/// Returns the number of units in the trie of these entries.
 fn len_of(rt: &(impl Abort + AllocGlobal), entries: &[Entry<'_>]) -> usize {
     built(rt, entries).data.len()
 }
 
-/// How many units a trie of the keys of four letters with these values has.
+/// Returns the number of units in a trie of four keys with these values.
 fn len_of_four(rt: &(impl Abort + AllocGlobal), values: [i32; 4]) -> usize {
     let [a, b, c, d] = [key_of(1), key_of(2), key_of(3), key_of(4)];
     let [first, second, third, fourth] = values;
@@ -34,8 +34,9 @@ fn len_of_four(rt: &(impl Abort + AllocGlobal), values: [i32; 4]) -> usize {
     len_of(rt, &entries)
 }
 
-/// Forty units take 43 with their leads, and a value 1. The last of four nodes stands in the row
-/// itself, so of four equal ones two are written.
+/// The forty units take 43 units with their lead units, and the value takes one. The last of the
+/// four nodes is part of the branch itself, so four equal nodes are written twice instead of four
+/// times.
 #[test]
 fn equal_nodes(rt: HostRuntime) {
     let shared = len_of_four(&rt, [1; 4]);
@@ -43,7 +44,7 @@ fn equal_nodes(rt: HostRuntime) {
     expect_same(&rt, apart, shared.saturating_add(88), "two nodes less");
 }
 
-/// A key of so many units 5.
+/// Returns a key of `count` times the unit 5.
 fn long_key(alloc: Global, count: usize) -> Result<Vec<u16>, AllocError> {
     vec![in alloc; 5; count]
 }
@@ -53,8 +54,7 @@ fn length_of_twelve_keys(rt: HostRuntime) {
     expect_same(&rt, len_of(&rt, &TWELVE), 45, "as many units as ICU's");
 }
 
-/// What a builder of no entries answers for four keys: one of 65,536 units, one of 65,535, and both
-/// again.
+/// Adds a key of 65,536 units and one of 65,535, and then both again. Returns the four results.
 fn answers_at_the_limit(
     builder: &mut Char16TrieBuilder,
     longest: &[u16],
@@ -68,15 +68,15 @@ fn answers_at_the_limit(
     ]
 }
 
-/// The trie has the longest key with the value 2, and not the longer one: 4,095 linear matches of
-/// 16 units and one of 15, each with its lead, and the value.
+/// Expects the trie to have the key of 65,535 units with the value 2, and not the longer key. The
+/// trie has 4,095 linear matches of 16 units and one of 15, each with its lead unit, and the value.
 fn expect_longest(rt: &impl Abort, trie: &Char16Trie<'_>, longest: &[u16], longer: &[u16]) {
     let found = [value_of(trie, longest), value_of(trie, longer)];
     expect_same(rt, found, [Some(2), None], "65,535 units, and 65,536");
     expect_same(rt, trie.data.len(), 65_535 + 4096 + 1, "units");
 }
 
-/// Of both keys only the first one is added, once.
+/// Of both keys, only the one of 65,535 units is added, and only once.
 #[test]
 fn longest_keys(rt: HostRuntime) {
     let longest = given(&rt, long_key(rt.alloc(), 65_535));
@@ -88,7 +88,7 @@ fn longest_keys(rt: HostRuntime) {
     expect_longest(&rt, &given(&rt, build(builder)), &longest, &longer);
 }
 
-/// A trie of keys of one unit, those below `count`, each with its unit as value.
+/// Returns a trie with a key for each unit below `count`, whose value is the unit.
 fn trie_of_units(rt: &(impl Abort + AllocGlobal), count: u16) -> Char16Trie<'static> {
     let mut builder = new_builder(rt.alloc());
     for unit in 0..count {
@@ -97,7 +97,8 @@ fn trie_of_units(rt: &(impl Abort + AllocGlobal), count: u16) -> Char16Trie<'sta
     given(rt, build(builder))
 }
 
-/// The trie has the units below `count` as keys, each with its unit as value, and no other one.
+/// Expects the trie to have a key for each unit below `count`, whose value is the unit, and no
+/// other key of one unit.
 fn expect_units(rt: &impl Abort, trie: &Char16Trie<'_>, count: u16) {
     for unit in 0..0xFFFF {
         let want = (unit < count).then_some(i32::from(unit));
@@ -112,12 +113,12 @@ fn branches_of_many_units(rt: HostRuntime) {
     }
 }
 
-/// A key of 20,000 units k.
+/// Returns a key of 20,000 times the unit `k`.
 fn copies_of(alloc: Global, k: u16) -> Result<Vec<u16>, AllocError> {
     vec![in alloc; k; 20_000]
 }
 
-/// A trie of ten keys, of which key k is 20,000 units k, with the value k.
+/// Returns a trie of ten keys. Key k is 20,000 times the unit k, and has the value k.
 fn trie_of_ten(rt: &(impl Abort + AllocGlobal)) -> Char16Trie<'static> {
     let mut builder = new_builder(rt.alloc());
     for k in 1..11 {
@@ -127,7 +128,7 @@ fn trie_of_ten(rt: &(impl Abort + AllocGlobal)) -> Char16Trie<'static> {
     given(rt, build(builder))
 }
 
-/// The values of a key, and of the key without its last unit.
+/// Returns the value of a key, and of the key without its last unit.
 fn values_at_the_end(trie: &Char16Trie<'_>, key: &[u16]) -> [Option<i32>; 2] {
     match key.split_last() {
         Some((_, shorter)) => [value_of(trie, key), value_of(trie, shorter)],
@@ -135,7 +136,7 @@ fn values_at_the_end(trie: &Char16Trie<'_>, key: &[u16]) -> [Option<i32>; 2] {
     }
 }
 
-/// A delta passes 0xFBFF, and needs two units.
+/// A delta is above 0xFBFF, so it takes two units.
 #[test]
 fn ten_keys_of_20_000_units(rt: HostRuntime) {
     let trie = trie_of_ten(&rt);

@@ -1,4 +1,4 @@
-//! Keys that are texts, and how many entries there are.
+//! Keys that are texts, and the number of entries.
 use super::support::{add, build, new_builder};
 use crate::tests::support::{expect_same, given};
 use crate::tests::unit_tries::support::value_of;
@@ -7,8 +7,7 @@ use icu_char16trie_builder::builder::Char16TrieBuilder;
 use icu_char16trie_builder::error::AddError;
 use std::process::Abort;
 
-/// What a builder answers for texts as keys: for "a" and for an emoji, whose units are a key too,
-/// and for "a" again.
+/// Adds "a" and an emoji, the units of the emoji, and "a" again. Returns the results.
 fn answers_of_texts(builder: &mut Char16TrieBuilder) -> [Result<(), AddError>; 4] {
     [
         builder.add_str("a", 1),
@@ -18,7 +17,7 @@ fn answers_of_texts(builder: &mut Char16TrieBuilder) -> [Result<(), AddError>; 4
     ]
 }
 
-/// The answers for texts as keys, and how many entries there are then.
+/// Expects the results of adding texts, and the number of entries after that.
 fn expect_answers(rt: &impl Abort, builder: &mut Char16TrieBuilder) {
     let answers = answers_of_texts(builder);
     let again = Err(AddError::Duplicate);
@@ -27,7 +26,7 @@ fn expect_answers(rt: &impl Abort, builder: &mut Char16TrieBuilder) {
     expect_same(rt, found, want, "answers, and two entries");
 }
 
-/// The values of "a" and of the emoji.
+/// Returns the values of "a" and of the emoji.
 fn values_of(trie: &Char16Trie<'_>) -> [Option<i32>; 2] {
     [value_of(trie, &[0x61]), value_of(trie, &[0xD83D, 0xDE00])]
 }

@@ -1,5 +1,5 @@
-//! Tries whose entries are those of the format's description, and what is in a trie of no entries:
-//! by a builder, and built at once of entries in unit order; and entries that are in none.
+//! Tries with the entries of the format's description, and the trie without entries. They are built
+//! by a builder, and directly from entries in unit order. Also entries that are rejected.
 use super::support::{Entry, built};
 use crate::tests::support::{expect_done, expect_same, given, say};
 use crate::tests::unit_tries::support::{are_same, count_of, made_trie, value_of};
@@ -9,14 +9,15 @@ use icu_char16trie_builder::error::SortedError;
 use std::alloc::Global;
 use std::process::Abort;
 
-/// Entries in unit order, and the units that ICU's builder writes for them, where they are told. It
-/// writes the same ones where it is asked for a fast trie. Or why the entries are refused.
+/// Entries in unit order, and the units that ICU's builder writes for them, if they are listed; ICU
+/// writes the same units for a fast trie. Or the error for the entries.
 type Row = (
     &'static [Entry<'static>],
     Result<Option<&'static [u16]>, SortedError>,
 );
 
-/// Six keys of one letter, each with a longer key: values at the ends of each of their lengths.
+/// Six keys of one letter, each with a longer key. The values are the smallest and the largest of
+/// each length.
 pub const TWELVE: [Entry<'static>; 12] = [
     (&[0x61], 0),
     (&[0x61, 0x7A], 0x3FFF),
@@ -32,7 +33,7 @@ pub const TWELVE: [Entry<'static>; 12] = [
     (&[0x66, 0x7A], i32::MIN),
 ];
 
-/// So many entries that a branch is halved, with keys that go on.
+/// Enough entries for a branch to be split, with longer keys.
 const MANY: [Entry<'static>; 12] = [
     (&[1], 1),
     (&[1, 1], 2),
@@ -69,14 +70,14 @@ static ROWS: [Row; 23] = [
     (&[(&[0x61], 1), (&[0x61, 0x62], 2)], Ok(None)),
     (&[(&[], 1), (&[0x61, 0x62], 2)], Ok(None)),
     (&[(&[], 7), (&[0x61], 8), (&[0x62], 8)], Ok(None)),
-    // A key is the front of the next ones.
+    // A key is a prefix of the next ones.
     (
         &[(&[0x61], 1), (&[0x61, 0], 2), (&[0x61, 0x62, 0x63], 3)],
         Ok(None),
     ),
-    // Lone surrogates are keys, and no characters.
+    // Unpaired surrogates can be keys, but are not characters.
     (&[(&[0xD800], 1), (&[0xDC00], 2)], Ok(None)),
-    // In unit order a character above U+FFFF stands before U+E000.
+    // In unit order, a character above U+FFFF is before U+E000.
     (&[(&[0xD83D, 0xDE00], 1), (&[0xE000], 2)], Ok(None)),
     (
         &[(&[0xD83D], 1), (&[0xD83D, 0xDE00], 2), (&[0xE000], 3)],
@@ -86,13 +87,13 @@ static ROWS: [Row; 23] = [
         &[(&[0x62], 1), (&[0x61], 2)],
         Err(SortedError::NotAscending(1)),
     ),
-    // The same key again, with the same value, and the empty key.
+    // The same key again with the same value, and the empty key.
     (
         &[(&[0x61], 1), (&[0x61], 1), (&[0x61], 1)],
         Err(SortedError::NotAscending(1)),
     ),
     (&[(&[], 1), (&[], 2)], Err(SortedError::NotAscending(1))),
-    // A key after one that it is the front of; a longer key with a lower unit.
+    // A key after one that it is a prefix of, and a longer key with a lower unit.
     (
         &[(&[0x61], 1), (&[0x62, 0x63], 2), (&[0x62], 3), (&[1], 4)],
         Err(SortedError::NotAscending(2)),
@@ -103,12 +104,12 @@ static ROWS: [Row; 23] = [
     ),
 ];
 
-/// What is answered for these entries.
+/// Builds a trie of these entries in unit order.
 fn build_sorted(alloc: Global, entries: &[Entry<'_>]) -> Result<Char16Trie<'static>, SortedError> {
     Char16TrieBuilder::build_sorted(alloc, entries)
 }
 
-/// Whether the keys of these entries have their values.
+/// Returns true if the keys of these entries have their values.
 fn has_values(trie: &Char16Trie<'_>, entries: &[Entry<'_>]) -> bool {
     let mut right = true;
     for (key, value) in entries.iter() {
@@ -117,8 +118,8 @@ fn has_values(trie: &Char16Trie<'_>, entries: &[Entry<'_>]) -> bool {
     right
 }
 
-/// How many entries a trie has, whether it has these ones, and whether it is the one that a builder
-/// builds of them.
+/// Returns how many entries a trie has, whether it has these entries, and whether it equals the
+/// trie that a builder builds of them.
 fn told_of(
     rt: &(impl Abort + AllocGlobal),
     trie: &Char16Trie<'_>,
@@ -131,8 +132,8 @@ fn told_of(
     )
 }
 
-/// A trie has these entries and no other one, in whatever order they are added; and it has these
-/// units, if any are told.
+/// Expects a trie to have exactly these entries, in whatever order they were added, and to have
+/// these units if they are given.
 fn expect_trie(
     rt: &(impl Abort + AllocGlobal),
     trie: &Char16Trie<'_>,
@@ -148,7 +149,8 @@ fn expect_trie(
     }
 }
 
-/// The entries of a row are in a trie, which has its units, or are refused.
+/// Expects the trie of a row's entries to have them and the row's units, or expects the row's
+/// error.
 fn expect_row(rt: &(impl Abort + AllocGlobal), row: &Row) {
     let (entries, want) = row;
     match (build_sorted(rt.alloc(), entries), want) {
@@ -165,7 +167,7 @@ fn worked_tries(rt: HostRuntime) {
     }
 }
 
-/// The value of the last of the entries in the trie that is built of them.
+/// Builds a trie, and returns the value of the last entry.
 fn last_value(alloc: Global) -> Result<Option<i32>, SortedError> {
     match build_sorted(alloc, &MANY) {
         Ok(trie) => Ok(value_of(&trie, &[9, 2])),
@@ -186,7 +188,7 @@ fn build_sorted_refused(rt: HostRuntime) {
     }
 }
 
-/// Entries that are not in order are refused without memory.
+/// Entries that are not in order are rejected without an allocation.
 ///
 /// Calls: `Char16TrieBuilder::build_sorted`.
 #[test]

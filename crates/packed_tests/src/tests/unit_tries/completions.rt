@@ -1,4 +1,4 @@
-//! The entries that go on from a cursor, the units with which they do, and their one value.
+//! The entries that continue from a cursor, the next units, and the value that all of them have.
 use super::support::{
     A_AB, LEAD_PAIR, SIX, cursor_after, entries_from, listed, made_trie, units_of,
 };
@@ -6,23 +6,23 @@ use crate::tests::support::{expect_same, given};
 use icu_char16trie::char16trie::{Char16TrieCursor, CursorPlace};
 use std::process::Abort;
 
-/// The units of "abc" to 3 and "abcd" to 4.
+/// The units of a trie of "abc" with the value 3 and "abcd" with 4.
 const RUN: [u16; 7] = [0x32, 0x61, 0x62, 0x63, 0x130, 0x64, 0x8004];
 
-/// The units of "a" to 1, "ab" to 1 and "b" to 3.
+/// The units of a trie of "a" with the value 1, "ab" with 1 and "b" with 3.
 const ALIKE: [u16; 8] = [1, 0x61, 2, 0x62, 0x8003, 0xB0, 0x62, 0x8001];
 
-/// What is told of the keys that go on from a cursor.
+/// An expected result for the keys that continue from a cursor.
 enum Told {
     /// The entries.
     Entries(&'static str),
-    /// The units with which they go on.
+    /// The next units of the keys.
     Units(&'static [u16]),
-    /// The value of all of them, if they have one.
+    /// The value of all of them, if they have the same value.
     Value(Option<i32>),
 }
 
-/// Units of a trie, units that are passed, and what is told there.
+/// The units of a trie, the units to pass, and the expected result after them.
 type Row = (&'static [u16], &'static [u16], Told);
 
 static ROWS: [Row; 56] = [
@@ -31,7 +31,7 @@ static ROWS: [Row; 56] = [
     (&A_AB, &[0x61, 0x62], Told::Entries("=2;")),
     (&A_AB, &[0x61, 0x62, 0x63], Told::Entries("")),
     (&A_AB, &[0x62], Told::Entries("")),
-    // A cursor within a linear match: the rest of it comes first.
+    // A cursor within a linear match: the rest of the match comes first.
     (&RUN, &[], Told::Entries("abc=3;abcd=4;")),
     (&RUN, &[0x61], Told::Entries("bc=3;bcd=4;")),
     (&RUN, &[0x61, 0x62], Told::Entries("c=3;cd=4;")),
@@ -41,14 +41,13 @@ static ROWS: [Row; 56] = [
     (&SIX, &[0x65], Told::Entries("=5;")),
     (&[0x8007], &[], Told::Entries("=7;")),
     (&[], &[], Told::Entries("")),
-    // A trail surrogate whose lead was passed stands alone, and so does a lead at an end.
+    // A trail surrogate is unpaired if its lead was passed, and so is a lead at the end of a key.
     (&LEAD_PAIR, &[], Told::Entries("\u{fffd}=1;\u{1f600}=2;")),
     (&LEAD_PAIR, &[0xD83D], Told::Entries("=1;\u{fffd}=2;")),
-    // Units that are no trie: a value that is cut off is 0, and a linear match that is cut off has
-    // no entry.
+    // Invalid units: a truncated value is 0, and a truncated linear match has no entry.
     (&[0x30, 0x61, 0xFFFF], &[0x61], Told::Entries("=0;")),
     (&[0x33, 0x61, 0x62], &[0x61], Told::Entries("")),
-    // The units with which keys go on.
+    // The next units of the keys.
     (&A_AB, &[], Told::Units(&[0x61])),
     (&A_AB, &[0x61], Told::Units(&[0x62])),
     (&A_AB, &[0x61, 0x62], Told::Units(&[])),
@@ -64,17 +63,17 @@ static ROWS: [Row; 56] = [
     (&LEAD_PAIR, &[0xD83D], Told::Units(&[0xDE00])),
     (&[0x8007], &[], Told::Units(&[])),
     (&[], &[], Told::Units(&[])),
-    // A branch whose length stands in a unit of its own.
+    // A branch whose length takes a unit of its own.
     (
         &[0, 1, 0x61, 0x8001, 0x62, 0x8002],
         &[],
         Told::Units(&[0x61, 0x62]),
     ),
-    // Units that are no trie: what is not there does not go on.
+    // Invalid units: missing units are not continued.
     (&[0], &[], Told::Units(&[])),
     (&[2, 0x61, 0x8001, 0x62], &[], Told::Units(&[0x61])),
     (&[0x31], &[], Told::Units(&[])),
-    // The value of all keys that go on.
+    // The value of all keys that continue.
     (&A_AB, &[], Told::Value(None)),
     (&A_AB, &[0x61], Told::Value(None)),
     (&A_AB, &[0x61, 0x62], Told::Value(Some(2))),
@@ -98,14 +97,14 @@ static ROWS: [Row; 56] = [
     (&[], &[], Told::Value(None)),
     // A node to which both units of a branch lead.
     (&[1, 0x61, 1, 0x62, 0x8001], &[], Told::Value(Some(1))),
-    // Units that are no trie: a value, a linear match and a branch that are cut off, units that
-    // descend, and a jump past the end.
+    // Invalid units: a truncated value, linear match and branch, descending units, and a jump past
+    // the end.
     (&[0x30, 0x61, 0xFFFF], &[0x61], Told::Value(None)),
     (&[0x33, 0x61, 0x62], &[0x61], Told::Value(None)),
     (&[1, 0x61, 0x8001], &[], Told::Value(None)),
     (&[1, 0x62, 0x8001, 0x61, 0x8001], &[], Told::Value(None)),
     (&[1, 0x61, 3, 0x62, 0x8001, 0x8001], &[], Told::Value(None)),
-    // Of which a part is one.
+    // Invalid units of which a part is valid.
     (
         &[1, 0x62, 0x8001, 0x61, 0x8001],
         &[0x61],
@@ -113,7 +112,7 @@ static ROWS: [Row; 56] = [
     ),
 ];
 
-/// These entries go on from a cursor.
+/// Expects these entries to continue from a cursor.
 fn expect_entries(
     rt: &(impl Abort + AllocGlobal),
     cursor: &Char16TrieCursor<'_>,
@@ -125,7 +124,7 @@ fn expect_entries(
     expect_same(rt, (units, said.as_str()), (units, want), "entries");
 }
 
-/// Keys go on from a cursor with these units.
+/// Expects keys to continue from a cursor with these units.
 fn expect_units(
     rt: &(impl Abort + AllocGlobal),
     cursor: &Char16TrieCursor<'_>,
@@ -136,7 +135,7 @@ fn expect_units(
     expect_same(rt, (units, found.as_slice()), (units, want), "next units");
 }
 
-/// This is told at a cursor.
+/// Expects this result at a cursor.
 fn expect_told(
     rt: &(impl Abort + AllocGlobal),
     cursor: &Char16TrieCursor<'_>,
@@ -161,8 +160,8 @@ fn completions(rt: HostRuntime) {
     }
 }
 
-/// Places in the units of "abc" and "abcd", and the entries from there. The third of them read as a
-/// node's lead says the value 0 and a branch, which is cut off.
+/// Positions in the units of "abc" and "abcd", and the entries from there. In the second row, the
+/// unit of "c" is read as a lead unit: as the value 0 and a branch, which is truncated.
 static PLACES: [(usize, u16, &str); 7] = [
     (1, 3, "abc=3;abcd=4;"),
     (2, 1, "b=0;"),

@@ -1,4 +1,4 @@
-//! Steps of cursors and of iterators, which take no memory.
+//! Steps of cursors and iterators. None of them allocates.
 use super::support::{A_AB, LEAD_PAIR, SIX, cursor_of, some_trie, units_of};
 use crate::tests::support::{expect_done, expect_same, say};
 use icu_char16trie::char16trie::{
@@ -8,24 +8,24 @@ use icu_zerovec::ZeroSlice;
 use std::fmt::Write;
 use std::process::Abort;
 
-/// What is done with a cursor or with an iterator.
+/// A step of a cursor or an iterator.
 enum Step {
     Character(char),
     Unit(u16),
     Number(u32),
-    /// A text is written to a cursor, and its characters are given to an iterator.
+    /// Writes a text to a cursor, or passes its characters to an iterator.
     Text(&'static str),
-    /// A character is written to a cursor, and given to an iterator.
+    /// Writes a character to a cursor, or passes it to an iterator.
     Written(char),
-    /// A clone takes its place.
+    /// Replaces it by a clone.
     Cloned,
-    /// A cursor that is resumed where it stands takes its place.
+    /// Replaces a cursor by one that is resumed at the same position, and an iterator by a clone.
     Resumed,
-    /// One of the same units takes its place.
+    /// Replaces it by a new one on the same units.
     Renewed,
 }
 
-/// Makes a cursor do a step, where it can.
+/// Applies a step to a cursor. Returns `None` if the step fails.
 fn pass<'a>(
     cursor: &mut Char16TrieCursor<'a>,
     units: ZeroSlice<'a, u16>,
@@ -44,7 +44,7 @@ fn pass<'a>(
     Some(())
 }
 
-/// What a cursor tells where it stands, as an iterator tells it.
+/// Returns the result at a cursor, in the form that an iterator returns.
 fn result_at(cursor: &Char16TrieCursor<'_>) -> TrieResult {
     match (cursor.value(), cursor.is_empty()) {
         (Some(value), true) => TrieResult::FinalValue(value),
@@ -54,7 +54,7 @@ fn result_at(cursor: &Char16TrieCursor<'_>) -> TrieResult {
     }
 }
 
-/// What a cursor tells after these steps, if it could do them.
+/// Returns the result at a cursor after these steps, or `None` if one fails.
 fn told_by_cursor(trie: &Char16Trie<'_>, steps: &[Step]) -> Option<TrieResult> {
     let units = units_of(trie);
     let mut cursor = cursor_of(trie);
@@ -64,7 +64,7 @@ fn told_by_cursor(trie: &Char16Trie<'_>, steps: &[Step]) -> Option<TrieResult> {
     Some(result_at(&cursor))
 }
 
-/// What an iterator tells of one more text.
+/// Returns the last result of an iterator for the characters of a text.
 fn result_of_text(iterator: &mut Char16TrieIterator<'_>, text: &str) -> Option<TrieResult> {
     let mut result = None;
     for c in text.chars() {
@@ -73,7 +73,7 @@ fn result_of_text(iterator: &mut Char16TrieIterator<'_>, text: &str) -> Option<T
     result
 }
 
-/// Makes an iterator do a step: what it tells, if it tells anything.
+/// Applies a step to an iterator. Returns its result, if the step has one.
 fn result_of_step<'a>(
     iterator: &mut Char16TrieIterator<'a>,
     units: ZeroSlice<'a, u16>,
@@ -95,7 +95,7 @@ fn result_of_step<'a>(
     }
 }
 
-/// What an iterator tells of the last of these steps.
+/// Returns the result of an iterator for the last of these steps.
 fn told_by_iterator(trie: &Char16Trie<'_>, steps: &[Step]) -> Option<TrieResult> {
     let units = units_of(trie);
     let mut iterator = trie.iter();
@@ -106,19 +106,19 @@ fn told_by_iterator(trie: &Char16Trie<'_>, steps: &[Step]) -> Option<TrieResult>
     result
 }
 
-/// The units of "ab" to 3.
+/// The units of a trie of "ab" with the value 3.
 const AB: [u16; 4] = [0x31, 0x61, 0x62, 0x8003];
 
-/// The units of a character of two units to 1.
+/// The units of a trie of a character of two units with the value 1.
 const PAIR: [u16; 4] = [0x31, 0xD83D, 0xDE00, 0x8001];
 
-/// Units of a trie, steps, and what is told after them.
+/// The units of a trie, steps, and the expected result after them.
 type Row = (&'static [u16], &'static [Step], TrieResult);
 
 static ROWS: [Row; 33] = [
     (&AB, &[Step::Text("ab")], TrieResult::FinalValue(3)),
     (&AB, &[Step::Character('a')], TrieResult::NoValue),
-    // From a character that matches nothing on, none does.
+    // After a character that does not match, no character matches.
     (&AB, &[Step::Character('x')], TrieResult::NoMatch),
     (
         &AB,
@@ -153,7 +153,7 @@ static ROWS: [Row; 33] = [
         &[Step::Cloned, Step::Written('f')],
         TrieResult::FinalValue(6),
     ),
-    // A character by its units, and by itself.
+    // A character by its units, and as a character.
     (&PAIR, &[Step::Unit(0xD83D)], TrieResult::NoValue),
     (
         &PAIR,
@@ -187,7 +187,7 @@ static ROWS: [Row; 33] = [
         &[Step::Number(0xD83D)],
         TrieResult::Intermediate(1),
     ),
-    // A number above the code points is not cut to units that are keys.
+    // A number above the code points is not truncated to units that are a key.
     (&LONE, &[Step::Number(0x11_0000)], TrieResult::NoMatch),
     (&LONE, &[Step::Number(0x12_0000)], TrieResult::NoMatch),
     (&LONE, &[Step::Number(0xFFFF_FFFF)], TrieResult::NoMatch),
@@ -202,19 +202,19 @@ static ROWS: [Row; 33] = [
     (&ZERO, &[Step::Number(0xFFFF_FFFF)], TrieResult::NoMatch),
 ];
 
-/// The units of a lone lead surrogate to 5.
+/// The units of a trie of an unpaired lead surrogate with the value 5.
 const LONE: [u16; 3] = [0x30, 0xD800, 0x8005];
 
-/// The units of "a" to a value that is cut off.
+/// The units of a trie of "a" with a truncated value.
 const CUT: [u16; 3] = [0x30, 0x61, 0xFFFF];
 
-/// The units of two trail surrogates to 1.
+/// The units of a trie of two trail surrogates with the value 1.
 const TRAILS: [u16; 4] = [0x31, 0xDC00, 0xDC00, 0x8001];
 
-/// The units of a unit 0 to 1.
+/// The units of a trie of the unit 0 with the value 1.
 const ZERO: [u16; 3] = [0x30, 0, 0x8001];
 
-/// After these steps a cursor and an iterator tell this, and ask for no memory.
+/// Expects a cursor and an iterator to return this result after these steps, without an allocation.
 fn expect_told_after(
     rt: &(impl Abort + AllocGlobal + Print),
     units: &[u16],
@@ -241,7 +241,8 @@ fn steps_quiet(rt: HostRuntime) {
     }
 }
 
-/// Places, the first in a linear match, and those of strangers, and what is told there.
+/// Positions, and the expected result at each. The first three are positions in the trie, one of
+/// them within a linear match; the others are not.
 static PLACES: [(usize, u16, TrieResult); 6] = [
     (0, 0, TrieResult::NoValue),
     (1, 2, TrieResult::NoValue),
@@ -251,7 +252,7 @@ static PLACES: [(usize, u16, TrieResult); 6] = [
     (usize::MAX, 0, TrieResult::NoMatch),
 ];
 
-/// What is told at each of the places.
+/// Expects the result at each of the positions.
 fn expect_places(rt: &impl Abort, units: ZeroSlice<'_, u16>) {
     for (position, left, want) in PLACES.iter() {
         let (position, left) = (*position, *left);

@@ -1,19 +1,21 @@
-//! The keys that begin a text: the longest one, and all of them. No memory is asked for.
+//! The keys that are prefixes of a text: the longest one, and all of them. Finding them does not
+//! allocate.
 use super::support::{A_AB, LEAD_PAIR, SIX, some_trie};
 use crate::tests::support::{expect_done, say};
 use icu_char16trie::char16trie::Char16Trie;
 use std::process::Abort;
 
-/// The units of the empty key to 7 and "a" to 1.
+/// The units of a trie of the empty key with the value 7 and "a" with 1.
 const EMPTY_A: [u16; 3] = [0x230, 0x61, 0x8001];
 
-/// A text of units, or of characters.
+/// A text of units or of characters.
 enum Text {
     Units(&'static [u16]),
     Characters(&'static str),
 }
 
-/// Units of a trie, a text, and the longest key that begins it.
+/// The units of a trie, a text, and the length and value of the longest key that is a prefix of the
+/// text.
 type Row = (&'static [u16], Text, Option<(usize, i32)>);
 
 static LONGEST: [Row; 35] = [
@@ -23,9 +25,9 @@ static LONGEST: [Row; 35] = [
     (&A_AB, Text::Units(&[0x61]), Some((1, 1))),
     (&A_AB, Text::Units(&[0x62]), None),
     (&A_AB, Text::Units(&[]), None),
-    // A key in a text, but not at its begin.
+    // A key in the text, but not at its start.
     (&A_AB, Text::Units(&[0x63, 0x61]), None),
-    // The empty key begins each text.
+    // The empty key is a prefix of every text.
     (&[0x8007], Text::Units(&[]), Some((0, 7))),
     (&[0x8007], Text::Units(&[0x61]), Some((0, 7))),
     (&EMPTY_A, Text::Units(&[]), Some((0, 7))),
@@ -45,11 +47,10 @@ static LONGEST: [Row; 35] = [
     ),
     (&SIX, Text::Units(&[0x63, 0x63]), Some((1, 3))),
     (&SIX, Text::Units(&[0x67]), None),
-    // Units, and not characters, are matched.
+    // Units are matched, not characters.
     (&LEAD_PAIR, Text::Units(&[0xD83D, 0xDE01]), Some((1, 1))),
     (&LEAD_PAIR, Text::Units(&[0xD83D, 0xDE00]), Some((2, 2))),
-    // Units that are no trie: what is needed and not there is no match, and a value that is cut off
-    // is 0.
+    // Invalid units: if a needed unit is missing, there is no match, and a truncated value is 0.
     (&[], Text::Units(&[0x61]), None),
     (&[0xFFFF], Text::Units(&[0x61]), Some((0, 0))),
     (&[0x30], Text::Units(&[0x61]), None),
@@ -63,7 +64,7 @@ static LONGEST: [Row; 35] = [
         Text::Units(&[0x62]),
         Some((1, 2)),
     ),
-    // The length of a key in a text of characters is one of bytes.
+    // In a text of characters, the length of a key is in bytes.
     (&A_AB, Text::Characters("abc"), Some((2, 2))),
     (&A_AB, Text::Characters("ac"), Some((1, 1))),
     (&A_AB, Text::Characters(""), None),
@@ -86,7 +87,7 @@ static LONGEST: [Row; 35] = [
     (&[], Text::Characters("a"), None),
 ];
 
-/// Units of a trie, a text, and all keys that begin it, of which there are at most two.
+/// The units of a trie, a text, and all keys that are prefixes of the text, which are at most two.
 type AllRow = (&'static [u16], &'static [u16], [Option<(usize, i32)>; 3]);
 
 static ALL: [AllRow; 7] = [
@@ -107,7 +108,7 @@ static ALL: [AllRow; 7] = [
     (&[], &[0x61], [None; 3]),
 ];
 
-/// The longest key that begins a text.
+/// Returns the longest key that is a prefix of a text.
 fn longest_of(trie: &Char16Trie<'_>, text: &Text) -> Option<(usize, i32)> {
     match text {
         Text::Units(units) => trie.longest_match(units),
@@ -115,7 +116,7 @@ fn longest_of(trie: &Char16Trie<'_>, text: &Text) -> Option<(usize, i32)> {
     }
 }
 
-/// The longest key that begins a text is this one.
+/// Expects this longest key that is a prefix of a text.
 fn expect_longest(
     rt: &(impl Abort + AllocGlobal + Print),
     units: &[u16],
@@ -138,13 +139,13 @@ fn longest_matches_quiet(rt: HostRuntime) {
     }
 }
 
-/// The first three items: all matches of a text, where it has at most two.
+/// Returns the first three items of the matches of a text, which has at most two.
 fn three_matches(trie: &Char16Trie<'_>, text: &[u16]) -> [Option<(usize, i32)>; 3] {
     let mut matches = trie.matches(text);
     [matches.next(), matches.next(), matches.next()]
 }
 
-/// All keys that begin a text are these ones.
+/// Expects exactly these keys to be prefixes of a text.
 fn expect_matches(
     rt: &(impl Abort + AllocGlobal + Print),
     units: &[u16],

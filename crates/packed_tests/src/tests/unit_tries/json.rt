@@ -1,4 +1,4 @@
-//! Tries from and to JSON.
+//! Conversion of tries to and from JSON.
 use super::support::{are_same, made_trie, some_trie};
 use crate::tests::support::{expect_same, expect_text, given, say, say_refused};
 use icu_char16trie::char16trie::{Char16JsonError, Char16Trie};
@@ -7,17 +7,17 @@ use serde_json::Value;
 use std::alloc::Global;
 use std::process::Abort;
 
-/// The value that a JSON text says.
+/// Parses a JSON text.
 fn value_of_text(alloc: Global, text: &str) -> Option<Value> {
     Value::from_str(alloc, text).ok()
 }
 
-/// The trie that a JSON value says.
+/// Returns the trie in a JSON value.
 fn read(alloc: Global, value: &Value) -> Result<Char16Trie<'static>, Char16JsonError> {
     Char16Trie::from_json(alloc, value)
 }
 
-/// Whether the trie that a JSON value says has these units.
+/// Returns whether the trie in a JSON value has these units.
 fn is_read(
     rt: &(impl Abort + AllocGlobal),
     value: &Value,
@@ -29,7 +29,7 @@ fn is_read(
     }
 }
 
-/// A JSON text says these units, or has this fault.
+/// Expects a JSON text to have these units or this error.
 fn expect_read(rt: &(impl Abort + AllocGlobal), text: &str, want: Result<&[u16], Char16JsonError>) {
     let Some(value) = value_of_text(rt.alloc(), text) else {
         rt.panic("no JSON")
@@ -40,7 +40,7 @@ fn expect_read(rt: &(impl Abort + AllocGlobal), text: &str, want: Result<&[u16],
     }
 }
 
-/// A JSON text, and the units that it says, or its fault: its shape, or a number.
+/// A JSON text, and its units or its error: a wrong shape, or the index of a wrong number.
 type Row = (&'static str, Result<&'static [u16], Char16JsonError>);
 
 static ROWS: [Row; 14] = [
@@ -73,7 +73,8 @@ fn json_texts(rt: HostRuntime) {
     }
 }
 
-/// The call is done, and the JSON value of "ab" to 3 is this text, or memory was refused.
+/// Prints that the call is done. Expects the JSON value of "ab" with the value 3 to have this text,
+/// or prints `refused` if an allocation failed.
 fn expect_written(rt: &(impl Abort + AllocGlobal + Print), written: Result<Value, MemoryError>) {
     say(rt, "done");
     match written {
@@ -102,7 +103,7 @@ fn to_json_refused(rt: HostRuntime) {
     expect_written(&rt, written);
 }
 
-/// How many units the trie that a JSON value says has.
+/// Returns the number of units of the trie in a JSON value.
 fn len_read(alloc: Global, value: &Value) -> Result<usize, Char16JsonError> {
     match read(alloc, value) {
         Ok(trie) => Ok(trie.data.len()),

@@ -1,7 +1,8 @@
-//! Calls whose requests for memory are refused in turn. The script `tests/refused_memory` runs each
-//! test whose name ends in `_refused` with its first, second, .. request refused, until a run
-//! refuses nothing: a refusal between the lines `call` and `done` has to be answered by the line
-//! `refused`. In a test whose name ends in `_quiet` nothing is asked for between the two.
+//! Functions that may allocate. The script `tests/refused_memory` runs each test whose name ends in
+//! `_refused` with its first allocation failing, then its second, and so on, until a run has no
+//! failing allocation. If an allocation fails between the lines `call` and `done`, the test must
+//! print the line `refused`. A test whose name ends in `_quiet` must not allocate between these two
+//! lines.
 use super::support::{
     LEAD_PAIR, SIX, advanced, are_same, count_of, cursor_of, entries_from, entries_of, is_over,
     is_trie, items_of, next_item, some_trie, told, units_of,
@@ -12,19 +13,20 @@ use icu_zerovec::MemoryError;
 use std::alloc::Global;
 use std::process::Abort;
 
-/// Whether a clone is equal to the trie.
+/// Returns true if a clone equals the trie.
 fn is_cloned(alloc: Global, trie: &Char16Trie<'_>) -> Result<bool, MemoryError> {
     let cloned = trie.try_clone(alloc)?;
     Ok(are_same(trie, &cloned))
 }
 
-/// With how many units keys go on from the root.
+/// Returns the number of different first units of keys.
 fn count_of_units(alloc: Global, trie: &Char16Trie<'_>) -> Result<usize, MemoryError> {
     let units = cursor_of(trie).next_units(alloc)?;
     Ok(units.len())
 }
 
-/// What a trie of six entries of one unit each answers, or that memory was refused.
+/// Expects the results for a trie of six entries of one unit each, or prints `refused` if an
+/// allocation failed.
 fn ask_trie(rt: &(impl Abort + AllocGlobal + Print), trie: &Char16Trie<'_>) {
     say(rt, "call");
     let cloned = is_cloned(rt.alloc(), trie);
@@ -52,11 +54,11 @@ fn answers_refused(rt: HostRuntime) {
     }
 }
 
-/// Units of tries, and the value of the last entry. A key of the second one ends with a lead
-/// surrogate, and another one has its trail too.
+/// The units of tries, and the value of the last entry. In the second one, a key ends with a lead
+/// surrogate, and another key continues with its trail.
 static TRIES: [(&[u16], i32); 2] = [(&SIX, 6), (&LEAD_PAIR, 2)];
 
-/// The value of the last entry, of at most 99.
+/// Returns the value of the last entry, of at most 99.
 fn last_value(items: &mut Iter2<'_>) -> Result<Option<i32>, MemoryError> {
     let mut last = None;
     for _ in 0..99 {
@@ -68,7 +70,8 @@ fn last_value(items: &mut Iter2<'_>) -> Result<Option<i32>, MemoryError> {
     Ok(last)
 }
 
-/// The entries of these units end with this value, and after want of memory no item comes.
+/// Expects the last entry of these units to have this value. After a failed allocation, no item
+/// follows.
 fn ask_items(rt: &(impl Abort + AllocGlobal + Print), units: &[u16], want: i32) {
     let Some(trie) = some_trie(rt, units) else {
         return;
@@ -88,7 +91,7 @@ fn iter2_refused(rt: HostRuntime) {
     }
 }
 
-/// The value of the last entry that a listing goes to, of at most 99.
+/// Returns the value of the last entry in a listing, of at most 99.
 fn last_listed(entries: &mut Entries<'_>) -> Result<i32, MemoryError> {
     let mut last = 0;
     for _ in 0..99 {
@@ -100,8 +103,8 @@ fn last_listed(entries: &mut Entries<'_>) -> Result<i32, MemoryError> {
     Ok(last)
 }
 
-/// The entries of these units by one buffer end with this value, and after want of memory none is
-/// left, and none is told.
+/// Expects the last entry of a listing with one buffer to have this value. After a failed
+/// allocation, no entry is left or returned.
 fn ask_entries(rt: &(impl Abort + AllocGlobal + Print), units: &[u16], want: i32) {
     let Some(trie) = some_trie(rt, units) else {
         return;
@@ -127,8 +130,8 @@ fn entries_refused(rt: HostRuntime) {
     }
 }
 
-/// What is told before the first entry: the length of a key of the whole trie, and the value of an
-/// entry that goes on from its root.
+/// Returns what listings return before their first entry: the length of the key in a listing of the
+/// trie, and the value in a listing from a cursor at the root.
 fn told_at_first(alloc: Global, trie: &Char16Trie<'_>) -> (usize, i32) {
     let _ = items_of(alloc, trie);
     let entries = entries_of(alloc, trie);
@@ -136,7 +139,7 @@ fn told_at_first(alloc: Global, trie: &Char16Trie<'_>) -> (usize, i32) {
     (entries.key().len(), completions.value())
 }
 
-/// What borrows the units of a trie takes no memory, and neither does a listing before its first
+/// A trie that borrows its units does not allocate, and neither does a listing before its first
 /// entry.
 ///
 /// Calls: `Char16Trie::new`, `Char16Trie::iter2`, `Char16Trie::entries`,
@@ -152,7 +155,7 @@ fn listings_quiet(rt: HostRuntime) {
     expect_done(&rt, told, (0, 0), "told");
 }
 
-/// After the first entry the value of the last one is 6, and no memory is asked for.
+/// Expects the last value after the first entry to be 6, without an allocation.
 fn ask_after_first(rt: &(impl Abort + Print), entries: &mut Entries<'_>) {
     let Ok(first) = advanced(entries) else {
         return;
@@ -162,7 +165,7 @@ fn ask_after_first(rt: &(impl Abort + Print), entries: &mut Entries<'_>) {
     expect_done(rt, (first, last), (true, Some(6)), "the values");
 }
 
-/// After the first of six keys of one unit, the buffers have room for the others.
+/// After the first of six keys of one unit, the buffers have capacity for the others.
 ///
 /// Calls: `Entries::advance`.
 #[test]

@@ -1,4 +1,4 @@
-//! The tries that are asked, and their calls that several tests make, each in one helper.
+//! The tries that tests query. Each function that several tests call is called in one helper.
 use crate::tests::support::given;
 use crate::tests::vectors::support::{packed_of, view_of};
 use icu_char16trie::char16trie::{Char16Trie, Char16TrieCursor, Entries, Iter2, TrieResult};
@@ -6,23 +6,24 @@ use icu_zerovec::{MemoryError, ZeroSlice};
 use std::alloc::Global;
 use std::process::Abort;
 
-/// The units of six letters with the values from 1 to 6.
+/// The units of a trie of six letters with the values 1 to 6.
 pub const SIX: [u16; 15] = [
     5, 0x64, 6, 0x64, 0x8004, 0x65, 0x8005, 0x66, 0x8006, 0x61, 0x8001, 0x62, 0x8002, 0x63, 0x8003,
 ];
 
-/// The units of "a" to 1 and "ab" to 2.
+/// The units of a trie of "a" with the value 1 and "ab" with 2.
 pub const A_AB: [u16; 5] = [0x30, 0x61, 0xB0, 0x62, 0x8002];
 
-/// The units of a lead surrogate to 1 and the character that it begins to 2.
+/// The units of a trie of a lead surrogate with the value 1, and of a character that starts with it
+/// with 2.
 pub const LEAD_PAIR: [u16; 5] = [0x30, 0xD83D, 0xB0, 0xDE00, 0x8002];
 
-/// The trie of these units.
+/// Returns the trie with these units.
 fn trie_of(alloc: Global, units: &[u16]) -> Result<Char16Trie<'static>, MemoryError> {
     Ok(Char16Trie::new(packed_of(alloc, units)?))
 }
 
-/// The trie of these units, where there is memory for it.
+/// Returns the trie with these units, or `None` if an allocation fails.
 pub fn some_trie(rt: &impl AllocGlobal, units: &[u16]) -> Option<Char16Trie<'static>> {
     match trie_of(rt.alloc(), units) {
         Ok(trie) => Some(trie),
@@ -30,27 +31,27 @@ pub fn some_trie(rt: &impl AllocGlobal, units: &[u16]) -> Option<Char16Trie<'sta
     }
 }
 
-/// The trie of these units, for which there has to be memory.
+/// Returns the trie with these units. Panics if an allocation fails.
 pub fn made_trie(rt: &(impl Abort + AllocGlobal), units: &[u16]) -> Char16Trie<'static> {
     given(rt, trie_of(rt.alloc(), units))
 }
 
-/// Whether two tries are equal.
+/// Returns true if two tries are equal.
 pub fn are_same(one: &Char16Trie<'_>, other: &Char16Trie<'_>) -> bool {
     *one == *other
 }
 
-/// The units of a trie.
+/// Returns the units of a trie.
 pub fn units_of<'a>(trie: &'a Char16Trie<'_>) -> ZeroSlice<'a, u16> {
     view_of(&trie.data)
 }
 
-/// The cursor at the root.
+/// Returns the cursor at the root.
 pub fn cursor_of<'a>(trie: &'a Char16Trie<'_>) -> Char16TrieCursor<'a> {
     trie.cursor()
 }
 
-/// The cursor after some units.
+/// Returns the cursor after some units.
 pub fn cursor_after<'a>(trie: &'a Char16Trie<'_>, passed: &[u16]) -> Char16TrieCursor<'a> {
     let mut cursor = cursor_of(trie);
     for unit in passed.iter() {
@@ -59,12 +60,12 @@ pub fn cursor_after<'a>(trie: &'a Char16Trie<'_>, passed: &[u16]) -> Char16TrieC
     cursor
 }
 
-/// The value of a key, looked up unit by unit.
+/// Returns the value of a key, looked up unit by unit.
 pub fn value_of(trie: &Char16Trie<'_>, key: &[u16]) -> Option<i32> {
     cursor_after(trie, key).value()
 }
 
-/// What the last of these characters gives. `NoValue` before the first.
+/// Returns the result for the last character of the text, or `NoValue` if the text is empty.
 pub fn last_result(trie: &Char16Trie<'_>, text: &str) -> TrieResult {
     let mut iterator = trie.iter();
     let mut result = TrieResult::NoValue;
@@ -74,18 +75,18 @@ pub fn last_result(trie: &Char16Trie<'_>, text: &str) -> TrieResult {
     result
 }
 
-/// Adds an entry to what is said, as `text=value;`.
+/// Appends an entry to a text, as `text=value;`.
 fn add_line(alloc: Global, said: &mut String, text: &str, value: i32) -> Result<(), MemoryError> {
     let line = format!(in alloc; "{text}={value};")?;
     Ok(said.push_str(line.as_str())?)
 }
 
-/// The entries of a trie, each as a text of its own.
+/// Returns the entries of a trie, each with a text of its own.
 pub fn items_of<'a>(alloc: Global, trie: &'a Char16Trie<'_>) -> Iter2<'a> {
     trie.iter2(alloc)
 }
 
-/// The next of these entries, if one is left.
+/// Returns the next of these entries, if one is left.
 pub fn next_item(items: &mut Iter2<'_>) -> Result<Option<(String, i32)>, MemoryError> {
     match items.next() {
         Some(Ok(item)) => Ok(Some(item)),
@@ -94,12 +95,12 @@ pub fn next_item(items: &mut Iter2<'_>) -> Result<Option<(String, i32)>, MemoryE
     }
 }
 
-/// Whether none of these entries is left.
+/// Returns true if none of these entries is left.
 pub fn is_over(items: &mut Iter2<'_>) -> bool {
     matches!(next_item(items), Ok(None))
 }
 
-/// Adds the next of these entries to what is said: whether there is one.
+/// Appends the next of these entries to a text. Returns whether there was one.
 fn add_item(alloc: Global, said: &mut String, items: &mut Iter2<'_>) -> Result<bool, MemoryError> {
     match next_item(items) {
         Ok(Some((text, value))) => {
@@ -111,7 +112,7 @@ fn add_item(alloc: Global, said: &mut String, items: &mut Iter2<'_>) -> Result<b
     }
 }
 
-/// These entries one after another, of at most 99.
+/// Returns these entries as one text, at most 99 of them.
 pub fn items_listed(alloc: Global, items: &mut Iter2<'_>) -> Result<String, MemoryError> {
     let mut said = String::new(alloc);
     for _ in 0..99 {
@@ -122,27 +123,27 @@ pub fn items_listed(alloc: Global, items: &mut Iter2<'_>) -> Result<String, Memo
     Ok(said)
 }
 
-/// The entries of a trie by one buffer.
+/// Returns the entries of a trie, with one buffer.
 pub fn entries_of<'a>(alloc: Global, trie: &'a Char16Trie<'_>) -> Entries<'a> {
     trie.entries(alloc)
 }
 
-/// The entries that go on from a cursor.
+/// Returns the entries that continue from a cursor.
 pub fn entries_from<'a>(alloc: Global, cursor: &Char16TrieCursor<'a>) -> Entries<'a> {
     cursor.entries(alloc)
 }
 
-/// Goes to the next entry: whether there is one.
+/// Moves to the next entry. Returns whether there is one.
 pub fn advanced(entries: &mut Entries<'_>) -> Result<bool, MemoryError> {
     entries.advance()
 }
 
-/// The entry that a listing reached last.
+/// Returns the current entry of a listing.
 pub fn told<'a>(entries: &'a Entries<'_>) -> (&'a str, i32) {
     (entries.key(), entries.value())
 }
 
-/// The entries that a listing has left, one after another, of at most 99.
+/// Returns the entries that are left in a listing as one text, at most 99 of them.
 pub fn listed(alloc: Global, entries: &mut Entries<'_>) -> Result<String, MemoryError> {
     let mut said = String::new(alloc);
     for _ in 0..99 {
@@ -155,12 +156,12 @@ pub fn listed(alloc: Global, entries: &mut Entries<'_>) -> Result<String, Memory
     Ok(said)
 }
 
-/// Whether the units of a trie are one.
+/// Returns true if the units of a trie are valid.
 pub fn is_trie(alloc: Global, trie: &Char16Trie<'_>) -> Result<bool, MemoryError> {
     trie.is_trie(alloc)
 }
 
-/// How many entries a trie has.
+/// Returns the number of entries of a trie.
 pub fn count_of(alloc: Global, trie: &Char16Trie<'_>) -> Result<Option<u64>, MemoryError> {
     trie.count_entries(alloc)
 }

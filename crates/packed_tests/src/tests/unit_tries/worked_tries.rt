@@ -1,5 +1,4 @@
-//! Tries whose entries and results are known from the format's description, and units that are no
-//! trie.
+//! Tries whose entries and results are known from the format's description, and invalid units.
 use super::support::{SIX, entries_of, items_listed, items_of, last_result, listed, made_trie};
 use crate::tests::support::{expect_same, given};
 use icu_char16trie::char16trie::{Char16Trie, TrieResult};
@@ -7,20 +6,20 @@ use icu_zerovec::MemoryError;
 use std::alloc::Global;
 use std::process::Abort;
 
-/// Units, the entries that they give, and what the last character of a text gives.
+/// Units, their entries, a text, and the result for the last character of the text.
 type Row = (&'static [u16], &'static str, &'static str, TrieResult);
 
-/// The entries one after another, each as a text of its own.
+/// Returns the entries, listed with a text of their own each.
 fn items_said(alloc: Global, trie: &Char16Trie<'_>) -> Result<String, MemoryError> {
     items_listed(alloc, &mut items_of(alloc, trie))
 }
 
-/// The entries one after another, by one buffer.
+/// Returns the entries, listed with one buffer.
 fn entries_said(alloc: Global, trie: &Char16Trie<'_>) -> Result<String, MemoryError> {
     listed(alloc, &mut entries_of(alloc, trie))
 }
 
-/// The entries of these units are these.
+/// Expects these entries for the units.
 fn expect_entries(
     rt: &impl Abort,
     said: Result<String, MemoryError>,
@@ -31,7 +30,7 @@ fn expect_entries(
     expect_same(rt, (units, said.as_str()), (units, entries), "entries");
 }
 
-/// A trie gives these entries, and this result after the characters of the text.
+/// Expects a trie to have the entries of the row, and the result after the characters of its text.
 fn expect_trie(rt: &(impl Abort + AllocGlobal), trie: &Char16Trie<'_>, row: &Row) {
     let (units, entries, text, want) = row;
     let result = last_result(trie, text);
@@ -40,15 +39,15 @@ fn expect_trie(rt: &(impl Abort + AllocGlobal), trie: &Char16Trie<'_>, row: &Row
     expect_entries(rt, entries_said(rt.alloc(), trie), entries, units);
 }
 
-/// The units of each row give its entries and its result.
+/// Expects the units of each row to have its entries and its result.
 fn expect_rows(rt: &(impl Abort + AllocGlobal), rows: &[Row]) {
     for row in rows.iter() {
         expect_trie(rt, &made_trie(rt, row.0), row);
     }
 }
 
-/// What ICU's builder writes for six keys of one letter, each with a longer key: values at the ends
-/// of each of their lengths.
+/// The units that ICU's builder writes for six keys of one letter, each with a longer key. The
+/// values are the smallest and the largest of each length.
 const SIX_BY_ICU: [u16; 45] = [
     0x5, 0x64, 0x19, 0x64, 0xA, 0x65, 0xE, 0x66, 0x7FF0, 0xFFFF, 0xFFFF, 0x7A, 0xFFFF, 0x8000, 0x0,
     0x7FB0, 0xFFFF, 0x7A, 0xFFFF, 0x3FFF, 0x0, 0x7FF0, 0xFE, 0x0, 0x7A, 0xFFFF, 0xFFFF, 0xFFFF,
@@ -95,8 +94,8 @@ static VALUES: [Row; 9] = [
     ),
 ];
 
-/// A pair of surrogates is one character also where its units stand in two nodes, and any other
-/// surrogate is U+FFFD.
+/// A pair of surrogates is one character even if its units are in two nodes. Any other surrogate is
+/// listed as U+FFFD.
 static SURROGATES: [Row; 10] = [
     (
         &[0x31, 0xD83D, 0xDE00, 0x8001],
@@ -104,21 +103,21 @@ static SURROGATES: [Row; 10] = [
         "\u{1f600}",
         TrieResult::FinalValue(1),
     ),
-    // A surrogate without its partner is a key, and no character.
+    // An unpaired surrogate is a key, but not a character.
     (
         &[0x30, 0xD800, 0x8005],
         "\u{fffd}=5;",
         "\u{fffd}",
         TrieResult::NoMatch,
     ),
-    // A key that ends with a lead surrogate, and goes on with its trail.
+    // A key that ends with a lead surrogate, and one that continues with its trail.
     (
         &[0x30, 0xD83D, 0xB0, 0xDE00, 0x8002],
         "\u{fffd}=1;\u{1f600}=2;",
         "\u{1f600}",
         TrieResult::FinalValue(2),
     ),
-    // No pairs: a trail alone, a lead before a letter, and a lead before another one.
+    // Not pairs: a trail alone, a lead before a letter, and a lead before another lead.
     (
         &[0x31, 0xDE00, 0x61, 0x8003],
         "\u{fffd}a=3;",
@@ -137,21 +136,21 @@ static SURROGATES: [Row; 10] = [
         "\u{1f600}",
         TrieResult::NoMatch,
     ),
-    // Each child of a branch makes a pair with the lead surrogate before it.
+    // Each child of a branch makes a pair with the lead surrogate before the branch.
     (
         &[0x30, 0xD83D, 1, 0xDE00, 0x8001, 0xDE01, 0x8002],
         "\u{1f600}=1;\u{1f601}=2;",
         "\u{1f601}",
         TrieResult::FinalValue(2),
     ),
-    // One child does, and the other one does not.
+    // One child makes a pair, and the other does not.
     (
         &[0x30, 0xD83D, 1, 0x61, 0x8001, 0xDE00, 0x8002],
         "\u{fffd}a=1;\u{1f600}=2;",
         "\u{1f600}",
         TrieResult::FinalValue(2),
     ),
-    // The lead surrogates stand in the branch.
+    // The lead surrogates are in the branch.
     (
         &[
             1, 0xD83D, 4, 0xD83E, 0x30, 0xDD00, 0x8002, 0x30, 0xDE00, 0x8001,
@@ -160,7 +159,7 @@ static SURROGATES: [Row; 10] = [
         "\u{1f900}",
         TrieResult::FinalValue(2),
     ),
-    // The lead surrogate of one key and the trail of the next are no pair.
+    // The lead surrogate of one key and the trail of the next are not a pair.
     (
         &[1, 0xD83D, 0x8001, 0xDE00, 0x8002],
         "\u{fffd}=1;\u{fffd}=2;",
@@ -170,7 +169,7 @@ static SURROGATES: [Row; 10] = [
 ];
 
 static BRANCHES: [Row; 9] = [
-    // A jump to the node of an entry, and a final value in the row.
+    // A jump to the node of an entry, and a final value within the branch.
     (
         &[1, 0x61, 2, 0x62, 0x8002, 0x8001],
         "a=1;b=2;",
@@ -183,7 +182,7 @@ static BRANCHES: [Row; 9] = [
         "a",
         TrieResult::FinalValue(1),
     ),
-    // Rows of four and of five entries are not split.
+    // Branches of four and of five entries are not split.
     (
         &[3, 0x61, 0x8001, 0x62, 0x8002, 0x63, 0x8003, 0x64, 0x8004],
         "a=1;b=2;c=3;d=4;",
@@ -201,7 +200,7 @@ static BRANCHES: [Row; 9] = [
     (&SIX, LETTERS, "c", TrieResult::FinalValue(3)),
     (&SIX, LETTERS, "f", TrieResult::FinalValue(6)),
     (&SIX, LETTERS, "g", TrieResult::NoMatch),
-    // A delta of two units, the greatest ones, which leads past the end; and the half behind it.
+    // The greatest delta of two units, which leads past the end, and the half after it.
     (
         &[
             5, 0x64, 0xFFFE, 0xFFFF, 0x64, 0x8004, 0x65, 0x8005, 0x66, 0x8006,
@@ -220,8 +219,8 @@ static BRANCHES: [Row; 9] = [
     ),
 ];
 
-/// Units that are no trie are answered too: what is needed and not there is no match, and the value
-/// of a node that is cut off is 0.
+/// Results for invalid units. If a needed unit is missing, there is no match, and a truncated value
+/// is 0.
 static BROKEN: [Row; 9] = [
     (&[0], "", "a", TrieResult::NoMatch),
     (&[0x30], "", "a", TrieResult::NoMatch),

@@ -1,9 +1,9 @@
-//! Vectors are equal, and hash alike, by their lists of values, whoever owns the bytes.
+//! Equality and hashing of vectors, by their lists of values, whether they borrow or own the bytes.
 use super::support::{lent_of, packed_of, view_of};
 use crate::tests::support::{expect_same, hash_of, say};
 use icu_zerovec::ZeroVec;
 
-/// Whether two vectors and their views are equal, and whether their hashes are.
+/// Returns whether two vectors are equal, whether their views are, and whether their hashes are.
 fn are_alike(one: &ZeroVec<'_, u16>, other: &ZeroVec<'_, u16>) -> [bool; 4] {
     let (view, other_view) = (view_of(one), view_of(other));
     [
@@ -14,7 +14,7 @@ fn are_alike(one: &ZeroVec<'_, u16>, other: &ZeroVec<'_, u16>) -> [bool; 4] {
     ]
 }
 
-/// Bytes of lists, and whether they are the list of 1 alone.
+/// The bytes of lists, and whether the list is the single value 1.
 static LISTS: [(&[u8], bool); 5] = [
     (&[1, 0], true),
     (&[], false),

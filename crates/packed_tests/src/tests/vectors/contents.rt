@@ -1,4 +1,4 @@
-//! What bytes hold, whichever call reads them, and the bytes that values pack to.
+//! The values in bytes, by each function that reads them, and the bytes that values pack to.
 use super::support::{Ends, ends_of, lent_of, packed_of, view_of};
 use crate::tests::support::{expect_done, expect_same, say, say_refused};
 use icu_zerovec::iter::Iter;
@@ -7,18 +7,18 @@ use icu_zerovec::{MemoryError, PotentialCodePoint, ZeroSlice, ZeroVec};
 use std::fmt::Debug;
 use std::process::Abort;
 
-/// The ends of a view.
+/// Returns the ends of a view.
 fn ends_of_view<T: AsULE>(view: ZeroSlice<'_, T>) -> Ends<T> {
     (view.len(), view.is_empty(), view.first(), view.last())
 }
 
-/// The last value of the vector that a clone of a view gives.
+/// Returns the last value of the vector that a clone of a view gives.
 fn last_of_clone<T: AsULE>(view: ZeroSlice<'_, T>) -> Option<T> {
     let clone = view.clone().ok()?;
     clone.as_zerovec().last()
 }
 
-/// The value at a place of a view, where the place is known to be one of its.
+/// Returns the value that `at` returns for an index, if the index is less than the length.
 fn known_at<T: AsULE>(view: ZeroSlice<'_, T>, place: usize) -> Option<T> {
     if place < view.len() {
         Some(view.at(place))
@@ -27,22 +27,21 @@ fn known_at<T: AsULE>(view: ZeroSlice<'_, T>, place: usize) -> Option<T> {
     }
 }
 
-/// What stands at a place of a vector and of its view, and of the view where the place is known to
-/// be one of its.
+/// The results for an index: of `get` on a vector, of `get` on its view, and of `at` on its view.
 type Found<T> = (Option<T>, Option<T>, Option<T>);
 
-/// The value at a place, by each of these calls.
+/// Returns the value at an index, by each of these functions.
 fn at_place<T: AsULE>(vector: &ZeroVec<'_, T>, place: usize) -> Found<T> {
     let view = view_of(vector);
     (vector.get(place), view.get(place), known_at(view, place))
 }
 
-/// The next value, and how many are to come before it, counted in two ways.
+/// Returns the next value, and before it how many values are left, by two functions.
 fn next_of<T: AsULE>(items: &mut Iter<'_, T>) -> (usize, usize, Option<T>) {
     (items.len(), items.size_hint().0, items.next())
 }
 
-/// The values stand at their places, and none after them.
+/// Expects the values at their indices, and none after them.
 fn expect_places<T: AsULE + Debug + PartialEq>(
     rt: &impl Abort,
     vector: &ZeroVec<'_, T>,
@@ -54,7 +53,7 @@ fn expect_places<T: AsULE + Debug + PartialEq>(
     }
 }
 
-/// The values, one after another.
+/// Expects the iterator to yield these values.
 fn expect_items<T: AsULE + Debug + PartialEq>(
     rt: &impl Abort,
     mut items: Iter<'_, T>,
@@ -67,7 +66,7 @@ fn expect_items<T: AsULE + Debug + PartialEq>(
     }
 }
 
-/// These bytes are these values, whichever call reads them.
+/// Expects these bytes to be these values, by each function that reads them.
 fn expect_values<T: AsULE + Debug + PartialEq>(rt: &impl Abort, bytes: &[u8], values: &[T]) {
     let vector = lent_of::<T>(rt, bytes);
     let view = view_of(&vector);
@@ -96,7 +95,8 @@ fn reads_quiet(rt: HostRuntime) {
     say(&rt, "done");
 }
 
-/// The call is done, and made a vector of these bytes, or memory was refused.
+/// Prints that the call is done. Expects a vector of these bytes, or prints `refused` if an
+/// allocation failed.
 fn expect_made<T: AsULE>(
     rt: &(impl Abort + Print),
     made: Result<ZeroVec<'_, T>, MemoryError>,
@@ -109,7 +109,8 @@ fn expect_made<T: AsULE>(
     }
 }
 
-/// These bytes are these values, which pack to them, where memory is not refused.
+/// Expects these bytes to be these values, and the values to pack to these bytes, unless an
+/// allocation fails.
 fn expect_type<T: AsULE + Debug + PartialEq>(
     rt: &(impl Abort + AllocGlobal + Print),
     bytes: &[u8],
@@ -121,7 +122,7 @@ fn expect_type<T: AsULE + Debug + PartialEq>(
     expect_made(rt, made, bytes);
 }
 
-/// The lowest byte stands first.
+/// The lowest byte is first.
 ///
 /// Calls: `ZeroVec::alloc_from_slice`.
 #[test]
@@ -155,8 +156,8 @@ fn code_points_refused(rt: HostRuntime) {
     expect_type::<PotentialCodePoint>(&rt, &bytes, &values);
 }
 
-/// Characters of a text come from an iterator that does not know how many there are, so memory is
-/// asked for as they come.
+/// The iterator over the characters of a text does not know how many there are, so the vector grows
+/// as they are yielded.
 ///
 /// Calls: `ZeroVec::alloc_from_iter`.
 #[test]

@@ -7,14 +7,15 @@ use icu_zerovec::ule::{AsULE, UleError};
 use icu_zerovec::{PotentialCodePoint, ZeroVec};
 use std::process::Abort;
 
-/// The vector as one of another type of the same width.
+/// Returns the vector as one of another type of the same width.
 fn converted<'a, T: AsULE, P: AsULE>(vector: ZeroVec<'a, T>) -> Result<ZeroVec<'a, P>, UleError>
     requires { T.WIDTH ≡ P.WIDTH }
 {
     vector.try_into_converted::<P>()
 }
 
-/// The ends of these bytes as values of one type, and then of another one of the same width.
+/// Reads these bytes as values of one type, converts them to another type of the same width, and
+/// returns the ends.
 fn ends_of_converted<T: AsULE, P: AsULE>(rt: &impl Abort, bytes: &[u8]) -> Result<Ends<P>, UleError>
     requires { T.WIDTH ≡ P.WIDTH }
 {
@@ -24,7 +25,7 @@ fn ends_of_converted<T: AsULE, P: AsULE>(rt: &impl Abort, bytes: &[u8]) -> Resul
     }
 }
 
-/// -1 and 5, or the greatest number and 5.
+/// -1 and 5 as signed numbers, or the greatest number and 5 as unsigned ones.
 const NUMBERS: [u8; 8] = [0xff, 0xff, 0xff, 0xff, 5, 0, 0, 0];
 
 /// A letter and an emoji.
@@ -55,15 +56,15 @@ fn conversions_quiet(rt: HostRuntime) {
     expect_done(&rt, found, Err(UleError::Cell(1)), "the first surrogate");
 }
 
-/// The ends of these bytes as numbers without sign, and then as numbers with sign, which keep the
-/// bytes.
+/// Takes over these bytes as unsigned numbers, converts them to signed numbers without copying, and
+/// returns the ends.
 fn ends_of_taken(rt: &(impl Abort + AllocGlobal), bytes: Vec<u8>) -> Ends<i32> {
     let unsigned = given(rt, ZeroVec::<u32>::parse_owned(bytes));
     let signed = given(rt, converted::<u32, i32>(unsigned));
     ends_of(&given(rt, signed.into_owned(rt.alloc())))
 }
 
-/// A vector that owns its bytes does so once it is converted, and keeps them.
+/// A vector that owns its bytes still owns them after a conversion, and they are unchanged.
 ///
 /// Calls: `ZeroVec::parse_owned`, `ZeroVec::try_into_converted`, `ZeroVec::into_owned`.
 #[test]

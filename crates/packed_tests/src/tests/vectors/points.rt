@@ -1,10 +1,10 @@
-//! Numbers of 24 bits as code points that may be none.
+//! 24-bit numbers that may not be code points.
 use crate::tests::support::{expect, expect_same, hash_of, say};
 use icu_zerovec::PotentialCodePoint;
 use std::process::Abort;
 
-/// The number is a point that is worth it and hashes as it does, unless this one is wanted as
-/// refused.
+/// Expects the number to be accepted, with the same value and the same hash as the number, or to be
+/// rejected as `want`.
 fn expect_number(rt: &impl Abort, number: u32, want: Option<u32>) {
     match PotentialCodePoint::try_from(number) {
         Ok(point) => {
@@ -15,7 +15,7 @@ fn expect_number(rt: &impl Abort, number: u32, want: Option<u32>) {
     }
 }
 
-/// Numbers, and those that are refused.
+/// Numbers, with the error if they are rejected.
 static NUMBERS: [(u32, Option<u32>); 5] = [
     (0, None),
     (0x11_0000, None),
@@ -24,7 +24,7 @@ static NUMBERS: [(u32, Option<u32>); 5] = [
     (u32::MAX, Some(u32::MAX)),
 ];
 
-/// Points are in the order of their numbers.
+/// Points are ordered by their numbers.
 ///
 /// Calls: `PotentialCodePoint::from_u24`, `PotentialCodePoint::try_from`.
 #[test]

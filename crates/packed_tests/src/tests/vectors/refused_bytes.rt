@@ -1,16 +1,16 @@
-//! Bytes that are no values.
+//! Bytes that are not values.
 use crate::tests::support::{expect_same, say};
 use icu_zerovec::ule::{AsULE, UleError};
 use icu_zerovec::{PotentialCodePoint, ZeroVec};
 use std::process::Abort;
 
-/// These bytes are refused so.
+/// Expects this error for the bytes.
 fn expect_refused<T: AsULE>(rt: &impl Abort, bytes: &[u8], want: UleError) {
     let refused = ZeroVec::<T>::parse_bytes(bytes).err();
     expect_same(rt, (bytes, refused), (bytes, Some(want)), "refused");
 }
 
-/// Bytes that are no characters. The length is tested first, and then the cells from the first on.
+/// Bytes that are not characters. The length is tested first, and then the cells in order.
 static NO_CHARACTERS: [(&[u8], UleError); 8] = [
     (&[0, 0xd8], UleError::Length),
     (&[0, 0xd8, 0, 0x41], UleError::Length),

@@ -1,11 +1,11 @@
-//! Searched places.
+//! Binary searches.
 use super::support::{lent_of, view_of};
 use crate::tests::support::{expect_same, say};
 use icu_zerovec::ule::AsULE;
 use std::fmt::Debug;
 use std::process::Abort;
 
-/// A value has this place among those of the bytes, in a vector and in its view.
+/// Expects this index of a value among those in the bytes, in a vector and in its view.
 fn expect_place<T: AsULE + Debug + Ord>(
     rt: &impl Abort,
     bytes: &[u8],
@@ -17,10 +17,10 @@ fn expect_place<T: AsULE + Debug + Ord>(
     expect_same(rt, (x, places), (x, [want; 2]), "a place");
 }
 
-/// The tens, and 256.
+/// The numbers 10, 20, 30 and 256.
 const TENS: [u8; 8] = [10, 0, 20, 0, 30, 0, 0, 1];
 
-/// Numbers, and their places among the tens.
+/// Numbers, and their indices among these.
 static PLACES: [(u16, Result<usize, usize>); 9] = [
     (10, Ok(0)),
     (20, Ok(1)),
@@ -33,7 +33,7 @@ static PLACES: [(u16, Result<usize, usize>); 9] = [
     (257, Err(4)),
 ];
 
-/// -128, -1, 0 and 127.
+/// The numbers -128, -1, 0 and 127.
 const SIGNED: [u8; 4] = [0x80, 0xff, 0, 0x7f];
 
 /// Calls: `ZeroVec::binary_search`, `ZeroSlice::binary_search`.

@@ -1,16 +1,16 @@
-//! The calls of packed vectors and of their views that several tests make, each in one helper.
+//! The functions of packed vectors and views that several tests call, each in one helper.
 use crate::tests::support::given;
 use icu_zerovec::ule::AsULE;
 use icu_zerovec::{MemoryError, ZeroSlice, ZeroVec};
 use std::alloc::Global;
 use std::process::Abort;
 
-/// The vector that borrows these bytes, which are values.
+/// Returns the vector that borrows these bytes, which must be values.
 pub fn lent_of<'a, T: AsULE>(rt: &impl Abort, bytes: &'a [u8]) -> ZeroVec<'a, T> {
     given(rt, ZeroVec::<T>::parse_bytes(bytes))
 }
 
-/// The vector of these values.
+/// Returns the vector of these values.
 pub fn packed_of<T: AsULE>(
     alloc: Global,
     values: &[T],
@@ -18,15 +18,15 @@ pub fn packed_of<T: AsULE>(
     ZeroVec::alloc_from_slice(alloc, values)
 }
 
-/// The view of a vector.
+/// Returns the view of a vector.
 pub fn view_of<'a, T: AsULE>(vector: &'a ZeroVec<'_, T>) -> ZeroSlice<'a, T> {
     vector.as_slice()
 }
 
-/// How many values there are, whether there are none, and the first and the last one.
+/// The number of values, whether there are none, and the first and the last value.
 pub type Ends<T> = (usize, bool, Option<T>, Option<T>);
 
-/// The ends of a vector.
+/// Returns the ends of a vector.
 pub fn ends_of<T: AsULE>(vector: &ZeroVec<'_, T>) -> Ends<T> {
     let (first, last) = (vector.first(), vector.last());
     (vector.len(), vector.is_empty(), first, last)
