@@ -1,4 +1,4 @@
-//! Builds of tries from the rows of a table, and how many cells each has.
+//! Building tries from the rows of a table, and the number of cells in each.
 
 use icu_trie::cptrie::CodePointTrie;
 use icu_trie::header::TrieType;
@@ -7,7 +7,7 @@ use icu_trie_builder::build_from_writes;
 use icu_trie_builder::writes::Write;
 use std::alloc::Global;
 
-/// One row of a table: the code points from `start` to `end`, both included, have this value.
+/// A row of a table: the code points from `start` to `end` inclusive have this value.
 #[repr(C)]
 #[derive(Clone, Copy)]
 pub struct Row {
@@ -16,7 +16,7 @@ pub struct Row {
     pub value: u32,
 }
 
-/// How many cells a trie has, and its null block.
+/// The number of cells of a trie, and three fields of its header.
 #[repr(C)]
 #[derive(Clone, Copy)]
 pub struct Sizes {
@@ -27,8 +27,8 @@ pub struct Sizes {
     pub null_value: u32,
 }
 
-/// Adds the writes of these rows. `None` where memory was refused, or where a value is none of the
-/// type.
+/// Appends the writes for these rows. Returns `None` if an allocation fails or a value does not fit
+/// the type.
 fn add_writes<T: TrieValue>(writes: &mut Vec<Write<T>>, rows: &[Row]) -> Option<()> {
     for row in rows {
         let value = T::try_from_u32(row.value).ok()?;
@@ -37,14 +37,15 @@ fn add_writes<T: TrieValue>(writes: &mut Vec<Write<T>>, rows: &[Row]) -> Option<
     Some(())
 }
 
-/// The writes of these rows. `None` where memory was refused, or where a value is none of the type.
+/// Returns the writes for these rows, or `None` if an allocation fails or a value does not fit the
+/// type.
 fn writes_of<T: TrieValue>(alloc: Global, rows: &[Row]) -> Option<Vec<Write<T>>> {
     let mut writes = Vec::with_capacity(alloc, rows.len()).ok()?;
     add_writes(&mut writes, rows)?;
     Some(writes)
 }
 
-/// The sizes of a trie.
+/// Writes the sizes of a trie to `sizes`.
 fn sizes_of<T: TrieValue>(trie: &CodePointTrie<'_, T>, sizes: &mut Sizes) {
     let (header, index, data) = trie.parts();
     sizes.index = index.len();
@@ -54,7 +55,7 @@ fn sizes_of<T: TrieValue>(trie: &CodePointTrie<'_, T>, sizes: &mut Sizes) {
     sizes.null_value = header.null_value;
 }
 
-/// The value of each code point.
+/// Writes the value of each code point below the length of `answers`.
 fn answers_of<T: TrieValue>(trie: &CodePointTrie<'_, T>, answers: &mut [u32]) {
     for c in 0..answers.len() {
         answers[c] = match u32::try_from(c) {
@@ -96,8 +97,8 @@ fn built<T: TrieValue>(
     }
 }
 
-/// Builds the trie of these rows with values of 8 bits, with 0 elsewhere, tells its sizes, and
-/// writes the value of each code point into `answers`. `false` where it could not be built.
+/// Builds a trie of 8-bit values from these rows, with the default value 0. Writes its sizes, and
+/// the value of each code point to `answers`. Returns false if it cannot be built.
 #[unsafe(no_mangle)]
 pub extern "C" fn ours_build_8(
     alloc: Global,
@@ -110,7 +111,8 @@ pub extern "C" fn ours_build_8(
     built::<u8>(alloc, is_fast, rows, error, sizes, answers)
 }
 
-/// The same with values of 16 bits.
+/// Builds a trie of 16-bit values from these rows, with the default value 0. Writes its sizes, and
+/// the value of each code point to `answers`. Returns false if it cannot be built.
 #[unsafe(no_mangle)]
 pub extern "C" fn ours_build_16(
     alloc: Global,
@@ -123,7 +125,8 @@ pub extern "C" fn ours_build_16(
     built::<u16>(alloc, is_fast, rows, error, sizes, answers)
 }
 
-/// The same with values of 32 bits.
+/// Builds a trie of 32-bit values from these rows, with the default value 0. Writes its sizes, and
+/// the value of each code point to `answers`. Returns false if it cannot be built.
 #[unsafe(no_mangle)]
 pub extern "C" fn ours_build_32(
     alloc: Global,

@@ -1,12 +1,12 @@
-//! Frozen sets of code points: questions asked of them many times, spans of texts, and freezing.
+//! Frozen sets of code points: many look-ups, spans of texts, and freezing.
 
 use crate::sets::set_of;
 use icu_frozen_sets::frozen::FrozenCodePointSet;
 use icu_invlist::codepointinvlist::CodePointInversionList;
 use std::alloc::Global;
 
-/// How many of the code points are in the set. It stays a call, so that its loop can be found in
-/// the machine code.
+/// Adds the number of code points in the set to `sum`. It is not inlined, so that its loop can be
+/// found in the machine code.
 #[inline(never)]
 fn held_points_frozen(set: &FrozenCodePointSet, points: &[u32], sum: u64) -> u64 {
     let mut sum = sum;
@@ -16,7 +16,7 @@ fn held_points_frozen(set: &FrozenCodePointSet, points: &[u32], sum: u64) -> u64
     sum
 }
 
-/// The sum, and how many characters of the text are in the set.
+/// Adds the number of characters of the text that are in the set to `sum`.
 #[inline(never)]
 fn add_held_frozen(set: &FrozenCodePointSet, text: &str, sum: u64) -> u64 {
     let mut sum = sum;
@@ -26,13 +26,13 @@ fn add_held_frozen(set: &FrozenCodePointSet, text: &str, sum: u64) -> u64 {
     sum
 }
 
-/// The set of these ends, frozen.
+/// Freezes the set with these boundaries.
 fn frozen_of(alloc: Global, ends: &[u8]) -> Option<FrozenCodePointSet> {
     let set = set_of(alloc, ends)?;
     FrozenCodePointSet::freeze(alloc, &set).ok()
 }
 
-/// How many of the code points are in the set that was frozen, counted so many times.
+/// Counts the code points in the frozen set, `turns` times.
 #[unsafe(no_mangle)]
 pub extern "C" fn ours_frozen_contains(
     alloc: Global,
@@ -58,7 +58,7 @@ fn text_held_often(set: &FrozenCodePointSet, text: &str, turns: usize) -> u64 {
     sum
 }
 
-/// The same of the characters of a text.
+/// Counts the characters of a text that are in the frozen set, `turns` times.
 #[unsafe(no_mangle)]
 pub extern "C" fn ours_frozen_text(alloc: Global, ends: &[u8], text: &[u8], turns: usize) -> u64 {
     let Ok(text) = std::str::from_utf8(text) else {
@@ -78,7 +78,7 @@ fn spans_added(set: &CodePointInversionList<'_>, text: &str, turns: usize) -> u6
     sum
 }
 
-/// The span of a text in the set, so many times.
+/// Computes the span of a text in the set, `turns` times.
 #[unsafe(no_mangle)]
 pub extern "C" fn ours_span(alloc: Global, ends: &[u8], text: &[u8], turns: usize) -> u64 {
     let Ok(text) = std::str::from_utf8(text) else {
@@ -98,7 +98,7 @@ fn frozen_spans_added(set: &FrozenCodePointSet, text: &str, turns: usize) -> u64
     sum
 }
 
-/// The same in the set that was frozen.
+/// Computes the span of a text in the frozen set, `turns` times.
 #[unsafe(no_mangle)]
 pub extern "C" fn ours_frozen_span(alloc: Global, ends: &[u8], text: &[u8], turns: usize) -> u64 {
     let Ok(text) = std::str::from_utf8(text) else {
@@ -110,7 +110,7 @@ pub extern "C" fn ours_frozen_span(alloc: Global, ends: &[u8], text: &[u8], turn
     }
 }
 
-/// Whether the set, frozen, holds U+4E00. `None` where memory was refused.
+/// Freezes the set, and returns whether it contains U+4E00, or `None` if an allocation fails.
 fn holds_when_frozen(alloc: Global, set: &CodePointInversionList<'_>) -> Option<bool> {
     match FrozenCodePointSet::freeze(alloc, set) {
         Ok(frozen) => Some(frozen.contains32(0x4E00)),
@@ -126,7 +126,7 @@ fn frozen_often(alloc: Global, set: &CodePointInversionList<'_>, turns: usize) -
     Some(sum)
 }
 
-/// The set frozen, so many times.
+/// Freezes the set, `turns` times.
 #[unsafe(no_mangle)]
 pub extern "C" fn ours_freeze(alloc: Global, ends: &[u8], turns: usize) -> u64 {
     match set_of(alloc, ends) {

@@ -1,7 +1,8 @@
-//! What the benchmark calls of this repository: loops over the public calls, for a driver in C++.
+//! The functions of this repository that the benchmark calls: loops over public functions, for a
+//! driver in C++.
 //!
-//! Slices come as a pointer and a length. A call that is handed what is no trie, no set or no text
-//! answers `u64::MAX`.
+//! A slice is passed as a pointer and a length. A function whose arguments are not a valid trie,
+//! set or text returns `u64::MAX`.
 #![tactic(auto)]
 
 pub mod builds;

@@ -1,9 +1,9 @@
-//! Packed vectors: read in order and at single places, compared, and searched.
+//! Packed vectors: reading in order and by index, comparing, and searching.
 
 use icu_zerovec::ZeroVec;
 use icu_zerovec::ule::AsULE;
 
-/// The sum of the numbers.
+/// Returns the sum of the numbers.
 fn sum_of<T: AsULE + Into<u64>>(numbers: &ZeroVec<'_, T>) -> u64 {
     let mut sum = 0u64;
     for x in numbers.iter() {
@@ -12,7 +12,7 @@ fn sum_of<T: AsULE + Into<u64>>(numbers: &ZeroVec<'_, T>) -> u64 {
     sum
 }
 
-/// The sum of the numbers that are packed in these bytes.
+/// Returns the sum of the numbers that are packed in these bytes.
 fn sum_in<T: AsULE + Into<u64>>(bytes: &[u8]) -> u64 {
     match ZeroVec::<T>::parse_bytes(bytes) {
         Ok(numbers) => sum_of(&numbers),
@@ -20,31 +20,31 @@ fn sum_in<T: AsULE + Into<u64>>(bytes: &[u8]) -> u64 {
     }
 }
 
-/// The sum of all numbers of 8 bits.
+/// Returns the sum of all 8-bit numbers.
 #[unsafe(no_mangle)]
 pub extern "C" fn ours_read_8(bytes: &[u8]) -> u64 {
     sum_in::<u8>(bytes)
 }
 
-/// The sum of all numbers of 16 bits.
+/// Returns the sum of all 16-bit numbers.
 #[unsafe(no_mangle)]
 pub extern "C" fn ours_read_16(bytes: &[u8]) -> u64 {
     sum_in::<u16>(bytes)
 }
 
-/// The sum of all numbers of 32 bits.
+/// Returns the sum of all 32-bit numbers.
 #[unsafe(no_mangle)]
 pub extern "C" fn ours_read_32(bytes: &[u8]) -> u64 {
     sum_in::<u32>(bytes)
 }
 
-/// The sum of all characters, each of which is tested first.
+/// Returns the sum of all characters, which are validated first.
 #[unsafe(no_mangle)]
 pub extern "C" fn ours_read_characters(bytes: &[u8]) -> u64 {
     sum_in::<char>(bytes)
 }
 
-/// The sum of the numbers at these places, and 1 for each place past the end.
+/// Returns the sum of the numbers at these indices, with 1 for each index past the end.
 #[unsafe(no_mangle)]
 pub extern "C" fn ours_read_places(bytes: &[u8], places: &[u32]) -> u64 {
     let Ok(numbers) = ZeroVec::<u16>::parse_bytes(bytes) else {
@@ -57,7 +57,7 @@ pub extern "C" fn ours_read_places(bytes: &[u8], places: &[u32]) -> u64 {
     sum
 }
 
-/// Whether two vectors of numbers of 16 bits are equal.
+/// Returns 1 if two vectors of 16-bit numbers are equal, and 0 otherwise.
 #[unsafe(no_mangle)]
 pub extern "C" fn ours_equal_16(a: &[u8], b: &[u8]) -> u64 {
     match (
@@ -69,7 +69,8 @@ pub extern "C" fn ours_equal_16(a: &[u8], b: &[u8]) -> u64 {
     }
 }
 
-/// The sum of the places of the wanted numbers, found or not.
+/// Returns the sum of the indices that a binary search returns for the wanted numbers, found or
+/// not.
 fn searched<T: AsULE + Ord>(numbers: &ZeroVec<'_, T>, wanted: &[T]) -> u64 {
     let mut sum = 0u64;
     for x in wanted {
@@ -81,7 +82,7 @@ fn searched<T: AsULE + Ord>(numbers: &ZeroVec<'_, T>, wanted: &[T]) -> u64 {
     sum
 }
 
-/// The sum of the places of the wanted numbers, found or not.
+/// Searches for 32-bit numbers, and returns the sum of the indices, found or not.
 #[unsafe(no_mangle)]
 pub extern "C" fn ours_search_32(bytes: &[u8], wanted: &[u32]) -> u64 {
     match ZeroVec::parse_bytes(bytes) {
@@ -90,7 +91,7 @@ pub extern "C" fn ours_search_32(bytes: &[u8], wanted: &[u32]) -> u64 {
     }
 }
 
-/// The same of numbers of 16 bits.
+/// Searches for 16-bit numbers, and returns the sum of the indices, found or not.
 #[unsafe(no_mangle)]
 pub extern "C" fn ours_search_16(bytes: &[u8], wanted: &[u16]) -> u64 {
     match ZeroVec::parse_bytes(bytes) {

@@ -1,4 +1,4 @@
-//! The ranges of tries, and the sets of their values.
+//! The ranges of tries, and the sets of code points that have a value.
 
 use crate::mixing::mixed;
 use crate::tries::{Parts, trie_of};
@@ -7,7 +7,7 @@ use icu_trie::cptrie::CodePointTrie;
 use icu_trie::value::TrieValue;
 use std::alloc::Global;
 
-/// What `sum` becomes when all ranges of a trie are mixed into it.
+/// Returns the checksum `sum` after all ranges of a trie, by `iter_ranges`.
 #[inline(never)]
 fn mixed_ranges<T: TrieValue>(trie: &CodePointTrie<'_, T>, sum: u64) -> u64 {
     let mut sum = sum;
@@ -32,7 +32,7 @@ fn ranges_of<T: TrieValue>(parts: &Parts<'_>, turns: usize) -> u64 {
     }
 }
 
-/// What `sum` becomes when all ranges of a trie are mixed into it, each found by a call of its own.
+/// Returns the checksum `sum` after all ranges of a trie, by one call of `get_range` for each.
 #[inline(never)]
 fn mixed_by_calls(trie: &CodePointTrie<'_, u8>, sum: u64) -> u64 {
     let mut sum = sum;
@@ -56,7 +56,7 @@ fn mixed_by_calls_often(trie: &CodePointTrie<'_, u8>, turns: usize) -> u64 {
     sum
 }
 
-/// All ranges of a trie of 8 bits by `get_range`, so many times.
+/// Lists all ranges of a trie of 8-bit values by `get_range`, `turns` times.
 #[unsafe(no_mangle)]
 pub extern "C" fn ours_range_8(parts: &Parts<'_>, turns: usize) -> u64 {
     match trie_of::<u8>(parts) {
@@ -65,7 +65,7 @@ pub extern "C" fn ours_range_8(parts: &Parts<'_>, turns: usize) -> u64 {
     }
 }
 
-/// The ranges of a set, all of them, as one number.
+/// Returns a checksum of all ranges of a set.
 pub fn mixed_set(set: &CodePointInversionList<'_>) -> u64 {
     let mut sum = 0u64;
     for range in set.iter_ranges() {
@@ -74,25 +74,26 @@ pub fn mixed_set(set: &CodePointInversionList<'_>) -> u64 {
     sum
 }
 
-/// All ranges of a trie of 8 bits, so many times.
+/// Lists all ranges of a trie of 8-bit values, `turns` times.
 #[unsafe(no_mangle)]
 pub extern "C" fn ours_ranges_8(parts: &Parts<'_>, turns: usize) -> u64 {
     ranges_of::<u8>(parts, turns)
 }
 
-/// The same of 16 bits.
+/// Lists all ranges of a trie of 16-bit values, `turns` times.
 #[unsafe(no_mangle)]
 pub extern "C" fn ours_ranges_16(parts: &Parts<'_>, turns: usize) -> u64 {
     ranges_of::<u16>(parts, turns)
 }
 
-/// The same of 32 bits.
+/// Lists all ranges of a trie of 32-bit values, `turns` times.
 #[unsafe(no_mangle)]
 pub extern "C" fn ours_ranges_32(parts: &Parts<'_>, turns: usize) -> u64 {
     ranges_of::<u32>(parts, turns)
 }
 
-/// The set of the code points that have the value in a trie, all its ranges as one number.
+/// Makes the set of the code points that have the value in a trie, and returns a checksum of its
+/// ranges.
 fn mixed_set_for(alloc: Global, trie: &CodePointTrie<'_, u8>, value: u8) -> Option<u64> {
     match trie.get_set_for_value(alloc, value) {
         Ok(set) => Some(mixed_set(&set)),
@@ -113,7 +114,7 @@ fn sets_made_often(
     Some(sum)
 }
 
-/// The set of the code points that have the value in a trie of 8 bits, made so many times.
+/// Makes the set of the code points that have the value in a trie of 8-bit values, `turns` times.
 #[unsafe(no_mangle)]
 pub extern "C" fn ours_setfor_8(alloc: Global, parts: &Parts<'_>, value: u8, turns: usize) -> u64 {
     match trie_of::<u8>(parts) {

@@ -1,18 +1,19 @@
-//! Sets of code points: questions asked of them many times, and sets built.
+//! Sets of code points: many look-ups, and building.
 
 use crate::ranges::mixed_set;
 use icu_invlist::codepointinvlist::{CodePointInversionList, CodePointInversionListBuilder};
 use icu_zerovec::ZeroVec;
 use std::alloc::Global;
 
-/// The set of these ends, which it borrows. `None` where they are no inversion list.
+/// Returns the set with these boundaries, which it borrows, or `None` if they are not an inversion
+/// list.
 pub(crate) fn set_of<'a>(alloc: Global, ends: &'a [u8]) -> Option<CodePointInversionList<'a>> {
     let ends = ZeroVec::parse_bytes(ends).ok()?;
     CodePointInversionList::try_from_inversion_list(alloc, ends).ok()
 }
 
-/// How many of the code points are in the set. It stays a call, so that its loop can be found in
-/// the machine code.
+/// Returns the number of code points in the set. It is not inlined, so that its loop can be found
+/// in the machine code.
 #[inline(never)]
 fn held_points(set: &CodePointInversionList<'_>, points: &[u32]) -> u64 {
     let mut sum = 0u64;
@@ -22,7 +23,7 @@ fn held_points(set: &CodePointInversionList<'_>, points: &[u32]) -> u64 {
     sum
 }
 
-/// The sum with how many of the characters of a text are in the set.
+/// Adds the number of characters of a text that are in the set to `sum`.
 #[inline(never)]
 fn add_held(set: &CodePointInversionList<'_>, text: &str, sum: u64) -> u64 {
     let mut sum = sum;
@@ -41,8 +42,8 @@ fn added_positions(set: &CodePointInversionList<'_>, points: &[u32]) -> u64 {
     sum
 }
 
-/// What `sum` becomes when the ends of all ranges are added to it: a turn that takes the sum of the
-/// last one is not left out.
+/// Adds the bounds of all ranges to `sum`. Each turn starts from the sum of the last one, so that
+/// the compiler cannot remove a turn.
 #[inline(never)]
 fn added_ranges(set: &CodePointInversionList<'_>, sum: u64) -> u64 {
     let mut sum = sum;
@@ -54,7 +55,7 @@ fn added_ranges(set: &CodePointInversionList<'_>, sum: u64) -> u64 {
     sum
 }
 
-/// How many of the code points are in the set.
+/// Counts the code points in the set.
 #[unsafe(no_mangle)]
 pub extern "C" fn ours_contains(alloc: Global, ends: &[u8], points: &[u32]) -> u64 {
     match set_of(alloc, ends) {
@@ -71,7 +72,7 @@ fn text_held_often(set: &CodePointInversionList<'_>, text: &str, turns: usize) -
     sum
 }
 
-/// How many of the characters of a text are in the set, counted so many times.
+/// Counts the characters of a text that are in the set, `turns` times.
 #[unsafe(no_mangle)]
 pub extern "C" fn ours_contains_text(alloc: Global, ends: &[u8], text: &[u8], turns: usize) -> u64 {
     let Ok(text) = std::str::from_utf8(text) else {
@@ -83,7 +84,7 @@ pub extern "C" fn ours_contains_text(alloc: Global, ends: &[u8], text: &[u8], tu
     }
 }
 
-/// The sum of the places of the code points in the set, 7 for one that it does not hold.
+/// Returns the sum of the indices of the code points in the set, with 7 for each that is not in it.
 #[unsafe(no_mangle)]
 pub extern "C" fn ours_position(alloc: Global, ends: &[u8], points: &[u32]) -> u64 {
     match set_of(alloc, ends) {
@@ -92,7 +93,7 @@ pub extern "C" fn ours_position(alloc: Global, ends: &[u8], points: &[u32]) -> u
     }
 }
 
-/// All ranges of a set, so many times.
+/// Iterates over all ranges of a set, `turns` times.
 #[unsafe(no_mangle)]
 pub extern "C" fn ours_set_iter(alloc: Global, ends: &[u8], turns: usize) -> u64 {
     let Some(set) = set_of(alloc, ends) else {
@@ -105,8 +106,8 @@ pub extern "C" fn ours_set_iter(alloc: Global, ends: &[u8], turns: usize) -> u64
     sum
 }
 
-/// Whether the set, which is one of two equal sets, holds all of the other, so many times. Which of
-/// the two is asked hangs on the answers so far, so that no turn is left out.
+/// Tests whether one of two equal sets contains `other`, `turns` times. Which of the two is used
+/// depends on the results so far, so that the compiler cannot remove a turn.
 fn contained_often<'a, 'b>(
     set: &'b CodePointInversionList<'a>,
     twin: &'b CodePointInversionList<'a>,
@@ -121,7 +122,7 @@ fn contained_often<'a, 'b>(
     sum
 }
 
-/// Whether the first set holds all of the second, so many times.
+/// Tests whether the first set contains the second, `turns` times.
 #[unsafe(no_mangle)]
 pub extern "C" fn ours_contains_set(alloc: Global, a: &[u8], b: &[u8], turns: usize) -> u64 {
     let (Some(twin), Some(a), Some(b)) = (set_of(alloc, a), set_of(alloc, a), set_of(alloc, b))
@@ -131,7 +132,8 @@ pub extern "C" fn ours_contains_set(alloc: Global, a: &[u8], b: &[u8], turns: us
     contained_often(&a, &twin, &b, turns)
 }
 
-/// Adds the set (0) to the builder's, removes it (1), keeps it (2) or complements it (3).
+/// Changes the builder's set by the other: union (0), difference (1), intersection (2) or symmetric
+/// difference (any other number).
 fn blend(
     builder: &mut CodePointInversionListBuilder,
     set: &CodePointInversionList<'_>,
@@ -145,7 +147,7 @@ fn blend(
     }
 }
 
-/// The first set with the second added (0), removed (1), kept (2) or complemented (3).
+/// Returns the result of that operation on two sets.
 fn blended(
     alloc: Global,
     a: &CodePointInversionList<'_>,
@@ -158,7 +160,8 @@ fn blended(
     builder.build().ok()
 }
 
-/// The sum after a turn that made this set: how many ranges it has, and those of the first.
+/// Adds the number of ranges of a result to `sum`. In the first turn, starts with a checksum of its
+/// ranges.
 fn counted(set: &CodePointInversionList<'_>, turn: usize, sum: u64) -> u64 {
     let sum = if turn == 0 { mixed_set(set) } else { sum };
     sum.wrapping_add(set.get_range_count() as u64)
@@ -181,7 +184,8 @@ fn blended_often(
     sum
 }
 
-/// The blend of two sets, built so many times: how many ranges it has, and those of the first.
+/// Computes an operation on two sets, `turns` times. Returns the number of ranges of all results
+/// plus a checksum of the first.
 #[unsafe(no_mangle)]
 pub extern "C" fn ours_blend(alloc: Global, a: &[u8], b: &[u8], how: u32, turns: usize) -> u64 {
     let (Some(a), Some(b)) = (set_of(alloc, a), set_of(alloc, b)) else {
@@ -211,7 +215,8 @@ fn of_ranges(
     builder.build().ok()
 }
 
-/// The set of these ranges, added range by range, so many times.
+/// Builds the set of these ranges, range by range, `turns` times. Returns the number of ranges of
+/// all results plus a checksum of the first.
 #[unsafe(no_mangle)]
 pub extern "C" fn ours_set_ranges(
     alloc: Global,

@@ -1,11 +1,11 @@
-//! Values of a trie along texts.
+//! Values of a trie for the characters of a text.
 
 use crate::tries::{Parts, trie_of};
 use icu_trie::cptrie::CodePointTrie;
 use icu_trie::value::TrieValue;
 use icu_trie_text::text::{values_of, values_of_utf8};
 
-/// What `sum` becomes when the value of each character of a text is added to it.
+/// Adds the value of each character of a text to `sum`.
 #[inline(never)]
 fn add_values<T: TrieValue>(trie: &CodePointTrie<'_, T>, text: &str, sum: u64) -> u64 {
     let mut sum = sum;
@@ -23,7 +23,7 @@ fn values_added_often(trie: &CodePointTrie<'_, u8>, text: &str, turns: usize) ->
     sum
 }
 
-/// The same of bytes that may be ill-formed UTF-8.
+/// Adds the values for bytes that may be ill-formed UTF-8 to `sum`.
 #[inline(never)]
 fn add_values_of_bytes<T: TrieValue>(trie: &CodePointTrie<'_, T>, bytes: &[u8], sum: u64) -> u64 {
     let mut sum = sum;
@@ -41,7 +41,7 @@ fn values_of_bytes_added_often(trie: &CodePointTrie<'_, u8>, bytes: &[u8], turns
     sum
 }
 
-/// The sum of the values along a text in a trie of 8 bits, so many times.
+/// Adds up the values of a text in a trie of 8-bit values, `turns` times.
 #[unsafe(no_mangle)]
 pub extern "C" fn ours_values_8(parts: &Parts<'_>, text: &[u8], turns: usize) -> u64 {
     let Ok(text) = std::str::from_utf8(text) else {
@@ -53,7 +53,8 @@ pub extern "C" fn ours_values_8(parts: &Parts<'_>, text: &[u8], turns: usize) ->
     }
 }
 
-/// The same of bytes that may be ill-formed UTF-8.
+/// Adds up the values for bytes that may be ill-formed UTF-8 in a trie of 8-bit values, `turns`
+/// times.
 #[unsafe(no_mangle)]
 pub extern "C" fn ours_bytes_8(parts: &Parts<'_>, bytes: &[u8], turns: usize) -> u64 {
     match trie_of::<u8>(parts) {

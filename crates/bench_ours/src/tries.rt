@@ -6,8 +6,8 @@ use icu_trie::typed::{Typed, TypedCodePointTrie};
 use icu_trie::value::TrieValue;
 use icu_zerovec::ZeroVec;
 
-/// The parts of a trie that another program built: the cells of index and data with the lowest byte
-/// first.
+/// The parts of a trie that another program built. The cells of index and data have their lowest
+/// byte first.
 #[repr(C)]
 #[derive(Clone, Copy)]
 pub struct Parts<'a> {
@@ -20,7 +20,7 @@ pub struct Parts<'a> {
     pub is_fast: bool,
 }
 
-/// The header of a trie of these parts.
+/// Returns the header of a trie with these parts.
 fn header_of(parts: &Parts<'_>) -> CodePointTrieHeader {
     let trie_type = if parts.is_fast {
         TrieType::Fast
@@ -37,16 +37,16 @@ fn header_of(parts: &Parts<'_>) -> CodePointTrieHeader {
     }
 }
 
-/// The trie of these parts, which borrows them. `None` where they are no trie.
+/// Returns the trie with these parts, which it borrows, or `None` if they are not a valid trie.
 pub fn trie_of<'a, T: TrieValue>(parts: &Parts<'a>) -> Option<CodePointTrie<'a, T>> {
     let index = ZeroVec::parse_bytes(parts.index).ok()?;
     let data = ZeroVec::parse_bytes(parts.data).ok()?;
     CodePointTrie::try_new(header_of(parts), index, data).ok()
 }
 
-/// What `sum` becomes when the values of these code points are added to it. It stays a call, so
-/// that its loop can be found in the machine code; and since each turn hands its sum to the next,
-/// no turn is left out.
+/// Adds the values of these code points to `sum`. It is not inlined, so that its loop can be found
+/// in the machine code. Each turn starts from the sum of the last one, so that the compiler cannot
+/// remove a turn.
 #[inline(never)]
 fn add_values<T: TrieValue>(trie: &CodePointTrie<'_, T>, points: &[u32], sum: u64) -> u64 {
     let mut sum = sum;
@@ -56,7 +56,7 @@ fn add_values<T: TrieValue>(trie: &CodePointTrie<'_, T>, points: &[u32], sum: u6
     sum
 }
 
-/// The same of a trie whose type is known.
+/// Adds the values of these code points to `sum`, in a trie whose type is known at compile time.
 #[inline(never)]
 fn add_typed<'t, T: TrieValue, V: TypedCodePointTrie<'t, T>>(
     trie: &V,
@@ -70,7 +70,7 @@ fn add_typed<'t, T: TrieValue, V: TypedCodePointTrie<'t, T>>(
     sum
 }
 
-/// The same of the characters of a text.
+/// Adds the values of the characters of a text to `sum`.
 #[inline(never)]
 fn add_text<T: TrieValue>(trie: &CodePointTrie<'_, T>, text: &str, sum: u64) -> u64 {
     let mut sum = sum;
@@ -125,14 +125,15 @@ fn typed_sum_of<T: TrieValue>(parts: &Parts<'_>, points: &[u32], turns: usize) -
     }
 }
 
-/// Writes the value of each code point into `answers`.
+/// Writes the value of each code point to `answers`.
 fn write_answers<T: TrieValue>(trie: &CodePointTrie<'_, T>, points: &[u32], answers: &mut [u32]) {
     for (c, answer) in points.iter().zip(answers.iter_mut()) {
         *answer = trie.get32(*c).to_u32();
     }
 }
 
-/// The same of the trie of these parts. `false` where they are no trie.
+/// Writes the value of each code point in the trie with these parts to `answers`. Returns false if
+/// they are not a valid trie.
 fn answers_of<T: TrieValue>(parts: &Parts<'_>, points: &[u32], answers: &mut [u32]) -> bool {
     match trie_of::<T>(parts) {
         Some(trie) => {
@@ -151,43 +152,43 @@ fn text_added_often(trie: &CodePointTrie<'_, u8>, text: &str, turns: usize) -> u
     sum
 }
 
-/// The sum of the values of these code points in a trie of 8 bits, so many times.
+/// Adds up the values of these code points in a trie of 8-bit values, `turns` times.
 #[unsafe(no_mangle)]
 pub extern "C" fn ours_get_8(parts: &Parts<'_>, points: &[u32], turns: usize) -> u64 {
     sum_of::<u8>(parts, points, turns)
 }
 
-/// The same of 16 bits.
+/// Adds up the values of these code points in a trie of 16-bit values, `turns` times.
 #[unsafe(no_mangle)]
 pub extern "C" fn ours_get_16(parts: &Parts<'_>, points: &[u32], turns: usize) -> u64 {
     sum_of::<u16>(parts, points, turns)
 }
 
-/// The same of 32 bits.
+/// Adds up the values of these code points in a trie of 32-bit values, `turns` times.
 #[unsafe(no_mangle)]
 pub extern "C" fn ours_get_32(parts: &Parts<'_>, points: &[u32], turns: usize) -> u64 {
     sum_of::<u32>(parts, points, turns)
 }
 
-/// The sum by a trie whose type is known.
+/// Adds up the values of these code points in a typed trie of 8-bit values, `turns` times.
 #[unsafe(no_mangle)]
 pub extern "C" fn ours_typed_8(parts: &Parts<'_>, points: &[u32], turns: usize) -> u64 {
     typed_sum_of::<u8>(parts, points, turns)
 }
 
-/// The same of 16 bits.
+/// Adds up the values of these code points in a typed trie of 16-bit values, `turns` times.
 #[unsafe(no_mangle)]
 pub extern "C" fn ours_typed_16(parts: &Parts<'_>, points: &[u32], turns: usize) -> u64 {
     typed_sum_of::<u16>(parts, points, turns)
 }
 
-/// The same of 32 bits.
+/// Adds up the values of these code points in a typed trie of 32-bit values, `turns` times.
 #[unsafe(no_mangle)]
 pub extern "C" fn ours_typed_32(parts: &Parts<'_>, points: &[u32], turns: usize) -> u64 {
     typed_sum_of::<u32>(parts, points, turns)
 }
 
-/// The sum of the values of the characters of a text, so many times.
+/// Adds up the values of the characters of a text, `turns` times.
 #[unsafe(no_mangle)]
 pub extern "C" fn ours_text_8(parts: &Parts<'_>, text: &[u8], turns: usize) -> u64 {
     let Ok(text) = std::str::from_utf8(text) else {
@@ -199,19 +200,19 @@ pub extern "C" fn ours_text_8(parts: &Parts<'_>, text: &[u8], turns: usize) -> u
     }
 }
 
-/// The value of each code point in a trie of 8 bits.
+/// Writes the value of each code point in a trie of 8-bit values.
 #[unsafe(no_mangle)]
 pub extern "C" fn ours_answers_8(parts: &Parts<'_>, points: &[u32], answers: &mut [u32]) -> bool {
     answers_of::<u8>(parts, points, answers)
 }
 
-/// The value of each code point in a trie of 16 bits.
+/// Writes the value of each code point in a trie of 16-bit values.
 #[unsafe(no_mangle)]
 pub extern "C" fn ours_answers_16(parts: &Parts<'_>, points: &[u32], answers: &mut [u32]) -> bool {
     answers_of::<u16>(parts, points, answers)
 }
 
-/// The value of each code point in a trie of 32 bits.
+/// Writes the value of each code point in a trie of 32-bit values.
 #[unsafe(no_mangle)]
 pub extern "C" fn ours_answers_32(parts: &Parts<'_>, points: &[u32], answers: &mut [u32]) -> bool {
     answers_of::<u32>(parts, points, answers)

@@ -1,5 +1,5 @@
-//! Unit tries: built of keys, read key by key, and listed. Keys stand one after another, and key i
-//! ends before `ends[i]`.
+//! Unit tries: building from keys, looking up keys, and listing. The keys are concatenated, and key
+//! i ends before `ends[i]`.
 
 use crate::mixing::mixed;
 use icu_char16trie::char16trie::Char16Trie;
@@ -7,7 +7,7 @@ use icu_char16trie_builder::builder::Char16TrieBuilder;
 use icu_zerovec::ZeroVec;
 use std::alloc::Global;
 
-/// Adds the keys with their values. `None` where a key or memory is refused.
+/// Adds the keys with their values. Returns `None` if a key is rejected or an allocation fails.
 fn add_entries(
     builder: &mut Char16TrieBuilder,
     keys: &[u16],
@@ -25,14 +25,15 @@ fn add_entries(
     Some(())
 }
 
-/// The trie of these keys with their values. `None` where a key or memory is refused.
+/// Returns the trie of these keys with their values, or `None` if a key is rejected or an
+/// allocation fails.
 fn built(alloc: Global, keys: &[u16], ends: &[u32], values: &[i32]) -> Option<Char16Trie<'static>> {
     let mut builder = Char16TrieBuilder::new(alloc);
     add_entries(&mut builder, keys, ends, values)?;
     builder.build().ok()
 }
 
-/// Writes the units of the trie, as far as there is room. How many there are.
+/// Writes the units of the trie, as many as fit. Returns how many there are.
 fn write_units(trie: &Char16Trie<'_>, units: &mut [u16]) -> usize {
     for (place, unit) in units.iter_mut().zip(trie.data.iter()) {
         *place = unit;
@@ -40,8 +41,8 @@ fn write_units(trie: &Char16Trie<'_>, units: &mut [u16]) -> usize {
     trie.data.len()
 }
 
-/// Writes the units of the trie of these entries, as far as there is room. How many there are, or 0
-/// where a key or memory is refused.
+/// Builds a trie of these entries, and writes its units, as many as fit. Returns how many there
+/// are, or 0 if a key is rejected or an allocation fails.
 #[unsafe(no_mangle)]
 pub extern "C" fn ours_c16_build(
     alloc: Global,
@@ -56,7 +57,7 @@ pub extern "C" fn ours_c16_build(
     }
 }
 
-/// The value of a key, 7 where it has none.
+/// Returns the value of a key, or 7 if it has none.
 #[inline(never)]
 fn value_of(trie: &Char16Trie<'_>, key: &[u16]) -> u32 {
     let mut cursor = trie.cursor();
@@ -66,7 +67,8 @@ fn value_of(trie: &Char16Trie<'_>, key: &[u16]) -> u32 {
     cursor.value().unwrap_or(7).cast_unsigned()
 }
 
-/// The sum of the values of all prefixes of a key, as a search for the longest match asks for them.
+/// Returns the sum of the values of all prefixes of a key, as a search for the longest match reads
+/// them.
 #[inline(never)]
 fn values_along(trie: &Char16Trie<'_>, key: &[u16]) -> u32 {
     let mut sum = 0u32;
@@ -100,7 +102,7 @@ fn mixed_values(trie: &Char16Trie<'_>, keys: &[u16], ends: &[u32], along: bool) 
     sum
 }
 
-/// The values of all keys, or with `along` of all their prefixes.
+/// Returns a checksum of the values of all keys, or of all their prefixes if `along` is true.
 #[unsafe(no_mangle)]
 pub extern "C" fn ours_c16_look(units: &[u8], keys: &[u16], ends: &[u32], along: bool) -> u64 {
     match ZeroVec::parse_bytes(units) {
@@ -109,8 +111,8 @@ pub extern "C" fn ours_c16_look(units: &[u8], keys: &[u16], ends: &[u32], along:
     }
 }
 
-/// The lengths and the values of the longest keys that begin at each place of a text, 0 and 7 where
-/// no key does.
+/// Returns a checksum of the lengths and values of the longest keys that start at each position of
+/// a text, with 0 and 7 where there is no key.
 fn mixed_matches(trie: &Char16Trie<'_>, text: &[u16]) -> u64 {
     let mut sum = 0u64;
     for start in 0..text.len() {
@@ -121,7 +123,7 @@ fn mixed_matches(trie: &Char16Trie<'_>, text: &[u16]) -> u64 {
     sum
 }
 
-/// The longest keys that begin at each place of a text.
+/// Finds the longest key that starts at each position of a text.
 #[unsafe(no_mangle)]
 pub extern "C" fn ours_c16_longest(units: &[u8], text: &[u16]) -> u64 {
     match ZeroVec::parse_bytes(units) {
@@ -141,7 +143,8 @@ fn mixed_entries(alloc: Global, trie: &Char16Trie<'_>) -> u64 {
     sum
 }
 
-/// The values of all entries, in unit order, and the lengths of their keys in UTF-8.
+/// Returns a checksum of the values of all entries, in unit order, by an iterator that returns each
+/// key as a text of its own.
 #[unsafe(no_mangle)]
 pub extern "C" fn ours_c16_iter(alloc: Global, units: &[u8]) -> u64 {
     match ZeroVec::parse_bytes(units) {
@@ -163,7 +166,8 @@ fn mixed_listing(alloc: Global, trie: &Char16Trie<'_>) -> u64 {
     sum
 }
 
-/// The values of all entries, in unit order, of which each is reached with the text of its key.
+/// Returns a checksum of the values of all entries, in unit order, by a listing that has the text
+/// of each key in one buffer.
 #[unsafe(no_mangle)]
 pub extern "C" fn ours_c16_entries(alloc: Global, units: &[u8]) -> u64 {
     match ZeroVec::parse_bytes(units) {
@@ -185,14 +189,14 @@ fn add_lines(alloc: Global, trie: &Char16Trie<'_>, all: &mut String) -> Option<(
     Some(())
 }
 
-/// The keys of a trie in unit order, as one text.
+/// Returns the keys of a trie in unit order as one text, each followed by a newline.
 fn joined_keys(alloc: Global, trie: &Char16Trie<'_>) -> Option<String> {
     let mut all = String::new(alloc);
     add_lines(alloc, trie, &mut all)?;
     Some(all)
 }
 
-/// Writes the text, as far as there is room. How many bytes it has.
+/// Writes the text, as many bytes as fit. Returns how many there are.
 fn write_text(text: &str, bytes: &mut [u8]) -> usize {
     for (place, byte) in bytes.iter_mut().zip(text.as_bytes().iter()) {
         *place = *byte;
@@ -200,8 +204,8 @@ fn write_text(text: &str, bytes: &mut [u8]) -> usize {
     text.len()
 }
 
-/// Writes the keys in unit order, each ended by a newline, as far as there is room. How many bytes
-/// they have.
+/// Writes the keys in unit order, each followed by a newline, as many bytes as fit. Returns how
+/// many bytes there are, or 0 if the units cannot be read or an allocation fails.
 #[unsafe(no_mangle)]
 pub extern "C" fn ours_c16_keys(alloc: Global, units: &[u8], bytes: &mut [u8]) -> usize {
     let Ok(units) = ZeroVec::parse_bytes(units) else {
