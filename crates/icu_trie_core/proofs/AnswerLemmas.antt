@@ -1,4 +1,4 @@
--- What the answer is in each part of a trie.
+-- The look-up result in each part of a trie.
 use Rattle.std.proofs.Common.{◌≡◌, ◌⊎◌, inl, inr, ◌+◌, ◌*◌, ◌/◌, ◌%◌, ◌<◌, ◌≤◌, ℕ, List, slice_get, Option, Some, None, arith, refl}
 use Rattle.std.proofs.lemmas.Bool.{lt-ltb, le-ltb}
 use Rattle.std.specs.Option.{option_len}
@@ -42,7 +42,7 @@ module _ {A : Type 0} (h : CodePointTrieHeader) (index : List ℕ) (values : Lis
   small_none within from below is =
       rw (le-ltb 1114111 u (omega (arith, within)), le-ltb u (fast_limit h.trie_type) from, lt-ltb u h.high_start below, is) refl
 
--- the data offset at a place of a block of 512
+-- The data offset at a position in a block of 512.
 pub small_offset_at : (kind : TrieType) (index : List ℕ) (base block i : ℕ) → base % 512 ≡ 0 → i < 512
     → index2_cell kind index base ≡ Some block
     → small_offset kind index (base + i) ≡ offset_in_block index block (i / 16)
@@ -53,7 +53,7 @@ small_offset_at kind index base block i aligned in_block two =
     let c : (base + i) / 16 % 32 ≡ i / 16 = omega arith in
     rw (a, b, c, two) refl
 
--- the data offset of a code point, from the index-2 cell of its block of 512
+-- The data offset of a code point, from the index-2 cell of its block of 512.
 pub small_offset_in : (kind : TrieType) (index : List ℕ) (c block : ℕ) → index2_cell kind index (c / 512 * 512) ≡ Some block
     → small_offset kind index c ≡ offset_in_block index block (c % 512 / 16)
 unfolding small_offset

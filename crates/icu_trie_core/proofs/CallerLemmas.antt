@@ -1,9 +1,10 @@
--- What other crates may cite of the trie format and of maximal runs.
--- The answer of a code point, from where its block stands in the data
+-- What other crates may use about the trie format and about maximal runs. First: the look-up result
+-- of a code point, from the data offset of its block.
 pub use Rattle.icu_trie_core.proofs.AnswerLemmas.{fast_answer, small_answer}
--- The least offset of the fast index that leaves the data, as a loop over it finds it
+-- The first offset in the fast index whose block ends outside the data, as a loop finds it.
 pub use Rattle.icu_trie_core.proofs.FrontLemmas.{found, none_more, none_past}
--- A range that is given is the longest run from its start on
+-- A returned range is the longest run from its start on.
 pub use Rattle.icu_trie_core.proofs.RangeLemmas.{LongestRun-from_gives}
--- A map has one list of maximal runs, which maps share that are equal on the code points
+-- A map has exactly one list of maximal runs. Maps that are equal on all code points have the same
+-- list.
 pub use Rattle.icu_trie_core.proofs.RunLemmas.{AreMaximalRuns-same, AreMaximalRuns-some, runs-unique, value_runs-some}

@@ -1,4 +1,4 @@
--- A trie is coherent exactly if its blocks are as coherence says of them.
+-- A trie is coherent exactly if its blocks satisfy `AreCoherentBlocks`.
 use Rattle.std.proofs.Common.{◌≡◌, inl, inr, ℕ, ◌+◌, ◌-◌, ◌*◌, ◌/◌, ◌%◌, ◌<◌, ◌≤◌, List, length, slice_get, Option, Some, None, IsSome, IsSomeAnd, nat_eq, Bool, true, false, not, sym, ap, ◌∙◌, arith, refl}
 use Rattle.std.proofs.lemmas.Bool.{cases_lt, le-ltb, false≢true, eqb-true}
 use Rattle.std.proofs.lemmas.Option.{slice_get_within, slice_get_cases}
@@ -11,7 +11,7 @@ use Rattle.icu_trie_core.specs.Coherence.{IsCoherent}
 use Rattle.icu_trie_core.specs.Inside.CoherentBlocks.{AreAll, NamesOffsets, IsNullBlock, IsBlock, IsCell, AreFastBlocks, AreSmallBlocks, AreHighBlocks, HasHighValue, AreCoherentBlocks}
 use Rattle.icu_trie_core.proofs.AnswerLemmas.{none_or_some, fast_limit_most, fast_answer, fast_none, small_answer, small_none, small_offset_at, small_offset_none}
 
--- what is there, and what holds of it
+-- An element that exists, with the property it satisfies.
 pub some_and : {A : Type 0} (o : Option A) (P : A → Type 0) → IsSomeAnd o P → (x : A) × (o ≡ Some x) × P x
 some_and None P e = absurd e
 some_and (Some x) P e = (x, refl, e)
@@ -31,7 +31,7 @@ within xs i e = elim (none_or_some (slice_get xs i)) [
   | inr some ↦ slice_get_within xs i some.0 some.1
 ]
 
--- a block of 16 has one data offset
+-- A block of 16 has one data offset.
 small_offset_in : (kind : TrieType) (index : List ℕ) (b i : ℕ) → i < 16
     → small_offset kind index (b * 16 + i) ≡ small_offset kind index (b * 16)
 unfolding small_offset
@@ -42,7 +42,7 @@ small_offset_in kind index b i lt =
     rw (two, one, three) refl
 
 module _ {A : Type 0} (of_number : ℕ → Option A) (h : CodePointTrieHeader) (values : List A) where
-  -- a null block lies in the data
+  -- A null block is inside the data.
   pub IsNullBlock-fits : (k offset : ℕ) → 0 < k → IsNullBlock of_number h values k offset → offset + k ≤ length values
   IsNullBlock-fits k offset some null =
       let n = some_and (of_number h.null_value) (AreAll values k offset) null in
@@ -60,13 +60,13 @@ module _ {A : Type 0} (of_number : ℕ → Option A) (h : CodePointTrieHeader) (
     | inr n ↦ and_some (of_number h.null_value) (AreAll values k offset) n.0 n.1 (λ i lt. all i lt ∙ n.1)
   ]
 
-  -- the cells of a null block
+  -- The cells of a null block.
   cell-null : (k offset i : ℕ) → i < k → IsNullBlock of_number h values k offset → slice_get values (offset + i) ≡ of_number h.null_value
   cell-null k offset i lt null =
       let n = some_and (of_number h.null_value) (AreAll values k offset) null in
       n.2 i lt ∙ sym n.1
 
-  -- the cells of a block
+  -- The cells of a block.
   cell-there : (k offset i : ℕ) → i < k → IsBlock of_number h values k offset → IsSome (slice_get values (offset + i))
   cell-there k offset i lt block =
       let fits = block.0 in
@@ -75,7 +75,7 @@ module _ {A : Type 0} (of_number : ℕ → Option A) (h : CodePointTrieHeader) (
         | inr p ↦ let past = p.0 in absurd (omega (arith, past, fits, lt))
       ]
 
--- the null index-2 cell is as it has to be where its blocks are null
+-- The null index-2 cell is valid if its blocks are null.
 pub null_cell_is : {A : Type 0} (of_number : ℕ → Option A) (h : CodePointTrieHeader) (index : List ℕ) (values : List A) (cell : ℕ)
     → cell ≡ h.index3_null_offset
     → NamesOffsets index h.index3_null_offset (IsNullBlock of_number h values 16) → IsCell of_number h (contents_of index values) cell
@@ -88,7 +88,7 @@ null_cell_is of_number h index values cell is null = rw is (
     blocks None e = absurd e
     blocks (Some offset) e = (IsNullBlock-fits of_number h values 16 offset (omega arith) e, λ _. e)
 
--- the blocks up to the next one, of which the cell is known
+-- The blocks up to and including the next one, whose cell is known.
 pub blocks_next : (low block cell : ℕ) (f : ℕ → Option ℕ) (P : ℕ → Type 0) → ((b : ℕ) → low ≤ b * 512 → b < block → IsSomeAnd (f b) P)
     → f block ≡ Some cell → P cell
     → (b : ℕ) → low ≤ b * 512 → b < block + 1 → IsSomeAnd (f b) P
@@ -101,13 +101,13 @@ not_false : (b : Bool) → not b ≡ false → b ≡ true
 not_false true e = refl
 not_false false e = cc
 
--- what doesn't differ by the test of options is equal
+-- If the comparison of two options finds no difference, they are equal.
 pub same_option : (o : Option ℕ) (x : ℕ) → not (option_eq nat_eq o (Some x)) ≡ false → o ≡ Some x
 same_option None x e = cc
 same_option (Some y) x e = ap (λ n. Some n) (eqb-true y x (not_false (nat_eq y x) e))
 
 module _ {A : Type 0} (h : CodePointTrieHeader) (index : List ℕ) (values : List A) where
-  -- a place of a block of 64 below the fast limit
+  -- A position in a block of 64 below the fast limit.
   answer-fast : (b offset i : ℕ) → b * 64 < fast_limit h.trie_type → slice_get index b ≡ Some offset → i < 64
       → answer h (contents_of index values) (b * 64 + i) ≡ slice_get values (offset + i)
   answer-fast b offset i fast is lt =
@@ -124,7 +124,7 @@ module _ {A : Type 0} (h : CodePointTrieHeader) (index : List ℕ) (values : Lis
       let here : b * 64 / 64 ≡ b = omega arith in
       fast_none h index values (b * 64) (omega (arith, most, fast)) fast (rw here is)
 
-  -- from the fast limit and the high start on
+  -- At or above both the fast limit and the high start.
   answer-high : (u : ℕ) → u < 0x110000 → fast_limit h.trie_type ≤ u → h.high_start ≤ u
       → answer h (contents_of index values) u ≡ high_value values
   unfolding answer
@@ -138,7 +138,7 @@ module _ {A : Type 0} (h : CodePointTrieHeader) (index : List ℕ) (values : Lis
         (omega (arith, below, most)) from below (small_offset_none h.trie_type index (b * 512) none)
 
     module _ (cell : ℕ) (two : index2_cell h.trie_type index (b * 512) ≡ Some cell) (p : ℕ) (in_cell : p < 32) where
-      -- the data offset of a block of 16
+      -- The data offset of a block of 16.
       offset-at : (i : ℕ) → i < 16 → small_offset h.trie_type index (b * 512 + (p * 16 + i)) ≡ offset_in_block index cell p
       offset-at i lt =
           let here : (p * 16 + i) / 16 ≡ p = omega (arith, lt) in
@@ -264,7 +264,7 @@ module _ {A : Type 0} (of_number : ℕ → Option A) (h : CodePointTrieHeader) (
             ∙ c.null_512 b from below (two ∙ ap (λ n. Some n) null) (p * 16 + i) (omega (arith, in_cell, lt))))
 
   module _ (aligned : h.high_start % 512 ≡ 0) (most : h.high_start ≤ 0x110000) where
-    -- below the fast limit and the high start: the block, and the answer in it
+    -- Below the fast limit and the high start: the block, and the look-up result in it.
     fast_block : AreFastBlocks of_number h (contents_of index values) → (u : ℕ) → u < fast_limit h.trie_type → u < h.high_start
         → (offset : ℕ) × (slice_get index (u / 64) ≡ Some offset) × IsBlock of_number h values 64 offset
         × (answer h (contents_of index values) u ≡ slice_get values (offset + u % 64))

@@ -1,4 +1,4 @@
--- What a walk gives.
+-- What a walk returns.
 use Rattle.std.proofs.Common.{◌≡◌, ◌≢◌, inl, inr, ℕ, ◌+◌, ◌-◌, ◌<◌, ◌≤◌, List, Option, Some, None, IsSomeAnd, sym, ap, ◌∙◌, max, arith, rules, refl}
 use Rattle.std.proofs.lemmas.Bool.{cases_lt, false≢true}
 use Rattle.std.specs.declared.ops.RangeInclusive.{RangeInclusive}
@@ -19,7 +19,7 @@ use Rattle.icu_trie_core.proofs.SeenLemmas.{seen-from_high, seen-below, seen-hig
 module _ {A : Type 0} (of_number : ℕ → Option A) (h : CodePointTrieHeader) (index : List ℕ)
     (values : List A) {start limit end : ℕ} {value : A} (from : h.high_start ≤ limit)
     (ends : EndsAt (seen of_number h (contents_of index values)) start limit value end) (whole : limit ≤ end) where
-  -- a walk has come to the high start, and there is no high value
+  -- A walk reached the high start, and there is no high value.
   pub BreaksOff-at_high : limit < 0x110000 → high_value values ≡ None
       → BreaksOff (seen of_number h (contents_of index values)) start 0x110000 value
   BreaksOff-at_high lt none =
@@ -32,7 +32,7 @@ module _ {A : Type 0} (of_number : ℕ → Option A) (h : CodePointTrieHeader) (
         missing = seen-from_high of_number h index values limit from ∙ none;
       }
 
-  -- it goes on over the high value
+  -- The walk continues over the high value.
   pub EndsAt-over_high : limit ≤ 0x110000 → IsSomeAnd (high_value values) (λ y. y ≡ value)
       → EndsAt (seen of_number h (contents_of index values)) start 0x110000 value 0x110000
   EndsAt-over_high le same =
@@ -51,7 +51,7 @@ module _ {A : Type 0} (of_number : ℕ → Option A) (h : CodePointTrieHeader) (
       some_is None e = absurd e
       some_is (Some x) e = ap (λ y. Some y) e
 
-  -- it ends there
+  -- The walk ends at the high start.
   pub EndsAt-at_high : limit ≤ 0x110000 → IsSomeAnd (high_value values) (λ y. y ≢ value)
       → EndsAt (seen of_number h (contents_of index values)) start 0x110000 value limit
   EndsAt-at_high le other =
@@ -64,7 +64,7 @@ module _ {A : Type 0} (of_number : ℕ → Option A) (h : CodePointTrieHeader) (
       }
 
 module _ {A : Type 0} (of_number : ℕ → Option A) (h : CodePointTrieHeader) (index : List ℕ) (values : List A) (c : ℕ) where
-  -- a walk gives a range where it comes to its end
+  -- A walk that reaches its end returns a range.
   pub GivesWalk-from_ends : (range : RangeInclusive ℕ) (value : A) (end : ℕ) → range_inclusive_start range ≡ c
       → range_inclusive_end range ≡ max end (c + 1) - 1 → range_inclusive_exhausted range ≡ false
       → answer h (contents_of index values) c ≡ Some value → c < h.high_start → c < 0x110000
@@ -93,7 +93,7 @@ module _ {A : Type 0} (of_number : ℕ → Option A) (h : CodePointTrieHeader) (
         none = search rules;
       }
 
-  -- it gives none where there is no answer
+  -- A walk returns no range if the look-up of its start yields the error value.
   pub GivesWalk-from_none : answer h (contents_of index values) c ≡ None → GivesWalk of_number h (contents_of index values) c None
   GivesWalk-from_none missing = record {
     shape = search rules;
@@ -103,7 +103,7 @@ module _ {A : Type 0} (of_number : ℕ → Option A) (h : CodePointTrieHeader) (
     none = λ lt value is. cc;
   }
 
-  -- it gives none where it breaks off
+  -- A walk that breaks off returns no range.
   pub GivesWalk-from_break : (value : A) → answer h (contents_of index values) c ≡ Some value → c < h.high_start
       → BreaksOff (seen of_number h (contents_of index values)) c 0x110000 value → GivesWalk of_number h (contents_of index values) c None
   GivesWalk-from_break value is below e = record {
@@ -116,7 +116,7 @@ module _ {A : Type 0} (of_number : ℕ → Option A) (h : CodePointTrieHeader) (
         (below, rw (sym same) (e.place, e.begun, e.within, e.equal, e.missing));
   }
 
-  -- over a coherent trie it gives the longest run
+  -- A walk over a coherent trie returns the longest run.
   pub LongestRun-from_gives : IsCoherent of_number h (contents_of index values) → (r : Option (CodePointMapRange A))
       → GivesWalk of_number h (contents_of index values) c r → c < 0x110000
       → IsSomeAnd r (λ x. LongestRun (answer h (contents_of index values)) c (last_of x) (Some x.value))

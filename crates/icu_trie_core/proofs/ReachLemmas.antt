@@ -1,21 +1,22 @@
--- How far a value goes, block by block.
+-- How far a value extends, block by block.
 use Rattle.std.proofs.Common.{◌≡◌, inl, inr, ℕ, ◌+◌, ◌-◌, ◌<◌, ◌≤◌, Option, Some, None, ◌∙◌, min, arith}
 use Rattle.std.proofs.lemmas.Bool.{cases_lt}
 use Rattle.icu_trie_core.specs.Inside.Walk.{Holds, EndsAt, BreaksOff, Reaches}
 
--- up to a place below the limit
+-- Up to a position below the limit.
 pub Holds-below_limit : {A : Type 0} {f : ℕ → Option A} {start : ℕ} {value : A} (base limit : ℕ) → base ≤ limit
     → Holds f start (min base limit) value → Holds f start base value
 Holds-below_limit base limit le holds u a b = holds u a (omega (arith, b, le))
 
--- no place lies from start on and before base
+-- The range start..base is empty.
 pub Holds-nothing : {A : Type 0} (f : ℕ → Option A) (value : A) {start base : ℕ} → base ≤ start → Holds f start base value
 Holds-nothing f value le = λ u a b. absurd (omega (arith, le, a, b))
 
--- a block of len places at base, in which f is g. The value came up to the block, and place `from` is where it goes on
+-- A block of len positions at base, in which f equals g. The value reached the block and continues
+-- at position `from` of it.
 module _ {A : Type 0} {f g : ℕ → Option A} {start base len from : ℕ} {value : A} (before : Holds f start base value)
     (agree : (i : ℕ) → i < len → f (base + i) ≡ g i) (from_is : from ≡ start - base) where
-  -- it goes on to place k of the block
+  -- The value continues up to position k of the block.
   Holds-in_block : (k : ℕ) → k ≤ len → Holds g from k value → Holds f start (base + k) value
   Holds-in_block k most inside u a b = elim (cases_lt u base) [
     | inl p ↦ before u a p
@@ -25,12 +26,12 @@ module _ {A : Type 0} {f g : ℕ → Option A} {start base len from : ℕ} {valu
         rw i (agree (u - base) (omega (arith, lt, most)) ∙ inside (u - base) (omega (arith, a, from_is)) lt)
   ]
 
-  -- it goes over the block
+  -- The value continues over the whole block.
   pub Holds-over_block : (next reach : ℕ) → EndsAt g from len value reach → len ≤ reach → next ≤ base + len → Holds f start next value
   Holds-over_block next reach e whole fits u a b =
       Holds-in_block len (omega arith) (λ i c d. e.equal i c (omega (arith, whole, d))) u a (omega (arith, b, fits))
 
-  -- it ends in the block, or at the limit where the block does
+  -- The value ends in the block, or at the limit if the block ends there.
   pub EndsAt-by_block : (limit reach : ℕ) → base + len ≤ limit → (len ≤ reach → limit ≤ base + len) → EndsAt g from len value reach
       → EndsAt f start limit value (base + reach)
   EndsAt-by_block limit reach fits last e =
@@ -46,12 +47,12 @@ module _ {A : Type 0} {f g : ℕ → Option A} {start base len from : ℕ} {valu
         ];
       }
 
-  -- it ends in the block
+  -- The value ends in the block.
   pub EndsAt-in_block : (limit reach : ℕ) → base + len ≤ limit → reach < len → EndsAt g from len value reach
       → EndsAt f start limit value (base + reach)
   EndsAt-in_block limit reach fits lt e = EndsAt-by_block limit reach fits (λ no. absurd (omega (arith, no, lt))) e
 
-  -- it breaks off in the block
+  -- The run breaks off in the block.
   pub BreaksOff-in_block : (limit : ℕ) → base + len ≤ limit → BreaksOff g from len value → BreaksOff f start limit value
   BreaksOff-in_block limit fits e =
       let b = e.begun in
@@ -64,7 +65,7 @@ module _ {A : Type 0} {f g : ℕ → Option A} {start base len from : ℕ} {valu
         missing = agree e.place w ∙ e.missing;
       }
 
--- nothing is seen in a block of len places at base, to which the value came
+-- The value reached a block of len positions at base in which nothing is seen.
 pub BreaksOff-at_block : {A : Type 0} {f : ℕ → Option A} {start base : ℕ} {value : A} (len limit : ℕ) → Holds f start base value → 0 < len
     → start < base + len → base + len ≤ limit → ((i : ℕ) → i < len → f (base + i) ≡ None) → BreaksOff f start limit value
 BreaksOff-at_block {A} {f} {start} {base} {value} len limit before some begun fits none = record {
@@ -78,7 +79,7 @@ BreaksOff-at_block {A} {f} {start} {base} {value} len limit before some begun fi
   missing = none (start - base) (omega (arith, some, begun));
 }
 
--- how far the value goes from mid on is how far it goes from start on, where it came up to mid
+-- If the value extends from start to mid, its end seen from mid is its end seen from start.
 pub Reaches-after : {A : Type 0} (f : ℕ → Option A) (start mid limit : ℕ) (value : A) (r : Option ℕ) → Holds f start mid value → start ≤ mid
     → Reaches f mid limit value r → Reaches f start limit value r
 Reaches-after f start mid limit value None before le e =

@@ -1,11 +1,13 @@
--- The maximal runs of a map: there is one list of them, and maps that are equal on the code points have the same.
+-- The maximal runs of a map: there is exactly one list of them, and maps that are equal on all code
+-- points have the same list.
 use Rattle.std.proofs.Common.{◌≡◌, ℕ, ◌+◌, ◌<◌, List, [], ◌∷◌, map, Option, Some, refl, arith, ◌∙◌, sym, ap, ◌↔◌}
 use Rattle.icu_trie_core.specs.Range.{run_of, value_run}
 use Rattle.icu_trie_core.specs.declared.range.CodePointMapRange.{CodePointMapRange}
 use Rattle.icu_trie_core.specs.Runs.{Run, LongestRun, AreRunsFrom, AreMaximalRuns, some_run}
 
 module _ {A : Type 0} (f : ℕ → A) where
-  -- a run that ends before another one from the same place has the next value there
+  -- If a run ends before another one with the same start, the next code point after it has the same
+  -- value.
   no_longer : (c k l : ℕ) (x y : A) → LongestRun f c k x → LongestRun f c l y → k < l → ⊥
   no_longer c k l x y h j lt =
       let here = sym (h.equal c (omega arith) h.ordered) ∙ j.equal c (omega arith) j.ordered in
@@ -33,7 +35,7 @@ module _ {A : Type 0} (f : ℕ → A) where
       let rest : rs ≡ ss = runs_from-unique (r.last + 1) rs ss h.2 (rw (sym last) at k.2) in
       λ i. run i ∷ rest i
 
-  -- a map has at most one list of maximal runs
+  -- A map has at most one list of maximal runs.
   pub runs-unique : (rs ss : List (Run A)) → AreMaximalRuns f rs → AreMaximalRuns f ss → rs ≡ ss
   runs-unique rs ss h k = runs_from-unique 0 rs ss h k
 
@@ -52,7 +54,7 @@ module _ {A : Type 0} (f g : ℕ → A) (same : (u : ℕ) → u < 0x110000 → f
   AreRunsFrom-along c [] h = h
   AreRunsFrom-along c (r ∷ rs) h = (h.0, LongestRun-along r.first r.last r.value h.1, AreRunsFrom-along (r.last + 1) rs h.2)
 
--- maps that are equal on the code points have the same maximal runs
+-- Maps that are equal on all code points have the same maximal runs.
 pub AreMaximalRuns-same : {A : Type 0} (f g : ℕ → A) → ((u : ℕ) → u < 0x110000 → f u ≡ g u) → (rs : List (Run A))
     → AreMaximalRuns f rs ↔ AreMaximalRuns g rs
 AreMaximalRuns-same f g same rs = (AreRunsFrom-along f g same 0 rs, AreRunsFrom-along g f (λ u lt. sym (same u lt)) 0 rs)
@@ -86,14 +88,14 @@ module _ {A : Type 0} (g : ℕ → A) where
         AreRunsFrom-from_some (r.last + 1) rs h.2,
       )
 
--- a map that has each value of another one as Some has the same maximal runs
+-- Wrapping each value of a map in Some does not change its maximal runs.
 pub AreMaximalRuns-some : {A : Type 0} (f : ℕ → Option A) (g : ℕ → A) → ((u : ℕ) → u < 0x110000 → f u ≡ Some (g u)) → (rs : List (Run A))
     → AreMaximalRuns f (map some_run rs) ↔ AreMaximalRuns g rs
 AreMaximalRuns-some f g same rs =
     let along = AreMaximalRuns-same f (λ u. Some (g u)) same (map some_run rs) in
     (λ h. AreRunsFrom-from_some g 0 rs (along.0 h), λ h. along.1 (AreRunsFrom-to_some g 0 rs h))
 
--- ranges as runs of the answers, by their values
+-- Ranges as runs of look-up results, by their values.
 pub value_runs-some : {A : Type 0} (xs : List (CodePointMapRange A)) → map run_of xs ≡ map some_run (map value_run xs)
 value_runs-some [] = refl
 value_runs-some (x ∷ xs) = ap (λ rs. run_of x ∷ rs) (value_runs-some xs)

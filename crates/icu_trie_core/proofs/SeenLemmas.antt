@@ -1,4 +1,4 @@
--- What a walk sees in each part of a trie, and that over a coherent trie this is the answer.
+-- What a walk sees in each part of a trie. Over a coherent trie this is the look-up result.
 use Rattle.std.proofs.Common.{◌≡◌, ◌≢◌, inl, inr, ◌≤◌, ◌<◌, ◌*◌, ◌/◌, ◌%◌, ◌+◌, ℕ, List, Option, Some, None, true, slice_get, arith, sym, ap, ◌∙◌, nat_eq, refl}
 use Rattle.std.proofs.lemmas.Bool.{lt-ltb, le-ltb, cases_Bool, eqb-true}
 use Rattle.std.proofs.lemmas.Bool.Decides.{nat_tests}
@@ -11,7 +11,7 @@ use Rattle.icu_trie_core.specs.Inside.Walk.{block_seen, cell_seen}
 use Rattle.icu_trie_core.proofs.AnswerLemmas.{fast_limit_most, fast_answer, fast_none, small_answer, small_none, none_or_some}
 
 module _ {A : Type 0} (of_number : ℕ → Option A) (h : CodePointTrieHeader) (index : List ℕ) (values : List A) where
-  -- below the fast limit
+  -- Below the fast limit.
   fast_seen : (u offset : ℕ) → u < fast_limit h.trie_type → u < h.high_start → slice_get index (u / 64) ≡ Some offset
       → seen of_number h (contents_of index values) u ≡ block_seen of_number h values offset (u % 64)
   unfolding seen
@@ -36,7 +36,7 @@ module _ {A : Type 0} (of_number : ℕ → Option A) (h : CodePointTrieHeader) (
         fast_none h index values u (omega (arith, most, fast)) fast is,
       ) refl
 
-  -- in the first len places of a block of 64 that ends at the limit or below it
+  -- In the first len positions of a block of 64 that ends at or below the limit.
   pub seen-fast_block : (b offset len limit : ℕ) → limit ≤ fast_limit h.trie_type → limit ≤ h.high_start → b * 64 + len ≤ limit → len ≤ 64
       → slice_get index b ≡ Some offset
       → (i : ℕ) → i < len → seen of_number h (contents_of index values) (b * 64 + i) ≡ block_seen of_number h values offset i
@@ -53,7 +53,7 @@ module _ {A : Type 0} (of_number : ℕ → Option A) (h : CodePointTrieHeader) (
       let block : (b * 64 + i) / 64 ≡ b = omega (arith, lt, short) in
       fast_missing (b * 64 + i) (omega (arith, lt, fits, fast)) (omega (arith, lt, fits, below)) (rw block is)
 
-  -- from the fast limit on
+  -- At or above the fast limit.
   small_seen : (u cell : ℕ) → u < 0x110000 → fast_limit h.trie_type ≤ u → u < h.high_start → index2_cell h.trie_type index u ≡ Some cell
       → small_offset h.trie_type index u ≡ offset_in_block index cell (u / 16 % 32)
       → seen of_number h (contents_of index values) u ≡ cell_seen of_number h (contents_of index values) cell (u % 512)
@@ -84,7 +84,7 @@ module _ {A : Type 0} (of_number : ℕ → Option A) (h : CodePointTrieHeader) (
         small_none h index values u within from below three,
       ) refl
 
-  -- in the first len places of a block of 512 that ends at the limit or below it
+  -- In the first len positions of a block of 512 that ends at or below the limit.
   pub seen-cell : (base cell len limit : ℕ) → base % 512 ≡ 0 → fast_limit h.trie_type ≤ base → limit ≤ 0x110000 → limit ≤ h.high_start
       → base + len ≤ limit → len ≤ 512 → index2_cell h.trie_type index base ≡ Some cell
       → (i : ℕ) → i < len → seen of_number h (contents_of index values) (base + i) ≡ cell_seen of_number h (contents_of index values) cell i
@@ -106,7 +106,8 @@ module _ {A : Type 0} (of_number : ℕ → Option A) (h : CodePointTrieHeader) (
       small_missing (base + i) (omega (arith, lt, fits, within)) (omega (arith, from)) (omega (arith, lt, fits, below)) (rw (a, b) two)
       (rw (a, b, two) refl)
 
-  -- in the first len places of block p of 16 of a block of 512 that is not named as null
+  -- In the first len positions of block number p of 16, in a block of 512 that is not named as
+  -- null.
   pub cell_seen-block : (cell p offset len : ℕ) → cell ≢ h.index3_null_offset → len ≤ 16 → offset_in_block index cell p ≡ Some offset
       → (i : ℕ) → i < len → cell_seen of_number h (contents_of index values) cell (p * 16 + i) ≡ block_seen of_number h values offset i
   unfolding cell_seen
@@ -128,7 +129,7 @@ module _ {A : Type 0} (of_number : ℕ → Option A) (h : CodePointTrieHeader) (
         | inr e ↦ rw (e, a, is) refl
       ]
 
-  -- from the high start on
+  -- At or above the high start.
   pub seen-from_high : (u : ℕ) → h.high_start ≤ u → seen of_number h (contents_of index values) u ≡ high_value values
   unfolding seen
   seen-from_high u from = rw (le-ltb u h.high_start from) refl

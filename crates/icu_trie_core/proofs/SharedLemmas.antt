@@ -1,4 +1,5 @@
--- Over a coherent and shared trie, blocks in which a walk sees one value have one name, so it reads few of them.
+-- Over a coherent and shared trie, blocks in which a walk sees one value have the same cell, so a
+-- walk reads few of them.
 use Rattle.std.proofs.Common.{◌≡◌, inl, inr, ◌+◌, ◌-◌, ◌*◌, ◌/◌, ◌%◌, ◌<◌, ◌≤◌, ℕ, List, slice_get, Option, Some, sym, ◌∙◌, ap, arith, min}
 use Rattle.std.proofs.lemmas.Bool.{cases_lt}
 use Rattle.icu_trie_core.specs.Contents.{contents_of}
@@ -12,14 +13,15 @@ use Rattle.icu_trie_core.proofs.SeenLemmas.{seen-below, seen-cell}
 
 module _ {A : Type 0} {of_number : ℕ → Option A} {h : CodePointTrieHeader} {index : List ℕ} {values : List A}
     (coherent : IsCoherent of_number h (contents_of index values)) (shares : IsShared h (contents_of index values)) where
-  -- two places below the high start at which a walk sees the same have the same answer
+  -- If a walk sees the same at two code points below the high start, they have the same look-up
+  -- result.
   same_answer : (u v : ℕ) → u < h.high_start → v < h.high_start
       → seen of_number h (contents_of index values) u ≡ seen of_number h (contents_of index values) v
       → answer h (contents_of index values) u ≡ answer h (contents_of index values) v
   same_answer u v below lower same = sym (seen-below of_number h index values coherent u below) ∙ same
       ∙ seen-below of_number h index values coherent v lower
 
-  -- a block of 64 and the one before it
+  -- A block of 64 and the one before it.
   same_offset : (start b : ℕ) (value : A) → 3 ≤ b → start ≤ (b - 1) * 64 → b * 64 + 64 ≤ fast_limit h.trie_type → b * 64 + 64 ≤ h.high_start
       → Holds (seen of_number h (contents_of index values)) start (b * 64 + 64) value → slice_get index (b - 1) ≡ slice_get index b
   same_offset start b value three begun fast below holds =
@@ -33,7 +35,7 @@ module _ {A : Type 0} {of_number : ℕ → Option A} {h : CodePointTrieHeader} {
       ∙ sym (holds (b * 64 + i) (omega (arith, begun)) (omega (arith, lt))))) in
       rw (here, there) at same
 
-  -- the reads of a whole block of 64, where those before it are counted
+  -- The reads up to the end of a block of 64, from the count of the reads before it.
   pub reads_after : (start b offset r s t : ℕ) (value : A) (remembered : Option ℕ) → b * 64 + 64 ≤ fast_limit h.trie_type
       → b * 64 + 64 ≤ h.high_start → slice_get index b ≡ Some offset → start / 64 ≤ b
       → Holds (seen of_number h (contents_of index values)) start (b * 64 + 64) value
@@ -50,7 +52,7 @@ module _ {A : Type 0} {of_number : ℕ → Option A} {h : CodePointTrieHeader} {
             omega (arith, so_far, one, p)
       ]
 
-  -- the blocks of 16 of a block of 512
+  -- The blocks of 16 in a block of 512.
   pub SharesBlocks-from_shared : (base cell : ℕ) → base % 512 ≡ 0 → fast_limit h.trie_type ≤ base → base + 512 ≤ h.high_start
       → index2_cell h.trie_type index base ≡ Some cell
       → SharesBlocks of_number h (contents_of index values) cell
@@ -75,7 +77,7 @@ module _ {A : Type 0} {of_number : ℕ → Option A} {h : CodePointTrieHeader} {
       (omega (arith, at_q, second, lt, below))
       (sees p i first lt ∙ same i lt ∙ sym (sees q i second lt))) ∙ offset q second)
 
-  -- two blocks of 512
+  -- Two blocks of 512.
   pub same_cell : (start d b : ℕ) (value : A) → fast_limit h.trie_type ≤ start → start ≤ d * 512 → d < b → b * 512 + 512 ≤ h.high_start
       → Holds (seen of_number h (contents_of index values)) start (b * 512 + 512) value
       → index2_cell h.trie_type index (d * 512) ≡ index2_cell h.trie_type index (b * 512)

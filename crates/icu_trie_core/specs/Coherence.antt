@@ -1,4 +1,4 @@
--- Coherent tries, whose null offsets a walk may trust, and shared tries, whose walks are short.
+-- Coherent tries, whose header a walk may trust, and shared tries, whose walks are short.
 use Rattle.std.specs.Prelude.{◌≡◌, ℕ, ◌+◌, ◌*◌, ◌%◌, ◌<◌, ◌≤◌, Option, Some, IsSome}
 use Rattle.icu_trie_core.specs.declared.header.CodePointTrieHeader.{CodePointTrieHeader}
 use Rattle.icu_trie_core.specs.Contents.{Contents}
@@ -6,37 +6,39 @@ use Rattle.icu_trie_core.specs.Format.{answer, fast_limit, fast_offset, small_of
 
 module _ {A : Type 0} (of_number : ℕ → Option A) (h : CodePointTrieHeader)
     (cells : Contents A) where
-  -- block number b of the aligned blocks of k code points answers the null value throughout
+  -- Every code point in block number b of k code points has the null value.
   abbrev pub AnswersNull : ℕ → ℕ → Type 0
   AnswersNull k b = (i : ℕ) → i < k → answer h cells (b * k + i) ≡ of_number h.null_value
 
-  -- every code point from the high start on answers the high value
+  -- Every code point from the high start on has the high value.
   abbrev pub HighAnswers : Type 0
   HighAnswers = (c : ℕ) → h.high_start ≤ c → c < 0x110000
       → (answer h cells c ≡ high_value cells.values) × IsSome (high_value cells.values)
 
-  -- no read for a code point below the high start falls outside index or data
+  -- No look-up of a code point below the high start reads outside the index or the data.
   abbrev pub InsideAnswers : Type 0
   InsideAnswers = (c : ℕ) → c < h.high_start → IsSome (answer h cells c)
 
-  -- blocks of 64 below the fast limit whose data offset is the null data offset
+  -- Below the fast limit, each block of 64 whose data offset is the null data offset has the null
+  -- value throughout.
   abbrev pub Null64 : Type 0
   Null64 = (b : ℕ) → b * 64 < fast_limit h.trie_type → b * 64 < h.high_start
       → fast_offset cells.index (b * 64) ≡ Some h.data_null_offset → AnswersNull 64 b
 
-  -- blocks of 16 from the fast limit on whose data offset is the null data offset
+  -- From the fast limit on, each block of 16 whose data offset is the null data offset has the null
+  -- value throughout.
   abbrev pub Null16 : Type 0
   Null16 = (b : ℕ) → fast_limit h.trie_type ≤ b * 16 → b * 16 < h.high_start
       → small_offset h.trie_type cells.index (b * 16) ≡ Some h.data_null_offset → AnswersNull 16 b
 
-  -- blocks of 512 from the fast limit on whose index-2 cell is the null index-3 offset, bit 15
-  -- included
+  -- From the fast limit on, each block of 512 whose index-2 cell equals the null index-3 offset,
+  -- bit 15 included, has the null value throughout.
   abbrev pub Null512 : Type 0
   Null512 = (b : ℕ) → fast_limit h.trie_type ≤ b * 512 → b * 512 < h.high_start
       → index2_cell h.trie_type cells.index (b * 512) ≡ Some h.index3_null_offset
       → AnswersNull 512 b
 
-  -- a coherent trie: what its header says of the high value and of null blocks is so
+  -- A coherent trie: what its header says about the high value and about null blocks is true.
   pub record IsCoherent : Type 0 where
     pub aligned : h.high_start % 512 ≡ 0
     pub within : h.high_start ≤ 0x110000
@@ -47,18 +49,17 @@ module _ {A : Type 0} (of_number : ℕ → Option A) (h : CodePointTrieHeader)
     pub null_512 : Null512
 
 module _ {A : Type 0} (h : CodePointTrieHeader) (cells : Contents A) where
-  -- the blocks number b and d of k code points have equal answers
+  -- Blocks number b and d of k code points have the same values.
   abbrev pub SameAnswers : ℕ → ℕ → ℕ → Type 0
   SameAnswers k b d = (i : ℕ) → i < k
       → answer h cells (b * k + i) ≡ answer h cells (d * k + i)
 
-  -- block number b of k code points starts at `low` or above it, below `high` and below the high
-  -- start
+  -- Block number b of k code points starts in low..high and below the high start.
   abbrev pub StandsIn : ℕ → ℕ → ℕ → ℕ → Type 0
   StandsIn k low high b = (low ≤ b * k) × (b * k < high) × (b * k < h.high_start)
 
-  -- a shared trie: below the high start equal blocks have equal cells. The first 128 code points
-  -- are free
+  -- A shared trie: below the high start, blocks with equal values have equal cells. Blocks below
+  -- U+0080 are exempt.
   pub record IsShared : Type 0 where
     pub fast : (b d : ℕ) → StandsIn 64 0x80 (fast_limit h.trie_type) b
         → StandsIn 64 0x80 (fast_limit h.trie_type) d

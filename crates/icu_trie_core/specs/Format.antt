@@ -1,5 +1,4 @@
--- The format of a code point trie, as ICU4C's UCPTrie has it: how the cell of a code point is found
--- in index and data.
+-- The format of a code point trie (ICU4C's UCPTrie): how to find the data cell of a code point.
 use Rattle.std.specs.Prelude.{ℕ, ◌+◌, ◌-◌, ◌*◌, ◌/◌, ◌%◌, ◌^◌, nat_lt, List, length, slice_get, Option, Some, None, if◌then◌else◌}
 use Rattle.std.specs.Option.{option_and_then, option_or}
 use Rattle.icu_trie_core.specs.declared.header.TrieType.{TrieType}
@@ -7,28 +6,29 @@ use Rattle.icu_trie_core.specs.declared.header.TrieType.TheVariants.{Fast, Small
 use Rattle.icu_trie_core.specs.declared.header.CodePointTrieHeader.{CodePointTrieHeader}
 use Rattle.icu_trie_core.specs.Contents.{Contents}
 
--- the fast limit: the first code point that has no cell in the fast index
+-- The fast limit: the first code point that has no cell in the fast index.
 abbrev pub fast_limit : TrieType → ℕ
 fast_limit Fast = 0x10000
 fast_limit Small = 0x1000
 
--- where the cell of code point 0 would stand in the index-1 table. The table leaves out what lies
--- below 0x10000 in a fast trie, four cells
+-- The index position at which the index-1 cell of code point 0 would be. A fast trie omits the
+-- first four index-1 cells, those below 0x10000.
 abbrev pub index1_start : TrieType → ℕ
 index1_start Fast = 1020
 index1_start Small = 64
 
--- an offset of 18 bits: the cell `high` has the two high bits of the eight offsets whose low bits
--- follow it, the first one's at its top
+-- Data offset number q of a group of eight, as 18 bits. The cell `high` has bits 16 and 17 of all
+-- eight offsets, two bits each with the first offset's at the top. The cell `low` has the low 16
+-- bits.
 abbrev pub long_offset : ℕ → ℕ → ℕ → ℕ
 long_offset high low q = high / 2 ^ (14 - 2 * q) % 4 * 0x10000 + low
 
--- what f makes of the cell at i, and none where there is no such cell
+-- f applied to the index cell at i, or None if there is no such cell.
 abbrev pub with_cell : {A : Type 0} → List ℕ → ℕ → (ℕ → Option A) → Option A
 with_cell index i f = option_and_then f (slice_get index i)
 
--- data offset number p, below 32, of the index-3 block that an index-2 cell names. Bit 15 of the
--- cell says that the block's offsets have 18 bits: then each nine cells hold eight offsets
+-- Data offset number p (p < 32) of the index-3 block that an index-2 cell names. If bit 15 of the
+-- cell is set, the offsets have 18 bits, and each group of nine cells stores eight of them.
 abbrev pub offset_in_block : List ℕ → ℕ → ℕ → Option ℕ
 offset_in_block index cell p =
     if nat_lt cell 0x8000 then slice_get index (cell + p)
@@ -36,28 +36,28 @@ offset_in_block index cell p =
     with_cell index group
     (λ high. with_cell index (group + 1 + p % 8) (λ low. Some (long_offset high low (p % 8)))))
 
--- the index-2 cell of a code point, which stands for its block of 512
+-- The index-2 cell of u, which covers a block of 512 code points.
 abbrev pub index2_cell : TrieType → List ℕ → ℕ → Option ℕ
 index2_cell trie_type index u =
     with_cell index (u / 0x4000 + index1_start trie_type)
     (λ block. slice_get index (block + u / 0x200 % 32))
 
--- where the block of 64 of a code point below the fast limit starts in the data
+-- The data offset of u's block of 64, if u is below the fast limit.
 abbrev pub fast_offset : List ℕ → ℕ → Option ℕ
 fast_offset index u = slice_get index (u / 64)
 
--- where the block of 16 of a code point from the fast limit on starts in the data
+-- The data offset of u's block of 16, if u is at or above the fast limit.
 unfoldable pub small_offset : TrieType → List ℕ → ℕ → Option ℕ
 small_offset trie_type index u =
     option_and_then (λ cell. offset_in_block index cell (u / 16 % 32))
     (index2_cell trie_type index u)
 
--- the place of the high value, which is the last cell of data but one, in data of this length
+-- The position of the high value in data of length len: the last cell but one.
 abbrev pub high_cell : ℕ → Option ℕ
 high_cell len = if nat_lt len 2 then None else Some (len - 2)
 
--- the place of the cell of u in data of this length, which may lie outside it. None above the code
--- space, and where a cell of the index is missing
+-- The data position of u's cell, which may be outside the data. None if u is above 0x10FFFF, if an
+-- index cell is missing, or if data of length len have no high value.
 abbrev pub place : CodePointTrieHeader → List ℕ → ℕ → ℕ → Option ℕ
 place h index len u =
     if nat_lt 0x10FFFF u then None
@@ -67,16 +67,15 @@ place h index len u =
     then option_and_then (λ offset. Some (offset + u % 16)) (small_offset h.trie_type index u)
     else high_cell len))
 
--- the place of the cell that stands for u, as `place`, and the last cell where the error value does
--- so for want of a place
+-- The data position of u's cell, or of the last cell (the error value) if `place` is None.
 abbrev pub place_or_last : CodePointTrieHeader → List ℕ → ℕ → ℕ → Option ℕ
 place_or_last h index len u = option_or (place h index len u) (Some (len - 1))
 
--- the format answer: the cell of data at u, and none where the error value stands in its place
+-- The result of looking up u: its data cell, or None if the look-up yields the error value.
 unfoldable pub answer : {T : Type 0} → CodePointTrieHeader → Contents T → ℕ → Option T
 answer h cells u =
     option_and_then (slice_get cells.values) (place h cells.index (length cells.values) u)
 
--- the high value, which every code point from the high start on has in a coherent trie
+-- The high value. In a coherent trie every code point from the high start on has it.
 abbrev pub high_value : {T : Type 0} → List T → Option T
 high_value values = option_and_then (slice_get values) (high_cell (length values))

@@ -1,6 +1,6 @@
--- The number of a value gives the value back, and values are equal exactly if their numbers are:
--- the laws of the values of a trie, for an `impl` of `TrieValue` to cite. They stand among the
--- specs since an `impl` may cite nothing else of a crate.
+-- The laws that each `impl` of `TrieValue` uses: the number of a value gives the value back, and
+-- values are equal exactly if their numbers are. They are specs because an `impl` may use nothing
+-- else of a crate.
 use Rattle.std.specs.Prelude.{◌≡◌, ℕ, ◌^◌, ◌<◌, ◌≤◌, nat_eq, true, Some, ℤ, pos, negsuc, ◌↔◌, IsTrue, FitsSigned}
 use Rattle.std.specs.Int.{Width, w32, cast_unsigned, cast_signed}
 use Rattle.std.specs.Ordering.{int_eq}
@@ -12,16 +12,19 @@ use Rattle.std.proofs.lemmas.Int.{to_z-of_z}
 use Rattle.icu_trie_core.specs.ValueNumbers.{fitting, is_within, signed_fitting, character}
 use mir.Val.{hbits}
 
+-- A number below the limit gives itself back.
 pub fitting-small : (limit x : ℕ) → x < limit → fitting limit x ≡ Some x
 fitting-small limit x h = rw (lt-ltb x limit h) refl
 
+-- Unsigned values are equal exactly if their numbers are.
 pub equal_numbers : (x y : ℕ) → IsTrue (nat_eq x y) ↔ (x ≡ y)
 equal_numbers x y = (eqb-true x y, eq-eqb x y)
 
+-- A Unicode scalar value gives itself back.
 pub character-scalar : (c : ℕ) → IsScalar c → character c ≡ Some c
 character-scalar c h = rw h refl
 
--- ---- a signed value of at most 32 bits, by its two's complement of 32 bits
+-- ---- A signed value of at most 32 bits, numbered by its 32-bit two's complement.
 module _ (w : Width) (most : 2 ^ hbits w ≤ 2 ^ 31) where
   back : (z : ℤ) → FitsSigned w z → cast_signed w32 (cast_unsigned w32 z) ≡ z
   back z h = to_z-of_z w32 z (record { sfits = omega (arith, h, most) })
@@ -30,10 +33,12 @@ module _ (w : Width) (most : 2 ^ hbits w ≤ 2 ^ 31) where
   within (pos n) h = lt-ltb n (2 ^ hbits w) h.sfits
   within (negsuc n) h = lt-ltb n (2 ^ hbits w) h.sfits
 
+  -- The number of a signed value gives the value back.
   pub signed_fitting-number : (z : ℤ) → FitsSigned w z
       → signed_fitting (2 ^ hbits w) (cast_unsigned w32 z) ≡ Some z
   signed_fitting-number z h = rw (back z h, within z h) refl
 
+  -- Signed values are equal exactly if their numbers are.
   pub equal_signed_numbers : (x y : ℤ) → FitsSigned w x → FitsSigned w y
       → IsTrue (int_eq x y) ↔ (cast_unsigned w32 x ≡ cast_unsigned w32 y)
   equal_signed_numbers x y hx hy = (

@@ -1,45 +1,47 @@
-//! Index and data of a trie cell by cell, with a count of the reads.
+//! The index and the data of a trie, cell by cell, with a count of the reads.
 ghost use Rattle.std.specs.Prelude.{◌≡◌, ℕ, ◌+◌, ◌<◌, length, slice_get, Some};
 ghost use Rattle.icu_trie_core.specs.Contents.{Contents};
 
 use std::marker::Model;
 use std::sync::ledger::{Blank, Book, Ledger, Share};
 
-/// Index and data of a trie, wherever they are kept.
+/// The index and the data of a trie, wherever they are stored.
 ///
-/// [`look_up`](crate::lookup::look_up) reads a trie through these calls alone, so their count is
-/// the number of cells that it read. The count is a ghost: it takes no bytes and no time ([`Steps`]
-/// keeps it), and has no greatest value.
+/// [`look_up`](crate::lookup::look_up) reads a trie only through these methods, so their count is
+/// the number of cells that it read. The count exists only in proofs: it has no upper bound and
+/// costs no bytes and no time. [`Steps`] implements it.
 pub trait Cells<T> {
-    /// The cells of index and data.
+    /// The cells of the index and of the data.
     ghost contents: { Self → Contents T };
 
-    /// How many cells were asked for.
+    /// The number of cells read so far.
     ghost reads: { Self → ℕ };
 
-    /// How many cells the index has. This is no read.
+    /// Returns the number of cells in the index. Does not count as a read.
     fn index_len(&self) -> usize
         ensures { result ≡ length (contents self.now).index };
 
-    /// How many cells the data have. This is no read.
+    /// Returns the number of cells in the data. Does not count as a read.
     fn data_len(&self) -> usize
         ensures { result ≡ length (contents self.now).values };
 
-    /// The cell of the index at place `i`, `None` past its end. One read, also where there is none.
+    /// Returns the index cell at position `i`, or `None` if `i` is past the end. Counts as one read
+    /// in both cases.
     fn index_cell(&mut self, i: usize) -> Option<u16>
         ensures cell { result ≡ slice_get (contents self.old).index i }
         ensures counted { reads self.new ≡ reads self.old + 1 }
         ensures kept { contents self.new ≡ contents self.old };
 
-    /// The cell of the data at place `i`, `None` past their end. One read, also where there is
-    /// none.
+    /// Returns the data cell at position `i`, or `None` if `i` is past the end. Counts as one read
+    /// in both cases.
     fn data_cell(&mut self, i: usize) -> Option<T>
         ensures cell { result ≡ slice_get (contents self.old).values i }
         ensures counted { reads self.new ≡ reads self.old + 1 }
         ensures kept { contents self.new ≡ contents self.old };
 
-    /// The cell of the index at place `i`, which is there. One read. Cells that know how to read it
-    /// without a test have a body of their own.
+    /// Returns the index cell at position `i`, which must exist. Counts as one read.
+    ///
+    /// An implementation can override this to read without a bounds check.
     fn index_at(&mut self, i: usize) -> u16
         requires { i < length (contents self.old).index }
         ensures cell { slice_get (contents self.old).index i ≡ Some result }
@@ -52,7 +54,9 @@ pub trait Cells<T> {
         }
     }
 
-    /// The cell of the data at place `i`, which is there, as `index_at`.
+    /// Returns the data cell at position `i`, which must exist. Counts as one read.
+    ///
+    /// An implementation can override this to read without a bounds check.
     fn data_at(&mut self, i: usize) -> T
         requires { i < length (contents self.old).values }
         ensures cell { slice_get (contents self.old).values i ≡ Some result }
@@ -66,8 +70,8 @@ pub trait Cells<T> {
     }
 }
 
-/// How many steps were taken: a counter that takes no bytes, and that only [`tick`](Steps::tick)
-/// changes. A clause sees the number.
+/// A counter of steps that exists only in proofs and takes no bytes. Only [`tick`](Steps::tick)
+/// changes it.
 #[derive(Drop)]
 pub struct Steps<L: Ledger> {
     book: Book<L>,
@@ -75,6 +79,7 @@ pub struct Steps<L: Ledger> {
 }
 
 impl<L: Ledger> Model for Steps<L> {
+    // Contracts see a counter as the number of steps.
     ghost Value = { ℕ };
 
     ghost view = { λ s. s.book.total };
@@ -83,8 +88,9 @@ impl<L: Ledger> Model for Steps<L> {
 }
 
 impl<L: Ledger> Steps<L> {
-    /// No step yet. Whoever counts makes the counter from a blank one, as `Blank::new(1)`, of the
-    /// ledger `L`.
+    /// Creates a counter at zero.
+    ///
+    /// `blank` is the unused counter of the ledger `L`, made by `Blank::new(1)`.
     #[inline(always)]
     pub fn new(blank: Blank) -> Self
         requires name { blank.name ≡ L.name }
@@ -96,7 +102,7 @@ impl<L: Ledger> Steps<L> {
         Steps { book, share }
     }
 
-    /// One step more.
+    /// Adds one to the count.
     #[inline(always)]
     pub fn tick(&mut self)
         ensures { self.new ≡ self.old + 1 }

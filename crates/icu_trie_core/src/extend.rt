@@ -1,7 +1,9 @@
-//! How far one value goes, by blocks: what a walk does past the cell that its look-up found.
+//! How far a value extends, block by block: the part of a walk after its look-up.
 //!
-//! Each block is read once. One that is named as null, and one whose cells have just been seen, is
-//! gone over without a read.
+//! Each block is read at most once. A block that is named as null, or that was read just before, is
+//! skipped without a read. The functions return `None` if the value extends to a position at which
+//! a walk sees nothing: a missing cell, or a block that is named as null if the null value does not
+//! exist.
 ghost use Rattle.std.specs.Prelude.{◌≡◌, ◌≢◌, ◌+◌, ◌*◌, ◌/◌, ◌%◌, ◌^◌, ◌<◌, ◌≤◌, Some, None, Option, slice_get, min, IsSomeAnd, MatchOption, MatchBool};
 ghost use Rattle.icu_trie_core.specs.Format.{fast_limit, index2_cell, offset_in_block, high_value};
 ghost use Rattle.icu_trie_core.specs.Coherence.{IsCoherent, IsShared};
@@ -18,10 +20,8 @@ use crate::value::TrieValue;
 use crate::walk::is_same;
 use icu_zerovec::CODE_POINT_LIMIT;
 
-/// Reads the cells of a data block from place `from` on, and answers the first place with another
-/// value, or `len`. `None` where a cell is missing before that.
-///
-/// One test tells how many of the cells are there.
+/// Returns the first position in `from..len` of a data block with another value, or `len` if there
+/// is none. Returns `None` if a missing cell comes first.
 #[inline(always)]
 fn extend_by_cells<T: TrieValue, C: Cells<T>>(
     cells: &mut C,
@@ -49,8 +49,10 @@ fn extend_by_cells<T: TrieValue, C: Cells<T>>(
     if there < len { None } else { Some(len) }
 }
 
-/// The first place of a data block, `from` or a later one, with another value, or `len`. A block
-/// that is remembered to hold the value, and one that is named as null, is not read.
+/// Returns the first position in `from..len` of a data block with another value, or `len` if there
+/// is none.
+///
+/// It does not read a block that is named as null or that is remembered to hold the value.
 #[inline(always)]
 fn extend_in_block<T: TrieValue, C: Cells<T>>(
     header: &CodePointTrieHeader,
@@ -83,10 +85,11 @@ fn extend_in_block<T: TrieValue, C: Cells<T>>(
     extend_by_cells(cells, offset, len, from, value)
 }
 
-/// Goes through the blocks of 64 below the limit. Answers the first code point from `start` on with
-/// another value, or the limit.
+/// Returns the first code point in `start..limit` with another value, or `limit` if there is none.
+/// It goes through the blocks of 64.
 ///
-/// It stays a call, as `extend_index3` does, so that its loop has all that it needs in registers.
+/// This function and `extend_index3` are not inlined, so that their loops keep all they need in
+/// registers.
 #[inline(never)]
 fn extend_fast<T: TrieValue, C: Cells<T>>(
     header: &CodePointTrieHeader,
@@ -121,8 +124,8 @@ fn extend_fast<T: TrieValue, C: Cells<T>>(
     Some(limit)
 }
 
-/// Goes through the blocks of 16 of an index-3 block. Answers the first place from `from` on with
-/// another value, or `len`.
+/// Returns the first position in `from..len` of an index-3 block with another value, or `len` if
+/// there is none. It goes through the blocks of 16.
 #[inline(never)]
 fn extend_index3<T: TrieValue, C: Cells<T>>(
     header: &CodePointTrieHeader,
@@ -157,8 +160,10 @@ fn extend_index3<T: TrieValue, C: Cells<T>>(
     Some(len)
 }
 
-/// The first place of a block of 512 with another value, or `len`. A block that is remembered to
-/// hold the value, and one that is named as null, is not read.
+/// Returns the first position in `0..len` of a block of 512 with another value, or `len` if there
+/// is none.
+///
+/// It does not read a block that is named as null or that is remembered to hold the value.
 #[tactic(auto, unfolding(crate::specs::Inside::Walk::cell_seen))]
 fn extend_in_cell<T: TrieValue, C: Cells<T>>(
     header: &CodePointTrieHeader,
@@ -191,8 +196,8 @@ fn extend_in_cell<T: TrieValue, C: Cells<T>>(
     extend_index3(header, cells, cell, len, 0, value)
 }
 
-/// Goes through the blocks of 512 from the fast limit on, up to the limit. Answers the first code
-/// point from `start` on with another value, or the limit.
+/// Returns the first code point in `start..limit` with another value, or `limit` if there is none.
+/// It goes through the blocks of 512 from the fast limit on.
 fn extend_small<T: TrieValue, C: Cells<T>>(
     header: &CodePointTrieHeader,
     cells: &mut C,
@@ -229,8 +234,9 @@ fn extend_small<T: TrieValue, C: Cells<T>>(
     Some(limit)
 }
 
-/// The first code point from `start` on with another value, or the limit. `start` is the limit, or
-/// a block begins there.
+/// Returns the first code point in `start..limit` with another value, or `limit` if there is none.
+///
+/// `start` is `limit` or the start of a block.
 fn extend<T: TrieValue, C: Cells<T>>(
     header: &CodePointTrieHeader,
     cells: &mut C,
@@ -245,7 +251,7 @@ fn extend<T: TrieValue, C: Cells<T>>(
     ensures run { Reaches
         (seen T.of_number header.now (C.contents cells.old)) start limit value
         result }
-    // 1,024 + 320 below the fast limit of a fast trie, 2 * 2,048 + 336 from it on.
+    // Below the fast limit of a fast trie 1,024 + 320, from it on 2 * 2,048 + 336.
     ensures reads { IsCoherent T.of_number header.now (C.contents cells.old)
         → IsShared header.now (C.contents cells.old)
         → limit % 512 ≡ 0 → C.reads cells.new ≤ C.reads cells.old + 5776 }
@@ -266,7 +272,7 @@ fn extend<T: TrieValue, C: Cells<T>>(
     extend_small(header, cells, limit, fast_limit, value)
 }
 
-/// Whether the high value is this one. `None` where the data have no high value.
+/// Returns whether the high value equals `value`, or `None` if the data have no high value.
 fn high_is<T: TrieValue, C: Cells<T>>(cells: &mut C, value: T) -> Option<bool>
     ensures same { MatchOption result (high_value (C.contents cells.old).values ≡ None)
         (λ b. IsSomeAnd (high_value (C.contents cells.old).values)
@@ -279,11 +285,10 @@ fn high_is<T: TrieValue, C: Cells<T>>(cells: &mut C, value: T) -> Option<bool>
     Some(is_same(high, value))
 }
 
-/// The first code point from `start` on with another value, or the end of the code points, where
-/// `limit` is the high start or the end of the code points. `start` is the limit, or a block begins
-/// there.
+/// Returns the first code point from `start` on with another value, or 0x110000 if there is none.
 ///
-/// It stays a call: most ranges end in the block where they begin.
+/// `limit` is the high start, or 0x110000 if that is less. `start` is `limit` or the start of a
+/// block. This function is not inlined, since most ranges end in the block in which they start.
 #[inline(never)]
 fn extend_to_end<T: TrieValue, C: Cells<T>>(
     header: &CodePointTrieHeader,
@@ -298,7 +303,7 @@ fn extend_to_end<T: TrieValue, C: Cells<T>>(
     ensures run { Reaches
         (seen T.of_number header.now (C.contents cells.old)) start 0x110000 value
         result }
-    // Those of `extend`, and the high value.
+    // The reads of `extend`, and one of the high value.
     ensures reads { IsCoherent T.of_number header.now (C.contents cells.old)
         → IsShared header.now (C.contents cells.old)
         → C.reads cells.new ≤ C.reads cells.old + 5777 }
@@ -315,8 +320,9 @@ fn extend_to_end<T: TrieValue, C: Cells<T>>(
     })
 }
 
-/// The first code point from `c` on with another value, or the end of the code points, where the
-/// block of 64 that holds `c` stands in the data from `offset` on.
+/// Returns the first code point from `c` on with another value, or 0x110000 if there is none.
+///
+/// `offset` is the data offset of the block of 64 that contains `c`.
 #[inline(always)]
 pub(crate) fn extend_from_fast<T: TrieValue, C: Cells<T>>(
     header: &CodePointTrieHeader,
@@ -334,7 +340,7 @@ pub(crate) fn extend_from_fast<T: TrieValue, C: Cells<T>>(
     ensures run { Reaches
         (seen T.of_number header.now (C.contents cells.old)) c 0x110000 value
         result }
-    // Those of `extend_to_end`, and the rest of the block of 64.
+    // The reads of `extend_to_end`, and the rest of the block of 64.
     ensures reads { IsCoherent T.of_number header.now (C.contents cells.old)
         → IsShared header.now (C.contents cells.old)
         → C.reads cells.new ≤ C.reads cells.old + 5841 }
@@ -349,8 +355,10 @@ pub(crate) fn extend_from_fast<T: TrieValue, C: Cells<T>>(
     extend_to_end(header, cells, limit, base + len, value)
 }
 
-/// The first place of a block of 512, `from` or a later one, with another value, or `len`, where
-/// the block of 16 that holds place `from` stands in the data from `offset` on.
+/// Returns the first position in `from..len` of a block of 512 with another value, or `len` if
+/// there is none.
+///
+/// `offset` is the data offset of the block of 16 that contains position `from`.
 #[inline(always)]
 #[tactic(auto, unfolding(crate::specs::Inside::Walk::cell_seen))]
 fn extend_from_block<T: TrieValue, C: Cells<T>>(
@@ -387,9 +395,10 @@ fn extend_from_block<T: TrieValue, C: Cells<T>>(
     Some(if is_same(null, value) { len } else { from })
 }
 
-/// The first code point from `c` on with another value, or the end of the code points, where the
-/// block of 512 that holds `c` has the index-2 cell, and its block of 16 stands in the data from
-/// `offset` on.
+/// Returns the first code point from `c` on with another value, or 0x110000 if there is none.
+///
+/// `cell` is the index-2 cell of the block of 512 that contains `c`, and `offset` is the data
+/// offset of the block of 16 that does.
 #[inline(always)]
 pub(crate) fn extend_from_small<T: TrieValue, C: Cells<T>>(
     header: &CodePointTrieHeader,
@@ -410,7 +419,7 @@ pub(crate) fn extend_from_small<T: TrieValue, C: Cells<T>>(
     ensures run { Reaches
         (seen T.of_number header.now (C.contents cells.old)) c 0x110000 value
         result }
-    // Those of `extend_to_end`, and 128 in the block of 512.
+    // The reads of `extend_to_end`, and 128 in the block of 512.
     ensures reads { IsCoherent T.of_number header.now (C.contents cells.old)
         → IsShared header.now (C.contents cells.old)
         → C.reads cells.new ≤ C.reads cells.old + 5905 }

@@ -8,38 +8,42 @@ ghost use Rattle.icu_trie_core.specs.ValueNumberLaws.{fitting-small, equal_numbe
 use icu_zerovec::ule::AsULE;
 use thiserror::Error;
 
-/// A value that a trie can hold: a packed value with a number of 32 bits.
+/// A value that a trie can store: a packed value that has a 32-bit number.
 ///
-/// A type of your own is lawful where the number of each value gives the value back, and where
-/// values are equal exactly if their numbers are.
+/// A user-defined type must satisfy two laws: [`try_from_u32`](Self::try_from_u32) gives each value
+/// back from its number, and two values are equal exactly if their numbers are.
 pub trait TrieValue: AsULE + Eq {
-    /// What a number that is no value's is refused with.
+    /// The error for a number that no value has.
     type TryFromU32Error: Drop;
 
     /// The number of a value.
     ghost number: { Self → ℕ };
 
-    /// The value of a number, if it has one.
+    /// The value with this number, if there is one.
     ghost of_number: { ℕ → Option Self };
 
-    /// The number of the value.
+    /// Returns the number of the value.
     fn to_u32(self) -> u32
         ensures { result ≡ number self };
 
-    /// The value of this number, an error where it is no value's.
+    /// Returns the value with the number `i`.
+    ///
+    /// # Errors
+    /// Returns `TryFromU32Error` if no value has this number.
     fn try_from_u32(i: u32) -> Result<Self, Self::TryFromU32Error>
         ensures ok { IfOk result (λ value. of_number i ≡ Some value) }
         ensures err { OnErr result (of_number i ≡ None) };
 
-    /// The number of a value gives the value back.
+    /// The number of each value gives the value back.
     ghost number_gives_back: { (x : Self) → Self.is_value x → of_number (number x) ≡ Some x };
 
-    /// Values are equal exactly if their numbers are.
+    /// Two values are equal exactly if their numbers are.
     ghost equal_by_number: { (x y : Self) → Self.is_value x → Self.is_value y
         → IsTrue (Self.eq x y) ↔ (number x ≡ number y) };
 }
 
-/// The number is no value's.
+/// The error of [`TrieValue::try_from_u32`] for the integer types and `char`: no value of the type
+/// has this number.
 #[derive(Clone, Copy, Debug, PartialEq, Eq, Error)]
 #[error("the number is no value of the type")]
 pub struct NotAValue;

@@ -1,4 +1,4 @@
--- What a walk knows on its way.
+-- What a walk knows at each step.
 use Rattle.std.specs.Prelude.{◌≡◌, ◌≢◌, ℕ, ◌+◌, ◌*◌, ◌/◌, ◌%◌, ◌<◌, ◌≤◌, nat_eq, List, Option, Some, None, slice_get, if◌then◌else◌, IsSomeAnd, MatchOption}
 use Rattle.std.specs.Option.{option_and_then}
 use Rattle.icu_trie_core.specs.Contents.{Contents}
@@ -6,49 +6,50 @@ use Rattle.icu_trie_core.specs.declared.header.CodePointTrieHeader.{CodePointTri
 use Rattle.icu_trie_core.specs.Format.{fast_limit, offset_in_block}
 use Rattle.icu_trie_core.specs.declared.header.TrieType.{TrieType}
 
--- the cells of a data block
+-- Cell i of the data block at an offset.
 abbrev pub block_cells : {A : Type 0} → List A → ℕ → ℕ → Option A
 block_cells values offset i = slice_get values (offset + i)
 
--- what a walk sees at place i of the data block at an offset: the null value where the header names
--- the block as null, else the cell
+-- What a walk sees at position i of the data block at an offset: the null value if the header names
+-- the block as null, otherwise the cell.
 abbrev pub block_seen : {A : Type 0} → (ℕ → Option A) → CodePointTrieHeader → List A → ℕ → ℕ
     → Option A
 block_seen of_number h values offset i =
     if nat_eq offset h.data_null_offset then of_number h.null_value
     else slice_get values (offset + i)
 
--- what a walk sees at place i of the 32 blocks of 16 that an index-3 block names
+-- What a walk sees at position i of the 32 blocks of 16 that an index-2 cell names.
 abbrev pub blocks_seen : {A : Type 0} → (ℕ → Option A) → CodePointTrieHeader → Contents A → ℕ
     → ℕ → Option A
 blocks_seen of_number h cells cell i =
     option_and_then (λ offset. block_seen of_number h cells.values offset (i % 16))
     (offset_in_block cells.index cell (i / 16))
 
--- what a walk sees at place i of a block of 512 with this index-2 cell
+-- What a walk sees at position i of a block of 512 with this index-2 cell.
 unfoldable pub cell_seen : {A : Type 0} → (ℕ → Option A) → CodePointTrieHeader → Contents A → ℕ
     → ℕ → Option A
 cell_seen of_number h cells cell i =
     if nat_eq cell h.index3_null_offset then of_number h.null_value
     else blocks_seen of_number h cells cell i
 
--- a block of 64 begins at c, and from the fast limit on a block of 512
+-- A block of 64 starts at c and, from the fast limit on, a block of 512.
 abbrev pub BeginsBlock : TrieType → ℕ → Type 0
 BeginsBlock trie_type c = (c % 64 ≡ 0) × (fast_limit trie_type ≤ c → c % 512 ≡ 0)
 
 module _ {A : Type 0} (sees : ℕ → Option A) where
-  -- each place from start up to before end is the value
+  -- Every position in start..end has the value.
   abbrev pub Holds : ℕ → ℕ → A → Type 0
   Holds start end value = (u : ℕ) → start ≤ u → u < end → sees u ≡ Some value
 
-  -- from start on the value goes up to before end, where another one is or the limit
+  -- The run of the value from start on ends at end (exclusive): another value or the limit is
+  -- there.
   pub record EndsAt (start limit : ℕ) (value : A) (end : ℕ) : Type 0 where
     pub begun : start ≤ end
     pub within : end ≤ limit
     pub equal : Holds start end value
     pub differs : end < limit → IsSomeAnd (sees end) (λ y. y ≢ value)
 
-  -- from start on the value goes up to a place below the limit at which nothing is seen
+  -- The run of the value from start on reaches a position below the limit at which nothing is seen.
   pub record BreaksOff (start limit : ℕ) (value : A) : Type 0 where
     pub place : ℕ
     pub begun : start ≤ place
@@ -56,17 +57,19 @@ module _ {A : Type 0} (sees : ℕ → Option A) where
     pub equal : Holds start place value
     pub missing : sees place ≡ None
 
-  -- how far the value goes from start on, none where it breaks off
+  -- The end of the run from start on, or None if it breaks off.
   abbrev pub Reaches : ℕ → ℕ → A → Option ℕ → Type 0
   Reaches start limit value r =
       MatchOption r (BreaksOff start limit value) (EndsAt start limit value)
 
--- where a name, as an offset, is remembered, the first k places that it names hold the value
+-- If a name (an offset or an index-2 cell) is remembered, the first k positions of its block have
+-- the value.
 abbrev pub IsRemembered : {A : Type 0} → (ℕ → ℕ → Option A) → ℕ → Option ℕ → A → Type 0
 IsRemembered sees k remembered value = (name : ℕ) → remembered ≡ Some name
     → Holds (sees name) 0 k value
 
--- the blocks of 16 that an index-3 block names have one offset where they see alike
+-- In a block of 512, two blocks of 16 in which a walk sees the same values have the same data
+-- offset.
 abbrev pub SharesBlocks : {A : Type 0} → (ℕ → Option A) → CodePointTrieHeader → Contents A → ℕ
     → Type 0
 SharesBlocks of_number h cells cell = (p q : ℕ) → p < 32 → q < 32

@@ -9,7 +9,7 @@ use Rattle.icu_trie_core.proofs.SeenLemmas.{seen-fast_block, seen-fast_missing}
 use Rattle.icu_trie_core.proofs.SharedLemmas.{reads_after}
 use Rattle.icu_trie_core.proofs.extend.extend_fast.Goals as goal
 
--- a block of 64 to which the value came, read up to the limit
+-- A block of 64 that the value reached, read up to the limit.
 module _ {A : Type 0} (of_number : ℕ → Option A) (h : CodePointTrieHeader) (cells : Contents A) {start limit : ℕ} {value : A}
     (block : ℕ) {offset len : ℕ} (high : limit ≤ h.high_start) (begun : start ≤ block * 64) (here : block * 64 < limit)
     (len_is : len ≡ min (limit - block * 64) 64) (came : Holds (seen of_number h cells) start (min (block * 64) limit) value)
@@ -21,16 +21,16 @@ module _ {A : Type 0} (of_number : ℕ → Option A) (h : CodePointTrieHeader) (
   agree = seen-fast_block of_number h cells.index cells.values block offset len limit fast high (omega (arith, here, len_is))
       (omega (arith, len_is)) is
 
-  -- the value ends in it
+  -- The value ends in the block.
   ends : (reach : ℕ) → reach < len → EndsAt (block_seen of_number h cells.values offset) 0 len value reach
       → EndsAt (seen of_number h cells) start limit value (block * 64 + reach)
   ends reach early run = EndsAt-in_block before agree (omega (arith, begun)) limit reach (omega (arith, here, len_is)) early run
 
-  -- it breaks off in it
+  -- The run breaks off in the block.
   breaks : BreaksOff (block_seen of_number h cells.values offset) 0 len value → BreaksOff (seen of_number h cells) start limit value
   breaks run = BreaksOff-in_block before agree (omega (arith, begun)) limit (omega (arith, here, len_is)) run
 
-  -- it goes over it
+  -- The value continues over the block.
   over : (reach : ℕ) → len ≤ reach → EndsAt (block_seen of_number h cells.values offset) 0 len value reach
       → (next : ℕ) → next ≤ block * 64 + len → Holds (seen of_number h cells) start next value
   over reach whole run next fits = Holds-over_block before agree (omega (arith, begun)) next reach run whole fits

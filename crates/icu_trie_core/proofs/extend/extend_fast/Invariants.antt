@@ -5,7 +5,8 @@ use Rattle.icu_trie_core.specs.Seen.{seen}
 use Rattle.icu_trie_core.specs.Inside.Walk.{block_seen, Holds, IsRemembered}
 use Rattle.icu_trie_core.proofs.extend.extend_fast.Given as goal
 
--- the value goes up to `block`, the last block is remembered, and blocks that are shared were not read again
+-- The value extends up to `block`, the last block is remembered, and shared blocks were not read
+-- again.
 abbrev pub invariant-loop-block : goal.invariant-loop-block
 invariant-loop-block g l =
     let index = (g.C.Cells.contents l.fn.cells).index in

@@ -7,7 +7,7 @@ use Rattle.icu_trie_core.proofs.ReachLemmas.{Holds-nothing, EndsAt-by_block, Bre
 use Rattle.icu_trie_core.proofs.SeenLemmas.{cell_seen-block}
 use Rattle.icu_trie_core.proofs.extend.extend_from_block.Goals as goal
 
--- what is seen in the first len places of the block of 16 that holds place `from` is what stands there in the data
+-- In the first len positions of the block of 16 that contains `from`, a walk sees the data cells.
 agree : {A : Type 0} (of_number : ℕ → Option A) (h : CodePointTrieHeader) (cells : Contents A) (from : ℕ) {cell offset len : ℕ}
     → cell ≢ h.index3_null_offset → len ≤ 16 → offset_in_block cells.index cell (from / 16) ≡ Some offset
     → (i : ℕ) → i < len → cell_seen of_number h cells cell (from / 16 * 16 + i) ≡ block_seen of_number h cells.values offset i

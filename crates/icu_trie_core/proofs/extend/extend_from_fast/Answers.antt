@@ -9,7 +9,7 @@ use Rattle.icu_trie_core.proofs.ReachLemmas.{Holds-nothing, EndsAt-in_block, Bre
 use Rattle.icu_trie_core.proofs.SeenLemmas.{seen-fast_block}
 use Rattle.icu_trie_core.proofs.extend.extend_from_fast.Goals as goal
 
--- what is seen in the block of 64 that holds c, up to the limit, is what stands there in the data
+-- In the block of 64 that contains c, a walk sees the data cells up to the limit.
 agree : {A : Type 0} (of_number : ℕ → Option A) (h : CodePointTrieHeader) (cells : Contents A) {c offset limit len : ℕ} → c < limit
     → limit ≡ min h.high_start 0x110000 → c < fast_limit h.trie_type → slice_get cells.index (c / 64) ≡ Some offset
     → len ≡ min (limit - c / 64 * 64) 64

@@ -14,7 +14,7 @@ use Rattle.icu_trie_core.proofs.extend.extend_from_small.Goals as goal
 module _ {A : Type 0} (of_number : ℕ → Option A) (h : CodePointTrieHeader) (cells : Contents A) {c cell limit : ℕ}
     (begun : c < limit) (high : limit ≡ min h.high_start 0x110000) (from : fast_limit h.trie_type ≤ c)
     (block : index2_cell h.trie_type cells.index (c / 512 * 512) ≡ Some cell) where
-  -- what is seen in that block, up to the limit, is what its cell says
+  -- In that block, what a walk sees up to the limit is determined by its index-2 cell.
   agree : {len : ℕ} → len ≡ min (limit - c / 512 * 512) 512
       → (i : ℕ) → i < len → seen of_number h cells (c / 512 * 512 + i) ≡ cell_seen of_number h cells cell i
   agree {len} is =
@@ -23,7 +23,7 @@ module _ {A : Type 0} (of_number : ℕ → Option A) (h : CodePointTrieHeader) (
       (omega (arith, from, most)) (omega (arith, is, high, begun)) (omega (arith, is, high, begun)) (omega arith)
       (omega (arith, is)) block
 
-  -- of a coherent and shared trie its blocks of 16 are shared
+  -- In a coherent and shared trie, its blocks of 16 are shared.
   shares : IsCoherent of_number h cells → IsShared h cells → SharesBlocks of_number h cells cell
   shares coherent shared =
       let most = (fast_limit_most h.trie_type).1 in

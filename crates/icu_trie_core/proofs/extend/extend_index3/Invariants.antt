@@ -5,8 +5,8 @@ use Rattle.icu_trie_core.specs.Format.{offset_in_block}
 use Rattle.icu_trie_core.specs.Inside.Walk.{block_seen, cell_seen, Holds, IsRemembered, SharesBlocks}
 use Rattle.icu_trie_core.proofs.extend.extend_index3.Given as goal
 
--- the value goes up to the block of 16 at `place`, the last block is remembered, and blocks that are shared were not
--- read again
+-- The value extends up to the block of 16 at `place`, the last block is remembered, and shared
+-- blocks were not read again.
 abbrev pub invariant-loop-place : goal.invariant-loop-place
 invariant-loop-place g l =
     let index = (g.C.Cells.contents l.fn.cells).index in

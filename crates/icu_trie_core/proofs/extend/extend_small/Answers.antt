@@ -12,7 +12,7 @@ use Rattle.icu_trie_core.proofs.SeenLemmas.{seen-cell, seen-cell_missing}
 use Rattle.icu_trie_core.proofs.SharedLemmas.{SharesBlocks-from_shared, same_cell}
 use Rattle.icu_trie_core.proofs.extend.extend_small.Goals as goal
 
--- a block of 512 to which the value came, read up to the limit
+-- A block of 512 that the value reached, read up to the limit.
 module _ {A : Type 0} (of_number : ℕ → Option A) (h : CodePointTrieHeader) (cells : Contents A) {start limit : ℕ} {value : A}
     (block : ℕ) {cell len : ℕ} (high : limit ≤ h.high_start) (begun : start ≤ block * 512) (here : block * 512 < limit)
     (len_is : len ≡ min (limit - block * 512) 512) (came : Holds (seen of_number h cells) start (min (block * 512) limit) value)
@@ -25,21 +25,21 @@ module _ {A : Type 0} (of_number : ℕ → Option A) (h : CodePointTrieHeader) (
   agree = seen-cell of_number h cells.index cells.values (block * 512) cell len limit (omega arith) (omega (arith, from, begun)) within high
       (omega (arith, here, len_is)) (omega (arith, len_is)) is
 
-  -- the value ends in it
+  -- The value ends in the block.
   ends : (reach : ℕ) → reach < len → EndsAt (cell_seen of_number h cells cell) 0 len value reach
       → EndsAt (seen of_number h cells) start limit value (block * 512 + reach)
   ends reach early run = EndsAt-in_block before agree (omega (arith, begun)) limit reach (omega (arith, here, len_is)) early run
 
-  -- it breaks off in it
+  -- The run breaks off in the block.
   breaks : BreaksOff (cell_seen of_number h cells cell) 0 len value → BreaksOff (seen of_number h cells) start limit value
   breaks run = BreaksOff-in_block before agree (omega (arith, begun)) limit (omega (arith, here, len_is)) run
 
-  -- it goes over it
+  -- The value continues over the block.
   over : (reach : ℕ) → len ≤ reach → EndsAt (cell_seen of_number h cells cell) 0 len value reach
       → (next : ℕ) → next ≤ block * 512 + len → Holds (seen of_number h cells) start next value
   over reach whole run next fits = Holds-over_block before agree (omega (arith, begun)) next reach run whole fits
 
--- the blocks of 16 of a whole block of 512 are shared
+-- The blocks of 16 in a whole block of 512 are shared.
 shares : {A : Type 0} {of_number : ℕ → Option A} {h : CodePointTrieHeader} {cells : Contents A} {start limit : ℕ}
     (block : ℕ) {cell : ℕ} → IsCoherent of_number h cells → IsShared h cells → limit % 512 ≡ 0 → limit ≤ h.high_start
     → fast_limit h.trie_type ≤ start → start ≤ block * 512 → block * 512 < limit

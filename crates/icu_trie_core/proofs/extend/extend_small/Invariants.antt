@@ -7,8 +7,8 @@ use Rattle.icu_trie_core.specs.Seen.{seen}
 use Rattle.icu_trie_core.specs.Inside.Walk.{cell_seen, Holds, IsRemembered}
 use Rattle.icu_trie_core.proofs.extend.extend_small.Given as goal
 
--- the value goes up to the block of 512 with this number, the index-2 cell of the last block is remembered, and blocks
--- that are shared were not read again
+-- The value extends up to the block of 512 with this number, the index-2 cell of the last block is
+-- remembered, and shared blocks were not read again.
 abbrev pub invariant-loop-block : goal.invariant-loop-block
 invariant-loop-block g l =
     let index = (g.C.Cells.contents l.fn.cells).index in
