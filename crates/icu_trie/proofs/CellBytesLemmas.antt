@@ -8,13 +8,13 @@ use Rattle.icu_zerovec.specs.Canonical.{IsCanonical}
 use Rattle.icu_zerovec.specs.Cells.{cell, values_of, IsPacked}
 use Rattle.icu_zerovec.proofs.CallerLemmas.{length-values_of, get-values_of, pack-get}
 
--- the place i is below the number n of the values that the bytes b pack
+-- The index i is below the number n of values that are packed in the bytes b.
 module _ {T : Type 0} {f : List ℕ → Option T} {w : ℕ} {b : List ℕ} {values : List T} {n : ℕ} (p : IsPacked f w b)
     (are : values ≡ values_of f w b) (count : n ≡ length values) (i : ℕ) (l : i < n) where
   within : i < length b / w
   within = omega (arith, l, count, ap length are, length-values_of f w b p)
 
-  -- they lie within the bytes
+  -- The value's bytes are within b.
   pub cell_fits : i * w + w ≤ length b
   cell_fits = omega (arith, row_fits i w (length b / w) w within (omega arith), div-add-mod' (length b) w)
 
@@ -24,11 +24,11 @@ module _ {T : Type 0} {f : List ℕ → Option T} {w : ℕ} {b : List ℕ} {valu
   pub length-cell : length (slice_range b (i * w) (i * w + w)) ≡ w
   length-cell = ap length cell_is ∙ length-take-le w (drop (i * w) b) (omega (arith, length-drop (i * w) b, cell_fits))
 
-  -- they give the value
+  -- The bytes unpack to the value.
   pub value-cell : f (slice_range b (i * w) (i * w + w)) ≡ slice_get values i
   value-cell = rw are (ap f cell_is ∙ sym (get-values_of f w b i p within))
 
-  -- and are what it packs to, where each value has one encoding
+  -- If each value has one encoding, the value packs to these bytes.
   pub pack-cell : (pack : T → List ℕ) → IsCanonical pack f w
       → Some (slice_range b (i * w) (i * w + w)) ≡ option_map pack (slice_get values i)
   pack-cell pack one = rw are (ap Some cell_is ∙ sym (pack-get f w pack one b i p within))

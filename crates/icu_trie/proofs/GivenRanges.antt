@@ -1,4 +1,4 @@
--- The ranges that a trie gives are ranges of code points.
+-- The ranges that a trie returns are ranges of code points.
 use Rattle.std.proofs.Common.{◌≡◌, ℕ, ◌+◌, List, [], ◌∷◌, map, Option, Bool, true, false, refl, arith}
 use Rattle.std.specs.List.{All}
 use Rattle.std.specs.Prelude.{⊤}
@@ -10,7 +10,7 @@ use Rattle.icu_trie.specs.Parts.{Parts}
 use Rattle.icu_trie.specs.Ranges.{AreRangesFrom, HasCodePoints, IsRangeOfCodePoints}
 use Rattle.icu_trie.specs.RangesOfValue.{AreRangesOfValue, with_value}
 
--- each of the ranges is one of code points
+-- Each of the ranges is a range of code points.
 abbrev pub AreOfCodePoints : {A : Type 0} → List (CodePointMapRange A) → Type 0
 AreOfCodePoints [] = ⊤
 AreOfCodePoints (x ∷ xs) = IsRangeOfCodePoints x × AreOfCodePoints xs
@@ -27,7 +27,7 @@ All-are : {A : Type 0} (xs : List (CodePointMapRange A)) → AreOfCodePoints xs 
 All-are [] are = All-nil IsRangeOfCodePoints
 All-are (x ∷ xs) are = All-cons IsRangeOfCodePoints x xs are.0 (All-are xs are.1)
 
--- all that are given
+-- All ranges of the trie.
 pub All-given : {A : Type 0} (of_number : ℕ → Option A) (p : Parts A) (xs : List (CodePointMapRange A)) → AreRangesFrom of_number p 0 xs
     → All IsRangeOfCodePoints xs
 All-given of_number p xs given = All-are xs (AreOfCodePoints-from_ranges of_number p 0 xs given)
@@ -42,7 +42,7 @@ module _ {A : Type 0} (eq : A → A → Bool) (v : A) where
   All-with_value [] are = All-nil HasCodePoints
   All-with_value (x ∷ xs) are = All-next x xs (eq x.value v) refl are.0 (All-with_value xs are.1)
 
-  -- all that have a value
+  -- All ranges with a value.
   pub All-selected : (of_number : ℕ → Option A) (p : Parts A) (ranges : List (RangeInclusive ℕ)) → AreRangesOfValue eq of_number p v ranges
       → All HasCodePoints ranges
   All-selected of_number p ranges of = rw of.selected (All-with_value of.all (AreOfCodePoints-from_ranges of_number p 0 of.all of.given))

@@ -1,4 +1,5 @@
--- The items of an iterator of ranges are the ranges of its trie, and over a coherent one their maximal runs.
+-- An iterator of ranges yields the ranges of its trie. Over a coherent trie, these are its maximal
+-- runs.
 use Rattle.std.proofs.Common.{◌≡◌, ◌≤◌, ◌+◌, ℕ, List, [], ◌∷◌, map, Option, None, Some, inl, inr, arith, sym, ap, ◌∙◌}
 use Rattle.std.proofs.lemmas.Bool.{cases_lt}
 use Rattle.std.specs.Iterator.{Yields, Drains}
@@ -26,7 +27,7 @@ module _ {A : Type 0} {m : _} (of_number : ℕ → Option A) (trie : Parts A) wh
       → Drains (GivesNextRange of_number) s xs → AreRangesFrom of_number trie 0 xs
   AreRangesFrom-from_drained xs s of start d = rw (sym start) (AreRangesFrom-from_run xs s d.1.0 d.0 of d.1.1 d.1.2)
 
--- the ranges of a coherent trie are its runs
+-- The ranges of a coherent trie are its maximal runs.
 pub AreRunsFrom-from_ranges : {A : Type 0} (of_number : ℕ → Option A) (trie : Parts A) → IsCoherentTrie of_number trie
     → (c : ℕ) (xs : List (CodePointMapRange A)) → c ≤ 0x110000 → AreRangesFrom of_number trie c xs
     → AreRunsFrom (answers trie) c (map run_of xs)

@@ -1,11 +1,11 @@
--- The joined ranges are one range for each group.
+-- There is one joined range for each group.
 use Rattle.std.proofs.Common.{◌≡◌, ℕ, ◌≤◌, List, [], ◌∷◌, ◌++◌, length, Bool, true, false, refl, ap, arith, zero, suc}
 use Rattle.std.proofs.lemmas.List.{length-append}
 use Rattle.icu_trie_core.specs.declared.range.CodePointMapRange.{CodePointMapRange}
 use Rattle.icu_trie.specs.JoinedRanges.{AreJoined, GoOn, StopsAt, continues, group_of, joined_ranges, joined_ranges_from, merged_range}
 
 module _ {A : Type 0} (eq : A → A → Bool) where
-  -- the first group: r and the ranges that go on with it, and what comes after them
+  -- The first group, which is r and the ranges that continue it, and the ranges after the group.
   record FirstGroup (r : CodePointMapRange A) (xs : List (CodePointMapRange A)) : Type 0 where
     pub others : List (CodePointMapRange A)
     pub rest : List (CodePointMapRange A)
@@ -38,6 +38,6 @@ module _ {A : Type 0} (eq : A → A → Bool) where
       let l : length g.rest ≤ n = (let a = ap length g.parts in let b = length-append g.others g.rest in omega arith) in
       rw g.first (x, g.others, g.rest, ap (λ ys. x ∷ ys) g.parts, g.go_on, refl, g.stops, groups n g.rest l)
 
-  -- one range for each group of ranges that go on with one another
+  -- There is one joined range for each group of ranges that continue one another.
   pub joined_ranges-are : (xs : List (CodePointMapRange A)) → AreJoined eq xs (joined_ranges eq xs)
   joined_ranges-are xs = groups (length xs) xs (omega arith)

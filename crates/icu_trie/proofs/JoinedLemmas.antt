@@ -1,4 +1,4 @@
--- Joined ranges, step by step.
+-- Joining ranges, step by step.
 use Rattle.std.proofs.Common.{◌≡◌, ℕ, List, ◌∷◌, Bool, true, false, refl, sym}
 use Rattle.std.specs.Range.{range_inclusive_start, range_inclusive_end, range_inclusive_exhausted}
 use Rattle.std.specs.declared.ops.RangeInclusive.{RangeInclusive}
@@ -7,7 +7,7 @@ use Rattle.icu_trie_core.specs.Range.{first_of, last_of}
 use Rattle.icu_trie.specs.JoinedRanges.{continues, joined_ranges_from}
 
 module _ {A : Type 0} (eq : A → A → Bool) where
-  -- a range with the ends of the merged one stands for it
+  -- A range with the bounds of the merged one can replace it.
   pub joined_ranges_from-continued : (r x : CodePointMapRange A) (q : RangeInclusive ℕ) (rest : List (CodePointMapRange A))
       → continues eq r x ≡ true
       → range_inclusive_start q ≡ first_of r → range_inclusive_end q ≡ last_of x → range_inclusive_exhausted q ≡ false

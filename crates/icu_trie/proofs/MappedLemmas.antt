@@ -1,4 +1,4 @@
--- The ranges of a mapped trie.
+-- The mapped ranges of a trie.
 use Rattle.std.proofs.Common.{◌≡◌, ℕ, ◌+◌, ◌<◌, ◌≤◌, List, [], ◌∷◌, map, Option, Some, None, Bool, true, false, inl, inr, refl, sym, ap, subst, ◌∙◌, arith, eq-eqb}
 use Rattle.std.specs.List.{All}
 use Rattle.std.specs.Range.{range_inclusive_start, range_inclusive_end, range_inclusive_exhausted}
@@ -20,7 +20,7 @@ use Rattle.icu_trie.specs.MappedRanges.{MapsTo, AreMappedRunsFrom, Answers, AreA
 use Rattle.icu_trie.specs.declared.mapped_ranges.MappedRanges.{MappedRanges}
 use Rattle.icu_trie.proofs.GivenRanges.{AreOfCodePoints}
 
--- what a wrapper drains its inside drains
+-- What a wrapper yields, its inner iterator yields.
 module _ {S T A : Type 0} {steps : S → Option A → S → Type 0} (inner : T → Option A → T → Type 0) (inside : S → T)
     (through : (s : S) (r : Option A) (t : S) → steps s r t → inner (inside s) r (inside t)) where
   Yields-inside : (s : S) (xs : List A) (t : S) → Yields steps s xs t → Yields inner (inside s) xs (inside t)
@@ -30,7 +30,7 @@ module _ {S T A : Type 0} {steps : S → Option A → S → Type 0} (inner : T �
   pub Drains-inside : (s : S) (xs : List A) → Drains steps s xs → Drains inner (inside s) xs
   Drains-inside s xs d = (inside d.0, (inside d.1.0, Yields-inside s xs d.1.0 d.1.1, through d.1.0 None d.0 d.1.2))
 
--- behind what an adaptor drains stands what its source drains
+-- What an adaptor yields comes from what its source yields.
 pub Drains-behind : {S T A B : Type 0} {steps : S → Option B → S → Type 0} {source : T → Option A → T → Type 0} {s : S} {from : T}
     (f : List A → List B)
     → EachRunBehind steps s source from (λ p q. Gives p q f) → (ys : List B) → Drains steps s ys
@@ -43,12 +43,12 @@ Drains-behind {steps = steps} {source = source} {s = s} {from = from} f runs ys 
     let u = t.2 whole in
     (q.items, (u.0, (t.0, t.1, u.1)), r.2.1 refl)
 
--- a range with the mapped value
+-- A range with the mapped value.
 abbrev pub mapped : {A B : Type 0} → (A → B) → CodePointMapRange A → CodePointMapRange B
 mapped h x = record { range = x.range; value = h x.value }
 
 module _ {F A B : Type 0} (post : F → A → B → Type 0) (f : F) where
-  -- answers of a closure that computes h are h of the values
+  -- If a closure computes h, its results are h of the values.
   pub AreAnswered-by : (h : A → B) → Answers post f h → (xs : List (CodePointMapRange A)) (ys : List (CodePointMapRange B))
       → AreAnswered post f xs ys → ys ≡ map (mapped h) xs
   AreAnswered-by h by [] [] a = refl
@@ -72,7 +72,7 @@ module _ {F A B : Type 0} {m : _} (of_number : ℕ → Option A) (post : F → A
   taken_none None s t a g = g
   taken_none (Some x) s t a g = absurd a
 
-  -- behind what the mapped ranges drain stands what the ranges drain
+  -- What the mapped ranges yield comes from what the ranges yield.
   pub answered-from_run : (zs : List (CodePointMapRange B)) (s t u : MappedRanges A F m) → mapped_callee s ≡ f
       → Yields (GivesMapped of_number post) s zs t → GivesMapped of_number post t None u
       → (xs : List (CodePointMapRange A)) × Drains (GivesNextRange of_number) (mapped_source s) xs × AreAnswered post f xs zs
@@ -87,7 +87,7 @@ module _ {F A B : Type 0} {m : _} (of_number : ℕ → Option A) (post : F → A
       let rest = answered-from_run zs y.0 t u (step.same ∙ is) y.2 none in
       (x.0 ∷ rest.0, (rest.1.0, (rest.1.1.0, (mapped_source y.0, x.2, rest.1.1.1), rest.1.1.2)), (x.1.0, x.1.1, rest.2))
 
--- ---- each joined range is one of code points
+-- ---- Each joined range is a range of code points.
 pub AreOfCodePoints-answered : {F A B : Type 0} (post : F → A → B → Type 0) (f : F) (xs : List (CodePointMapRange A))
     (ys : List (CodePointMapRange B)) → AreAnswered post f xs ys → AreOfCodePoints xs → AreOfCodePoints ys
 AreOfCodePoints-answered post f [] [] a are = tt
@@ -129,9 +129,9 @@ module _ {B : Type 0} (eq : B → B → Bool) where
   All-joined_ranges [] are = λ k d lt. absurd (omega (arith, lt))
   All-joined_ranges (x ∷ xs) are = joined_ranges_from-ranges xs x are.0 are.1
 
--- ---- over a coherent trie
+-- ---- Over a coherent trie.
 module _ {A B : Type 0} (eq : B → B → Bool) (same : (y : B) → eq y y ≡ true) (h : A → B) (answer : ℕ → Option A) where
-  -- a range of equal answers, mapped
+  -- A range of equal look-up results, mapped.
   maps_run : (first last : ℕ) (x : A) → LongestRun answer first last (Some x) → MapsTo eq h answer first last (h x)
   maps_run first last x run =
       let ordered = run.ordered in
@@ -144,7 +144,7 @@ module _ {A B : Type 0} (eq : B → B → Bool) (same : (y : B) → eq y y ≡ t
             rw (sym r) (same (h x));
       }
 
-  -- a run and the next one, of an equal mapped value
+  -- A run and the next one, with equal mapped values.
   maps_more : (first mid last : ℕ) (value : B) (x : A) → MapsTo eq h answer first mid value → LongestRun answer (mid + 1) last (Some x)
       → eq (h x) value ≡ true → MapsTo eq h answer first last value
   maps_more first mid last value x maps run on =
@@ -167,7 +167,7 @@ module _ {A B : Type 0} (eq : B → B → Bool) (same : (y : B) → eq y y ≡ t
     eq-eqb (last_of r + 1) (last_of r + 1) refl,
   ) refl
 
-  -- a range so far and the next one: they are joined, or the first is a run
+  -- The range so far and the next one: either they are joined, or the first is a run.
   joined_ranges-step : (r : CodePointMapRange B) (x : CodePointMapRange A) (rest : List (CodePointMapRange B))
       → range_inclusive_exhausted r.range ≡ false → MapsTo eq h answer (first_of r) (last_of r) r.value
       → first_of x ≡ last_of r + 1 → LongestRun answer (first_of x) (last_of x) (Some x.value)
@@ -193,7 +193,7 @@ module _ {A B : Type 0} (eq : B → B → Bool) (same : (y : B) → eq y y ≡ t
         rw (sym next) (other (maps_run (first_of x) (last_of x) x.value run)),
       )
 
-  -- joined from a range so far
+  -- Joining, from the range so far on.
   joined_ranges_from-maximal : (rest : List (CodePointMapRange A)) (r : CodePointMapRange B) → range_inclusive_exhausted r.range ≡ false
       → MapsTo eq h answer (first_of r) (last_of r) r.value
       → AreOfCodePoints rest → AreRunsFrom answer (last_of r + 1) (map run_of rest)

@@ -1,4 +1,4 @@
--- A trie of the answers of a closure: which calls were made, and what its answers are.
+-- A trie whose values are mapped by a closure: which calls were made, and what they returned.
 use Rattle.std.proofs.Common.{append_assoc, append-nil, ◌≡◌, ℕ, ◌+◌, ◌-◌, ◌*◌, List, [], ◌∷◌, ◌++◌, map, length, slice_get, Option, Some, None, IsSome, Result, Ok, Err, refl, sym, ap, ◌∙◌, arith, rules}
 use Rattle.std.specs.Option.{option_map, option_and_then, option_or}
 use Rattle.std.specs.Result.{IsErr, IsErrAnd}
@@ -15,7 +15,7 @@ use Rattle.icu_trie.specs.declared.map_value.MapError.TheVariants.{Memory}
 use Rattle.icu_trie.specs.MappedTrie.{ok_answer, AnswersAlways, CallsInTurn, IsMapOfTrie, AnswersAll, BreaksOffAt, MapsInTurn}
 
 module _ {F A B E : Type 0} (step : F → A → Result B E → F → Type 0) (h : A → Result B E) (always : AnswersAlways step h) where
-  -- answers at all of xs are h of each
+  -- The results for all of xs are h of each.
   answers-by : (f : F) (xs : List A) (ys : List B) (g : F) → CallsInTurn step f xs ys None g → length ys ≡ length xs
       → map (ok_answer {E = E}) ys ≡ map h xs
   answers-by f [] [] g calls same = refl
@@ -26,7 +26,7 @@ module _ {F A B E : Type 0} (step : F → A → Result B E → F → Type 0) (h 
       let rest = answers-by calls.0 xs ys g calls.2 (omega (arith, same)) in
       λ i. here i ∷ rest i
 
--- an Option mapped to an Ok has one value
+-- An Option that is mapped to Ok has one value.
 pub Ok-injective : {B E : Type 0} (o p : Option B) → option_map (ok_answer {E = E}) o ≡ option_map (ok_answer {E = E}) p → o ≡ p
 Ok-injective None None e = refl
 Ok-injective None (Some y) e = absurd (cc)
@@ -43,7 +43,7 @@ module _ {A B E : Type 0} (h : A → Result B E) (header : CodePointTrieHeader) 
   at_place None = refl
   at_place (Some i) = at_cell i
 
-  -- the answers of the trie of the answers
+  -- The look-up results of the mapped trie.
   answers-mapped : (u : ℕ) → option_map (ok_answer {E = E}) (answer (with_null_value header number) (contents_of index ys) u)
       ≡ option_map h (answer header (contents_of index xs) u)
   unfolding answer
@@ -63,7 +63,7 @@ module _ {A B E : Type 0} (h : A → Result B E) (header : CodePointTrieHeader) 
   last-mapped : option_map (ok_answer {E = E}) (last_cell ys) ≡ option_map h (last_cell xs)
   last-mapped = rw same (at_cell (length xs - 1))
 
-  -- the value of the trie of the answers, also where it is the error value
+  -- The values of the mapped trie, including the error value.
   value-mapped : (u : ℕ) → option_map (ok_answer {E = E})
       (trie_value (record { header = with_null_value header number; index = index; values = ys }) u)
       ≡ option_map h (trie_value (record { header = header; index = index; values = xs }) u)
@@ -82,7 +82,7 @@ module _ {A B E : Type 0} (h : A → Result B E) (header : CodePointTrieHeader) 
         Ok-injective {E = E} _ _ (answers-mapped (b * k + i)
         ∙ (ap (option_map h) (is i lt ∙ before) ∙ (ap (λ r. Some r) null ∙ ap (option_map (ok_answer {E = E})) (sym after))))
 
-    -- a coherent trie stays one
+    -- A mapped trie is coherent if the original one is.
     IsCoherent-mapped : IsCoherent of_number header (contents_of index xs)
         → IsCoherent of_other (with_null_value header number) (contents_of index ys)
     IsCoherent-mapped coherent = record {
@@ -98,12 +98,12 @@ module _ {A B E : Type 0} (h : A → Result B E) (header : CodePointTrieHeader) 
       null_512 = λ b from below is. null-mapped 512 b (coherent.null_512 b from below is);
     }
 
--- ---- calls to come lead on from those so far
+-- ---- The calls to come follow the calls so far.
 module _ {F A B E : Type 0} (step : F → A → Result B E → F → Type 0) (f0 : F) (values : List A) (answers : List B) (f next : F)
     (items rest : List A) (x : A) (is : items ≡ x ∷ rest)
     (onward : (zs : List B) (refusal : Option E) (last : F) → CallsInTurn step f items zs refusal last
     → CallsInTurn step f0 values (answers ++ zs) refusal last) where
-  -- one more call was answered
+  -- One more call returned Ok.
   pub onward-answered : (y : B) → step f x (Ok y) next → (more : List B) → more ≡ answers ++ y ∷ []
       → (zs : List B) (refusal : Option E) (last : F) → CallsInTurn step next rest zs refusal last
       → CallsInTurn step f0 values (more ++ zs) refusal last
@@ -111,22 +111,22 @@ module _ {F A B E : Type 0} (step : F → A → Result B E → F → Type 0) (f0
       let at : CallsInTurn step f items (y ∷ zs) refusal last = rw is (next, called, calls) in
       rw (grown, append_assoc answers (y ∷ []) zs) (onward (y ∷ zs) refusal last at)
 
-  -- it was refused
+  -- The call returned an error.
   pub onward-refused : (e : E) → step f x (Err e) next → CallsInTurn step f0 values answers (Some e) next
   onward-refused e called =
       let at : CallsInTurn step f items [] (Some e) next = rw is called in
       let all = onward [] (Some e) next at in
       rw (append-nil answers) at all
 
--- what `?` hands on is that error
+-- The error that `?` returns is that error.
 handed_on : {V E : Type 0} (C : Result V E → Type 0) (e : E) (r : Result V E) → IsErr r × IsErrAnd r (λ k. k ≡ e) → C (Err e) → C r
 handed_on C e (Ok v) h at = absurd (let no = h.0 in cc)
 handed_on C e (Err k) h at = rw h.1 at
 
--- ---- the parts v of a trie that is seen as p, its error value and its null value
+-- ---- The parts v of a trie whose value is p, its error value and its null value.
 module _ {F T P E : Type 0} {step : F → T → Result P E → F → Type 0} {f : F} {of_number : ℕ → Option T} {number : P → ℕ} {v p : Parts T}
     {error null : T} (seen : v ≡ p) (error_is : last_cell v.values ≡ Some error) (null_is : of_number p.header.null_value ≡ Some null) where
-  -- calls in turn at the values of v are calls at those of p
+  -- Calls with the values of v, in order, are calls with those of p.
   pub MapsInTurn-seen : {result : Result (Parts P) (MapError E)} (answered : List P) (refusal : Option E) (last : F)
       → CallsInTurn step f (error ∷ null ∷ v.values) answered refusal last → IsMapOfTrie number v answered refusal result
       → MapsInTurn step f of_number number p result
@@ -143,33 +143,34 @@ module _ {F T P E : Type 0} {step : F → T → Result P E → F → Type 0} {f 
   })
 
   module _ (s t : F) (y z : P) {xs : List T} (first : step f error (Ok y) s) (second : step s null (Ok z) t) (are : xs ≡ v.values) where
-    -- the error value and the null value were answered, and the calls at the cells gave this
+    -- The calls for the error value and the null value returned Ok, and the calls for the cells
+    -- gave this result.
     MapsInTurn-at_cells : {result : Result (Parts P) (MapError E)} (values : List P) (refusal : Option E) (last : F)
         → CallsInTurn step t xs values refusal last → IsMapOfTrie number v (y ∷ z ∷ values) refusal result
         → MapsInTurn step f of_number number p result
     MapsInTurn-at_cells values refusal last calls gives =
         MapsInTurn-seen (y ∷ z ∷ values) refusal last (s, first, (t, second, rw are at calls)) gives
 
-    -- the calls at the cells broke off
+    -- The calls for the cells ended with an error.
     pub MapsInTurn-breaks_off : {e : MapError E} → BreaksOffAt step t xs e → {r : Result (Parts P) (MapError E)}
         → IsErr r × IsErrAnd r (λ k. k ≡ e) → MapsInTurn step f of_number number p r
     MapsInTurn-breaks_off {e = e} cells {r = r} handed = handed_on (MapsInTurn step f of_number number p) e r handed
         (MapsInTurn-at_cells cells.answers cells.refusal cells.last cells.calls cells.why)
 
-    -- all were answered, but there was no memory for the new trie
+    -- All calls returned Ok, but an allocation for the new trie failed.
     pub MapsInTurn-no_memory : {values : List P} → AnswersAll step t xs values → {r : Result (Parts P) (MapError E)}
         → IsErr r × IsErrAnd r (λ k. k ≡ Memory) → MapsInTurn step f of_number number p r
     MapsInTurn-no_memory {values = values} cells {r = r} handed = handed_on (MapsInTurn step f of_number number p) Memory r handed
         (MapsInTurn-at_cells values None cells.last cells.calls refl)
 
-    -- all were answered, and the answers are the data of the new trie
+    -- All calls returned Ok, and their results are the data of the new trie.
     pub MapsInTurn-answered : {values : List P} → AnswersAll step t xs values → {made : Parts P}
         → made ≡ record { header = with_null_value v.header (number z); index = v.index; values = values }
         → MapsInTurn step f of_number number p (Ok made)
     MapsInTurn-answered {values = values} cells is =
         let whole = cells.whole in MapsInTurn-at_cells values None cells.last cells.calls (refl, (rw are at whole, is))
 
--- the parts t are made of values of h: of its values at the null value and at each cell of p
+-- The parts t consist of values of h: for the null value and for each cell of p.
 record IsMadeBy {T P E : Type 0} (number : P → ℕ) (h : T → Result P E) (null : T) (p : Parts T) (t : Parts P) : Type 0 where
   at_null : P
   null_is : h null ≡ Ok at_null
@@ -178,9 +179,9 @@ record IsMadeBy {T P E : Type 0} (number : P → ℕ) (h : T → Result P E) (nu
   same : length values ≡ length p.values
   is : t ≡ record { header = with_null_value p.header (number at_null); index = p.index; values = values }
 
--- ---- a closure that always answers h of its argument
+-- ---- A closure that always returns h of its argument.
 module _ {F T P E : Type 0} {step : F → T → Result P E → F → Type 0} (h : T → Result P E) (always : AnswersAlways step h) where
-  -- the trie of its answers is made of values of h
+  -- The trie of its results consists of values of h.
   made_by : (number : P → ℕ) {p : Parts T} {t : Parts P} (f : F) (error null : T) (answered : List P) (refusal : Option E) (last : F)
       → CallsInTurn step f (error ∷ null ∷ p.values) answered refusal last → IsMapOfTrie number p answered refusal (Ok t)
       → IsMadeBy number h null p t
@@ -196,24 +197,24 @@ module _ {F T P E : Type 0} {step : F → T → Result P E → F → Type 0} (h 
     is = gives.1.1;
   }
 
-  -- ---- it was called in turn, and t is the trie of its answers
+  -- ---- The calls were made in order, and t is the trie of their results.
   module _ {f : F} {of_number : ℕ → Option T} {number : P → ℕ} {p : Parts T} {t : Parts P}
       (maps : MapsInTurn step f of_number number p (Ok t)) where
-    -- t is made of values of h
+    -- t consists of values of h.
     made : IsMadeBy number h maps.null p t
     made = made_by number f maps.error maps.null maps.answers maps.refusal maps.last maps.calls maps.gives
 
-    -- the answers of t
+    -- The look-up results of t.
     pub answers-from_maps : (u : ℕ) → option_map (ok_answer {E = E}) (answers t u) ≡ option_map h (answers p u)
     answers-from_maps u = let m = made in
         rw m.is (answers-mapped h p.header p.index p.values m.values (number m.at_null) m.mapped m.same u)
 
-    -- the values of t, also where they are the error value
+    -- The values of t, including the error value.
     pub value-from_maps : (u : ℕ) → option_map (ok_answer {E = E}) (trie_value t u) ≡ option_map h (trie_value p u)
     value-from_maps u = let m = made in
         rw m.is (value-mapped h p.header p.index p.values m.values (number m.at_null) m.mapped m.same u)
 
-    -- t is coherent where p is
+    -- t is coherent if p is.
     pub IsCoherent-from_maps : (of_other : ℕ → Option P) (null : T) (y : P) → of_number p.header.null_value ≡ Some null → h null ≡ Ok y
         → of_other (number y) ≡ Some y → IsCoherentTrie of_number p → IsCoherentTrie of_other t
     IsCoherent-from_maps of_other null y null_is y_is after coherent =

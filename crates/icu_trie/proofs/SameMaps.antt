@@ -1,4 +1,4 @@
--- Maps that are equal on the code points have the same mapped runs.
+-- Maps that are equal on all code points have the same mapped runs.
 use Rattle.std.proofs.Common.{◌≡◌, ℕ, ◌+◌, ◌<◌, Bool, List, [], ◌∷◌, Option, ◌∙◌, arith}
 use Rattle.icu_trie_core.specs.declared.range.CodePointMapRange.{CodePointMapRange}
 use Rattle.icu_trie_core.specs.Range.{last_of}

@@ -1,4 +1,4 @@
--- The ends of the ranges with one value.
+-- The boundaries of the ranges with one value.
 use Rattle.std.proofs.Common.{◌≡◌, ◌⊎◌, inl, inr, ℕ, zero, suc, ◌+◌, ◌%◌, ◌<◌, ◌≤◌, List, [], ◌∷◌, ◌++◌, length, map, get_or, Option, Some, Bool, true, false, cond, not, nat_le, refl, sym, ap, ◌∙◌, ◌↔◌, arith}
 use Rattle.std.proofs.lemmas.Bool.{cases_lt, le-leb, lt-leb, true≢false}
 use Rattle.std.proofs.lemmas.Bool.Decides.{nat_tests}
@@ -18,7 +18,7 @@ use Rattle.icu_trie_core.specs.Range.{first_of, last_of, run_of}
 use Rattle.icu_trie.specs.Ranges.{IsInRangeOf}
 use Rattle.icu_trie_core.specs.declared.range.CodePointMapRange.{CodePointMapRange}
 
--- ---- some element
+-- ---- Some element.
 module _ {X : Type 0} (P : X → Type 0) where
   any-here : (x : X) (xs : List X) → P x → Any P (x ∷ xs)
   any-here x xs p = (0, x, omega arith, refl, p)
@@ -52,7 +52,7 @@ module _ {X : Type 0} (P : X → Type 0) where
     | inr q ↦ elim (any-push_cases xs y q) [ inl r ↦ inl (any-there x xs r) | inr p ↦ inr p ]
   ]
 
--- ---- one more end after the others
+-- ---- One more boundary after the others.
 ends_up_to-push : (ends : List ℕ) (e c : ℕ) → ends_up_to (ends ++ e ∷ []) c ≡ ends_up_to ends c + cond (nat_le e c) 1 0
 unfolding ends_up_to
 ends_up_to-push ends e c = sum_by-append (λ x. cond (nat_le x c) 1 0) ends (e ∷ []) ∙ ap (λ n. ends_up_to ends c + n) one
@@ -71,11 +71,11 @@ ends_up_to-past (x ∷ xs) c low =
 rises-push : (ends : List ℕ) (m : ℕ) → IsStrictlyIncreasing ends → All (λ e. e < m) ends → IsStrictlyIncreasing (ends ++ m ∷ [])
 rises-push ends m up low k h = all_pairs_push (λ x y. x < y) ends m (AllPairs-from_increasing ends up) low k (k + 1) 0 (omega arith) h
 
--- what the ends say past all of them
+-- Membership past the last boundary.
 holds-past : (ends : List ℕ) (c : ℕ) → All (λ e. e ≤ c) ends → holds ends c ≡ is_odd (length ends)
 holds-past ends c low = ap is_odd (ends_up_to-past ends c low)
 
--- one more end changes nothing before it
+-- One more boundary changes nothing before it.
 holds-push : (ends : List ℕ) (e c : ℕ) → c < e → holds (ends ++ e ∷ []) c ≡ holds ends c
 holds-push ends e c lt = ap is_odd (ends_up_to-push ends e c ∙ rw (lt-leb e c lt) (omega arith))
 
@@ -91,7 +91,7 @@ even_before n e = grind (arith, nat_tests)
 even_is : (n : ℕ) → is_odd n ≡ false → n % 2 ≡ 0
 even_is n e = grind (arith, nat_tests)
 
--- ---- the ends of the ranges with the value, as far as the ranges go
+-- ---- The boundaries of the ranges with the value, as far as the ranges go.
 pub record Gathers {A : Type 0} (value : A) (ranges : List (CodePointMapRange A)) (next : ℕ) (ends : List ℕ) : Type 0 where
   pub rises : IsStrictlyIncreasing ends
   pub low : All (λ e. e < next) ends
@@ -132,11 +132,11 @@ module _ {A : Type 0} {value : A} {ranges : List (CodePointMapRange A)} {next : 
       behind : (c : ℕ) → next ≤ c → holds ys c ≡ is_odd (length ys)
       behind c p = holds-past ys c (λ k d h. let l = low k d h in omega (arith, l, p))
 
-  -- the next range has the value as the last one had it, or doesn't have it as the last one didn't
+  -- The next range has the value and so did the last one, or neither has it.
   pub Gathers-kept : (is_odd (length ends) ≡ true) ↔ (x.value ≡ value) → Gathers value (ranges ++ x ∷ []) (last_of x + 1) ends
   Gathers-kept odd = more ends gathers.rises (λ k d h. let l = gathers.low k d h in omega (arith, l)) (λ c lt. refl) odd
 
-  -- it has the value where the last one didn't, or doesn't where it did
+  -- The next range has the value and the last one did not, or the reverse.
   pub Gathers-turned : (is_odd (length ends) ≡ false) ↔ (x.value ≡ value)
       → Gathers value (ranges ++ x ∷ []) (last_of x + 1) (ends ++ next ∷ [])
   Gathers-turned even = more (ends ++ next ∷ []) (rises-push ends next gathers.rises gathers.low)
@@ -147,7 +147,7 @@ module _ {A : Type 0} {value : A} {ranges : List (CodePointMapRange A)} {next : 
             ∙ even_next (length ends) (even.1 v),
       )
 
--- what the two tests tell: the range has the value or not, as the last one or not
+-- What the two tests say: whether the range has the value, and whether the last one did.
 pub kept_tells : {P : Type 0} (has is_inside : Bool) → MatchBool has P (P → ⊥) → not (beq has is_inside) ≡ false → (is_inside ≡ true) ↔ P
 kept_tells true true m e = (λ _. m, λ _. refl)
 kept_tells true false m e = absurd (true≢false e)
@@ -160,7 +160,7 @@ turned_tells true false m e = (λ _. m, λ _. refl)
 turned_tells false true m e = (λ k. absurd (true≢false k), λ p. absurd (m p))
 turned_tells false false m e = absurd (true≢false (sym e))
 
--- ---- all ranges
+-- ---- All ranges.
 module _ {A : Type 0} {value : A} {ranges : List (CodePointMapRange A)} {next : ℕ} {ends : List ℕ}
     (gathers : Gathers value ranges next ends) (within : next ≤ 0x110000) where
   all : (ys : List ℕ) → All (λ e. e ≤ next) ys → ((c : ℕ) → c < next → holds ys c ≡ holds ends c) → is_odd (length ys) ≡ false
@@ -173,7 +173,7 @@ module _ {A : Type 0} {value : A} {ranges : List (CodePointMapRange A)} {next : 
     )
   ]
 
-  -- the last range doesn't have the value
+  -- The last range does not have the value.
   pub IsValid-closed : is_odd (length ends) ≡ false → IsValid ends
   IsValid-closed even = record {
     even = even_is (length ends) even;
@@ -185,7 +185,7 @@ module _ {A : Type 0} {value : A} {ranges : List (CodePointMapRange A)} {next : 
   pub members-closed : is_odd (length ends) ≡ false → (c : ℕ) → (holds ends c ≡ true) ↔ IsInRangeOf value ranges c
   members-closed even = all ends (λ k d h. let l = gathers.low k d h in omega (arith, l)) (λ c lt. refl) even
 
-  -- the last range has the value
+  -- The last range has the value.
   pub IsValid-opened : is_odd (length ends) ≡ true → IsValid (ends ++ next ∷ [])
   IsValid-opened odd = record {
     even = even_is (length (ends ++ next ∷ [])) (ap is_odd (length_push ends next) ∙ odd_next (length ends) odd);
@@ -198,7 +198,7 @@ module _ {A : Type 0} {value : A} {ranges : List (CodePointMapRange A)} {next : 
       (All-push (λ e. e ≤ next) ends next (λ k d h. let l = gathers.low k d h in omega (arith, l)) (omega arith))
       (λ c lt. holds-push ends next c lt) (ap is_odd (length_push ends next) ∙ odd_next (length ends) odd)
 
--- ---- over a coherent trie the ranges with a value are the code points that have it
+-- ---- Over a coherent trie, the ranges with a value are the code points that have it.
 module _ {A : Type 0} (answers : ℕ → Option A) (value : A) where
   has_value : (from : ℕ) (xs : List (CodePointMapRange A)) → AreRunsFrom answers from (map run_of xs) → (c : ℕ) → IsInRangeOf value xs c
       → answers c ≡ Some value

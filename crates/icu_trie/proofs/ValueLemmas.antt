@@ -1,4 +1,4 @@
--- The iterator of a value gives what it passes of all ranges.
+-- The iterator of a value yields those of all ranges that have it.
 use Rattle.std.proofs.Common.{◌≡◌, ℕ, List, [], ◌∷◌, ◌++◌, map, Bool, true, false, Option, Some, None, IfSome, option_map, rules, sym, ap, subst, ◌∙◌, refl}
 use Rattle.std.specs.Iterator.{Yields, YieldsThen, Drains}
 use Rattle.std.specs.declared.ops.RangeInclusive.{RangeInclusive}
@@ -15,13 +15,13 @@ module _ {S A : Type 0} (steps : S → Option A → S → Type 0) where
   Yields-append s [] t ys u a b = subst (λ k. Yields steps k ys u) (sym a) b
   Yields-append s (x ∷ xs) t ys u a b = (a.0, a.1, Yields-append a.0 xs t ys u a.2 b)
 
-  -- one more call
+  -- One more call.
   pub Yields-one_more : (s : S) (xs : List A) (t : S) (x : A) (u : S) → Yields steps s xs t → steps t (Some x) u
       → Yields steps s (xs ++ x ∷ []) u
   Yields-one_more s xs t x u a b = Yields-append s xs t (x ∷ []) u a (u, b, refl)
 
 module _ {A : Type 0} {m : _} (of_number : ℕ → Option A) (eq : A → A → Bool) where
-  -- a call that gave a range passed over ranges, and then took one with the value
+  -- A call that returned a range skipped other ranges and then took one with the value.
   found : (v : A) (s j : CodePointMapRangeIterator A m) (passed : List (CodePointMapRange A)) (last : Option (CodePointMapRange A))
       (x : RangeInclusive ℕ) → Some x ≡ option_map (λ y. y.range) last → IfSome last (λ y. eq y.value v ≡ true)
       → YieldsThen (GivesNextRange of_number) s passed last j → (y : CodePointMapRange A) × (x ≡ y.range) × (eq y.value v ≡ true)
@@ -35,7 +35,7 @@ module _ {A : Type 0} {m : _} (of_number : ℕ → Option A) (eq : A → A → B
   ended s j passed None e c = c
   ended s j passed (Some y) e c = absurd (let no : None ≡ Some y.range = e in search rules)
 
-  -- what the iterator of one value drains is what it passes of all ranges
+  -- The iterator of a value yields exactly the ranges with the value.
   pub selected-from_run : (xs : List (RangeInclusive ℕ)) (s t u : IterRangesForValue A m) → Yields (GivesNextOfValue of_number eq) s xs t
       → GivesNextOfValue of_number eq t None u
       → (all : List (CodePointMapRange A)) × Drains (GivesNextRange of_number) (value_iterator_source s) all
@@ -63,7 +63,7 @@ module _ {A : Type 0} {m : _} (of_number : ℕ → Option A) (eq : A → A → B
             (ap (λ r. r ∷ xs) f.1 ∙ ap (λ l. f.0.range ∷ l) tail),
       )
 
--- one more range with another value
+-- One more range with another value.
 pub passed_more : {A : Type 0} (eq : A → A → Bool) (v : A) (passed : List (CodePointMapRange A)) (x : CodePointMapRange A)
     → with_value eq v passed ≡ [] → eq x.value v ≡ false → with_value eq v (passed ++ x ∷ []) ≡ []
 passed_more eq v passed x none other = rw (filter-append (λ r. eq r.value v) passed (x ∷ []), none, other) refl

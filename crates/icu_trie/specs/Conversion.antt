@@ -8,7 +8,7 @@ use Rattle.icu_trie_core.specs.declared.header.CodePointTrieHeader.{CodePointTri
 use Rattle.icu_trie.specs.declared.error.ConvertError.{ConvertError}
 use Rattle.icu_trie.specs.declared.error.ConvertError.TheVariants as errors
 
--- the header with another null value
+-- The header with another null value.
 abbrev pub with_null_value : CodePointTrieHeader → ℕ → CodePointTrieHeader
 with_null_value h number = record {
   high_start = h.high_start;
@@ -19,9 +19,9 @@ with_null_value h number = record {
   trie_type = h.trie_type;
 }
 
--- what becomes of the trie t, from what became of its data and of its null value: the first bad
--- cell is refused, then a null value of which the other type has none, and else header and index
--- are kept, but for the number of the null value
+-- The result of converting trie t, given its converted data and null value. The first bad cell is
+-- an error, then a null value that the other type lacks. Otherwise index and header are unchanged,
+-- except for the number of the null value.
 abbrev pub Becomes : {T P : Type 0} → (P → ℕ) → Parts T → Result (List P) UleError → Option P
     → Result (Parts P) ConvertError → Type 0
 Becomes number t (Err Length) null result = ⊥
@@ -31,6 +31,6 @@ Becomes number t (Ok values) (Some p) result =
     result ≡ Ok (record
     { header = with_null_value t.header (number p); index = t.index; values = values })
 
--- a value of one type as the value of the other that has the same packed bytes, if there is one
+-- The value of the other type with the same packed bytes, if there is one.
 abbrev pub same_packed : {T P : Type 0} → (T → List ℕ) → (List ℕ → Option P) → Option T → Option P
 same_packed pack unpack x = option_and_then unpack (option_map pack x)

@@ -7,14 +7,16 @@ use Rattle.icu_trie.specs.Parts.{Parts}
 use Rattle.icu_trie_core.specs.Range.{GivesWalk, last_of}
 
 module _ {A : Type 0} {m : _} where
-  -- the trie of an iterator, and where its next range begins
+  -- The trie of an iterator.
   abbrev pub iterator_trie : CodePointMapRangeIterator A m → Parts A
   iterator_trie s = s.trie.now
 
+  -- The start of an iterator's next range.
   abbrev pub iterator_next : CodePointMapRangeIterator A m → ℕ
   iterator_next s = s.next
 
-  -- a call gave the range from where the one before it ended, or none, and then none for ever
+  -- One call of `next`: it returns the range that starts after the previous one. Once it returns
+  -- None, it returns None forever.
   pub record GivesNextRange (of_number : ℕ → Option A) (s : CodePointMapRangeIterator A m)
       (r : Option (CodePointMapRange A)) (t : CodePointMapRangeIterator A m) : Type 0 where
     pub same : t.trie ≡ s.trie

@@ -1,22 +1,22 @@
--- A trie whose values are the answers of a closure.
+-- A trie whose values are mapped by a closure.
 use Rattle.std.specs.Prelude.{◌≡◌, ℕ, List, [], ◌∷◌, length, Option, Some, None, Result, Ok, Err}
 use Rattle.icu_trie.specs.declared.map_value.MapError.{MapError}
 use Rattle.icu_trie.specs.declared.map_value.MapError.TheVariants.{Closure, Memory}
 use Rattle.icu_trie.specs.Parts.{Parts, last_cell}
 use Rattle.icu_trie.specs.Conversion.{with_null_value}
 
--- a value as the answer of a closure that may refuse
+-- A value as the successful result of a closure.
 abbrev pub ok_answer : {B E : Type 0} → B → Result B E
 ok_answer y = Ok y
 
 module _ {F A B E : Type 0} (step : F → A → Result B E → F → Type 0) where
-  -- each call of the closure, in whichever state, answers h of its argument
+  -- The closure computes h: in every state it returns h of its argument.
   abbrev pub AnswersAlways : (A → Result B E) → Type 0
   AnswersAlways h = (s : F) (x : A) (r : Result B E) (t : F) → step s x r t → r ≡ h x
 
-  -- From the state f the closure was called at the front of xs, item by item. It answered these,
-  -- and then a refusal, if there is one, after which nothing was called; g is the state in which it
-  -- was left
+  -- From state f, the closure was called with the items of a prefix of xs in order. It returned Ok
+  -- with these values and then, if `refusal` is Some, one error, after which it was not called. g
+  -- is its final state.
   abbrev pub CallsInTurn : F → List A → List B → Option E → F → Type 0
   CallsInTurn f xs [] None g = g ≡ f
   CallsInTurn f [] [] (Some e) g = ⊥
@@ -25,8 +25,9 @@ module _ {F A B E : Type 0} (step : F → A → Result B E → F → Type 0) whe
   CallsInTurn f (x ∷ xs) (y ∷ ys) refusal g =
       (next : F) × step f x (Ok y) next × CallsInTurn next xs ys refusal g
 
--- the trie of the answers at the error value, at the null value and at each cell: header and index
--- are those of p, but for the null value's number, and the data are the answers at the cells
+-- The mapped trie, from the closure's results for the error value, the null value and each cell.
+-- Header and index are those of p, except for the number of the null value, and the data are the
+-- results for the cells.
 abbrev pub IsTrieOfAnswers : {T P : Type 0} → (P → ℕ) → Parts T → List P → Parts P → Type 0
 IsTrieOfAnswers number p [] t = ⊥
 IsTrieOfAnswers number p (error ∷ []) t = ⊥
@@ -39,26 +40,27 @@ IsTrieOfAnswers number p (error ∷ null ∷ values) t =
           values;
     })
 
--- why there is no answer: the refusal, or want of memory where none was answered
+-- The reason of a MapError: the closure's error, or a failed allocation if the closure returned
+-- none.
 abbrev pub IsWhyNone : {E : Type 0} → Option E → MapError E → Type 0
 IsWhyNone refusal (Closure e) = refusal ≡ Some e
 IsWhyNone refusal Memory = refusal ≡ None
 
--- that trie, or why there is none
+-- The mapped trie, or the reason why there is none.
 abbrev pub IsMapOfTrie : {T P E : Type 0} → (P → ℕ) → Parts T → List P → Option E
     → Result (Parts P) (MapError E) → Type 0
 IsMapOfTrie number p answers refusal (Ok t) = (refusal ≡ None) × IsTrieOfAnswers number p answers t
 IsMapOfTrie number p answers refusal (Err e) = IsWhyNone refusal e
 
 module _ {F T P E : Type 0} (step : F → T → Result P E → F → Type 0) (f : F) where
-  -- the closure was called at each of the values in turn, and these are its answers
+  -- The closure was called with each of the values in order and returned Ok with these results.
   pub record AnswersAll (values : List T) (answers : List P) : Type 0 where
     pub last : F
     pub calls : CallsInTurn step f values answers None last
     pub whole : length answers ≡ length values
 
-  -- it was called at the front of the values in turn, and this is why not at all of them, or why
-  -- the answers are not kept
+  -- The closure was called with a prefix of the values in order. The error is its own, or a failed
+  -- allocation.
   pub record BreaksOffAt (values : List T) (e : MapError E) : Type 0 where
     pub answers : List P
     pub refusal : Option E
@@ -66,8 +68,8 @@ module _ {F T P E : Type 0} (step : F → T → Result P E → F → Type 0) (f 
     pub calls : CallsInTurn step f values answers refusal last
     pub why : IsWhyNone refusal e
 
-  -- the closure was called at the error value of p, at its null value and at each cell of its data,
-  -- in turn
+  -- The closure was called, in order, with the error value of p, its null value and each cell of
+  -- its data.
   pub record MapsInTurn (of_number : ℕ → Option T) (number : P → ℕ) (p : Parts T)
       (result : Result (Parts P) (MapError E)) : Type 0 where
     pub error : T

@@ -1,4 +1,4 @@
--- What a trie consists of, when its parts are refused, and the value that it has at a number.
+-- The parts of a trie, when they are rejected, and the value of each code point.
 use Rattle.std.specs.Prelude.{◌≡◌, ℕ, ◌-◌, nat_lt, Bool, List, length, slice_get, Option, Some, None, is_none, if◌then◌else◌, ⊤}
 use Rattle.std.specs.Cmp.Lexicographic.{pointwise}
 use Rattle.std.specs.Option.{option_or}
@@ -16,25 +16,25 @@ use Rattle.icu_trie.specs.declared.error.PartsError.{PartsError}
 use Rattle.icu_trie.specs.declared.error.PartsError.TheVariants.{Trie, Memory}
 use Rattle.icu_trie_core.specs.FastIndex.{fast_index_len, passes_data}
 
--- the parts of a trie, which are what a contract sees of it
+-- The parts of a trie, which contracts use as its value.
 pub record Parts (T : Type 0) : Type 0 where
   pub header : CodePointTrieHeader
   pub index : List ℕ
   pub values : List T
 
--- the cells of two packed vectors
+-- The cells of two packed vectors.
 abbrev pub cells_in : {T : Type 0} {m : _} {n : _} → ZeroSlice ℕ m → ZeroSlice T n → Contents T
 cells_in index values = contents_of (slice_values index) (slice_values values)
 
--- the last cell of the data, which is the error value
+-- The error value: the last cell of the data.
 abbrev pub last_cell : {T : Type 0} → List T → Option T
 last_cell values = slice_get values (length values - 1)
 
--- the value of a trie at u: the format answer, or else the error value
+-- The value of a trie at u: the look-up result, or the error value if that is None.
 abbrev pub trie_value : {T : Type 0} → Parts T → ℕ → Option T
 trie_value t u = option_or (answer t.header (contents_of t.index t.values) u) (last_cell t.values)
 
--- the first fault of the parts of a trie, where of_number gives the value of a number
+-- The first fault of the parts of a trie, if any. of_number gives the value with a number.
 abbrev pub parts_fault : {T : Type 0} → (ℕ → Option T) → CodePointTrieHeader → List ℕ → List T
     → Option CodePointTrieError
 parts_fault of_number h index values =
@@ -44,12 +44,12 @@ parts_fault of_number h index values =
     else (if passes_data h.trie_type index (length values) then Some DataTooShortForFastAccess
     else None)))
 
--- why no trie was made of parts that were to be copied: their first fault, or want of memory
+-- The reason why copied parts form no trie: their first fault, or a failed allocation.
 abbrev pub IsWhyNoTrie : Option CodePointTrieError → PartsError → Type 0
 IsWhyNoTrie first (Trie e) = first ≡ Some e
 IsWhyNoTrie first Memory = ⊤
 
--- two tries are one: by their headers, and by the packed bytes of their indices and of their values
+-- Equality of tries: equal headers, and equal packed bytes of their indices and of their values.
 abbrev pub same_trie : {T : Type 0} → (CodePointTrieHeader → CodePointTrieHeader → Bool)
     → (T → List ℕ) → Parts T → Parts T → Bool
 same_trie {T} same_header pack =

@@ -9,30 +9,31 @@ use Rattle.icu_trie_core.specs.Coherence.{IsCoherent}
 use Rattle.icu_trie.specs.Parts.{Parts}
 use Rattle.icu_trie_core.specs.Range.{first_of, last_of, GivesWalk}
 
--- a range of code points: not empty, within the code points, and not used up
+-- A range of code points: not empty, within the code points, and not exhausted.
 abbrev pub HasCodePoints : RangeInclusive ℕ → Type 0
 HasCodePoints r =
     (range_inclusive_start r ≤ range_inclusive_end r) × (range_inclusive_end r < 0x110000)
     × (range_inclusive_exhausted r ≡ false)
 
 module _ {A : Type 0} where
-  -- the same of a range with a value
+  -- The code points of a range with a value are such a range.
   abbrev pub IsRangeOfCodePoints : CodePointMapRange A → Type 0
   IsRangeOfCodePoints x = HasCodePoints x.range
 
-  -- some range with the value holds c
+  -- One of the ranges has the value and contains c.
   abbrev pub IsInRangeOf : A → List (CodePointMapRange A) → ℕ → Type 0
   IsInRangeOf value xs c = Any (λ x. (x.value ≡ value) × (first_of x ≤ c) × (c ≤ last_of x)) xs
 
-  -- the format answers of a trie
+  -- The look-up results of a trie.
   abbrev pub answers : Parts A → ℕ → Option A
   answers p = answer p.header (contents_of p.index p.values)
 
+  -- The trie is coherent.
   abbrev pub IsCoherentTrie : (ℕ → Option A) → Parts A → Type 0
   IsCoherentTrie of_number p = IsCoherent of_number p.header (contents_of p.index p.values)
 
--- from c on, these are the ranges that a trie gives: each begins after the one before it, and after
--- the last one there is none
+-- The list of the ranges that a trie returns from c on: each starts right after the previous one,
+-- and after the last one there is none.
 abbrev pub AreRangesFrom : {A : Type 0} → (ℕ → Option A) → Parts A → ℕ → List (CodePointMapRange A)
     → Type 0
 AreRangesFrom of_number p c [] = GivesWalk of_number p.header (contents_of p.index p.values) c None

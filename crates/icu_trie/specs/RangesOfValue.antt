@@ -1,4 +1,4 @@
--- The ranges of a trie that have a value, and the iterator over them.
+-- The ranges of a trie that have a certain value, and the iterator over them.
 use Rattle.std.specs.Prelude.{◌≡◌, ℕ, Bool, true, List, [], map, filter, Option, IfSome, option_map}
 use Rattle.std.specs.declared.ops.RangeInclusive.{RangeInclusive}
 use Rattle.std.specs.Iterator.{YieldsThen}
@@ -12,19 +12,19 @@ use Rattle.icu_trie.specs.Ranges.{AreRangesFrom, answers}
 use Rattle.icu_trie.specs.Iterators.{GivesNextRange}
 
 module _ {A : Type 0} (eq : A → A → Bool) where
-  -- those of the ranges whose value equals this one, in order
+  -- Those of the ranges whose value equals `value`, in order.
   abbrev pub with_value : A → List (CodePointMapRange A) → List (CodePointMapRange A)
   with_value value xs = filter (λ x. eq x.value value) xs
 
-  -- the code points are those of the ranges that the trie gives and that have the value, in order
+  -- The code points of those ranges of the trie that have the value, in order.
   pub record AreRangesOfValue (of_number : ℕ → Option A) (p : Parts A) (value : A)
       (ranges : List (RangeInclusive ℕ)) : Type 0 where
     pub all : List (CodePointMapRange A)
     pub given : AreRangesFrom of_number p 0 all
     pub selected : ranges ≡ map (λ x. x.range) (with_value value all)
 
-  -- the code points are those of the maximal runs of the trie's answers that have the value, in
-  -- order
+  -- The code points of those maximal runs of the trie's look-up results that have the value, in
+  -- order.
   pub record AreRunsOfValue (p : Parts A) (value : A)
       (ranges : List (RangeInclusive ℕ)) : Type 0 where
     pub all : List (CodePointMapRange A)
@@ -32,15 +32,16 @@ module _ {A : Type 0} (eq : A → A → Bool) where
     pub selected : ranges ≡ map (λ x. x.range) (with_value value all)
 
 module _ {A : Type 0} {m : _} where
-  -- the iterator over all ranges, and the value that is sought
+  -- The iterator over all ranges.
   abbrev pub value_iterator_source : IterRangesForValue A m → CodePointMapRangeIterator A m
   value_iterator_source s = s.ranges
 
+  -- The value that the iterator looks for.
   abbrev pub value_iterator_value : IterRangesForValue A m → A
   value_iterator_value s = s.value
 
-  -- a call passed over the ranges with other values, and then gave the next one, which has the
-  -- value, or none where there is no further range
+  -- One call of `next`: it skips ranges with other values and returns the next one with the value,
+  -- or None if there is none left.
   pub record GivesNextOfValue (of_number : ℕ → Option A) (eq : A → A → Bool)
       (s : IterRangesForValue A m) (r : Option (RangeInclusive ℕ))
       (t : IterRangesForValue A m) : Type 0 where

@@ -15,7 +15,7 @@ use icu_zerovec::{ZeroSlice, ZeroVec};
 use std::marker::Brand;
 use std::sync::ledger::{Blank, Ledger};
 
-/// `cell_of` over packed vectors, with a count in the ledger of `blank`.
+/// `cell_of` over packed vectors, counting in the ledger of `blank`.
 #[inline]
 fn cell_counted<T: TrieValue, L: Ledger>(
     header: &CodePointTrieHeader,
@@ -38,7 +38,7 @@ fn cell_counted<T: TrieValue, L: Ledger>(
     cell_of(header, &mut cells, c)
 }
 
-/// `cell_of` over packed vectors. Counts in a ledger of its own, which is then dropped.
+/// `cell_of` over packed vectors. It counts in its own ledger, which it then drops.
 #[inline]
 fn cell_in<T: TrieValue>(
     header: &CodePointTrieHeader,
@@ -52,7 +52,7 @@ fn cell_in<T: TrieValue>(
     cell_counted::<T, Brand>(header, index, values, c, Blank::new(1))
 }
 
-/// The packed bytes of the value at place `i`. `None` at or past the end.
+/// Returns the packed bytes of the value at index `i`, or `None` if `i` is past the end.
 #[inline]
 fn bytes_at<'a, T: TrieValue>(values: &'a ZeroVec<'_, T>, i: usize) -> Option<&'a [u8]>
     ensures value { option_and_then (λ b. T.unpack b.now) result ≡ slice_get values.now i }
@@ -69,12 +69,14 @@ fn bytes_at<'a, T: TrieValue>(values: &'a ZeroVec<'_, T>, i: usize) -> Option<&'
 }
 
 impl<'trie, T: TrieValue> CodePointTrie<'trie, T> {
-    /// The packed bytes of the cell of the code point `c`, `T::WIDTH` of them, lent: for values
-    /// that are read in place. Above 0x10FFFF, and where a cell of the index is missing, those of
-    /// the last cell, which is the error value. `None` exactly where the index leads outside the
-    /// data.
+    /// Returns a reference to the packed bytes of the cell of the code point `c`, `T::WIDTH` bytes
+    /// long.
     ///
-    /// Where each value of the type has one encoding, as in all types of this crate, they are the
+    /// It is for values that are read in place. If `c` is above 0x10FFFF, or if a cell of the index
+    /// is missing, it returns the bytes of the last cell, which is the error value. It returns
+    /// `None` exactly if the index leads outside the data.
+    ///
+    /// If each value of the type has one encoding, as in all types of this crate, these are the
     /// bytes that the value packs to.
     pub fn get32_ule(&self, c: u32) -> Option<&[u8]>
         ensures value { option_and_then (λ b. T.unpack b.now) result

@@ -1,4 +1,4 @@
-//! The data of a trie, read as values of another type.
+//! Reading the data of a trie as values of another type.
 ghost use Rattle.std.specs.Prelude.{◌≡◌, ◌≢◌, ℕ, List, length, slice_get, Some, None, Ok, Err, Result, IfOk};
 ghost use Rattle.icu_trie.specs.Conversion.{Becomes, same_packed, with_null_value};
 ghost use Rattle.icu_trie.specs.Parts.{parts_fault};
@@ -15,7 +15,7 @@ use icu_trie_core::value::TrieValue;
 use icu_zerovec::ZeroVec;
 use icu_zerovec::ule::{AsULE, UleError};
 
-/// The value of the other type that has the same packed bytes. `None` where there is none.
+/// Returns the value of the other type that has the same packed bytes, or `None` if there is none.
 fn same_packed<T: AsULE, P: AsULE>(value: T) -> Option<P>
     requires { T.WIDTH ≡ P.WIDTH }
     ensures { result ≡ same_packed T.pack P.unpack (Some value) }
@@ -25,20 +25,21 @@ fn same_packed<T: AsULE, P: AsULE>(value: T) -> Option<P>
 }
 
 impl<'trie, T: TrieValue> CodePointTrie<'trie, T> {
-    /// The same trie over values of another type of the same width: its index and the bytes of its
-    /// data are kept, borrowed or owned as they were, none of them copied. The header's null value
-    /// becomes the other type's number for the same packed bytes.
+    /// Converts the trie to values of another type of the same width, without copying.
     ///
-    /// The clauses speak of some bytes that give the values, which are known exactly where each
-    /// value has one encoding.
+    /// The index and the bytes of the data are unchanged, and borrowed or owned as before. The
+    /// header's null value becomes the other type's number for the same packed bytes.
     ///
     /// # Errors
-    /// In this order: `Width` where values of the two types take different numbers of bytes; `Cell`
-    /// with the first cell of the data that is no value of the other type, the error value among
-    /// them; `ErrorOrNull` where the null value's packed bytes are no value of the other type. The
-    /// trie is then dropped.
+    /// The trie is dropped, and the first of these that applies is returned:
+    /// - `Width` if values of the two types take different numbers of bytes;
+    /// - `Cell` with the position of the first data cell that is not a value of the other type,
+    ///   which may be the error value;
+    /// - `ErrorOrNull` if the packed bytes of the null value are not a value of the other type.
     pub fn try_into_converted<P: TrieValue>(self) -> Result<CodePointTrie<'trie, P>, ConvertError>
         ensures width { T.WIDTH ≢ P.WIDTH → result ≡ Err Width }
+        // `IsConverted` speaks of the packed bytes, which are not part of what contracts see. The
+        // values determine them only if each value has one encoding, as in `ok` and `err`.
         ensures becomes { T.WIDTH ≡ P.WIDTH → (values : Result (List P) UleError)
             × (IsConverted T.unpack T.WIDTH P.unpack P.WIDTH self.entry.values values
             × Becomes P.number self.entry values
@@ -72,7 +73,7 @@ impl<'trie, T: TrieValue> CodePointTrie<'trie, T> {
         }
     }
 
-    /// The trie of parts that were tested, with this null value.
+    /// Returns the trie of parts that were already checked, with this null value.
     pub(crate) fn with_data(
         header: CodePointTrieHeader,
         index: ZeroVec<'trie, u16>,

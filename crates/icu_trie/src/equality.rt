@@ -1,4 +1,4 @@
-//! Tries are equal by their header, their index and their data, whichever of them borrows.
+//! Two tries are equal if their headers, indices and data are, whether they borrow or own them.
 ghost use Rattle.std.specs.Prelude.{◌≡◌, ◌↔◌, IsTrue};
 ghost use Rattle.std.specs.Cmp.{and_equiv, and_per, on_equiv, on_per, partial_equiv_from_equiv};
 ghost use Rattle.std.specs.Cmp.Lexicographic.{lists_equiv, lists_per, nat_list_eq_equiv};

@@ -1,17 +1,17 @@
-//! Why the parts of a trie are refused, and why a trie is not read as one of another type.
+//! Why the parts of a trie are rejected, and why a trie cannot be converted to another type.
 ghost use Rattle.std.specs.Prelude.{◌≡◌};
 
 pub use icu_trie_core::error::CodePointTrieError;
 use icu_zerovec::MemoryError;
 use thiserror::Error;
 
-/// Why no trie was made of parts that were to be copied.
+/// The error of a function that makes a trie of copied parts.
 #[derive(Clone, Copy, Debug, PartialEq, Error)]
 pub enum PartsError {
-    /// The parts make no trie.
+    /// The parts do not form a trie.
     #[error("{0}")]
     Trie(CodePointTrieError),
-    /// Memory was refused.
+    /// An allocation failed.
     #[error("no memory")]
     Memory,
 }
@@ -36,17 +36,17 @@ impl From<MemoryError> for PartsError {
     }
 }
 
-/// Why a trie can't be read as one of another type.
+/// The reasons why a trie cannot be read as a trie of another type.
 #[derive(Clone, Copy, Debug, PartialEq, Eq, Error)]
 pub enum ConvertError {
     /// Values of the two types take different numbers of bytes.
     #[error("the values of the two types have different widths")]
     Width,
-    /// This cell of the data, counted from 0, is the first one that is no value of the other type.
+    /// The first data cell, at this position, that is not a value of the other type.
     #[error("cell {0} is no value of the other type")]
     Cell(usize),
-    /// The null value is no value of the other type. (The error value, which is a cell too, is told
-    /// by `Cell`.)
+    /// The null value is not a value of the other type. The error value is a cell, so it is
+    /// reported as `Cell`.
     #[error("the error value or the null value is no value of the other type")]
     ErrorOrNull,
 }

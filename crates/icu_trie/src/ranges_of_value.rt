@@ -1,4 +1,4 @@
-//! The ranges of a trie that have a value.
+//! The ranges of a trie that have a certain value.
 use crate::cptrie::CodePointTrie;
 use crate::ranges::CodePointMapRangeIterator;
 use icu_trie_core::value::TrieValue;
@@ -11,11 +11,11 @@ impl<'trie, T: TrieValue> CodePointTrie<'trie, T> {
     ghost use Rattle.icu_trie.specs.Ranges.{HasCodePoints, IsCoherentTrie};
     ghost use Rattle.icu_trie.specs.RangesOfValue.{GivesNextOfValue, AreRangesOfValue, AreRunsOfValue};
 
-    /// The ranges that have the value, in order: of those that `iter_ranges` gives, the ones whose
-    /// value is equal to it.
+    /// Returns an iterator over the ranges that have the value: those ranges of
+    /// [`iter_ranges`](Self::iter_ranges), in order, whose value equals it.
     ///
-    /// Over a coherent trie, as every built one is, these are the maximal runs of the value. Where
-    /// no code point has it there is none.
+    /// If the trie is coherent, as every built one is, these are the maximal runs of the value. If
+    /// no code point has the value, there are none.
     pub fn iter_ranges_for_value(&self, value: T) -> IterRangesForValue<'_, T>
         ensures ranges { (xs : List _)
             → Drains (GivesNextOfValue T.of_number T.PartialEq.eq) result xs
@@ -34,7 +34,10 @@ impl<'trie, T: TrieValue> CodePointTrie<'trie, T> {
     }
 }
 
-/// The ranges of a trie that have a value. Once there is none it gives none for ever.
+/// An iterator over the ranges of a trie that have a certain value. See
+/// [`CodePointTrie::iter_ranges_for_value`].
+///
+/// Once `next` returns `None`, it returns `None` forever.
 #[derive(Debug, Drop)]
 pub struct IterRangesForValue<'a, T: TrieValue> {
     ranges: CodePointMapRangeIterator<'a, T>,

@@ -3,7 +3,7 @@ use Rattle.icu_zerovec.specs.Slice.{slice_values}
 use Rattle.icu_trie.specs.MappedTrie.{CallsInTurn}
 use Rattle.icu_trie.proofs.map_value.map_cells.Given as goal
 
--- the calls to come lead on from those so far
+-- The calls to come follow the calls so far.
 abbrev pub invariant-loop-value : goal.invariant-loop-value
 invariant-loop-value g l = record {
   callable : goal.F-IsAlwaysCallable g l.f;

@@ -3,7 +3,7 @@ use Rattle.icu_trie.specs.Iterators.{iterator_next}
 use Rattle.icu_trie.proofs.SetLemmas.{Gathers}
 use Rattle.icu_trie.proofs.cptrie.CodePointTrie.ends_of_value.Given as goal
 
--- the ends of the ranges that came so far
+-- The boundaries of the ranges so far.
 abbrev pub invariant-loop-run : goal.invariant-loop-run
 invariant-loop-run g l = record {
   next : l.next ≡ iterator_next l.run-iterator;

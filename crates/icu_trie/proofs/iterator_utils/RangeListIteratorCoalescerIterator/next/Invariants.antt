@@ -7,7 +7,7 @@ use Rattle.icu_trie.specs.JoinedRanges.{joined_ranges_from}
 use Rattle.icu_trie.specs.Coalescer.{coalescer_source, coalescer_gives}
 use Rattle.icu_trie.proofs.iterator_utils.RangeListIteratorCoalescerIterator.next.Given as goal
 
--- what is still to come is joined to the range so far
+-- The ranges still to come are joined to the range so far.
 abbrev pub invariant-loop-next : goal.invariant-loop-next
 invariant-loop-next g l =
     Partway g.I.Iterator coalescer_source (λ s (k : ⊤). ⊤) (λ k. coalescer_gives g.U.PartialEq.eq) l.fn.self l.self.iter (λ k. ⊤)

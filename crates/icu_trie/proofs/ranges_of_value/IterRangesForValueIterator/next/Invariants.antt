@@ -5,7 +5,7 @@ use Rattle.icu_trie.specs.Iterators.{GivesNextRange, iterator_next}
 use Rattle.icu_trie.specs.RangesOfValue.{with_value}
 use Rattle.icu_trie.proofs.ranges_of_value.IterRangesForValueIterator.next.Given as goal
 
--- the ranges so far have other values
+-- The ranges so far have other values.
 abbrev pub invariant-loop-range : goal.invariant-loop-range
 invariant-loop-range g l = (l.self.value ≡ l.fn.self.value) × (iterator_next l.fn.self.ranges ≤ iterator_next l.self.ranges)
     × ((passed : List (CodePointMapRange g.row.T.Denot))
