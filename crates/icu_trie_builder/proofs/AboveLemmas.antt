@@ -1,11 +1,11 @@
--- No number above the code space has an answer.
+-- No number above 0x10FFFF has a look-up result.
 use Rattle.std.proofs.Common.{◌≡◌, ◌≤◌, ℕ, List, None, arith, refl}
 use Rattle.std.proofs.lemmas.Bool.{lt-ltb}
 use Rattle.icu_trie_core.specs.Contents.{contents_of}
 use Rattle.icu_trie_core.specs.declared.header.CodePointTrieHeader.{CodePointTrieHeader}
 use Rattle.icu_trie_core.specs.Format.{answer}
 
--- so the error value stands for it
+-- So its value is the error value.
 pub above : {T : Type 0} (h : CodePointTrieHeader) (index : List ℕ) (values : List T) (u : ℕ) → 0x110000 ≤ u
     → answer h (contents_of index values) u ≡ None
 unfolding answer

@@ -1,4 +1,4 @@
--- Lemmas on what writes leave.
+-- The map after some writes.
 use Rattle.std.proofs.Common.{◌≡◌, ℕ, ◌+◌, ◌<◌, ◌≤◌, List, [], ◌∷◌, ◌++◌, length, Option, Some, None, get_or, refl, arith, ◌∙◌, sym, min, ap}
 use Rattle.std.specs.Option.{option_or, unwrap_or}
 use Rattle.std.proofs.lemmas.Bool.Decides.{nat_tests}
@@ -8,14 +8,14 @@ use Rattle.icu_trie_builder.specs.CodePointMap.{CodePointMap, value_of_number, v
 use Rattle.icu_trie_builder.specs.Writes.{write_first, write_last, write_value, value_after, last_written}
 use Rattle.icu_trie_builder.proofs.WholeLemmas.{number_value-at}
 
--- a write that is accepted, and fills its range
+-- A write that is accepted and fills its range.
 pub value_after-filled : {T : Type 0} (w : Write T) (old new : T) (c : ℕ)
     → write_first w ≤ write_last w → write_first w ≤ 0x10FFFF → c ≤ 0x10FFFF
     → (write_first w ≤ c → c ≤ write_last w → new ≡ write_value w) → (c < write_first w → new ≡ old) → (write_last w < c → new ≡ old)
     → new ≡ value_after (w ∷ []) old c
 value_after-filled w old new c h k l inside before after = grind (arith, nat_tests)
 
--- numbers in which the range of an accepted write is filled with the number of its value
+-- Numbers after an accepted write: its range is filled with the number of its value.
 pub IsAfter-filled : {T : Type 0} (of_number : ℕ → Option T) (w : Write T) (numbers filled : List ℕ) (n : ℕ) (d error : T)
     (trie_type : TrieType) (end : ℕ)
     → write_first w ≤ end → end ≡ min (write_last w) 0x10FFFF
@@ -48,7 +48,7 @@ pub unwrap_or-option_or : {A : Type 0} (a b : Option A) (d : A) → unwrap_or (o
 unwrap_or-option_or None b d = refl
 unwrap_or-option_or (Some x) b d = refl
 
--- the last of two lists of writes is asked first
+-- Of two lists of writes, the second one takes precedence.
 pub last_written-append : {T : Type 0} (ws vs : List (Write T)) (c : ℕ)
     → last_written (ws ++ vs) c ≡ option_or (last_written vs c) (last_written ws c)
 last_written-append [] vs c = sym (option_or-none (last_written vs c))

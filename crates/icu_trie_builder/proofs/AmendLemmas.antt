@@ -1,4 +1,4 @@
--- A map that is read, and one that is made of a trie's answers.
+-- Reading a map, and making one from the values of a trie.
 use Rattle.std.proofs.Common.{◌≡◌, ◌≢◌, ℕ, ◌+◌, ◌-◌, ◌<◌, ◌≤◌, ◌⊎◌, inl, inr, Bool, true, false, nat_le, cond, List, [], ◌∷◌, length, get_or, Option, Some, unwrap_or, refl, sym, ap, arith, ◌∙◌}
 use Rattle.std.specs.Option.{option_or}
 use Rattle.std.specs.Range.{range_inclusive_start, range_inclusive_end}
@@ -14,21 +14,22 @@ use Rattle.icu_trie_builder.proofs.AfterLemmas.{value_after-filled}
 use Rattle.icu_trie_builder.proofs.BuilderLemmas.{number-of_value}
 use Rattle.icu_trie_builder.proofs.WholeLemmas.{number_value-at}
 
--- the answer in the code space
+-- The value of a code point.
 pub map_answer-inside : {T : Type 0} (m : CodePointMap T) (u : ℕ) → u < 0x110000 → map_answer m u ≡ map_value m u
 map_answer-inside m u l = grind (arith, nat_tests)
 
--- and above it
+-- The value above 0x10FFFF.
 pub map_answer-above : {T : Type 0} (m : CodePointMap T) (u : ℕ) → 0x110000 ≤ u → map_answer m u ≡ m.error
 map_answer-above m u l = grind (arith, nat_tests)
 
--- the value of a code point whose number is that of v
+-- A code point with the number of v has the value v.
 pub number_value-is : {T : Type 0} (of_number : ℕ → Option T) (default : T) (numbers : List ℕ) (c n : ℕ) (v : T) → c < length numbers
     → get_or numbers c 0 ≡ n → of_number n ≡ Some v → number_value of_number default numbers c ≡ v
 number_value-is of_number default numbers c n v l e is =
     number_value-at of_number default numbers c l ∙ ap (λ x. unwrap_or (of_number x) default) e ∙ ap (λ o. unwrap_or o default) is
 
--- code points of one number, up to one of another, are the longest run of its value
+-- If code points have one number up to one that has another number, they are the longest run of the
+-- value.
 pub longest-of_numbers : {T : Type 0} (V : T → Type 0) (number : T → ℕ) (of_number : ℕ → Option T)
     → ((x : T) → V x → of_number (number x) ≡ Some x)
     → (numbers : List ℕ) (default error : T) → IsBuilder V number numbers default error
@@ -52,7 +53,7 @@ longest-of_numbers V number of_number back numbers default error sound first las
           other inside (at end inside ∙ ap number (ap (number_value of_number default numbers) (sym next) ∙ e) ∙ sym own);
     }
 
--- what a write of a range leaves
+-- The map after a write of a range.
 module _ {T : Type 0} (r : RangeInclusive ℕ) (v : T) (old new : CodePointMap T) (after : IsAfter (Range r v ∷ []) old new)
     (ordered : range_inclusive_start r ≤ range_inclusive_end r) (within : range_inclusive_end r < 0x110000) where
   pub IsAfter-inside : (c : ℕ) → range_inclusive_start r ≤ c → c ≤ range_inclusive_end r → map_value new c ≡ v
@@ -69,7 +70,7 @@ module _ {T : Type 0} (r : RangeInclusive ℕ) (v : T) (old new : CodePointMap T
       (λ a b. elim out [ inl below ↦ absurd (omega (arith, below, a)) | inr past ↦ absurd (omega (arith, past, b)) ]) (λ a. refl)
       (λ a. refl))
 
--- a map with the values of a trie and its error value answers as the trie does
+-- A map with the values of a trie and its error value returns what the trie returns.
 pub answers-of_trie : {T : Type 0} (m : CodePointMap T) (t : Parts T) → ((u : ℕ) → u < 0x110000 → trie_value t u ≡ Some (map_value m u))
     → Some m.error ≡ last_cell t.values → (u : ℕ) → Some (map_answer m u) ≡ trie_value t u
 answers-of_trie m t values error u = by (nat_le u 0x10FFFF) refl

@@ -1,4 +1,4 @@
--- What a trie over placed data answers, and that it is coherent and shared.
+-- The look-up results of a trie over placed data. The trie is coherent and shared.
 use Rattle.std.proofs.Common.{◌≡◌, inl, inr, ℕ, ◌+◌, ◌-◌, ◌*◌, ◌/◌, ◌%◌, ◌<◌, ◌≤◌, false, List, length, get_or, take, arith, sym, ap, ◌∙◌, refl, Option, Some, unwrap_or, IsSome, nat_lt, slice_get}
 use Rattle.std.proofs.lemmas.Bool.{cases_lt, le-ltb}
 use Rattle.std.proofs.lemmas.List.{same_lists, get_or_default, get_or-take, length-take}
@@ -25,14 +25,14 @@ some-injective x y e = ap (λ o. unwrap_or o x) e
 some-is : (o : Option ℕ) (x : ℕ) → o ≡ Some x → IsSome o
 some-is o x e = rw e refl
 
--- the answer from the high start on
+-- The look-up result from the high start on.
 high_answer : (h : CodePointTrieHeader) (index values : List ℕ) (u : ℕ) → u < 1114112 → fast_limit h.trie_type ≤ u → h.high_start ≤ u
     → answer h (contents_of index values) u ≡ high_value values
 unfolding answer
 high_answer h index values u within from above =
     rw (le-ltb 1114111 u (omega (arith, within)), le-ltb u (fast_limit h.trie_type) from, le-ltb u h.high_start above) refl
 
--- a number of a block of a map
+-- A number in a block of a map.
 block_read : (f : ℕ → ℕ) (k b d n : ℕ) → n < k → block_of k f b ≡ block_of k f d → f (b * k + n) ≡ f (d * k + n)
 unfolding block_of
 block_read f k b d n l e =
@@ -40,7 +40,7 @@ block_read f k b d n l e =
     ap f (omega arith) ∙ (sym (get_or-map-range_with_len f (k * b) k n (k * b + n) z l refl)
     ∙ (ap (λ xs. get_or xs n z) e ∙ (get_or-map-range_with_len f (k * d) k n (k * d + n) z l refl ∙ ap f (omega arith))))
 
--- the fast index has a cell for each block of 64 below the fast limit
+-- The fast index has a cell for each block of 64 below the fast limit.
 pub fast_index_len-limit : (trie_type : TrieType) → fast_index_len trie_type ≡ fast_limit trie_type / 64
 fast_index_len-limit Fast = refl
 fast_index_len-limit Small = refl
@@ -48,7 +48,7 @@ fast_index_len-limit Small = refl
 module _ (trie_type : TrieType) (high null value : ℕ) (f : ℕ → ℕ) (fast small values : List ℕ) (aligned : high % 512 ≡ 0)
     (within : high ≤ 1114112)
     (p : IsData trie_type high null value f fast small values) where
-  -- blocks of 512 with the same numbers have the same offsets
+  -- Blocks of 512 with the same numbers have the same offsets.
   pub offsets_same : (b d : ℕ) → fast_limit trie_type ≤ b * 512 → b * 512 < high → fast_limit trie_type ≤ d * 512 → d * 512 < high
       → SameNumbers f 512 b d
       → window 32 (32 * (b - fast_limit trie_type / 512)) small ≡ window 32 (32 * (d - fast_limit trie_type / 512)) small
@@ -72,7 +72,8 @@ module _ (trie_type : TrieType) (high null value : ℕ) (f : ℕ → ℕ) (fast 
       ∙ (get_or_default small (32 * (d - first) + q) 0 z (omega (arith, long, t.1, d0, d1, aligned, lt))
       ∙ sym (window-read 32 (32 * (d - first)) q small z lt)))))))
 
-  -- the different lists of 32 offsets are no more than the different blocks of 512 from the fast limit on
+  -- There are at most as many distinct lists of 32 offsets as distinct blocks of 512 from the fast
+  -- limit on.
   pub few_offsets : count_different (block 32 small) 0 (length small / 32) ≤ count_different (block_of 512 f) (fast_limit trie_type / 512)
       (2176 - fast_limit trie_type / 512)
   few_offsets =
@@ -87,7 +88,7 @@ module _ (trie_type : TrieType) (high null value : ℕ) (f : ℕ → ℕ) (fast 
       (omega (arith, lj, long, aligned, t.1)) same in
       ap (λ n. window 32 (32 * n) small) (omega arith) ∙ (one ∙ ap (λ n. window 32 (32 * n) small) (omega arith)))
 
-  -- nor than all different blocks of 512
+  -- There are also at most as many as distinct blocks of 512 in all.
   pub few_all : count_different (block 32 small) 0 (length small / 32) ≤ count_different (block_of 512 f) 0 2176
   few_all =
       let t = parts trie_type in
@@ -99,7 +100,7 @@ module _ (trie_type : TrieType) (high null value : ℕ) (f : ℕ → ℕ) (fast 
             (block_of 512 f) first (2176 - first) 0 2176 (λ j l l'. (j, omega arith, omega (arith, l', t.2), refl)),
       )
 
-  -- blocks of 16 lie within the data
+  -- Blocks of 16 are inside the data.
   pub small_inside : (j : ℕ) → j < length small → get_or small j 0 + 16 ≤ length values
   small_inside j l =
       let t = parts trie_type in
@@ -110,7 +111,7 @@ module _ (trie_type : TrieType) (high null value : ℕ) (f : ℕ → ℕ) (fast 
       let there = slice_get_within values (get_or small (u / 16 - fast_limit trie_type / 16) 0 + u % 16) (f u) cell in
       omega (arith, there, at, last)
 
-  -- their offsets have 16 bits where the data is small
+  -- Their offsets have 16 bits if the data are small.
   pub small_low : length values ≤ 0x10000 → AllBelow 0x10000 small
   small_low le = λ j l. omega (arith, small_inside j l, le)
 
@@ -133,7 +134,7 @@ module _ (h : CodePointTrieHeader) (f : ℕ → ℕ) (fast small index values : 
   numbers_same k b d b1 d1 same i l = some-injective (f (b * k + i)) (f (d * k + i))
       (sym (answers (b * k + i) (omega (arith, l, b1))) ∙ (same i l ∙ answers (d * k + i) (omega (arith, l, d1))))
 
-  -- blocks at the null offset hold the null value
+  -- Blocks at the null offset have the null value throughout.
   pub coherent : IsNullIndex h.trie_type h.high_start h.data_null_offset small index h.index3_null_offset
       → IsCoherent Some h (contents_of index values)
   coherent cells =
@@ -163,7 +164,7 @@ module _ (h : CodePointTrieHeader) (f : ℕ → ℕ) (fast small index values : 
             answers (b * 512 + i) (omega (arith, below, l, aligned, within)) ∙ (ap (λ n. Some (f n)) (omega arith) ∙ ap (λ n. Some n) one);
       }
 
-  -- the header names a block of one number
+  -- The header names a block of one number.
   pub names_null : NamesNull h index f
   unfolding NamesNull
   names_null = λ e. elim (p.names_null e) [
@@ -182,7 +183,7 @@ module _ (h : CodePointTrieHeader) (f : ℕ → ℕ) (fast small index values : 
         )
   ]
 
-  -- blocks of 512 that are null throughout have one cell
+  -- Blocks of 512 that are null throughout have the same cell.
   pub names_null_index : IsNullIndex h.trie_type h.high_start h.data_null_offset small index h.index3_null_offset → NamesNullIndex h index
   unfolding NamesNullIndex
   names_null_index cells = λ b from below all.
@@ -211,7 +212,7 @@ module _ (h : CodePointTrieHeader) (f : ℕ → ℕ) (fast small index values : 
         (numbers_same 512 b d (omega (arith, sb.2, aligned, within)) (omega (arith, sd.2, aligned, within)) same));
   }
 
-  -- every block of 64 that the fast index names lies within the data
+  -- Every block of 64 that the fast index names is inside the data.
   pub fast_within : passes_data h.trie_type index (length values) ≡ false
   fast_within =
       let n : ℕ = fast_index_len h.trie_type in

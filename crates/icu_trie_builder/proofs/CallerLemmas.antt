@@ -1,4 +1,4 @@
--- What other crates may cite of maps that are written to and built.
+-- What other crates may use about maps that are written to and built.
 use Rattle.std.proofs.Common.{◌≡◌, ℕ, ◌*◌, ◌≤◌, Bool, true, false, List, map, Some, ap, ◌∙◌, nat_le, cond, refl, arith}
 use Rattle.std.proofs.lemmas.Bool.Decides.{nat_tests}
 use Rattle.icu_trie_core.proofs.CallerLemmas.{value_runs-some}
@@ -17,14 +17,14 @@ use Rattle.icu_trie_builder.specs.MapAnswers.{AnswersMap, HasRangesOf}
 use Rattle.icu_trie_builder.specs.NullBlock.{NamesNull, SomeHoldsOne}
 use Rattle.icu_trie_builder.specs.Writes.{answer_after, value_after}
 use Rattle.icu_trie_builder.specs.declared.writes.Write.{Write}
--- The writes of two lists, one after the other
+-- The writes of two lists, one after the other.
 pub use Rattle.icu_trie_builder.proofs.AfterLemmas.{IsAfter-append, value_after-append}
--- How many different blocks of one length few writes leave
+-- How many distinct blocks of one length there are after few writes.
 pub use Rattle.icu_trie_builder.proofs.FewWrites.{count_different-few}
--- What a look-up and a walk over the cells of a trie of a map give
+-- The results of look-ups and walks over the cells of a trie of a map.
 pub use Rattle.icu_trie_builder.proofs.RangesOfMap.{answer-of-map, longest_of_map, no_answer-of-map}
 
--- A map that was the default everywhere answers by the writes alone
+-- The values of a map that had the default everywhere depend only on the writes.
 pub map_answer-after : {T : Type 0} (default error : T) (ws : List (Write T)) (blank written : CodePointMap T)
     → ((c : ℕ) → c ≤ 0x10FFFF → map_value blank c ≡ default) → blank.error ≡ error
     → IsAfter ws blank written → (u : ℕ) → map_answer written u ≡ answer_after default error ws u
@@ -36,22 +36,22 @@ map_answer-after default error ws blank written values e after u = by (nat_le u 
         after.values u l ∙ ap (λ y. value_after ws y u) (values u l)
     by false h = after.error ∙ e
 
--- The ranges that a trie of a map gives are the map's maximal runs
+-- The ranges of a trie of a map are the map's maximal runs.
 pub ranges-of-map : {T : Type 0} (f : ℕ → T) (t : Parts T) → HasRangesOf f t → (xs : List (CodePointMapRange T))
     → AreMaximalRuns (answers t) (map run_of xs) → AreMaximalRuns f (map value_run xs)
 ranges-of-map f t of xs runs = (of.runs (map value_run xs)).0 (rw (value_runs-some xs) at runs)
 
 module _ {T : Type 0} (f : ℕ → T) (error : T) (t : Parts T) where
-  -- and under a map of its values the mapped runs
+  -- If the values are mapped, they are the mapped runs.
   pub mapped-ranges-of-map : {B : Type 0} (eq : B → B → Bool) (h : T → B) → AnswersMap f error t → (rs : List (CodePointMapRange B))
       → AreMappedRunsFrom eq h (answers t) 0 rs → AreMappedRunsFrom eq h (λ c. Some (f c)) 0 rs
   mapped-ranges-of-map eq h of rs runs = AreMappedRunsFrom-same eq h (answers t) (λ c. Some (f c)) (answers-at f error t of) 0 rs runs
 
-  -- The last cell of a trie of a map is the map's error value
+  -- The last cell of a trie of a map is the map's error value.
   pub error-of-map : AnswersMap f error t → last_cell t.values ≡ Some error
   error-of-map of = rw (of.look_up 0x110000) at (of.value 0x110000)
 
--- Where some aligned block holds one number, the header names such a block as null
+-- If some aligned block has one number throughout, the header names such a block as null.
 pub NamesNull-some : (h : CodePointTrieHeader) (index : List ℕ) (f : ℕ → ℕ) → NamesNull h index f
     → SomeHoldsOne h.trie_type h.high_start f (λ _. Unit {0}) (λ _. Unit {0})
     → SomeHoldsOne h.trie_type h.high_start f (λ b. fast_offset index (b * 64) ≡ Some h.data_null_offset)

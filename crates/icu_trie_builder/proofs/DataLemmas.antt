@@ -1,4 +1,4 @@
--- Placed blocks are data.
+-- Placed blocks are valid data.
 use Rattle.std.proofs.Common.{◌≡◌, ℕ, ◌+◌, ◌-◌, ◌*◌, ◌/◌, ◌%◌, ◌<◌, ◌≤◌, ◌⊎◌, Bool, true, List, [], ◌∷◌, ◌++◌, length, get_or, take, drop, arith, sym, ap, ◌∙◌, Option, Some, None, slice_get, subst, inl, inr, refl, zero, suc}
 use Rattle.std.specs.Prelude.{IfSome, IfNone, MatchOption}
 use Rattle.std.specs.List.{AllPass}
@@ -19,15 +19,15 @@ use Rattle.icu_trie_compaction.specs.Placed.{IsPlaced, IsCopied}
 use Rattle.icu_trie_compaction.proofs.CallerLemmas.{parts, cell_there, length-window, window-read, count_different-le_count}
 use Rattle.icu_trie_builder.proofs.NullLemmas.{window-kept}
 
--- the last cell but one is the high value
+-- The last cell but one is the high value.
 pub high-end : (xs : List ℕ) (x : ℕ) → 2 ≤ length xs → get_or xs (length xs - 2) 0 ≡ x → high_value xs ≡ Some x
 high-end xs x some is = rw (le-ltb (length xs) 2 some) (cell_there xs (length xs - 2) x (omega (arith, some)) is)
 
--- the last cell is the error value
+-- The last cell is the error value.
 pub last-end : (xs : List ℕ) (x : ℕ) → 1 ≤ length xs → get_or xs (length xs - 1) 0 ≡ x → last_cell xs ≡ Some x
 last-end xs x some is = cell_there xs (length xs - 1) x (omega (arith, some)) is
 
--- one more cell
+-- One more cell.
 pub end-push : (xs ys : List ℕ) (x : ℕ) → ys ≡ xs ++ x ∷ [] → (length ys ≡ length xs + 1) × (get_or ys (length ys - 1) 0 ≡ x)
 end-push xs ys x is =
     let len : length ys ≡ length xs + 1 = omega (arith, ap length is, length-append xs (x ∷ [])) in
@@ -38,7 +38,7 @@ pub kept-push : (xs ys : List ℕ) (x : ℕ) → ys ≡ xs ++ x ∷ [] → take 
 kept-push xs ys x is = ap (take (length xs)) is
     ∙ (take-append-le (length xs) xs (x ∷ []) (omega arith) ∙ take_all (length xs) xs (omega arith))
 
--- the last cell of the cells before
+-- The last of the cells before.
 pub before-push : (xs ys : List ℕ) (x : ℕ) → ys ≡ xs ++ x ∷ [] → 0 < length xs → get_or ys (length ys - 2) 0 ≡ get_or xs (length xs - 1) 0
 before-push xs ys x is some =
     let len = (end-push xs ys x is).0 in
@@ -46,14 +46,14 @@ before-push xs ys x is some =
     ap (λ i. get_or ys i 0) at ∙ (ap (λ zs. get_or zs (length xs - 1) 0) is
     ∙ get_or_append_left xs (x ∷ []) 0 (length xs - 1) (omega (arith, some)))
 
--- a cell of a copied block
+-- A cell of a copied block.
 read-copied : (k first j i : ℕ) (numbers after offsets : List ℕ) → IsCopied k first (block k numbers) after offsets → j < length offsets
     → i < k
     → get_or after (get_or offsets j 0 + i) 0 ≡ get_or numbers (k * (first + j) + i) 0
 read-copied k first j i numbers after offsets p h l = sym (window-read k (get_or offsets j 0) i after 0 l)
     ∙ (ap (λ xs. get_or xs i 0) (p.copies j h) ∙ window-read k (k * (first + j)) i numbers 0 l)
 
--- copies stay where the cells grow
+-- Appending cells does not change the copies.
 copied-kept : (k first : ℕ) (b : ℕ → List ℕ) (before after offsets : List ℕ) → IsCopied k first b before offsets
     → take (length before) after ≡ before → IsCopied k first b after offsets
 copied-kept k first b before after offsets p kept =
@@ -63,7 +63,7 @@ copied-kept k first b before after offsets p kept =
       copies = λ j l. window-kept k (get_or offsets j 0) before after kept (p.inside j l) ∙ p.copies j l;
     }
 
--- the first two places, and the others after them
+-- The first two positions, and the others after them.
 after-first : (rest : List ℕ) (n : ℕ) → get_or (0 ∷ 64 ∷ rest) (2 + n) 0 ≡ get_or rest n 0
 after-first rest n = let e : 2 + n ≡ suc (suc n) = omega arith in ap (λ x. get_or (0 ∷ 64 ∷ rest) x 0) e
 
@@ -73,7 +73,7 @@ first-cases P one two rest more zero l = one
 first-cases P one two rest more (suc zero) l = two
 first-cases P one two rest more (suc (suc j)) l = more j (omega (arith, l))
 
--- the first 128 cells as they are, and blocks of 64 after them
+-- The first 128 cells unchanged, and blocks of 64 after them.
 copied-first : (numbers after rest : List ℕ) → 128 ≤ length numbers → IsPlaced 64 2 (block 64 numbers) (take 128 numbers) after rest
     → IsCopied 64 0 (block 64 numbers) after (0 ∷ 64 ∷ rest)
 copied-first numbers after rest le p =
@@ -100,11 +100,12 @@ shared-first numbers before after rest p i j a b l m e =
     ap (λ x. get_or (0 ∷ 64 ∷ rest) x 0) is ∙
     (after-first rest i' ∙ (s ∙ (sym (after-first rest j') ∙ ap (λ x. get_or (0 ∷ 64 ∷ rest) x 0) (sym js))))
 
--- the first 128 cells are 128
+-- There are 128 first cells.
 pub first_len : (numbers first : List ℕ) → length numbers ≡ 0x110000 → first ≡ take 128 numbers → length first ≡ 128
 first_len numbers first all start = ap length start ∙ length-take-le 128 numbers (omega (arith, all))
 
--- no more cells than code points below the fast limit: the first 128, and the different blocks of 64
+-- The bound on the cells for code points below the fast limit: the first 128, and the distinct
+-- blocks of 64.
 pub fast_cells : (t : TrieType) (numbers first one : List ℕ) → length numbers ≡ 0x110000 → first ≡ take 128 numbers
     → length one ≤ length first + 64 * count_different (block 64 numbers) 2 (fast_limit t / 64 - 2) → length one ≤ 0x10000
 fast_cells t numbers first one all start short =
@@ -116,12 +117,12 @@ fast_cells t numbers first one all start short =
       count_different-le_count (block 64 numbers) 2 (fast_limit t / 64 - 2),
     )
 
--- what a slice was written back to
+-- The contents that were written back to a slice.
 pub written-back : (n : ℕ) (old new : List ℕ) → n ≡ length old → length new ≡ length old → take n (new ++ drop (length new) old) ≡ new
 written-back n old new full same = take-append-le n new (drop (length new) old) (omega (arith, full, same))
     ∙ take_all n new (omega (arith, full, same))
 
--- the data as it grows: the first 128 cells, and blocks of 64
+-- The data while it grows: the first 128 cells, and blocks of 64.
 module _ (trie_type : TrieType) (numbers first one rest fast : List ℕ) (all : length numbers ≡ 0x110000) (start : first ≡ take 128 numbers)
     (p : IsPlaced 64 2 (block 64 numbers) first one rest) (rest_len : length rest ≡ fast_limit trie_type / 64 - 2)
     (list : fast ≡ 0 ∷ 64 ∷ rest) where
@@ -132,7 +133,7 @@ module _ (trie_type : TrieType) (numbers first one rest fast : List ℕ) (all : 
   fast_one = subst (λ os. IsCopied 64 0 (block 64 numbers) one os) (sym list)
       (copied-first numbers one rest (omega (arith, all)) (subst (λ xs. IsPlaced 64 2 (block 64 numbers) xs one rest) start p))
 
-  -- offsets below 0x10000
+  -- Offsets below 0x10000.
   pub offsets_low : length one ≤ 128 + 64 * count_different (block 64 numbers) 2 (fast_limit trie_type / 64 - 2) → (j : ℕ) → j < length fast
       → get_or fast j 0 < 0x10000
   offsets_low short j l =
@@ -145,7 +146,7 @@ module _ (trie_type : TrieType) (numbers first one rest fast : List ℕ) (all : 
         (parts trie_type).3,
       )
 
--- then blocks of 16
+-- Then blocks of 16.
 module _ (trie_type : TrieType) (high : ℕ) (numbers first one two rest fast old : List ℕ) (all : length numbers ≡ 0x110000)
     (start : first ≡ take 128 numbers)
     (p : IsPlaced 64 2 (block 64 numbers) first one rest) (rest_len : length rest ≡ fast_limit trie_type / 64 - 2)
@@ -156,7 +157,7 @@ module _ (trie_type : TrieType) (high : ℕ) (numbers first one two rest fast ol
   fast_two = copied-kept 64 0 (block 64 numbers) one two fast (fast_one trie_type numbers first one rest fast all start p rest_len list)
       q.kept
 
-  -- each cell is a cell of the map
+  -- Each cell is a number of the map.
   pub two-drawn : (t : ℕ → Bool) → AllPass t numbers → AllPass t two
   two-drawn t pass =
       let P : ℕ → Type 0 = λ x. t x ≡ true in
@@ -165,7 +166,7 @@ module _ (trie_type : TrieType) (high : ℕ) (numbers first one two rest fast ol
       (All-drop P (16 * (fast_limit trie_type / 16 + j)) numbers pass))
       (p.drawn t (λ j l. All-take P 64 (drop (64 * (2 + j)) numbers) (All-drop P (64 * (2 + j)) numbers pass)) begin)
 
--- then the null block
+-- Then the null block.
 module _ (trie_type : TrieType) (high : ℕ) (numbers first one two three rest fast old small : List ℕ) (all : length numbers ≡ 0x110000)
     (start : first ≡ take 128 numbers)
     (p : IsPlaced 64 2 (block 64 numbers) first one rest) (rest_len : length rest ≡ fast_limit trie_type / 64 - 2)
@@ -190,7 +191,7 @@ module _ (trie_type : TrieType) (high : ℕ) (numbers first one two three rest f
   small_shared i j l h e = m.same i j (omega (arith, l, m.count)) (omega (arith, h, m.count))
       (q.shared i j (omega (arith, l, m.count)) (omega (arith, h, m.count)) e)
 
--- the null block, or that there is none, and the offset that says so
+-- The null block, or its absence together with the offset for it.
 abbrev pub NullOrNone : List ℕ → List ℕ → List ℕ → ℕ → ℕ → Type 0
 NullOrNone fast small cells offset value = IsNull fast small cells offset value ⊎ (HasNoNull fast small cells × (offset ≡ 0xfffff))
 
@@ -201,7 +202,7 @@ pub null-cases : (fast small cells : List ℕ) (default : ℕ) (o : Option NullB
 null-cases fast small cells default None r some none e = inr (none, e.0, e.1)
 null-cases fast small cells default (Some n) r some none e = inl (subst (λ n. IsNull fast small cells n.offset n.value) (sym e) some)
 
--- blocks of equal numbers are equal
+-- Blocks of equal numbers are equal.
 same-block : (numbers : List ℕ) (k b d : ℕ) → k * b + k ≤ length numbers → k * d + k ≤ length numbers
     → SameNumbers (λ c. get_or numbers c 0) k b d → block k numbers b ≡ block k numbers d
 same-block numbers k b d inb ind same =
@@ -241,7 +242,7 @@ module _ (trie_type : TrieType) (high : ℕ) (numbers stored values fast small :
       cell_there values at (get_or numbers (16 * (fast_limit trie_type / 16 + j) + i) 0) (omega (arith, inside, l, values-longer))
       (kept-values at (omega (arith, inside, l)) ∙ read-copied 16 (fast_limit trie_type / 16) j i numbers stored small s h l)
 
-  -- a number of a block of 64 below the fast limit, and of a block of 16 from it on
+  -- A number in a block of 64 below the fast limit, and in a block of 16 from it on.
   number-fast : (b i : ℕ) → b < fast_limit trie_type / 64 → i < 64 → get_or numbers (b * 64 + i) 0 ≡ get_or stored (get_or fast b 0 + i) 0
   number-fast b i l li =
       let at : b * 64 + i ≡ 64 * (0 + b) + i = omega arith in
@@ -276,7 +277,7 @@ module _ (trie_type : TrieType) (high : ℕ) (numbers stored values fast small :
           | inr none ↦ absurd (omega (arith, none.1, e, small_fit (b - fast_limit trie_type / 16) there))
         ]
 
-    -- a block at the null offset holds one number
+    -- A block at the null offset has one number throughout.
     one-fast : (b : ℕ) → b < fast_limit trie_type / 64 → get_or fast b 0 ≡ null → HoldsOne (λ c. get_or numbers c 0) 64 b
     one-fast b l e i li =
         let start : b * 64 + 0 ≡ b * 64 = omega arith in
@@ -314,7 +315,7 @@ module _ (trie_type : TrieType) (high : ℕ) (numbers stored values fast small :
       ]
     ]
 
-    -- placed blocks are data of the map of the numbers
+    -- Placed blocks are valid data for the map of the numbers.
     pub is_data : ((i j : ℕ) → 2 ≤ i → 2 ≤ j → i < length fast → j < length fast → block 64 numbers i ≡ block 64 numbers j
         → get_or fast i 0 ≡ get_or fast j 0)
         → ((i j : ℕ) → i < length small → j < length small
@@ -347,7 +348,7 @@ module _ (trie_type : TrieType) (high : ℕ) (numbers stored values fast small :
           fast_inside = λ j h. let inside = f.inside j h in omega (arith, inside, values-longer);
         }
 
--- the null value is a cell, and its offset one of a block
+-- The null value is a cell, and its offset is the offset of a block.
 pub null-number : (fast small cells : List ℕ) (offset value : ℕ) → IsNull fast small cells offset value
     → ((j : ℕ) → j < length fast → get_or fast j 0 + 64 ≤ length cells)
     → ((j : ℕ) → j < length small → get_or small j 0 + 16 ≤ length cells)

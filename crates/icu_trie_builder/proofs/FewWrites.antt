@@ -1,4 +1,4 @@
--- Few writes leave few different blocks.
+-- After few writes, a map has few distinct blocks.
 use Rattle.std.proofs.Common.{◌≡◌, ℕ, ◌+◌, ◌*◌, ◌/◌, ◌%◌, ◌<◌, ◌≤◌, ◌⊎◌, Bool, true, false, cond, ◌&&◌, nat_le, List, [], ◌∷◌, ◌++◌, length, map, replicate, refl, arith, ◌∙◌, sym, ap, subst, inl, inr, length-append, suc, zero, add-zero, true≢false, Some, None}
 use Rattle.std.specs.Prelude.{nat_eq}
 use Rattle.std.specs.Option.{option_or, unwrap_or}
@@ -17,7 +17,7 @@ use Rattle.icu_trie_builder.specs.Writes.{write_first, write_last, write_value, 
 use Rattle.icu_trie_builder.proofs.AfterLemmas.{unwrap_or-option_or}
 use Rattle.icu_trie_compaction.proofs.CallerLemmas.{distinct_count-mono, list_laws, list_decides, times-below}
 
--- p is an element of the list
+-- p is an element of the list.
 abbrev Has : {A : Type 0} → List A → A → Type 0
 Has [] p = ⊥
 Has (x ∷ xs) p = (x ≡ p) ⊎ Has xs p
@@ -25,7 +25,7 @@ Has (x ∷ xs) p = (x ≡ p) ⊎ Has xs p
 Contains-more : {A : Type 0} (x : A) (xs : List A) (p : A) → Contains xs p → Contains (x ∷ xs) p
 Contains-more x xs p h = (suc h.0, omega (arith, h.1), h.2)
 
--- what is made of an element is an element of what is made
+-- The image of an element is an element of the images.
 Contains-map-Has : {A B : Type 0} (g : A → B) (xs : List A) (p : A) → Has xs p → Contains (map g xs) (g p)
 Contains-map-Has g [] p h = absurd h
 Contains-map-Has g (x ∷ xs) p (inl e) = (0, omega arith, ap g e)
@@ -37,7 +37,7 @@ Contains-left xs ys p h = (h.0, omega (arith, h.1, length-append xs ys), get_or_
 Contains-right : {A : Type 0} (xs ys : List A) (p : A) → Contains ys p → Contains (xs ++ ys) p
 Contains-right xs ys p h = (length xs + h.0, omega (arith, h.1, length-append xs ys), get_or-append-add xs ys h.0 p ∙ h.2)
 
--- a number strictly between two is in the list, or none is
+-- Either the list has a number strictly between two numbers, or it has none.
 find-between : (low high : ℕ) (bs : List ℕ) → ((p : ℕ) × Has bs p × (low < p) × (p < high)) ⊎ ((p : ℕ) → Has bs p → low < p → p < high → ⊥)
 find-between low high [] = inr (λ p h. absurd h)
 find-between low high (b ∷ bs) = by (cases_lt low b) (cases_lt b high) (find-between low high bs)
@@ -54,12 +54,12 @@ covers-same : (a b c : ℕ) → (a ≡ c + 1 → ⊥) → (b + 1 ≡ c + 1 → �
 covers-same a b c h k = grind (arith, nat_tests)
 
 module _ {T : Type 0} (number : T → ℕ) (d : T) where
-  -- where accepted writes begin, and where they have ended
+  -- The first code point of each accepted write, and the first one after it.
   borders : List (Write T) → List ℕ
   borders [] = []
   borders (w ∷ ws) = cond (is_accepted w) (write_first w ∷ (write_last w + 1) ∷ borders ws) (borders ws)
 
-  -- what accepted writes write
+  -- The values of the accepted writes.
   written : List (Write T) → List T
   written [] = []
   written (w ∷ ws) = cond (is_accepted w) (write_value w ∷ written ws) (written ws)
@@ -85,7 +85,7 @@ module _ {T : Type 0} (number : T → ℕ) (d : T) where
       by true h = omega (arith, h)
       by false h = omega (arith, h)
 
-  -- nothing changes from one code point to the next but at a border
+  -- The value changes from one code point to the next only at a border.
   steady : (ws : List (Write T)) (c : ℕ) → (Has (borders ws) (c + 1) → ⊥) → last_written ws (c + 1) ≡ last_written ws c
   unfolding borders
   steady [] c h = refl
@@ -105,7 +105,7 @@ module _ {T : Type 0} (number : T → ℕ) (d : T) where
           ap (λ o. option_or o (cond (covers w (c + 1)) (Some (write_value w)) None)) (r h)
           ∙ ap (λ x. option_or (last_written ws c) (cond x (Some (write_value w)) None)) e
 
-  -- each value is the old one or one that was written
+  -- Each value is the old one or one that was written.
   value_after-written : (ws : List (Write T)) (old : T) (c : ℕ) → Has (old ∷ written ws) (value_after ws old c)
   unfolding written
   value_after-written [] old c = inl refl
@@ -123,11 +123,11 @@ module _ {T : Type 0} (number : T → ℕ) (d : T) where
       by false false x a v e r = subst (λ y. Has (old ∷ written ws) y) (sym (rw v at e)) (r old)
 
   module _ (ws : List (Write T)) where
-    -- the numbers of the map of the writes
+    -- The numbers of the map after the writes.
     of : ℕ → ℕ
     of c = number (value_after ws d c)
 
-    -- no change within a block that has no border inside
+    -- A block without a border inside has one value.
     steady-block : (low high : ℕ) → ((p : ℕ) → Has (borders ws) p → low < p → p < high → ⊥) → (i : ℕ) → low + i < high
         → of (low + i) ≡ of low
     unfolding of
@@ -137,11 +137,11 @@ module _ {T : Type 0} (number : T → ℕ) (d : T) where
         let at : low + suc i ≡ low + i + 1 = omega arith in
         ap (λ c. number (value_after ws d c)) at ∙ ap (λ o. number (unwrap_or o d)) step ∙ steady-block low high h i (omega (arith, l))
 
-    -- the block in which p lies
+    -- The block that contains p.
     around : ℕ → ℕ → List ℕ
     around k p = block_of k (λ c. number (value_after ws d c)) (p / k)
 
-    -- the block of one value
+    -- The block of one value.
     flat : ℕ → T → List ℕ
     flat k x = replicate k (number x)
 
@@ -159,7 +159,7 @@ module _ {T : Type 0} (number : T → ℕ) (d : T) where
       length-written ws,
     )
 
-    -- every block is among the candidates
+    -- Every block is one of the candidates.
     has-block : (k j : ℕ) → 0 < k → Contains (candidates k) (block_of k (λ c. number (value_after ws d c)) j)
     unfolding candidates around flat block_of of
     has-block k j pos = elim (find-between (k * j) (k * j + k) (borders ws)) [
@@ -187,7 +187,7 @@ module _ {T : Type 0} (number : T → ℕ) (d : T) where
           (Contains-map-Has (flat k) (d ∷ written ws) (value_after ws d (k * j)) (value_after-written ws d (k * j))))
     ]
 
-    -- n accepted writes leave at most 3 n + 1 different blocks of any one length
+    -- After n accepted writes there are at most 3 n + 1 distinct blocks of any one length.
     pub count_different-few : (k first count : ℕ) → 0 < k
         → count_different (block_of k (λ c. number (value_after ws d c))) first count ≤ 3 * count_by (is_accepted) ws + 1
     unfolding count_different
@@ -203,7 +203,7 @@ module _ {T : Type 0} (number : T → ℕ) (d : T) where
           length-candidates k,
         )
 
-    -- so at most 256 accepted writes are never too many
+    -- So a map after at most 256 accepted writes is never too large.
     pub few_too_large : count_by (is_accepted) ws ≤ 256 → IsTooLarge (λ c. number (value_after ws d c)) → ⊥
     few_too_large h (inl l) = omega (arith, h, l, count_different-few 512 0 2176 (omega arith))
     few_too_large h (inr l) = omega (arith, h, l, count_different-few 16 0 69632 (omega arith))

@@ -1,4 +1,4 @@
--- Blocks that hold one number are moved to the null block.
+-- Blocks of one number are moved to the null block.
 use Rattle.std.proofs.Common.{◌≡◌, ◌≢◌, ℕ, ◌+◌, ◌<◌, ◌≤◌, List, length, get_or, take, drop, arith, ◌∙◌, sym, ap, inl, inr}
 use Rattle.std.proofs.lemmas.Bool.{cases_eq}
 use Rattle.std.proofs.lemmas.List.{same_lists, get_or_default, length-take}
@@ -6,7 +6,7 @@ use Rattle.icu_trie_core.specs.Blocks.{window}
 use Rattle.icu_trie_builder.specs.Inside.FilledBlocks.{IsApart, IsFilled, IsMoved, IsNull}
 use Rattle.icu_trie_compaction.proofs.CallerLemmas.{length-window, window-read, window-append, append-kept}
 
--- windows of one number are equal
+-- Windows of the same number throughout are equal.
 pub filled-windows : (k a b v : ℕ) (xs ys : List ℕ) → IsFilled v k a xs → IsFilled v k b ys → a + k ≤ length xs → b + k ≤ length ys
     → window k a xs ≡ window k b ys
 filled-windows k a b v xs ys f g inx iny =
@@ -17,13 +17,13 @@ filled-windows k a b v xs ys f g inx iny =
     window-read k a i xs d lt ∙ (get_or_default xs (a + i) d 0 (omega (arith, lt, inx))
     ∙ (f i lt ∙ (sym (g i lt) ∙ (get_or_default ys (b + i) 0 d (omega (arith, lt, iny)) ∙ sym (window-read k b i ys d lt))))))
 
--- a window stays where the cells grow
+-- Appending cells does not change a window.
 pub window-kept : (k at : ℕ) (before after : List ℕ) → take (length before) after ≡ before → at + k ≤ length before
     → window k at after ≡ window k at before
 window-kept k at before after kept inside = ap (λ ys. window k at ys) (sym (append-kept before after kept))
     ∙ window-append k at before (drop (length before) after) inside
 
--- blocks of one number are moved
+-- Blocks of one number are moved.
 pub moved : (before after old new : List ℕ) (from to v : ℕ) → take (length before) after ≡ before → length new ≡ length old
     → ((j : ℕ) → j < length old → get_or old j 0 + 16 ≤ length before)
     → ((j : ℕ) → j < length old → get_or old j 0 ≡ from → get_or new j 0 ≡ to)
@@ -48,7 +48,7 @@ moved before after old new from to v kept len inside renamed others f inf g ing 
       ];
     }
 
--- a block of 16 that starts where no block of 64 starts
+-- A block of 16 that starts where no block of 64 does.
 pub null-small : (fast small cells : List ℕ) (offset value n : ℕ) → IsApart offset fast → IsFilled value 16 offset cells → n < length small
     → get_or small n 0 ≡ offset → IsNull fast small cells offset value
 null-small fast small cells offset value n apart filled lt is = record {

@@ -1,4 +1,4 @@
--- A trie that answers a map has its ranges and its value sets.
+-- A trie that has the values of a map has its ranges and its value sets.
 use Rattle.std.proofs.Common.{◌≡◌, ℕ, ◌+◌, ◌<◌, ◌≤◌, Some, None, arith, sym, ◌∙◌, ap}
 use Rattle.std.proofs.lemmas.Bool.Decides.{nat_tests}
 use Rattle.icu_trie_core.specs.Contents.{contents_of}
@@ -10,7 +10,7 @@ use Rattle.icu_trie.specs.Ranges.{answers}
 use Rattle.icu_trie_builder.specs.MapAnswers.{AnswersMap, HasRangesOf}
 
 module _ {T : Type 0} (f : ℕ → T) (error : T) (t : Parts T) (a : AnswersMap f error t) where
-  -- the answer at a code point
+  -- The look-up result of a code point.
   pub answers-at : (c : ℕ) → c < 0x110000 → answers t c ≡ Some (f c)
   answers-at c l = let e = a.look_up c in grind (arith, nat_tests)
 
@@ -23,17 +23,17 @@ module _ {T : Type 0} (f : ℕ → T) (error : T) (t : Parts T) (a : AnswersMap 
     );
   }
 
--- ---- a look-up or a walk over whatever cells hold the trie
+-- ---- A look-up or a walk, however the cells are stored.
 module _ {T : Type 0} (f : ℕ → T) (error : T) (t : Parts T) (of : AnswersMap f error t) where
-  -- the answer in the code space is the map's value
+  -- The look-up result of a code point is the map's value.
   pub answer-of-map : (u : ℕ) → u ≤ 0x10FFFF → answer t.header (contents_of t.index t.values) u ≡ Some (f u)
   answer-of-map u l = grind (arith, nat_tests, of.look_up u)
 
-  -- and there is none above it
+  -- Above 0x10FFFF there is none.
   pub no_answer-of-map : (u : ℕ) → 0x10FFFF < u → answer t.header (contents_of t.index t.values) u ≡ None
   no_answer-of-map u l = grind (arith, nat_tests, of.look_up u)
 
-  -- the longest run of the answers, which a walk gives, is the map's
+  -- The longest run that a walk returns is the map's.
   pub longest_of_map : (first last : ℕ) (v : T) → LongestRun (answer t.header (contents_of t.index t.values)) first last (Some v)
       → LongestRun f first last v
   longest_of_map first last v run = record {
@@ -46,7 +46,7 @@ module _ {T : Type 0} (f : ℕ → T) (error : T) (t : Parts T) (of : AnswersMap
       some_same : {a b : T} → Some a ≡ Some b → a ≡ b
       some_same e = cc
 
--- maps that are equal on the code points have the same ranges and value sets
+-- Maps that are equal on all code points have the same ranges and value sets.
 pub HasRangesOf-alike : {T : Type 0} (f g : ℕ → T) → ((k : ℕ) → k < 0x110000 → f k ≡ g k) → (t : Parts T) → HasRangesOf f t
     → HasRangesOf g t
 HasRangesOf-alike f g same t h = record {

@@ -1,4 +1,4 @@
--- Maps that agree in the code space have the same bounds.
+-- Maps that are equal on all code points have the same bounds.
 use Rattle.std.proofs.Common.{◌≡◌, ℕ, ◌+◌, ◌*◌, ◌<◌, ◌≤◌, List, map, refl, arith, sym, ◌∙◌, ap, ap₂, subst, inl, inr}
 use Rattle.std.specs.Prelude.{nat_eq, not, Bool, Some}
 use Rattle.std.specs.List.{range_with_len, list_any, filter}
@@ -15,7 +15,7 @@ use Rattle.icu_trie_builder.specs.Bounds.{data_bound, compact_data_bound, index_
 use Rattle.icu_trie_compaction.specs.Different.{count_different_but}
 use Rattle.icu_trie_builder.specs.NullBlock.{HoldsOne, SomeHoldsOne, NamesNull}
 
--- functions that agree on a range give one list there
+-- Functions that are equal on a range give the same list there.
 same_map : {A : Type 0} (f g : ℕ → A) (first count : ℕ) → ((j : ℕ) → first ≤ j → j < first + count → f j ≡ g j)
     → map f (range_with_len first count) ≡ map g (range_with_len first count)
 same_map f g first count h =
@@ -72,29 +72,29 @@ module _ (f g : ℕ → ℕ) (same : (c : ℕ) → c < 0x110000 → f c ≡ g c)
   index-alike Small = count_different-alike (block_of 512 f)
       (block_of 512 g) 8 2168 (λ j from below. block_of-alike 512 j (omega (arith, below)))
 
-  -- both have one bound on the cells of data
+  -- Both maps have the same bound on the data cells.
   pub data_bound-alike : (t : TrieType) → data_bound t f ≡ data_bound t g
   data_bound-alike t = ap₂ (λ m n. 64 * m + 16 * n + 160) (fast-alike t) (small-alike t)
 
-  -- two, in fact
+  -- They have the same second bound on the data cells.
   pub compact_data_bound-alike : (t : TrieType) → compact_data_bound t f ≡ compact_data_bound t g
   compact_data_bound-alike t = ap₂ (λ m n. 64 * m + 16 * n + 160) (fast-alike t) (lone-alike t)
 
-  -- and of index
+  -- They have the same bound on the index cells.
   pub index_bound-alike : (t : TrieType) → index_bound t f ≡ index_bound t g
   index_bound-alike t = ap (λ n. 36 * n + 3200) (index-alike t)
 
-  -- also where offsets have 16 bits
+  -- They have the same bound on the index cells if offsets have 16 bits.
   pub short_index_bound-alike : (t : TrieType) → short_index_bound t f ≡ short_index_bound t g
   short_index_bound-alike t = ap (λ n. 32 * n + 3200) (index-alike t)
 
-  -- so that what bounds the index of small data for one bounds it for the other
+  -- So what bounds the index for one of them, if the data are small, bounds it for the other.
   pub tight-alike : (t : TrieType) (n : ℕ) → (compact_data_bound t f ≤ 0x10000 → n ≤ short_index_bound t f)
       → compact_data_bound t g ≤ 0x10000 → n ≤ short_index_bound t g
   tight-alike t n tight small = subst (λ b. n ≤ b) (short_index_bound-alike t)
       (tight (subst (λ b. b ≤ 0x10000) (sym (compact_data_bound-alike t)) small))
 
-  -- and both may be refused for their size, or none
+  -- Either both may be too large, or neither.
   pub IsTooLarge-alike : IsTooLarge f → IsTooLarge g
   IsTooLarge-alike (inl h) =
       inl
@@ -113,7 +113,7 @@ module _ (f g : ℕ → ℕ) (same : (c : ℕ) → c < 0x110000 → f c ≡ g c)
             (block_of 16 g) 0 69632 (λ j from below. block_of-alike 16 j (omega (arith, below))),
       ))
 
--- a block of one number is one of the other map too
+-- A block of one number in one map is one in the other.
 HoldsOne-alike : (f g : ℕ → ℕ) → ((c : ℕ) → c < 0x110000 → f c ≡ g c) → (k b : ℕ) → 0 < k → b * k + k ≤ 0x110000 → HoldsOne f k b
     → HoldsOne g k b
 HoldsOne-alike f g same k b pos inside h i l = sym (same (b * k + i) (omega (arith, inside, l)))
@@ -130,7 +130,7 @@ SomeHoldsOne-alike f g same t high P Q within (inl w) =
 SomeHoldsOne-alike f g same t high P Q within (inr w) =
     inr (w.0, w.1, w.2, HoldsOne-alike f g same 16 w.0 (omega arith) (omega (arith, w.2, within)) w.3, w.4)
 
--- a null offset that is one of a block of one number is so of the other map too
+-- If the null offset belongs to a block of one number in one map, it does in the other.
 pub NamesNull-alike : (f g : ℕ → ℕ) → ((c : ℕ) → c < 0x110000 → f c ≡ g c) → (h : CodePointTrieHeader) (index : List ℕ)
     → h.high_start ≤ 0x110000 → NamesNull h index f → NamesNull h index g
 unfolding NamesNull

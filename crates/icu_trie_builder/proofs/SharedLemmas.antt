@@ -1,11 +1,12 @@
--- Blocks of 16 of one number get the place of a block of 64 of it, equal blocks one place.
+-- Blocks of 16 of one number move to a block of 64 of that number. Equal blocks move to the same
+-- position.
 use Rattle.std.proofs.Common.{◌≡◌, ℕ, ◌+◌, ◌<◌, ◌≤◌, List, length, get_or, arith, ◌∙◌, sym, ap, inl, inr}
 use Rattle.std.proofs.lemmas.Bool.{cases_lt}
 use Rattle.icu_trie_core.specs.Blocks.{window}
 use Rattle.icu_trie_builder.specs.Inside.FilledBlocks.{AreFilledPlaces, IsFilled, IsMoved, IsSharedPlace}
 use Rattle.icu_trie_builder.proofs.NullLemmas.{filled-windows}
 
--- there is one such place
+-- There is one such position.
 pub shared-same : (cells places : List ℕ) (at x y : ℕ) → IsSharedPlace cells places at x → IsSharedPlace cells places at y → x ≡ y
 unfolding IsSharedPlace
 shared-same cells places at x y (inl (f, (k, lk, pk, vk, nk))) (inl (g, (l, ll, pl, vl, nl))) = elim (cases_lt k l) [
@@ -19,7 +20,7 @@ shared-same cells places at x y (inl (f, (k, lk, pk, vk, nk))) (inr (e, none)) =
 shared-same cells places at x y (inr (e, none)) (inl (f, (k, lk, pk, vk, nk))) = absurd (none f k lk (ap (λ n. get_or cells n 0) pk ∙ vk))
 shared-same cells places at x y (inr (e, none)) (inr (d, other)) = e ∙ sym d
 
--- and the cells stand there too
+-- The cells there are the same.
 pub shared-window : (cells places : List ℕ) (at x : ℕ) → AreFilledPlaces cells places → at + 16 ≤ length cells
     → IsSharedPlace cells places at x
     → (x + 16 ≤ length cells) × (window 16 x cells ≡ window 16 at cells)
@@ -31,7 +32,7 @@ shared-window cells places at x all inside (inl (f, (k, lk, pk, vk, nk))) =
     (room, filled-windows 16 x at (get_or cells at 0) cells cells g f room inside)
 shared-window cells places at x all inside (inr (e, none)) = (omega (arith, inside, e), ap (λ n. window 16 n cells) e)
 
--- blocks that get such places are moved
+-- Blocks that get such positions satisfy `IsMoved`.
 pub moved-shared : (cells places old new : List ℕ) → AreFilledPlaces cells places → length new ≡ length old
     → ((j : ℕ) → j < length old → get_or old j 0 + 16 ≤ length cells)
     → ((j : ℕ) → j < length old → IsSharedPlace cells places (get_or old j 0) (get_or new j 0)) → IsMoved cells cells old new

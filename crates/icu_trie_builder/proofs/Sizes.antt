@@ -1,5 +1,5 @@
--- The blocks of the list of a map's numbers are the blocks of the map, so that the sizes of a trie are
--- bounded by the map.
+-- The blocks in the list of a map's numbers are the blocks of the map, so the map bounds the size
+-- of its trie.
 use Rattle.std.proofs.Common.{◌≡◌, ℕ, ◌+◌, ◌-◌, ◌*◌, ◌/◌, ◌<◌, ◌≤◌, Bool, true, List, length, map, get_or, arith, ap, sym, ◌∙◌}
 use Rattle.std.specs.Prelude.{nat_eq}
 use Rattle.std.specs.Cmp.Lexicographic.{pointwise}
@@ -15,7 +15,7 @@ use Rattle.icu_trie_compaction.specs.Different.{count_different_but}
 use Rattle.icu_trie_compaction.specs.Placed.{AllStandIn, IsCopied}
 use Rattle.icu_trie_compaction.proofs.CallerLemmas.{count_different_but-within, count_different_but-le, block-block_of, count_different-within, parts, list_decides, length-window, window-window}
 
--- the lone small blocks are no more than all small ones
+-- There are at most as many lone small blocks as small blocks.
 pub lone_blocks-le : (trie_type : TrieType) (f : ℕ → ℕ) → lone_small_blocks trie_type f ≤ small_blocks trie_type f
 lone_blocks-le trie_type f = count_different_but-le (stands_below (block_of 64 f) (fast_limit trie_type / 64)) (block_of 16 f)
     (fast_limit trie_type / 16) (69632 - fast_limit trie_type / 16)
@@ -24,7 +24,7 @@ module _ (trie_type : TrieType) (numbers : List ℕ) (all : length numbers ≡ 0
   same : (k j : ℕ) → k * j + k ≤ 0x110000 → block k numbers j ≡ block_of k (λ c. get_or numbers c 0) j
   same k j h = block-block_of (λ c. get_or numbers c 0) k j numbers (omega (arith, all, h)) (λ c d l. get_or_default numbers c d 0 l)
 
-  -- the different blocks of 64 below the fast limit, those of the first 128 code points left out
+  -- The distinct blocks of 64 below the fast limit, without those of the first 128 code points.
   pub fast_blocks-list : count_different (block 64 numbers) 2 (fast_limit trie_type / 64 - 2)
       ≤ fast_blocks trie_type (λ c. get_or numbers c 0)
   fast_blocks-list =
@@ -33,7 +33,7 @@ module _ (trie_type : TrieType) (numbers : List ℕ) (all : length numbers ≡ 0
       (block_of 64 (λ c. get_or numbers c 0)) 2 (fast_limit trie_type / 64 - 2) 0 (fast_limit trie_type / 64)
       (λ j l l'. (j, omega arith, omega (arith, l', l), same 64 j (omega (arith, l, l', t.2))))
 
-  -- 16 numbers that stand in a block of 64 that is copied stand where it is copied to
+  -- 16 numbers that occur in a copied block of 64 also occur in its copy.
   in-block : (stored fast : List ℕ) (j : ℕ) (x : List ℕ) → IsCopied 64 0 (block 64 numbers) stored fast → j < length fast
       → 64 * j + 64 ≤ 0x110000
       → stands_in x (block 64 numbers j) ≡ true → (q : ℕ) × (window 16 q stored ≡ x)
@@ -49,7 +49,7 @@ module _ (trie_type : TrieType) (numbers : List ℕ) (all : length numbers ≡ 0
       let here : window 16 v.1 ys ≡ x = (list_decides (window 16 v.1 ys) x).0 v.4 in
       (at + v.1, sym (window-window 16 v.1 64 at stored low) ∙ (ap (λ zs. window 16 v.1 zs) copy ∙ here))
 
-  -- 16 numbers that stand in a block of 64 below the fast limit stand in the data
+  -- 16 numbers that occur in a block of 64 below the fast limit occur in the data.
   pub stands-found : (stored fast : List ℕ) → IsCopied 64 0 (block 64 numbers) stored fast → length fast ≡ fast_limit trie_type / 64
       → AllStandIn 16 stored (stands_below (block_of 64 (λ c. get_or numbers c 0)) (fast_limit trie_type / 64))
   unfolding stands_below
@@ -65,7 +65,7 @@ module _ (trie_type : TrieType) (numbers : List ℕ) (all : length numbers ≡ 0
       in-block stored fast w.0 x p (omega (arith, l, len)) fits (ap (stands_in x) is ∙ w.4)
 
   module _ (high : ℕ) (within : high ≤ 0x110000) where
-    -- the lone blocks of 16 from the fast limit on to before the high start
+    -- The lone blocks of 16 from the fast limit up to the high start.
     pub lone_blocks-list : count_different_but (stands_below (block_of 64 (λ c. get_or numbers c 0)) (fast_limit trie_type / 64))
         (block 16 numbers) (fast_limit trie_type / 16) ((high - fast_limit trie_type) / 16)
         ≤ lone_small_blocks trie_type (λ c. get_or numbers c 0)
@@ -78,7 +78,7 @@ module _ (trie_type : TrieType) (numbers : List ℕ) (all : length numbers ≡ 0
         let e = same 16 j (omega (arith, l, l', within, t.1, t.2)) in
         (j, l, omega (arith, l', within, t.1, t.2), e, ap test (sym e) ∙ out))
 
-    -- all of them are no more than all different blocks of 16
+    -- There are at most as many of them as distinct blocks of 16.
     pub small_blocks-all : count_different (block 16 numbers) (fast_limit trie_type / 16)
         ((high - fast_limit trie_type) / 16) ≤ count_different (block_of 16 (λ c. get_or numbers c 0)) 0 69632
     small_blocks-all =

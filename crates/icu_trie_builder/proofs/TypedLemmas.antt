@@ -1,4 +1,4 @@
--- A trie of values stands on the trie of their numbers.
+-- A trie of values, derived from the trie of their numbers.
 use Rattle.std.proofs.Common.{◌≡◌, ℕ, ◌+◌, ◌-◌, ◌*◌, ◌<◌, ◌≤◌, nat_le, nat_lt, true, false, List, [], ◌∷◌, length, Option, Some, None, slice_get, refl, arith, sym, ◌∙◌, ap, subst, inl, inr}
 use Rattle.std.specs.Prelude.{IsSome, is_some, is_none, if◌then◌else◌}
 use Rattle.std.specs.Option.{option_and_then, option_map, option_or}
@@ -28,11 +28,11 @@ option_map-Some f (Some v) None e = absurd (cc e)
 option_map-Some f (Some v) (Some n) e = same_Some _ _ e
 
 module _ {T : Type 0} (of_number : ℕ → Option T) (numbers : List ℕ) (values : List T) (same : AreValuesOf of_number numbers values) where
-  -- there are as many values as numbers
+  -- There are as many values as numbers.
   pub length-values : length values ≡ length numbers
   length-values = sym (length-map values (λ v. Some v)) ∙ ap length same ∙ length-map numbers of_number
 
-  -- a value is that of the number at its place
+  -- Each value is that of the number at the same position.
   pub get-values : (i : ℕ) → slice_get values i ≡ option_and_then of_number (slice_get numbers i)
   get-values i = option_map-Some of_number (slice_get values i) (slice_get numbers i)
       (sym (slice_get-map Some values i) ∙ ap (λ xs. slice_get xs i) same ∙ slice_get-map of_number numbers i)
@@ -41,7 +41,8 @@ module _ {T : Type 0} (of_number : ℕ → Option T) (numbers : List ℕ) (value
   at_place None = refl
   at_place (Some i) = get-values i
 
-  -- the trie of values answers the value of what the trie of numbers answers
+  -- A look-up in the trie of values yields the value of what a look-up in the trie of numbers
+  -- yields.
   pub answer-values : (h : CodePointTrieHeader) (index : List ℕ) (u : ℕ)
       → answer h (contents_of index values) u ≡ option_and_then of_number (answer h (contents_of index numbers) u)
   unfolding answer
@@ -65,13 +66,13 @@ not-none : {A : Type 0} (o : Option A) → is_some o ≡ true → is_none o ≡ 
 not-none None e = absurd (cc e)
 not-none (Some x) e = refl
 
--- f has the number of each value of the map g, of which the trie of the numbers was built
+-- f has the number of each value of the map g, and the trie of numbers was built from f.
 module _ {T : Type 0} (of_number : ℕ → Option T) (number : T → ℕ) (g : ℕ → T) (error : T) (f : ℕ → ℕ)
     (h : CodePointTrieHeader) (index numbers : List ℕ) (values : List T) (same : AreValuesOf of_number numbers values)
     (back : (c : ℕ) → c < 0x110000 → of_number (number (g c)) ≡ Some (g c)) (error_back : of_number (number error) ≡ Some error)
     (is : (c : ℕ) → c < 0x110000 → f c ≡ number (g c)) (built : IsNumberTrie f (number error) h index numbers)
     (null_is : is_some (of_number h.null_value) ≡ true) where
-  -- the number of a code point's value is what the trie of the numbers answers
+  -- The number of a code point's value is what the trie of numbers yields.
   number_answer : (c : ℕ) → c < 0x110000 → answer h (contents_of index numbers) c ≡ Some (number (g c))
   number_answer c l = built.answers c l ∙ ap (λ n. Some n) (is c l)
 
@@ -94,11 +95,11 @@ module _ {T : Type 0} (of_number : ℕ → Option T) (number : T → ℕ) (g : �
     | inr past ↦ (let t : nat_le u 0x10FFFF ≡ false = grind (arith, nat_tests) in rw (t, above h index values u past) error_cell)
   ]
 
-  -- the trie of the values answers the map
+  -- The trie of values has the values of the map.
   pub answers_map : AnswersMap g error (record { header = h; index = index; values = values })
   answers_map = record { look_up = look_up_is; value = value_is }
 
-  -- its parts have no fault
+  -- Its parts have no fault.
   pub no_fault : parts_fault of_number h index values ≡ None
   no_fault =
       let len : nat_lt (length values) 1 ≡ false = le-ltb (length values) 1 (omega (arith, some_length values error error_cell)) in
@@ -109,7 +110,7 @@ module _ {T : Type 0} (of_number : ℕ → Option T) (number : T → ℕ) (g : �
       ap (passes_data h.trie_type index) (length-values of_number numbers values same) ∙ built.fast_data in
       rw (len, null, fast, inside) refl
 
-  -- null blocks and the high value are as with the numbers
+  -- Null blocks and the high value correspond to those of the numbers.
   pub coherent_values : IsCoherent of_number h (contents_of index values)
   coherent_values =
       let numbers_coherent = built.well_built.coherent in
@@ -128,7 +129,7 @@ module _ {T : Type 0} (of_number : ℕ → Option T) (number : T → ℕ) (g : �
         null_512 = λ b from below at i l. by (b * 512 + i) ∙ ap (option_and_then of_number) (numbers_coherent.null_512 b from below at i l);
       }
 
-  -- blocks with equal values have equal numbers
+  -- Blocks with equal values have equal numbers.
   same_numbers : (k b d : ℕ) → b * k + k ≤ 0x110000 → d * k + k ≤ 0x110000 → SameAnswers h (contents_of index values) k b d
       → SameAnswers h (contents_of index numbers) k b d
   same_numbers k b d inside_b inside_d alike i l =
@@ -170,7 +171,8 @@ module _ {T : Type 0} (of_number : ℕ → Option T) (number : T → ℕ) (g : �
         tight = tight-alike f (λ c. number (g c)) is h.trie_type (length index) built.well_built.tight;
       }
 
--- what is well built of one map is so of a map that agrees with it in the code space
+-- A trie that is well built from a map is well built from any map that is equal to it on all code
+-- points.
 pub IsWellBuilt-alike : {T : Type 0} (of_number : ℕ → Option T) (f g : ℕ → ℕ) → ((c : ℕ) → c < 0x110000 → f c ≡ g c) → (t : Parts T)
     → IsWellBuilt of_number f t → IsWellBuilt of_number g t
 IsWellBuilt-alike of_number f g same t w = record {

@@ -1,4 +1,4 @@
--- The trie of the values of a builder's map, from the trie of their numbers.
+-- The trie of the values in a builder's map, from the trie of their numbers.
 use Rattle.std.proofs.Common.{◌≡◌, ℕ, ◌<◌, Bool, true, List, slice_index, Option, Some, None, refl, sym, subst}
 use Rattle.std.specs.Prelude.{is_some}
 use Rattle.std.specs.List.{AllPass}
@@ -21,7 +21,7 @@ module _ {T : Type 0} (V : T → Type 0) (number : T → ℕ) (of_number : ℕ �
   abbrev f : ℕ → T
   f = number_value of_number default numbers
 
-  -- the null value is a value's number
+  -- The null value is the number of a value.
   null_is : is_some (of_number h.null_value) ≡ true
   null_is = null (λ n. is_some (of_number n)) (all_numbers V number of_number back numbers default error sound)
       (rw (is_default, back default sound.default_value) refl)
@@ -35,7 +35,7 @@ module _ {T : Type 0} (V : T → Type 0) (number : T → ℕ) (of_number : ℕ �
   back_is : (c : ℕ) → c < 0x110000 → of_number (number (f c)) ≡ Some (f c)
   back_is = gives_back V number of_number back numbers default error sound
 
-  -- what holds of the parts holds of the trie that they are of
+  -- What is true of the parts is true of the trie with these parts.
   by_parts : (Q : Parts T → Type 0) → ((values : List T) → AreValuesOf of_number cells values
       → Q (record { header = h; index = index; values = values }))
       → (t : Parts T) → t.header ≡ h → t.index ≡ index → AreValuesOf of_number cells t.values → Q t
@@ -44,20 +44,20 @@ module _ {T : Type 0} (V : T → Type 0) (number : T → ℕ) (of_number : ℕ �
       λ j. record { header = sym e j; index = sym i j; values = t.values } in
       subst Q whole (q t.values v)
 
-  -- it answers the map
+  -- The trie has the values of the map.
   pub map_answers : (t : Parts T) → t.header ≡ h → t.index ≡ index → AreValuesOf of_number cells t.values → AnswersMap f error t
   map_answers = by_parts (AnswersMap f error) (λ values v.
       answers_map of_number number f error (λ c. slice_index numbers c) h index cells values v back_is (back error sound.error_value) is
       built_is null_is)
 
-  -- and is well built
+  -- The trie is well built.
   pub map_built : (t : Parts T) → t.header ≡ h → t.index ≡ index → AreValuesOf of_number cells t.values
       → IsWellBuilt of_number (λ c. number (f c)) t
   map_built = by_parts (IsWellBuilt of_number (λ c. number (f c))) (λ values v.
       well_built of_number number f error (λ c. slice_index numbers c) h index cells values v back_is (back error sound.error_value) is
       built_is null_is)
 
-  -- its parts have no fault
+  -- Its parts have no fault.
   pub map_no_fault : (values : List T) → AreValuesOf of_number cells values → parts_fault of_number h index values ≡ None
   map_no_fault values v = no_fault of_number number f error (λ c. slice_index numbers c) h index cells values v back_is
       (back error sound.error_value) is built_is null_is

@@ -1,5 +1,5 @@
-//! A map becomes a trie: its values as numbers, the trie of the numbers, and the values of its
-//! cells.
+//! Building a trie from a map: the map's values become numbers, the numbers become a trie, and the
+//! cells of that trie become values again.
 ghost use Rattle.std.specs.Prelude.{◌≡◌, ◌≢◌, ℕ, ◌≤◌, List, Err, None, IfOk, IfErr, is_some};
 ghost use Rattle.std.specs.List.{AllPass, count_by};
 ghost use Rattle.icu_trie.specs.Parts.{parts_fault};
@@ -22,7 +22,7 @@ use icu_trie::value::TrieValue;
 use icu_trie_map::number_map::NumberMap;
 use std::alloc::{AllocError, Global};
 
-/// The value of each number, where each is a value's.
+/// Returns the value of each number. Each must be the number of a value.
 fn values_of<T: TrieValue>(alloc: Global, numbers: &[u32]) -> Result<Vec<T>, AllocError>
     requires { AllPass (λ n. is_some (T.of_number n)) numbers.now }
     ensures { IfOk result (λ v. AreValuesOf T.of_number numbers.now v.items) }
@@ -37,7 +37,7 @@ fn values_of<T: TrieValue>(alloc: Global, numbers: &[u32]) -> Result<Vec<T>, All
     Ok(values)
 }
 
-/// The trie of these values, from that of their numbers.
+/// Returns the trie of values that belongs to a trie of numbers.
 fn trie_of<T: TrieValue>(
     alloc: Global,
     trie: NumberTrie,
@@ -58,7 +58,7 @@ fn trie_of<T: TrieValue>(
     }
 }
 
-/// The trie of a map that is given by the number of each code point's value.
+/// Builds the trie of a map, given the number of each code point's value.
 fn build_map<T: TrieValue>(
     alloc: Global,
     numbers: &NumberMap,
@@ -80,7 +80,7 @@ fn build_map<T: TrieValue>(
 }
 
 impl<T: TrieValue> CodePointTrieBuilder<T> {
-    /// The trie of the map, of the builder's type, which owns its index and its data.
+    /// Builds the trie of the map. It has the builder's trie type, and owns its index and its data.
     ///
     /// ```
     /// let mut builder = CodePointTrieBuilder::new(alloc, 0u16, 9, TrieType::Small);
@@ -90,10 +90,11 @@ impl<T: TrieValue> CodePointTrieBuilder<T> {
     /// ```
     ///
     /// # Errors
-    /// `BuildError::TooLarge` where a data block's offset would need more than 18 bits or an
-    /// index-3 block's offset would reach 0x7fff, which takes more than 800 different aligned
-    /// blocks of 512 values, or more than 12,000 of 16. `BuildError::Memory` where memory was
-    /// refused. The builder is consumed in both cases.
+    /// The builder is consumed in both cases.
+    /// - `BuildError::TooLarge` if the offset of a data block would need more than 18 bits, or the
+    ///   offset of an index-3 block would reach 0x7fff. This happens only if the map has more than
+    ///   800 different aligned blocks of 512 values, or more than 12,000 of 16.
+    /// - `BuildError::Memory` if an allocation fails.
     pub fn build(self) -> Result<CodePointTrie<'static, T>, BuildError>
         ensures answers { IfOk result (AnswersMap (map_value self) self.error) }
         ensures ranges { IfOk result (HasRangesOf (map_value self)) }
@@ -111,8 +112,8 @@ impl<T: TrieValue> CodePointTrieBuilder<T> {
     }
 }
 
-/// The trie that these writes, the first one first, make of a map of the default: each code point
-/// has the value of the last accepted write that covers it.
+/// Builds a trie from a list of writes, applied in order to a map that has the default everywhere.
+/// Each code point gets the value of the last accepted write that covers it.
 ///
 /// ```
 /// let writes = [Write::Range(0x41..=0x5A, 1u8), Write::One(0x41, 0)];
@@ -121,9 +122,9 @@ impl<T: TrieValue> CodePointTrieBuilder<T> {
 /// ```
 ///
 /// # Errors
-/// `BuildError::TooLarge` and `BuildError::Memory` as for [`CodePointTrieBuilder::build`]; `Memory`
-/// too where a write was refused, and `TooLarge` only where none was, and never after at most 256
-/// accepted writes.
+/// - `BuildError::TooLarge` as for [`CodePointTrieBuilder::build`], but never if at most 256 writes
+///   are accepted.
+/// - `BuildError::Memory` if an allocation fails, in a write or in the build.
 pub fn build_from_writes<T: TrieValue>(
     alloc: Global,
     default: T,

@@ -1,4 +1,4 @@
-//! A map of the code points that is written to, and then built into a trie.
+//! A map from code points that is written to, and then built into a trie.
 ghost use Rattle.std.specs.Prelude.{◌≡◌, ℕ, ◌<◌, ◌≤◌, [], ◌∷◌, length, OnOk, OnErr, IfErr, take, slice_get, Some, true, false};
 ghost use Rattle.icu_trie_builder.specs.Writes.{is_accepted};
 ghost use Rattle.icu_trie_builder.specs.CodePointMap.{map_value, IsAfter};
@@ -12,11 +12,9 @@ use std::alloc::Global;
 use std::marker::Model;
 use std::ops::RangeInclusive;
 
-/// A map from code points to values that can be written to, and then built into a trie
-/// (UMutableCPTrie).
+/// A map from code points to values that can be changed, and then built into a trie.
 ///
-/// A clause sees the value of each code point, the default, the error value and the type of the
-/// trie to build.
+/// ICU: `UMutableCPTrie`.
 ///
 /// ```
 /// let mut builder = CodePointTrieBuilder::new(alloc, 0u8, 9, TrieType::Fast);
@@ -36,6 +34,8 @@ pub struct CodePointTrieBuilder<T: TrieValue> {
 }
 
 impl<T: TrieValue> Model for CodePointTrieBuilder<T> {
+    // Contracts see a builder as the value of each code point, the default, the error value and the
+    // type of the trie to build.
     ghost use Rattle.icu_trie_builder.specs.CodePointMap.{CodePointMap, IsBuilder, values_of_numbers};
 
     ghost Value = { CodePointMap T };
@@ -51,8 +51,10 @@ impl<T: TrieValue> Model for CodePointTrieBuilder<T> {
 }
 
 impl<T: TrieValue> CodePointTrieBuilder<T> {
-    /// The map that has the default at every code point. It takes no memory: `alloc` is kept for
-    /// the calls that do.
+    /// Makes a map that has the default at every code point. It allocates nothing.
+    ///
+    /// `error` is the value of all numbers above 0x10FFFF, and `trie_type` the type of the trie to
+    /// build.
     pub fn new(alloc: Global, default: T, error: T, trie_type: TrieType) -> Self
         ensures map { (c : ℕ) → c ≤ 0x10FFFF → map_value result c ≡ default }
         ensures default { result.default ≡ default }
@@ -70,7 +72,7 @@ impl<T: TrieValue> CodePointTrieBuilder<T> {
         }
     }
 
-    /// Gives the code point `c` this value. A number above 0x10FFFF writes nothing.
+    /// Sets the value of the code point `c`. If `c` is above 0x10FFFF, nothing is written.
     ///
     /// ```
     /// builder.set_value(0x1234, 7)?;
@@ -78,8 +80,8 @@ impl<T: TrieValue> CodePointTrieBuilder<T> {
     /// ```
     ///
     /// # Errors
-    /// `MemoryError` where memory for the cells was refused, which only a write can meet that is
-    /// accepted. The map stays as it was.
+    /// Returns `MemoryError` if an allocation fails. The map is then unchanged. It never fails if
+    /// nothing is written.
     pub fn set_value(&mut self, c: u32, value: T) -> Result<(), MemoryError>
         ensures ok { OnOk result (IsAfter (Write.One c value ∷ []) self.old self.new) }
         ensures ignored { is_accepted (Write.One c value) ≡ false → self.new ≡ self.old }
@@ -89,8 +91,10 @@ impl<T: TrieValue> CodePointTrieBuilder<T> {
         self.set_range_value(c..=c, value)
     }
 
-    /// Gives each code point of the range this value. A reversed range writes nothing, nor does one
-    /// that starts above 0x10FFFF; a range that passes 0x10FFFF is cut there.
+    /// Sets the value of each code point in `range`, whose bounds are both inclusive.
+    ///
+    /// If the range is reversed or starts above 0x10FFFF, nothing is written. If it ends above
+    /// 0x10FFFF, the code points up to 0x10FFFF are written.
     ///
     /// ```
     /// builder.set_range_value(0x1000..=0x1FFF, 8)?;
@@ -99,8 +103,8 @@ impl<T: TrieValue> CodePointTrieBuilder<T> {
     /// ```
     ///
     /// # Errors
-    /// `MemoryError` where memory for the cells was refused, which only a write can meet that is
-    /// accepted. The map stays as it was.
+    /// Returns `MemoryError` if an allocation fails. The map is then unchanged. It never fails if
+    /// nothing is written.
     pub fn set_range_value(
         &mut self,
         range: RangeInclusive<u32>,
@@ -121,15 +125,15 @@ impl<T: TrieValue> CodePointTrieBuilder<T> {
         Ok(())
     }
 
-    /// Makes these writes, from the first on.
+    /// Applies these writes in order.
     ///
     /// ```
     /// builder.apply(&[Write::One(0x20000, 10), Write::Range(0x1FFF..=0x2000, 11)])?;
     /// ```
     ///
     /// # Errors
-    /// `ApplyRefused` with the place of the first write that memory was refused for. The writes
-    /// before it are made then, and no other.
+    /// Returns `ApplyRefused` with the index of the first write for which an allocation fails. The
+    /// writes before it have been applied, and no others.
     pub fn apply(&mut self, writes: &[Write<T>]) -> Result<(), ApplyRefused>
         ensures ok { OnOk result (IsAfter writes.now self.old self.new) }
         ensures err { IfErr result (λ e. IsAfter (take e.0 writes.now) self.old self.new) }
@@ -145,7 +149,7 @@ impl<T: TrieValue> CodePointTrieBuilder<T> {
         Ok(())
     }
 
-    /// Makes one write.
+    /// Applies one write.
     fn write(&mut self, write: &Write<T>) -> Result<(), MemoryError>
         ensures ok { OnOk result (IsAfter (write.now ∷ []) self.old self.new) }
         ensures err { OnErr result (self.new ≡ self.old) }

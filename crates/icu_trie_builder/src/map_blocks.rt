@@ -1,4 +1,4 @@
-//! Blocks of a map find their places among the cells of the data.
+//! Places the blocks of a map in the data.
 ghost use Rattle.std.specs.Prelude.{◌≡◌, ◌≢◌, ℕ, ◌+◌, ◌-◌, ◌*◌, ◌%◌, ◌^◌, ◌<◌, ◌≤◌, Bool, true, Err, List, length, max, take, IfOk, OnOk, IfSome};
 ghost use Rattle.std.specs.List.{AllPass};
 ghost use Rattle.icu_zerovec.specs.CodePoints.{code_point_limit};
@@ -14,8 +14,10 @@ use icu_trie_compaction::window_table::WindowTable;
 use icu_trie_map::number_map::NumberMap;
 use std::alloc::Global;
 
-/// Places block number `number` of the map, where `last` is the place of the block before it, if
-/// that is placed. What `room` holds is lost.
+/// Places block number `number` of the map and returns its position.
+///
+/// `last` is the position of the block before it, if that block was placed. `room` is a buffer that
+/// is overwritten.
 fn place_next(
     alloc: Global,
     stored: &mut Vec<u32>,
@@ -62,9 +64,12 @@ fn place_next(
     place_block(alloc, stored, table, room, limit)
 }
 
-/// The offset in `stored` of each block of `size` code points of the map, from the block numbered
-/// `first` on, `count` of them: the first place where its numbers stand. Those that stand nowhere
-/// are appended to `stored`, each over the longest tail that equals its front.
+/// Returns the offset in `stored` of `count` blocks of `size` code points of the map, from block
+/// number `first` on.
+///
+/// The offset is the first position at which the numbers of the block occur. A block whose numbers
+/// do not occur is appended to `stored`, overlapping the longest tail of `stored` that equals a
+/// prefix of the block.
 ///
 /// # Errors
 ///
@@ -92,7 +97,7 @@ pub(crate) fn place_map_blocks(
     ensures short { OnOk result (length stored.new.items
         ≤ length stored.old.items + size * count_different (block size map.now) first count) }
 
-    // Blocks that stand in the cells already add none.
+    // Blocks that already occur in the cells add none.
     ensures shorter { OnOk result ((p : List ℕ → Bool) → AllStandIn size stored.old.items p
         → length stored.new.items
         ≤ length stored.old.items + size * count_different_but p (block size map.now) first count) }

@@ -1,4 +1,4 @@
-//! The null block: a block of data that holds one number, by whose offset a walk knows it without a
+//! The null block: a data block of one number, which a walk recognises by its offset and does not
 //! read.
 ghost use Rattle.std.specs.Prelude.{◌≡◌, ◌≢◌, ℕ, ◌+◌, ◌-◌, ◌*◌, ◌/◌, ◌^◌, ◌<◌, ◌≤◌, Bool, true, false, length, max, take, slice_index, Some, None, IfOk, OnOk, IfSome, IfNone};
 ghost use Rattle.std.specs.List.{AllPass};
@@ -11,16 +11,16 @@ use crate::lengths::{FAST_BLOCK, SMALL_BLOCK};
 use crate::used_numbers::most_used;
 use std::alloc::{AllocError, Global};
 
-/// Where the null block starts, and the number that it holds.
+/// The offset of the null block, and its number.
 #[derive(Clone, Copy)]
 pub(crate) struct NullBlock {
-    /// Its offset.
+    /// The offset of the null block.
     pub(crate) offset: u32,
-    /// Its number.
+    /// The number of all its cells.
     pub(crate) value: u32,
 }
 
-/// A block that holds one number, by its number among the blocks of its length.
+/// A block that has one number throughout, identified by its index among the blocks of its length.
 #[derive(Clone, Copy)]
 pub(crate) enum FilledBlock {
     /// A block of 64.
@@ -29,7 +29,7 @@ pub(crate) enum FilledBlock {
     Small(usize),
 }
 
-/// Whether the `size` cells from place `at` on are this number.
+/// Returns true if the `size` cells from position `at` on all equal `value`.
 fn is_filled_with(cells: &[u32], at: usize, size: usize, value: u32) -> bool
     requires room { length cells.now < 2 ^ 31 }
     requires inside { at + size ≤ length cells.now }
@@ -44,7 +44,7 @@ fn is_filled_with(cells: &[u32], at: usize, size: usize, value: u32) -> bool
     true
 }
 
-/// Whether the `size` cells from place `at` on are equal.
+/// Returns true if the `size` cells from position `at` on are equal.
 pub(crate) fn is_filled(cells: &[u32], at: usize, size: usize) -> bool
     requires room { length cells.now < 2 ^ 31 }
     requires inside { at + size ≤ length cells.now }
@@ -55,7 +55,7 @@ pub(crate) fn is_filled(cells: &[u32], at: usize, size: usize) -> bool
     is_filled_with(cells, at, size, cells[at])
 }
 
-/// Whether this number is wanted, which any is where none is named.
+/// Returns true if `value` is the wanted number, or if no number is wanted.
 fn is_wanted(wanted: Option<u32>, value: u32) -> bool
     ensures any { wanted ≡ None → result ≡ true }
     ensures only { (v : ℕ) → wanted ≡ Some v → result ≡ true → value ≡ v }
@@ -66,8 +66,8 @@ fn is_wanted(wanted: Option<u32>, value: u32) -> bool
     }
 }
 
-/// The first of the blocks of `size` cells at these offsets that holds one number, and the wanted
-/// one, if one is named.
+/// Returns the index of the first of the blocks of `size` cells at these offsets that has one
+/// number throughout. If `wanted` is some number, only blocks of that number count.
 fn find_filled(cells: &[u32], offsets: &[u32], size: usize, wanted: Option<u32>) -> Option<usize>
     requires room { length cells.now < 2 ^ 31 }
     requires some { 0 < size }
@@ -89,8 +89,8 @@ fn find_filled(cells: &[u32], offsets: &[u32], size: usize, wanted: Option<u32>)
     None
 }
 
-/// The first block that holds one number, and the wanted one, if one is named: of 64, or else of
-/// 16.
+/// Returns the first block that has one number throughout: a block of 64, or a block of 16 if there
+/// is none. If `wanted` is some number, only blocks of that number count.
 fn find_either(
     cells: &[u32],
     fast: &[u32],
@@ -112,8 +112,8 @@ fn find_either(
     None
 }
 
-/// A block that holds one number, where there is one: one that is used much, and of 64 if one of
-/// these holds that number.
+/// Returns a block that has one number throughout, if there is one. It prefers a number that fills
+/// many blocks, and a block of 64 of that number.
 fn choose(
     alloc: Global,
     cells: &[u32],
@@ -133,7 +133,7 @@ fn choose(
     }
 }
 
-/// Whether `at` is one of the offsets.
+/// Returns true if `at` is one of the offsets.
 fn is_taken(taken: &[u32], at: usize) -> bool
     ensures { result ≡ false → IsApart at taken.now }
 {
@@ -145,7 +145,8 @@ fn is_taken(taken: &[u32], at: usize) -> bool
     false
 }
 
-/// A place from `from` on at which 16 cells are this number, and which is none of `taken`.
+/// Returns the first position from `from` on at which 16 cells equal `value`, and which is none of
+/// `taken`.
 fn find_apart(cells: &[u32], value: u32, from: usize, taken: &[u32]) -> Option<usize>
     requires room { length cells.now < 2 ^ 31 }
     ensures inside { IfSome result (λ at. at + 16 ≤ length cells.now) }
@@ -160,7 +161,7 @@ fn find_apart(cells: &[u32], value: u32, from: usize, taken: &[u32]) -> Option<u
     None
 }
 
-/// How many cells at the end are this number, 15 at most.
+/// Returns how many cells at the end equal `value`, up to 15.
 fn filled_tail(cells: &[u32], value: u32) -> usize
     ensures most { result ≤ 15 }
     ensures inside { result ≤ length cells.now }
@@ -174,9 +175,10 @@ fn filled_tail(cells: &[u32], value: u32) -> usize
     count
 }
 
-/// A place at which 16 cells are this number, and at which no block of 64 starts, whose offsets
-/// `taken` has. It is looked for from `from` on, and made at the end of the cells where there is
-/// none.
+/// Returns a position at which 16 cells equal `value` and no block of 64 starts. `taken` has the
+/// offsets of the blocks of 64.
+///
+/// It searches from `from` on. If there is no such position, it appends the missing cells.
 fn settle(
     stored: &mut Vec<u32>,
     value: u32,
@@ -209,7 +211,7 @@ fn settle(
     Ok(at)
 }
 
-/// Writes `to` in the place of each `from`.
+/// Replaces each offset `from` by `to`.
 fn rename(offsets: &mut [u32], from: u32, to: u32)
     ensures renamed { (j : ℕ) → j < length offsets.old → slice_index offsets.old j ≡ from
         → slice_index offsets.new j ≡ to }
@@ -223,8 +225,8 @@ fn rename(offsets: &mut [u32], from: u32, to: u32)
     }
 }
 
-/// The null block at block number `number` of 64, which holds one number. The blocks of 16 that
-/// hold it get its offset too.
+/// Makes block number `number` of 64, which has one number throughout, the null block. The blocks
+/// of 16 of the same number get its offset too.
 fn null_of_fast(cells: &[u32], fast: &[u32], small: &mut [u32], number: usize) -> NullBlock
     requires room { length cells.now < 2 ^ 31 }
     requires fast { LieIn 64 fast.now cells.now }
@@ -244,8 +246,8 @@ fn null_of_fast(cells: &[u32], fast: &[u32], small: &mut [u32], number: usize) -
     NullBlock { offset, value }
 }
 
-/// The null block at block number `number` of 16, which holds one number. It and the blocks that
-/// are equal to it are moved to where no block of 64 starts.
+/// Makes block number `number` of 16, which has one number throughout, the null block. This block
+/// and its equals move to a position at which no block of 64 starts.
 fn null_of_small(
     stored: &mut Vec<u32>,
     fast: &[u32],
@@ -278,15 +280,16 @@ fn null_of_small(
     Ok(NullBlock { offset, value })
 }
 
-/// The null block among blocks of 64 at the offsets `fast` and blocks of 16 at the offsets `small`:
-/// one that holds one number, and none where there is no such block. A block of 16 is given the
-/// place of a block of 64 first where both hold one number. Where the null block is one of 16, it
-/// is moved to where no block of 64 starts; otherwise a walk would take a block of 64 for the null
-/// block that only begins like it.
+/// Chooses the null block among the blocks of 64 (offsets `fast`) and of 16 (offsets `small`): a
+/// block that has one number throughout. Returns `None` if there is no such block.
+///
+/// First, each block of 16 moves to a block of 64 if both have the same number throughout. If the
+/// null block is then one of 16, it moves to a position at which no block of 64 starts. Otherwise a
+/// walk could take a block of 64 for the null block, because both start at the same offset.
 ///
 /// # Errors
 ///
-/// `TooLarge` where it would start above `limit`.
+/// `TooLarge` if the null block would start above `limit`.
 pub(crate) fn place_null(
     alloc: Global,
     stored: &mut Vec<u32>,

@@ -1,23 +1,23 @@
--- Blocks of data that hold one number, and what the search for the null block does.
+-- Blocks of data that have one number throughout, and the search for the null block.
 use Rattle.std.specs.Prelude.{◌≡◌, ◌≢◌, ℕ, ◌+◌, ◌<◌, ◌≤◌, ◌⊎◌, List, length, slice_index}
 use Rattle.icu_trie_core.specs.Blocks.{window}
 use Rattle.icu_trie_builder.specs.declared.null_block.FilledBlock.{FilledBlock}
 use Rattle.icu_trie_builder.specs.declared.null_block.FilledBlock.TheVariants.{Fast, Small}
 
--- the k cells from each of these offsets on lie in the cells
+-- The k cells from each of these offsets on exist.
 abbrev pub LieIn : ℕ → List ℕ → List ℕ → Type 0
 LieIn k offsets cells = (j : ℕ) → j < length offsets → slice_index offsets j + k ≤ length cells
 
--- the k cells from place `at` on are this number
+-- The k cells from position `at` on all equal value.
 abbrev pub IsFilled : ℕ → ℕ → ℕ → List ℕ → Type 0
 IsFilled value k at cells = (i : ℕ) → i < k → slice_index cells (at + i) ≡ value
 
--- `at` is none of the offsets
+-- `at` is none of the offsets.
 abbrev pub IsApart : ℕ → List ℕ → Type 0
 IsApart at offsets = (i : ℕ) → i < length offsets → slice_index offsets i ≢ at
 
--- among blocks of 64 at the offsets `fast` and blocks of 16 at the offsets `small`, those at this
--- offset hold this number alone, and there is one
+-- A valid null block: every block of 64 (offsets `fast`) and of 16 (offsets `small`) at this offset
+-- has this number throughout, and there is at least one such block.
 pub record IsNull (fast small cells : List ℕ) (offset value : ℕ) : Type 0 where
   pub on_fast : (j : ℕ) → j < length fast → slice_index fast j ≡ offset
       → IsFilled value 64 offset cells
@@ -26,21 +26,21 @@ pub record IsNull (fast small cells : List ℕ) (offset value : ℕ) : Type 0 wh
   pub used : ((j : ℕ) × (j < length fast) × (slice_index fast j ≡ offset))
       ⊎ ((j : ℕ) × (j < length small) × (slice_index small j ≡ offset))
 
--- a block that holds one number, by its number among those of 64 or among those of 16
+-- A block that has one number throughout, identified by its index among the blocks of 64 or of 16.
 abbrev pub IsOneOf : List ℕ → List ℕ → List ℕ → FilledBlock → Type 0
 IsOneOf fast small cells (Fast n) =
     let at = slice_index fast n in (n < length fast) × IsFilled (slice_index cells at) 64 at cells
 IsOneOf fast small cells (Small n) =
     let at = slice_index small n in (n < length small) × IsFilled (slice_index cells at) 16 at cells
 
--- none of these blocks holds one number
+-- None of these blocks has one number throughout.
 pub record HasNoNull (fast small cells : List ℕ) : Type 0 where
   pub on_fast : (j value : ℕ) → j < length fast → IsFilled value 64 (slice_index fast j) cells → ⊥
   pub on_small : (j value : ℕ) → j < length small
       → IsFilled value 16 (slice_index small j) cells → ⊥
 
--- blocks of 16 at the offsets `old` in `before` are moved to the offsets `new` in `after`, equal
--- offsets to equal ones
+-- Blocks of 16 were moved from the offsets `old` in `before` to the offsets `new` in `after`. Equal
+-- offsets were moved to equal ones.
 pub record IsMoved (before after old new : List ℕ) : Type 0 where
   pub count : length new ≡ length old
   pub inside : LieIn 16 new after
@@ -49,21 +49,21 @@ pub record IsMoved (before after old new : List ℕ) : Type 0 where
   pub same : (i j : ℕ) → i < length old → j < length old → slice_index old i ≡ slice_index old j
       → slice_index new i ≡ slice_index new j
 
--- x is the first of these places whose cell is v
+-- x is the first of these positions whose cell is v.
 abbrev pub IsFirstOf : ℕ → List ℕ → List ℕ → ℕ → Type 0
 IsFirstOf v cells places x = (k : ℕ) × (k < length places) × (slice_index places k ≡ x)
     × (slice_index cells x ≡ v)
     × ((m : ℕ) → m < k → slice_index cells (slice_index places m) ≢ v)
 
--- the 16 cells from place `at` on stand at x too: where they are one number, and one of these
--- places has it, at the first such place, else at `at`
+-- x is a position for the block of 16 at `at`: if the block has one number throughout, the first of
+-- these positions that has this number, and otherwise, or if there is none, `at` itself.
 unfoldable pub IsSharedPlace : List ℕ → List ℕ → ℕ → ℕ → Type 0
 IsSharedPlace cells places at x =
     (IsFilled (slice_index cells at) 16 at cells × IsFirstOf (slice_index cells at) cells places x)
     ⊎ ((x ≡ at) × (IsFilled (slice_index cells at) 16 at cells → (m : ℕ) → m < length places
     → slice_index cells (slice_index places m) ≢ slice_index cells at))
 
--- at each of these places 64 cells are one number
+-- At each of these positions there are 64 equal cells.
 pub record AreFilledPlaces (cells places : List ℕ) : Type 0 where
   pub inside : LieIn 64 places cells
   pub filled : (m : ℕ) → m < length places

@@ -15,13 +15,13 @@ after : (g : _) (c : goal.After-build g) → IsAfter c.args.writes.now c.new-bui
 after g c = from_ok c.apply.result (IsAfter c.args.writes.now c.new-builder.result c.apply.new.self) c.if-is_err.ensures.value
     c.apply.ensures.ok
 
--- the map that is built is that of the writes over the default
+-- The map that is built is the map of the default after the writes.
 same_value : (g : _) (c : goal.After-build g) → (k : ℕ) → k < 0x110000
     → map_value c.apply.new.self k ≡ value_after c.args.writes.now c.args.default k
 same_value g c k l =
     (after g c).values k (omega arith) ∙ ap (λ v. value_after c.args.writes.now v k) (c.new-builder.ensures.map k (omega arith))
 
--- by their numbers too
+-- The same for the numbers.
 same : (g : _) (c : goal.After-build g) → (k : ℕ) → k < 0x110000
     → g.T.TrieValue.number (map_value c.apply.new.self k) ≡ g.T.TrieValue.number (value_after c.args.writes.now c.args.default k)
 same g c k l = ap g.T.TrieValue.number (same_value g c k l)

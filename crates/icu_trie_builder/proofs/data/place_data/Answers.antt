@@ -98,7 +98,7 @@ returns-in_err-null-clause-too_large c = λ e.
     let large = c.in_err-null.ensures.too_large (ap (λ x. Err x) is) in
     inr (omega (arith, large, two, one, small_blocks-all t numbers c.requires.all c.args.high_start c.requires.within))
 
--- the cells and offsets once the null block has its place, and what is known of them
+-- The cells and offsets once the null block is placed, and what is known about them.
 module _ (c : goal.After-drop-rest-2) where
   abbrev limit_at : ℕ
   limit_at = fast_limit c.args.trie_type

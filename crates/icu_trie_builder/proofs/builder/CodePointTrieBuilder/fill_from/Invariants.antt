@@ -3,7 +3,7 @@ use Rattle.icu_trie.specs.Parts.{trie_value}
 use Rattle.icu_trie_builder.specs.CodePointMap.{map_value}
 use Rattle.icu_trie_builder.proofs.builder.CodePointTrieBuilder.fill_from.Given as goal
 
--- the code points below `next` have the trie's values, and those from it on the default
+-- The code points below `next` have the trie's values, and the others have the default.
 abbrev pub invariant-loop-next : goal.invariant-loop-next
 invariant-loop-next g l = record {
   within : l.next ≤ 0x110000;
