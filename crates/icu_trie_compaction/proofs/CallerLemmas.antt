@@ -1,4 +1,5 @@
--- What other crates may cite of windows, of how many blocks are different, and of how the index is laid out.
+-- What other crates may use about windows, about the number of distinct blocks, and about the
+-- layout of the index.
 pub use Rattle.icu_trie_compaction.proofs.Windows.{length-window, list_decides, list_laws, times-below, window-append, window-read, window-window}
 pub use Rattle.icu_trie_compaction.proofs.TableLemmas.{append-kept}
 pub use Rattle.icu_trie_compaction.proofs.Counts.{distinct_count-mono}

@@ -27,7 +27,7 @@ and-parts true false h = (refl, refl)
 and-parts true true h = absurd (true≢false (sym h))
 and-parts false b h = absurd (true≢false (sym h))
 
--- the blocks that p leaves out, in a list
+-- The blocks for which p is false, as a list.
 abbrev left_out : (List ℕ → Bool) → (ℕ → List ℕ) → ℕ → ℕ → List (List ℕ)
 left_out p b first count = filter (λ x. not (p x)) (map b (range_with_len first count))
 
@@ -47,7 +47,7 @@ in-left_out p b first count j le lt h =
     filtered p (map b (range_with_len first count)) (b j)
     ∙ and-both (is_member (pointwise nat_eq) (map b (range_with_len first count)) (b j)) (p (b j)) m h
 
--- one that is in it
+-- A block in that list.
 of-left_out : (p : List ℕ → Bool) (b : ℕ → List ℕ) (first count : ℕ) (q : List ℕ)
     → is_member (pointwise nat_eq) (left_out p b first count) q ≡ true → (j : ℕ) × (first ≤ j) × (j < first + count) × (b j ≡ q)
     × (p q ≡ false)
@@ -58,7 +58,8 @@ of-left_out p b first count q h =
     let l : w.0 < count = omega (arith, w.1, length-map-range_with_len b first count) in
     (first + w.0, omega arith, omega (arith, l), sym (get_or-map-range_with_len b first count w.0 (first + w.0) q l refl) ∙ w.2, both.1)
 
--- fewer blocks, or the same ones by another name, none of which p leaves out and p' does not
+-- If each block of b for which p is false is a block of b' for which p' is false, there are at most
+-- as many distinct ones of b.
 pub count_different_but-within : (p p' : List ℕ → Bool) (b b' : ℕ → List ℕ) (first count first' count' : ℕ)
     → ((j : ℕ) → first ≤ j → j < first + count → p (b j) ≡ false → (j' : ℕ) × (first' ≤ j') × (j' < first' + count') × (b j ≡ b' j')
     × (p' (b' j') ≡ false))
@@ -73,7 +74,7 @@ count_different_but-within p p' b b' first count first' count' h =
     (subst (λ x. is_member (pointwise nat_eq) (left_out p' b' first' count') x ≡ true) (sym v.3 ∙ w.3)
     (in-left_out p' b' first' count' v.0 v.1 v.2 v.4)))
 
--- those that p leaves are no more than all
+-- There are at most as many blocks for which p is false as blocks in all.
 pub count_different_but-le : (p : List ℕ → Bool) (b : ℕ → List ℕ) (first count : ℕ)
     → count_different_but p b first count ≤ count_different b first count
 unfolding count_different_but count_different
@@ -90,7 +91,7 @@ pub count_different_but-mono : (p : List ℕ → Bool) (b : ℕ → List ℕ) (f
 count_different_but-mono p b first count count' le =
     count_different_but-within p p b b first count first count' (λ j l l' h. (j, l, omega (arith, l', le), refl, h))
 
--- a block that p does not leave out and that is unlike the earlier ones
+-- A block for which p is false and that differs from the earlier ones.
 pub count_different_but-more : (p : List ℕ → Bool) (b : ℕ → List ℕ) (first j : ℕ) → p (b (first + j)) ≡ false
     → ((i : ℕ) → i < j → b (first + i) ≢ b (first + j)) → count_different_but p b first j < count_different_but p b first (j + 1)
 unfolding count_different_but IsDistinct
@@ -113,8 +114,8 @@ count_different_but-more p b first j h fresh =
           (in-left_out p b first (j + 1) w.0 w.1 (omega (arith, w.2)) (ap p w.3 ∙ w.4))
     ])
 
--- j blocks of k cells, which b gives to the numbers from `first` on, stand in `stored`, each at the first place
--- of its cells
+-- The blocks b first, .., b (first + j - 1) of k cells are in `stored`, each at the first position
+-- of its cells.
 pub record Compacting (k first j : ℕ) (b : ℕ → List ℕ) (before stored offsets : List ℕ) : Type 0 where
   pub kept : take (length before) stored ≡ before
   pub count : length offsets ≡ j
@@ -122,7 +123,7 @@ pub record Compacting (k first j : ℕ) (b : ℕ → List ℕ) (before stored of
   pub short : (p : List ℕ → Bool) → AllStandIn k before p → length stored ≤ length before + k * count_different_but p b first j
   pub drawn : (p : ℕ → Bool) → ((i : ℕ) → i < j → AllPass p (b (first + i))) → AllPass p before → AllPass p stored
 
--- no block yet
+-- No block yet.
 pub compacting-none : (k first : ℕ) (b : ℕ → List ℕ) (before offsets : List ℕ) → offsets ≡ [] → Compacting k first 0 b before before offsets
 compacting-none k first b before offsets none = record {
   kept = take_all (length before) before (omega arith);
@@ -132,7 +133,7 @@ compacting-none k first b before offsets none = record {
   drawn = λ p all pass. pass;
 }
 
--- a block that stands in the cells still stands there when they have grown
+-- A block that occurs in the cells still occurs at the same position after cells are appended.
 stands-kept : (k q : ℕ) (before stored x : List ℕ) → take (length before) stored ≡ before → length x ≡ k → 0 < k → window k q before ≡ x
     → window k q stored ≡ x
 stands-kept k q before stored x h len pos is =
@@ -141,7 +142,7 @@ stands-kept k q before stored x h len pos is =
 
 module _ (k first j : ℕ) (b : ℕ → List ℕ) (before stored offsets : List ℕ) (l : Compacting k first j b before stored offsets) (pos : 0 < k)
     (len : length (b (first + j)) ≡ k) where
-  -- a block that stands nowhere counts
+  -- A block that does not occur counts as a new one.
   compacting-fresh : ((q : ℕ) → window k q stored ≢ b (first + j))
       → (p : List ℕ → Bool) → AllStandIn k before p → length stored + k ≤ length before + k * count_different_but p b first (j + 1)
   compacting-fresh none p st =
@@ -151,7 +152,7 @@ module _ (k first j : ℕ) (b : ℕ → List ℕ) (before stored offsets : List 
       let more = count_different_but-more p b first j out (λ i lt e. none (get_or offsets i 0) ((l.least i lt).here ∙ e)) in
       omega (arith, l.short p st, times-below k (count_different_but p b first j) (count_different_but p b first (j + 1)) more)
 
-  -- one turn
+  -- One iteration of the loop.
   pub compacting-step : (at : ℕ) (stored' offsets' : List ℕ) → IsLeast k at stored' (b (first + j)) → take (length stored) stored' ≡ stored
       → (length stored < length stored' → (length stored' ≤ length stored + k) × ((q : ℕ) → window k q stored ≢ b (first + j)))
       → ((p : ℕ → Bool) → AllPass p (b (first + j)) → AllPass p stored → AllPass p stored')
@@ -175,7 +176,7 @@ module _ (k first j : ℕ) (b : ℕ → List ℕ) (before stored offsets : List 
         drawn = λ p all pass. drawn p (all j (omega arith)) (l.drawn p (λ i lt. all i (omega (arith, lt))) pass);
       }
 
-  -- where the limit is passed
+  -- The limit is exceeded.
   pub compacting-full : (m limit : ℕ) → j < m → ((q : ℕ) → window k q stored ≢ b (first + j)) → limit < length stored
       → limit + k < length before + k * count_different b first m
   compacting-full m limit lt none over =
@@ -185,7 +186,7 @@ module _ (k first j : ℕ) (b : ℕ → List ℕ) (before stored offsets : List 
       let c = mul-le-mul_left k (count_different_but-le no b first m) in
       omega (arith, one, a, c, over)
 
--- every block of the range is placed
+-- Every block of the range is placed.
 pub compacting-done : (k first j : ℕ) (b : ℕ → List ℕ) (before stored offsets : List ℕ) → Compacting k first j b before stored offsets
     → IsPlaced k first b before stored offsets
 compacting-done k first j b before stored offsets l = record {
@@ -200,7 +201,7 @@ compacting-done k first j b before stored offsets l = record {
   drawn = λ p all. l.drawn p (λ i lt. all i (omega (arith, lt, l.count)));
 }
 
--- no more cells are added than different blocks have
+-- The number of appended cells is at most that of the distinct blocks' cells.
 pub compacting-short : (k first j : ℕ) (b : ℕ → List ℕ) (before stored offsets : List ℕ) → Compacting k first j b before stored offsets
     → length stored ≤ length before + k * count_different b first j
 compacting-short k first j b before stored offsets l =

@@ -1,4 +1,4 @@
--- How many different values a function has on a range.
+-- The number of distinct values of a function on a range.
 use Rattle.std.proofs.Common.{◌≡◌, ℕ, ◌+◌, ◌<◌, ◌≤◌, ◌≢◌, Bool, true, false, cond, ◌||◌, List, [], ◌∷◌, length, map, get_or, refl, arith, ◌∙◌, sym, ap, true≢false}
 use Rattle.std.specs.Bool.{Decides}
 use Rattle.std.specs.Cmp.{IsEquivalence}
@@ -8,7 +8,7 @@ use Rattle.std.proofs.lemmas.Map.Made.{length-le_from_is_member, is_member-Decid
 use Rattle.std.proofs.lemmas.List.FromFn.{length-map-range_with_len, get_or-map-range_with_len}
 
 module _ {K : Type 0} {eq : K → K → Bool} (laws : IsEquivalence eq) (same : (a b : K) → Decides (eq a b) (a ≡ b)) where
-  -- each key of a list is a unique key of it
+  -- Each key of a list is among its distinct keys.
   pub is_member-unique_keys : (xs : List K) (q : K) → is_member eq xs q ≡ true → is_member eq (unique_keys eq xs) q ≡ true
   is_member-unique_keys [] q h = h
   is_member-unique_keys (x ∷ xs) q h = by (is_member eq xs x) (eq q x) refl refl (is_member-unique_keys xs q) h
@@ -20,12 +20,12 @@ module _ {K : Type 0} {eq : K → K → Bool} (laws : IsEquivalence eq) (same : 
       by false true m t r g = rw t refl
       by false false m t r g = rw t (r g)
 
-  -- distinct keys, each of which a list has, are no more than the list's different keys
+  -- If a list has each of some distinct keys, it has at least that many distinct keys.
   pub length-le-distinct_count : (ns xs : List K) → IsDistinct eq ns → ((q : K) → is_member eq ns q ≡ true → is_member eq xs q ≡ true)
       → length ns ≤ distinct_count eq xs
   length-le-distinct_count ns xs d h = length-le_from_is_member laws ns (unique_keys eq xs) d (λ q m. is_member-unique_keys xs q (h q m))
 
-  -- n values of f that are apart, and each of which g has on the range
+  -- n pairwise distinct values of f, each of which is a value of g on the range.
   pub apart-le-distinct_count : (f g : ℕ → K) (n a m : ℕ) → ((p q : ℕ) → p < q → q < n → f p ≢ f q)
       → ((p : ℕ) → p < n → (i : ℕ) × (i < m) × (f p ≡ g (a + i))) → n ≤ distinct_count eq (map g (range_with_len a m))
   apart-le-distinct_count f g n a m apart known =
@@ -83,7 +83,7 @@ module _ {K : Type 0} {eq : K → K → Bool} (laws : IsEquivalence eq) (same : 
       by true m r = r
       by false m r = (absent-apart x (unique_keys eq xs) (unique_keys-absent x xs m), r)
 
-  -- a list each of whose keys another has, has no more different keys
+  -- If another list has each key of a list, it has at least as many distinct keys.
   pub distinct_count-mono : (xs ys : List K) → ((q : K) → Contains xs q → Contains ys q) → distinct_count eq xs ≤ distinct_count eq ys
   distinct_count-mono xs ys h = length-le-distinct_count (unique_keys eq xs) ys (unique_keys-apart xs)
       (λ q m. (is_member-Decides same ys q).1 (h q ((is_member-Decides same xs q).0 (unique_keys-member xs q m))))

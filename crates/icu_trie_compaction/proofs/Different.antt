@@ -1,4 +1,4 @@
--- How many different blocks there are.
+-- The number of distinct blocks.
 use Rattle.std.proofs.Common.{◌≡◌, ℕ, ◌+◌, ◌*◌, ◌-◌, ◌<◌, ◌≤◌, List, [], ◌∷◌, length, map, get_or, drop, refl, arith, ◌∙◌, sym, zero, suc}
 use Rattle.std.specs.List.{range_with_len, Contains}
 use Rattle.std.specs.Cmp.Lexicographic.{pointwise}
@@ -11,7 +11,7 @@ use Rattle.icu_trie_core.specs.Blocks.{block, block_of, count_different}
 use Rattle.icu_trie_compaction.proofs.Counts.{apart-le-distinct_count, distinct_count-mono, unique_keys-apart, unique_keys-member}
 use Rattle.icu_trie_compaction.proofs.Windows.{list_laws, list_decides}
 
--- a block of the list of a map's numbers is a block of the map
+-- A block in the list of a map's numbers is a block of the map.
 pub block-block_of : (f : ℕ → ℕ) (k j : ℕ) (xs : List ℕ) → k * j + k ≤ length xs → ((c d : ℕ) → c < length xs → get_or xs c d ≡ f c)
     → block k xs j ≡ block_of k f j
 unfolding block_of
@@ -22,7 +22,7 @@ block-block_of f k j xs h is =
     get_or-take k (drop (k * j) xs) i d lt ∙ get_or-drop (k * j) xs i d ∙ is (k * j + i) d (omega arith)
     ∙ sym (get_or-map-range_with_len f (k * j) k i (k * j + i) d lt refl))
 
--- fewer blocks, or the same ones by another name
+-- Fewer blocks, or the same blocks with other numbers.
 pub count_different-within : (b b' : ℕ → List ℕ) (first count first' count' : ℕ)
     → ((j : ℕ) → first ≤ j → j < first + count → (j' : ℕ) × (first' ≤ j') × (j' < first' + count') × (b j ≡ b' j'))
     → count_different b first count ≤ count_different b' first' count'
@@ -39,13 +39,13 @@ count_different-within b b' first count first' count' h = distinct_count-mono li
     ∙ sym (get_or-map-range_with_len b first count w.0 (first + w.0) q lt refl) ∙ w.2 in
     (i, omega (arith, lt', length-map-range_with_len b' first' count'), here))
 
--- no more blocks are different than there are
+-- There are at most as many distinct blocks as blocks.
 pub count_different-le_count : (b : ℕ → List ℕ) (first count : ℕ) → count_different b first count ≤ count
 unfolding count_different
 count_different-le_count b first count = omega
     (arith, distinct_count-le (pointwise nat_eq) (map b (range_with_len first count)), length-map-range_with_len b first count)
 
--- where the elements of us stand in the range of g
+-- The positions of the elements of us in the range of g.
 places : (us : List (List ℕ)) (g : ℕ → List ℕ) (a m : ℕ) → ((q : List ℕ) → Contains us q → Contains (map g (range_with_len a m)) q)
     → (is : List ℕ) × ((p : ℕ) (d : List ℕ) → p < length us → (get_or is p 0 < m) × (g (a + get_or is p 0) ≡ get_or us p d))
 places [] g a m h = ([], λ p d l. absurd (omega (arith, l)))
@@ -62,7 +62,7 @@ places (u ∷ us) g a m h =
     by i is lt here more zero d l = (lt, here)
     by i is lt here more (suc p) d l = more p d (omega (arith, l))
 
--- where equal blocks c make equal blocks b, no more blocks b are different than blocks c
+-- If equal blocks of c imply equal blocks of b, b has at most as many distinct blocks as c.
 pub count_different-by : (b c : ℕ → List ℕ) (a a' m m' : ℕ) → m ≤ m'
     → ((i j : ℕ) → i < m → j < m → c (a' + i) ≡ c (a' + j) → b (a + i) ≡ b (a + j))
     → count_different b a m ≤ count_different c a' m'

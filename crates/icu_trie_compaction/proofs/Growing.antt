@@ -1,15 +1,15 @@
--- Lists that grow at their end.
+-- Lists to which cells are appended.
 use Rattle.std.proofs.Common.{◌≡◌, ℕ, ◌+◌, ◌-◌, ◌<◌, List, [], ◌∷◌, ◌++◌, length, get_or, arith, ap, ◌∙◌, below_more, refl, Some, slice_get, inl, inr}
 use Rattle.std.proofs.lemmas.Bool.{cases_lt}
 use Rattle.std.proofs.lemmas.List.{length-append, get_or_append_left, get_or_at}
 use Rattle.std.proofs.lemmas.Option.{slice_get-get_or}
 use Rattle.icu_trie_compaction.specs.Inside.IndexParts.{IsGrown}
 
--- a list is itself with no more cells
+-- A list with no cells appended is itself.
 pub grown-none : (f : ℕ → ℕ) (old : List ℕ) → IsGrown 0 f old old
 grown-none f old = record { len = omega arith; kept = λ i l. refl; more = λ j l. absurd (omega (arith, l)) }
 
--- one more cell
+-- One more cell.
 pub grown-push : (n x : ℕ) (f : ℕ → ℕ) (old now new : List ℕ) → IsGrown n f old now → new ≡ now ++ x ∷ [] → x ≡ f n
     → IsGrown (n + 1) f old new
 grown-push n x f old now new g is value =
@@ -24,7 +24,7 @@ grown-push n x f old now new g is value =
           (ap (λ xs. get_or xs (length old + n) 0) is ∙ (get_or_at now x [] 0 (length old + n) g.len ∙ value));
     }
 
--- m more cells after n more
+-- m more cells after n more.
 pub grown-more : (n m : ℕ) (f g : ℕ → ℕ) (old now new : List ℕ) → IsGrown n f old now → IsGrown m g now new
     → ((j : ℕ) → j < m → g j ≡ f (n + j)) → IsGrown (n + m) f old new
 grown-more n m f g old now new a b same = record {
@@ -37,6 +37,6 @@ grown-more n m f g old now new a b same = record {
   ];
 }
 
--- a cell that there is
+-- A cell that exists.
 pub cell_there : (xs : List ℕ) (i x : ℕ) → i < length xs → get_or xs i 0 ≡ x → slice_get xs i ≡ Some x
 cell_there xs i x l e = slice_get-get_or xs i 0 l ∙ ap (λ y. Some y) e

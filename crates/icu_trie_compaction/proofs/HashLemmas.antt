@@ -1,4 +1,4 @@
--- Hashes roll: that of a window gives that of the next one.
+-- Rolling hashes: the hash of a window gives the hash of the next one.
 use Rattle.std.proofs.Common.{◌≡◌, ℕ, ◌+◌, ◌*◌, ◌%◌, ◌^◌, ◌<◌, List, [], ◌∷◌, ◌++◌, length, get_or, take, drop, arith, ◌∙◌, sym, ap, suc, drop-cons}
 use Rattle.std.specs.List.{fold}
 use Rattle.std.proofs.Math.Nat.{mod-add-mod, add-mod-mod, add-mul-mod_self_left}
@@ -8,14 +8,14 @@ use Rattle.std.proofs.lemmas.List.Sums.{fold-append}
 use Rattle.icu_trie_core.specs.Blocks.{window}
 use Rattle.icu_trie_compaction.specs.Hashes.{cells_hash, leaving_factor}
 
--- the sum of some cells, after a sum of others
+-- The sum of some cells, continued from the sum of others.
 abbrev sum_from : ℕ → List ℕ → ℕ
 sum_from a xs = fold (λ sum x. (sum + x) * 0x9e3779b1) a xs
 
 power-suc : (n : ℕ) → 0x9e3779b1 ^ suc n ≡ 0x9e3779b1 ^ n * 0x9e3779b1
 power-suc n = grind arith
 
--- one cell more
+-- One more cell.
 step : (a x : ℕ) → ((a % 4294967296 + x) % 4294967296 * 0x9e3779b1) % 4294967296 ≡ ((a + x) * 0x9e3779b1) % 4294967296
 step a x = ap (λ n. (n * 0x9e3779b1) % 4294967296) (mod-add-mod a 4294967296 x) ∙ mul-mod_first (a + x) 0x9e3779b1 4294967296
 
@@ -25,7 +25,7 @@ spread a x b q p e = rw e (omega arith)
 shift : (x b q p : ℕ) → q * b ≡ p → (0 + x) * b * q ≡ x * p
 shift x b q p e = rw (← e) (omega arith)
 
--- what the first sum brings
+-- The contribution of the first sum.
 sum-parts : (a : ℕ) (xs : List ℕ) → sum_from a xs ≡ a * 0x9e3779b1 ^ length xs + sum_from 0 xs
 sum-parts a [] = omega arith
 sum-parts a (x ∷ xs) =
@@ -35,11 +35,11 @@ sum-parts a (x ∷ xs) =
     let three = spread a x 0x9e3779b1 (0x9e3779b1 ^ length xs) (0x9e3779b1 ^ suc (length xs)) (power-suc (length xs)) in
     omega (arith, one, two, three)
 
--- what the first cell brings
+-- The contribution of the first cell.
 sum-first : (x : ℕ) (xs : List ℕ) (p : ℕ) → 0x9e3779b1 ^ length xs * 0x9e3779b1 ≡ p → sum_from 0 (x ∷ xs) ≡ x * p + sum_from 0 xs
 sum-first x xs p e = sum-parts ((0 + x) * 0x9e3779b1) xs ∙ ap (λ n. n + sum_from 0 xs) (shift x 0x9e3779b1 (0x9e3779b1 ^ length xs) p e)
 
--- a cell leaves, and another one comes
+-- One cell leaves, and another one enters.
 roll : (x y v p : ℕ)
     → ((((x * p + v) % 4294967296 + (x * (0xffffffff * p % 4294967296)) % 4294967296) % 4294967296 + y) % 4294967296 * 0x9e3779b1) %
     4294967296 ≡ ((v + y) * 0x9e3779b1) % 4294967296
@@ -52,7 +52,7 @@ roll x y v p =
     ∙ (ap (λ n. n % 4294967296) (omega arith) ∙ add-mul-mod_self_left v 4294967296 (x * p)))) in
     ap (λ n. ((n + y) % 4294967296 * 0x9e3779b1) % 4294967296) out ∙ step v y
 
--- the window after another one
+-- The window after another one.
 pub hash-roll : (n at : ℕ) (cells : List ℕ) → at + suc n < length cells
     →
     (((cells_hash (window (suc n) at cells) + (get_or cells at 0 * leaving_factor (suc n)) % 4294967296) % 4294967296 + get_or cells

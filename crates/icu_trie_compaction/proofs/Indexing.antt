@@ -1,4 +1,4 @@
--- Placing the blocks of 512 one after another.
+-- Placing the blocks of 512, one after another.
 use Rattle.std.proofs.Common.{◌≡◌, ◌≢◌, inl, inr, ℕ, ◌+◌, ◌-◌, ◌*◌, ◌<◌, ◌≤◌, false, true, nat_lt, List, [], ◌∷◌, ◌++◌, length, get_or, take, drop, refl, arith, ◌∙◌, sym, ap, subst, below_more, Some}
 use Rattle.std.specs.List.{AllPass}
 use Rattle.std.proofs.lemmas.Bool.{cases_lt, lt-ltb}
@@ -17,12 +17,12 @@ use Rattle.icu_trie_compaction.proofs.Shared.{short_block}
 use Rattle.icu_trie_compaction.proofs.TableLemmas.{append-kept, least-same, least-kept, table-append}
 use Rattle.icu_trie_compaction.proofs.Windows.{length-window, window-read}
 
--- a table stays where the cells grow
+-- A table stays valid when cells are appended.
 pub table-kept : (cells more : List ℕ) (t : Rattle.icu_trie_compaction.specs.declared.window_table.WindowTable.WindowTable)
     → take (length cells) more ≡ cells → IsTable cells t → IsTable more t
 table-kept cells more t h l = subst (λ ys. IsTable ys t) (append-kept cells more h) (table-append cells (drop (length cells) more) t l)
 
--- a test that stands for a bound
+-- A test that expresses a bound.
 pub below-all : (n : ℕ) (xs : List ℕ) → AllBelow n xs → AllPass (λ x. nat_lt x n) xs
 below-all n xs below i d l = lt-ltb (get_or xs i d) n (omega (arith, get_or_default xs i d 0 l, below i l))
 
@@ -31,7 +31,7 @@ all-below n xs pass i l =
     let e : nat_lt (get_or xs i 0) n ≡ true = pass i 0 l in
     grind (arith, nat_tests, e)
 
--- a cell still names its block where the cells have grown
+-- A cell still names its block after cells are appended.
 pub cell-kept : (start : ℕ) (fast stored stored' x : List ℕ) (cell : ℕ) → take (length stored) stored' ≡ stored
     → IsIndex3Cell start fast stored x cell → IsIndex3Cell start fast stored' x cell
 unfolding IsIndex3Cell
@@ -55,7 +55,7 @@ cell-kept start fast stored stored' x cell h (inr (inr a)) =
           least-kept 36 (cell - (0x8000 + start)) stored stored' (packed_cells x) h a.place;
     }))
 
--- a block has one cell
+-- A block has one cell.
 pub cell-same : (start : ℕ) (fast stored x : List ℕ) (c d : ℕ) → IsIndex3Cell start fast stored x c → IsIndex3Cell start fast stored x d
     → c ≡ d
 unfolding IsIndex3Cell
@@ -71,7 +71,7 @@ cell-same start fast stored x c d (inr (inr a)) (inr (inl b)) = absurd (a.wide b
 cell-same start fast stored x c d (inr (inr a)) (inr (inr b)) =
     omega (arith, a.from, b.from, least-same 36 (c - (0x8000 + start)) (d - (0x8000 + start)) stored (packed_cells x) a.place b.place)
 
--- the cell of a block in the 18-bit form
+-- The cell of a block in the 18-bit form.
 pub wide-cell : (start : ℕ) (fast stored x : List ℕ) (at : ℕ) → (AllBelow 0x10000 x → ⊥) → IsLeast 36 at stored (packed_cells x)
     → IsIndex3Cell start fast stored x (0x8000 + start + at)
 unfolding IsIndex3Cell
@@ -79,7 +79,7 @@ wide-cell start fast stored x at wide l =
     let is : at ≡ 0x8000 + start + at - (0x8000 + start) = omega arith in
     inr (inr (record { wide = wide; from = omega arith; place = subst (λ n. IsLeast 36 n stored (packed_cells x)) is l }))
 
--- the cell of a block of 16-bit offsets
+-- The cell of a block of 16-bit offsets.
 pub narrow-cell : (start : ℕ) (fast stored x : List ℕ) (at : ℕ) → AllBelow 0x10000 x → ((q : ℕ) → window 32 q fast ≢ x)
     → start + at < 0x7fff → IsLeast 32 at stored x
     → IsIndex3Cell start fast stored x (start + at)
@@ -88,13 +88,13 @@ narrow-cell start fast stored x at below nowhere low l =
     let is : at ≡ start + at - start = omega arith in
     inr (inl (record { below = below; nowhere = nowhere; from = omega arith; low = low; place = subst (λ n. IsLeast 32 n stored x) is l }))
 
--- the cell of one that stands in the fast index
+-- The cell of a block that occurs in the fast index.
 pub fast-cell : (start : ℕ) (fast stored x : List ℕ) (at : ℕ) → AllBelow 0x10000 x → IsLeast 32 at fast x
     → IsIndex3Cell start fast stored x at
 unfolding IsIndex3Cell
 fast-cell start fast stored x at below l = inl (record { below = below; place = l })
 
--- a block whose 18-bit form stands nowhere
+-- A block whose 18-bit form does not occur.
 pub wide-unplaced : (start : ℕ) (fast stored x : List ℕ) → (AllBelow 0x10000 x → ⊥) → ((q : ℕ) → window 36 q stored ≢ packed_cells x)
     → IsUnplaced start fast stored x
 unfolding IsUnplaced IsIndex3Cell
@@ -102,7 +102,7 @@ wide-unplaced start fast stored x wide none c (inl a) = wide a.below
 wide-unplaced start fast stored x wide none c (inr (inl a)) = wide a.below
 wide-unplaced start fast stored x wide none c (inr (inr a)) = none (c - (0x8000 + start)) a.place.here
 
--- a block of 16-bit offsets that stand nowhere
+-- A block of 16-bit offsets that does not occur.
 pub narrow-unplaced : (start : ℕ) (fast stored x : List ℕ) → AllBelow 0x10000 x → ((q : ℕ) → window 32 q fast ≢ x)
     → ((q : ℕ) → window 32 q stored ≢ x) → IsUnplaced start fast stored x
 unfolding IsUnplaced IsIndex3Cell
@@ -110,7 +110,7 @@ narrow-unplaced start fast stored x below nowhere none c (inl a) = nowhere c a.p
 narrow-unplaced start fast stored x below nowhere none c (inr (inl a)) = none (c - start) a.place.here
 narrow-unplaced start fast stored x below nowhere none c (inr (inr a)) = a.wide below
 
--- one whose first place is too high for a cell
+-- A block whose first position is too high for a cell.
 pub narrow-high : (start : ℕ) (fast stored stored' x : List ℕ) (at : ℕ) → AllBelow 0x10000 x → ((q : ℕ) → window 32 q fast ≢ x)
     → take (length stored) stored' ≡ stored
     → IsLeast 32 at stored' x → 0x7fff ≤ start + at → IsUnplaced start fast stored x
@@ -121,18 +121,18 @@ narrow-high start fast stored stored' x at below nowhere kept l high c (inr (inl
     omega (arith, same, a.low, a.from, high)
 narrow-high start fast stored stored' x at below nowhere kept l high c (inr (inr a)) = a.wide below
 
--- what a table does not find stands nowhere
+-- If a table does not find a window, the window does not occur.
 pub nowhere-all : (k n : ℕ) (cells x : List ℕ) → length x ≡ k → 0 < k → n ≡ length cells + 1 - k → ((q : ℕ) → q < n → window k q cells ≢ x)
     → (q : ℕ) → window k q cells ≢ x
 nowhere-all k n cells x len pos is none q e =
     let fits : q + k ≤ length cells = omega (arith, ap length e, length-take k (drop q cells), length-drop q cells, len, pos) in
     none q (omega (arith, fits, is, pos)) e
 
--- how many of the first j blocks are different
+-- The number of distinct blocks among the first j.
 abbrev apart : List ℕ → ℕ → ℕ
 apart offsets j = count_different_but (λ x. false) (block 32 offsets) 0 j
 
--- the first j blocks of 512 are placed
+-- The first j blocks of 512 are placed.
 pub record Indexing (start : ℕ) (fast offsets : List ℕ) (j : ℕ) (stored cells : List ℕ) : Type 0 where
   pub count : length cells ≡ j
   pub cell : (i : ℕ) → i < j → IsIndex3Cell start fast stored (block 32 offsets i) (get_or cells i 0)
@@ -143,7 +143,7 @@ pub record Indexing (start : ℕ) (fast offsets : List ℕ) (j : ℕ) (stored ce
 
 module _ (start : ℕ) (fast offsets : List ℕ) (j : ℕ) (stored cells : List ℕ) (l : Indexing start fast offsets j stored cells)
     (fits : 32 * j + 32 ≤ length offsets) where
-  -- a block that no cell names counts
+  -- A block that no cell names counts as a new one.
   indexing-fresh : IsUnplaced start fast stored (block 32 offsets j) → apart offsets j < apart offsets (j + 1)
   unfolding IsUnplaced
   indexing-fresh none = count_different_but-more (λ x. false)
@@ -152,13 +152,13 @@ module _ (start : ℕ) (fast offsets : List ℕ) (j : ℕ) (stored cells : List 
       by : (i : ℕ) → i < j → block 32 offsets i ≡ block 32 offsets j → ⊥
       by i lt same = none (get_or cells i 0) (subst (λ x. IsIndex3Cell start fast stored x (get_or cells i 0)) same (l.cell i lt))
 
-  -- 16-bit offsets have 16-bit blocks
+  -- If all offsets have 16 bits, so do those of each block.
   block-below : AllBelow 0x10000 offsets → AllBelow 0x10000 (block 32 offsets j)
   block-below below i lt =
       let len : length (block 32 offsets j) ≡ 32 = length-window 32 (32 * j) offsets fits in
       omega (arith, window-read 32 (32 * j) i offsets 0 (omega (arith, lt, len)), below (32 * j + i) (omega (arith, lt, len, fits)))
 
-  -- one more block
+  -- One more block.
   pub indexing-step : (cell : ℕ) (stored' cells' : List ℕ) → IsIndex3Cell start fast stored' (block 32 offsets j) cell → cell < 0x10000
       → AllBelow 0x10000 stored' → take (length stored) stored' ≡ stored
       → (length stored < length stored' → IsUnplaced start fast stored (block 32 offsets j))
@@ -189,7 +189,7 @@ module _ (start : ℕ) (fast offsets : List ℕ) (j : ℕ) (stored cells : List 
         ];
       }
 
-  -- where a block is refused
+  -- A block is rejected.
   pub indexing-full : (m : ℕ) → j < m → IsUnplaced start fast stored (block 32 offsets j) → 0x7fff ≤ start + length stored
       → 0x7fff + 36 ≤ start + 36 * count_different (block 32 offsets) 0 m
   indexing-full m lt none over =
@@ -197,12 +197,12 @@ module _ (start : ℕ) (fast offsets : List ℕ) (j : ℕ) (stored cells : List 
       let all = count_different_but-le (λ x. false) (block 32 offsets) 0 m in
       omega (arith, indexing-fresh none, up, all, over, l.short)
 
--- all blocks
+-- All blocks.
 pub indexing-done : (start : ℕ) (fast offsets : List ℕ) (j : ℕ) (stored cells : List ℕ) → Indexing start fast offsets j stored cells
     → IsIndexed start fast offsets stored cells
 indexing-done start fast offsets j stored cells l = record { cell = λ i lt. l.cell i (omega (arith, lt, l.count)); below = l.below }
 
--- a block of cells that are below a bound
+-- A block of cells that are below a bound.
 pub block-fit : (n k j : ℕ) (xs : List ℕ) → AllBelow n xs → k * j + k ≤ length xs → AllBelow n (block k xs j)
 block-fit n k j xs below fits i lt =
     let len : length (block k xs j) ≡ k = length-window k (k * j) xs fits in
@@ -212,7 +212,7 @@ module _ (start : ℕ) (fast offsets stored index : List ℕ)
     (fit : AllBelow 0x40000 offsets) (low : start < 0x7fff) (few : length fast ≤ start) (room : start + length stored ≤ length index)
     (at_fast : (x : ℕ) → x < length fast → get_or index x 0 ≡ get_or fast x 0)
     (at_stored : (x : ℕ) → x < length stored → get_or index (start + x) 0 ≡ get_or stored x 0) where
-  -- the cell of a block gives its offsets
+  -- The cell of a block gives its offsets.
   pub cell-gives : (i p c : ℕ) → 32 * i + 32 ≤ length offsets → p < 32 → IsIndex3Cell start fast stored (block 32 offsets i) c
       → offset_in_block index c p ≡ Some (get_or offsets (32 * i + p) 0)
   unfolding IsIndex3Cell
@@ -238,7 +238,7 @@ module _ (start : ℕ) (fast offsets stored index : List ℕ)
       ∙ packed-read x q 0 (omega (arith, lt, len))))))
       ∙ ap (λ n. Some n) (window-read 32 (32 * i) p offsets 0 l))
 
--- no cell says that there is no null block
+-- No cell is the one that stands for "no null block".
 pub cell-never : (start : ℕ) (fast stored x : List ℕ) (c : ℕ) → start < 0x7fff → length fast ≤ start → IsIndex3Cell start fast stored x c
     → c ≢ 0x7fff
 unfolding IsIndex3Cell
@@ -246,7 +246,7 @@ cell-never start fast stored x c low few (inl a) e = omega (arith, a.place.insid
 cell-never start fast stored x c low few (inr (inl a)) e = omega (arith, a.low, e)
 cell-never start fast stored x c low few (inr (inr a)) e = omega (arith, a.from, e)
 
--- the bounds at the end
+-- The bounds at the end.
 pub indexing-short : (start : ℕ) (fast offsets : List ℕ) (j : ℕ) (stored cells : List ℕ) → Indexing start fast offsets j stored cells
     → length stored ≤ 36 * count_different (block 32 offsets) 0 j
 indexing-short start fast offsets j stored cells l = omega (arith, l.short, count_different_but-le (λ x. false) (block 32 offsets) 0 j)

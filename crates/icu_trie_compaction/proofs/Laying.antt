@@ -1,4 +1,4 @@
--- The parts of the index one after another.
+-- The parts of the index, one after another.
 use Rattle.std.proofs.Common.{◌≡◌, ℕ, ◌+◌, ◌*◌, ◌/◌, ◌%◌, ◌≤◌, List, length, get_or, arith, ap, ◌∙◌}
 use Rattle.icu_trie_core.specs.declared.header.TrieType.{TrieType}
 use Rattle.icu_trie_core.specs.declared.header.TrieType.TheVariants.{Fast, Small}
@@ -16,7 +16,7 @@ parts Small = (omega arith, omega arith, omega arith, omega arith)
 module _ (trie_type : TrieType) (high : ℕ) (fast small empty old : List ℕ) (none : length empty ≡ 0)
     (len : length fast ≡ fast_limit trie_type / 64)
     (g : IsGrown (length fast) (λ i. get_or fast i 0) empty old) where
-  -- the whole index, where the cells after the fast index are laid out too
+  -- The whole index, if the cells after the fast index are laid out too.
   pub index-upper : (index : List ℕ) → IsUpper trie_type high small old index → IsIndex trie_type high fast small index
   index-upper index u =
       let p = parts trie_type in

@@ -10,7 +10,7 @@ use Rattle.icu_trie_compaction.specs.Inside.IndexParts.{IsNullCell}
 use Rattle.icu_trie_compaction.proofs.Laying.{parts}
 use Rattle.icu_trie_compaction.proofs.Windows.{length-window, window-read}
 
--- the index-2 cell of a block of 512 gives each of its 32 offsets
+-- The index-2 cell of a block of 512 gives each of its 32 offsets.
 pub offset_of : (t : TrieType) (index : List ℕ) (b q cell : ℕ) → q < 32 → index2_cell t index (b * 512) ≡ Some cell
     → small_offset t index (b * 512 + 16 * q) ≡ offset_in_block index cell q
 unfolding small_offset
@@ -20,7 +20,7 @@ offset_of t index b q cell l two =
     let e3 : (b * 512 + 16 * q) / 16 % 32 ≡ q = omega (arith, l) in
     rw (e1, e2, two, e3) refl
 
--- two blocks of 32 offsets that are all null are equal
+-- Two blocks whose 32 offsets all are null are equal.
 pub null-blocks : (null : ℕ) (small : List ℕ) (i j : ℕ) → 32 * i + 32 ≤ length small → 32 * j + 32 ≤ length small → IsNullBlock null small i
     → IsNullBlock null small j → block 32 small i ≡ block 32 small j
 null-blocks null small i j fits fits' a b =
@@ -34,7 +34,7 @@ null-blocks null small i j fits fits' a b =
 
 module _ (t : TrieType) (high null : ℕ) (small index : List ℕ) (aligned : high % 512 ≡ 0) (len : length small ≡ (high - fast_limit t) / 16)
     (g : GivesSmall t high small index) where
-  -- offset number q of a block of 512 with this cell
+  -- Offset number q of a block of 512 with this cell.
   offset_is : (b q cell : ℕ) → q < 32 → fast_limit t ≤ b * 512 → b * 512 < high → index2_cell t index (b * 512) ≡ Some cell
       → offset_in_block index cell q ≡ Some (get_or small (32 * (b - fast_limit t / 512) + q) 0)
   offset_is b q cell l from below two =
@@ -42,7 +42,7 @@ module _ (t : TrieType) (high null : ℕ) (small index : List ℕ) (aligned : hi
       sym (offset_of t index b q cell l two) ∙ (g.on_small (b * 512 + 16 * q) (omega (arith, from)) (omega (arith, below, aligned, l))
       ∙ ap (λ n. Some (get_or small n 0)) (omega (arith, p.1, from, l)))
 
-  -- the cell of one of them
+  -- The cell of such a block.
   pub null_index : (w cell : ℕ) → w < length small / 32 → IsNullBlock null small w
       → index2_cell t index ((w + fast_limit t / 512) * 512) ≡ Some cell → IsNullIndex t high null small index cell
   null_index w cell lt all two =
@@ -63,7 +63,7 @@ module _ (t : TrieType) (high null : ℕ) (small index : List ℕ) (aligned : hi
             one ∙ (ap (λ n. get_or small (32 * n + q) 0) wd ∙ all q l);
       }
 
-  -- where there is none
+  -- There is no such block.
   pub no_null_index : ((i : ℕ) → i < length small / 32 → IsNullBlock null small i → ⊥) → IsNullIndex t high null small index 0x7fff
   no_null_index none =
       let p = parts t in
@@ -72,7 +72,7 @@ module _ (t : TrieType) (high null : ℕ) (small index : List ℕ) (aligned : hi
         only = λ b from below is. absurd (g.not_null (b * 512) from below is);
       }
 
-  -- where f gives each block of 512 its index-2 cell
+  -- f gives each block of 512 its index-2 cell.
   pub null_index-by : (f : ℕ → ℕ) (cell : ℕ)
       → ((b : ℕ) → fast_limit t ≤ b * 512 → b * 512 < high → index2_cell t index (b * 512) ≡ Some (f (b - fast_limit t / 512)))
       → IsNullCell null small f cell → IsNullIndex t high null small index cell

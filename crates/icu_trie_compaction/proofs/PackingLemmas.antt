@@ -9,7 +9,7 @@ use Rattle.icu_trie_compaction.specs.Layout.{AllBelow}
 use Rattle.icu_trie_compaction.specs.Inside.IndexParts.{IsGrown, high_bits, packed_cell, packed_cells}
 use Rattle.icu_trie_compaction.proofs.Growing.{cell_there}
 
--- the two high bits and the 16 low ones are the offset
+-- The two high bits and the 16 low ones are the offset.
 long_back : (xs : List ℕ) (at q : ℕ) → at + 8 ≤ length xs → AllBelow 0x40000 xs → q < 8
     → long_offset (high_bits xs at) (get_or xs (at + q) 0 % 65536) q ≡ get_or xs (at + q) 0
 unfolding high_bits
@@ -71,7 +71,7 @@ long_back xs at q room fit l = by q l
     by (suc (suc (suc (suc (suc (suc (suc zero))))))) l = omega (arith, f 7 (omega arith))
     by (suc (suc (suc (suc (suc (suc (suc (suc n)))))))) l = absurd (omega (arith, l))
 
--- a cell of high bits
+-- A cell of high bits.
 pub cell_high : (xs : List ℕ) (g i : ℕ) → i ≡ 9 * g → packed_cell xs i ≡ high_bits xs (8 * g)
 unfolding packed_cell
 cell_high xs g i e =
@@ -82,7 +82,7 @@ cell_high xs g i e =
 not_zero : (n q : ℕ) → n ≡ suc q → nat_eq n 0 ≡ false
 not_zero n q e = grind (arith, nat_tests, e)
 
--- a cell of low bits
+-- A cell of low bits.
 pub cell_low : (xs : List ℕ) (g q i : ℕ) → q < 8 → i ≡ 9 * g + 1 + q → packed_cell xs i ≡ get_or xs (8 * g + q) 0 % 65536
 unfolding packed_cell
 cell_low xs g q i l e =
@@ -90,7 +90,7 @@ cell_low xs g q i l e =
     let a : 8 * (i / 9) + i % 9 - 1 ≡ 8 * g + q = omega (arith, e, l) in
     rw (not_zero (i % 9) q z, a) refl
 
--- the high bits of eight offsets fit a cell
+-- The high bits of eight offsets fit a cell.
 high-below : (xs : List ℕ) (at : ℕ) → at + 8 ≤ length xs → AllBelow 0x40000 xs → high_bits xs at < 65536
 unfolding high_bits
 high-below xs at room fit = omega (
@@ -105,7 +105,7 @@ high-below xs at room fit = omega (
   fit (at + 7) (omega (arith, room)),
 )
 
--- the 18-bit form cell by cell
+-- The 18-bit form, cell by cell.
 pub packed-len : (xs : List ℕ) → length (packed_cells xs) ≡ 9 * (length xs / 8)
 unfolding packed_cells
 packed-len xs = length-map-range_with_len (packed_cell xs) 0 (9 * (length xs / 8))
@@ -114,7 +114,7 @@ pub packed-read : (xs : List ℕ) (i d : ℕ) → i < 9 * (length xs / 8) → ge
 unfolding packed_cells
 packed-read xs i d l = get_or-map-range_with_len (packed_cell xs) 0 (9 * (length xs / 8)) i i d l (omega arith)
 
--- cells that are those of the 18-bit form
+-- Cells that equal those of the 18-bit form.
 pub packed-all : (xs ys : List ℕ) → IsGrown (9 * (length xs / 8)) (packed_cell xs) [] ys → ys ≡ packed_cells xs
 packed-all xs ys g =
     let len : length ys ≡ 9 * (length xs / 8) = omega (arith, g.len) in
@@ -122,7 +122,7 @@ packed-all xs ys g =
     (λ i d l. get_or_default ys i d 0 l ∙ (ap (λ n. get_or ys n 0) (omega arith)
     ∙ (g.more i (omega (arith, l, len)) ∙ sym (packed-read xs i d (omega (arith, l, len))))))
 
--- the cells of the 18-bit form have 16 bits
+-- The cells of the 18-bit form have 16 bits.
 pub packed-below : (small : List ℕ) → AllBelow 0x40000 small → AllBelow 0x10000 (packed_cells small)
 packed-below small fit i l = by (i % 9) refl
   where
@@ -136,7 +136,7 @@ packed-below small fit i l = by (i % 9) refl
     by zero e = omega (arith, cell, cell_high small (i / 9) i (omega (arith, e)), high-below small (8 * (i / 9)) (omega (arith, lt)) fit)
     by (suc r) e = omega (arith, cell, cell_low small (i / 9) r i (omega (arith, e)) (omega (arith, e)))
 
--- an index-3 block whose 36 cells are those of 32 offsets gives them
+-- An index-3 block with the 36 cells of 32 offsets gives these offsets.
 pub offset_packed : (index small : List ℕ) (at p : ℕ) → p < 32 → length small ≡ 32 → at + 36 ≤ length index → AllBelow 0x40000 small
     → ((x : ℕ) → x < 36 → get_or index (at + x) 0 ≡ packed_cell small x)
     → offset_in_block index (0x8000 + at) p ≡ Some (get_or small p 0)

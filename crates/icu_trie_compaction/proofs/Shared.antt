@@ -1,4 +1,4 @@
--- What any layout of index-1, index-2 and index-3 has to give.
+-- What any layout of index-1, index-2 and index-3 has to provide.
 use Rattle.std.proofs.Common.{◌≡◌, ◌≢◌, ℕ, ◌+◌, ◌-◌, ◌*◌, ◌/◌, ◌%◌, ◌<◌, ◌≤◌, List, [], length, get_or, arith, sym, ap, ◌∙◌, refl, Some, slice_get, unwrap_or}
 use Rattle.std.proofs.lemmas.Bool.{lt-ltb}
 use Rattle.std.proofs.lemmas.List.{same_lists, get_or_default}
@@ -11,7 +11,7 @@ use Rattle.icu_trie_compaction.specs.Inside.IndexParts.{IsGrown}
 use Rattle.icu_trie_compaction.proofs.Growing.{cell_there}
 use Rattle.icu_trie_compaction.proofs.Laying.{parts}
 
--- an index-3 block of 32 cells that are the offsets themselves
+-- An index-3 block of 32 cells that are the offsets themselves.
 pub short_block : (index small : List ℕ) (at i p : ℕ) → p < 32 → at < 0x8000 → at + 32 ≤ length index
     → ((q : ℕ) → q < 32 → get_or index (at + q) 0 ≡ get_or small (32 * i + q) 0)
     → offset_in_block index at p ≡ Some (get_or small (32 * i + p) 0)
@@ -19,13 +19,14 @@ short_block index small at i p l low inside cells =
     rw (lt-ltb at 0x8000 low) (cell_there index (at + p) (get_or small (32 * i + p) 0) (omega (arith, inside, l)) (cells p l))
 
 module _ (t : TrieType) (high : ℕ) (small index : List ℕ) (cell : ℕ → ℕ) (aligned : high % 512 ≡ 0)
-    -- the index-1 cell of each 32 blocks of 512 says where their index-2 cells stand, of which those outside are free
+    -- The index-1 cell of each 32 blocks of 512 is the position of their index-2 cells. Index-2
+    -- cells outside the range are arbitrary.
     (one : (j : ℕ) → j < div_ceil high 0x4000 - fast_limit t / 0x4000 → fast_limit t / 64 + j < length index)
     (two : (j q : ℕ) → q < 32 → fast_limit t / 512 ≤ 32 * (fast_limit t / 0x4000 + j) + q
     → 32 * (fast_limit t / 0x4000 + j) + q < high / 512
     → (get_or index (fast_limit t / 64 + j) 0 + q < length index)
     × (get_or index (get_or index (fast_limit t / 64 + j) 0 + q) 0 ≡ cell (32 * (fast_limit t / 0x4000 + j) + q - fast_limit t / 512)))
-    -- each index-2 cell names a block that gives the 32 offsets, in either form
+    -- Each index-2 cell names a block that gives the 32 offsets, in either form.
     (gives : (i p : ℕ) → i < (high - fast_limit t) / 512 → p < 32 → offset_in_block index (cell i) p ≡ Some (get_or small (32 * i + p) 0))
     (alike : (i j : ℕ) → i < (high - fast_limit t) / 512 → j < (high - fast_limit t) / 512 → block 32 small i ≡ block 32 small j
     → cell i ≡ cell j)
@@ -51,7 +52,7 @@ module _ (t : TrieType) (high : ℕ) (small index : List ℕ) (cell : ℕ → �
       rw (cell_at u from below) (gives (u / 512 - fast_limit t / 512) (u / 16 % 32) (omega (arith, from, below, aligned, p.1)) (omega arith)
       ∙ ap (λ n. Some (get_or small n 0)) (omega (arith, p.1, from)))
 
-  -- the index-2 cell of a block of 512
+  -- The index-2 cell of a block of 512.
   pub cell_by : (b : ℕ) → fast_limit t ≤ b * 512 → b * 512 < high → index2_cell t index (b * 512) ≡ Some (cell (b - fast_limit t / 512))
   cell_by b from below = cell_at (b * 512) from below ∙ ap (λ n. Some (cell n)) (omega arith)
 
@@ -69,7 +70,7 @@ module _ (t : TrieType) (high : ℕ) (small index : List ℕ) (cell : ℕ → �
         (ap (λ o. unwrap_or o 0) (sym (cell_at u from below) ∙ is));
   }
 
--- a list that grew from nothing to the whole of another
+-- An empty list to which all cells of another one were appended.
 pub grown-all : (xs ys : List ℕ) → IsGrown (length xs) (λ i. get_or xs i 0) [] ys → ys ≡ xs
 grown-all xs ys g = same_lists ys xs (omega (arith, g.len))
     (λ i d l. get_or_default ys i d 0 l ∙ (ap (λ n. get_or ys n 0) (omega arith)

@@ -1,4 +1,4 @@
--- Keeping a table of windows.
+-- Maintaining a table of windows.
 use Rattle.std.proofs.Common.{◌≡◌, ◌≢◌, ℕ, ◌+◌, ◌-◌, ◌*◌, ◌/◌, ◌^◌, ◌<◌, ◌≤◌, ◌⊎◌, List, [], ◌∷◌, ◌++◌, length, get_or, set, take, drop, refl, arith, ◌∙◌, sym, ap, subst, inl, inr, below_more}
 use Rattle.std.proofs.lemmas.Bool.{cases_eq}
 use Rattle.std.proofs.lemmas.List.{take-append-drop, take-append-le, drop-append-le, take_all, take-take, length-drop, length-append, get_or_append_left, get_or_at, length-set, get_or-set_same, get_or-set_other}
@@ -8,14 +8,14 @@ use Rattle.icu_trie_compaction.specs.Windows.{IsLeast, IsChained, IsTable, entry
 use Rattle.icu_trie_compaction.specs.declared.window_table.WindowTable.{WindowTable}
 use Rattle.icu_trie_compaction.proofs.Windows.{window-append}
 
--- there is one first place
+-- There is only one first position.
 pub least-same : (k a b : ℕ) (cells x : List ℕ) → IsLeast k a cells x → IsLeast k b cells x → a ≡ b
 least-same k a b cells x l m =
     let up : a < b → ⊥ = λ lt. m.least a lt l.here in
     let down : b < a → ⊥ = λ lt. l.least b lt m.here in
     omega (arith, up, down)
 
--- the first place stays when the cells grow
+-- Appending cells does not change the first position.
 pub least-append : (k at : ℕ) (cells ys x : List ℕ) → IsLeast k at cells x → IsLeast k at (cells ++ ys) x
 least-append k at cells ys x l = record {
   inside = omega (arith, length-append cells ys, l.inside);
@@ -23,7 +23,7 @@ least-append k at cells ys x l = record {
   least = λ q lt e. l.least q lt (sym (window-append k q cells ys (omega (arith, l.inside, lt))) ∙ e);
 }
 
--- cells that begin with others are these and more
+-- Cells with a prefix are the prefix and more cells.
 pub append-kept : (before after : List ℕ) → take (length before) after ≡ before → before ++ drop (length before) after ≡ after
 append-kept before after h = ap (λ ys. ys ++ drop (length before) after) (sym h) ∙ take-append-drop (length before) after
 
@@ -31,7 +31,8 @@ pub least-kept : (k at : ℕ) (cells more x : List ℕ) → take (length cells) 
 least-kept k at cells more x h l = subst (λ ys. IsLeast k at ys x) (append-kept cells more h)
     (least-append k at cells (drop (length cells) more) x l)
 
--- a list appended over the longest tail that equals its front, where it stands nowhere
+-- A list that does not occur and is appended, overlapping the longest tail that equals a prefix of
+-- it.
 pub least-overlap : (k c : ℕ) (cells wanted : List ℕ) → length wanted ≡ k → c < length wanted → c ≤ length cells
     → drop (length cells - c) cells ≡ take c wanted
     → ((m : ℕ) → c < m → m < length wanted → m ≤ length cells → drop (length cells - m) cells ≢ take m wanted)
@@ -64,7 +65,7 @@ least-overlap k c cells wanted len below within tail longest none =
     split a b = search arith
 
 module _ (h : List ℕ → ℕ) where
-  -- chains of no list
+  -- Chains without any list.
   chained-none : (b : ℕ → List ℕ) (heads : List ℕ) → ((i : ℕ) → get_or heads i 0 ≡ 0) → IsChained h b 0 heads []
   chained-none b heads z = record {
     links = refl;
@@ -76,7 +77,7 @@ module _ (h : List ℕ → ℕ) where
     next_own = λ p q lt. absurd (omega (arith, lt));
   }
 
-  -- the same lists by another name
+  -- The same lists from another function.
   chained-alike : (b b' : ℕ → List ℕ) (n : ℕ) (heads next : List ℕ) → IsChained h b n heads next → ((p : ℕ) → p < n → b' p ≡ b p)
       → IsChained h b' n heads next
   chained-alike b b' n heads next l e = record {
@@ -89,7 +90,7 @@ module _ (h : List ℕ → ℕ) where
     next_own = λ p q lt a. ap h (e q (omega (arith, l.next_bound p lt, a, lt))) ∙ l.next_own p q lt a ∙ sym (ap h (e p lt));
   }
 
-  -- list n comes to the head of its chain
+  -- List n becomes the head of its chain.
   chained-added : (b : ℕ → List ℕ) (n i : ℕ) (heads next : List ℕ) → IsChained h b n heads next → i ≡ h (b n) → i < length heads
       → IsChained h b (n + 1) (set heads i (n + 1)) (next ++ (get_or heads i 0) ∷ [])
   chained-added b n i heads next l is lt =
@@ -133,7 +134,7 @@ module _ (h : List ℕ → ℕ) where
       look j (inl e) = inl (e, ap (λ x. get_or (set heads i (n + 1)) x 0) e ∙ get_or-set_same heads i (n + 1) 0 (omega (arith, lt)))
       look j (inr ne) = inr (ne, get_or-set_other heads i j (n + 1) 0 ne)
 
--- a table of no window
+-- A table without any window.
 pub table-none : (cells : List ℕ) (t : WindowTable) → 0 < t.size → t.leaving ≡ leaving_factor t.size → 0 < length t.heads.items
     → length t.heads.items ≤ 2 ^ 24
     → ((i : ℕ) → get_or t.heads.items i 0 ≡ 0) → t.entered ≡ 0 → t.starts.items ≡ [] → t.next.items ≡ [] → IsTable cells t
@@ -152,7 +153,7 @@ table-none cells t pos factor some few zero none starts next =
       all = λ q lt. absurd (omega (arith, lt, none));
     }
 
--- a window that is in the table already
+-- A window that is already in the table.
 pub table-again : (cells : List ℕ) (t : WindowTable) (entered : ℕ) → IsTable cells t → entered ≡ t.entered + 1
     → t.entered + t.size ≤ length cells
     → (e : ℕ) × (e < entry_count t) × (entry t.size t.starts.items cells e ≡ window t.size t.entered cells)
@@ -171,7 +172,7 @@ table-again cells t entered l is fits w = record {
       l.all w q (omega (arith, lt, is));
 }
 
--- a window that no earlier one is equal to
+-- A window that differs from all earlier ones.
 pub table-added : (cells : List ℕ) (t t' : WindowTable) (i : ℕ) → IsTable cells t → t'.size ≡ t.size → t'.leaving ≡ t.leaving
     → t'.entered ≡ t.entered + 1
     → t'.starts.items ≡ t.starts.items ++ t.entered ∷ [] → t'.heads.items ≡ set t.heads.items i (entry_count t + 1)
@@ -218,7 +219,7 @@ table-added cells t t' i l size leaving entered starts heads next fits fresh is 
           (m, omega (arith, m'), end) q (omega (arith, a, entered)));
     }
 
--- the cells grew
+-- Cells were appended.
 pub table-append : (cells ys : List ℕ) (t : WindowTable) → IsTable cells t → IsTable (cells ++ ys) t
 table-append cells ys t l =
     let k : ℕ = t.size in
@@ -240,12 +241,12 @@ table-append cells ys t l =
           (w.0, w.1, same w.0 w.1 ∙ w.2 ∙ sym (window-append k q cells ys (omega (arith, a, l.within, l.some_cells))));
     }
 
--- the bucket of some cells by their hash
+-- The bucket of some cells, by their hash.
 pub bucket-is : (n i hash : ℕ) (xs : List ℕ) → i ≡ hash * n / 4294967296 → hash ≡ cells_hash xs → i ≡ bucket n xs
 unfolding bucket
 bucket-is n i hash xs e h = e ∙ ap (λ x. x * n / 4294967296) h
 
--- a part of a slice is a window
+-- A part of a slice is a window.
 pub part-window : (k at : ℕ) (xs : List ℕ) → take (at + k - at) (drop at xs) ≡ window k at xs
 part-window k at xs = let n : at + k - at ≡ k = omega arith in ap (λ m. take m (drop at xs)) n
 

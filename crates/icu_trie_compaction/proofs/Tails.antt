@@ -1,4 +1,4 @@
--- Index-2 blocks, the last one as short as it is.
+-- Index-2 blocks, of which the last may be shorter.
 use Rattle.std.proofs.Common.{◌≡◌, ℕ, ◌+◌, ◌-◌, ◌*◌, ◌/◌, ◌%◌, ◌<◌, ◌≤◌, true, nat_lt, inl, inr, List, [], ◌∷◌, ◌++◌, length, get_or, take, drop, arith, sym, ap, ◌∙◌}
 use Rattle.std.specs.List.{AllPass}
 use Rattle.std.proofs.lemmas.Bool.{cases_lt}
@@ -12,7 +12,8 @@ use Rattle.icu_trie_compaction.specs.Windows.{IsLeast}
 use Rattle.icu_trie_compaction.proofs.Indexing.{all-below, below-all}
 use Rattle.icu_trie_compaction.proofs.Windows.{window-read}
 
--- cells of placed blocks are below what the blocks' cells and the cells before them are below
+-- If the cells of the blocks and the cells before them are below a bound, so are the cells after
+-- placing the blocks.
 pub drawn-fit : (n k : ℕ) (xs before ys offsets : List ℕ) → IsPlaced k 0 (block k xs) before ys offsets → AllBelow n before → AllBelow n xs
     → AllBelow n ys
 drawn-fit n k xs before ys offsets placed old below =
@@ -21,17 +22,17 @@ drawn-fit n k xs before ys offsets placed old below =
     all-below n ys (placed.drawn (λ x. nat_lt x n) (λ j h. All-take P k (drop (k * (0 + j)) xs) (All-drop P (k * (0 + j)) xs all))
     (below-all n before old))
 
--- a cell of a tail of a slice
+-- A cell in a tail of a slice.
 pub tail-read : (xs : List ℕ) (at q : ℕ) → at + q < length xs → get_or (take (length xs - at) (drop at xs)) q 0 ≡ get_or xs (at + q) 0
 tail-read xs at q l = window-read (length xs - at) at q xs 0 (omega (arith, l))
 
--- and a bound of all its cells
+-- A bound for all cells in a tail of a slice.
 pub tail-below : (n at : ℕ) (xs : List ℕ) → AllBelow n xs → AllBelow n (take (length xs - at) (drop at xs))
 tail-below n at xs below =
     let P : ℕ → Type 0 = λ x. nat_lt x n ≡ true in
     all-below n (take (length xs - at) (drop at xs)) (All-take P (length xs - at) (drop at xs) (All-drop P at xs (below-all n xs below)))
 
--- the cell of a placed block
+-- The cell of a placed block.
 placed-read : (k j q : ℕ) (xs before ys offsets : List ℕ) → IsPlaced k 0 (block k xs) before ys offsets → j < length offsets → q < k
     → (get_or offsets j 0 + q < length ys) × (get_or ys (get_or offsets j 0 + q) 0 ≡ get_or xs (k * j + q) 0)
 placed-read k j q xs before ys offsets pl lj lq =
@@ -44,13 +45,13 @@ placed-read k j q xs before ys offsets pl lj lq =
           ∙ (window-read k (k * (0 + j)) q xs 0 lq ∙ ap (λ n. get_or xs (n + q) 0) zero_j)),
     )
 
--- whole blocks
+-- The whole blocks.
 pub index2-whole : (cells before stored places : List ℕ) → IsPlaced 32 0 (block 32 cells) before stored places
     → length places ≡ length cells / 32 → length cells % 32 ≡ 0 → Index2At cells stored places
 index2-whole cells before stored places pl count none j q lq inside =
     placed-read 32 j q cells before stored places pl (omega (arith, count, none, inside, lq)) lq
 
--- and the last, shorter one
+-- The last, shorter block.
 pub index2-rest : (r at : ℕ) (cells tail before stored stored' places places' : List ℕ) → r ≡ length cells % 32
     → ((q : ℕ) → q < r → get_or tail q 0 ≡ get_or cells (32 * (length cells / 32) + q) 0)
     → IsPlaced 32 0 (block 32 cells) before stored places → length places ≡ length cells / 32

@@ -1,26 +1,25 @@
--- Blocks of cells that stand in a table.
+-- Blocks of cells that are stored among other cells.
 use Rattle.std.specs.Prelude.{◌≡◌, ℕ, ◌+◌, ◌<◌, ◌≤◌, Bool, true, List, length, take, slice_index}
 use Rattle.std.specs.List.{AllPass}
 use Rattle.icu_trie_core.specs.Blocks.{window}
 
--- blocks of k cells, block number j of which b gives to the number first + j, stand in `after`,
--- each at its offset
+-- `after` contains the blocks b first, b (first + 1), .. of k cells, each at its offset.
 pub record IsCopied (k first : ℕ) (b : ℕ → List ℕ) (after offsets : List ℕ) : Type 0 where
   pub inside : (j : ℕ) → j < length offsets → slice_index offsets j + k ≤ length after
   pub copies : (j : ℕ) → j < length offsets → window k (slice_index offsets j) after ≡ b (first + j)
 
--- `after` is `before` with cells appended, and has such blocks
+-- `after` is `before` with cells appended, and contains these blocks.
 pub record IsPlaced (k first : ℕ) (b : ℕ → List ℕ) (before after offsets : List ℕ) : Type 0 where
   pub kept : take (length before) after ≡ before
   pub copied : IsCopied k first b after offsets
-  -- equal blocks have one offset
+  -- Equal blocks have the same offset.
   pub shared : (i j : ℕ) → i < length offsets → j < length offsets → b (first + i) ≡ b (first + j)
       → slice_index offsets i ≡ slice_index offsets j
-  -- each new cell is a cell of a block
+  -- Each new cell is a cell of a block.
   pub drawn : (p : ℕ → Bool) → ((j : ℕ) → j < length offsets → AllPass p (b (first + j)))
       → AllPass p before
       → AllPass p after
 
--- the test p holds only of blocks of k cells that stand in the cells
+-- The test p is true only for blocks of k cells that occur in the cells.
 abbrev pub AllStandIn : ℕ → List ℕ → (List ℕ → Bool) → Type 0
 AllStandIn k cells p = (x : List ℕ) → p x ≡ true → (q : ℕ) × (window k q cells ≡ x)

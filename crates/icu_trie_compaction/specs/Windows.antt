@@ -1,39 +1,41 @@
--- A table of the windows of some cells, each different one by the first place where it stands.
+-- A table of the windows of some cells. It stores each distinct window once, with the first
+-- position at which it occurs.
 use Rattle.std.specs.Prelude.{◌≡◌, ◌≢◌, ℕ, ◌+◌, ◌-◌, ◌^◌, ◌<◌, ◌≤◌, List, length, slice_index}
 use Rattle.icu_trie_core.specs.Blocks.{window}
 use Rattle.icu_trie_compaction.specs.Hashes.{bucket, leaving_factor}
 use Rattle.icu_trie_compaction.specs.declared.window_table.WindowTable.{WindowTable}
 
--- the first place where the k cells x stand
+-- `at` is the first position at which the k cells x occur.
 pub record IsLeast (k at : ℕ) (cells x : List ℕ) : Type 0 where
   pub inside : at + k ≤ length cells
   pub here : window k at cells ≡ x
   pub least : (q : ℕ) → q < at → window k q cells ≢ x
 
--- the lists that b gives to the numbers below n are in buckets, each bucket a chain from its newest
--- list down; h is the bucket of a list. A link is a list's number plus one, and 0 ends a chain
+-- The lists b 0, .., b (n - 1) are in buckets, where h gives the bucket of a list. Each bucket is a
+-- chain from its newest list to its oldest. A link is the number of a list plus one, and 0 ends a
+-- chain.
 pub record IsChained (h : List ℕ → ℕ) (b : ℕ → List ℕ) (n : ℕ) (heads next : List ℕ) : Type 0 where
   pub links : length next ≡ n
-  -- no head is above the newest list
+  -- No head is newer than the newest list.
   pub head_bound : (i : ℕ) → slice_index heads i ≤ n
-  -- the head of a list's bucket is that list or a newer one
+  -- The head of a list's bucket is that list or a newer one.
   pub head_all : (q : ℕ) → q < n → q < slice_index heads (h (b q))
-  -- and it is a list of that bucket
+  -- The head of a bucket is a list of that bucket.
   pub head_own : (i p : ℕ) → i < length heads → slice_index heads i ≡ p + 1 → h (b p) ≡ i
-  -- links go to older lists, of the same bucket, and leave none of that bucket out
+  -- Links lead to older lists of the same bucket and skip none of them.
   pub next_bound : (p : ℕ) → p < n → slice_index next p ≤ p
   pub next_all : (p q : ℕ) → q < p → p < n → h (b q) ≡ h (b p) → q < slice_index next p
   pub next_own : (p q : ℕ) → p < n → slice_index next p ≡ q + 1 → h (b q) ≡ h (b p)
 
--- window number e of k cells, where `starts` has the places of the windows
+-- Window number e of k cells. `starts` has the positions of the windows.
 abbrev pub entry : ℕ → List ℕ → List ℕ → ℕ → List ℕ
 entry k starts cells e = window k (slice_index starts e) cells
 
--- how many different windows a table has
+-- The number of distinct windows in a table.
 abbrev pub entry_count : WindowTable → ℕ
 entry_count t = length t.starts.items
 
--- the table has the windows of the cells that start before place t.entered, each different one once
+-- A valid table: it has the windows that start before position t.entered, each distinct one once.
 pub record IsTable (cells : List ℕ) (t : WindowTable) : Type 0 where
   pub some_cells : 0 < t.size
   pub factor : t.leaving ≡ leaving_factor t.size
@@ -43,14 +45,14 @@ pub record IsTable (cells : List ℕ) (t : WindowTable) : Type 0 where
   pub few : entry_count t ≤ t.entered
   pub chained : IsChained (bucket (length t.heads.items)) (entry t.size t.starts.items cells)
       (entry_count t) t.heads.items t.next.items
-  -- each by the first place where it stands
+  -- Each window has the first position at which it occurs.
   pub below : (e : ℕ) → e < entry_count t → slice_index t.starts.items e < t.entered
   pub least : (e : ℕ) → e < entry_count t → IsLeast t.size (slice_index t.starts.items e) cells
       (entry t.size t.starts.items cells e)
-  -- none is left out
+  -- No window is missing.
   pub all : (q : ℕ) → q < t.entered → (e : ℕ) × (e < entry_count t)
       × (entry t.size t.starts.items cells e ≡ window t.size q cells)
 
--- it has all windows of the cells
+-- The table has all windows of the cells.
 abbrev pub HasAll : List ℕ → WindowTable → Type 0
 HasAll cells t = t.entered ≡ length cells + 1 - t.size

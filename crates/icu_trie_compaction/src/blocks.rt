@@ -1,4 +1,4 @@
-//! Blocks of cells that are found among the cells so far, or appended to them.
+//! Finds blocks among the cells stored so far, or appends them.
 ghost use Rattle.std.specs.Prelude.{◌≡◌, ◌≢◌, ℕ, ◌+◌, ◌-◌, ◌*◌, ◌^◌, ◌<◌, ◌≤◌, Bool, true, length, max, take, drop, IfOk, OnOk};
 ghost use Rattle.std.specs.List.{AllPass};
 ghost use Rattle.icu_trie_core.specs.Blocks.{window, block};
@@ -10,7 +10,7 @@ use crate::hashing::hash_of;
 use crate::window_table::WindowTable;
 use std::alloc::Global;
 
-/// Block number `number` of `size` cells.
+/// Returns block number `number` of `size` cells.
 pub(crate) fn block_at(cells: &[u32], size: usize, number: usize) -> &[u32]
     requires room { length cells.now < 2 ^ 31 }
     requires inside { size * number + size ≤ length cells.now }
@@ -19,8 +19,8 @@ pub(crate) fn block_at(cells: &[u32], size: usize, number: usize) -> &[u32]
     &cells[size * number..size * number + size]
 }
 
-/// The length of the longest tail of `stored`, shorter than `wanted`, that equals the front of
-/// `wanted`.
+/// Returns the length of the longest tail of `stored`, shorter than `wanted`, that equals a prefix
+/// of `wanted`.
 fn overlap(stored: &[u32], wanted: &[u32]) -> usize
     requires { 0 < length wanted.now }
     ensures below { result < length wanted.now }
@@ -39,12 +39,15 @@ fn overlap(stored: &[u32], wanted: &[u32]) -> usize
     0
 }
 
-/// The first place where `wanted` stands in `stored`. Where it stands nowhere, it is appended over
-/// the longest tail that equals its front.
+/// Returns the first position at which `wanted` occurs in `stored`. If it does not occur, appends
+/// it first, overlapping the longest tail of `stored` that equals a prefix of `wanted`.
+///
+/// `table` must be a table of windows of `stored` of the length of `wanted`.
 ///
 /// # Errors
 ///
-/// `TooLarge` where it stands nowhere and would start above `limit`.
+/// - `TooLarge` if `wanted` does not occur and would start above `limit`.
+/// - `Memory` if an allocation fails.
 pub fn place_block(
     alloc: Global,
     stored: &mut Vec<u32>,

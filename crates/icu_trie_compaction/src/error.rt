@@ -7,13 +7,13 @@ use icu_zerovec::memory::ApplyRefused;
 use std::alloc::{AllocError, AllocFailed};
 use thiserror::Error;
 
-/// Why a trie could not be built.
+/// The reasons why a trie could not be built.
 #[derive(Clone, Copy, Debug, PartialEq, Eq, Error)]
 pub enum BuildError {
     /// The map has so many different blocks that an offset does not fit its cell.
     #[error("too large")]
     TooLarge,
-    /// Memory was refused.
+    /// An allocation failed.
     #[error("no memory")]
     Memory,
 }

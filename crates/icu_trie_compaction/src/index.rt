@@ -1,5 +1,5 @@
-//! The index: the offsets of the blocks of 64 below the fast limit, then index-1, the index-3
-//! blocks and index-2 for the code points from it on.
+//! The index of a trie. It starts with the offsets of the blocks of 64 below the fast limit. For
+//! the code points from there on, index-1, the index-3 blocks and index-2 follow.
 ghost use Rattle.std.specs.Prelude.{◌≡◌, ◌↔◌, ℕ, ◌+◌, ◌-◌, ◌*◌, ◌/◌, ◌%◌, ◌<◌, ◌≤◌, length, slice_index, IsTrue, IfOk, OnOk, IfSome, None};
 ghost use Rattle.icu_zerovec.specs.CodePoints.{code_point_limit};
 ghost use Rattle.icu_trie_core.specs.Blocks.{block, count_different};
@@ -17,20 +17,21 @@ use icu_trie_core::header::TrieType;
 use icu_trie_core::impl_const::{CP_PER_INDEX_2_ENTRY, FAST_TYPE_DATA_BLOCK_LENGTH, SHIFT_1};
 use std::alloc::{AllocError, Global};
 
-/// How many code points an index-1 cell stands for.
+/// The number of code points that one index-1 cell covers.
 const CP_PER_INDEX_1_ENTRY: usize = 1 << SHIFT_1;
 
-/// The index of a trie, and how a walk knows the blocks of 512 that are null throughout.
+/// The index of a trie, and the index-2 cell by which a walk recognises blocks of 512 that are null
+/// throughout.
 #[derive(Drop)]
 pub struct BuiltIndex {
-    /// The fast index, and after it the cells for the code points from the fast limit on.
+    /// The fast index, followed by the cells for the code points from the fast limit on.
     pub cells: Vec<u16>,
-    /// The index-2 cell, bit 15 included, of the blocks of 512 all of whose data offsets are the
-    /// null block's; 0x7fff where there is none.
+    /// The index-2 cell, bit 15 included, of the blocks of 512 whose data offsets all are that of
+    /// the null block, or 0x7fff if there is none.
     pub null_offset: u16,
 }
 
-/// Appends the fast index, the offsets of the blocks of 64, to `index`.
+/// Appends the fast index, which is the offsets of the blocks of 64, to `index`.
 fn push_fast(index: &mut Vec<u16>, fast: &[u32]) -> Result<(), AllocError>
     requires { AllBelow 0x10000 fast.now }
     ensures { OnOk result (IsGrown (length fast.now) (slice_index fast.now)
@@ -42,7 +43,8 @@ fn push_fast(index: &mut Vec<u16>, fast: &[u32]) -> Result<(), AllocError>
     Ok(())
 }
 
-/// Appends the index-1 cells to `index`, for index-2 blocks at these places from `start` on.
+/// Appends the index-1 cells to `index`. The index-2 blocks are at these positions, counted from
+/// `start`.
 fn push_index1(index: &mut Vec<u16>, start: usize, places: &[usize]) -> Result<(), AllocError>
     requires { (j : ℕ) → j < length places.now → start + slice_index places.now j < 0x10000 }
     ensures { OnOk result (IsGrown (length places.now) (λ j. start + slice_index places.now j)
@@ -66,7 +68,7 @@ fn push_stored(index: &mut Vec<u16>, cells: &[u32]) -> Result<(), AllocError>
     Ok(())
 }
 
-/// The cells, with 32 bits each.
+/// Returns the cells as 32-bit numbers.
 fn widened(alloc: Global, cells: &[u16]) -> Result<Vec<u32>, AllocError>
     ensures { IfOk result (λ v. v.items ≡ cells.now) }
 {
@@ -77,7 +79,7 @@ fn widened(alloc: Global, cells: &[u16]) -> Result<Vec<u32>, AllocError>
     Ok(wide)
 }
 
-/// Whether all offsets of block number `number` of 32 are `null`.
+/// Returns true if all 32 offsets of block number `number` are `null`.
 fn is_null(offsets: &[u32], null: usize, number: usize) -> bool
     requires inside { 32 * number + 32 ≤ length offsets.now }
     requires room { length offsets.now < code_point_limit }
@@ -91,7 +93,7 @@ fn is_null(offsets: &[u32], null: usize, number: usize) -> bool
     true
 }
 
-/// The first block of 32 offsets all of which are `null`.
+/// Returns the number of a block whose 32 offsets all are `null`, or `None` if there is none.
 fn null_block(offsets: &[u32], null: usize) -> Option<usize>
     requires room { length offsets.now < code_point_limit }
     ensures some { IfSome result (λ i. (i < length offsets.now / 32)
@@ -107,8 +109,8 @@ fn null_block(offsets: &[u32], null: usize) -> Option<usize>
     None
 }
 
-/// The index-2 cell, of these, of the first block of 32 offsets all of which are `null`, 0x7fff
-/// where there is none.
+/// Returns the index-2 cell, from `cells`, of a block whose 32 offsets all are `null`, or 0x7fff if
+/// there is none.
 fn null_cell(small: &[u32], null: usize, cells: &[u32]) -> u16
     requires room { length small.now < code_point_limit }
     requires count { length cells.now ≡ length small.now / 32 }
@@ -121,9 +123,10 @@ fn null_cell(small: &[u32], null: usize, cells: &[u32]) -> u16
     }
 }
 
-/// Appends index-1, the index-3 blocks and index-2 to the fast index, and gives the index-2 cell of
-/// the blocks of 512 all of whose offsets are `null`, 0x7fff where there is none. `small` has the
-/// offsets of the blocks of 16 from the fast limit on to before `high_start`.
+/// Appends index-1, the index-3 blocks and index-2 to the fast index. Returns the index-2 cell of
+/// the blocks of 512 whose offsets all are `null`, or 0x7fff if there is none.
+///
+/// `small` has the offsets of the blocks of 16 from the fast limit up to `high_start`.
 fn push_upper(
     alloc: Global,
     index: &mut Vec<u16>,
@@ -162,13 +165,16 @@ fn push_upper(
     Ok(null_cell(small, null, &numbers))
 }
 
-/// The index, where `fast` has the offsets of the blocks of 64 below the fast limit, and `small`
-/// those of the blocks of 16 from it on to before `high_start`. `null` is the offset of the null
-/// block of the data, 0xfffff where there is none.
+/// Makes the index of a trie.
+///
+/// `fast` has the offsets of the blocks of 64 below the fast limit, and `small` those of the blocks
+/// of 16 from there up to `high_start` (exclusive). `null` is the offset of the null block of the
+/// data, or 0xfffff if there is none.
 ///
 /// # Errors
 ///
-/// `TooLarge` at the first index-3 block that would stand at 0x7fff or above it.
+/// - `TooLarge` at the first index-3 block that would be at position 0x7fff or above.
+/// - `Memory` if an allocation fails.
 pub fn build_index(
     alloc: Global,
     trie_type: TrieType,
@@ -187,13 +193,13 @@ pub fn build_index(
         IsIndex trie_type high_start fast.now small.now v.cells.items) }
     ensures short { IfOk result (λ v. length v.cells.items ≤ index3_cells small.now + 3200) }
 
-    // Where all offsets have 16 bits, no block needs the 18-bit form.
+    // If all offsets have 16 bits, no block needs the 18-bit form.
     ensures tight { IfOk result (λ v. AllBelow 0x10000 small.now → length v.cells.items
         ≤ 32 * count_different (block 32 small.now) 0 (length small.now / 32) + 3200) }
     ensures null { IfOk result (λ v.
         IsNullIndex trie_type high_start null small.now v.cells.items v.null_offset) }
 
-    // After all others, a different index-3 block would stand at 0x7fff or above it.
+    // After all the others, one more distinct index-3 block would be at position 0x7fff or above.
     ensures too_large { result ≡ Err TooLarge
         → 0x7fff + 36 ≤ index3_start trie_type high_start + index3_cells small.now }
 {

@@ -1,4 +1,4 @@
-//! The 18-bit form of data offsets in an index-3 block: nine cells for each eight offsets.
+//! The 18-bit form of data offsets in an index-3 block: nine cells for eight offsets.
 ghost use Rattle.std.specs.Prelude.{◌≡◌, ℕ, ◌+◌, ◌*◌, ◌/◌, ◌<◌, ◌≤◌, length, slice_index, IfOk, OnOk};
 ghost use Rattle.icu_zerovec.specs.CodePoints.{code_point_limit};
 ghost use Rattle.icu_trie_compaction.specs.Layout.{AllBelow};
@@ -6,7 +6,7 @@ ghost use Rattle.icu_trie_compaction.specs.Inside.IndexParts.{IsGrown, high_bits
 
 use std::alloc::{AllocError, Global};
 
-/// The two high bits of an offset.
+/// Returns bits 16 and 17 of an offset.
 fn upper_bits(offsets: &[u32], i: usize) -> u32
     requires inside { i < length offsets.now }
     requires fit { AllBelow 0x40000 offsets.now }
@@ -16,7 +16,8 @@ fn upper_bits(offsets: &[u32], i: usize) -> u32
     offsets[i] / 0x10000
 }
 
-/// The cell with the high bits of the eight offsets from `at` on, the first one's at its top.
+/// Returns the cell with bits 16 and 17 of the eight offsets from `at` on. The first offset's bits
+/// are at the top.
 #[tactic(auto, unfolding(crate::specs::Inside::IndexParts::high_bits))]
 fn high_cell(offsets: &[u32], at: usize) -> u32
     requires inside { at + 8 ≤ length offsets.now }
@@ -50,7 +51,7 @@ fn push_group(packed: &mut Vec<u32>, offsets: &[u32], group: usize) -> Result<()
     Ok(())
 }
 
-/// The offsets in the 18-bit form.
+/// Returns the offsets in the 18-bit form.
 pub(crate) fn pack(alloc: Global, offsets: &[u32]) -> Result<Vec<u32>, AllocError>
     requires room { length offsets.now < code_point_limit }
     requires fit { AllBelow 0x40000 offsets.now }

@@ -1,5 +1,5 @@
-//! A table of the windows of some cells: of windows that are equal it has the first one. Windows
-//! are found by their hash, without a comparison with every other one.
+//! A hash table of the windows of some cells. Of equal windows it has the first one. The hash makes
+//! it unnecessary to compare a window with every other one.
 ghost use Rattle.std.specs.Prelude.{◌≡◌, ◌≢◌, ℕ, ◌+◌, ◌-◌, ◌*◌, ◌/◌, ◌^◌, ◌<◌, ◌≤◌, List, length, slice_index, slice_set, IfOk, OnOk, IfSome, IfNone};
 ghost use Rattle.icu_trie_core.specs.Blocks.{window};
 ghost use Rattle.icu_trie_compaction.specs.Hashes.{bucket, cells_hash};
@@ -8,22 +8,22 @@ ghost use Rattle.icu_trie_compaction.specs.Windows.{HasAll, IsLeast, IsTable};
 use crate::hashing::{hash_after, hash_of, leaving_factor_of};
 use std::alloc::{AllocError, Global};
 
-/// How many buckets a table has at first.
+/// The number of buckets of a new table.
 const FIRST_BUCKETS: usize = 256;
 
-/// The most buckets that a table takes.
+/// The number of buckets from which on a table does not grow.
 const MOST_BUCKETS: usize = 0x100000;
 
-/// The different windows of some cells, by their hash.
+/// The distinct windows of some cells, by their hash.
 #[derive(Drop)]
 pub struct WindowTable {
-    /// How many cells a window has.
+    /// The number of cells in a window.
     size: usize,
-    /// What a cell that leaves a window is multiplied by.
+    /// The factor for a cell that leaves a window.
     leaving: u32,
-    /// The windows that start before this place are in the table.
+    /// The table has the windows that start before this position.
     entered: usize,
-    /// For each different window, the first place where it stands.
+    /// For each distinct window, the first position at which it occurs.
     starts: Vec<u32>,
     /// For each bucket, the number of its newest window plus one, or 0.
     heads: Vec<u32>,
@@ -32,7 +32,11 @@ pub struct WindowTable {
 }
 
 impl WindowTable {
-    /// The table of no window, for windows of `size` cells.
+    /// Makes an empty table for windows of `size` cells.
+    ///
+    /// # Errors
+    ///
+    /// `AllocError` if the allocation fails.
     pub fn new(alloc: Global, size: usize) -> Result<WindowTable, AllocError>
         requires { 0 < size }
         ensures size { IfOk result (λ t. t.size ≡ size) }
@@ -41,7 +45,12 @@ impl WindowTable {
         WindowTable::with_buckets(alloc, size, FIRST_BUCKETS)
     }
 
-    /// The table of no window, with room for the windows of `cells` cells.
+    /// Makes an empty table for windows of `size` cells, with enough buckets for the windows of
+    /// `cells` cells.
+    ///
+    /// # Errors
+    ///
+    /// `AllocError` if the allocation fails.
     pub fn for_cells(alloc: Global, size: usize, cells: usize) -> Result<WindowTable, AllocError>
         requires { 0 < size }
         ensures size { IfOk result (λ t. t.size ≡ size) }
@@ -51,7 +60,7 @@ impl WindowTable {
         WindowTable::with_buckets(alloc, size, buckets)
     }
 
-    /// The table of no window, with `buckets` buckets.
+    /// Makes an empty table with `buckets` buckets.
     fn with_buckets(alloc: Global, size: usize, buckets: usize) -> Result<WindowTable, AllocError>
         requires some_cells { 0 < size }
         requires some_buckets { 0 < buckets }
@@ -69,14 +78,14 @@ impl WindowTable {
         })
     }
 
-    /// How many cells a window has.
+    /// Returns the number of cells in a window.
     pub fn size(&self) -> usize
         ensures { result ≡ self.now.size }
     {
         self.size
     }
 
-    /// The bucket of windows with this hash.
+    /// Returns the bucket of windows with this hash.
     fn bucket_of(&self, hash: u32) -> usize
         requires some { 0 < length self.now.heads.items }
         requires few { length self.now.heads.items ≤ 2 ^ 24 }
@@ -86,7 +95,8 @@ impl WindowTable {
         (u64::from(hash) * self.heads.len() as u64 / 0x1_0000_0000) as usize
     }
 
-    /// The first place where `wanted`, whose hash this is, stands in `cells`.
+    /// Returns the first position at which `wanted` occurs in `cells`, or `None` if the table has
+    /// no such window. `hash` is the hash of `wanted`.
     pub(crate) fn find(&self, cells: &[u32], wanted: &[u32], hash: u32) -> Option<usize>
         requires size { length wanted.now ≡ self.now.size }
         requires hash { hash ≡ cells_hash wanted.now }
@@ -107,7 +117,7 @@ impl WindowTable {
         None
     }
 
-    /// Enters the next window, whose hash this is, into the table, where no equal one is in it.
+    /// Adds the next window, whose hash this is, unless the table has an equal one.
     fn enter(&mut self, cells: &[u32], hash: u32) -> Result<(), AllocError>
         requires inside { self.old.entered + self.old.size ≤ length cells.now }
         requires room { length cells.now < 2 ^ 31 }
@@ -131,7 +141,11 @@ impl WindowTable {
         Ok(())
     }
 
-    /// Enters all windows of `cells` into the table.
+    /// Adds all windows of `cells`.
+    ///
+    /// # Errors
+    ///
+    /// `AllocError` if an allocation fails.
     pub fn enter_all(&mut self, cells: &[u32]) -> Result<(), AllocError>
         requires room { length cells.now < 2 ^ 31 }
         requires table { IsTable cells.now self.old }
@@ -169,7 +183,7 @@ impl WindowTable {
     }
 }
 
-/// Makes this the head of a bucket.
+/// Sets the head of a bucket.
 fn set_head(heads: &mut Vec<u32>, bucket: usize, head: u32)
     requires { bucket < length heads.old.items }
     ensures { heads.new.items ≡ slice_set heads.old.items bucket head }
@@ -177,7 +191,7 @@ fn set_head(heads: &mut Vec<u32>, bucket: usize, head: u32)
     heads[bucket] = head;
 }
 
-/// A list of `count` zeros.
+/// Returns a list of `count` zeros.
 fn zeros(alloc: Global, count: usize) -> Result<Vec<u32>, AllocError>
     ensures len { IfOk result (λ v. length v.items ≡ count) }
     ensures zero { IfOk result (λ v. (i : ℕ) → slice_index v.items i ≡ 0) }
@@ -185,7 +199,7 @@ fn zeros(alloc: Global, count: usize) -> Result<Vec<u32>, AllocError>
     vec![in alloc; 0; count]
 }
 
-/// How many windows of `size` cells `len` cells have.
+/// Returns the number of windows of `size` cells in `len` cells.
 fn window_count(len: usize, size: usize) -> usize
     requires { 0 < size }
     ensures { result ≡ len + 1 - size }

@@ -1,4 +1,4 @@
--- The index-2 cells of blocks of 512, by where their 32 offsets stand.
+-- The index-2 cells of blocks of 512, by where their 32 offsets are stored.
 use Rattle.std.specs.Prelude.{◌≡◌, ◌≢◌, ℕ, ◌+◌, ◌-◌, ◌<◌, ◌≤◌, ◌⊎◌, List, length, slice_index}
 use Rattle.icu_trie_core.specs.Blocks.{window, block}
 use Rattle.icu_trie_compaction.specs.Layout.{AllBelow}
@@ -6,12 +6,14 @@ use Rattle.icu_trie_compaction.specs.Inside.IndexParts.{packed_cells}
 use Rattle.icu_trie_compaction.specs.Windows.{HasAll, IsLeast, IsTable}
 use Rattle.icu_trie_compaction.specs.declared.index3.Tables.{Tables}
 
--- 16-bit offsets x that stand in the fast index: the cell is their first place there
+-- If all offsets x have 16 bits and occur in the fast index, the cell is the first position at
+-- which they do.
 pub record InFast (fast x : List ℕ) (cell : ℕ) : Type 0 where
   pub below : AllBelow 0x10000 x
   pub place : IsLeast 32 cell fast x
 
--- 16-bit offsets x that don't: the cell is their first place in `stored`, which stands at `start`
+-- If they have 16 bits and do not occur in the fast index, the cell is their first position in
+-- `stored`, which starts at index position `start`.
 pub record InNarrow (start : ℕ) (fast stored x : List ℕ) (cell : ℕ) : Type 0 where
   pub below : AllBelow 0x10000 x
   pub nowhere : (q : ℕ) → window 32 q fast ≢ x
@@ -19,22 +21,23 @@ pub record InNarrow (start : ℕ) (fast stored x : List ℕ) (cell : ℕ) : Type
   pub low : cell < 0x7fff
   pub place : IsLeast 32 (cell - start) stored x
 
--- other offsets x: the cell is the first place of their 18-bit form, with bit 15
+-- If some offset has more than 16 bits, the cell is the first position of the 18-bit form, with bit
+-- 15 set.
 pub record InWide (start : ℕ) (stored x : List ℕ) (cell : ℕ) : Type 0 where
   pub wide : AllBelow 0x10000 x → ⊥
   pub from : 0x8000 + start ≤ cell
   pub place : IsLeast 36 (cell - (0x8000 + start)) stored (packed_cells x)
 
--- the index-2 cell of the block of 512 that has the offsets x
+-- The index-2 cell of a block of 512 with the offsets x.
 unfoldable pub IsIndex3Cell : ℕ → List ℕ → List ℕ → List ℕ → ℕ → Type 0
 IsIndex3Cell start fast stored x cell =
     InFast fast x cell ⊎ (InNarrow start fast stored x cell ⊎ InWide start stored x cell)
 
--- no cell names a block with these offsets
+-- No cell names a block with the offsets x.
 unfoldable pub IsUnplaced : ℕ → List ℕ → List ℕ → List ℕ → Type 0
 IsUnplaced start fast stored x = (cell : ℕ) → IsIndex3Cell start fast stored x cell → ⊥
 
--- tables of the windows of the fast index and of the cells after index-1
+-- Tables of the windows of the fast index and of the cells after index-1.
 pub record IsTables (fast stored : List ℕ) (t : Tables) : Type 0 where
   pub fast_size : t.fast.size ≡ 32
   pub in_fast : IsTable fast t.fast
@@ -44,7 +47,7 @@ pub record IsTables (fast stored : List ℕ) (t : Tables) : Type 0 where
   pub wide_size : t.wide.size ≡ 36
   pub wide : IsTable stored t.wide
 
--- the index-2 cells of all blocks of 512
+-- The index-2 cells of all blocks of 512.
 pub record IsIndexed (start : ℕ) (fast offsets stored cells : List ℕ) : Type 0 where
   pub cell : (i : ℕ) → i < length cells
       → IsIndex3Cell start fast stored (block 32 offsets i) (slice_index cells i)

@@ -5,7 +5,7 @@ use Rattle.icu_trie_compaction.proofs.Tails.{drawn-fit, index2-rest, index2-whol
 use Rattle.icu_trie_compaction.proofs.index2.place_index2.Goals as goal
 use Rattle.icu_trie_compaction.proofs.index2.place_index2.Goals.{then-rest-gt0+in_ok-table+in_ok-last+in_ok-push, else-rest-gt0}
 
--- where the cells of the last, shorter block start
+-- The start of the cells of the last, shorter block.
 abbrev rest_at : List ℕ → ℕ
 rest_at cells = length cells - length cells % 32
 

@@ -5,7 +5,7 @@ use Rattle.icu_trie_compaction.proofs.Windows.{length-window}
 use Rattle.icu_trie_compaction.proofs.Compacting.{compacting-step, compacting-done}
 use Rattle.icu_trie_compaction.proofs.index2.place_whole.Goals as goal
 
--- one turn adds a block's cells, if any
+-- One iteration appends the cells of one block, if any.
 grow : (old now new k n : ℕ) → now ≤ old + 32 * n → k ≡ 32 → (now < new → new ≤ now + k) → new ≤ old + 32 * (n + 1)
 grow old now new k n le is more = elim (cases_lt now new) [ inl lt ↦ omega (arith, le, is, more lt) | inr ge ↦ omega (arith, le, ge) ]
 
