@@ -1,4 +1,4 @@
--- Lemmas on blocks of 16 code points.
+-- Lemmas about blocks of 16 code points.
 use Rattle.std.proofs.Common.{◌≡◌, ◌≢◌, ℕ, ◌+◌, ◌*◌, ◌/◌, ◌%◌, ◌<◌, ◌≤◌, ◌⊎◌, inl, inr, Bool, true, false, List, [], ◌∷◌, ◌++◌, length, get_or, set, replicate, take, drop, refl, sym, ◌∙◌, ap, arith, ◌-◌}
 use Rattle.std.proofs.lemmas.Bool.{cases_lt, cases_eq, cases_Bool, false≢true}
 use Rattle.std.proofs.lemmas.List.{get_or-set_same, get_or-set_other, length-set, get_or_default, get_or_past, same_lists, length-take, length-drop, get_or-take, get_or-drop, length-replicate, get_or-replicate, get_or_append_left, get_or_push, take-replicate, drop-replicate, drop-drop}
@@ -13,7 +13,7 @@ code_points-is : code_points ≡ 0x110000
 unfolding code_points
 code_points-is = refl
 
--- the list of the numbers of all code points
+-- The list of the numbers of all code points.
 module _ (f : ℕ → ℕ) where
   numbers-length : length (all_numbers f) ≡ 0x110000
   numbers-length = length-map-range_with_len f 0 code_points ∙ code_points-is
@@ -26,14 +26,14 @@ module _ (f : ℕ → ℕ) where
       let below : c < 0x110000 = omega (arith, l, numbers-length) in
       numbers-at c d below ∙ at c below ∙ get_or_default xs c 0 d (omega (arith, below, len)))
 
--- one number at all code points
+-- All code points have one number.
 pub one-length : (v : ℕ) → length (replicate code_points v) ≡ 0x110000
 one-length v = length-replicate code_points v ∙ code_points-is
 
 pub one-at : (v c : ℕ) → c < 0x110000 → get_or (replicate code_points v) c 0 ≡ v
 one-at v c l = get_or-replicate code_points c v 0 (omega (arith, l, code_points-is))
 
--- the number of a code point of block number i, where the block is mixed and where it is not
+-- The number of a code point in block number i, if the block is mixed and if it is not.
 module _ (m : List Bool) (n : List ℕ) (cs : List (List ℕ)) (i c : ℕ) (e : c / 16 ≡ i) where
   at-mixed : is_mixed m i ≡ true → number_at m n cs c ≡ get_or (get_or cs (get_or n i 0) []) (c % 16) 0
   unfolding number_at
@@ -43,14 +43,14 @@ module _ (m : List Bool) (n : List ℕ) (cs : List (List ℕ)) (i c : ℕ) (e : 
   unfolding number_at
   at-one h = rw (e, h) refl
 
--- blocks of which none is mixed, and each has this number
+-- No block is mixed, and each has this number.
 pub made-numbers : (m : List Bool) (n : List ℕ) (number : ℕ) → ((i : ℕ) (d : Bool) → i < 0x11000 → get_or m i d ≡ false)
     → ((i d : ℕ) → i < 0x11000 → get_or n i d ≡ number) → all_numbers (number_at m n []) ≡ replicate code_points number
 made-numbers m n number whole filled = numbers-are (number_at m n []) (replicate code_points number) (one-length number)
     (λ c l. let i : c / 16 < 0x11000 = omega (arith, l) in
     at-one m n [] (c / 16) c refl (whole (c / 16) false i) ∙ filled (c / 16) 0 i ∙ sym (one-at number c l))
 
--- the number of a code point whose block does not change, where block number i does
+-- The number of a code point in a block that does not change when block number i does.
 others : (m m' : List Bool) (n n' : List ℕ) (cs cs' : List (List ℕ)) (i : ℕ) → ((j : ℕ) → j ≢ i → is_mixed m' j ≡ is_mixed m j)
     → ((j : ℕ) → j ≢ i → get_or n' j 0 ≡ get_or n j 0)
     → ((j : ℕ) → j ≢ i → is_mixed m j ≡ true → get_or cs' (get_or n j 0) [] ≡ get_or cs (get_or n j 0) [])
@@ -61,7 +61,7 @@ others m m' n n' cs cs' i mixed places cells c ne = let j = c / 16 in elim (case
   | inr h ↦ at-one m' n' cs' j c refl (mixed j ne ∙ h) ∙ places j ne ∙ sym (at-one m n cs j c refl h)
 ]
 
--- a write, number by number
+-- A write, number by number.
 written : (f g : ℕ → ℕ) (start end number : ℕ) → end ≤ 0x110000 → ((c : ℕ) → start ≤ c → c < end → g c ≡ number)
     → ((c : ℕ) → (c < start) ⊎ (end ≤ c) → g c ≡ f c) → IsWritten (all_numbers f) (all_numbers g) start end number
 written f g start end number within inside outside = record {
@@ -74,7 +74,7 @@ written f g start end number within inside outside = record {
   ];
 }
 
--- nothing is written, or one place
+-- Nothing is written, or one position.
 pub written-none : (xs : List ℕ) (start number : ℕ) → IsWritten xs xs start start number
 written-none xs start number = record { len = refl; inside = λ c low high. absurd (omega (arith, low, high)); outside = λ _ _. refl }
 
@@ -85,7 +85,7 @@ written-one xs i number there = record {
   outside = λ c out. get_or-set_other xs i c number 0 (λ e. elim out [ inl l ↦ omega (arith, l, e) | inr h ↦ omega (arith, h, e) ]);
 }
 
--- two writes, one after the other
+-- Two writes, one after the other.
 pub written-on : {a b c : List ℕ} {start middle end number : ℕ} → start ≤ middle → middle ≤ end
     → IsWritten a b start middle number → IsWritten b c middle end number → IsWritten a c start end number
 written-on {middle = middle} low high first second = record {
@@ -101,7 +101,7 @@ written-on {middle = middle} low high first second = record {
 }
 
 module _ (m : List Bool) (n : List ℕ) (cs : List (List ℕ)) (sound : AreBlocks m n cs) where
-  -- Block number i, which is not mixed, gets cells of its own after those so far, with its number
+  -- Block number i, which is not mixed, gets its own cells with its number, after the cells so far.
   pub mix-same : (i : ℕ) → i < 0x11000 → is_mixed m i ≡ false
       → all_numbers (number_at (set m i true) (set n i (length cs)) (cs ++ replicate 16 (get_or n i 0) ∷ []))
       ≡ all_numbers (number_at m n cs)
@@ -118,7 +118,7 @@ module _ (m : List Bool) (n : List ℕ) (cs : List (List ℕ)) (sound : AreBlock
             (λ j nj h. get_or_append_left cs (x ∷ []) [] (get_or n j 0) (sound.inside j h)) c ne
       ] ∙ sym (numbers-at f c 0 l))
 
-  -- The cells of a mixed block are written from one code point of it on to before another
+  -- The cells of a mixed block are written from one code point of it up to another (exclusive).
   pub fill-written : (xs : List ℕ) (start end number : ℕ) → is_mixed m (start / 16) ≡ true → start < end → end ≤ 16 * (start / 16) + 16
       → IsWritten (get_or cs (get_or n (start / 16) 0) []) xs (start - 16 * (start / 16)) (end - 16 * (start / 16)) number → end ≤ 0x110000
       → IsWritten (all_numbers (number_at m n cs)) (all_numbers (number_at m n (set cs (get_or n (start / 16) 0) xs))) start end number
@@ -137,7 +137,7 @@ module _ (m : List Bool) (n : List ℕ) (cs : List (List ℕ)) (sound : AreBlock
             (λ j nj h. get_or-set_other cs place (get_or n j 0) xs [] (λ e. nj (sound.own j i h own e))) c ne
       ])
 
-  -- Block number i, which is not mixed, gets another number
+  -- Block number i, which is not mixed, gets another number.
   pub set-written : (i number start end : ℕ) → i < 0x11000 → is_mixed m i ≡ false → start / 16 ≡ i → start < end → end ≤ 16 * i + 16
       → (start % 16 ≡ 0) ⊎ (is_mixed m (start / 16) ≡ true) → (end % 16 ≡ 0) ⊎ (is_mixed m (end / 16) ≡ true)
       → IsWritten (all_numbers (number_at m n cs)) (all_numbers (number_at m (set n i number) cs)) start end number
@@ -157,7 +157,7 @@ module _ (m : List Bool) (n : List ℕ) (cs : List (List ℕ)) (sound : AreBlock
       (λ c out. others m m n (set n i number) cs cs i (λ _ _. refl) (λ j nj. get_or-set_other n i j number 0 nj) (λ _ _ _. refl) c
       (λ e. absurd (elim out [ inl l ↦ omega (arith, l, e, low) | inr h ↦ omega (arith, h, e, high) ])))
 
--- a block, number by number
+-- A block, number by number.
 length-window : (k at : ℕ) (xs : List ℕ) → at + k ≤ length xs → length (take k (drop at xs)) ≡ k
 length-window k at xs h = omega (arith, length-take k (drop at xs), length-drop at xs, h)
 
@@ -171,7 +171,7 @@ block-is k n xs ys inside len items = same_lists ys (block k xs n) (len ∙ sym 
     get_or_default ys i d 0 l ∙ items i below ∙ get_or_default xs (k * n + i) 0 d (omega (arith, inside, below))
     ∙ sym (window-read k (k * n) i xs d below))
 
--- what block number i holds
+-- The contents of block number i.
 pub holds : (m : List Bool) (n : List ℕ) (cs : List (List ℕ)) (i : ℕ) (ys : List ℕ) → i < 0x11000 → length ys ≡ 16
     → ((c : ℕ) → c / 16 ≡ i → number_at m n cs c ≡ get_or ys (c % 16) 0) → ys ≡ block 16 (all_numbers (number_at m n cs)) i
 holds m n cs i ys there len at =
@@ -191,7 +191,7 @@ pub holds-cells : (m : List Bool) (n : List ℕ) (cs : List (List ℕ)) (i : ℕ
 holds-cells m n cs i there sound h = let x : ℕ = get_or n i 0 in
     holds m n cs i (get_or cs x []) there (sound.whole x (sound.inside i h)) (λ c e. at-mixed m n cs i c e h)
 
--- the number of a code point, by what its block holds
+-- The number of a code point, from the contents of its block.
 pub number-in : (xs ys : List ℕ) (n c : ℕ) → ys ≡ block 16 xs n → c / 16 ≡ n → get_or xs c 0 ≡ get_or ys (c % 16) 0
 number-in xs ys n c held e = let at : c ≡ 16 * n + c % 16 = omega (arith, e) in
     ap (λ x. get_or xs x 0) at ∙ sym (window-read 16 (16 * n) (c % 16) xs 0 (omega arith)) ∙ ap (λ zs. get_or zs (c % 16) 0) (sym held)
@@ -199,21 +199,21 @@ number-in xs ys n c held e = let at : c ≡ 16 * n + c % 16 = omega (arith, e) i
 pub number-in-one : (xs : List ℕ) (n c v : ℕ) → replicate 16 v ≡ block 16 xs n → c / 16 ≡ n → get_or xs c 0 ≡ v
 number-in-one xs n c v held e = number-in xs (replicate 16 v) n c held e ∙ get_or-replicate 16 (c % 16) v 0 (omega arith)
 
--- the numbers of blocks, and of one more
+-- The numbers of some blocks, and of one more.
 pub window-on : (xs : List ℕ) (first i : ℕ) → first ≤ i
     → window (16 * (i + 1 - first)) (16 * first) xs ≡ window (16 * (i - first)) (16 * first) xs ++ block 16 xs i
 window-on xs first i from = let ys : List ℕ = drop (16 * first) xs in
     ap (λ k. take k ys) (omega (arith, from)) ∙ take-add (16 * (i - first)) 16 ys ∙ ap (λ zs. take (16 * (i - first)) ys ++ take 16 zs)
     (drop-drop (16 * (i - first)) (16 * first) xs ∙ ap (λ at. drop at xs) (omega (arith, from)))
 
--- the block before
+-- The previous block.
 pub before : (k n : ℕ) → 0 < n → k * n ≡ k * (n - 1) + k
 before k n h =
     let e : n ≡ (n - 1) + 1 = omega (arith, h) in
     let one : k * 1 ≡ k = omega arith in
     ap (λ x. k * x) e ∙ mul-add k (n - 1) 1 ∙ ap (λ x. k * (n - 1) + x) one
 
--- a block of one number, and two
+-- One block of one number, and two.
 pub block-of-one : (k n v : ℕ) → k * n + k ≤ 0x110000 → block k (replicate code_points v) n ≡ replicate k v
 block-of-one k n v inside = ap (λ xs. take k xs) (drop-replicate (k * n) code_points v)
     ∙ take-replicate k (code_points - k * n) v (omega (arith, inside, code_points-is))
@@ -226,7 +226,7 @@ blocks-of-one k n v xs some inside one =
     window-read k (k * n) i xs 0 l ∙ one (k * n + i) (omega (arith, step)) (omega (arith, l))
     ∙ sym (one (k * (n - 1) + i) (omega arith) (omega (arith, step, l))))
 
--- 16 times a number of blocks, and no block
+-- 16 times a number of blocks, and no block.
 pub sixteen : (k n : ℕ) → k % 16 ≡ 0 → 16 * (k / 16 * n) ≡ k * n
 sixteen k n h = sym (mul_assoc 16 (k / 16) n) ∙ ap (λ x. x * n) (omega (arith, h))
 

@@ -1,3 +1,3 @@
--- Words that the functions inside the crate and their proofs need. No public contract cites them.
+-- Definitions for private functions and their proofs. No public contract uses them.
 pub mod Blocks
 pub mod Numbers

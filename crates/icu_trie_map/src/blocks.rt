@@ -9,34 +9,35 @@ use icu_zerovec::CODE_POINT_LIMIT;
 use std::alloc::{AllocError, Global};
 use std::marker::Model;
 
-/// How many blocks of 16 code points there are.
+/// The number of blocks of 16 code points.
 const BLOCK_COUNT: usize = CODE_POINT_LIMIT as usize / 16;
 
-/// Blocks below this one are made mixed four at a time.
+/// Below this block number, four blocks become mixed together.
 const FIRST_SINGLE: usize = 0x1000;
 
 /// The numbers of 16 code points.
 #[derive(Clone, Copy)]
 enum Block<'a> {
-    /// All have this one.
+    /// All 16 have this number.
     One(u32),
-    /// Each has its own, so that the block is mixed.
+    /// The block is mixed: each code point has its own number.
     Cells(&'a [u32; 16]),
 }
 
-/// The numbers of all code points, in blocks of 16. A clause sees which blocks are mixed, and the
-/// list of the numbers.
+/// The numbers of all code points, in blocks of 16.
 #[derive(Debug, Drop)]
 pub(crate) struct Blocks {
-    /// Whether a block is mixed, that is, has cells.
+    /// For each block, whether it is mixed, that is, has cells.
     mixed: Vec<bool>,
-    /// The number of all code points of a block, and of a mixed one the place of its cells.
+    /// For each block, the number of all its code points, or the position of its cells if it is
+    /// mixed.
     places: Vec<u32>,
     /// The numbers of the code points of each mixed block.
     cells: Vec<[u32; 16]>,
 }
 
 impl Model for Blocks {
+    // Contracts see blocks as which of them are mixed, and the list of the numbers.
     ghost use Rattle.icu_trie_map.specs.Inside.Blocks.{AreBlocks, BlockMap, all_numbers, number_at};
 
     ghost Value = { BlockMap };
@@ -49,7 +50,7 @@ impl Model for Blocks {
     ghost invariant = { λ b. AreBlocks b.mixed.items b.places.items b.cells.items };
 }
 
-/// A list of `count` copies of a value.
+/// Returns a list of `count` copies of a value.
 fn copies<T: Copy>(alloc: Global, count: usize, value: T) -> Result<Vec<T>, AllocError>
     ensures len { IfOk result (λ v. length v.items ≡ count) }
     ensures items { IfOk result (λ v. (i : ℕ) (d : T) → i < count
@@ -60,12 +61,13 @@ fn copies<T: Copy>(alloc: Global, count: usize, value: T) -> Result<Vec<T>, Allo
     Ok(made)
 }
 
-/// Appends the cells of a block of this number.
+/// Appends the cells of a block that has this number throughout.
 fn push_block(cells: &mut Vec<[u32; 16]>, number: u32) -> Result<(), AllocError>
     ensures ok { OnOk result (cells.new.items ≡ cells.old.items ++ replicate 16 number ∷ []) }
     ensures err { OnErr result (cells.new.items ≡ cells.old.items) }
 {
-    // By quarters, since the cells of most maps fill few doublings.
+    // Grow by a quarter instead of doubling: for most maps the cells would only partly fill the
+    // doubled capacity.
     if cells.capacity() == cells.len() {
         cells.reserve_exact(cells.len() / 4 + 64)?;
     }
@@ -73,7 +75,7 @@ fn push_block(cells: &mut Vec<[u32; 16]>, number: u32) -> Result<(), AllocError>
     Ok(())
 }
 
-/// Writes the number from place `start` on to before `end`.
+/// Writes the number to the positions `start..end`.
 fn fill_range(cells: &mut [u32; 16], start: usize, end: usize, number: u32)
     requires range { start ≤ end }
     requires end { end ≤ 16 }
@@ -85,7 +87,7 @@ fn fill_range(cells: &mut [u32; 16], start: usize, end: usize, number: u32)
 }
 
 impl Blocks {
-    /// Blocks that have this number at every code point.
+    /// Makes blocks that have this number at every code point.
     pub(crate) fn new(alloc: Global, number: u32) -> Result<Blocks, AllocError>
         ensures { IfOk result (λ b. b.numbers ≡ replicate code_points number) }
     {
@@ -99,7 +101,7 @@ impl Blocks {
         })
     }
 
-    /// Gives block number `number` cells, where it has none.
+    /// Gives block number `number` cells if it has none.
     fn mix(&mut self, number: usize) -> Result<(), AllocError>
         requires { number < block_count }
         ensures same { self.new.numbers ≡ self.old.numbers }
@@ -119,9 +121,11 @@ impl Blocks {
         Ok(())
     }
 
-    /// Gives the block that the code point `c` stands in, and does not begin, cells. Where it had
-    /// none, the other blocks of its aligned 64 code points below 0x10000 get them too, so that
-    /// they stand side by side.
+    /// Gives the block of the code point `c` cells, unless the block starts at `c` or has cells
+    /// already.
+    ///
+    /// Below 0x10000, the other blocks of the same aligned 64 code points then get cells too, so
+    /// that these are next to each other.
     fn mix_around(&mut self, c: usize) -> Result<(), AllocError>
         requires { c ≤ code_point_limit }
         ensures same { self.new.numbers ≡ self.old.numbers }
@@ -167,7 +171,7 @@ impl Blocks {
         );
     }
 
-    /// Writes a number to the code points from `start` on to before `end`, block by block.
+    /// Writes a number to the code points `start..end`, block by block.
     fn write_blocks(&mut self, start: usize, end: usize, number: u32)
         requires range { start ≤ end }
         requires all { end ≤ code_point_limit }
@@ -183,8 +187,8 @@ impl Blocks {
         }
     }
 
-    /// Writes a number to the code points from `start` on to before `end`. Memory is asked for
-    /// before anything is written.
+    /// Writes a number to the code points `start..end`. All allocations happen before anything is
+    /// written.
     pub(crate) fn write(&mut self, start: usize, end: usize, number: u32) -> Result<(), AllocError>
         requires range { start ≤ end }
         requires all { end ≤ code_point_limit }
@@ -198,7 +202,7 @@ impl Blocks {
         Ok(())
     }
 
-    /// Block number `number`.
+    /// Returns block number `number`.
     #[inline(always)]
     fn block(&self, number: usize) -> Block<'_>
         requires { number < block_count }
@@ -210,7 +214,7 @@ impl Blocks {
         Block::One(self.places[number])
     }
 
-    /// The number of the code point `c`.
+    /// Returns the number of the code point `c`.
     pub(crate) fn number_of(&self, c: usize) -> u32
         requires { c < code_point_limit }
         ensures { result ≡ slice_index self.now.numbers c }
@@ -221,8 +225,8 @@ impl Blocks {
         }
     }
 
-    /// The first place of block number `block`, from its place `from` on, that has another number
-    /// than this, and 16 where there is none.
+    /// Returns the first position in `from..16` of block number `block` with another number than
+    /// this, or 16 if there is none.
     #[inline(always)]
     fn other_in_block(&self, block: usize, from: usize, number: u32) -> usize
         requires there { block < block_count }
@@ -243,8 +247,8 @@ impl Blocks {
         }
     }
 
-    /// The first code point from `start` on that has another number than this, and 0x110000 where
-    /// there is none, block by block.
+    /// Returns the first code point from `start` on with another number than this, or 0x110000 if
+    /// there is none. It goes block by block.
     pub(crate) fn find_other(&self, start: usize, number: u32) -> usize
         requires { start ≤ code_point_limit }
         ensures { IsOther self.now.numbers start code_point_limit number result }
@@ -261,7 +265,8 @@ impl Blocks {
         CODE_POINT_LIMIT as usize
     }
 
-    /// How many blocks there are up to the last that does not hold this number alone.
+    /// Returns the number of blocks up to and including the last one that does not have this number
+    /// throughout.
     pub(crate) fn used(&self, number: u32) -> usize
         ensures within { result ≤ block_count }
         ensures after { (c : ℕ) → 16 * result ≤ c → c < code_point_limit
@@ -279,7 +284,8 @@ impl Blocks {
         0
     }
 
-    /// Whether `count` blocks from block number `first` on are seen at once to hold one number.
+    /// Returns true if none of `count` blocks from block number `first` on is mixed and all have
+    /// the same number. It reads no cells.
     pub(crate) fn hold_one(&self, first: usize, count: usize) -> bool
         requires first { first < block_count }
         requires inside { first + count ≤ block_count }
@@ -298,7 +304,7 @@ impl Blocks {
         true
     }
 
-    /// Appends the numbers of `count` blocks from block number `first` on to those in `room`.
+    /// Appends the numbers of `count` blocks, from block number `first` on, to `room`.
     pub(crate) fn copy(
         &self,
         first: usize,

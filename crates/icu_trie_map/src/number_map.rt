@@ -1,4 +1,4 @@
-//! The map that a trie is built of.
+//! The map from which a trie is built.
 ghost use Rattle.std.specs.Prelude.{◌≡◌, ◌≢◌, ℕ, ◌+◌, ◌-◌, ◌*◌, ◌%◌, ◌<◌, ◌≤◌, length, slice_index, OnOk, OnErr, IsTrue};
 ghost use Rattle.icu_zerovec.specs.CodePoints.{code_point_limit};
 ghost use Rattle.icu_trie_core.specs.Blocks.{block};
@@ -12,17 +12,16 @@ use std::marker::Model;
 /// The number of each code point.
 #[derive(Debug, Drop)]
 enum Numbers {
-    /// All have this one.
+    /// All code points have this number.
     One(u32),
-    /// Each block of 16 has its own, since something was written.
+    /// Each block of 16 has its own numbers, once something has been written.
     InBlocks(Blocks),
 }
 
-/// A map from the code points to numbers of 32 bits. A clause sees the list of them, one for each
-/// code point.
+/// A map from code points to 32-bit numbers.
 ///
-/// It keeps one number until the first write, and then blocks of 16 code points: a block of one
-/// number keeps that number alone, a mixed block has cells.
+/// It stores a single number until the first write, and then blocks of 16 code points. A block of
+/// one number stores only that number; a mixed block has 16 cells.
 #[derive(Debug, Drop)]
 pub struct NumberMap {
     numbers: Numbers,
@@ -30,6 +29,7 @@ pub struct NumberMap {
 }
 
 impl Model for NumberMap {
+    // Contracts see a map as the list of its numbers, one for each code point.
     ghost use Rattle.std.specs.Prelude.{◌≡◌, ℕ, List, length};
     ghost use Rattle.icu_zerovec.specs.CodePoints.{code_point_limit};
 
@@ -43,8 +43,7 @@ impl Model for NumberMap {
 }
 
 impl NumberMap {
-    /// The map that has this number at every code point. It takes no memory: `alloc` is kept for
-    /// the writes.
+    /// Makes a map that has this number at every code point. It allocates nothing.
     pub fn new(alloc: Global, number: u32) -> NumberMap
         ensures len { length result ≡ code_point_limit }
         ensures all { (c : ℕ) → c < code_point_limit → slice_index result c ≡ number }
@@ -55,10 +54,10 @@ impl NumberMap {
         }
     }
 
-    /// Gives each code point from `start` on to before `end` this number.
+    /// Sets the number of each code point in `start..end`.
     ///
     /// # Errors
-    /// `AllocError` where memory was refused. The map stays as it was.
+    /// Returns `AllocError` if an allocation fails. The map is then unchanged.
     pub fn set_range(&mut self, start: usize, end: usize, number: u32) -> Result<(), AllocError>
         requires range { start ≤ end }
         requires within { end ≤ code_point_limit }
@@ -84,7 +83,7 @@ impl NumberMap {
         Ok(())
     }
 
-    /// The number of the code point `c`.
+    /// Returns the number of the code point `c`.
     pub fn get(&self, c: usize) -> u32
         requires { c < code_point_limit }
         ensures { result ≡ slice_index self.now c }
@@ -95,15 +94,15 @@ impl NumberMap {
         }
     }
 
-    /// The number of the last code point.
+    /// Returns the number of the last code point.
     pub fn last(&self) -> u32
         ensures { result ≡ slice_index self.now 0x10ffff }
     {
         self.get(CODE_POINT_LIMIT as usize - 1)
     }
 
-    /// The first code point from `start` on that has another number than this, and 0x110000 where
-    /// there is none. Blocks of one number are passed by whole.
+    /// Returns the first code point from `start` on with another number than `number`, or 0x110000
+    /// if there is none. It skips each block of one number in a single step.
     pub fn find_other(&self, start: usize, number: u32) -> usize
         requires { start ≤ code_point_limit }
         ensures from { start ≤ result }
@@ -118,7 +117,8 @@ impl NumberMap {
         }
     }
 
-    /// The least multiple of 512 from which on all code points have the last code point's number.
+    /// Returns the least multiple of 512 from which on all code points have the number of the last
+    /// one.
     pub fn high_start(&self) -> usize
         ensures len { length self.now ≡ code_point_limit }
         ensures aligned { result % 512 ≡ 0 }
@@ -132,9 +132,11 @@ impl NumberMap {
         blocks.used(self.last()).div_ceil(32) * 512
     }
 
-    /// Whether the aligned block number `number` of `size` code points is seen at once to be equal
-    /// to the one before it: the blocks of 16 of both hold one number. Equal blocks that are mixed
-    /// are not seen.
+    /// Returns true only if the aligned block number `number` of `size` code points equals the
+    /// block before it.
+    ///
+    /// It compares no cells: it returns true if none of the blocks of 16 in both is mixed and all
+    /// have the same number. So it may return false for equal blocks.
     pub fn repeats(&self, size: usize, number: usize) -> bool
         requires multiple { size % 16 ≡ 0 }
         requires some { 0 < number }
@@ -148,8 +150,11 @@ impl NumberMap {
         blocks.hold_one(count * (number - 1), 2 * count)
     }
 
-    /// Puts the numbers of the aligned block number `number` of `size` code points into `room`, in
-    /// place of what it held.
+    /// Replaces the contents of `room` by the numbers of the aligned block number `number` of
+    /// `size` code points.
+    ///
+    /// # Errors
+    /// Returns `AllocError` if an allocation fails.
     pub fn copy_block(
         &self,
         size: usize,

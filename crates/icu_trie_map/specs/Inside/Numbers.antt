@@ -4,7 +4,7 @@ use Rattle.icu_trie_map.specs.NumberMap.{code_points}
 use Rattle.icu_trie_map.specs.declared.number_map.Numbers.{Numbers}
 use Rattle.icu_trie_map.specs.declared.number_map.Numbers.TheVariants.{One, InBlocks}
 
--- the numbers of all code points in order
+-- The numbers of all code points in order.
 abbrev pub numbers_of : Numbers → List ℕ
 numbers_of (One number) = replicate code_points number
 numbers_of (InBlocks blocks) = blocks.numbers
