@@ -1,5 +1,5 @@
-//! Tests of code point tries that are made of their parts, and of their stored forms, by their
-//! public calls.
+//! Tests of code point tries that are made of their parts, and of their serialized forms, through
+//! the public API.
 #![tactic(auto)]
 
 #[cfg(test)]

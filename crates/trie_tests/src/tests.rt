@@ -1,8 +1,9 @@
-//! What no clause says of tries that are made of their parts: examples whose answers come from
-//! outside, packed values of a user's own, headers that lie, values along texts, and stored forms.
+//! Tests of what no contract says about tries that are made of their parts: examples with results
+//! from outside, user-defined packed values, headers that are wrong, values along texts, and
+//! serialized forms.
 //!
-//! An assert stands in a small helper without a contract, and a value that owns memory is handed to
-//! it: a proof of a test that asserts and holds such values at the same time is long.
+//! Each assert is in a small helper without a contract, and values that own memory are passed to
+//! it. A test that asserts and holds such values at the same time would take long to prove.
 
 mod built_tries;
 mod constants;
@@ -25,24 +26,24 @@ use std::process::Abort;
 
 static ZEROS: [u8; 128] = [0; 128];
 
-/// What is said holds.
+/// Checks that `holds` is true.
 fn expect(rt: &impl Abort, holds: bool, what: &'static str) {
     if !holds {
         rt.panic(what);
     }
 }
 
-/// What was found is what was wanted.
+/// Checks that `found` equals `want`.
 fn expect_same<T: PartialEq + Debug + Drop>(rt: &impl Abort, found: T, want: T, what: &str) {
     assert_eq!(rt; found, want, "{what}");
 }
 
-/// What was found at the code point `c` is what was wanted.
+/// Checks that what was found at the code point `c` equals `want`.
 fn expect_at<T: PartialEq + Debug + Drop>(rt: &impl Abort, found: T, want: T, c: u32) {
     expect_same(rt, (c, found), (c, want), "at a code point");
 }
 
-/// Each error is told so, where there was memory for its text.
+/// Checks that each error has this text.
 fn expect_told<E: Display>(rt: &(impl Abort + AllocGlobal), rows: &[(E, &str)]) {
     for (error, want) in rows.iter() {
         match error.to_string(rt.alloc()) {
@@ -52,12 +53,13 @@ fn expect_told<E: Display>(rt: &(impl Abort + AllocGlobal), rows: &[(E, &str)]) 
     }
 }
 
-/// Prints a word of which the caller of the test knows what the test is about to do, or has done.
+/// Prints a word that says what the test is about to do, or has done. The script that runs the test
+/// reads it.
 fn say(rt: &(impl Abort + Print), word: &str) {
     rt.println(word).expect(rt, "not printed");
 }
 
-/// The header of a small trie that has no null block.
+/// The header of a small trie without a null block.
 fn small_header(high_start: u32, null_value: u32) -> CodePointTrieHeader {
     CodePointTrieHeader {
         high_start,
@@ -69,7 +71,7 @@ fn small_header(high_start: u32, null_value: u32) -> CodePointTrieHeader {
     }
 }
 
-/// Data of 64 cells of one number, of a high value and of an error value.
+/// Data of 64 equal cells, a high value and an error value.
 type Cells = (u8, u8, u8);
 
 const SEVENS: Cells = (7, 7, 9);
@@ -84,7 +86,7 @@ fn data((each, high, error): Cells) -> [u8; 66] {
     data
 }
 
-/// The trie of these parts, if they are not refused.
+/// The trie of these parts, or `None` if they are rejected.
 fn lent_trie<'a, T: TrieValue>(
     header: CodePointTrieHeader,
     index: &'a [u8],
@@ -105,8 +107,8 @@ fn trie_of<'a, T: TrieValue>(
     lent_trie(header, index, data).expect(rt, "a trie")
 }
 
-/// A small trie of these parts, by its high start and its null data offset. The null value is 0,
-/// and no index-2 cell is the null one.
+/// A small trie of these parts, with this high start and null data offset. The null value is 0, and
+/// no index-2 cell is the null one.
 fn small_trie<'a>(
     rt: &impl Abort,
     (high_start, data_null_offset): (u32, u32),

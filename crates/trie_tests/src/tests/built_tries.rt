@@ -1,4 +1,4 @@
-//! Built tries as tries of a known type, and with their cells read as another type.
+//! Built tries as typed tries, and with their cells read as another type.
 use super::values::Side;
 use super::{ZEROS, expect_same, small_header, trie_of};
 use icu_collections::codepointtrie::{
@@ -9,7 +9,7 @@ use icu_collections::zerovec::MemoryError;
 use std::alloc::Global;
 use std::process::Abort;
 
-/// The trie of these writes over 0, with the error value 9.
+/// The trie of these writes to a map of 0, with the error value 9.
 pub fn built(
     rt: &impl Abort,
     alloc: Global,
@@ -22,7 +22,7 @@ pub fn built(
     }
 }
 
-/// Three runs of which two lie below 0x10000.
+/// Writes that make three runs, two of them below 0x10000.
 fn three_runs() -> [Write<u8>; 3] {
     [
         Write::Range(0xFFC0..=0xFFCF, 1),
@@ -31,7 +31,8 @@ fn three_runs() -> [Write<u8>; 3] {
     ]
 }
 
-/// What the getters of a typed trie answer, and its fast index for a code point and the next one.
+/// The results of the getters of a typed trie, and of its fast index for a code point and the next
+/// one.
 fn answers_of<'trie, X: TypedCodePointTrie<'trie, u8>>(
     trie: &X,
     last: u32,
@@ -48,8 +49,8 @@ fn answers_of<'trie, X: TypedCodePointTrie<'trie, u8>>(
     (values, fast)
 }
 
-/// What a trie answers as one of its type, where the fast index ends, and whether it is refused as
-/// one of the other type.
+/// The results of a trie as a trie of its type, at the end of the fast index, and whether the
+/// conversion to the other type fails.
 fn typed_answers(trie: &CodePointTrie<'_, u8>) -> (([u8; 3], [Option<u8>; 2]), bool) {
     match trie.as_typed_ref() {
         Typed::Fast(fast) => {
@@ -82,7 +83,7 @@ fn signed_values(trie: CodePointTrie<'_, u8>) -> Option<[i8; 3]> {
     ])
 }
 
-/// Why the values of a copy are no numbers of two bytes, and why those of another are no sides.
+/// The errors of converting one copy to two-byte numbers and another to sides.
 fn faults_of_copies(
     alloc: Global,
     trie: &CodePointTrie<'_, u8>,
@@ -92,13 +93,13 @@ fn faults_of_copies(
     Ok((wide, sides))
 }
 
-/// The place of the last cell.
+/// The position of the last cell.
 fn last_cell(trie: &CodePointTrie<'_, u8>) -> usize {
     let (_, _, data) = trie.parts();
     data.len() - 1
 }
 
-/// The trie is read as signed bytes, and refused as numbers of another width and as sides.
+/// A trie can be read as signed bytes, but not as numbers of another width or as sides.
 #[test]
 fn converted_values(rt: HostRuntime) {
     let letters = [Write::Range(0x41..=0x5A, 1), Write::One(0x41, 0)];
@@ -112,7 +113,7 @@ fn converted_values(rt: HostRuntime) {
     }
 }
 
-/// A null value that is none of the other type.
+/// A null value that is not a value of the other type.
 #[test]
 fn converted_null_value(rt: HostRuntime) {
     let header = CodePointTrieHeader {

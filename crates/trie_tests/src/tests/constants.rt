@@ -1,4 +1,4 @@
-//! The constants of the format, as ICU's `ucptrie_impl.h` and the Rust crate have them.
+//! The constants of the format, as in ICU's `ucptrie_impl.h` and in the Rust crate.
 use super::expect_same;
 use icu_collections::codepointtrie::impl_const::{
     BMP_INDEX_LENGTH, CODE_POINT_MAX, CP_PER_INDEX_2_ENTRY, ERROR_VALUE_NEG_DATA_OFFSET,
@@ -9,7 +9,7 @@ use icu_collections::codepointtrie::impl_const::{
     SMALL_TYPE_FAST_INDEXING_MAX,
 };
 
-/// Each by its name, and what it is.
+/// The name of each constant, its value, and the expected value.
 static CONSTANTS: [(&str, u32, u32); 24] = [
     ("FAST_TYPE_SHIFT", FAST_TYPE_SHIFT as u32, 6),
     (
@@ -53,7 +53,7 @@ static CONSTANTS: [(&str, u32, u32); 24] = [
     ("CODE_POINT_MAX", CODE_POINT_MAX, 0x10_FFFF),
 ];
 
-/// Each constant is what the format has.
+/// Each constant has the value of the format.
 #[test]
 fn constants(rt: HostRuntime) {
     for (name, found, want) in CONSTANTS.iter() {

@@ -1,4 +1,4 @@
-//! Texts of the errors of tries and of their binary form.
+//! The texts of the errors of tries and of their binary form.
 use super::expect_told;
 use icu_trie::error::CodePointTrieError;
 use icu_trie::map_value::MapError;
@@ -62,7 +62,7 @@ static WRITTEN: [(WriteError, &str); 8] = [
     (WriteError::Memory, "no memory"),
 ];
 
-/// Each error is told as what it is.
+/// Each error has its text.
 #[test]
 fn texts_of_errors(rt: HostRuntime) {
     expect_told(&rt, &MAPPED);

@@ -1,4 +1,4 @@
-//! Ranges that touch are joined.
+//! Adjacent ranges with equal values are joined.
 use super::expect_same;
 use icu_trie::iterator_utils::RangeListIteratorCoalescer;
 use icu_trie_core::range::CodePointMapRange;
@@ -6,12 +6,12 @@ use std::ops::RangeInclusive;
 use std::process::Abort;
 use std::test::Fail;
 
-/// The range of a value.
+/// A range with a value.
 fn with<T>(range: RangeInclusive<u32>, value: T) -> CodePointMapRange<T> {
     CodePointMapRange { range, value }
 }
 
-/// The ranges found are those wanted, in their order.
+/// Checks that the ranges are the expected ones, in order.
 fn expect_ranges(
     rt: &impl Abort,
     found: Vec<CodePointMapRange<u8>>,
@@ -20,7 +20,8 @@ fn expect_ranges(
     expect_same(rt, found.as_slice(), want, "the ranges");
 }
 
-/// Nothing is behind the greatest number.
+/// Adjacent ranges with equal values are joined, but nothing is joined to a range that ends at the
+/// greatest number.
 #[test]
 fn joined_ranges(rt: HostRuntime) -> Result<(), Fail> {
     let ranges = [with(0..=3, 1u8), with(4..=6, 1), with(8..=9, 1)];

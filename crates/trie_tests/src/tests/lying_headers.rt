@@ -1,16 +1,15 @@
-//! Tries whose header may say what is not so: which are coherent, and what is answered where it is
-//! not.
+//! Tries whose header may be wrong: which of them are coherent, and what the others return.
 use super::{
     Cells, ONES, SEVENS, ZEROS, data, expect, expect_at, expect_same, say, small_header,
     small_trie, trie_of,
 };
 use icu_collections::codepointtrie::{CodePointTrie, CodePointTrieHeader};
 
-/// What is asked of a trie, with its answer.
+/// A question to a trie, with the expected result.
 enum Asked {
-    /// Whether it is coherent.
+    /// Whether the trie is coherent.
     Coherent(bool),
-    /// How many ranges come from 0 on.
+    /// The number of ranges from 0 on.
     Ranges(usize),
     /// The value of a code point, which is also the packed byte of its cell.
     Value(u32, u8),
@@ -18,16 +17,16 @@ enum Asked {
     Range(u32, Option<(u32, u32, u8)>),
 }
 
-/// Headers, by their high start and their null data offset, each over an index of zeros and such
-/// data, and what the trie answers.
+/// Headers with this high start and null data offset, each with an index of zeros and these data,
+/// and the expected result.
 static HEADERS: [((u32, u32), Cells, Asked); 38] = [
-    // What these say is so.
+    // These headers are right.
     ((0x1000, 0xfffff), SEVENS, Asked::Coherent(true)),
     ((0x1000, 0xfffff), ONES, Asked::Coherent(true)),
     ((0, 0xfffff), SEVENS, Asked::Coherent(true)),
     ((0x200, 0xfffff), SEVENS, Asked::Coherent(true)),
     ((0x1000, 0), (0, 7, 9), Asked::Coherent(true)),
-    // The high start is no multiple of 512, or above the code points.
+    // The high start is not a multiple of 512, or it is above 0x110000.
     ((0x1001, 0xfffff), SEVENS, Asked::Coherent(false)),
     ((0xFFFF_FFFF, 0xfffff), SEVENS, Asked::Coherent(false)),
     ((0x11_0200, 0xfffff), SEVENS, Asked::Coherent(false)),
@@ -36,10 +35,11 @@ static HEADERS: [((u32, u32), Cells, Asked); 38] = [
     // Cells of the index are missing.
     ((0x1200, 0xfffff), SEVENS, Asked::Coherent(false)),
     ((0x2000, 0xfffff), ONES, Asked::Coherent(false)),
-    // The fast index goes on above the high start with another value.
+    // The fast index continues above the high start with another value.
     ((0xE00, 0xfffff), ONES, Asked::Coherent(false)),
     ((0, 0xfffff), ONES, Asked::Coherent(false)),
-    // A header that claims more than its cells hold gets the error value, and no fault.
+    // If a header claims more code points than there are cells, look-ups return the error value and
+    // do not panic.
     ((0x1000, 0xfffff), SEVENS, Asked::Value(0, 7)),
     ((0x1000, 0xfffff), SEVENS, Asked::Value(0x1000, 7)),
     ((0x1000, 0xfffff), SEVENS, Asked::Value(0x10FFFF, 7)),
@@ -52,7 +52,7 @@ static HEADERS: [((u32, u32), Cells, Asked); 38] = [
     ((0x2000, 0xfffff), ONES, Asked::Value(0, 1)),
     ((0x2000, 0xfffff), ONES, Asked::Value(0x1000, 3)),
     ((0x2000, 0xfffff), ONES, Asked::Value(0x2000, 2)),
-    // Each code point of a block that is named as null, and is not, is alone.
+    // In a block that is wrongly named as null, each code point is a range of its own.
     ((0x1000, 0xfffff), SEVENS, Asked::Ranges(1)),
     ((0x1000, 0), SEVENS, Asked::Ranges(0x1001)),
     ((0xFFFF_FFFF, 0xfffff), SEVENS, Asked::Ranges(0)),
@@ -100,12 +100,12 @@ fn packed_at(trie: &CodePointTrie<'_, u8>, c: u32) -> Option<u8> {
     }
 }
 
-/// How many ranges come from 0 on.
+/// The number of ranges from 0 on.
 fn count_of(trie: &CodePointTrie<'_, u8>) -> usize {
     trie.iter_ranges().count()
 }
 
-/// Whether the trie answers so.
+/// True if the trie has the expected result.
 fn answers(trie: CodePointTrie<'_, u8>, asked: &Asked) -> bool {
     match asked {
         Asked::Coherent(want) => trie.is_coherent() == *want,
@@ -129,7 +129,7 @@ fn headers_quiet(rt: HostRuntime) {
     say(&rt, "done");
 }
 
-/// The first sixteen cells of the null block of 64 are the null value, and the next one isn't.
+/// The first sixteen cells of the null block of 64 are the null value, and the next one is not.
 #[test]
 fn null_block_of_sixteen_alone(rt: HostRuntime) {
     let mut cells = data((0, 7, 9));
@@ -138,7 +138,7 @@ fn null_block_of_sixteen_alone(rt: HostRuntime) {
     expect(&rt, !coherent, "the seventeenth cell is another value");
 }
 
-/// The last block ends before its high start, and the index has no cell behind it.
+/// The high start is inside a block of 16, and the index has no cell after that of this block.
 #[test]
 fn ranges_by_an_unaligned_high_start(rt: HostRuntime) {
     let mut index = [0; 150];
@@ -151,8 +151,8 @@ fn ranges_by_an_unaligned_high_start(rt: HostRuntime) {
     }
 }
 
-/// The bytes of an index in which the index-2 block stands at 65, and its ninth cell, for 0x1000,
-/// is this one.
+/// The bytes of an index whose index-2 block is at position 65. `cell` is its ninth cell, which is
+/// for 0x1000.
 fn index_of(cell: u16) -> [u8; 280] {
     let mut index = [0; 280];
     index[128] = 65;
@@ -162,9 +162,11 @@ fn index_of(cell: u16) -> [u8; 280] {
     index
 }
 
-/// Index-2 cells, the null one, data, and whether the trie is coherent. All data offsets are 0.
+/// Index-2 cells, the null index-3 offset, data, and whether the trie is coherent. All data offsets
+/// are 0.
 static INDEX_2_CELLS: [(u16, u16, Cells, bool); 10] = [
-    // The block has the value 1 where it isn't named as null, and bit 15 belongs to its name.
+    // The block has the value 1, so it is not null. The trie is coherent if the header does not
+    // name the block as null (bit 15 counts) and the block's index cells exist.
     (100, 0x7fff, ONES, true),
     (0x8064, 0x7fff, ONES, true),
     (100, 100, ONES, false),
@@ -173,7 +175,7 @@ static INDEX_2_CELLS: [(u16, u16, Cells, bool); 10] = [
     (100, 0x8064, ONES, true),
     (130, 0x7fff, ONES, false),
     (0x7ffe, 0x7fff, ONES, false),
-    // The block is named as null, and is.
+    // The block is named as null, and it is null.
     (100, 100, (0, 2, 3), true),
     (0x8064, 0x8064, (0, 2, 3), true),
 ];
@@ -192,7 +194,7 @@ fn coherence_by_index_2_cells(rt: HostRuntime) {
     }
 }
 
-/// There are no packed bytes where the index leads outside the data.
+/// There are no packed bytes if the index leads outside the data.
 #[test]
 fn packed_cells_outside_the_data(rt: HostRuntime) {
     let mut index = [0; 196];

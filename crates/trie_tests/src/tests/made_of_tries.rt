@@ -1,4 +1,4 @@
-//! What is made of a trie: the set of a value's code points, and the trie of mapped values.
+//! What is made from a trie: the set of code points with a value, and the trie of mapped values.
 use super::{ONES, ZEROS, data, expect, expect_at, expect_same, say, small_trie};
 use icu_invlist::codepointinvlist::CodePointInversionList;
 use icu_trie::cptrie::CodePointTrie;
@@ -6,7 +6,7 @@ use icu_trie::map_value::MapError;
 use icu_zerovec::MemoryError;
 use std::process::Abort;
 
-/// Whether the first code point is in the set, the last one below 0x1000, and the next one.
+/// Whether these are in the set: the first code point, the last one below 0x1000, and the next one.
 fn low_ones(set: CodePointInversionList<'_>) -> (bool, bool, bool) {
     (
         set.contains32(0),
@@ -15,7 +15,7 @@ fn low_ones(set: CodePointInversionList<'_>) -> (bool, bool, bool) {
     )
 }
 
-/// The set of the code points below 0x1000, or the want of memory was told, which is said.
+/// Checks the set of the code points below 0x1000. If an allocation failed, prints `refused`.
 fn expect_low_ones(
     rt: &(impl Abort + Print),
     found: Result<CodePointInversionList<'_>, MemoryError>,
@@ -37,12 +37,12 @@ fn get_set_for_value_refused(rt: HostRuntime) {
     expect_low_ones(&rt, found);
 }
 
-/// A number that is 0x100 more.
+/// The value plus 0x100.
 fn higher(value: u8) -> Result<u16, u8> {
     Ok(u16::from(value) + 0x100)
 }
 
-/// A number that is 0x100 more, and a refusal of 2.
+/// The value plus 0x100, or an error for the value 2.
 fn higher_but_two(value: u8) -> Result<u16, u8> {
     if value == 2 {
         Err(value)
@@ -51,12 +51,12 @@ fn higher_but_two(value: u8) -> Result<u16, u8> {
     }
 }
 
-/// Whether the value 2 was refused.
+/// True if mapping failed with the error for the value 2.
 fn is_two_refused(mapped: Result<CodePointTrie<'_, u16>, MapError<u8>>) -> bool {
     matches!(mapped.err(), Some(MapError::Closure(2)))
 }
 
-/// What a function answers that refuses a value is told.
+/// The error that the closure returns is passed on.
 #[test]
 fn refusal_of_a_value(rt: HostRuntime) {
     let ones = data(ONES);
@@ -75,7 +75,8 @@ fn four_values(trie: CodePointTrie<'_, u16>) -> [u16; 4] {
     ]
 }
 
-/// Each value is 0x100 more than in the trie that was mapped.
+/// Checks that each value is 0x100 more than in the original trie. If an allocation failed, checks
+/// the error and prints `refused`.
 fn expect_mapped(rt: &(impl Abort + Print), mapped: Result<CodePointTrie<'_, u16>, MapError<u8>>) {
     match mapped {
         Ok(mapped) => {

@@ -1,4 +1,4 @@
-//! Packed vectors of types that are a user's own.
+//! Packed vectors of user-defined types.
 ghost use Rattle.std.specs.Prelude.{◌≡◌, IsTrue, fold, IfOk, IsOk};
 ghost use Rattle.std.specs.Hash.DefaultHasher as sip;
 
@@ -22,7 +22,8 @@ fn hash_of<T: Hash>(x: &T) -> u64
     state.finish()
 }
 
-/// Vectors with one list are equal and hash alike, whatever their bytes, for every lawful type.
+/// Vectors with the same list are equal and have equal hashes, whatever their bytes, for every
+/// lawful type.
 fn are_alike<T: AsULE>(a: &ZeroVec<'_, T>, b: &ZeroVec<'_, T>) -> bool
     requires { a.now ≡ b.now }
     ensures { IsTrue result }
@@ -30,7 +31,7 @@ fn are_alike<T: AsULE>(a: &ZeroVec<'_, T>, b: &ZeroVec<'_, T>) -> bool
     *a == *b && hash_of(a) == hash_of(b)
 }
 
-/// The bytes of a vector are not refused, and are the same list again, for every lawful type.
+/// The bytes of a vector parse as a vector with the same list, for every lawful type.
 fn parsed_again<'v, T: AsULE>(v: &'v ZeroVec<'_, T>) -> Result<ZeroVec<'v, T>, UleError>
     ensures ok { IsOk result }
     ensures same { IfOk result (λ w. w ≡ v.now) }
@@ -38,7 +39,7 @@ fn parsed_again<'v, T: AsULE>(v: &'v ZeroVec<'_, T>) -> Result<ZeroVec<'v, T>, U
     ZeroVec::parse_bytes(v.as_bytes())
 }
 
-/// Four flags, in two encodings: neither is refused, and they are alike.
+/// Four flags in two encodings: both parse, and they are equal.
 #[tactic(auto, unfolding(icu_zerovec::specs::Cells::values_of))]
 fn has_two_encodings() -> bool
     ensures { IsTrue result }
@@ -52,12 +53,12 @@ fn has_two_encodings() -> bool
     }
 }
 
-/// The vector of which other bytes are encodings too.
+/// A vector of flags that other bytes encode too.
 fn owned_flags(alloc: Global) -> Result<ZeroVec<'static, Flag>, MemoryError> {
     ZeroVec::alloc_from_slice(alloc, &[OFF, ON, ON, OFF])
 }
 
-/// The second flag, by the bytes of the vector.
+/// The second flag, parsed from the bytes of the vector.
 fn second_parsed_again(flags: &ZeroVec<'_, Flag>) -> Option<Flag> {
     match parsed_again(flags) {
         Ok(again) => again.get(1),
@@ -66,7 +67,7 @@ fn second_parsed_again(flags: &ZeroVec<'_, Flag>) -> Option<Flag> {
 }
 
 /// Whether the flags of these bytes equal those of [`owned_flags`], as vectors and as slices, and
-/// hash alike; whether both keep their bytes, and the second of the flags is on.
+/// have the same hash; whether both keep their bytes, and the second flag is on.
 fn compared(alloc: Global, bytes: &[u8]) -> Option<([bool; 3], [bool; 3])> {
     let lent = ZeroVec::<Flag>::parse_bytes(bytes).ok()?;
     let owned = owned_flags(alloc).ok()?;
@@ -83,7 +84,8 @@ fn compared(alloc: Global, bytes: &[u8]) -> Option<([bool; 3], [bool; 3])> {
     Some((alike, kept))
 }
 
-/// Other bytes are the same flags, and other flags are neither equal nor hash alike.
+/// Other bytes of the same flags are equal and have the same hash. Other flags are not equal and
+/// have other hashes.
 #[test]
 fn encodings_of_flags(rt: HostRuntime) {
     expect(&rt, has_two_encodings(), "two encodings");
@@ -99,11 +101,11 @@ fn encodings_of_flags(rt: HostRuntime) {
     }
 }
 
-/// Two flags, off and on, as the numbers of their bytes and how many these are; whether the numbers
-/// are these flags again; and why the flags are no sides.
+/// Two flags, off and on, as the numbers of their bytes, and how many numbers there are; whether
+/// the numbers convert back to these flags; and the error of converting the flags to sides.
 type Converted = ((Option<u8>, Option<u8>, usize), bool, Option<UleError>);
 
-/// What conversions of two flags give.
+/// The results of converting two flags.
 fn converted() -> Result<Converted, UleError> {
     let numbers = ZeroVec::<Flag>::parse_bytes(&[0, 255])?.try_into_converted::<u8>()?;
     let read = (numbers.get(0), numbers.get(1), numbers.len());
@@ -112,7 +114,7 @@ fn converted() -> Result<Converted, UleError> {
     Ok((read, again, flags.try_into_converted::<Side>().err()))
 }
 
-/// A conversion keeps the bytes as they are, and doesn't pack the values anew.
+/// A conversion leaves the bytes unchanged and does not pack the values again.
 #[test]
 fn flags_converted(rt: HostRuntime) {
     let want = ((Some(0), Some(255), 2), true, Some(UleError::Cell(1)));

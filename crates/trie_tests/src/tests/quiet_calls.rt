@@ -1,6 +1,6 @@
-//! Calls that ask for no memory: all reads of a trie, of its ranges and of its cells, and its
-//! conversions. The script `tests/refused_memory` sees that a test whose name ends in `_quiet` asks
-//! for nothing between the lines `call` and `done`.
+//! Functions that allocate nothing: all reads of a trie, of its ranges and of its cells, and its
+//! conversions. The script `tests/refused_memory` checks that a test whose name ends in `_quiet`
+//! allocates nothing between the lines `call` and `done`.
 use super::values::Side;
 use super::{ONES, ZEROS, data, expect_same, say, small_header, trie_of};
 use icu_trie::cptrie::CodePointTrie;
@@ -11,12 +11,12 @@ use icu_trie_core::header::{CodePointTrieHeader, TrieType};
 use icu_trie_core::value::TrieValue;
 use std::process::Abort;
 
-/// The trie of 1 below 0x1000, 2 from there on, and the error value 3.
+/// The trie with 1 below 0x1000, 2 from there on, and the error value 3.
 fn trie_of_two<'a>(rt: &impl Abort, cells: &'a [u8; 66]) -> CodePointTrie<'a, u8> {
     trie_of(rt, small_header(0x1000, 1), &ZEROS, cells)
 }
 
-/// The values by the getters, and how many cells the index and the data have.
+/// The results of the getters, and the numbers of index cells and data cells.
 fn reads_of(trie: CodePointTrie<'_, u8>) -> ([u8; 5], u32, (usize, usize)) {
     let values = [
         trie.get('A'),
@@ -59,13 +59,13 @@ fn fast_indices_quiet(rt: HostRuntime) {
     expect_same(&rt, (limits, lengths), want, "limits, and cells");
 }
 
-/// Seven, of each value.
+/// Maps every value to 7.
 fn seven(_value: u8) -> u8 {
     7
 }
 
-/// How many ranges have the value 2, and how many are left where all have one value and where those
-/// that touch and have one value are joined.
+/// The number of ranges with the value 2, of ranges if all values are mapped to one, and of ranges
+/// after joining.
 fn ranges_of(trie: CodePointTrie<'_, u8>) -> [usize; 3] {
     [
         trie.iter_ranges_for_value(2).count(),
@@ -86,10 +86,10 @@ fn ranges_quiet(rt: HostRuntime) {
     expect_same(&rt, ranges, [1, 1, 2], "ranges");
 }
 
-/// What a trie of a known type reads: its values, and those by its fast index.
+/// The reads of a typed trie: its values, and the values by its fast index.
 type TypedReads = ([u8; 4], u32, [Option<u8>; 2]);
 
-/// What a trie of a known type reads by its fast index: at 0x41, and past its last code point.
+/// The values of a typed trie by its fast index: at 0x41, and at the first code point after it.
 fn fast_reads<'a, X: TypedCodePointTrie<'a, u8>>(trie: &X, past: u32) -> [Option<u8>; 2] {
     [
         trie.get32_by_fast_index(0x41),
@@ -97,7 +97,7 @@ fn fast_reads<'a, X: TypedCodePointTrie<'a, u8>>(trie: &X, past: u32) -> [Option
     ]
 }
 
-/// What a trie of a known type reads, with the first code point past its fast index.
+/// The reads of a typed trie. `past` is the first code point after its fast index.
 fn typed_reads<'a, X: TypedCodePointTrie<'a, u8>>(trie: &X, past: u32) -> TypedReads {
     trie.shown();
     let values = [
@@ -109,7 +109,7 @@ fn typed_reads<'a, X: TypedCodePointTrie<'a, u8>>(trie: &X, past: u32) -> TypedR
     (values, trie.get32_u32(0x41), fast_reads(trie, past))
 }
 
-/// The small trie's value at 0x1000, by the trie as its type is told, lent.
+/// The value of the small trie at 0x1000, through a typed trie that borrows it.
 fn lent_value(trie: &CodePointTrie<'_, u8>) -> u8 {
     match trie.as_typed_ref() {
         Typed::Small(small) => small.to_untyped().get32(0x1000),
@@ -117,7 +117,7 @@ fn lent_value(trie: &CodePointTrie<'_, u8>) -> u8 {
     }
 }
 
-/// The small trie's value at 0x1000, by a conversion that asks for it, and what it reads.
+/// The value of the small trie at 0x1000, through `SmallCodePointTrie::try_from`, and its reads.
 fn small_values(trie: &CodePointTrie<'_, u8>) -> Option<(u8, TypedReads)> {
     match SmallCodePointTrie::try_from(trie) {
         Ok(small) => Some((
@@ -128,7 +128,7 @@ fn small_values(trie: &CodePointTrie<'_, u8>) -> Option<(u8, TypedReads)> {
     }
 }
 
-/// The value at 0x1000 of a trie, as its type is told, and whether it is no fast one.
+/// The value of a trie at 0x1000, through `to_typed`, and whether it is not a fast trie.
 fn told_value(trie: CodePointTrie<'_, u8>) -> (u8, bool) {
     let refused = FastCodePointTrie::try_from(&trie).is_err();
     match trie.to_typed() {
@@ -156,8 +156,8 @@ fn typed_tries_quiet(rt: HostRuntime) {
     expect_same(&rt, (small, (lent, told.0, told.1)), want, "a small trie");
 }
 
-/// The value of a fast trie at 0x41, by the trie as a fast one, lent and given, what it reads, and
-/// whether it is no small one.
+/// The value of a fast trie at 0x41, through a borrowed and an owned fast trie, its reads, and
+/// whether it is not a small trie.
 fn fast_values(trie: CodePointTrie<'_, u8>) -> Option<(u8, u8, TypedReads, bool)> {
     let refused = SmallCodePointTrie::try_from(&trie).is_err();
     let (lent, reads) = match FastCodePointTrie::try_from(&trie) {
@@ -192,7 +192,7 @@ fn fast_tries_quiet(rt: HostRuntime) {
     expect_same(&rt, types, (TrieType::Fast, TrieType::Small), "the types");
 }
 
-/// The value at 0x41 of the trie, as one of signed numbers.
+/// The value at 0x41 of the trie as a trie of signed numbers.
 fn signed_value(trie: CodePointTrie<'_, u8>) -> Option<i8> {
     let signed = trie.try_into_converted::<i8>().ok()?;
     Some(signed.get32(0x41))

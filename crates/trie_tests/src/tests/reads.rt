@@ -1,4 +1,4 @@
-//! How many cells one look-up reads, and one walk, by cells of a test's own.
+//! How many cells one look-up and one walk read, counted by user-defined cells.
 ghost use Rattle.std.specs.Prelude.{◌≡◌, ◌<◌};
 ghost use Rattle.icu_trie_core.specs.Contents.{contents_of};
 ghost use Rattle.icu_zerovec.specs.Slice.{slice_values};
@@ -13,7 +13,7 @@ use icu_collections::zerovec::ZeroSlice;
 use std::marker::Brand;
 use std::sync::ledger::{Blank, Ledger};
 
-/// The cells of a trie's parts, with a count that can be shown.
+/// The cells of a trie's parts, with a count of the reads that can be printed.
 #[derive(Drop)]
 struct CountedParts<'a, T: TrieValue, L: Ledger> {
     index: ZeroSlice<'a, u16>,
@@ -48,8 +48,8 @@ impl<'a, T: TrieValue, L: Ledger> Cells<T> for CountedParts<'a, T, L> {
     }
 }
 
-/// What a walk, `look_up_whole` and `look_up` find at a code point, each with how many cells it
-/// read, and whether the trie is coherent.
+/// The results of a walk, of `look_up_whole` and of `look_up` at a code point, each with the number
+/// of cells it read, and whether the trie is coherent.
 type Answers<T> = (
     (Option<CodePointMapRange<T>>, u64),
     (Option<T>, u64),
@@ -57,7 +57,7 @@ type Answers<T> = (
     bool,
 );
 
-/// The answers at `c` over cells of the test's own.
+/// The results at `c` over the counting cells.
 fn counted<T: TrieValue, L: Ledger>(trie: &CodePointTrie<'_, T>, c: u32, blank: Blank) -> Answers<T>
     requires name { blank.name ≡ L.name }
     requires parts { blank.parts ≡ L.parts }
@@ -82,13 +82,13 @@ fn counted<T: TrieValue, L: Ledger>(trie: &CodePointTrie<'_, T>, c: u32, blank: 
     ((range, walked), (whole, read), looked_up, coherent)
 }
 
-/// The answers at `c`, with a count of its own.
+/// The results at `c`, with a new count.
 fn asked<T: TrieValue>(trie: CodePointTrie<'_, T>, c: u32) -> Answers<T> {
     counted::<T, Brand>(&trie, c, Blank::new(1))
 }
 
-/// Code points of a trie in which one block of 512 has offsets of 18 bits, each with its cell and
-/// how many cells a look-up reads: the longest way takes five.
+/// Code points of a trie in which one block of 512 has 18-bit offsets, each with its cell and the
+/// number of cells that a look-up reads. The longest path takes five.
 static LOOK_UPS: [(u32, Option<u8>, u64); 6] = [
     (0x1035, Some(42), 5),
     (0x1034, Some(0), 5),
@@ -98,8 +98,8 @@ static LOOK_UPS: [(u32, Option<u8>, u64); 6] = [
     (0x110000, None, 0),
 ];
 
-/// The bytes of an index whose index-2 block starts at 65. Its ninth cell, for 0x1000, names the
-/// block of 18 bits at 80, of which the fourth offset, that of 0x1030, is 3.
+/// The bytes of an index whose index-2 block is at position 65. Its ninth cell, for 0x1000, names
+/// the block of 18-bit offsets at position 80. The fourth offset of that block, for 0x1030, is 3.
 fn long_offsets() -> [u8; 256] {
     let mut index = [0; 256];
     index[128] = 65;
@@ -129,7 +129,7 @@ fn cells_quiet(rt: HostRuntime) {
     expect_at(&rt, found, (true, Some(1), Some(1), true), 0x41);
 }
 
-/// The most cells that one walk over a built trie reads.
+/// The greatest number of cells that one walk over a built trie reads.
 const MOST_READS: u64 = 6_000;
 
 /// The first and the last code point of a range, and its value.
@@ -138,7 +138,7 @@ fn ends_of(range: Option<CodePointMapRange<u8>>) -> Option<(u32, u32, u8)> {
     Some((*range.range.start(), *range.range.end(), range.value))
 }
 
-/// The last code point has 1, and all others 0: no high start ends a walk before it.
+/// The last code point has 1 and all others have 0, so no high start ends the walk early.
 #[test]
 fn reads_of_one_walk(rt: HostRuntime) {
     for trie_type in [TrieType::Fast, TrieType::Small] {

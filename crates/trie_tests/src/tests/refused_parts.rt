@@ -1,11 +1,11 @@
-//! Tries that are made of parts: which are refused.
+//! Which parts are rejected when a trie is made of them.
 use super::{ZEROS, expect_at, expect_same, say, small_header};
 use icu_collections::codepointtrie::{CodePointTrie, CodePointTrieError, PartsError};
 use icu_collections::zerovec::ZeroVec;
 use std::alloc::Global;
 use std::process::Abort;
 
-/// The fault of so many zeros as index and as data, if any.
+/// The error for an index and data of this many zeros, if any.
 fn fault_of(index: usize, data: usize, null_value: u32) -> Option<Option<CodePointTrieError>> {
     let index = ZeroVec::parse_bytes(ZEROS.get(..index.checked_mul(2)?)?).ok()?;
     let data = ZeroVec::<u8>::parse_bytes(ZEROS.get(..data)?).ok()?;
@@ -13,7 +13,7 @@ fn fault_of(index: usize, data: usize, null_value: u32) -> Option<Option<CodePoi
     Some(made.err())
 }
 
-/// The fault of the same parts, which are copied.
+/// The error for the same parts when they are copied.
 fn fault_of_copied(
     alloc: Global,
     index: usize,
@@ -26,7 +26,7 @@ fn fault_of_copied(
     Some(made.err())
 }
 
-/// How many zeros are the index and the data, the null value, and the fault of these parts.
+/// The number of zeros in the index and in the data, the null value, and the error for these parts.
 static PARTS: [(usize, usize, u32, Option<CodePointTrieError>); 7] = [
     (64, 64, 0, None),
     (
@@ -47,7 +47,7 @@ static PARTS: [(usize, usize, u32, Option<CodePointTrieError>); 7] = [
     (63, 0, 0, Some(CodePointTrieError::EmptyDataVector)),
 ];
 
-/// Parts that are copied are refused as parts that are lent.
+/// Copied parts are rejected with the same error as borrowed parts.
 #[test]
 fn parts_are_refused_in_order(rt: HostRuntime) {
     for (index, data, null_value, fault) in PARTS.iter() {
@@ -61,7 +61,7 @@ fn parts_are_refused_in_order(rt: HostRuntime) {
     }
 }
 
-/// The trie of copied parts, or that there was no room for them.
+/// Checks the trie of copied parts. If an allocation failed, checks the error and prints `refused`.
 fn expect_copied(rt: &(impl Abort + Print), made: Result<CodePointTrie<'static, u8>, PartsError>) {
     match made {
         Ok(trie) => expect_at(rt, trie.get32(0xFFF), 7, 0xFFF),

@@ -1,5 +1,4 @@
-//! Values of tries along texts: examples from outside, each call at a type, and no call asks for
-//! memory.
+//! Values of tries along texts: examples from outside, and each function allocates nothing.
 mod support;
 mod text;
 mod utf16;

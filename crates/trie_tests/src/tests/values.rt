@@ -1,12 +1,12 @@
-//! Values of a user's own: one that takes two of the 256 bytes, and one of which several bytes are
-//! one value.
+//! User-defined values: a type for which only two of the 256 bytes are valid, and one in which
+//! several bytes encode the same value.
 ghost use Rattle.std.specs.Prelude.{◌≡◌, ◌<◌, Some, Bool, ℕ};
 
 use icu_collections::codepointtrie::{NotAValue, TrieValue};
 use icu_zerovec::ule::AsULE;
 use std::marker::Model;
 
-/// The side on which a mark stands: 0 before, 1 after. No other byte is a side.
+/// The side on which a mark is: 0 before, 1 after. No other byte is a side.
 #[derive(Clone, Copy, PartialEq, Eq)]
 pub(super) struct Side {
     pub(super) byte: u8,

@@ -1,4 +1,4 @@
-//! Tries in ICU's binary form: those that ICU wrote.
+//! Tries in ICU's binary form that ICU wrote.
 use super::binary_tables::{LARGE_8_HEADER, SMALL_8, SMALL_32, fast_16};
 use crate::tests::{expect_same, say};
 use icu_trie::cptrie::CodePointTrie;
@@ -7,7 +7,7 @@ use icu_trie::value::TrieValue;
 use icu_trie_binary::binary::{AnyWidthTrie, BinaryError, from_binary, from_binary_any};
 use std::process::Abort;
 
-/// What ICU says of a trie that it opened.
+/// What ICU says about a trie that it opened.
 struct Opened {
     len: usize,
     header: CodePointTrieHeader,
@@ -83,7 +83,7 @@ const SMALL_32_OPENED: Opened = Opened {
     ],
 };
 
-/// The trie has this header, and answers each number with that of its value.
+/// Checks that the trie has this header and these numbers of its values.
 fn expect_numbers<T: TrieValue>(rt: &impl Abort, trie: CodePointTrie<'_, T>, want: &Opened) {
     let (header, _, _) = trie.parts();
     expect_same(rt, header, want.header, "the header");
@@ -92,7 +92,7 @@ fn expect_numbers<T: TrieValue>(rt: &impl Abort, trie: CodePointTrie<'_, T>, wan
     }
 }
 
-/// The bytes begin with this trie.
+/// Checks that the bytes start with this trie.
 fn expect_opened(rt: &impl Abort, bytes: &[u8], want: &Opened) {
     let Ok((trie, len)) = from_binary_any(bytes) else {
         rt.panic("no trie");
@@ -119,13 +119,13 @@ fn tries_of_icu_quiet(rt: HostRuntime) {
     expect_same(&rt, lengths, want, "more bytes, and one less");
 }
 
-/// How many bytes a trie of 8 bits takes, or why there is none.
+/// The number of bytes of an 8-bit trie, or the error.
 fn length_of(bytes: &[u8]) -> Result<usize, BinaryError> {
     let (_, len) = from_binary::<u8>(bytes)?;
     Ok(len)
 }
 
-/// The bytes of a trie whose data's length has more than 16 bits, and more bytes.
+/// The bytes of a trie whose data length needs more than 16 bits, followed by more bytes.
 fn large_8() -> [u8; 70_000] {
     let mut bytes = [0; 70_000];
     bytes[..16].copy_from_slice(&LARGE_8_HEADER);

@@ -1,4 +1,4 @@
-//! Tries in ICU's binary form with the highest byte of each number first.
+//! Tries in ICU's binary form in big-endian byte order.
 use super::binary_tables::{SMALL_8, SMALL_32};
 use crate::tests::{expect_same, say};
 use icu_trie_binary::binary::{BinaryError, SwappedError, from_binary_swapped, to_binary};
@@ -6,14 +6,14 @@ use std::alloc::Global;
 use std::process::Abort;
 use std::test::Fail;
 
-/// The header of `SMALL_8` and the first two cells of its index with the highest byte first. The
-/// other cells are all zero, and its values take one byte each: so the rest is the same in both
+/// The header of `SMALL_8` and the first two cells of its index, in big-endian order. The other
+/// index cells are zero, and the values take one byte each. So the rest is the same in both byte
 /// orders.
 const FRONT_8: [u8; 20] = [
     0x54, 0x72, 0x69, 0x33, 0x0f, 0x42, 0, 64, 0, 132, 0x7f, 0xff, 0xff, 0xff, 0, 8, 0, 0, 0, 64,
 ];
 
-/// `SMALL_8` with the highest byte first, and three bytes behind it.
+/// `SMALL_8` in big-endian order, followed by three more bytes.
 fn swapped_8(alloc: Global) -> Option<Vec<u8>> {
     let mut bytes = Vec::from_slice(alloc, &FRONT_8).ok()?;
     bytes.extend_from_slice(&SMALL_8[20..]).ok()?;
@@ -21,7 +21,7 @@ fn swapped_8(alloc: Global) -> Option<Vec<u8>> {
     Some(bytes)
 }
 
-/// Appends groups of so many bytes, each from its last byte to its first.
+/// Appends groups of `width` bytes, each in reverse order.
 fn append_reversed(bytes: &mut Vec<u8>, groups: &[u8], width: usize) -> Result<(), Fail> {
     if width > 0 {
         for group in groups.chunks(width) {
@@ -33,7 +33,7 @@ fn append_reversed(bytes: &mut Vec<u8>, groups: &[u8], width: usize) -> Result<(
     Ok(())
 }
 
-/// `SMALL_32` with the highest byte first: its index has 186 cells.
+/// `SMALL_32` in big-endian order. Its index has 186 cells.
 fn swapped_32(alloc: Global) -> Result<Vec<u8>, Fail> {
     let mut bytes = Vec::new(alloc);
     append_reversed(&mut bytes, &SMALL_32[..4], 4)?;
@@ -42,8 +42,8 @@ fn swapped_32(alloc: Global) -> Result<Vec<u8>, Fail> {
     Ok(bytes)
 }
 
-/// How many of the bytes the trie of 32 bits takes, and the bytes as which it is written. `None`
-/// where there is none, or no memory.
+/// How many of the bytes the 32-bit trie takes, and the bytes as which it is written. `None` if
+/// there is no trie or an allocation fails.
 fn rewritten(alloc: Global, bytes: &[u8]) -> Option<(usize, Vec<u8>)> {
     match from_binary_swapped::<u32>(alloc, bytes) {
         Ok((trie, len)) => match to_binary(alloc, &trie) {
@@ -54,7 +54,7 @@ fn rewritten(alloc: Global, bytes: &[u8]) -> Option<(usize, Vec<u8>)> {
     }
 }
 
-/// It takes all bytes, and is written as ICU wrote it.
+/// Checks that the trie takes all bytes and is written as ICU wrote it.
 fn expect_rewritten(rt: &impl Abort, found: Option<(usize, Vec<u8>)>) {
     match found {
         Some((len, written)) => {
@@ -73,25 +73,26 @@ fn trie_of_32_bits(rt: HostRuntime) -> Result<(), Fail> {
     Ok(())
 }
 
-/// How many bytes the trie of 8 bits takes, or why there is none.
+/// The number of bytes of the 8-bit trie, or the error.
 fn length_of(alloc: Global, bytes: &[u8]) -> Result<usize, SwappedError> {
     let (_, len) = from_binary_swapped::<u8>(alloc, bytes)?;
     Ok(len)
 }
 
-/// A byte less than a header has.
+/// One byte less than a header.
 const SHORT_8: [u8; 15] = [
     0x54, 0x72, 0x69, 0x33, 0x0f, 0x42, 0, 64, 0, 132, 0x7f, 0xff, 0xff, 0xff, 0,
 ];
 
-/// Bytes, and why they hold no such trie: in this machine's order, no header, a header alone.
+/// Bytes that hold no big-endian trie, with the error: a trie in this machine's byte order, less
+/// than a header, and a header alone.
 static FAULTS: [(&[u8], BinaryError); 3] = [
     (&SMALL_8, BinaryError::Swapped),
     (&SHORT_8, BinaryError::Short),
     (&FRONT_8, BinaryError::CutOff),
 ];
 
-/// Bytes that hold no such trie are refused by their fault.
+/// Bytes that hold no such trie are rejected with this error.
 #[test]
 fn bytes_of_no_such_trie(rt: HostRuntime) {
     for (bytes, fault) in FAULTS.iter() {
@@ -100,7 +101,8 @@ fn bytes_of_no_such_trie(rt: HostRuntime) {
     }
 }
 
-/// The trie takes 276 bytes, or the want of memory was told, which is said.
+/// Checks that the trie takes 276 bytes. If an allocation failed, checks the error and prints
+/// `refused`.
 fn expect_length(rt: &(impl Abort + Print), len: Result<usize, SwappedError>) {
     match len {
         Ok(len) => expect_same(rt, len, 276, "bytes of the trie"),

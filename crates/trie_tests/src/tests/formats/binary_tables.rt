@@ -1,8 +1,9 @@
-//! Tries that `ucptrie_toBinary` of ICU4C 72 wrote. Each was built by `umutablecptrie_buildImmutable`
-//! from an initial value, an error value and calls of `umutablecptrie_setRange`.
+//! Tries that `ucptrie_toBinary` of ICU4C 72 wrote. Each was built by
+//! `umutablecptrie_buildImmutable` from an initial value, an error value and calls of
+//! `umutablecptrie_setRange`.
 
-/// Small, 8 bits: initial value 0, error value 0; up to U+0FFF the even code points have 3 and the
-/// odd ones 1, from U+1000 on all have 5. It has no data null block.
+/// Small, 8 bits. Initial value 0, error value 0. Up to U+0FFF the even code points have 3 and the
+/// odd ones 1; from U+1000 on all have 5. It has no data null block.
 pub const SMALL_8: [u8; 276] = [
     51, 105, 114, 84, 66, 15, 64, 0, 132, 0, 255, 127, 255, 255, 8, 0, 0, 0, 64, 0, 0, 0, 0, 0, 0,
     0, 0, 0, 0, 0, 0, 0, 0, 0, 0, 0, 0, 0, 0, 0, 0, 0, 0, 0, 0, 0, 0, 0, 0, 0, 0, 0, 0, 0, 0, 0, 0,
@@ -15,7 +16,7 @@ pub const SMALL_8: [u8; 276] = [
     1, 3, 1, 3, 1, 3, 1, 3, 1, 3, 1, 3, 1, 3, 1, 3, 1, 3, 1, 3, 1, 3, 1, 5, 5, 5, 0,
 ];
 
-/// Fast, 16 bits: initial value 5, error value 0xBAD; U+0041..005A have 0x1234. These are its first
+/// Fast, 16 bits. Initial value 5, error value 0xBAD. U+0041..005A have 0x1234. These are its first
 /// bytes: the header, and the first two cells of the index. The other 1,022 cells are 0.
 const FAST_16_FRONT: [u8; 20] = [
     51, 105, 114, 84, 0, 0, 0, 4, 130, 0, 255, 127, 0, 0, 1, 0, 0, 0, 64, 0,
@@ -42,8 +43,8 @@ pub fn fast_16() -> [u8; 2324] {
     bytes
 }
 
-/// Small, 32 bits: initial value 1, error value 0xBADBAD; U+0041..005A have 0x12345678,
-/// U+1F600..1F64F have 0xFFFFFFFE. The last cell of the index is there for the data's place alone.
+/// Small, 32 bits. Initial value 1, error value 0xBADBAD. U+0041..005A have 0x12345678, and
+/// U+1F600..1F64F have 0xFFFFFFFE. The last index cell only aligns the data.
 pub const SMALL_32: [u8; 972] = [
     51, 105, 114, 84, 65, 0, 186, 0, 146, 0, 2, 0, 0, 0, 252, 0, 0, 0, 64, 0, 0, 0, 0, 0, 0, 0, 0,
     0, 0, 0, 0, 0, 0, 0, 0, 0, 0, 0, 0, 0, 0, 0, 0, 0, 0, 0, 0, 0, 0, 0, 0, 0, 0, 0, 0, 0, 0, 0, 0,
@@ -82,7 +83,7 @@ pub const SMALL_32: [u8; 972] = [
     1, 0, 0, 0, 173, 219, 186, 0,
 ];
 
-/// The header of a fast trie of 8 bits with 1,173 cells of index and 67,582 of data. It takes
+/// The header of a fast 8-bit trie with 1,173 index cells and 67,582 data cells. The trie takes
 /// 69,944 bytes.
 pub const LARGE_8_HEADER: [u8; 16] = [
     51, 105, 114, 84, 2, 31, 149, 4, 254, 7, 255, 127, 255, 255, 132, 0,

@@ -1,5 +1,5 @@
-//! Tries written in ICU's binary form: those that ICU wrote give its bytes again; refusals, and
-//! memory.
+//! Tries written in ICU's binary form: tries that ICU wrote give its bytes again, some tries are
+//! rejected, and allocations fail.
 use super::binary_tables::{SMALL_8, SMALL_32, fast_16};
 use crate::tests::{expect, expect_same, say, trie_of};
 use icu_trie::cptrie::CodePointTrie;
@@ -11,7 +11,8 @@ use std::alloc::Global;
 use std::process::Abort;
 use std::test::Fail;
 
-/// How many bytes the trie takes, by both calls, where it is written into this room.
+/// The number of bytes of the trie, if `binary_len` and `write_binary`, which writes it into
+/// `room`, agree on it.
 fn written_length<T: TrieValue>(trie: &CodePointTrie<'_, T>, room: &mut [u8]) -> Option<usize> {
     let len = write_binary(trie, room).ok()?;
     if binary_len(trie).ok()? == len {
@@ -21,15 +22,15 @@ fn written_length<T: TrieValue>(trie: &CodePointTrie<'_, T>, room: &mut [u8]) ->
     }
 }
 
-/// Whether the trie is refused where there are 275 bytes, which are too few, and these stay.
+/// True if writing to 275 bytes, which are too few, is an error and leaves them unchanged.
 fn is_refused<T: TrieValue>(trie: &CodePointTrie<'_, T>) -> bool {
     let mut few = [7; 275];
     let refused = matches!(write_binary(trie, &mut few), Err(WriteError::Short));
     refused && few == [7; 275]
 }
 
-/// Whether the trie takes so many bytes, whether it is written as these where there is room, and
-/// what follows them stays, and whether it is refused where there are too few.
+/// Three checks: the trie takes as many bytes as `bytes`; it is written as these bytes into a
+/// longer buffer, and the byte after them is unchanged; and writing to too few bytes is an error.
 fn is_written_as<T: TrieValue>(trie: CodePointTrie<'_, T>, bytes: &[u8]) -> [bool; 3] {
     let mut room = [7; 2326];
     let len = written_length(&trie, &mut room);
@@ -37,7 +38,7 @@ fn is_written_as<T: TrieValue>(trie: CodePointTrie<'_, T>, bytes: &[u8]) -> [boo
     [len == Some(bytes.len()), same, is_refused(&trie)]
 }
 
-/// The trie that the bytes begin with is written as these bytes.
+/// Checks that the trie at the start of the bytes is written as the same bytes.
 fn expect_again<T: TrieValue>(rt: &impl Abort, bytes: &[u8], _value: T) {
     let Ok((trie, _)) = from_binary::<T>(bytes) else {
         rt.panic("no trie");
@@ -61,7 +62,7 @@ fn written_again_quiet(rt: HostRuntime) {
     say(&rt, "done");
 }
 
-/// The index of 186 cells without the last one, which ICU put there.
+/// The index of 186 cells without the last one, which ICU appended.
 #[test]
 fn odd_index_is_padded_as_icu_does(rt: HostRuntime) {
     let header = CodePointTrieHeader {
@@ -77,7 +78,7 @@ fn odd_index_is_padded_as_icu_does(rt: HostRuntime) {
     expect_same(&rt, found, [true; 3], "length, bytes, and room");
 }
 
-/// A header for which there is room, of a trie whose cells are all zero.
+/// A header that the binary form can store, of a trie whose cells all are zero.
 const PLAIN: CodePointTrieHeader = CodePointTrieHeader {
     high_start: 0x1000,
     shifted12_high_start: 1,
@@ -87,7 +88,7 @@ const PLAIN: CodePointTrieHeader = CodePointTrieHeader {
     trie_type: TrieType::Small,
 };
 
-/// Headers for which there is no room.
+/// Headers that the binary form cannot store.
 const FAR_NULL_BLOCK: CodePointTrieHeader = CodePointTrieHeader {
     data_null_offset: 0x10_0000,
     ..PLAIN
@@ -108,7 +109,8 @@ const OTHER_NULL: CodePointTrieHeader = CodePointTrieHeader {
     ..PLAIN
 };
 
-/// What `binary_len` answers of a trie with so many cells of index and of data, all of them zero.
+/// The result of `binary_len` for a trie with this many index cells and data cells, all of them
+/// zero.
 fn len_of_zeros(
     alloc: Global,
     header: CodePointTrieHeader,
@@ -120,7 +122,7 @@ fn len_of_zeros(
     Ok(binary_len(&trie))
 }
 
-/// Headers, how many cells of index and of data there are, and what `binary_len` answers.
+/// Headers, the numbers of index cells and of data cells, and the result of `binary_len`.
 static LENGTHS: [(
     CodePointTrieHeader,
     (usize, usize),
@@ -137,7 +139,7 @@ static LENGTHS: [(
     (OTHER_NULL, (64, 64), Err(WriteError::NullValue)),
 ];
 
-/// The form has room for so many cells, and for such headers.
+/// The length at the limits of the binary form, and the errors beyond them.
 #[test]
 fn lengths_of_tries(rt: HostRuntime) -> Result<(), Fail> {
     for (header, cells, want) in LENGTHS.iter() {
@@ -147,14 +149,15 @@ fn lengths_of_tries(rt: HostRuntime) -> Result<(), Fail> {
     Ok(())
 }
 
-/// The form has values of one, two and four bytes.
+/// Three-byte values are an error, since the binary form has values of one, two and four bytes.
 #[test]
 fn values_of_three_bytes(rt: HostRuntime) {
     let found = binary_len(&trie_of::<char>(&rt, PLAIN, &[0; 2 * 64], &[0; 3 * 64]));
     expect_same(&rt, found, Err(WriteError::UnknownWidth), "the fault");
 }
 
-/// What was written is what ICU wrote, or the want of memory was told, which is said.
+/// Checks that the bytes are those that ICU wrote. If an allocation failed, checks the error and
+/// prints `refused`.
 fn expect_bytes(rt: &(impl Abort + Print), written: Result<Vec<u8>, WriteError>) {
     match written {
         Ok(bytes) => expect_same(rt, bytes.as_slice(), SMALL_8.as_slice(), "the bytes of ICU"),
@@ -165,7 +168,7 @@ fn expect_bytes(rt: &(impl Abort + Print), written: Result<Vec<u8>, WriteError>)
     }
 }
 
-/// The other two calls have the same error, and take no memory.
+/// The other two functions have the same error type, and allocate nothing.
 ///
 /// Calls: `binary::binary_len`, `binary::to_binary`, `binary::write_binary`.
 #[test]

@@ -1,4 +1,4 @@
-//! Tries in JSON: faults, the way there and back, texts, and refused memory.
+//! Tries in JSON: faults, round trips, texts of errors, and failing allocations.
 use super::support::{expect_answers, joined};
 use crate::tests::{expect, expect_same, expect_told, say};
 use icu_trie::cptrie::CodePointTrie;
@@ -11,7 +11,7 @@ use std::alloc::Global;
 use std::process::Abort;
 use std::test::Fail;
 
-/// A header but for its type, of an object that goes on.
+/// The start of an object: a header up to the value of its type.
 const HEADER: &str =
     r#"{"header":{"high_start":0,"shifted12_high_start":0,"index3_null_offset":32767,
 "data_null_offset":0,"null_value":0,"trie_type":"#;
@@ -30,19 +30,20 @@ const DATA: &str = r#""data":[
 /// The parts of a trie's object.
 const WHOLE: [&str; 5] = [HEADER, r#""Small"},"#, INDEX, ",", DATA];
 
-/// The value of a text in parts, `None` where memory was refused.
+/// The JSON value of a text in parts, or `None` if an allocation fails.
 fn value_of(alloc: Global, parts: &[&str]) -> Option<Value> {
     let text = joined(alloc, parts)?;
     Value::from_str(alloc, text.as_str()).ok()
 }
 
-/// Why such a value is refused.
+/// The error of reading such a value.
 fn fault_of(alloc: Global, parts: &[&str]) -> Result<Option<TrieJsonError>, Fail> {
     let value = value_of(alloc, parts).ok_or("no value")?;
     Ok(from_json::<u8>(alloc, &value).err())
 }
 
-/// The parts of values, and why they are no trie: by the header, by the arrays, and by both.
+/// The parts of values that are no tries, with the error: faults of the header, of the arrays, and
+/// of both.
 static FAULTS: [(&[&str], TrieJsonError); 15] = [
     (&["[]"], TrieJsonError::Shape("")),
     (&["{}"], TrieJsonError::Shape("header")),
@@ -85,7 +86,7 @@ static FAULTS: [(&[&str], TrieJsonError); 15] = [
     ),
 ];
 
-/// A value is refused by its first fault.
+/// The error is the first fault of the value.
 #[test]
 fn values_of_no_trie(rt: HostRuntime) -> Result<(), Fail> {
     for (parts, fault) in FAULTS.iter() {
@@ -94,7 +95,7 @@ fn values_of_no_trie(rt: HostRuntime) -> Result<(), Fail> {
     Ok(())
 }
 
-/// Whether the trie is written as this value.
+/// True if the trie is written as this value.
 fn is_written_as(alloc: Global, trie: CodePointTrie<'_, u8>, value: &Value) -> bool {
     match to_json(alloc, &trie) {
         Ok(written) => written == *value,
@@ -102,7 +103,7 @@ fn is_written_as(alloc: Global, trie: CodePointTrie<'_, u8>, value: &Value) -> b
     }
 }
 
-/// Whether the trie of this value is written as the same value.
+/// True if the trie of this value is written as the same value.
 fn is_written_again(alloc: Global, value: &Value) -> bool {
     match from_json::<u8>(alloc, value) {
         Ok(trie) => is_written_as(alloc, trie, value),
@@ -110,7 +111,7 @@ fn is_written_again(alloc: Global, value: &Value) -> bool {
     }
 }
 
-/// A trie is written as the value that it was read from.
+/// A trie is written as the value from which it was read.
 #[test]
 fn there_and_back(rt: HostRuntime) {
     let Some(value) = value_of(rt.alloc(), &WHOLE) else {
@@ -140,13 +141,13 @@ static TEXTS: [(TrieJsonError, &str); 5] = [
     (TrieJsonError::Memory, "no memory"),
 ];
 
-/// Each error is told as what it is.
+/// Each error has its text.
 #[test]
 fn texts_of_errors(rt: HostRuntime) {
     expect_told(&rt, &TEXTS);
 }
 
-/// The value has data, or the want of memory was told, which is said.
+/// Checks that the value has data. If an allocation failed, prints `refused`.
 fn expect_written(rt: &(impl Abort + Print), written: Result<Value, MemoryError>) {
     match written {
         Ok(value) => expect(rt, value.get("data").is_some(), "data"),
@@ -165,7 +166,7 @@ fn to_json_refused(rt: HostRuntime) {
     expect(&rt, planes == get_planes_trie(), "as it was");
 }
 
-/// The trie has its values, or the want of memory was told, which is said.
+/// Checks the values of the trie. If an allocation failed, checks the error and prints `refused`.
 fn expect_read(rt: &(impl Abort + Print), trie: Result<CodePointTrie<'_, u8>, TrieJsonError>) {
     match trie {
         Ok(trie) => expect_answers(rt, trie, &[(0x41, 0), (0x1000, 7), (0x11_0000, 9)]),
@@ -176,7 +177,7 @@ fn expect_read(rt: &(impl Abort + Print), trie: Result<CodePointTrie<'_, u8>, Tr
     }
 }
 
-/// A value and its copy, `None` where memory was refused.
+/// A value and its copy, or `None` if an allocation fails.
 fn two_values(alloc: Global) -> Option<(Value, Value)> {
     let value = value_of(alloc, &WHOLE)?;
     Some((value, value_of(alloc, &WHOLE)?))

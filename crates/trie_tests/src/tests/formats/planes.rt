@@ -7,7 +7,7 @@ use icu_trie_formats::planes::get_planes_trie;
 use icu_zerovec::ZeroVec;
 use std::process::Abort;
 
-/// Each code point has its plane, and the index takes 1168 cells of two bytes.
+/// Each code point has its plane as its value, and the index has 1168 cells of two bytes.
 ///
 /// Calls: `planes::get_planes_trie`.
 #[test]
@@ -23,8 +23,8 @@ fn planes_quiet(rt: HostRuntime) {
     expect_same(&rt, found, (0, 2336), "past the last plane, and bytes");
 }
 
-/// The trie of the planes over the first cells of its index, so many: `None` where there are not so
-/// many, or they are no vector.
+/// The trie of the planes with only the first `len` cells of its index. `None` if there are fewer
+/// cells, or if they are not a packed vector.
 fn trie_of_front<'a>(
     planes: &'a CodePointTrie<'static, u8>,
     len: usize,
@@ -37,8 +37,9 @@ fn trie_of_front<'a>(
     }
 }
 
-/// Each plane's first code point and its last one have its number, or no answer: what a look-up
-/// can't find is answered by the error value, which is 0. The last plane is the high value's.
+/// Checks that the first and the last code point of each plane have the number of the plane, or 0.
+/// A look-up that finds no cell returns the error value, which is 0. The last plane has the high
+/// value.
 fn expect_planes(rt: &impl Abort, trie: &CodePointTrie<'_, u8>, len: usize) {
     for plane in 0..17_u32 {
         for c in [plane << 16, (plane << 16) + 0xFFFF] {
@@ -49,14 +50,14 @@ fn expect_planes(rt: &impl Abort, trie: &CodePointTrie<'_, u8>, len: usize) {
     }
 }
 
-/// The range starts at this code point, has one at least, and ends within the code points.
+/// True if the range starts at this code point, is not empty, and ends within the code points.
 fn follows(range: &CodePointMapRange<u8>, start: u32) -> bool {
     let (first, last) = (*range.range.start(), *range.range.end());
     first == start && first <= last && last < 0x11_0000
 }
 
-/// The ranges follow one another, and end. Of a coherent trie, which only the whole index gives,
-/// they end with the code points.
+/// Checks that each range starts right after the previous one, and that the ranges end. Only the
+/// trie over the whole index is coherent; its ranges must end at the last code point.
 fn expect_walked(rt: &impl Abort, trie: &CodePointTrie<'_, u8>, len: usize) {
     let mut next = 0u32;
     for range in trie.iter_ranges() {
@@ -69,8 +70,8 @@ fn expect_walked(rt: &impl Abort, trie: &CodePointTrie<'_, u8>, len: usize) {
     expect_same(rt, found, (len, len == 1168, true), "the last range");
 }
 
-/// A front of fewer than 64 cells is refused, and the trie over each other one answers and is
-/// walked as it has to be.
+/// Checks that a prefix of fewer than 64 cells is rejected, and that the look-ups and ranges of the
+/// trie over any longer prefix are correct.
 fn expect_front(rt: &impl Abort, planes: &CodePointTrie<'static, u8>, len: usize) {
     match trie_of_front(planes, len) {
         Some(Ok(trie)) => {

@@ -1,16 +1,16 @@
-//! Tries in TOML, key by key: each number that is missing or out of its range is named, and the
-//! greatest ones before it are read.
+//! Tries in TOML, key by key: the error names the first number that is missing or out of range, and
+//! all numbers before it are accepted.
 use super::support::joined;
 use crate::tests::expect_same;
 use icu_trie_formats::trie_toml::{CodePointTrieToml, TomlError};
 use std::alloc::Global;
 use std::test::Fail;
 
-/// No cell, which is enough where a number is refused.
+/// An empty index, which is enough if a number is rejected first.
 const INDEX: &str = "index = []\n";
 
-/// The keys of the numbers in their order, each with a line that gives one, and one whose number is
-/// one too many.
+/// The keys of the numbers in order, each with two lines. The first has a number that is accepted,
+/// which is the greatest one except for `type`. The second has a number that is too large.
 const NUMBERS: [(&str, &str, &str); 7] = [
     (
         "highStart",
@@ -41,8 +41,8 @@ const NUMBERS: [(&str, &str, &str); 7] = [
     ),
 ];
 
-/// What a table says that has the index and a line for each number, but `line` in place of that of
-/// number `place`.
+/// The result of reading a table that has the index and a line for each number, with `line` instead
+/// of the line of number `place`.
 fn read_with(
     alloc: Global,
     place: usize,
@@ -57,7 +57,7 @@ fn read_with(
     Ok(CodePointTrieToml::from_table(alloc, &table))
 }
 
-/// One number is missing or too large, and all others are the greatest.
+/// One number is missing or too large, and all the others are accepted.
 #[test]
 fn numbers_that_are_missing_or_too_large(rt: HostRuntime) -> Result<(), Fail> {
     for (i, number) in NUMBERS.iter().enumerate() {

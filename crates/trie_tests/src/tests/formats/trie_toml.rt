@@ -1,4 +1,4 @@
-//! Tries in TOML: faults, the data that count, texts, and refused memory.
+//! Tries in TOML: faults, which array of data is used, texts of errors, and failing allocations.
 use super::support::{expect_answers, joined};
 use crate::tests::{expect, expect_same, expect_told, say};
 use icu_trie::cptrie::CodePointTrie;
@@ -25,7 +25,7 @@ const CELLS: &str = " = [
     7, 9,
 ]\n";
 
-/// The numbers beside the type.
+/// The numbers of the header.
 const FIELDS: &str = "highStart = 4096
 shifted12HighStart = 1
 valueWidth = 2
@@ -33,8 +33,8 @@ index3NullOffset = 32767
 dataNullOffset = 3
 nullValue = 5\n";
 
-/// The parts of a trie's table, which has a name. Of several arrays of data that of the least
-/// numbers counts.
+/// The parts of a trie's table, which also has a name. If there are several arrays of data, the one
+/// with the narrowest values is used.
 const WHOLE: [&str; 5] = [
     INDEX,
     FIELDS,
@@ -43,13 +43,13 @@ const WHOLE: [&str; 5] = [
     CELLS,
 ];
 
-/// The table of a text in parts, `None` where memory was refused.
+/// The table of a text in parts, or `None` if an allocation fails.
 fn table_of(alloc: Global, parts: &[&str]) -> Option<Table> {
     let text = joined(alloc, parts)?;
     toml::table_from_str(alloc, text.as_str()).ok()
 }
 
-/// The trie that a table has.
+/// The trie of a table.
 fn trie_of_table(
     alloc: Global,
     table: &Table,
@@ -58,14 +58,14 @@ fn trie_of_table(
     CodePointTrie::try_from(&read)
 }
 
-/// Why such a table has no trie.
+/// The error of reading a trie from such a table.
 fn fault_of(alloc: Global, parts: &[&str]) -> Result<Option<TrieFromTomlError>, Fail> {
     let table = table_of(alloc, parts).ok_or("no table")?;
     Ok(trie_of_table(alloc, &table).err())
 }
 
-/// The parts of tables, and why they have no trie: the first fault of the table, or what is wrong
-/// with what it holds.
+/// The parts of tables that have no trie, with the error: the first fault of the table, or the
+/// fault of the parts in it.
 static FAULTS: [(&[&str], TrieFromTomlError); 17] = [
     (
         &[FIELDS, "type = 1\n"],
@@ -143,7 +143,7 @@ static FAULTS: [(&[&str], TrieFromTomlError); 17] = [
     ),
 ];
 
-/// A fault of the table is told as such, also by `?` among faults of tries.
+/// A fault of the table is returned as such, and `?` converts it into an error of the trie.
 #[test]
 fn tables_of_no_trie(rt: HostRuntime) -> Result<(), Fail> {
     for (parts, fault) in FAULTS.iter() {
@@ -173,14 +173,14 @@ static TRIE_TEXTS: [(TrieFromTomlError, &str); 3] = [
     ),
 ];
 
-/// Each error is told as what it is.
+/// Each error has its text.
 #[test]
 fn texts_of_errors(rt: HostRuntime) {
     expect_told(&rt, &TABLE_TEXTS);
     expect_told(&rt, &TRIE_TEXTS);
 }
 
-/// The table was read, or the want of memory was told, which is said.
+/// Checks that the table was read. If an allocation failed, checks the error and prints `refused`.
 fn expect_read(rt: &(impl Abort + Print), read: Result<CodePointTrieToml, TomlError>) {
     match read {
         Ok(read) => expect_same(rt, read.index_slice().len(), 64, "cells of the index"),
@@ -191,7 +191,7 @@ fn expect_read(rt: &(impl Abort + Print), read: Result<CodePointTrieToml, TomlEr
     }
 }
 
-/// A table and its copy, `None` where memory was refused.
+/// A table and its copy, or `None` if an allocation fails.
 fn two_tables(alloc: Global) -> Option<(Table, Table)> {
     let table = table_of(alloc, &WHOLE)?;
     Some((table, table_of(alloc, &WHOLE)?))
@@ -210,7 +210,7 @@ fn from_table_refused(rt: HostRuntime) {
     expect(&rt, table == copy, "as it was");
 }
 
-/// The trie has its values, or the want of memory was told, which is said.
+/// Checks the values of the trie. If an allocation failed, checks the error and prints `refused`.
 fn expect_trie(rt: &(impl Abort + Print), trie: Result<CodePointTrie<'_, u8>, TrieFromTomlError>) {
     match trie {
         Ok(trie) => expect_answers(rt, trie, &[(0x41, 5), (0x1000, 7), (0x11_0000, 9)]),
@@ -221,7 +221,7 @@ fn expect_trie(rt: &(impl Abort + Print), trie: Result<CodePointTrie<'_, u8>, Tr
     }
 }
 
-/// What the table of a trie holds, `None` where memory was refused.
+/// The contents of a trie's table, or `None` if an allocation fails.
 fn whole_read(alloc: Global) -> Option<CodePointTrieToml> {
     let table = table_of(alloc, &WHOLE)?;
     CodePointTrieToml::from_table(alloc, &table).ok()
@@ -240,17 +240,17 @@ fn trie_from_toml_refused(rt: HostRuntime) {
     expect_same(&rt, parts_of(&read), PARTS, "as it was");
 }
 
-/// How many cells the table has, whether the data are bytes, and its header.
+/// The number of index cells in the table, whether its data are bytes, and its header.
 fn parts_of(read: &CodePointTrieToml) -> (usize, bool, Option<CodePointTrieHeader>) {
     let is_bytes = matches!(read.data_slice(), Ok(CodePointDataSlice::U8(_)));
     let header = CodePointTrieHeader::try_from(read).ok();
     (read.index_slice().len(), is_bytes, header)
 }
 
-/// What they are in the table of a trie.
+/// The expected `parts_of` of the table `WHOLE`.
 const PARTS: (usize, bool, Option<CodePointTrieHeader>) = (64, true, Some(HEADER));
 
-/// The header in the table of a trie.
+/// The header in the table `WHOLE`.
 const HEADER: CodePointTrieHeader = CodePointTrieHeader {
     high_start: 4096,
     shifted12_high_start: 1,

@@ -1,4 +1,4 @@
-//! The trie that is asked along texts.
+//! The trie for the tests along texts.
 use crate::tests::trie_of;
 use icu_trie::cptrie::CodePointTrie;
 use icu_trie::header::{CodePointTrieHeader, TrieType};
@@ -10,7 +10,7 @@ pub const SURROGATE: u8 = 100;
 /// The value of each code point from 0x10000 on.
 pub const HIGH: u8 = 200;
 
-/// The value where there is no code point.
+/// The value of everything that is not a code point.
 pub const ERROR: u8 = 255;
 
 const HEADER: CodePointTrieHeader = CodePointTrieHeader {
@@ -22,8 +22,8 @@ const HEADER: CodePointTrieHeader = CodePointTrieHeader {
     trie_type: TrieType::Fast,
 };
 
-/// The bytes of the index and of the data of a trie in which each code point below 0x10000 but the
-/// surrogates has its last six bits.
+/// The bytes of the index and of the data of a trie. Each code point below 0x10000, except the
+/// surrogates, has its last six bits as its value.
 pub fn six_bits() -> ([u8; 2048], [u8; 130]) {
     let mut index = [0; 2048];
     for block in 0xD800 / 64..0xE000 / 64 {

@@ -1,12 +1,12 @@
-//! The value of each character of a text, its place, and the first character with a value that is
-//! sought.
+//! The value of each character of a text, its position, and the search for a character by its
+//! value.
 use super::support::{HIGH, six_bits, trie_of_bits};
 use crate::tests::{expect_same, say};
 use icu_trie::cptrie::CodePointTrie;
 use icu_trie_text::text::{Found, find_value, span_of_values, value_indices_of, values_of};
 
-/// Characters of one to four bytes, and the values that the last six bits of their code points are:
-/// U+0041, U+00E9, U+20AC, U+FFFD, U+1F600.
+/// Characters of one to four bytes, and their values, which are the last six bits of their code
+/// points: U+0041, U+00E9, U+20AC, U+FFFD, U+1F600.
 static TEXT: &str = "Aé€\u{FFFD}\u{1F600}";
 
 static VALUES: [(char, u8); 5] = [
@@ -25,7 +25,7 @@ static INDICES: [(usize, char, u8); 5] = [
     (9, '\u{1F600}', HIGH),
 ];
 
-/// Whether the text's characters have these values, and stand at these places, and whether an empty
+/// Whether the characters of the text have these values and these positions, and whether an empty
 /// text has none.
 fn have_values(trie: &CodePointTrie<'_, u8>) -> [bool; 3] {
     [
@@ -46,8 +46,8 @@ fn values_quiet(rt: HostRuntime) {
     expect_same(&rt, found, [true; 3], "values, places, and none");
 }
 
-/// A text, where its first character stands whose value is 1, and how many bytes before it there
-/// are.
+/// A text, the position and character of the first value 1 in it, and the number of bytes before
+/// it.
 static ONES: [(&str, Option<(usize, char)>, usize); 5] = [
     ("", None, 0),
     ("é€", None, 5),
@@ -56,17 +56,17 @@ static ONES: [(&str, Option<(usize, char)>, usize); 5] = [
     ("\u{201}é", Some((0, '\u{201}')), 0),
 ];
 
-/// The value is 1.
+/// True if the value is 1.
 fn is_one(value: u8) -> bool {
     value == 1
 }
 
-/// The value is not 1.
+/// True if the value is not 1.
 fn is_another(value: u8) -> bool {
     value != 1
 }
 
-/// Where the first character with the value 1 stands, and how many bytes before it there are.
+/// The position of the first character with the value 1, and the number of bytes before it.
 fn first_one(trie: &CodePointTrie<'_, u8>, text: &str) -> (Option<(usize, char)>, usize) {
     let found = match find_value(trie, text, is_one) {
         Some(found) => Some((found.offset, found.character)),
@@ -87,12 +87,12 @@ fn searches_quiet(rt: HostRuntime) {
     say(&rt, "done");
 }
 
-/// The value is that of the code points from 0x10000 on.
+/// True if the value is that of the code points from 0x10000 on.
 fn is_high(value: u8) -> bool {
     value == HIGH
 }
 
-/// What is found has its value too.
+/// The search also returns the value it found.
 #[test]
 fn found_value(rt: HostRuntime) {
     let found = find_value(

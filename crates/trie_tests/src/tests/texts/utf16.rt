@@ -4,8 +4,8 @@ use crate::tests::{expect_same, say};
 use icu_trie::cptrie::CodePointTrie;
 use icu_trie_text::text::values_of_utf16;
 
-/// Units, and their code points with their values, as `U16_NEXT` of ICU goes over them: pairs joined,
-/// and each surrogate without a partner by itself.
+/// Units, and their code points with their values. Code points are as in `U16_NEXT` of ICU:
+/// surrogate pairs are joined, and each unpaired surrogate is a code point on its own.
 static ROWS: [(&[u16], &[(u32, u8)]); 8] = [
     (&[], &[]),
     (&[0x41, 0xFFFF], &[(0x41, 1), (0xFFFF, 0x3F)]),
@@ -26,7 +26,7 @@ static ROWS: [(&[u16], &[(u32, u8)]); 8] = [
     ),
 ];
 
-/// Whether the units have these code points, each with its value.
+/// True if the units have these code points and these values.
 fn have_points(trie: &CodePointTrie<'_, u8>, units: &[u16], want: &[(u32, u8)]) -> bool {
     values_of_utf16(trie, units).eq(want.iter().copied())
 }

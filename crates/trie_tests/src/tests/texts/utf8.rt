@@ -4,9 +4,10 @@ use crate::tests::{expect_same, say};
 use icu_trie::cptrie::CodePointTrie;
 use icu_trie_text::text::values_of_utf8;
 
-/// Bytes, and the characters that they become, a U+FFFD for each maximal subpart of what is
-/// ill-formed: the examples of the Unicode Standard, section 3.9, tables 3-8 to 3-11 of version 15,
-/// the one before them from older versions, and fronts of its own at the end of the bytes.
+/// Bytes, and the characters they become, with one U+FFFD for each maximal subpart of an ill-formed
+/// sequence. The first row is from older versions of the Unicode Standard. The next four are tables
+/// 3-8 to 3-11 in section 3.9 of version 15. The other rows are our own, most of them truncated
+/// sequences.
 static ROWS: [(&[u8], &str); 12] = [
     (
         b"\x61\xF1\x80\x80\xE1\x80\xC2\x62\x80\x63\x80\xBF\x64",
@@ -37,7 +38,7 @@ static ROWS: [(&[u8], &str); 12] = [
     (b"\xF5\x80\x80\x80", "\u{FFFD}\u{FFFD}\u{FFFD}\u{FFFD}"),
 ];
 
-/// Whether the characters of the items are those of a text.
+/// True if the characters of the items are those of a text.
 fn have_characters(trie: &CodePointTrie<'_, u8>, bytes: &[u8], text: &str) -> bool {
     let mut wanted = text.chars();
     for (c, _) in values_of_utf8(trie, bytes) {
@@ -61,8 +62,8 @@ fn ill_formed_quiet(rt: HostRuntime) {
     say(&rt, "done");
 }
 
-/// Bytes, and the characters that they become with their values: of the last and the first of each
-/// length, of a U+FFFD that stands there, and of one that stands for an ill-formed part.
+/// Bytes, and the characters they become, with their values: the last and the first character of
+/// each length, a U+FFFD in the text, and one for an ill-formed sequence.
 static VALUES: [(&[u8], &[(char, u8)]); 5] = [
     (b"", &[]),
     (b"\x7F\xC2\x80", &[('\x7F', 0x3F), ('\u{80}', 0)]),
@@ -84,12 +85,12 @@ static VALUES: [(&[u8], &[(char, u8)]); 5] = [
     ),
 ];
 
-/// Whether the bytes have these characters, each with its value.
+/// True if the bytes have these characters and these values.
 fn have_values(trie: &CodePointTrie<'_, u8>, bytes: &[u8], want: &[(char, u8)]) -> bool {
     values_of_utf8(trie, bytes).eq(want.iter().copied())
 }
 
-/// Each character has its value, and so has what is ill-formed.
+/// Each character has its value, and each ill-formed sequence has the error value.
 #[test]
 fn values(rt: HostRuntime) {
     let bits = six_bits();
