@@ -1,4 +1,4 @@
-//! Tests of built code point tries by their public calls, and of callers of the whole library.
+//! Tests of built code point tries through the public API, and of callers of the whole library.
 #![tactic(auto)]
 
 #[cfg(test)]

@@ -1,5 +1,6 @@
-//! What no clause says of built tries: examples whose answers come from outside, printed texts,
-//! sizes, each public call on its happy path, and refused memory; and the callers in `uses`.
+//! Tests of what no contract says about built tries: examples with results from outside, the texts
+//! of errors, sizes, each public function in its normal case, and failing allocations; and the
+//! callers in `uses`.
 
 mod amended_maps;
 mod callers;

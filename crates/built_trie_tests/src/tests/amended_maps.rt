@@ -7,9 +7,9 @@ use crate::tests::support::{
 use icu_collections::codepointtrie::{CodePointTrieBuilder, TrieType, Write};
 use std::process::Abort;
 
-/// Writes 7 at a code point, 8 over it, over a reversed range, which writes nothing, and a list: 10
-/// at one code point, 11 over the last 8, and 7 over the fast limit. Answers whether memory was
-/// found.
+/// Writes 7 at a code point, 8 over it, over a reversed range, which writes nothing, and then a
+/// list: 10 at one code point, 11 over the last 8, and 7 over the fast limit. Returns whether all
+/// allocations succeeded.
 fn write_each(builder: &mut CodePointTrieBuilder<u16>) -> bool {
     let writes = [
         Write::One(0x20000, 10),
@@ -22,7 +22,7 @@ fn write_each(builder: &mut CodePointTrieBuilder<u16>) -> bool {
         && builder.apply(&writes).is_ok()
 }
 
-/// The end and the number of the range from a code point on.
+/// The last code point and the number of the range from a code point on.
 fn end_and_number(builder: &CodePointTrieBuilder<u16>, start: u32) -> Option<(u32, u32)> {
     match builder.get_range(start) {
         Some(range) => {
@@ -33,7 +33,7 @@ fn end_and_number(builder: &CodePointTrieBuilder<u16>, start: u32) -> Option<(u3
     }
 }
 
-/// Code points, and where the range from there on ends and which number it has.
+/// Code points, and the last code point and the number of the range from there on.
 const RANGES: [(u32, Option<(u32, u32)>); 14] = [
     (0, Some((0xFFF, 5))),
     (0xFFF, Some((0xFFF, 5))),
@@ -73,7 +73,7 @@ const NUMBERS: [(u32, u32); 18] = [
     (0xFFFFFFFF, 6),
 ];
 
-/// The ranges of the map that was written to.
+/// Checks the ranges of the map that was written to.
 fn expect_written_ranges(rt: &impl Abort, builder: &CodePointTrieBuilder<u16>) {
     for (start, wanted) in RANGES {
         let found = end_and_number(builder, start);
@@ -81,15 +81,15 @@ fn expect_written_ranges(rt: &impl Abort, builder: &CodePointTrieBuilder<u16>) {
     }
 }
 
-/// Its numbers.
+/// Checks the numbers of the map that was written to.
 fn expect_written_numbers(rt: &impl Abort, builder: &CodePointTrieBuilder<u16>) {
     for (c, number) in NUMBERS {
         expect_number(rt, c, u32::from(builder.get(c)), number);
     }
 }
 
-/// Values and ranges at the borders of what was written, and above the code space: a map is read
-/// without memory, and its trie has the same values.
+/// Values and ranges at the borders of what was written, and above the code space. Reading a map
+/// allocates nothing, and its trie has the same values.
 ///
 /// Calls: `CodePointTrieBuilder::get`, `CodePointTrieBuilder::get_range`.
 #[test]

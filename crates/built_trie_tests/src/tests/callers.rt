@@ -1,5 +1,6 @@
-//! Callers in `uses`, run on rows: a quick check, completion, and a text cut into words. What the
-//! others answer, their clauses say of all inputs.
+//! Callers in `uses`, run on rows: a quick check for normalization, completion of words, and
+//! cutting a text into words. The contracts of the other callers say what they return for all
+//! inputs.
 
 use crate::tests::support::{built, expect_same};
 use icu_collections::char16trie::Char16Trie;
@@ -8,7 +9,7 @@ use icu_collections::zerovec::ZeroVec;
 use std::process::Abort;
 use uses::{texts, words};
 
-/// "a" to 1, "ab" to 2, as ICU writes them.
+/// The trie of "a" with 1 and "ab" with 2, as ICU writes it.
 fn word_trie(rt: &(impl Abort + AllocGlobal)) -> Char16Trie<'static> {
     match ZeroVec::alloc_from_slice(rt.alloc(), &[0x30, 0x61, 0xb0, 0x62, 0x8002]) {
         Ok(units) => Char16Trie::new(units),
@@ -16,11 +17,11 @@ fn word_trie(rt: &(impl Abort + AllocGlobal)) -> Char16Trie<'static> {
     }
 }
 
-/// Texts, and whether they are surely normal by two categories: empty, of 1 alone, one in which Z
-/// has 2, and one in which 1 has 0.
+/// Texts, and whether they are surely normal by two categories: the empty text, one of characters
+/// with 1 only, one in which Z has 2, and one in which 1 has 0.
 const NORMAL: [(&str, bool); 4] = [("", true), ("ABY", true), ("ABZ", false), ("A1", false)];
 
-/// A text is surely normal where each of its characters has 1.
+/// A text is surely normal if each of its characters has 1.
 #[test]
 fn texts_that_are_surely_normal(rt: HostRuntime) {
     let rows = [
@@ -35,7 +36,7 @@ fn texts_that_are_surely_normal(rt: HostRuntime) {
     }
 }
 
-/// There is a list of these two texts and their numbers.
+/// Checks that there is a list of these two texts and their numbers.
 fn expect_listed(rt: &impl Abort, list: Option<Vec<(String, i32)>>, wanted: [(&str, i32); 2]) {
     let Some(list) = list else {
         rt.panic("no list");
@@ -51,21 +52,21 @@ fn expect_listed(rt: &impl Abort, list: Option<Vec<(String, i32)>>, wanted: [(&s
     }
 }
 
-/// What goes on from "a": nothing more, and "b".
+/// The continuations of "a" are the empty text and "b".
 #[test]
 fn words_that_go_on(rt: HostRuntime) {
     let more = words::completions(rt.alloc(), &word_trie(&rt), "a");
     expect_listed(&rt, more, [("", 1), ("b", 2)]);
 }
 
-/// Texts, and how many units the words have into which they are cut.
+/// Texts, and the number of units of each word into which they are cut.
 static CUT: [(&[u16], &[usize]); 3] = [
     (&[0x61, 0x62, 0x78, 0x61], &[2, 1, 1]),
     (&[0x62, 0x61, 0x61, 0x62], &[1, 1, 2]),
     (&[], &[]),
 ];
 
-/// Each word is the longest one at its place, or one unit.
+/// Each word is the longest one at its position, or one unit.
 #[test]
 fn texts_cut_into_words(rt: HostRuntime) {
     let trie = word_trie(&rt);

@@ -1,4 +1,4 @@
-//! Data whose blocks share cells: the null block, and blocks that begin with the end of the one
+//! Data whose blocks share cells: the null block, and blocks that start with the end of the block
 //! before.
 
 use crate::tests::support::{
@@ -7,7 +7,7 @@ use crate::tests::support::{
 use icu_collections::codepointtrie::{CodePointTrie, Write};
 use std::process::Abort;
 
-/// The null block of the trie holds zeros, and blocks of 512 hold nothing else.
+/// Checks that the null value is 0, and that there are null blocks of data and of 512.
 fn expect_zeros_as_null(rt: &impl Abort, trie: &CodePointTrie<'_, u8>) {
     let (header, _, _) = sizes_of(trie);
     expect_number(rt, 0, header.null_value, 0);
@@ -19,12 +19,13 @@ fn expect_zeros_as_null(rt: &impl Abort, trie: &CodePointTrie<'_, u8>) {
     );
 }
 
-/// The null block does not start where a block of 64 starts that only begins like it: a walk would
-/// take that for the null block, and go on over its fives.
+/// The null block of 16 does not have the offset of a block of 64 that only starts with the same
+/// cells. Otherwise a walk would take that block of 64 for the null block and skip the fives in it.
 ///
-/// Where it is written anew behind the cells, it takes those of its number that they end with:
-/// fifteen in the second map, and so one cell more: 128 fives, a block of 64 that begins with
-/// zeros, a block of 16 that ends with fifteen, one zero, and the last two values.
+/// If the null block is written again at the end of the cells, it overlaps the cells of its number
+/// there. In the second map these are fifteen, so it adds one cell. The data are then 128 fives, a
+/// block of 64 that starts with zeros, a block of 16 that ends with fifteen zeros, one more zero,
+/// and the last two values.
 #[test]
 fn null_block_beside_zeros(rt: HostRuntime) {
     for (three, most_data) in [(0x10FFFF, 320), (0x10FFF0, 211)] {
@@ -41,8 +42,9 @@ fn null_block_beside_zeros(rt: HostRuntime) {
     }
 }
 
-/// A hundred groups of writes, each so many code points behind the one before. A group has blocks
-/// of `size` code points with ascending numbers, which in the next group are so much higher.
+/// A hundred groups of writes, each `behind` code points after the one before. A group has `blocks`
+/// blocks of `size` code points with ascending numbers; in the next group the numbers are greater
+/// by `higher`.
 fn overlapping_writes(
     rt: &(impl Abort + AllocGlobal),
     behind: u32,
@@ -59,7 +61,7 @@ fn overlapping_writes(
     writes
 }
 
-/// The tries of both types have at most so many cells, and these numbers.
+/// Checks that the tries of both types have at most this many cells, and these numbers.
 fn expect_shared(
     rt: &(impl Abort + AllocGlobal),
     writes: &[Write<u32>],
@@ -73,8 +75,8 @@ fn expect_shared(
     }
 }
 
-/// Blocks of 16 that begin with the last eight numbers of the one before take the cells that they
-/// have in common once.
+/// If a block of 16 starts with the last eight numbers of the block before, these cells are stored
+/// once.
 #[test]
 fn overlapping_data_blocks(rt: HostRuntime) {
     let writes = overlapping_writes(&rt, 16, 1, 16, 8);
@@ -82,7 +84,7 @@ fn overlapping_data_blocks(rt: HostRuntime) {
     expect_shared(&rt, &writes, (usize::MAX, 1000), &numbers);
 }
 
-/// Index-3 blocks do too: blocks of 512, each of 32 blocks of 16 of one value, of which the first
+/// The same for index-3 blocks. Each block of 512 has 32 blocks of 16 of one value; the first
 /// sixteen are the last sixteen of the block before.
 #[test]
 fn overlapping_index_blocks(rt: HostRuntime) {
@@ -98,8 +100,8 @@ fn overlapping_index_blocks(rt: HostRuntime) {
     expect_shared(&rt, &writes, (3000, usize::MAX), &numbers);
 }
 
-/// Blocks of 16 that stand in a block of 64 below the fast limit, at places that are no multiple of
-/// 16, take no cells.
+/// Blocks of 16 that occur in a block of 64 below the fast limit need no cells, even at positions
+/// that are not multiples of 16.
 #[test]
 fn small_blocks_in_a_fast_block(rt: HostRuntime) {
     let mut writes = Vec::new(rt.alloc());

@@ -1,4 +1,4 @@
-//! Every getter of a trie, values of every type, and parts.
+//! All getters of a trie, values of every type, and parts.
 
 use crate::tests::support::{
     BOTH, are_same, built, expect, expect_number, expect_same, number_at, say, try_built,
@@ -6,8 +6,8 @@ use crate::tests::support::{
 use icu_collections::codepointtrie::{CodePointTrie, TrieValue, Write};
 use std::process::Abort;
 
-/// In the tries of both types of this write over the first of the two values, with the second as
-/// the error value, the value is at 0x20000, and these numbers are there and past the code points.
+/// Checks the value and its number at 0x20000, and the number above the code points, in the tries
+/// of both types with these writes. `values` are the default and the error value.
 fn expect_signed<T: TrieValue>(
     rt: &(impl Abort + AllocGlobal),
     values: (T, T),
@@ -23,7 +23,7 @@ fn expect_signed<T: TrieValue>(
     }
 }
 
-/// A negative value keeps its sign, and has the number of its two's complement of 32 bits.
+/// A negative value keeps its sign, and its number is its 32-bit two's complement.
 #[test]
 fn negative_value(rt: HostRuntime) {
     let of_8 = [Write::One(0x20000, -1)];
@@ -35,7 +35,7 @@ fn negative_value(rt: HostRuntime) {
     expect_signed(&rt, (0i32, -9), &of_32, i32::MIN, numbers);
 }
 
-/// The number is that of this value, or of none.
+/// Checks that the number is that of this value, or of no value.
 fn expect_value<T: TrieValue>(rt: &impl Abort, number: u32, value: Option<T>) {
     expect(
         rt,
@@ -44,7 +44,8 @@ fn expect_value<T: TrieValue>(rt: &impl Abort, number: u32, value: Option<T>) {
     );
 }
 
-/// Numbers that are no value of a type: a surrogate, and what doesn't fit.
+/// The least and greatest numbers of values, and numbers that no value has: a surrogate, and
+/// numbers out of range.
 #[test]
 fn numbers_of_values(rt: HostRuntime) {
     expect_value(&rt, 0xFFFFFF80, Some(-128i8));
@@ -58,7 +59,7 @@ fn numbers_of_values(rt: HostRuntime) {
     expect_value(&rt, 0x110000, None::<char>);
 }
 
-/// What the getters answer of a trie of characters.
+/// The results of the getters of a trie of characters.
 fn answers_of(trie: &CodePointTrie<'_, char>) -> ([char; 10], [u32; 2]) {
     let characters = [
         trie.get('a'),
@@ -78,7 +79,7 @@ fn answers_of(trie: &CodePointTrie<'_, char>) -> ([char; 10], [u32; 2]) {
     )
 }
 
-/// What they are to answer.
+/// The expected results.
 const CHARACTERS: [char; 10] = [
     'A',
     '\u{10400}',
@@ -92,7 +93,8 @@ const CHARACTERS: [char; 10] = [
     '-',
 ];
 
-/// The getters answer so, and take no memory.
+/// Checks that the getters return these, and prints the lines for the check that they allocate
+/// nothing.
 fn expect_answers(rt: &(impl Abort + Print), trie: &CodePointTrie<'_, char>) {
     say(rt, "call");
     let (characters, numbers) = answers_of(trie);
@@ -101,7 +103,7 @@ fn expect_answers(rt: &(impl Abort + Print), trie: &CodePointTrie<'_, char>) {
     expect_same(rt, numbers, [0x10400, 0xFFFD], "numbers");
 }
 
-/// Characters that stand for others, as in a mapping of characters to their upper case.
+/// A trie whose values are characters, as in a mapping to upper case.
 ///
 /// Calls: `CodePointTrie::get`, `CodePointTrie::get16`, `CodePointTrie::get32_supplementary`,
 /// `CodePointTrie::get32`, `CodePointTrie::error_value`, `CodePointTrie::null_value`,
@@ -120,8 +122,7 @@ fn each_getter_quiet(rt: HostRuntime) {
     }
 }
 
-/// Whether the trie of the parts of this one, which it borrows, equals it, and its number at
-/// 0x20000.
+/// Whether the trie of this trie's parts, which it borrows, equals it, and its number at 0x20000.
 fn lent_answers(trie: &CodePointTrie<'_, u16>) -> Option<(bool, u32)> {
     let (header, index, data) = trie.parts();
     match CodePointTrie::try_new(header, index.as_zerovec(), data.as_zerovec()) {
@@ -130,7 +131,8 @@ fn lent_answers(trie: &CodePointTrie<'_, u16>) -> Option<(bool, u32)> {
     }
 }
 
-/// The trie of the parts is the same, and takes no memory.
+/// Checks that the trie of the parts is the same, and prints the lines for the check that it
+/// allocates nothing.
 fn expect_lent(rt: &(impl Abort + Print), trie: &CodePointTrie<'_, u16>) {
     say(rt, "call");
     let found = lent_answers(trie);
@@ -138,7 +140,7 @@ fn expect_lent(rt: &(impl Abort + Print), trie: &CodePointTrie<'_, u16>) {
     expect_same(rt, found, Some((true, 5)), "lent");
 }
 
-/// A trie of the parts of another one, which it borrows, equals it.
+/// A trie of the borrowed parts of another one equals it.
 ///
 /// Calls: `CodePointTrie::parts`, `CodePointTrie::try_new`, `ZeroSlice::as_zerovec`.
 #[test]

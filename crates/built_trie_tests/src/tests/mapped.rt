@@ -1,4 +1,4 @@
-//! Ranges and tries under a map of the values, of built tries.
+//! Ranges of mapped values, and tries with mapped values, of built tries.
 
 use crate::tests::support::{BOTH, built, expect, expect_ranges, expect_same};
 use icu_collections::codepointtrie::{CodePointMapRange, CodePointTrie, MapError, TrieType, Write};
@@ -6,12 +6,12 @@ use std::fmt::Debug;
 use std::ops::RangeInclusive;
 use std::process::Abort;
 
-/// The range of a value.
+/// A range with a value.
 fn with<T>(range: RangeInclusive<u32>, value: T) -> CodePointMapRange<T> {
     CodePointMapRange { range, value }
 }
 
-/// What was found is what is wanted, in its order.
+/// Checks that what was found is as expected, in order.
 fn expect_items<T: PartialEq + Debug + Drop, E>(
     rt: &impl Abort,
     found: Result<Vec<T>, E>,
@@ -23,7 +23,7 @@ fn expect_items<T: PartialEq + Debug + Drop, E>(
     }
 }
 
-/// Equal values on both sides of the fast limit are one run, where they are mapped to one.
+/// Values on both sides of the fast limit form one run if they are mapped to the same value.
 #[test]
 fn runs_over_the_fast_limit(rt: HostRuntime) {
     let writes = [
@@ -45,7 +45,7 @@ fn runs_over_the_fast_limit(rt: HostRuntime) {
     expect_items(&rt, mapped, &wanted);
 }
 
-/// A trie of 7 for all with the error value 9.
+/// A trie with 7 at all code points and the error value 9.
 fn seven(rt: &(impl Abort + AllocGlobal), trie_type: TrieType) -> CodePointTrie<'static, u8> {
     built(rt, trie_type, (7u8, 9), &[])
 }
@@ -71,7 +71,7 @@ fn one_default_for_all(rt: HostRuntime) {
     }
 }
 
-/// The error value is the first that is asked for, and no call follows its refusal.
+/// The first call is for the error value, and after its error there is no further call.
 fn expect_refusal_of_nine(rt: &(impl Abort + AllocGlobal), trie: &CodePointTrie<'_, u8>) {
     let mut calls = 0u32;
     let answer = trie.try_alloc_map_value(rt.alloc(), |v: u8| {

@@ -1,4 +1,4 @@
-//! Random maps, built and asked beside a plain list of the number of each code point.
+//! Random maps, built and compared with a plain list of the number of each code point.
 
 use crate::tests::support::{
     BOTH, append, append_blocks, built, expect, expect_number, number_at, random_number, run_list,
@@ -6,16 +6,16 @@ use crate::tests::support::{
 use icu_collections::codepointtrie::{CodePointTrie, Write};
 use std::process::Abort;
 
-/// Places near which something may go wrong.
+/// Code points near which something may go wrong.
 const PLACES: [u32; 16] = [
     0, 0x40, 0x7F, 0x80, 0x400, 0xFC0, 0xFF0, 0x1000, 0xD7FF, 0xFFC0, 0x10000, 0x103FF, 0x1FFF0,
     0x20000, 0xEFFFF, 0x10FF00,
 ];
 
-/// How long a written range is, at most.
+/// The greatest lengths of a written range.
 const LENGTHS: [u32; 8] = [0, 1, 15, 16, 64, 200, 600, 0x12000];
 
-/// A range near one of the places, and one of so many numbers for it.
+/// A write of a number below `numbers` to a range near one of `PLACES`.
 fn random_write(state: &mut u32, numbers: u32) -> Write<u32> {
     let place = PLACES[(random_number(state) % 16) as usize];
     let first = place.saturating_add(random_number(state) % 0x110);
@@ -25,9 +25,9 @@ fn random_write(state: &mut u32, numbers: u32) -> Write<u32> {
     Write::Range(first..=first.saturating_add(length), number)
 }
 
-/// The writes of the map of this place among the random ones: in every other one few numbers, so
-/// that blocks are often equal, and in every fourth one so many different blocks that data offsets
-/// need 18 bits in some index-3 blocks and 16 in others.
+/// The writes of random map number `place`. Odd maps have few numbers, so that blocks are often
+/// equal. Every fourth map has so many different blocks that data offsets need 18 bits in some
+/// index-3 blocks and 16 in others.
 fn random_writes(rt: &(impl Abort + AllocGlobal), state: &mut u32, place: u32) -> Vec<Write<u32>> {
     let mut writes = Vec::new(rt.alloc());
     if place % 4 == 0 {
@@ -40,7 +40,7 @@ fn random_writes(rt: &(impl Abort + AllocGlobal), state: &mut u32, place: u32) -
     writes
 }
 
-/// Gives the code points of a range this number in a list.
+/// Sets the code points of a range to this number in a list.
 fn cover(list: &mut Vec<u32>, first: u32, last: u32, number: u32) {
     for c in first..=last {
         if let Some(cell) = list.get_mut(c as usize) {
@@ -49,7 +49,7 @@ fn cover(list: &mut Vec<u32>, first: u32, last: u32, number: u32) {
     }
 }
 
-/// The number of each code point: the last write's, and 0 where nothing is written.
+/// The number of each code point: that of the last write, or 0 if there is none.
 fn list_of(rt: &(impl Abort + AllocGlobal), writes: &[Write<u32>]) -> Vec<u32> {
     let alloc = rt.alloc();
     let Ok(mut list) = vec![in alloc; 0u32; 0x110000] else {
@@ -63,13 +63,13 @@ fn list_of(rt: &(impl Abort + AllocGlobal), writes: &[Write<u32>]) -> Vec<u32> {
     list
 }
 
-/// The number that is listed for this code point; 9, the error value, where none is.
+/// The number of this code point in the list, or 9, the error value, above the code points.
 fn listed(list: &[u32], c: u32) -> u32 {
     list.get(c as usize).copied().unwrap_or(9)
 }
 
-/// The trie's ranges are whole, have the listed numbers, as its look-ups do, and end where these
-/// change.
+/// Checks that the trie's ranges cover all code points, that ranges and look-ups have the listed
+/// numbers, and that each range ends where the number changes.
 fn expect_runs(
     rt: &impl Abort,
     trie: &CodePointTrie<'_, u32>,
@@ -90,7 +90,7 @@ fn expect_runs(
     expect_number(rt, 0x10FFFF, next, 0x110000);
 }
 
-/// Builds the tries of a map and asks them.
+/// Builds the tries of a map and checks them.
 fn ask(rt: &(impl Abort + AllocGlobal), writes: &[Write<u32>]) {
     let list = list_of(rt, writes);
     for trie_type in BOTH {
@@ -99,7 +99,7 @@ fn ask(rt: &(impl Abort + AllocGlobal), writes: &[Write<u32>]) {
     }
 }
 
-/// Two of each four maps have few numbers, and one has wide offsets.
+/// Of each four maps, two have few numbers and one has 18-bit offsets.
 #[test]
 fn random_maps(rt: HostRuntime) {
     let mut state = 1;

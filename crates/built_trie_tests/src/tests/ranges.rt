@@ -6,8 +6,8 @@ use crate::tests::support::{
 use icu_collections::codepointtrie::{CodePointTrie, Write};
 use std::process::Abort;
 
-/// A map: its default, what is written, its ranges, and numbers at some code points. A range has
-/// its first and last code point and its number; the error value is 9.
+/// A map: its default, the writes, its ranges, and numbers at some code points. A range has its
+/// first and last code point and its number. The error value is 9.
 type Row = (
     u8,
     &'static [(u32, u32, u8)],
@@ -16,7 +16,7 @@ type Row = (
 );
 
 static MAPS: [Row; 8] = [
-    // The default counts as any other value.
+    // The default is written like any other value.
     (
         0,
         &[(0x41, 0x5A, 1), (0x41, 0x41, 0)],
@@ -35,14 +35,14 @@ static MAPS: [Row; 8] = [
             (0xFFFFFFFF, 9),
         ],
     ),
-    // The whole code space is written, and then most of it taken back.
+    // The whole code space is written, and then most of it is reset.
     (
         0,
         &[(0, 0x10FFFF, 1), (0x80, 0x10FFFF, 0)],
         &[(0, 0x7F, 1), (0x80, 0x10FFFF, 0)],
         &[],
     ),
-    // Nothing is written, or the default alone.
+    // Nothing is written, or only the default.
     (7, &[], &[(0, 0x10FFFF, 7)], &[]),
     (
         7,
@@ -57,7 +57,7 @@ static MAPS: [Row; 8] = [
         &[(0, 0x10FFFE, 0), (0x10FFFF, 0x10FFFF, 1)],
         &[(0, 0), (0x10FFFE, 0), (0x10FFFF, 1), (0x110000, 9)],
     ),
-    // Fives below 0x10000, and zeros after them.
+    // Fives below 0x10000, and zeros from there on.
     (
         0,
         &[(0, 0xFFFF, 5)],
@@ -81,7 +81,7 @@ static MAPS: [Row; 8] = [
         ],
         &[],
     ),
-    // Zeros in a block of 64 that begins like the null block.
+    // Zeros in a block of 64 that starts like the null block.
     (
         5,
         &[
@@ -100,7 +100,7 @@ static MAPS: [Row; 8] = [
     ),
 ];
 
-/// The writes of these numbers over these ranges.
+/// The writes of these numbers to these ranges.
 fn writes_of(rt: &(impl Abort + AllocGlobal), ranges: &[(u32, u32, u8)]) -> Vec<Write<u8>> {
     let mut writes = Vec::new(rt.alloc());
     for (first, last, number) in ranges {
@@ -114,7 +114,7 @@ fn writes_of(rt: &(impl Abort + AllocGlobal), ranges: &[(u32, u32, u8)]) -> Vec<
     writes
 }
 
-/// The tries of both types that are built of these writes have these ranges and numbers.
+/// Checks that the tries of both types built from these writes have these ranges and numbers.
 fn expect_map(rt: &(impl Abort + AllocGlobal), row: Row) {
     let (default, written, ranges, numbers) = row;
     let writes = writes_of(rt, written);
@@ -125,7 +125,7 @@ fn expect_map(rt: &(impl Abort + AllocGlobal), row: Row) {
     }
 }
 
-/// Each map, by both types of tries.
+/// Each map, with both types of tries.
 #[test]
 fn maps_at_their_borders(rt: HostRuntime) {
     for row in MAPS.iter() {
@@ -141,14 +141,15 @@ fn run_at(trie: &CodePointTrie<'_, u8>, c: u32) -> Option<(u32, u32, u32)> {
     }
 }
 
-/// Values, and the ends of their sets.
+/// Values, and the boundaries of their sets.
 static SETS: [(u8, &[u32]); 3] = [
     (1, &[0xFFC0, 0xFFD0, 0x10000, 0x10010]),
     (0, &[0, 0xFFC0, 0x10010, 0x110000]),
     (7, &[]),
 ];
 
-/// The sets of the values, the range that ends at the fast limit, and that of no code point.
+/// Checks the sets of the values, the range that ends at the fast limit, and that there is no range
+/// above the code points.
 fn expect_over_the_fast_limit(rt: &(impl Abort + AllocGlobal), trie: &CodePointTrie<'_, u8>) {
     let found = [run_at(trie, 0xFFD0), run_at(trie, 0x110000)];
     expect_same(rt, found, [Some((0xFFD0, 0xFFFF, 2)), None], "a range");

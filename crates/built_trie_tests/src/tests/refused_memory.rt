@@ -1,7 +1,8 @@
-//! Calls whose requests for memory are refused in turn. The script `tests/refused_memory` runs each
-//! test whose name ends in `_refused` with its first, second, .. request refused, until a run
-//! refuses nothing: a refusal between the lines `call` and `done` has to be answered by the line
-//! `refused`. In a test whose name ends in `_quiet` nothing is asked for between the two.
+//! Functions whose allocations fail, one after another. The script `tests/refused_memory` runs each
+//! test whose name ends in `_refused` several times: first the first allocation fails, then the
+//! second, and so on, until a run in which none fails. If an allocation fails between the lines
+//! `call` and `done`, the test must print `refused`. A test whose name ends in `_quiet` must not
+//! allocate between the two lines.
 
 use crate::tests::support::{
     are_same, build, builder_of, expect, expect_numbers, expect_same, say, try_built, write_one,
@@ -20,7 +21,7 @@ fn builder_of_nothing(alloc: Global) -> CodePointTrieBuilder<u8> {
     builder_of(alloc, TrieType::Small, (0, 9))
 }
 
-/// Writes at code points: in many blocks, in both halves of the code space.
+/// Writes to code points in many blocks, in both halves of the code space.
 static WRITES: [Write<u8>; 16] = [
     Write::One(0x41, 1),
     Write::One(0x10_FFFF, 2),
@@ -40,8 +41,8 @@ static WRITES: [Write<u8>; 16] = [
     Write::One(0xE_01EF, 3),
 ];
 
-/// Makes the writes one by one, at most so many, up to the first that is refused: how many were
-/// made, and whether none was refused.
+/// Applies at most `count` writes one by one, up to the first that fails. Returns how many were
+/// applied, and whether none failed.
 fn write_each(
     builder: &mut CodePointTrieBuilder<u8>,
     writes: &[Write<u8>],
@@ -61,7 +62,7 @@ fn write_each(
     (most, true)
 }
 
-/// Makes the writes as a list: how many were made, and whether none was refused.
+/// Applies the writes as a list. Returns how many were applied, and whether none failed.
 fn write_list(builder: &mut CodePointTrieBuilder<u8>, writes: &[Write<u8>]) -> (usize, bool) {
     match builder.apply(writes) {
         Ok(()) => (writes.len(), true),
@@ -69,7 +70,7 @@ fn write_list(builder: &mut CodePointTrieBuilder<u8>, writes: &[Write<u8>]) -> (
     }
 }
 
-/// Both builders build the same trie, if they find memory.
+/// Checks that both builders build the same trie, if the allocations succeed.
 fn expect_same_built(
     rt: &impl Abort,
     found: CodePointTrieBuilder<u8>,
@@ -81,7 +82,8 @@ fn expect_same_built(
     }
 }
 
-/// A refused write leaves the map as it was: that of a builder after the writes before it.
+/// Checks that a failed write leaves the map unchanged: it equals the map of a builder after only
+/// the writes before.
 fn expect_writes(rt: &(impl Abort + AllocGlobal + Print), writes: &[Write<u8>], is_list: bool) {
     let mut builder = builder_of_nothing(rt.alloc());
     say(rt, "call");
@@ -101,7 +103,7 @@ fn expect_writes(rt: &(impl Abort + AllocGlobal + Print), writes: &[Write<u8>], 
     }
 }
 
-/// Writes at code points, and over ranges that begin and end within blocks; then a list.
+/// Writes to code points, and to ranges that start and end inside blocks; then a list.
 ///
 /// Calls: `CodePointTrieBuilder::set_value`, `CodePointTrieBuilder::set_range_value`,
 /// `CodePointTrieBuilder::apply`.
@@ -122,8 +124,8 @@ fn writes_refused(rt: HostRuntime) {
     expect_writes(&rt, &WRITES, true);
 }
 
-/// A new builder takes no memory, and neither do writes above the code points and over a reversed
-/// range, which write nothing.
+/// A new builder allocates nothing. Neither do writes above the code points or to a reversed range,
+/// which write nothing.
 ///
 /// Calls: `CodePointTrieBuilder::new`, `CodePointTrieBuilder::set_value`,
 /// `CodePointTrieBuilder::set_range_value`.
@@ -141,7 +143,7 @@ fn ignored_writes_quiet(rt: HostRuntime) {
     expect_same(&rt, answer, (3, true), "ignored");
 }
 
-/// A trie of 1 at 0x41 and 2 at 0x10000, or the want of memory, which is said.
+/// Checks the trie with 1 at 0x41 and 2 at 0x10000. If an allocation failed, prints `refused`.
 fn expect_answer(rt: &(impl Abort + Print), answer: Result<CodePointTrie<'_, u8>, BuildError>) {
     match answer {
         Ok(trie) => {
@@ -155,10 +157,10 @@ fn expect_answer(rt: &(impl Abort + Print), answer: Result<CodePointTrie<'_, u8>
     }
 }
 
-/// Writes that need index-1, index-2 and index-3 too.
+/// Writes whose trie also needs index-1, index-2 and index-3.
 static BUILT: [Write<u8>; 2] = [Write::One(0x41, 1), Write::One(0x10000, 2)];
 
-/// A list is built, and a builder that has its cells.
+/// Builds from a list, and from a builder that already has its cells.
 ///
 /// Calls: `codepointtrie::build_from_writes`, `CodePointTrieBuilder::build`.
 #[test]
@@ -177,12 +179,12 @@ fn build_refused(rt: HostRuntime) {
     }
 }
 
-/// The trie is that of 1 at 0x41.
+/// Checks that the trie has 1 at 0x41.
 fn expect_one(rt: &impl Abort, trie: &CodePointTrie<'_, u8>) {
     expect_numbers(rt, trie, &[(0x41, 1), (0x42, 0), (0x110000, 9)]);
 }
 
-/// A copy, or the want of memory, which is said.
+/// Checks a copy. If an allocation failed, prints `refused`.
 fn expect_copy(rt: &(impl Abort + Print), answer: Result<CodePointTrie<'_, u8>, MemoryError>) {
     match answer {
         Ok(copy) => expect_one(rt, &copy),
@@ -190,7 +192,7 @@ fn expect_copy(rt: &(impl Abort + Print), answer: Result<CodePointTrie<'_, u8>, 
     }
 }
 
-/// The map of 1 at 0x41, or the want of memory, which is said.
+/// Checks the map with 1 at 0x41. If an allocation failed, prints `refused`.
 fn expect_map(rt: &(impl Abort + Print), answer: Result<CodePointTrieBuilder<u8>, MemoryError>) {
     match answer {
         Ok(builder) => expect(rt, builder.get(0x41) == 1, "the map"),
@@ -198,7 +200,7 @@ fn expect_map(rt: &(impl Abort + Print), answer: Result<CodePointTrieBuilder<u8>
     }
 }
 
-/// All but 0x41, or the want of memory, which is said.
+/// Checks the set of all code points except 0x41. If an allocation failed, prints `refused`.
 fn expect_others(
     rt: &(impl Abort + Print),
     answer: Result<CodePointInversionList<'_>, MemoryError>,
@@ -212,8 +214,8 @@ fn expect_others(
     }
 }
 
-/// A copy asks for the memory of its index, then for that of its data; a map that is made of a trie
-/// for that of its blocks and cells; and a set for that of its ends. The trie stays as it was.
+/// A copy allocates its index and then its data. A map made from a trie allocates its blocks and
+/// cells, and a set its boundaries. The trie is unchanged.
 ///
 /// Calls: `CodePointTrie::try_clone`, `CodePointTrieBuilder::from_trie`,
 /// `CodePointTrie::get_set_for_value`.

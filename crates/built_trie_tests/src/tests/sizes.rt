@@ -1,5 +1,5 @@
-//! How many cells of index and of data a built trie has, below the bounds that are proved, and
-//! which maps are too large.
+//! The numbers of index cells and data cells of a built trie, below the proved bounds, and which
+//! maps are too large.
 
 use crate::tests::support::{
     BOTH, append, append_blocks, built, expect, expect_cells, expect_number, expect_numbers,
@@ -8,7 +8,7 @@ use crate::tests::support::{
 use icu_collections::codepointtrie::{BuildError, CodePointTrie, TrieType, Write};
 use std::process::Abort;
 
-/// A write for each of so many code points from the first on, whose numbers ascend.
+/// One write for each of `count` code points from `first` on, with ascending numbers.
 fn single_writes(
     rt: &(impl Abort + AllocGlobal),
     first: u32,
@@ -20,7 +20,8 @@ fn single_writes(
     writes
 }
 
-/// Each code point from 0x10000 to the last one has itself as its number, and none beside them.
+/// Checks that each code point from 0x10000 to `last` has itself as its number, and that the code
+/// points next to them have 0.
 fn expect_own_numbers(rt: &impl Abort, trie: &CodePointTrie<'_, u32>, last: u32) {
     for c in 0x10000..=last {
         expect_number(rt, c, number_at(trie, c), c);
@@ -34,11 +35,13 @@ fn expect_own_numbers(rt: &impl Abort, trie: &CodePointTrie<'_, u32>, last: u32)
     expect_number(rt, 0x110000, number_at(trie, 0x110000), 9);
 }
 
-/// Maps from 0x10000 on by their last code point: the type of the trie, and the most cells of index
-/// and data that it has. Of the second map 12,000 blocks of 16 values differ: it is not refused, nor
-/// does it take long to find which are equal. Data offsets lie on both sides of 0xFFFF: the first
-/// 127 of its 375 blocks of 512 take 32 cells of index, and the others 36, beside the fast index and
-/// 33 cells for each 0x4000 code points.
+/// Maps from 0x10000 on, by their last code point: the trie type, and the greatest numbers of index
+/// cells and data cells.
+///
+/// In the maps up to 0x3EDEF, 12,000 blocks of 16 values differ. Such a map is not too large, and
+/// it does not take long to find which blocks are equal. There are data offsets on both sides of
+/// 0xFFFF: the first 127 of its 375 blocks of 512 take 32 index cells each, and the others 36. In
+/// addition there are the fast index, and 33 cells for each 0x4000 code points.
 static ASCENDING: [(u32, TrieType, usize, usize); 4] = [
     (0x20FFF, TrieType::Fast, usize::MAX, usize::MAX),
     (0x20FFF, TrieType::Small, usize::MAX, usize::MAX),
@@ -57,7 +60,7 @@ fn ascending_numbers(rt: HostRuntime) {
     }
 }
 
-/// The writes of another value in each of 799 blocks of 512.
+/// Writes of another value in each of 799 blocks of 512.
 fn distant_writes(rt: &(impl Abort + AllocGlobal)) -> Vec<Write<u32>> {
     let mut writes = Vec::new(rt.alloc());
     for k in 0..799u32 {
@@ -66,7 +69,7 @@ fn distant_writes(rt: &(impl Abort + AllocGlobal)) -> Vec<Write<u32>> {
     writes
 }
 
-/// Of 800 different blocks of 512 values each a map is not refused, and its data and its index stay
+/// A map with 800 different blocks of 512 values is not too large, and its data and its index stay
 /// small.
 #[test]
 fn eight_hundred_blocks(rt: HostRuntime) {
@@ -82,7 +85,7 @@ fn eight_hundred_blocks(rt: HostRuntime) {
     }
 }
 
-/// A map of as many different values as there are code points has no trie.
+/// A map with as many different values as there are code points is too large.
 #[test]
 fn too_large(rt: HostRuntime) {
     let writes = single_writes(&rt, 0, 0x110000, 1);
@@ -92,14 +95,15 @@ fn too_large(rt: HostRuntime) {
     }
 }
 
-/// Index and data of the trie of one number for all.
+/// Checks the numbers of index cells and data cells of the trie with one number for all code
+/// points.
 fn expect_least(rt: &impl Abort, trie: &CodePointTrie<'_, u32>) {
     let (_, index, data) = sizes_of(trie);
     expect_same(rt, (index, data), (64, 129), "cells of index and of data");
 }
 
-/// The smallest trie, whose data are the first 128 cells and the error value: one number for all,
-/// by a write or as the default.
+/// The smallest trie, whose data are the first 128 cells and the error value. It has one number for
+/// all code points, by a write or as the default.
 #[test]
 fn one_number_for_all(rt: HostRuntime) {
     let writes = [Write::Range(0..=0x10FFFF, 7)];

@@ -1,5 +1,5 @@
-//! What the tests share: tries that are built of writes, and what is expected of them. Each call of
-//! the library that several tests make stands here once.
+//! Helpers for the tests: they build tries from writes and check them. If several tests call a
+//! function of the library, its call is here once.
 
 use icu_collections::codepointinvlist::CodePointInversionList;
 use icu_collections::codepointtrie::{
@@ -14,7 +14,7 @@ use std::process::Abort;
 
 pub const BOTH: [TrieType; 2] = [TrieType::Fast, TrieType::Small];
 
-/// The next random number, of 24 bits: a linear congruence, of which the upper bits are taken.
+/// The next random number, of 24 bits: the upper bits of a linear congruential generator.
 pub fn random_number(state: &mut u32) -> u32 {
     *state = state.wrapping_mul(1_664_525).wrapping_add(1_013_904_223);
     *state >> 8
@@ -27,32 +27,32 @@ pub fn say(rt: &(impl Abort + Print), line: &str) {
     }
 }
 
-/// What is said holds.
+/// Checks that `holds` is true.
 pub fn expect(rt: &impl Abort, holds: bool, what: &'static str) {
     if !holds {
         rt.panic(what);
     }
 }
 
-/// What was found is the wanted one.
+/// Checks that `found` equals `wanted`.
 pub fn expect_same<T: Copy + Debug + PartialEq>(rt: &impl Abort, found: T, wanted: T, what: &str) {
     assert_eq!(rt; found, wanted, "{what}");
 }
 
-/// The number that is found at this code point is the wanted one.
+/// Checks that the number found at this code point equals `wanted`.
 pub fn expect_number(rt: &impl Abort, c: u32, found: u32, wanted: u32) {
     expect_same(rt, (c, found), (c, wanted), "a code point and its number");
 }
 
-/// Adds an item at the end of a list.
+/// Appends an item to a list.
 pub fn append<T: Drop>(rt: &impl Abort, list: &mut Vec<T>, item: T) {
     if list.push(item).is_err() {
         rt.panic("no memory");
     }
 }
 
-/// Adds the writes of this many blocks of `size` code points, one behind the other from `first` on:
-/// the number at the first one, and one more at each next one.
+/// Appends the writes of `count` adjacent blocks of `size` code points from `first` on. The first
+/// block has `number`, and each next one has one more.
 pub fn append_blocks(
     rt: &impl Abort,
     writes: &mut Vec<Write<u32>>,
@@ -72,8 +72,7 @@ pub fn append_blocks(
     }
 }
 
-/// The trie of these writes over the first of the two values, with the second as its error value,
-/// or why there is none.
+/// The trie of these writes, or the error. `values` are the default and the error value.
 pub fn try_built<T: TrieValue>(
     alloc: Global,
     trie_type: TrieType,
@@ -83,7 +82,7 @@ pub fn try_built<T: TrieValue>(
     build_from_writes(alloc, values.0, values.1, trie_type, writes)
 }
 
-/// The same, which there is.
+/// The trie of these writes, which must not fail. `values` are the default and the error value.
 pub fn built<T: TrieValue>(
     rt: &(impl Abort + AllocGlobal),
     trie_type: TrieType,
@@ -96,7 +95,7 @@ pub fn built<T: TrieValue>(
     }
 }
 
-/// A builder of a map of the first of the two values, with the second as its error value.
+/// A new builder. `values` are the default and the error value.
 pub fn builder_of<T: TrieValue>(
     alloc: Global,
     trie_type: TrieType,
@@ -123,19 +122,19 @@ pub fn write_range<T: TrieValue>(
     builder.set_range_value(range, value)
 }
 
-/// The trie of what was written, or why there is none.
+/// The trie of what was written, or the error.
 pub fn build<T: TrieValue>(
     builder: CodePointTrieBuilder<T>,
 ) -> Result<CodePointTrie<'static, T>, BuildError> {
     builder.build()
 }
 
-/// The number that the trie has at a code point.
+/// The number of the trie's value at a code point.
 pub fn number_at<T: TrieValue>(trie: &CodePointTrie<'_, T>, c: u32) -> u32 {
     trie.get32(c).to_u32()
 }
 
-/// The value at each of these code points has this number.
+/// Checks that the values at these code points have these numbers.
 pub fn expect_numbers<T: TrieValue>(
     rt: &impl Abort,
     trie: &CodePointTrie<'_, T>,
@@ -146,7 +145,7 @@ pub fn expect_numbers<T: TrieValue>(
     }
 }
 
-/// First and last code point of a range, and the number of its value.
+/// The first and the last code point of a range, and the number of its value.
 pub fn run_of<T: TrieValue>(range: &CodePointMapRange<T>) -> (u32, u32, u32) {
     (
         *range.range.start(),
@@ -155,7 +154,7 @@ pub fn run_of<T: TrieValue>(range: &CodePointMapRange<T>) -> (u32, u32, u32) {
     )
 }
 
-/// The ranges of the trie, in their order.
+/// The ranges of the trie, in order.
 pub fn run_list<T: TrieValue>(
     rt: &(impl Abort + AllocGlobal),
     trie: &CodePointTrie<'_, T>,
@@ -167,7 +166,8 @@ pub fn run_list<T: TrieValue>(
     runs
 }
 
-/// The trie has these ranges, each with its first and last code point and its number, and no more.
+/// Checks that the trie has exactly these ranges, each with its first and last code point and its
+/// number.
 pub fn expect_ranges<T: TrieValue>(
     rt: &(impl Abort + AllocGlobal),
     trie: &CodePointTrie<'_, T>,
@@ -177,13 +177,13 @@ pub fn expect_ranges<T: TrieValue>(
     expect_same(rt, found.as_slice(), expected, "the ranges");
 }
 
-/// The header of the trie, and how many cells of index and of data it has.
+/// The header of the trie, and the numbers of its index cells and data cells.
 pub fn sizes_of<T: TrieValue>(trie: &CodePointTrie<'_, T>) -> (CodePointTrieHeader, usize, usize) {
     let (header, index, data) = trie.parts();
     (header, index.len(), data.len())
 }
 
-/// The trie has at most so many cells of index and of data.
+/// Checks that the trie has at most this many index cells and data cells.
 pub fn expect_cells<T: TrieValue>(
     rt: &impl Abort,
     trie: &CodePointTrie<'_, T>,
@@ -195,12 +195,12 @@ pub fn expect_cells<T: TrieValue>(
     expect(rt, few, "cells of index and of data");
 }
 
-/// Whether the two are equal.
+/// True if the two tries are equal.
 pub fn are_same<T: TrieValue>(one: &CodePointTrie<'_, T>, other: &CodePointTrie<'_, T>) -> bool {
     one == other
 }
 
-/// A set was made, and has these ends.
+/// Checks that a set was made and has these boundaries.
 pub fn expect_set<E>(
     rt: &(impl Abort + AllocGlobal),
     made: Result<CodePointInversionList<'_>, E>,
@@ -212,7 +212,7 @@ pub fn expect_set<E>(
     }
 }
 
-/// The set has these ends.
+/// Checks that the set has these boundaries.
 fn expect_ends(rt: &(impl Abort + AllocGlobal), set: &CodePointInversionList<'_>, wanted: &[u32]) {
     match set.get_inversion_list_vec(rt.alloc()) {
         Ok(found) => expect_same(rt, found.as_slice(), wanted, "the ends"),

@@ -6,7 +6,7 @@ use icu_collections::zerovec::MemoryError;
 use std::fmt::Display;
 use std::process::Abort;
 
-/// The error is told so.
+/// Checks that the error has this text.
 fn expect_told<T: Display>(rt: &(impl Abort + AllocGlobal), told: &T, wanted: &str) {
     match told.to_string(rt.alloc()) {
         Ok(text) => expect_same(rt, text.as_str(), wanted, "the text"),
@@ -39,7 +39,7 @@ static ERRORS: [(CodePointTrieError, &str); 5] = [
     ),
 ];
 
-/// Errors of tries in the words of the Rust crate, and ours of building.
+/// The errors of tries have the texts of the Rust crate, and those of building have ours.
 #[test]
 fn errors_of_tries(rt: HostRuntime) {
     for (error, text) in ERRORS.iter() {
