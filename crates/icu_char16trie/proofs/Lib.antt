@@ -26,3 +26,5 @@ pub mod MatchLemmas
 pub mod JsonLemmas
 pub mod Examples
 pub mod LongForms
+pub mod AscendingUnits
+pub mod ListedKeys

@@ -4,6 +4,9 @@ use Rattle.std.specs.Int.{cast_signed, w32}
 use Rattle.std.proofs.lemmas.Option.{same_Some}
 use Rattle.icu_char16trie.specs.Grammar.{Part, last, entry, split, UnitsFrom, IsAscending, Holds, final, plain, valued, Matches, run, branch, Children, none, more, IsTrieOf}
 use Rattle.icu_char16trie.specs.Grammar as grammar
+use Rattle.icu_char16trie.specs.UnitPlaces.{Stands}
+use Rattle.icu_char16trie.specs.declared.place.Place.{Place}
+use Rattle.icu_char16trie.specs.declared.place.Place.TheVariants.{Nowhere, Node, Run}
 use Rattle.icu_char16trie.specs.UnitMap.{under, KeyBelow, KeyBelowAll, IsAscendingKeys}
 use Rattle.icu_char16trie.proofs.PartLemmas.{last_is, entry_found, split_found}
 use Rattle.icu_char16trie.proofs.NodeLemmas.{run_first, matches_run, matches_branch, holds_final, holds_plain, holds_valued, holds_within}
@@ -156,3 +159,11 @@ mutual
 pub trie_ascends : (units : List ℕ) (m : List (List ℕ × ℤ)) → IsTrieOf units m → IsAscendingKeys m
 trie_ascends units m (grammar.node h) = holds_ascends units h
 trie_ascends units m (grammar.empty u e) = rw e tt
+
+-- so do those of the entries at which a cursor stands
+pub stands_ascends : (units : List ℕ) (place : Place) (m : List (List ℕ × ℤ)) → Stands units place m → IsAscendingKeys m
+stands_ascends units Nowhere m h = rw h tt
+stands_ascends units (Node p) m (inl h) = holds_ascends units h
+stands_ascends units (Node p) m (inr h) = rw h.1 tt
+stands_ascends units (Run p left) m h =
+    rw h.keys (under_ascends (take (left + 1) (drop p units)) h.rest (holds_ascends units h.node))

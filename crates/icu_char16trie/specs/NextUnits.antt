@@ -17,6 +17,16 @@ first_units [] = []
 first_units (([], v) ∷ m) = first_units m
 first_units ((u ∷ key, v) ∷ m) = u ∷ without_first u (first_units m)
 
+-- every unit of the list is above u
+abbrev pub AllAbove : ℕ → List ℕ → Type 0
+AllAbove u [] = Unit {0}
+AllAbove u (x ∷ us) = (u < x) × AllAbove u us
+
+-- the units strictly ascend
+abbrev pub AreAscending : List ℕ → Type 0
+AreAscending [] = Unit {0}
+AreAscending (u ∷ us) = AllAbove u us × AreAscending us
+
 -- the units of the entries of a row of n entries at p, as far as they are there
 pub data RowUnits (units : List ℕ) : ℕ → ℕ → List ℕ → Type 0 where
   gone : (p n : ℕ) (us : List ℕ) → n ≤ 1 → slice_get units p ≡ None → us ≡ []

@@ -6,7 +6,7 @@ ghost use Rattle.icu_char16trie.specs.UnitMap.{UnitMap, after_all, value_of, goe
 ghost use Rattle.icu_char16trie.specs.Listing.{AreToCome, entry_text, entry_value};
 ghost use Rattle.icu_char16trie.specs.CursorPlaces.{place_of};
 ghost use Rattle.icu_char16trie.specs.UnitPlaces.{HasPassed, value_at, is_empty_at};
-ghost use Rattle.icu_char16trie.specs.NextUnits.{GoesOnWith, first_units};
+ghost use Rattle.icu_char16trie.specs.NextUnits.{AreAscending, GoesOnWith, first_units};
 ghost use Rattle.icu_char16trie.specs.OneValue.{HaveOneValue, StandsForOneValue};
 ghost use Rattle.icu_char16trie.specs.Steps.{StepsTo, StepsAlong};
 ghost use Rattle.icu_char16trie.specs.Passed.{Passes};
@@ -192,6 +192,8 @@ impl<'a> Char16TrieCursor<'a> {
     pub fn next_units(&self, alloc: Global) -> Result<Vec<u16>, MemoryError>
         ensures units { IfOk result (λ list. (m : UnitMap) (w : List ℕ) → HasPassed self.now m w
             → list.items ≡ first_units (after_all w m)) }
+        ensures ascending { IfOk result (λ list. (m : UnitMap) (w : List ℕ)
+            → HasPassed self.now m w → AreAscending list.items) }
 
         // On all units: what the entries of the branch say, as far as they are there.
         ensures exact { IfOk result

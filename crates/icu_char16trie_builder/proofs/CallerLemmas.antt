@@ -10,7 +10,8 @@ use Rattle.icu_char16trie.specs.UnitMap.{UnitMap, value_of, same_key, KeyBelow, 
 use Rattle.icu_char16trie.specs.LossyText.{key_text}
 use Rattle.icu_char16trie.specs.Entries.{AreEntries, AreCutShort}
 use Rattle.icu_char16trie_builder.specs.Entries.{with_entry, most_units}
-use Rattle.icu_char16trie_builder.proofs.EntryLemmas.{IsCompared, compared, below_itself, same_key_eq, same_key_self, ascends_with}
+use Rattle.icu_char16trie_builder.proofs.EntryLemmas.{IsCompared, compared, ascends_with}
+use Rattle.icu_char16trie.proofs.CallerLemmas.{below_itself, same_key_eq, same_key_self}
 -- Keys that go on beyond some units
 pub use Rattle.icu_char16trie_builder.proofs.LongerKeys.{goes_on-with_entry}
 

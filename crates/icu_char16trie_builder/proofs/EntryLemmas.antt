@@ -11,6 +11,7 @@ use Rattle.std.specs.Global.{Global}
 use Rattle.std.specs.Map.{lookup}
 use Rattle.std.specs.BTreeMap.{insert_entry, is_at}
 use Rattle.icu_char16trie.specs.UnitMap.{UnitMap, value_of, same_key, KeyBelow, KeyBelowAll, IsAscendingKeys}
+use Rattle.icu_char16trie.proofs.CallerLemmas.{below_itself, same_key_eq, same_key_self}
 use Rattle.icu_char16trie_builder.specs.Inside.Cuts.{cut, room}
 use Rattle.icu_char16trie_builder.specs.declared.entry.Entry.{Entry}
 use Rattle.icu_char16trie_builder.proofs.CutLemmas.{room_append}
@@ -63,24 +64,6 @@ compared [] (y ∷ b) = record { less = λ k. tt; greater = λ k. cc; equal = λ
 compared (x ∷ a) [] = record { less = λ k. cc; greater = λ k. tt; equal = λ k. cc; test = refl }
 compared (x ∷ a) (y ∷ b) = compared_by x y a b (slice_cmp nat_cmp a b) (nat_lt x y) (nat_eq x y) refl refl (compared a b)
 
-pub same_key_self : (a : List ℕ) → same_key a a ≡ true
-unfolding same_key
-same_key_self [] = refl
-same_key_self (x ∷ a) = let yes : nat_eq x x ≡ true = eq-eqb x x refl in rw yes (same_key_self a)
-
-pub same_key_eq : (a b : List ℕ) → same_key a b ≡ true → a ≡ b
-unfolding same_key
-same_key_eq [] [] h = refl
-same_key_eq [] (y ∷ b) h = cc
-same_key_eq (x ∷ a) [] h = cc
-same_key_eq (x ∷ a) (y ∷ b) h =
-    let p = and_both (nat_eq x y) (same_key a b) h in
-    ap (λ z. z ∷ a) (eqb-true x y p.0) ∙ ap (λ z. y ∷ z) (same_key_eq a b p.1)
-  where
-    and_both : (p q : Bool) → (p && q) ≡ true → (p ≡ true) × (q ≡ true)
-    and_both true q h = (refl, h)
-    and_both false q h = cc
-
 -- ---- the entries in order
 
 pub key_trans : (a b c : List ℕ) → KeyBelow a b → KeyBelow b c → KeyBelow a c
@@ -91,11 +74,6 @@ key_trans (x ∷ a) (y ∷ b) (z ∷ c) (inl h) (inl k) = inl (omega (arith, h, 
 key_trans (x ∷ a) (y ∷ b) (z ∷ c) (inl h) (inr k) = inl (omega (arith, h, k.0))
 key_trans (x ∷ a) (y ∷ b) (z ∷ c) (inr h) (inl k) = inl (omega (arith, h.0, k))
 key_trans (x ∷ a) (y ∷ b) (z ∷ c) (inr h) (inr k) = inr (h.0 ∙ k.0, key_trans a b c h.1 k.1)
-
-pub below_itself : (a : List ℕ) → KeyBelow a a → ⊥
-below_itself [] h = h
-below_itself (x ∷ a) (inl h) = absurd (omega (arith, h))
-below_itself (x ∷ a) (inr h) = below_itself a h.1
 
 below_trans : (a b : List ℕ) (m : UnitMap) → KeyBelow a b → KeyBelowAll b m → KeyBelowAll a m
 below_trans a b [] h k = tt

@@ -18,7 +18,8 @@ use Rattle.icu_char16trie_builder.specs.Inside.Refusals.{IsRefusal, CanBeWritten
 use Rattle.icu_char16trie_builder.specs.declared.entry.Entry.{Entry}
 use Rattle.icu_char16trie_builder.specs.declared.error.SortedError.{SortedError}
 use Rattle.icu_char16trie_builder.specs.declared.error.SortedError.TheVariants.{KeyTooLong, NotAscending, TooLarge, Memory}
-use Rattle.icu_char16trie_builder.proofs.EntryLemmas.{IsCompared, compared, key_trans, below_itself, map_of_cut, cut_pushed}
+use Rattle.icu_char16trie.proofs.CallerLemmas.{below_itself}
+use Rattle.icu_char16trie_builder.proofs.EntryLemmas.{IsCompared, compared, key_trans, map_of_cut, cut_pushed}
 
 abbrev pub Pair : Type 0
 Pair = Bor (List ℕ) × ℤ

@@ -9,14 +9,18 @@ pub use Rattle.icu_frozen_sets.proofs.CallerLemmas.{spans_of_drained}
 pub use Rattle.icu_trie_core.proofs.CallerLemmas.{AreMaximalRuns-same, AreMaximalRuns-some, LongestRun-from_gives, runs-unique, value_runs-some}
 pub use Rattle.icu_trie.proofs.CallerLemmas.{All-given, All-selected, AreMappedRunsFrom-same, joined_ranges-are}
 -- Values along a text: what the calls of an iterator give until nothing is left
-pub use Rattle.icu_trie_text.proofs.CallerLemmas.{indices_of_drained, values_of_drained}
+pub use Rattle.icu_trie_text.proofs.CallerLemmas.{indices_of_drained, length-code_points, values_of_bytes_drained, values_of_drained, values_of_text}
 -- A trie and what it is read as where it was written in ICU's binary form
-pub use Rattle.icu_trie_binary.proofs.CallerLemmas.{answers-stored, coherent-stored, stored_form-same}
+pub use Rattle.icu_trie_binary.proofs.CallerLemmas.{answers-stored, coherent-stored, coherent-stored_far, coherent-stored_in, stored-one, stored_form-same}
+-- What is read of a built trie that was written so is coherent
+pub use Rattle.icu_collections.proofs.BuiltStored.{coherent-built, coherent-read}
 -- A trie of a map: its writes, its answers, its ranges, and its null block
 pub use Rattle.icu_trie_builder.proofs.CallerLemmas.{IsAfter-append, error-of-map, map_answer-after, mapped-ranges-of-map, ranges-of-map, value_after-append}
-pub use Rattle.icu_trie_builder.proofs.CallerLemmas.{NamesNull-some, answer-of-map, longest_of_map, no_answer-of-map}
+pub use Rattle.icu_trie_builder.proofs.CallerLemmas.{NamesNull-some, answer-of-map, longest_of_map, no_512-of-map, no_answer-of-map}
 -- Entries of unit tries: those with one more, and those of a run of `iter2`
 pub use Rattle.icu_char16trie_builder.proofs.CallerLemmas.{AreEntries-of_run, IsAscendingKeys-with_entry, most_units-with_entry, shown, text_of, texts_of_entries, value_of-with_entry}
 pub use Rattle.icu_char16trie_builder.proofs.CallerLemmas.{goes_on-with_entry, value_of-added, value_of-others}
 -- Keys that go on beyond some units, and that there is one longest match
 pub use Rattle.icu_char16trie.proofs.CallerLemmas.{IsLongestMatch-one, LongestWithin-one, none_beyond}
+-- The entries of a map and the values of its keys, which ascend
+pub use Rattle.icu_char16trie.proofs.CallerLemmas.{Contains-value_of, first_units-ascending, same_key_eq, same_key_self, trie_ascends, value_of-listed, value_of-some}

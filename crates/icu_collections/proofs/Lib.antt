@@ -1,1 +1,2 @@
+mod BuiltStored
 pub mod CallerLemmas

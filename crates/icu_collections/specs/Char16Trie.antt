@@ -14,7 +14,7 @@ pub use Rattle.icu_char16trie.specs.Matches.{match_at, matches_from, matches_of}
 pub use Rattle.icu_char16trie.specs.MatchesLeft.{AreLeft, AreLeftAt, GivesMatch, fronts_by, fronts_left}
 pub use Rattle.icu_char16trie.specs.Entries.{AreCutShort, AreEntries, GivesNext, IsDone, IsLeft}
 pub use Rattle.icu_char16trie.specs.Listing.{AreToCome, Advances, EndsUnlessReached, IsAtEnd, IsSomeValue, entries_work, entry_text, entry_value, listed_units}
-pub use Rattle.icu_char16trie.specs.NextUnits.{GoesOnWith, unit_list, without_first}
+pub use Rattle.icu_char16trie.specs.NextUnits.{AllAbove, AreAscending, GoesOnWith, unit_list, without_first}
 unfoldable pub use Rattle.icu_char16trie.specs.NextUnits.{first_units}
 pub use Rattle.icu_char16trie.specs.OneValue.{AllHaveValue, HaveOneValue, StandsForOneValue}
 pub use Rattle.icu_char16trie.specs.LossyText.{key_text}

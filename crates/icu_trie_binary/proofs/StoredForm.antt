@@ -1,15 +1,16 @@
 -- A trie and the form that it is read in again: the answers, coherence, and when both are one.
-use Rattle.std.proofs.Common.{◌≡◌, ℕ, ◌+◌, ◌/◌, ◌<◌, List, [], ◌++◌, length, Option, Some, None, refl, sym, ◌∙◌, ap}
+use Rattle.std.proofs.Common.{◌≡◌, ℕ, ◌+◌, ◌/◌, ◌*◌, ◌<◌, ◌≤◌, List, [], ◌++◌, length, Option, Some, None, refl, sym, ◌∙◌, ap}
 use Rattle.std.specs.Prelude.{Err, IsSome, Ok, Result, is_none, false}
 use Rattle.std.proofs.lemmas.List.{append-nil}
 use Rattle.icu_trie.specs.Parts.{Parts, parts_fault}
 use Rattle.icu_trie.specs.Ranges.{answers, IsCoherentTrie}
+use Rattle.icu_trie_core.specs.Format.{fast_limit, index2_cell}
 use Rattle.icu_trie_binary.specs.BinaryTrie.{IsStored, trie_in}
 use Rattle.icu_trie_binary.specs.declared.error.BinaryError.{BinaryError}
 use Rattle.icu_trie_binary.specs.declared.header.BinaryHeader.{BinaryHeader}
 use Rattle.icu_trie_binary.specs.WrittenTrie.{padding, null_number, stored_form, why_not_written}
 use Rattle.icu_trie_binary.proofs.PaddedAnswers.{keeps_answer}
-use Rattle.icu_trie_binary.proofs.PaddedCoherence.{coherent-padded}
+use Rattle.icu_trie_binary.proofs.PaddedCoherence.{coherent-padded, coherent-far}
 use Rattle.icu_trie_binary.proofs.WrittenLemmas.{first_faults, null_fits}
 
 some_from_none : {A : Type 0} (o : Option A) → is_none o ≡ false → IsSome o
@@ -20,6 +21,13 @@ some_from_none (Some x) h = refl
 abbrev header_or : BinaryHeader → Result (BinaryHeader × ℕ) BinaryError → BinaryHeader
 header_or h (Ok read) = read.0
 header_or h (Err e) = h
+
+-- bytes begin with one trie
+pub stored-one : {T : Type 0} (width : ℕ) (number : T → ℕ) (unpack : List ℕ → Option T) (of_number : ℕ → Option T) (b : List ℕ)
+    (u v : Parts T) (m n : ℕ) → IsStored unpack width number of_number b u m → IsStored unpack width number of_number b v n → v ≡ u
+stored-one width number unpack of_number b u v m n first second =
+    let header : second.header ≡ first.header = ap (header_or second.header) (sym second.reads ∙ first.reads) in
+    second.trie ∙ ap (λ h. trie_in unpack width number of_number h b) header ∙ sym first.trie
 
 module _ {T : Type 0} (width : ℕ) (number : T → ℕ) (t : Parts T) where
   -- what the trie answers, its stored form answers
@@ -32,10 +40,7 @@ module _ {T : Type 0} (width : ℕ) (number : T → ℕ) (t : Parts T) where
       → IsStored unpack width number of_number b (stored_form width number t) n → IsStored unpack width number of_number b u m
       → (c : ℕ) (x : T) → answers t c ≡ Some x → answers u c ≡ Some x
   answers-read unpack of_number b u m n stored read c x e =
-      let header : stored.header ≡ read.header = ap (header_or stored.header) (sym stored.reads ∙ read.reads) in
-      let same : stored_form width number t ≡ u = stored.trie ∙ ap (λ h. trie_in unpack width number of_number h b) header
-      ∙ sym read.trie in
-      ap (λ v. answers v c) (sym same) ∙ answers-stored c x e
+      ap (λ v. answers v c) (stored-one width number unpack of_number b (stored_form width number t) u n m stored read) ∙ answers-stored c x e
 
   -- where the header names a block of the data, the stored form of a coherent trie is coherent
   pub coherent-stored : (of_number : ℕ → Option T) → why_not_written width number t ≡ None → t.header.data_null_offset < length t.values
@@ -43,8 +48,28 @@ module _ {T : Type 0} (width : ℕ) (number : T → ℕ) (t : Parts T) where
       → IsCoherentTrie of_number (stored_form width number t)
   coherent-stored of_number room named whole good =
       coherent-padded of_number t.header (stored_form width number t).header t.index (padding width (length t.index)) t.values refl refl
-      refl refl
-      (sym (null_fits width number t room named)) (some_from_none _ (first_faults _ _ _ _ whole).1) good
+      refl refl good
+      (sym (null_fits width number t room named)) (some_from_none _ (first_faults _ _ _ _ whole).1)
+
+  -- the same if bytes begin with the stored form
+  pub coherent-stored_in : (unpack : List ℕ → Option T) (of_number : ℕ → Option T) (b : List ℕ) (n : ℕ)
+      → IsStored unpack width number of_number b (stored_form width number t) n → why_not_written width number t ≡ None
+      → t.header.data_null_offset < length t.values → IsCoherentTrie of_number t → IsCoherentTrie of_number (stored_form width number t)
+  coherent-stored_in unpack of_number b n stored room named good =
+      let fits : t.header.null_value ≡ null_number width number t = null_fits width number t room named in
+      let fault = ap (λ (p : Parts T). parts_fault of_number p.header p.index p.values) stored.trie ∙ stored.no_fault in
+      let valued : IsSome (of_number (null_number width number t)) = some_from_none _ (first_faults _ _ _ _ fault).1 in
+      coherent-padded of_number t.header (stored_form width number t).header t.index (padding width (length t.index)) t.values refl refl
+      refl refl good (sym fits) (rw fits valued)
+
+  -- so is that of a coherent trie whose header names no block of the data, if no index-2 cell is the null index-3 offset
+  pub coherent-stored_far : (of_number : ℕ → Option T) → length t.values ≤ t.header.data_null_offset
+      → ((b : ℕ) → fast_limit t.header.trie_type ≤ b * 512 → b * 512 < t.header.high_start
+      → index2_cell t.header.trie_type t.index (b * 512) ≡ Some t.header.index3_null_offset → ⊥)
+      → IsCoherentTrie of_number t → IsCoherentTrie of_number (stored_form width number t)
+  coherent-stored_far of_number far no_512 good =
+      coherent-far of_number t.header (stored_form width number t).header t.index (padding width (length t.index)) t.values refl refl
+      refl refl good far no_512
 
   -- it is the trie itself where nothing is put behind the index, and the header says what the form says
   pub stored_form-same : padding width (length t.index) ≡ [] → t.header.shifted12_high_start ≡ (t.header.high_start + 0xfff) / 0x1000

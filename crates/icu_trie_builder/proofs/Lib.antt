@@ -1,5 +1,6 @@
 pub mod CallerLemmas
 pub mod NullLemmas
+mod NoNullBlock
 mod SharedLemmas
 mod FewWrites
 pub mod DataLemmas
