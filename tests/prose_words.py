@@ -23,7 +23,7 @@ ROWS = [
     ("ends", rf"\bends (?:are|were|that|which|have|of {SET})\b", "boundaries"),
     ("place", rf"\b(?<!at )(?<!in ){IN_PLACE}{THE} (?:\w+ )?places?\b(?! (?:a|an|the|it|them|each|its)\b)", "index, position; offset if in bytes or cells"),
     ("place", rf"\bat (?:{THE} )?(?:\w+ )?places?\b|\bplaces (?:are|were|of|in|that|at)\b|\bplace of (?:the|a|an|its|each|that)\b", "index, position; offset if in bytes or cells"),
-    ("stands", r"\b(?:stands?|stood|standing)\b(?! for\b)", "is (in), appears in, occurs"),
+    ("stands", r"\b(?:stands?|stood|standing)\b(?! (?:for|out)\b)", "is (in), appears in, occurs"),
     ("lies", r"\b(?:lies|lie|lying)\b", "is, is in, is within"),
     ("square", r"\bas (?:its|the|their) square\b|\bby (?:its|the|their) square\b", "takes quadratic time"),
     ("in line", r"\bin line\b(?! with\b)", "inline"),
