@@ -31,7 +31,7 @@ ROWS = [
     ("by tests alone", r"\bby tests? alone\b|\btests alone\b", "covered by tests only"),
     ("lends", r"\b(?:lends?|lent|lending)\b", "borrows, returns a reference to"),
     ("kept", r"\bkept\b", "stored, cached, unchanged"),
-    ("call", r"\b(?:public|exported|getter|inline|all|other|these|those|same|such|our|its|which|no|every|C) calls\b"
+    ("call", r"\b(?:public|exported|getter|inline|all|other|these|those|same|such|its|no|every|C) calls\b"
      r"|\bcalls? (?:from|in|of) (?:C|Python|Rust|the (?:library|crate|header|module|API))\b"
      r"|\b(?:a|each|every|another|this) (?:public |new )?call of (?:the (?:library|crate|API)|ours|its)\b", "function, method"),
     ("where", r"(?:[,;:(]|\b(?:and|or|but|only|except|also|else|even|save)) where\b(?! to\b)", "if, when"),
