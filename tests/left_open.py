@@ -1,4 +1,4 @@
-"""Copies of a crate of which a few functions alone are checked, for tests/wrong_bodies."""
+"""Copies of a crate in which only a few functions are checked, for tests/wrong_bodies."""
 import glob
 import os
 import re
@@ -17,7 +17,7 @@ TYPE = re.compile(r"^(?:pub(?:\(.*?\))? )?(?:struct|enum) (\w+)", re.M)
 
 
 def put_hole(crate, folder, names):
-    """Puts a hole in place of the proof of the function of these names, in a copy of the crate."""
+    """Replaces the proof of a function in a copy of the crate by a hole. The names are its path."""
     proof = f"{folder}/proofs/{'/'.join(names)}"
     shutil.rmtree(proof, ignore_errors=True)
     os.makedirs(proof)
@@ -26,20 +26,20 @@ def put_hole(crate, folder, names):
 
 
 def module_of(inside):
-    """The names of the module that a file of a crate is."""
+    """The path of the module that a file of a crate contains."""
     names = inside[len("src/") : -len(".rt")].split("/")
     return [it for it in names if it not in ("lib", "main", "mod")]
 
 
 def leave_open(crate, folder, texts, functions):
-    """Puts a hole in place of the proof of each function but these, in a copy of the crate, and a
-    loop in place of its body, of which no statement is made then: it is not checked, and those that
-    call it are checked with its contract. The texts, which stand in place of files of the copy, are
-    changed alike, and those of the other files added; a body keeps its lines."""
+    """Replaces the proof of every other function in a copy of the crate by a hole, and its body by a
+    loop, about which nothing has to be proved. So only these functions are checked, against the
+    contracts of what they call. `texts` has the contents of files that differ from the copy's; it is
+    changed in the same way, and the other files are added. A body keeps its number of lines."""
     for path in glob.glob(f"{folder}/src/**/*.rt", recursive=True):
         inside = path[len(f"{folder}/") :]
         texts[inside] = texts.get(inside) or open(path, encoding="utf-8").read()
-    # The module that a type is of, in which its functions are told, wherever their `impl` stands.
+    # The module that declares a type: rattle reports its functions there, whatever file the `impl` is in.
     homes = {name: module_of(it) for it, text in texts.items() for name in TYPE.findall(text)}
     for inside, text in texts.items():
         bodies = []

@@ -1,10 +1,10 @@
-"""The tests that speak of memory, by the calls that they name, beside the public calls that the
-libraries have."""
+"""The tests of memory and the functions that they list, compared with the public functions of the
+libraries."""
 import re
 
 import public_calls
 
-# Calls that a `for`, an iterator's method or a `?` makes.
+# Functions that a `for`, an iterator's method or a `?` calls.
 UNWRITTEN = {"next", "from"}
 # A test of these two kinds, with its comment.
 TEST = re.compile(
@@ -13,7 +13,7 @@ TEST = re.compile(
 
 
 def tests_of(crate):
-    """The crate's tests of these two kinds: each by its path, with the calls that it names."""
+    """The crate's tests of these two kinds: each by its path, with the functions that it lists."""
     found = {}
     for path in public_calls.sources(crate):
         with open(path) as source:
@@ -26,7 +26,7 @@ def tests_of(crate):
 
 
 def missing(named):
-    """What is wrong with the calls that the tests name, beside those that the sources have."""
+    """What is wrong with the lists of the tests, compared with the public functions in the sources."""
     calls = public_calls.public_calls()
     refused, quiet = (
         {it for test, found in named.items() if test.endswith(end) for it in found}
@@ -35,28 +35,28 @@ def missing(named):
     covered = {"answers": refused, "takes": refused | quiet, "none": quiet, "converts": calls}
     for call, memory in sorted(calls.items()):
         if call not in covered[memory]:
-            wanted = "refuses it memory" if memory == "answers" else "sees that it asks for none"
+            wanted = "lets its allocations fail" if memory == "answers" else "checks that it allocates nothing"
             yield f"{call}: no test {wanted}"
     yield from (
-        f"{call}: is named by a test, and no public call"
+        f"{call}: a test lists it, but it is no public function"
         for call in sorted((refused | quiet) - calls.keys())
     )
     kinds = list(calls.values())
     print(
-        f"{len(kinds) - kinds.count('converts')} public calls beside conversions,",
-        f"of which {kinds.count('answers')} answer a want of memory",
+        f"{len(kinds) - kinds.count('converts')} public functions besides conversions,",
+        f"of which {kinds.count('answers')} return an out-of-memory error",
     )
 
 
 def unwritten(crate, tests):
-    """Which of the calls that the tests name stand nowhere in the crate."""
+    """The functions that tests list but that their crate never calls."""
     words = set(UNWRITTEN)
     for path in public_calls.sources(crate):
         with open(path) as source:
             words.update(re.findall(r"\w+", public_calls.plain(source.read())))
     for test, calls in tests.items():
         yield from (
-            f"{crate} {test}: its crate has no {it}"
+            f"{crate} {test}: its crate never calls {it}"
             for it in calls
             if it.split("::")[-1] not in words
         )

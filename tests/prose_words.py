@@ -9,7 +9,7 @@ IN_PLACE = r"(?<!takes )(?<!take )(?<!took )(?<!taken )(?<!taking )(?<!into )"
 SET = r"(?:a |the |this |that |its |two |their |sorted )?(?:set|list|inversion|builder)"
 
 ROWS = [
-    ("answers", r"\banswers\b(?<!the answers)(?<!of answers)(?<!and answers)|\banswer(?:ed|ing)\b", "returns"),
+    ("answers", r"\banswers\b(?! to (?:statements|goals|holes))(?<!the answers)(?<!of answers)(?<!and answers)|\banswer(?:ed|ing)\b", "returns"),
     ("answers", r"\b(?:to|may|must|can|will|not|that|which) answer\b", "return"),
     ("memory", r"\bwants? of memory\b|\bwant(?:s|ed|ing)? memory\b", "out of memory"),
     ("memory", r"\bmemory(?: that)?(?: is| was| were| be| may be| has been)? (?:refused|found)\b", "allocation fails / succeeds"),

@@ -1,23 +1,23 @@
-"""The public calls of the libraries, as their sources have them, and what their signatures say of
-memory."""
+"""The public functions of the libraries, read from their sources, and what their signatures say
+about memory."""
 import glob
 import os
 import re
 
 from shown_items import SHOWN, plain, shown, sources, without_generics
 
-# What answers a want of memory, beside each enum with a variant `Memory`, or one for such an enum.
+# Error types for failed allocations, besides each enum with a variant `Memory` or one for such an
+# enum.
 ANSWERS = {"MemoryError", "AllocError", "ApplyRefused"}
 WANTS = re.compile(r"\bMemory\b")
 ENUM = re.compile(r"^pub enum (\w+)[^{]*\{(.*?)^\}", re.M | re.S)
-# Traits whose methods are called by an operator or by a format, and those whose methods are the
-# caller's own.
+# Traits whose methods operators or formatting call, and traits that the caller implements.
 UNNAMED = set(
     "Clone Copy Debug Display Drop Eq Error Hash Model PartialEq Cells Sink Source".split()
 )
-# Types of which nothing is left at run time.
+# Types that do not exist at run time.
 GHOSTS = {"Steps"}
-# What a call is said to do about memory; where several bear one name, the last of these holds.
+# What a function does about memory; if several have one name, the last of these kinds counts.
 KINDS = ["converts", "none", "takes", "answers"]
 # An `impl` or a trait, its end, and a function up to its clauses or its body.
 ITEM = re.compile(
@@ -30,8 +30,8 @@ ITEM = re.compile(
 
 
 def calls_of(path, names, traits, module, answers):
-    """The public calls of a file, each with its kind: `names` are those that are shown, `traits`
-    the traits among them; `module` is its own where it is shown whole, else None."""
+    """The public functions of a file, each with its kind: `names` are the re-exported names, `traits`
+    the traits among them; `module` is the file's module if all of it is re-exported, else None."""
     owner, trait = None, None
     for item in ITEM.finditer(plain(open(path).read())):
         if item["end"]:
@@ -53,7 +53,7 @@ def calls_of(path, names, traits, module, answers):
         elif trait in UNNAMED or owner in GHOSTS or not (item["public"] or trait):
             continue
         elif owner and (owner in names or module or trait in traits):
-            # A method of a trait of the library's own bears the trait's name.
+            # A method of a trait that the library defines is listed under the trait.
             kind = "converts" if trait == "From" else memory_of(item["signature"], answers)
             yield f"{trait if trait in traits else owner}::{item['name']}", kind
         elif not owner and (module or item["name"] in names):
@@ -63,8 +63,8 @@ def calls_of(path, names, traits, module, answers):
 
 
 def memory_of(signature, answers):
-    """The kind of a function with this signature: `answers` where it answers a want of memory,
-    `takes` where it only takes an allocator, else `none`."""
+    """The kind of a function with this signature: `answers` if it returns an out-of-memory error,
+    `takes` if it only takes an allocator, else `none`."""
     taken, _, answer = signature.partition("->")
     if answers & set(re.findall(r"\w+", answer)):
         return "answers"
@@ -72,7 +72,7 @@ def memory_of(signature, answers):
 
 
 def public_calls():
-    """Each public call by its name, as `CodePointInversionListBuilder::add_char`, and its kind."""
+    """Each public function by its name, as `CodePointInversionListBuilder::add_char`, and its kind."""
     names, modules = shown()
     crates = sorted({os.path.basename(it) for it in glob.glob("crates/icu_*")} - {SHOWN})
     text = {path: plain(open(path).read()) for crate in crates for path in sources(crate)}
@@ -82,8 +82,8 @@ def public_calls():
         for name, body in ENUM.findall(it)
     }
     answers = ANSWERS | {name for (_, name), answers in enums.items() if answers}
-    # What a module that is shown whole makes public: its own items, and those that it names by `pub
-    # use`.
+    # What a module that is re-exported as a whole makes public: its own items, and those that it
+    # re-exports by `pub use`.
     for path, it in text.items():
         for folder, module in modules.items():
             if path.startswith(folder):
@@ -105,7 +105,7 @@ def public_calls():
             (module for folder, module in modules.items() if path.startswith(folder)), None
         )
         module = whole and os.path.basename(path)[:-3].replace("lib", whole).replace("mod", whole)
-        # A crate's own enum of a name is what its signatures mean by it.
+        # A signature refers to its own crate's enum of that name.
         others = {name for (crate, name), it in enums.items() if not it and crate in path.split("/")}
         for call, kind in calls_of(path, names, traits, module, answers - others):
             found[call] = max(kind, found.get(call, kind), key=KINDS.index)

@@ -1,9 +1,9 @@
-"""The sources of the libraries, and what of them icu_collections shows."""
+"""The sources of the libraries, and the items that icu_collections re-exports."""
 import glob
 import os
 import re
 
-# The crate through which the library is called.
+# The crate that callers use.
 SHOWN = "icu_collections"
 
 
@@ -17,15 +17,15 @@ def plain(text):
 
 
 def without_generics(text):
-    """The words of an item's head without what stands in angle brackets."""
+    """The head of an item without what is in angle brackets."""
     while re.search(r"<[^<>]*>", text.replace("->", "  ")):
         text = re.sub(r"<[^<>]*>", "", text.replace("->", "  "))
     return text
 
 
 def shown():
-    """Each type, trait and function that icu_collections shows by its name, with the module that it
-    stands in there; and each module that it shows whole, by its folder or file."""
+    """Each type, trait and function that icu_collections re-exports by name, with its module there; and
+    each module that it re-exports as a whole, by its folder or file."""
     names, modules = {}, {}
     for path in sources(SHOWN):
         module = os.path.basename(path)[:-3].replace("lib", SHOWN)

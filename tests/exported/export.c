@@ -1,5 +1,5 @@
 /* Writes a table of rows HEX..HEX;N or HEX;N from standard input as a trie in TOML, in the form of
-   ICU's icuexportdata: ICU4C builds the trie, and its arrays and header are printed as they stand.
+   ICU's icuexportdata: ICU4C builds the trie, and its arrays and header are printed unchanged.
    With a FILE it compares that trie with the one which ICU4C opens from the file's binary form; and
    with a TEXT and VALUES besides, the values along the text, which may be ill-formed UTF-8, with
    those in the file, of four bytes each: those of a fast trie of 32 bits by ICU's own macro.
@@ -31,15 +31,15 @@ static UCPTrie *build(bool fast, UCPTrieValueWidth width) {
     return trie;
 }
 
-// What stands after cell i: sixteen of them are a line.
+// The text after cell i; sixteen cells make a line.
 static const char *after(int i) { return i % 16 == 15 ? ",\n" : ","; }
 
 static unsigned cell(const UCPTrie *trie, int bits, int i) {
     return bits == 8 ? trie->data.ptr8[i] : bits == 16 ? trie->data.ptr16[i] : trie->data.ptr32[i];
 }
 
-// The file has a trie in ICU's binary form and nothing else, it answers as this one does, and where
-// its values are as wide it has the bytes that ICU writes.
+// Checks that the file has a trie in ICU's binary form and nothing else, with the same values as this
+// one, and the bytes that ICU writes if its values have the same width.
 static void compare(const UCPTrie *trie, const char *path) {
     static uint32_t bytes[1 << 18], own[1 << 18];
     FILE *file = fopen(path, "rb");

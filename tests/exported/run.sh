@@ -1,12 +1,11 @@
 #!/bin/sh
-# Reads tries in TOML as ICU's icuexportdata writes them, and compares their ranges with those that
-# another program found: tests/data/east_asian_width.toml with the ranges that the same file has,
-# and, where gcc and ICU 72 or newer (libicu-dev) are at hand, the tries that ICU4C builds and
-# exports here from each NAME.txt with a NAME.runs.txt beside it, of tests/data and of the folder
-# that the variable TABLES names, if it is set. These are written in ICU's binary form too: ICU4C
-# opens it, its answers are those of the trie that was exported, and its bytes are those that ICU4C
-# writes. ucptrie reads and writes them. The last line is 'all exported tries as expected', with
-# status 0, or says what failed, with status 1.
+# Reads tries in TOML as ICU's icuexportdata writes them with ucptrie, and compares their ranges with
+# those that another program found: tests/data/east_asian_width.toml with the ranges in the same file,
+# and, if gcc and ICU 72 or newer (libicu-dev) are installed, the tries that ICU4C builds and exports
+# here from each NAME.txt with a NAME.runs.txt in tests/data, and in the folder that the variable
+# TABLES names, if it is set. ucptrie also writes these in ICU's binary form: ICU4C opens it, finds the
+# values of the exported trie, and would write the same bytes. The last line is 'all exported tries as
+# expected', with status 0, or says what failed, with status 1.
 set -eu
 here=$(dirname -- "$(readlink -f -- "$0")")
 root=$here/../..
@@ -20,18 +19,18 @@ trap 'exit 130' INT TERM
 cd "$work"
 
 failed=
-# compare WHAT RANGES: the ranges of trie.toml are these.
+# compare WHAT RANGES: trie.toml must have these ranges.
 compare() {
     if "$root/ucptrie" convert trie.toml --as rows >out && cmp -s out "$2"; then
         echo "$1: $(wc -l <"$2") ranges compared"
     else
-        echo "$1: the first other lines:"; diff out "$2" | head -n 6
+        echo "$1: the first lines that differ from $2:"; diff out "$2" | head -n 6
         failed="$failed '$1'"
     fi
 }
 
-# The ranges that icuexportdata wrote beside the trie, as lines HEX;N and HEX..HEX;N. It leaves gaps
-# where the value is 0, and none where the property has a value at every code point.
+# The ranges that icuexportdata wrote along with the trie, as lines HEX;N and HEX..HEX;N. It leaves out
+# ranges with the value 0; this property has none.
 ranges() {
     sed -n 's/^ *{a=0x\([0-9a-f]*\), b=0x\([0-9a-f]*\), v=\([0-9]*\).*/\1 \2 \3/p' "$1" |
         while read -r a b v; do
