@@ -132,3 +132,19 @@ def of_file(path, text):
     elif kind in MARKS:
         for block in comment_blocks(kind, text):
             yield from paragraphs(block)
+
+
+# A text in quotes of at least three words.
+QUOTED = re.compile(r'"((?:[^"\\\n]|\\.)*\s(?:[^"\\\n]|\\.)*\s(?:[^"\\\n]|\\.)*)"')
+
+
+def strings_of(path, text):
+    """The messages in a file: its texts in quotes, outside whole-line comments."""
+    if kind_of(path, text) in ("md", "antt", ""):
+        return
+    for number, line in enumerate(text.split("\n"), 1):
+        if not re.match(r"\s*(//|#(?!\[)|\*)", line):
+            for found in QUOTED.findall(line):
+                own = Paragraph()
+                own.add(number, found)
+                yield own.without_code()

@@ -5,6 +5,8 @@ import re
 
 # A noun phrase begins with one of these.
 THE = r"(?:the|a|an|each|every|this|that|these|those|all|any|no|one|two|its|their|both|some|which|whose|other|own)"
+# The same without words before which "ends" is a verb.
+NOUN = r"(?:the|a|an|each|every|this|these|those|all|any|no|two|its|their|both|some|whose|other|own)"
 IN_PLACE = r"(?<!takes )(?<!take )(?<!took )(?<!taken )(?<!taking )(?<!into )"
 SET = r"(?:a |the |this |that |its |two |their |sorted )?(?:set|list|inversion|builder)"
 
@@ -19,10 +21,10 @@ ROWS = [
     ("stranger", r"\bstrangers?\b", "untrusted"),
     ("front", r"(?<!in )\bfronts?\b(?! end)", "prefix"),
     ("begins with", r"\bbeg(?:in|ins|inning|an) with\b", "starts with"),
-    ("ends", rf"\b(?:{THE}|of|as|number of|even|ascending|odd|packed|last|first) ends\b(?! (?:with|in|at|here|there|before|after)\b)", "boundaries"),
+    ("ends", rf"\b(?:{NOUN}|of|as|number of|even|ascending|odd|packed|last|first) ends\b(?! (?:with|in|at|here|there|before|after)\b)", "boundaries"),
     ("ends", rf"\bends (?:are|were|that|which|have|of {SET})\b", "boundaries"),
     ("place", rf"\b(?<!at )(?<!in ){IN_PLACE}{THE} (?:\w+ )?places?\b(?! (?:a|an|the|it|them|each|its)\b)", "index, position; offset if in bytes or cells"),
-    ("place", rf"\bat (?:{THE} )?(?:\w+ )?places?\b|\bplaces (?:are|were|of|in|that|at)\b|\bplace of (?:the|a|an|its|each|that)\b", "index, position; offset if in bytes or cells"),
+    ("place", rf"\bat (?:{THE} )?(?:\w+ )?places?\b|\bplaces (?:are|were|of|in|that|at)\b|(?<!in )\bplace of (?:the|a|an|its|each|that)\b", "index, position; offset if in bytes or cells"),
     ("stands", r"\b(?:stands?|stood|standing)\b(?! (?:for|out)\b)", "is (in), appears in, occurs"),
     ("lies", r"\b(?:lies|lie|lying)\b", "is, is in, is within"),
     ("square", r"\bas (?:its|the|their) square\b|\bby (?:its|the|their) square\b", "takes quadratic time"),
@@ -34,7 +36,7 @@ ROWS = [
     ("call", r"\b(?:public|exported|getter|inline|all|other|these|those|same|such|its|no|every|C) calls\b"
      r"|\bcalls? (?:from|in|of) (?:C|Python|Rust|the (?:library|crate|header|module|API))\b"
      r"|\b(?:a|each|every|another|this) (?:public |new )?call of (?:the (?:library|crate|API)|ours|its)\b", "function, method"),
-    ("where", r"(?:[,;:(]|\b(?:and|or|but|only|except|also|else|even|save)) where\b(?! to\b)", "if, when"),
+    ("where", r"(?:[,;:(]|\b(?:and|or|but|only|except|also|else|even|save)) where\b(?! to\b)(?! (?:[a-zA-Z]|·) )", "if, when"),
     ("where", r"\bwhere (?:it|they|there|nothing|none|this|that|these|one|both|no|not|neither|all) "
      r"(?:\w+ )?(?:is|are|was|were|has|have|had|does|do|did|can|could|holds?|gives?|asks?|wants?)\b", "if, when"),
     ("where", r"(?:^|[.;!?] )Where (?:(?!\b(?:in|to)\b)[^.;?]){3,80}?,", "if, when"),
