@@ -1,4 +1,5 @@
--- What a caller's proof cites of the maps in `specs/UnitMap.antt` and of the matches in `specs/Matches.antt`.
+-- Lemmas for callers' proofs, on the maps in `specs/UnitMap.antt` and the matches in
+-- `specs/Matches.antt`.
 use Rattle.std.proofs.Common.{◌≡◌, ℕ, ℤ, ◌<◌, zero, suc, false, List, [], ◌∷◌, ◌++◌, Option, Some, None, length, refl, sym, ap, subst, ◌∙◌, arith, ◌⊎◌, inl, inr}
 use Rattle.icu_char16trie.specs.UnitMap.{UnitMap, after, after_all, goes_on, key_goes_on, value_of}
 use Rattle.icu_char16trie.specs.Matches.{HasFrontValue, IsLongestMatch, LongestWithin}
@@ -27,14 +28,14 @@ value_beyond m w v =
 none_some : (v : ℤ) → ◌≡◌ {A = Option ℤ} None (Some v) → ⊥
 none_some v e = cc
 
--- where no key goes on beyond some units, no longer key has a value
+-- If no key continues after some units, no longer key has a value.
 pub none_beyond : (m : UnitMap) (w : List ℕ) (u : ℕ) (more : List ℕ) → goes_on m w ≡ false → value_of m (w ++ (u ∷ more)) ≡ None
 unfolding value_of
 none_beyond m w u more h =
     value_beyond m w (u ∷ more) ∙ value_after u more (after_all w m)
     ∙ ap (λ z. value_of z more) (nothing_after u (after_all w m) (sym (goes_on_after_all w m) ∙ h))
 
--- ---- the longest match is one
+-- ---- the longest match is unique
 
 above_or_same : (j k : ℕ) → (j < k) ⊎ (k < j) ⊎ (j ≡ k)
 above_or_same zero zero = inr (inr refl)
@@ -50,7 +51,7 @@ above_or_same (suc j) (suc k) = step (above_or_same j k)
 found_same : (i j : ℕ) (v w : ℤ) → i ≡ j → ◌≡◌ {A = Option ℤ} (Some v) (Some w) → ◌≡◌ {A = Option (ℕ × ℤ)} (Some (i, v)) (Some (j, w))
 found_same i j v w e f = cc
 
--- where each front has at most one value, there is one longest front with a value
+-- If each prefix has at most one value, the longest prefix with a value is unique.
 pub LongestWithin-one : (P : ℕ → Option ℤ → Type 0) (most : ℕ) (a b : Option (ℕ × ℤ)) → ((k : ℕ) (v w : Option ℤ) → P k v → P k w → v ≡ w)
     → LongestWithin P most a → LongestWithin P most b → a ≡ b
 LongestWithin-one P most None None one h k = refl
@@ -65,6 +66,6 @@ LongestWithin-one P most (Some a) (Some b) one h k = by (above_or_same a.0 b.0)
         let value : Some a.1 ≡ Some b.1 = one b.0 (Some a.1) (Some b.1) (subst (λ z. P z (Some a.1)) same h.1) k.1 in
         found_same a.0 b.0 a.1 b.1 same value
 
--- two longest matches in a map are the same
+-- Two longest matches in a map are the same.
 pub IsLongestMatch-one : (m : UnitMap) (text : List ℕ) (a b : Option (ℕ × ℤ)) → IsLongestMatch m text a → IsLongestMatch m text b → a ≡ b
 IsLongestMatch-one m text a b h k = LongestWithin-one (HasFrontValue m text) (length text) a b (λ j v w e f. sym e ∙ f) h k

@@ -23,7 +23,7 @@ use Rattle.icu_char16trie.proofs.FrontLemmas.{front_more, none_along}
 units_append : (xs ys : List ℕ) → flat_map encode_utf16 (xs ++ ys) ≡ flat_map encode_utf16 xs ++ flat_map encode_utf16 ys
 units_append xs ys = flat_map-append encode_utf16 xs ys
 
--- characters that were yielded, and one more, are the first of all
+-- If the characters yielded so far are the first ones, they still are with the next one.
 pub front_next : (cs ys : List ℕ) (c : ℕ) → ys ≡ take (length ys) cs → length ys < length cs → c ≡ get_or cs (length ys) c
     → ys ++ c ∷ [] ≡ take (length ys + 1) cs
 front_next cs ys c so_far within is =
@@ -31,11 +31,11 @@ front_next cs ys c so_far within is =
     ap (λ (z : List ℕ). z ++ c ∷ []) so_far ∙ ap (λ (z : ℕ). take (length ys) cs ++ z ∷ []) is
     ∙ sym (take-suc cs (length ys) c within) ∙ ap (λ (k : ℕ). take k cs) next
 
--- the units of one character more
+-- The units of one more character.
 pub units_next : (cs : List ℕ) (c : ℕ) → flat_map encode_utf16 (cs ++ c ∷ []) ≡ flat_map encode_utf16 cs ++ encode_utf16 c
 units_next cs c = units_append cs (c ∷ []) ∙ ap (λ z. flat_map encode_utf16 cs ++ z) (append-nil (encode_utf16 c))
 
--- a character has a unit
+-- A character has a unit.
 some_unit : (c : ℕ) → (u : ℕ) × (more : List ℕ) × (encode_utf16 c ≡ u ∷ more)
 some_unit c = by (nat_lt c 0x1_0000)
   where
@@ -44,7 +44,7 @@ some_unit c = by (nat_lt c 0x1_0000)
     by true = (c, [], refl)
     by false = (0xD800 + (c - 0x1_0000) / 0x400, (0xDC00 + (c - 0x1_0000) % 0x400) ∷ [], refl)
 
--- the units of more characters begin with those of fewer
+-- The units of more characters start with those of fewer.
 units_more : (cs : List ℕ) (i k : ℕ) → i < k → k ≤ length cs
     → (u : ℕ) × (more : List ℕ) × (front_units cs k ≡ front_units cs i ++ u ∷ more)
 units_more cs i k below within =
@@ -56,7 +56,7 @@ units_more cs i k below within =
           ∙ ap (λ z. front_units cs i ++ (z ++ flat_map encode_utf16 t.1)) one.2,
     )
 
--- where no key goes on beyond some characters, no more characters have a value
+-- If no key continues after some characters, no longer sequence of characters has a value.
 pub no_more_chars : (m : UnitMap) (cs : List ℕ) (i k : ℕ) → goes_on m (front_units cs i) ≡ false → i < k → k ≤ length cs
     → HasCharsValue m cs k None
 no_more_chars m cs i k ends below within =
@@ -71,7 +71,7 @@ no_more_steps units cs place i k steps ends below within =
 
 -- ---- bytes
 
--- the bytes of the first characters, and of the others
+-- The bytes of the first characters and those of the others are the bytes of the text.
 whole_text : (text : List ℕ) (k : ℕ) → IsUtf8 text → encodes (take k (chars text)) ++ encodes (drop k (chars text)) ≡ text
 whole_text text k u =
     sym (encodes-append (take k (chars text)) (drop k (chars text))) ∙ ap encodes (take-append-drop k (chars text)) ∙ encodes-chars text u
@@ -90,7 +90,7 @@ scalars_take (c ∷ cs) (suc k) h = by (scalar c) h (scalars_take cs k)
     by true h rest = rest h
     by false h rest = h
 
--- a text may be cut after some first characters
+-- The end of some first characters is a character boundary.
 pub cut_after : (text : List ℕ) (k : ℕ) → IsUtf8 text → IsCharBoundary text (length (encode_utf8_all (take k (chars text))))
 cut_after text k u =
     let bytes : List ℕ = encodes (take k (chars text)) in
@@ -99,19 +99,19 @@ cut_after text k u =
     IsCharBoundary-from_take text _ u (bytes_within text k u)
     (take k (chars text), (scalars_take (chars text) k (scalars-chars text u), front))
 
--- the bytes of one character more
+-- The bytes of one more character.
 pub bytes_next : (cs : List ℕ) (c : ℕ) → length (encode_utf8_all (cs ++ c ∷ [])) ≡ length (encode_utf8_all cs) + length (encode_utf8 c)
 bytes_next cs c =
     ap length (encodes-append cs (c ∷ [])) ∙ length-append (encodes cs) (encodes (c ∷ []))
     ∙ ap (λ (z : List ℕ). length (encodes cs) + length z) (append-nil (encode c))
 
--- what is found in bytes, once one character more is looked up
+-- The longest match in bytes, once one more character is looked up.
 pub longer_bytes : (cs : List ℕ) (k n : ℕ) (v : Option ℤ) (found : Option (ℕ × ℤ)) → n ≡ length (encode_utf8_all (take k cs))
     → longer n v (in_bytes cs found) ≡ in_bytes cs (longer k v found)
 longer_bytes cs k n None found e = refl
 longer_bytes cs k n (Some v) found e = ap (λ z. Some (z, v)) e
 
--- a match in bytes ends where the text may be cut
+-- A match in bytes ends at a character boundary.
 pub ends_at_boundary : (text : List ℕ) (found : Option (ℕ × ℤ)) → IsUtf8 text
     → IfSome (in_bytes (chars text) found) (λ f. IsCharBoundary text f.0)
 ends_at_boundary text None u = tt

@@ -1,4 +1,4 @@
--- How many entries a node has, by those that it leads to.
+-- The number of entries of a node, given those of the nodes that it leads to.
 use Rattle.std.proofs.Common.{◌≡◌, ℕ, suc, ◌+◌, ◌-◌, ◌/◌, ◌%◌, ◌<◌, ◌≤◌, ◌≢◌, ◌↔◌, Bool, true, false, nat_eq, List, [], ◌∷◌, ◌++◌, Option, Some, None, length, get_or, set, slice_get, refl, sym, ap, ◌∙◌, arith, length-append, get_or-set_same, get_or-set_other}
 use Rattle.std.specs.Prelude.{min}
 use Rattle.std.proofs.lemmas.Option.{same_Some}
@@ -94,7 +94,7 @@ node_count units counts (valued p lead n m rest g big small s h e) (of_valued _ 
     let longer : length m ≡ 1 + length rest = ap length e ∙ omega arith in
     rw (one, longer) (cap_own 1 (sum_at counts kids) (length rest) _ counted)
 
--- ---- from the last node on
+-- ---- from the last node back to the root
 
 all_counted : (units counts kids : List ℕ) (wanted : List Bool) (p n : ℕ) → AllBetween p n kids → AllWanted wanted kids
     → ((q : ℕ) → p + 1 ≤ q → IsWanted wanted q → IsCounted units counts q) → AllCounted units counts kids
@@ -118,13 +118,13 @@ count_here units counts wanted p v closed within within' here is after q le w m 
         let other : q ≢ p = eqb-false q p e in
         rw (get_or-set_other counts p q v 0 other) (after q (omega (arith, other)) w m holds)
 
--- ---- what is counted at a part of a branch
+-- ---- the count of a part of a branch
 
--- so much is counted at a part
+-- This is the count of a part.
 abbrev pub CountsPart : List ℕ → List ℕ → ℕ → ℕ → Option ℕ → Type 0
 CountsPart units counts p n r = (arms : Arms) → Part units p n arms → r ≡ Some (capped (sum_at counts (places_of arms)))
 
--- with what was counted before, so much is counted at a row
+-- This is the count of a row, added to an earlier count.
 abbrev pub CountsFrom : List ℕ → List ℕ → ℕ → ℕ → ℕ → Option ℕ → Type 0
 CountsFrom units counts total p n r = (arms : Arms) → Part units p n arms → r ≡ Some (capped (total + sum_at counts (places_of arms)))
 

@@ -1,4 +1,4 @@
--- What the entries of a branch give, one after another.
+-- The entries of a branch, one after another.
 use Rattle.std.proofs.Common.{◌≡◌, ℕ, ℤ, ◌+◌, ◌<◌, ◌≤◌, List, [], ◌∷◌, ◌++◌, Some, true, false, nat_eq, refl, sym, ap, subst, ◌∙◌, arith, slice_get, append_assoc}
 use Rattle.std.proofs.lemmas.Bool.{ne_eqb, eq-eqb}
 use Rattle.std.proofs.lemmas.Option.{same_Some}
@@ -63,7 +63,7 @@ pub children_nil : (units : List ℕ) {arms : List (ℕ × ℕ)} {m : List (List
 children_nil units (none arms m a e) h = e
 children_nil units (more u q rest arms m others all a node c e) h = absurd (no_arm (sym h ∙ a))
 
--- the part of a branch
+-- The part with all entries of a branch.
 pub branch_plain : (units : List ℕ) {p low : ℕ} {m : List (List ℕ × ℤ)} → Matches units p low m → low < 0x30 → 0 < low
     → ArmsHold units p (low + 1) m
 branch_plain units {p = p} {low = low} {m = m} h lt pos =

@@ -1,14 +1,14 @@
--- Small tries and their maps, so that each rule of the grammar is met by units.
+-- Small tries and their maps, at least one for each rule of the grammar.
 use Rattle.std.proofs.Common.{ℕ, ℤ, pos, negsuc, List, [], ◌∷◌, refl, lit<, lit≤}
 use Rattle.icu_char16trie.specs.Numbers.{number_by, end_by, entry_child, lower_part}
 use Rattle.icu_char16trie.specs.Grammar.{Arms, Part, last, entry, split, Holds, final, plain, valued, Matches, run, branch, Children, none, more, IsTrieOf}
 use Rattle.icu_char16trie.specs.Grammar as grammar
 
--- no unit
+-- The empty list of units.
 no_units : IsTrieOf [] []
 no_units = grammar.empty refl refl
 
--- values of one, two and three units
+-- Values of one, two and three units.
 one_unit : IsTrieOf (0x8007 ∷ []) (([], pos 7) ∷ [])
 unfolding number_by
 one_unit = grammar.node (final 0 0x8007 7 _ refl (lit≤ tt) refl refl)
@@ -21,7 +21,8 @@ three_units : IsTrieOf (0xFFFF ∷ 0xFFFF ∷ 0xFFFE ∷ []) (([], negsuc 1) ∷
 unfolding number_by
 three_units = grammar.node (final 0 0xFFFF 0xFFFFFFFE _ refl (lit≤ tt) refl refl)
 
--- linear matches: of two letters, of a character of two units, of a surrogate without its partner, of two, of the unit 0
+-- Linear matches: of two letters, of a character of two units, of a lone surrogate, of two, of the
+-- unit 0.
 letters : IsTrieOf (0x31 ∷ 0x61 ∷ 0x62 ∷ 0x8003 ∷ []) ((0x61 ∷ 0x62 ∷ [], pos 3) ∷ [])
 unfolding number_by
 letters =
@@ -52,7 +53,7 @@ unit_zero =
     grammar.node (plain 0 0x30 _ refl (lit< tt)
     (run 1 0x30 _ (([], pos 1) ∷ []) (lit≤ tt) (lit< tt) (lit≤ tt) (final 2 0x8001 1 _ refl (lit≤ tt) refl refl) refl))
 
--- a branch of two entries, the first by a jump
+-- A branch of two entries, the first by a jump.
 abbrev jump_units : List ℕ
 jump_units = 1 ∷ 0x61 ∷ 2 ∷ 0x62 ∷ 0x8002 ∷ 0x8001 ∷ []
 
@@ -75,7 +76,7 @@ jump =
     (more 0x61 5 ((0x62, 4) ∷ []) _ _ ((0x62 ∷ [], pos 2) ∷ []) _ refl jump_a
     (more 0x62 4 [] _ _ [] _ refl jump_b (none [] [] refl refl) refl) refl)))
 
--- an intermediate value, and a linear match after it
+-- An intermediate value, and a linear match after it.
 abbrev valued_units : List ℕ
 valued_units = 0x30 ∷ 0x61 ∷ 0xB0 ∷ 0x62 ∷ 0x8002 ∷ []
 
@@ -92,7 +93,7 @@ intermediate =
     grammar.node (plain 0 0x30 _ refl (lit< tt)
     (run 1 0x30 _ (([], pos 1) ∷ (0x62 ∷ [], pos 2) ∷ []) (lit≤ tt) (lit< tt) (lit≤ tt) valued_a refl))
 
--- a branch of two entries, the first with a final value in its row
+-- A branch of two entries, the first with a final value in its row.
 abbrev row_units : List ℕ
 row_units = 1 ∷ 0x61 ∷ 0x8001 ∷ 0x62 ∷ 0x8002 ∷ []
 
@@ -115,7 +116,7 @@ final_in_row =
     (more 0x61 2 ((0x62, 4) ∷ []) _ _ ((0x62 ∷ [], pos 2) ∷ []) _ refl row_a
     (more 0x62 4 [] _ _ [] _ refl row_b (none [] [] refl refl) refl) refl)))
 
--- a branch of six entries, which is split
+-- A branch of six entries, which is split.
 abbrev split_units : List ℕ
 split_units = 5 ∷ 0x64 ∷ 6 ∷ 0x64 ∷ 0x8004 ∷ 0x65 ∷ 0x8005 ∷ 0x66 ∷ 0x8006 ∷ 0x61 ∷ 0x8001 ∷ 0x62 ∷ 0x8002 ∷ 0x63 ∷ 0x8003 ∷ []
 
@@ -138,7 +139,7 @@ split_arms = split 1 6 0x64 6 9 ((0x61, 10) ∷ (0x62, 12) ∷ (0x63, 14) ∷ []
     ((0x64, 4) ∷ (0x65, 6) ∷ (0x66, 8) ∷ []) _ (lit< tt) refl refl refl lower_arms upper_arms
     (lit< tt, (lit< tt, (lit< tt, tt))) (lit≤ tt, (lit≤ tt, (lit≤ tt, tt))) refl
 
--- an entry with a final value, before the others
+-- An entry with a final value, before the others.
 leaf : (u p v : ℕ) (rest : Arms) (others : List (List ℕ × ℤ)) → Holds split_units p (([], pos v) ∷ []) → Children split_units rest others
     → Children split_units ((u, p) ∷ rest) ((u ∷ [], pos v) ∷ others)
 leaf u p v rest others h c = more u p rest _ (([], pos v) ∷ []) others _ refl h c refl

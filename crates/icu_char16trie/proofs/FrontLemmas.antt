@@ -1,4 +1,4 @@
--- The fronts of a text, and the longest one that has a value.
+-- The prefixes of a text, and the longest one that has a value.
 use Rattle.std.proofs.Common.{◌≡◌, ℕ, ℤ, zero, suc, ◌+◌, ◌<◌, ◌≤◌, true, false, List, [], ◌∷◌, ◌++◌, Option, Some, None, length, take, get_or, sym, ap, subst, refl, ◌∙◌, arith, ◌⊎◌, inl, inr}
 use Rattle.std.specs.Prelude.{nat_le, slice_get}
 use Rattle.std.proofs.lemmas.Bool.Decides.{nat_tests}
@@ -22,9 +22,9 @@ within_or_above (suc k) (suc i) = step (within_or_above k i)
     step (inl h) = inl (omega (arith, h))
     step (inr h) = inr (omega (arith, h))
 
--- ---- the longest front with a value, as fronts are looked up
+-- ---- the longest prefix with a value, as prefixes are looked up
 
--- the empty front is looked up
+-- The empty prefix is looked up.
 pub LongestWithin-zero : (P : ℕ → Option ℤ → Type 0) (v : Option ℤ) → P 0 v → LongestWithin P 0 (longer 0 v None)
 LongestWithin-zero P None e = λ k h. subst (λ z. P z None) (sym (no_less k h)) e
   where
@@ -32,7 +32,7 @@ LongestWithin-zero P None e = λ k h. subst (λ z. P z None) (sym (no_less k h))
     no_less k h = omega (arith, h)
 LongestWithin-zero P (Some v) e = (omega arith, e, λ k above within. absurd (omega (arith, above, within)))
 
--- a front of one unit more is looked up
+-- A prefix of one more unit is looked up.
 pub LongestWithin-suc : (P : ℕ → Option ℤ → Type 0) (i : ℕ) (v : Option ℤ) (found : Option (ℕ × ℤ)) → P (i + 1) v
     → LongestWithin P i found → LongestWithin P (i + 1) (longer (i + 1) v found)
 LongestWithin-suc P i (Some v) found e h = (omega arith, e, λ k above within. absurd (omega (arith, above, within)))
@@ -52,7 +52,7 @@ LongestWithin-suc P i None (Some found) e h =
         let same : i + 1 ≡ k = omega (arith, within, more) in
         subst (λ z. P z None) same e
 
--- no longer front has a value
+-- No longer prefix has a value.
 pub LongestWithin-more : (P : ℕ → Option ℤ → Type 0) (i n : ℕ) (found : Option (ℕ × ℤ)) → i ≤ n
     → ((k : ℕ) → i < k → k ≤ n → P k None) → LongestWithin P i found → LongestWithin P n found
 LongestWithin-more P i n None within none h = λ k below. last k below (within_or_above k i)
@@ -67,15 +67,15 @@ LongestWithin-more P i n (Some found) within none h =
     last k above below (inl few) = h.2 k above few
     last k above below (inr more) = none k more below
 
--- ---- fronts of a text
+-- ---- prefixes of a text
 
--- the next front is this one and its next unit
+-- The next prefix is this one and its next unit.
 pub take_next : (text : List ℕ) (i n : ℕ) → n ≡ i + 1 → i < length text → take i text ++ get_or text i 0 ∷ [] ≡ take n text
 take_next text i n e within =
     let next : suc i ≡ n = omega (arith, e) in
     sym (take-suc text i 0 within) ∙ ap (λ (k : ℕ). take k text) next
 
--- a longer front begins with a shorter one
+-- A longer prefix starts with a shorter one.
 pub front_more : (text : List ℕ) (i k : ℕ) → i < k → k ≤ length text
     → (x : ℕ) × (y : List ℕ) × (take k text ≡ take i text ++ x ∷ y)
 front_more [] i k below within = absurd (omega (arith, below, within))
@@ -85,16 +85,16 @@ front_more (u ∷ text) (suc i) (suc k) below within =
     let more = front_more text i k (omega (arith, below)) (omega (arith, within)) in
     (more.0, more.1, ap (λ (z : List ℕ). u ∷ z) more.2)
 
--- where no key goes on beyond a front, no longer front has a value
+-- If no key continues after a prefix, no longer prefix has a value.
 pub no_longer_front : (m : UnitMap) (text : List ℕ) (i k : ℕ) → goes_on m (take i text) ≡ false → i < k → k ≤ length text
     → HasFrontValue m text k None
 no_longer_front m text i k ends below within =
     let more = front_more text i k below within in
     ap (value_of m) more.2 ∙ none_beyond m (take i text) more.0 more.1 ends
 
--- ---- the same of steps on all units
+-- ---- the same for steps on all units
 
--- from an empty place each unit leads nowhere
+-- From an empty position each unit leads nowhere.
 ends_nowhere : (units : List ℕ) (place : Place) (u : ℕ) → is_empty_at units place ≡ true → StepsTo units place u Nowhere
 ends_nowhere units Nowhere u e = refl
 ends_nowhere units (Node p) u e = by (slice_get units p) refl e
@@ -111,7 +111,7 @@ pub stays_nowhere : (units w : List ℕ) → StepsAlong units Nowhere w Nowhere
 stays_nowhere units [] = refl
 stays_nowhere units (u ∷ w) = (Nowhere, refl, stays_nowhere units w)
 
--- beyond an empty place nothing has a value
+-- After an empty position nothing has a value.
 pub none_along : (units w : List ℕ) (place : Place) (u : ℕ) (more : List ℕ) → StepsAlong units (Node 0) w place
     → is_empty_at units place ≡ true → HasValueAlong units (w ++ u ∷ more) None
 none_along units w place u more steps ends =

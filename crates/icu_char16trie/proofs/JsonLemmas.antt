@@ -1,4 +1,4 @@
--- The units of a JSON array, and that what is written of a trie is read back.
+-- The units of a JSON array; what is written of a trie is read back.
 use Rattle.std.proofs.Common.{◌≡◌, ℕ, suc, ◌+◌, ◌<◌, ◌^◌, true, List, [], ◌∷◌, Ok, refl, ap, ◌∙◌, arith, map}
 use Rattle.std.proofs.lemmas.Bool.{lt-ltb}
 use Rattle.std.specs.Prelude.{All, nat_lt}
@@ -24,7 +24,7 @@ units_read i (u ∷ units) h =
     let small : nat_lt u 0x1_0000 ≡ true = lt-ltb u 0x1_0000 (h 0 0 (omega arith)) in
     rw small (ap (before (Ok u)) (units_read (i + 1) units (λ k d lt. h (suc k) d (omega arith))))
 
--- what is written is read back
+-- What is written is read back.
 pub json_read : (units : List ℕ) → All (λ u. u < 2 ^ 16) units → units_of (json_of units) ≡ Ok units
 unfolding serde_json_on_literals
 json_read units h = ap (read_from unit_or 0) (list_of-items_of (map (λ u. number (unsigned u)) units)) ∙ units_read 0 units h

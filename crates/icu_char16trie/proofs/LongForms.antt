@@ -1,4 +1,4 @@
--- More units and their maps: the longer forms of each number, of values, lengths, jumps and deltas.
+-- More units and their maps: the longer forms of values, lengths, jumps and deltas.
 use Rattle.std.proofs.Common.{◌≡◌, ℕ, ◌+◌, pos, negsuc, List, [], ◌∷◌, Some, refl, lit<, lit≤}
 use Rattle.icu_char16trie.specs.Numbers.{number_by, end_by, entry_child, delta_number, delta_end, lower_part}
 use Rattle.icu_char16trie.specs.Grammar.{Part, last, entry, split, Holds, final, plain, valued, Matches, run, branch, none, more, IsTrieOf}
@@ -26,7 +26,7 @@ three : IsTrieOf three_units (([], negsuc 0) ∷ (0x62 ∷ [], pos 2) ∷ [])
 unfolding number_by end_by
 three = grammar.node (valued 0 0x7FF0 0xFFFFFFFF _ ((0x62 ∷ [], pos 2) ∷ []) refl (lit≤ tt) (lit< tt) refl three_b refl)
 
--- a branch whose length stands in a unit of its own, with a jump of two units
+-- A branch whose length is a unit of its own, with a jump of two units.
 abbrev long_units : List ℕ
 long_units = 0 ∷ 1 ∷ 0x61 ∷ 0x4000 ∷ 2 ∷ 0x62 ∷ 0x8002 ∷ 0x8001 ∷ []
 
@@ -49,7 +49,7 @@ long =
     (more 0x61 7 ((0x62, 6) ∷ []) _ _ ((0x62 ∷ [], pos 2) ∷ []) _ refl long_a
     (more 0x62 6 [] _ _ [] _ refl long_b (none [] [] refl refl) refl) refl)))
 
--- a jump of three units
+-- A jump of three units.
 abbrev far_units : List ℕ
 far_units = 1 ∷ 0x61 ∷ 0x7FFF ∷ 0 ∷ 2 ∷ 0x62 ∷ 0x8002 ∷ 0x8001 ∷ []
 
@@ -97,7 +97,7 @@ delta_three_arms = split 1 6 0x64 0xFFFF 11 ((0x61, 12) ∷ (0x62, 14) ∷ (0x63
     ((0x64, 6) ∷ (0x65, 8) ∷ (0x66, 10) ∷ []) _ (lit< tt) refl refl refl delta_three_lower delta_three_upper
     (lit< tt, (lit< tt, (lit< tt, tt))) (lit≤ tt, (lit≤ tt, (lit≤ tt, tt))) refl
 
--- the border between a delta of one unit and one of two
+-- The border between a delta of one unit and one of two.
 one_unit_delta : (units : List ℕ) (p : ℕ) → delta_number units p 0xFBFF ≡ Some 0xFBFF
 unfolding number_by
 one_unit_delta units p = refl

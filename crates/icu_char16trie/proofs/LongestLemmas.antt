@@ -14,7 +14,7 @@ use Rattle.icu_char16trie.proofs.FrontLemmas.{LongestWithin-more, LongestWithin-
 use Rattle.icu_char16trie.proofs.PassedLemmas.{along_then}
 use Rattle.icu_char16trie.proofs.PlaceLemmas.{from_yes}
 
--- ---- fronts of a text
+-- ---- prefixes of a text
 
 front_then : (text : List ℕ) (i n : ℕ) → take i text ++ take n (drop i text) ≡ take (i + n) text
 front_then text zero n = ap (λ k. take k text) (omega arith)
@@ -57,8 +57,8 @@ match_leads units p lead place g small at = by (within_or_above lead 0x3f)
 
 -- ---- from node to node
 
--- the first i units of the text lead to the node, and what is found is the longest match of at most
--- these, the node's own value among them
+-- The first i units of the text lead to the node, and the match found is the longest among at most
+-- these units, the node's own value included.
 pub record IsAtNode (units text : List ℕ) (i node : ℕ) (found : Option (ℕ × ℤ)) : Type 0 where
   pub within : i ≤ length text
   pub steps : StepsAlong units (Node 0) (take i text) (Node node)
@@ -122,7 +122,7 @@ none_beyond_node units text i node found within steps h ends =
     LongestWithin-more (HasFrontStepped units text) i (length text) found within
     (λ k above below. no_longer_step units text (Node node) i k steps ends above below) h
 
--- ---- what is told where the node's lead was read
+-- ---- the result once the node's lead is read
 
 found_here : (units text : List ℕ) (i node lead : ℕ) (before found : Option (ℕ × ℤ)) → IsAtNode units text i node before
     → slice_get units node ≡ Some lead → found ≡ longer i (value_by units (node + 1) lead) before
@@ -131,14 +131,14 @@ found_here units text i node lead before found at g is =
     let value : value_at units (Node node) ≡ value_by units (node + 1) lead = ap (option_and_then (value_by units (node + 1))) g in
     rw is (rw value at at.longest)
 
--- no lead is there
+-- The lead is missing.
 pub ends_before : (units text : List ℕ) (i node : ℕ) (found : Option (ℕ × ℤ)) → IsAtNode units text i node found
     → slice_get units node ≡ None → LongestWithin (HasFrontStepped units text) (length text) found
 ends_before units text i node found at g =
     let no_value : value_at units (Node node) ≡ None = ap (option_and_then (value_by units (node + 1))) g in
     none_beyond_node units text i node found at.within at.steps (rw no_value at at.longest) (ap ends_by g)
 
--- the lead is that of a final value
+-- The lead is that of a final value.
 pub ends_here : (units text : List ℕ) (i node lead : ℕ) (before found : Option (ℕ × ℤ)) → IsAtNode units text i node before
     → slice_get units node ≡ Some lead → found ≡ longer i (value_by units (node + 1) lead) before → 0x8000 ≤ lead
     → LongestWithin (HasFrontStepped units text) (length text) found
@@ -146,7 +146,7 @@ ends_here units text i node lead before found at g is big =
     none_beyond_node units text i node found at.within at.steps (found_here units text i node lead before found at g is)
     (ap ends_by g ∙ from_yes 0x8000 lead big)
 
--- the text does not go on at the match node
+-- The text does not continue at the match node.
 pub ends_within : (units text : List ℕ) (i node lead place : ℕ) (before found : Option (ℕ × ℤ)) → IsAtNode units text i node before
     → slice_get units node ≡ Some lead → found ≡ longer i (value_by units (node + 1) lead) before → lead < 0x8000
     → place ≡ node_end (node + 1) lead → PassesMatch units (drop i text) place (lead % 64) None
@@ -155,7 +155,7 @@ ends_within units text i node lead place before found at g is small e passes =
     none_further units text i node found at.within at.steps (found_here units text i node lead before found at g is)
     (passes (Node node) (match_leads units node lead place g small e))
 
--- it goes on to the next node
+-- The text continues to the next node.
 pub goes_to : (units text : List ℕ) (i node lead place q n : ℕ) → slice_get units node ≡ Some lead → lead < 0x8000
     → place ≡ node_end (node + 1) lead → PassesMatch units (drop i text) place (lead % 64) (Some (q, n))
     → LeadsToNode units (Node node) (drop i text) q n
@@ -171,6 +171,6 @@ pub within_text : (units text : List ℕ) (i node n q : ℕ) → i ≤ length te
     → LeadsToNode units (Node node) (drop i text) q n → i + n ≤ length text
 within_text units text i node n q within on = omega (arith, on.within, length-drop i text, within)
 
--- all that is left of a text
+-- The rest of a text.
 pub rest_is : (text : List ℕ) (i : ℕ) → take (length text - i) (drop i text) ≡ drop i text
 rest_is text i = let all : length (drop i text) ≡ length text - i = length-drop i text in rw (← all) (take-length (drop i text))

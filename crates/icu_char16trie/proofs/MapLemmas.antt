@@ -1,11 +1,11 @@
--- Lemmas of maps as lists of entries.
+-- Lemmas on maps as lists of entries.
 use Rattle.std.proofs.Common.{◌≡◌, ℕ, ℤ, true, false, cond, ◌||◌, ◌&&◌, nat_eq, List, [], ◌∷◌, ◌++◌, Some, refl, ap, ◌∙◌, arith}
 use Rattle.icu_char16trie.specs.UnitMap.{under, after, after_all, value_of, same_key, goes_on, key_goes_on}
 
 same_eqb : (u : ℕ) → nat_eq u u ≡ true
 same_eqb u = grind arith
 
--- the entries that begin with u, with u before their keys
+-- If u is put before all keys, the entries whose keys start with u are all of them.
 pub after_under : (u : ℕ) (m : List (List ℕ × ℤ)) → after u (under (u ∷ []) m) ≡ m
 unfolding after
 after_under u [] = refl
@@ -25,7 +25,7 @@ after_append u ((x ∷ key, v) ∷ m) n =
     (elim (nat_eq x u) as (λ b. cond b ((key, v) ∷ (after u m ++ after u n)) (after u m ++ after u n) ≡ cond b ((key, v) ∷ after u m)
     (after u m) ++ after u n) [ true ↦ refl | false ↦ refl ])
 
--- a value is found a unit at a time
+-- A value is looked up one unit at a time.
 pub value_after : (u : ℕ) (w : List ℕ) (m : List (List ℕ × ℤ)) → value_of m (u ∷ w) ≡ value_of (after u m) w
 unfolding after value_of same_key
 value_after u w [] = refl

@@ -1,4 +1,4 @@
--- The matches that are left, front by front.
+-- The matches that are left, prefix by prefix.
 use Rattle.std.proofs.Common.{◌≡◌, ℕ, ℤ, zero, suc, ◌+◌, ◌-◌, ◌<◌, ◌≤◌, false, List, [], ◌∷◌, ◌++◌, Option, Some, None, length, take, sym, ap, subst, refl, ◌∙◌, arith}
 use Rattle.std.specs.Iterator.{Yields, Drains}
 use Rattle.icu_char16trie.specs.UnitMap.{UnitMap, goes_on, value_of}
@@ -8,7 +8,7 @@ use Rattle.icu_char16trie.specs.MatchesLeft.{AreLeft, AreLeftAt, GivesMatch}
 use Rattle.icu_char16trie.specs.declared.matches.Matches.{Matches}
 use Rattle.icu_char16trie.proofs.FrontLemmas.{no_longer_front}
 
--- where no key goes on beyond a front, no longer one is a match
+-- If no key continues after a prefix, no longer prefix is a match.
 none_from : (m : UnitMap) (text : List ℕ) (i : ℕ) → goes_on m (take i text) ≡ false → (n j : ℕ) → i < j → j + n ≤ length text + 1
     → matches_from m text j n ≡ []
 none_from m text i ends zero j above within = refl
@@ -22,19 +22,19 @@ pub none_beyond_front : (m : UnitMap) (text : List ℕ) (k : ℕ) → k ≤ leng
     → matches_from m text (k + 1) (length text - k) ≡ []
 none_beyond_front m text k within ends = none_from m text k ends (length text - k) (k + 1) (omega arith) (omega (arith, within))
 
--- beyond the whole text there is no front
+-- There is no prefix beyond the whole text.
 pub none_beyond_text : (m : UnitMap) (text : List ℕ) (k : ℕ) → length text ≤ k → matches_from m text (k + 1) (length text - k) ≡ []
 none_beyond_text m text k past =
     let none : length text - k ≡ 0 = omega (arith, past) in ap (λ (n : ℕ). matches_from m text (k + 1) n) none
 
--- the cursor stands at the next front
+-- The cursor is at the next prefix.
 pub next_left : (cursor : At) (text : List ℕ) (k : ℕ) (m : UnitMap) → k < length text → HasPassed cursor m (take (k + 1) text)
     → AreLeftAt cursor text (Some (k + 1)) m (matches_from m text (k + 1) (length text - k))
 next_left cursor text k m within after =
     let count : length text - k ≡ length text + 1 - (k + 1) = omega arith in
     (omega (arith, within), after, ap (λ (n : ℕ). matches_from m text (k + 1) n) count)
 
--- a front is told
+-- A prefix is reported.
 pub first_left : (m : UnitMap) (text : List ℕ) (k : ℕ) (v : Option ℤ) (xs : List (ℕ × ℤ)) → k ≤ length text → value_of m (take k text) ≡ v
     → xs ≡ matches_from m text k (length text + 1 - k) → xs ≡ match_at k v ++ matches_from m text (k + 1) (length text - k)
 first_left m text k v xs within value is =

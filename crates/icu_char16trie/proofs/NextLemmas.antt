@@ -23,7 +23,7 @@ use Rattle.icu_char16trie.proofs.NodeLemmas.{holds_below, holds_within}
 use Rattle.icu_char16trie.proofs.OpeningLemmas.{one_pushed, arms_long, from_later}
 use Rattle.icu_char16trie.proofs.WorkLemmas.{weight_some, weight_le, work_push}
 
--- what the lead unit says of a node's entries: its own, and those of the match node
+-- What the lead unit says about a node's entries: its own, and those of the match node.
 pub record ByLead (units : List ℕ) (p lead : ℕ) (entries : UnitMap) : Type 0 where
   pub rest : UnitMap
   pub is : entries ≡ own (value_by units (p + 1) lead) ++ rest
@@ -91,14 +91,14 @@ item_value : (units : List ℕ) (p lead : ℕ) (s : Spelling) (item : Option (St
 item_value units p lead s None g i = tt
 item_value units p lead s (Some x) g i = (p, rw g i.0)
 
--- less work is left, and so no more
+-- Strictly less work is left, and so not more.
 pub work_by : {A : Type 0} (new old : ℕ) (item : Option A) → new < old → MatchOption item (new ≤ old) (λ x. new < old)
 work_by new old None h = omega (arith, h)
 work_by new old (Some x) h = h
 
 -- ---- a node is opened
 
--- new is old without its node
+-- `new` is `old` without its node.
 pub record IsWithout (old new : Pending) : Type 0 where
   pub units : new.units ≡ old.units
   pub spelling : new.spelling ≡ old.spelling
@@ -125,7 +125,7 @@ pub without_work : (old new : Pending) (p : ℕ) → IsWithout old new → old.n
     → work_left old ≡ weight (length (slice_values old.units)) p + work_left new
 without_work old new p w n = rw (w.units, w.parts, w.node, n) (omega arith)
 
--- the node that stands from a place on is this one
+-- The node that is at k or later is this one.
 pub from_here : (s : Pending) (k p : ℕ) → s.node ≡ Some p → IsFrom k s → (k ≤ p) × (p < length (slice_values s.units))
 from_here s k p n f = let same : f.0 ≡ p = cc (n, f.1) in (omega (arith, f.2), omega (arith, f.3))
 
@@ -135,13 +135,13 @@ from_none s k n f = none-some _ (sym n ∙ f.1)
 pub from_gone : (s : Pending) (k p : ℕ) → s.node ≡ Some p → slice_get (slice_values s.units) p ≡ None → IsFrom k s → ⊥
 from_gone s k p n g f = none-some _ (sym g ∙ slice_get-get_or (slice_values s.units) p 0 (from_here s k p n f).1)
 
--- behind a node that leads on is one node more
+-- After a node that leads on, one more node was opened.
 pub past_more : (old new : Pending) (k p q : ℕ) → old.node ≡ Some p → p < q → IsFrom (q + 1) new → (k ≡ 0) ⊎ IsFrom k old
     → IsPast (k + 1) new
 past_more old new k p q n h f (inl e) = inr (inr (from_later (q + 1) (k + 1) new (omega (arith, e)) f))
 past_more old new k p q n h f (inr g) = inr (inr (from_later (q + 1) (k + 1) new (omega (arith, h, (from_here old k p n g).0)) f))
 
--- behind none, which only the first can be, is none
+-- A node without a lead unit leads to no node; only the first can be one.
 pub past_none : (old new : Pending) (k : ℕ) → new.node ≡ None → (IsFrom k old → ⊥) → (k ≡ 0) ⊎ IsFrom k old → IsPast (k + 1) new
 past_none old new k n never (inl e) = inr (inl (omega (arith, e), n))
 past_none old new k n never (inr f) = absurd (never f)
@@ -164,7 +164,7 @@ absent_opens old new p w n g = record {
   work = omega (arith, without_work old new p w n, weight_some (length (slice_values old.units)) p);
 }
 
--- a final value is an item
+-- A final value is an item.
 final_item : (units : List ℕ) (p lead : ℕ) (s : Spelling) (item : Option (String Global × ℤ)) → 0x8000 ≤ lead → IsItemBy units p lead s item
     → item ≡ None → ⊥
 final_item units p lead s None big i e =
@@ -230,7 +230,7 @@ keeps_then a b c h k = record {
       omega (arith, h.work, k.work);
 }
 
--- the next part is taken off, and the text is cut back to its mark
+-- The next part is taken off, and the text is cut back to its mark.
 pub record TakesPart (old : Pending) (part : BranchPart) (mid : Pending) : Type 0 where
   pub none : old.node ≡ None
   pub units : mid.units ≡ old.units
@@ -268,7 +268,7 @@ part_keeps old mid new part t o c = record {
   work = omega (arith, part_work old mid new part t o);
 }
 
--- a part leads to a node
+-- A part leads to a node.
 pub part_leads : (old mid new : Pending) (part : BranchPart) → TakesPart old part mid
     → Opens mid part.place (ArmsHold (slice_values mid.units) part.place part.count) new → GoesToNode old new
 part_leads old mid new part t o m h k past =
@@ -303,7 +303,7 @@ finds_item old mid new item k o = record {
   work = omega (arith, o.work, k.work);
 }
 
--- a node without an item is opened
+-- A node without an item is opened.
 pub more_kept : (old mid new : Pending) → Keeps old mid → OpensNode mid None new → Keeps old new
 more_kept old mid new k o = record {
   units = o.units ∙ k.units;
@@ -329,7 +329,7 @@ finds_none old new k o = record {
 
 -- ---- a trie has no more nodes on one path than units
 
--- no part fits into fewer than two units
+-- A part needs at least two units.
 parts_short : (units text : List ℕ) (parts : List BranchPart) (m : UnitMap) → length units < 2 → PartsGive units text parts m → m ≡ []
 parts_short units text [] m few p = p
 parts_short units text (part ∷ parts) m few p = absurd (omega (arith, few, arms_long units part.place part.count p.1 p.3))
@@ -347,7 +347,7 @@ short_gives s m h few short =
     h.is ∙ ap (λ z. z ++ h.others) (first_short (slice_values s.units) s.node h.key h.first h.node short)
     ∙ parts_short (slice_values s.units) (bytes_of s.spelling) (reverse s.parts.items) h.others few h.parts
 
--- once as many nodes were opened as there are units, nothing is left
+-- Once as many nodes were opened as there are units, nothing is left.
 pub past_gives : (s : Pending) (m : UnitMap) (k : ℕ) → length (slice_values s.units) ≤ k → IsPending s m → IsPast k s → m ≡ []
 past_gives s m k all h (inl e) = short_gives s m h (omega (arith, e, all)) (inr (omega (arith, e, all)))
 past_gives s m k all h (inr (inl e)) = short_gives s m h (omega (arith, e.0, all)) (inl e.1)
@@ -397,7 +397,7 @@ parts_none : (len : ℕ) (parts : List BranchPart) → parts ≡ [] → parts_wo
 unfolding parts_work
 parts_none len parts e = ap (parts_work len) e
 
--- nothing left is less work than something
+-- An empty rest is less work than a non-empty one.
 pub over_work : (old new : Pending) → IsOver new → (IsOver old → ⊥) → work_left new < work_left old
 over_work old new o more =
     let none : parts_work (length (slice_values new.units)) new.parts.items ≡ 0 =

@@ -1,4 +1,4 @@
--- The units with which keys go on are the first units of the keys.
+-- The units that can come next are the first units of the keys.
 use Rattle.std.proofs.Common.{◌≡◌, ℕ, ℤ, ◌+◌, ◌-◌, ◌/◌, ◌<◌, ◌≤◌, true, false, nat_eq, List, [], ◌∷◌, ◌++◌, Option, Some, None, refl, sym, ap, subst, ◌∙◌, arith, slice_get, drop, take, append_assoc, append-nil, get_or}
 use Rattle.std.proofs.lemmas.Bool.{ne_eqb, eq-eqb}
 use Rattle.std.proofs.lemmas.Option.{same_Some, slice_get-get_or}
@@ -17,7 +17,7 @@ use Rattle.icu_char16trie.proofs.NodeLemmas.{HasEntry, holds_has, matches_branch
 use Rattle.icu_char16trie.proofs.OpeningLemmas.{length_gone}
 use Rattle.icu_char16trie.proofs.PartLemmas.{entry_found, last_is, part_begins, part_goes_on}
 
--- the units of arms
+-- The units of arms.
 abbrev arm_units : List (ℕ × ℕ) → List ℕ
 arm_units [] = []
 arm_units (a ∷ arms) = a.0 ∷ arm_units arms
@@ -47,7 +47,7 @@ record IsBig (units : List ℕ) (p n d : ℕ) (arms : List (ℕ × ℕ)) : Type 
   below : Part units low (n / 2) lower
   above : Part units (delta_end (p + 2) d) (n - n / 2) upper
 
--- a part of more than five entries
+-- A part of more than five entries.
 big_part : (units : List ℕ) {p n : ℕ} {arms : List (ℕ × ℕ)} → Part units p n arms → 5 < n → (d : ℕ) → slice_get units (p + 1) ≡ Some d
     → IsBig units p n d arms
 big_part units (last p n u arms e g a) many d h = absurd (omega (arith, e, many))
@@ -144,7 +144,7 @@ node_first units {m = m} (says.at_match p lead us g small part) s =
     let b = stands_by units p lead m s g in
     match_first units part (b.node small) ∙ sym (ap first_units b.is ∙ own_first _ b.rest)
 
--- the units with which keys go on from a place, where the grammar holds
+-- The units that can come next at a position, if the grammar holds.
 pub place_first : (units : List ℕ) (place : Place) (us : List ℕ) (m : UnitMap) → GoesOnWith units place us → Stands units place m
     → us ≡ first_units m
 place_first units Nowhere us m g s = g ∙ sym (ap first_units s ∙ no_first)
@@ -159,7 +159,7 @@ added_more old done mid new us e f = f ∙ ap (λ z. z ++ us) e ∙ append_assoc
 pub added_alone : (IsSaid : List ℕ → Type 0) (old new : List ℕ) → old ≡ [] → Adds IsSaid old new → IsSaid new
 added_alone IsSaid old new e a = subst IsSaid (sym (a.2 ∙ ap (λ z. z ++ a.0) e)) a.1
 
--- the last entry of a row
+-- The last entry of a row.
 pub row_end : (units : List ℕ) (p n : ℕ) → n ≤ 1 → RowUnits units p n (unit_list (slice_get units p))
 row_end units p n few = by (slice_get units p) refl
   where

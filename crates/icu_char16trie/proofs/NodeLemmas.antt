@@ -10,7 +10,7 @@ use Rattle.icu_char16trie.specs.UnitPlaces.{InRun}
 use Rattle.icu_char16trie.proofs.MapLemmas.{after_under, after_under_other, after_append}
 use Rattle.icu_char16trie.proofs.PartLemmas.{arm_from}
 
--- how a choice came out
+-- Which branch a condition took.
 cond_none : (b : Bool) (q : ℕ) (o : Option ℕ) → cond b (Some q) o ≡ None → (b ≡ false) × (o ≡ None)
 cond_none true q o h = cc
 cond_none false q o h = (refl, h)
@@ -19,7 +19,7 @@ cond_some : (b : Bool) (q r : ℕ) (o : Option ℕ) → cond b (Some q) o ≡ So
 cond_some true q r o h = inl (refl, cc)
 cond_some false q r o h = inr (refl, h)
 
--- nothing of the arms begins with a unit that they lack
+-- No key of the arms starts with a unit that no arm has.
 pub children_other : (units : List ℕ) {arms : List (ℕ × ℕ)} {m : List (List ℕ × ℤ)} → Children units arms m → (u : ℕ) → arm_of arms u ≡ None
     → after u m ≡ []
 unfolding arm_of after
@@ -59,14 +59,14 @@ pub under_nil : (m : List (List ℕ × ℤ)) → under [] m ≡ m
 under_nil [] = refl
 under_nil (e ∷ m) = ap (λ t. e ∷ t) (under_nil m)
 
--- the keys of a run, after its first unit
+-- The keys of a linear match, after its first unit.
 pub run_keys : (units : List ℕ) (p k x : ℕ) (m rest : List (List ℕ × ℤ)) → m ≡ under (take (k + 1) (drop p units)) rest
     → slice_get units p ≡ Some x
     → m ≡ under (x ∷ []) (under (take k (drop (p + 1) units)) rest)
 run_keys units p k x m rest e g =
     e ∙ ap (λ front. under front rest) (take_first units p k x g) ∙ under_cons x (take k (drop (p + 1) units)) rest
 
--- the first unit of a run
+-- The first unit of a linear match.
 pub run_step : (units : List ℕ) (p k u x : ℕ) (m : List (List ℕ × ℤ)) → InRun units p (k + 1) m → slice_get units p ≡ Some x → x ≡ u
     → InRun units (p + 1) k (after u m)
 run_step units p k u x m r g e =
@@ -88,7 +88,7 @@ run_end units p m r =
     let is : m ≡ r.rest = r.keys ∙ under_nil r.rest in
     rw is (rw add-zero at r.node)
 
--- ---- what the low bits and the lead say of a node
+-- ---- what the low bits and the lead say about a node
 
 pub record IsBranch (units : List ℕ) (p low : ℕ) (m : List (List ℕ × ℤ)) : Type 0 where
   pub n : ℕ
@@ -134,7 +134,7 @@ holds_valued units (plain p lead' m g lt node) lead h big small = let same : lea
 holds_valued units (valued p lead' n m rest g ge lt s node e) lead h big small =
     let same : lead' ≡ lead = cc in record { n = n; rest = rest; number = rw (← same) s; node = rw (← same) node; is = e }
 
--- a node stands at a place in the list
+-- A node is at an index within the list.
 pub holds_within : (units : List ℕ) {p : ℕ} {m : List (List ℕ × ℤ)} → Holds units p m → slice_get units p ≡ None → ⊥
 holds_within units (final p lead n m g le s e) h = cc
 holds_within units (plain p lead m g lt node) h = cc
@@ -219,7 +219,7 @@ first_on (x ∷ key, v) rest h = refl
 root_or_on : (m : List (List ℕ × ℤ)) → value_of m [] ≡ None → HasEntry m → goes_on m [] ≡ true
 root_or_on m h t = rw t.2 (first_on t.0 t.1 (rw t.2 at h))
 
--- some key of a match node goes on
+-- Some key of a match node is not empty.
 pub matches_on : (units : List ℕ) {p low : ℕ} {m : List (List ℕ × ℤ)} → Matches units p low m → goes_on m [] ≡ true
 matches_on units node = root_or_on _ (matches_no_root units node) (matches_has units node)
 

@@ -1,4 +1,4 @@
--- Units are a trie of one map, whose keys ascend.
+-- Units are a trie of at most one map, whose keys ascend.
 use Rattle.std.proofs.Common.{◌≡◌, ℕ, ℤ, ◌+◌, ◌-◌, ◌≤◌, List, [], ◌∷◌, ◌++◌, slice_get, take, drop, refl, sym, ap, ◌∙◌, arith, inl, inr}
 use Rattle.std.specs.Int.{cast_signed, w32}
 use Rattle.std.proofs.lemmas.Option.{same_Some}
@@ -65,7 +65,7 @@ trie_one units m m' (grammar.empty u e) (grammar.empty u' e') = e ∙ sym e'
 
 -- ---- ascending keys
 
--- the keys begin with a unit, and not with one below s
+-- The keys start with a unit that is not below s.
 abbrev BeginsFrom : ℕ → List ℕ → Type 0
 BeginsFrom s [] = ⊥
 BeginsFrom s (x ∷ key) = s ≤ x
@@ -124,7 +124,7 @@ below_append : (key : List ℕ) (m n : List (List ℕ × ℤ)) → KeyBelowAll k
 below_append key [] n h k = k
 below_append key (e ∷ m) n h k = (h.0, below_append key m n h.1 k)
 
--- a key that begins with u stands before all that begin with a greater unit
+-- A key that starts with u is before all that start with a greater unit.
 first_below : (u : ℕ) (key : List ℕ) (m : List (List ℕ × ℤ)) → AllBeginFrom (u + 1) m → KeyBelowAll (u ∷ key) m
 first_below u key [] b = tt
 first_below u key (([], v) ∷ m) b = absurd b.0

@@ -25,7 +25,7 @@ use Rattle.icu_char16trie.proofs.WorkLemmas.{weight_some, weight_one, weight_two
 pub one_pushed : (old new : List BranchPart) (a : BranchPart) → new ≡ old ++ a ∷ [] → reverse new ≡ a ∷ reverse old
 one_pushed old new a e = rw (e, reverse-append old (a ∷ [])) refl
 
--- ---- where the text grows
+-- ---- the text grows
 
 parts_longer : (units text tail : List ℕ) (parts : List BranchPart) (m : List (List ℕ × ℤ)) → PartsGive units text parts m
     → PartsGive units (text ++ tail) parts m
@@ -42,11 +42,11 @@ cuts_longer text tail (part ∷ parts) u u' c =
     let front : IsUtf8 (take part.mark.len (text ++ tail)) = rw same (IsUtf8-take text part.mark.len u c.0) in
     (IsCharBoundary-from_take (text ++ tail) part.mark.len u' (omega (arith, length-append text tail, c.0.0)) front, rw same c.1)
 
--- a node from a later place on
+-- A node at k or later is at any earlier index or later.
 pub from_later : (k j : ℕ) (s : Pending) → j ≤ k → IsFrom k s → IsFrom j s
 from_later k j s h f = (f.0, f.1, omega (arith, h, f.2), f.3)
 
--- the key grows by a run of units, and the node after it is gone to
+-- The key grows by a run of units, and the node after it becomes the current one.
 pub record GoesTo (old : Pending) (run : List ℕ) (q : ℕ) (new : Pending) : Type 0 where
   pub units : new.units ≡ old.units
   pub spelling : SpellsOn old.spelling run new.spelling
@@ -97,7 +97,7 @@ gone_opens old new run p q Stood g h i is = record {
   work = gone_work old new run p q g h i;
 }
 
--- ---- where nothing is there, and where less is said
+-- ---- missing units, and weaker assumptions
 
 pub nothing_opens : (old : Pending) (p : ℕ) (Stood : List (List ℕ × ℤ) → Type 0) → ((first : List (List ℕ × ℤ)) → Stood first → ⊥)
     → Opens old p Stood old
@@ -119,7 +119,7 @@ later_opens old new p q Stood Stood' o h is = record {
   work = omega (arith, o.work, weight_le (length (slice_values old.units)) p q h);
 }
 
--- a part whose units are cut off stands for nothing
+-- A part whose units are cut off represents no entries.
 pub arms_here : (units : List ℕ) (p n : ℕ) → slice_get units p ≡ None → (m : List (List ℕ × ℤ)) → ArmsHold units p n m → ⊥
 arms_here units p n g m (arms, part, c) = part_begins units part g
 
@@ -136,7 +136,7 @@ pub arms_low : (units : List ℕ) (p n s d : ℕ) → 5 < n → slice_get units 
     → (m : List (List ℕ × ℤ)) → ArmsHold units p n m → ⊥
 arms_low units p n s d many hs hd none m (arms, part, c) = none-some _ (sym none ∙ (split_found units part many s d hs hd).at)
 
--- ---- a part that is put off
+-- ---- a postponed part
 
 off_parts : (old mid : Pending) (p n : ℕ) → PutsOff old p n mid → (key : List ℕ) (first others : List (List ℕ × ℤ))
     → ArmsHold (slice_values old.units) p n first
@@ -165,7 +165,7 @@ off_work old mid p n o =
       ap (weight (length (slice_values old.units))) o.place,
     ))
 
--- a part of more than five entries
+-- A part of more than five entries.
 pub split_opens : (old mid new : Pending) (p n s d low high : ℕ) → 5 < n → slice_get (slice_values old.units) p ≡ Some s
     → slice_get (slice_values old.units) (p + 1) ≡ Some d
     → lower_part (slice_values old.units) (p + 2) d ≡ Some low → high ≡ delta_end (p + 2) d → p < low → p < high
@@ -199,7 +199,7 @@ split_opens old mid new p n s d low high many hs hd hl at lower upper off o = re
       omega (arith, two, more, off_work old mid high (n - n / 2) off);
 }
 
--- the first of more than one entry in a row
+-- The first of more than one entry in a row.
 pub row_opens : (old mid new : Pending) (p n u v child rest : ℕ) → 1 < n → n ≤ 5 → slice_get (slice_values old.units) p ≡ Some u
     → slice_get (slice_values old.units) (p + 1) ≡ Some v
     → entry_child (slice_values old.units) (p + 2) v ≡ Some child → rest ≡ short_end (p + 2) (v % 0x8000) → p < child → p < rest
@@ -231,7 +231,7 @@ row_opens old mid new p n u v child rest many few hu hv hc at here behind off g 
       rw (g.units, g.node, g.parts, off.units, off.parts) (omega (arith, two, pushed, same));
 }
 
--- the last entry
+-- The last entry.
 pub last_stands : (units : List ℕ) (p n u : ℕ) (first : List (List ℕ × ℤ)) → n ≤ 1 → slice_get units p ≡ Some u → ArmsHold units p n first
     → (entries : List (List ℕ × ℤ)) × Holds units (p + 1) entries × (first ≡ under (u ∷ []) entries)
 last_stands units p n u first few hu (arms, part, children) =
@@ -241,7 +241,7 @@ last_stands units p n u first few hu (arms, part, children) =
 
 -- ---- match nodes
 
--- a branch whose length is not there stands for nothing
+-- A branch whose length is missing represents no entries.
 pub length_gone : (units : List ℕ) (p low : ℕ) → low ≤ 0 → slice_get units p ≡ None → (m : List (List ℕ × ℤ)) → Matches units p low m → ⊥
 length_gone units p low zero' g m h =
     let b = matches_branch units h (omega arith) in
@@ -255,6 +255,6 @@ part_long units (last p n u arms e g a) c = omega (arith, holds_below units (chi
 part_long units (entry p n u v child rest arms many few g g' h r a) c = omega (arith, slice_get_within units (p + 1) v g')
 part_long units (split p n s d low lower upper arms many g g' h l r b f a) c = omega (arith, slice_get_within units (p + 1) d g')
 
--- a part takes two units at least
+-- A part needs at least two units.
 pub arms_long : (units : List ℕ) (p n : ℕ) (m : List (List ℕ × ℤ)) → ArmsHold units p n m → 2 ≤ length units
 arms_long units p n m (arms, part, c) = part_long units part c

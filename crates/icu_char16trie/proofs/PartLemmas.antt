@@ -1,4 +1,4 @@
--- What the units at the front of a part say of its arms.
+-- What the first units of a part say about its arms.
 use Rattle.std.proofs.Common.{◌≡◌, ℕ, ◌+◌, ◌-◌, ◌/◌, ◌%◌, ◌^◌, ◌<◌, ◌≤◌, nat_lt, List, [], ◌∷◌, ◌++◌, Option, Some, None, Bool, true, false, cond, nat_eq, slice_get, refl, sym, ap, ◌∙◌, arith}
 use Rattle.std.specs.Bool.{then_some}
 use Rattle.std.proofs.lemmas.Bool.{ne_eqb, eq-eqb, lt-ltb}
@@ -12,7 +12,7 @@ then_some_is : (b : Bool) (x : ℕ) → cond b (Some x) None ≡ then_some b x
 then_some_is true x = refl
 then_some_is false x = refl
 
--- the only arm of a part of one
+-- The only arm of a part of one.
 pub last_found : (units : List ℕ) {p n : ℕ} {arms : List (ℕ × ℕ)} → Part units p n arms → n ≤ 1 → (u : ℕ) → slice_get units p ≡ Some u
     → (w : ℕ) → then_some (nat_eq u w) (p + 1) ≡ arm_of arms w
 unfolding arm_of
@@ -34,7 +34,7 @@ pub record IsEntry (units : List ℕ) (p n u v : ℕ) (arms : List (ℕ × ℕ))
   pub others : Part units (short_end (p + 2) (v % 0x8000)) (n - 1) rest
   pub found : (w : ℕ) → arm_of arms w ≡ cond (nat_eq u w) (Some child) (arm_of rest w)
 
--- the first arm of a row
+-- The first arm of a row.
 pub entry_found : (units : List ℕ) {p n : ℕ} {arms : List (ℕ × ℕ)} → Part units p n arms → 1 < n → n ≤ 5
     → (u v : ℕ) → slice_get units p ≡ Some u → slice_get units (p + 1) ≡ Some v → IsEntry units p n u v arms
 unfolding arm_of
@@ -52,7 +52,7 @@ entry_found units (entry p n u' v' child rest arms more le5 g g' c r a) _ _ u v 
     }
 entry_found units (split p n s d low lower upper arms more g g' c l r b f a) _ le u v h h' = absurd (omega arith)
 
--- no arm below s has the unit s or more
+-- No arm below s has the unit s or more.
 pub arm_below : (lower upper : List (ℕ × ℕ)) (s w : ℕ) → UnitsBelow s lower → s ≤ w → arm_of (lower ++ upper) w ≡ arm_of upper w
 unfolding arm_of
 arm_below [] upper s w b h = refl
@@ -60,7 +60,7 @@ arm_below (a ∷ lower) upper s w b h =
     let no : nat_eq a.0 w ≡ false = ne_eqb a.0 w (λ e. absurd (omega (arith, b.0))) in
     rw no (arm_below lower upper s w b.1 h)
 
--- no arm from s on has a unit below s
+-- No arm from s on has a unit below s.
 pub arm_from : (upper : List (ℕ × ℕ)) (s w : ℕ) → UnitsFrom s upper → w < s → arm_of upper w ≡ None
 unfolding arm_of
 arm_from [] s w f h = refl
@@ -68,7 +68,7 @@ arm_from (a ∷ upper) s w f h =
     let no : nat_eq a.0 w ≡ false = ne_eqb a.0 w (λ e. absurd (omega (arith, f.0))) in
     rw no (arm_from upper s w f.1 h)
 
--- so it is found among the lower ones or nowhere
+-- The arm of such a unit is among the lower ones or missing.
 pub arm_append : (lower upper : List (ℕ × ℕ)) (w : ℕ) → arm_of upper w ≡ None → arm_of (lower ++ upper) w ≡ arm_of lower w
 unfolding arm_of
 arm_append [] upper w h = h
@@ -111,13 +111,13 @@ split_found units (split p n s' d' low lower upper arms more g g' c l r b f a) _
 no_none : {x : ℕ} → ◌≡◌ {A = Option ℕ} (Some x) None → ⊥
 no_none h = cc
 
--- the first unit of a part is there
+-- The first unit of a part is present.
 pub part_begins : (units : List ℕ) {p n : ℕ} {arms : List (ℕ × ℕ)} → Part units p n arms → slice_get units p ≡ None → ⊥
 part_begins units (last p n u arms e g a) h = no_none (sym g ∙ h)
 part_begins units (entry p n u v child rest arms more few g g' c r a) h = no_none (sym g ∙ h)
 part_begins units (split p n s d low lower upper arms more g g' c l r b f a) h = no_none (sym g ∙ h)
 
--- where a part has more than one entry its second unit is there
+-- If a part has more than one entry, its second unit is present.
 pub part_goes_on : (units : List ℕ) {p n : ℕ} {arms : List (ℕ × ℕ)} → Part units p n arms → 1 < n → slice_get units (p + 1) ≡ None → ⊥
 part_goes_on units (last p n u arms e g a) many h = omega arith
 part_goes_on units (entry p n u v child rest arms more few g g' c r a) many h = no_none (sym g' ∙ h)
@@ -128,7 +128,7 @@ row_cut_by : (units : List ℕ) (u p n : ℕ) (first : Option ℕ) → slice_get
 row_cut_by units u p n None g more g' = gone p n None g refl
 row_cut_by units u p n (Some x) g more g' = cut p n x None more g g' refl
 
--- a row whose second unit is not there leads nowhere
+-- A row whose second unit is missing leads nowhere.
 pub row_cut : (units : List ℕ) (u p n : ℕ) → 1 < n → slice_get units (p + 1) ≡ None → InRow units u p n None
 row_cut units u p n = row_cut_by units u p n (slice_get units p) refl
 
@@ -137,11 +137,11 @@ part_cut_by : (units : List ℕ) (u p n : ℕ) (first : Option ℕ) → slice_ge
 part_cut_by units u p n None g more g' = no_split p n None more g refl
 part_cut_by units u p n (Some s) g more g' = no_delta p n s None more g g' refl
 
--- and so does a part of more than five entries
+-- A part of more than five entries whose second unit is missing leads nowhere.
 pub part_cut : (units : List ℕ) (u p n : ℕ) → 5 < n → slice_get units (p + 1) ≡ None → InPart units u p n None
 part_cut units u p n = part_cut_by units u p n (slice_get units p) refl
 
--- what a row leads to is what its arms say
+-- A unit leads from a row to the node of its arm.
 row_finds : (units : List ℕ) {u p n : ℕ} {r : Option ℕ} → InRow units u p n r → {arms : List (ℕ × ℕ)}
     → Part units p n arms → n ≤ 5 → r ≡ arm_of arms u
 row_finds units (gone p n r g is) part few = absurd (part_begins units part g)
@@ -156,7 +156,7 @@ row_finds units {u} (on p n x v r more g ne g' rest) part few =
     let other : nat_eq x u ≡ false = ne_eqb x u ne in
     row_finds units rest e.others (omega (arith, few)) ∙ sym (e.found u ∙ rw other refl)
 
--- and so is what a part leads to
+-- A unit leads from a part to the node of its arm.
 pub part_finds : (units : List ℕ) {u p n : ℕ} {r : Option ℕ} → InPart units u p n r → {arms : List (ℕ × ℕ)}
     → Part units p n arms → r ≡ arm_of arms u
 part_finds units (row p n r few in_row) part = row_finds units in_row part few

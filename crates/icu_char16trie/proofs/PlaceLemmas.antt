@@ -1,4 +1,4 @@
--- What stands at a place says of the place's value and its end.
+-- The value at a position and its emptiness are those of the map that it represents.
 use Rattle.std.proofs.Common.{◌≡◌, ℕ, ℤ, ◌<◌, ◌≤◌, true, false, not, List, [], ◌∷◌, ◌++◌, refl, sym, ap, ◌∙◌, arith, slice_get, inl, inr}
 use Rattle.std.proofs.lemmas.Bool.{lt-ltb, le-ltb}
 use Rattle.std.proofs.lemmas.Bool.Decides.{nat_tests}
@@ -56,7 +56,7 @@ empty_stands units (Run p left) m h =
     let f = run_keys_first units p left m h in
     sym (ap (λ z. not (goes_on z [])) f.2 ∙ ap not (under_on f.0 f.1 h.rest (holds_has units h.node)))
 
--- the same after the units w from the root
+-- The same after the units w from the root.
 pub value_is_after : (cursor : At) (m : List (List ℕ × ℤ)) (w : List ℕ) → HasPassed cursor m w
     → value_at cursor.units cursor.place ≡ value_of m w
 value_is_after cursor m w h = value_stands cursor.units cursor.place (after_all w m) h ∙ sym (value_after_all w m)
@@ -65,7 +65,7 @@ pub empty_is_after : (cursor : At) (m : List (List ℕ × ℤ)) (w : List ℕ) �
     → is_empty_at cursor.units cursor.place ≡ not (goes_on m w)
 empty_is_after cursor m w h = empty_stands cursor.units cursor.place (after_all w m) h ∙ ap not (sym (goes_on_after_all w m))
 
--- what is told where units of a trie have been passed
+-- The result after units of a trie have been passed.
 pub answer_is_after : (cursor : At) (m : List (List ℕ × ℤ)) (w : List ℕ) → HasPassed cursor m w
     → answer_at cursor ≡ result_of (value_of m w) (not (goes_on m w))
 answer_is_after cursor m w h = rw (value_is_after cursor m w h, empty_is_after cursor m w h) refl
@@ -74,7 +74,7 @@ pub step_is_after : (units : List ℕ) (place : Place) (m : List (List ℕ × �
     → Stands units place (after u (after_all w m)) → Stands units place (after_all (w ++ u ∷ []) m)
 step_is_after units place m w u h = rw (after_all_push w u m) h
 
--- the root of a trie stands for its map
+-- The root of a trie represents its map.
 pub root_stands : (units : List ℕ) (m : List (List ℕ × ℤ)) → IsTrieOf units m → Stands units (Node 0) m
 root_stands units m (grammar.node h) = inl h
 root_stands units m (grammar.empty u e) = inr (ap (λ z. slice_get z 0) u, e)

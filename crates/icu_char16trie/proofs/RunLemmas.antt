@@ -1,4 +1,4 @@
--- How a text goes on at a match node, to the next node or no further.
+-- How a text continues at a match node to the next node, or ends there.
 use Rattle.std.proofs.Common.{◌≡◌, ℕ, zero, suc, ◌+◌, ◌-◌, ◌<◌, ◌≤◌, Bool, true, false, nat_eq, List, [], ◌∷◌, Option, Some, None, length, slice_get, take, refl, ap, subst, ◌⊎◌, inl, inr, arith, add-zero}
 use Rattle.std.proofs.lemmas.Option.{same_Some}
 use Rattle.std.proofs.lemmas.Bool.{eqb-true, eqb-false, eq-eqb, ne_eqb}
@@ -10,7 +10,7 @@ use Rattle.icu_char16trie.proofs.FrontLemmas.{stays_nowhere}
 
 -- ---- one unit of a linear match
 
--- the next unit of the text is that of the linear match
+-- The next unit of the text is that of the linear match.
 on_in_run : (units : List ℕ) (p left u : ℕ) → slice_get units p ≡ Some u → StepsTo units (Run p (suc left)) u (Run (p + 1) left)
 on_in_run units p left u g =
     let same : nat_eq u u ≡ true = eq-eqb u u refl in
@@ -27,7 +27,7 @@ off_run units p left u None g other = rw g refl
 off_run units p left u (Some x) g other =
     let differs : nat_eq x u ≡ false = ne_eqb x u (λ e. other (ap Some e)) in rw (g, differs) refl
 
--- ---- a text that begins with a linear match
+-- ---- a text that starts with a linear match
 
 begins_next : (units : List ℕ) (p left u : ℕ) (text : List ℕ) → BeginsRun units p (suc left) (u ∷ text) → BeginsRun units (p + 1) left text
 begins_next units p left u text b = record {
@@ -49,7 +49,7 @@ begins_more units p left u text g b = record {
     same zero lt = rw add-zero g
     same (suc k) lt = let there : p + suc k ≡ (p + 1) + k = omega arith in rw there (b.same k (omega arith))
 
--- it leads to the node behind it
+-- The text leads to the node after the linear match.
 run_passed : (units : List ℕ) (text : List ℕ) (p left : ℕ) → BeginsRun units p (suc left) text
     → StepsAlong units (Run p left) (take (suc left) text) (Node (p + suc left))
 run_passed units [] p left b = absurd (omega (arith, b.within))
@@ -61,7 +61,7 @@ run_passed units (u ∷ text) p (suc left) b =
       rw there (run_passed units text (p + 1) left (begins_next units p (suc left) u text b)),
     )
 
--- before its end nothing has a value
+-- Nothing has a value before the end of the linear match.
 none_within : (units : List ℕ) (text : List ℕ) (p left : ℕ) → BeginsRun units p (suc left) text → (k : ℕ) → k < suc left
     → HasValueFrom units (Run p left) (take k text) None
 none_within units text p left b zero lt = (Run p left, refl, refl)
@@ -89,7 +89,7 @@ is_unit units p u = by (slice_get units p)
     by None = inr (λ e. cc)
     by (Some x) = here x (nat_eq x u) refl
 
--- its first unit is not that of the linear match
+-- The first unit of the text is not that of the linear match.
 off_at_first : (units : List ℕ) (text : List ℕ) (p left u : ℕ) → (slice_get units p ≡ Some u → ⊥)
     → NoneHasValue units (Run p left) (u ∷ text)
 off_at_first units text p left u other = nowhere_has_none units (Run p left) u text (off_run units p left u (slice_get units p) refl other)
@@ -114,9 +114,9 @@ run_left units (u ∷ text) p (suc left) never (suc (suc k)) some within = elim 
   | inr other ↦ off_at_first units text p (suc left) u other (suc (suc k)) some within
 ]
 
--- ---- from a place that leads on as the match node
+-- ---- from a position that leads on as the match node does
 
--- as a linear match
+-- A linear match.
 by_run : (units : List ℕ) (from : Place) (p low : ℕ) → 0x30 ≤ low → LeadsByMatch units from p low → (u : ℕ) (to : Place)
     → StepsTo units (Run p (low - 0x30)) u to → StepsTo units from u to
 by_run units from p low big leads u to step = leads u to (in_run p low to big step)
@@ -167,7 +167,7 @@ leaves_run units text p low n big e never from leads k some within =
     value_by_front units from (Run p (low - 0x30)) text (by_run units from p low big leads) k some within
     (run_left units text p (low - 0x30) (λ b. never (rw more b)) k some within)
 
--- as a branch
+-- A branch.
 pub passes_branch : (units text : List ℕ) (p low u q : ℕ) → 0 < length text → slice_get text 0 ≡ Some u → InMatch units u p low (Node q)
     → PassesMatch units text p low (Some (q, 1))
 passes_branch units [] p low u q some g step from leads = absurd (omega (arith, some))

@@ -8,7 +8,7 @@ use Rattle.icu_char16trie.specs.declared.entries.Iter2.{Iter2}
 not_both : ◌≡◌ {A = Bool} true false → ⊥
 not_both h = cc
 
--- nothing comes where nothing is left
+-- No item comes if none is left.
 none_comes : (xs : List (Result (String Global × ℤ) MemoryError)) (s t : Iter2) → IsDone s → Yields GivesNext s xs t → xs ≡ []
 none_comes [] s t d y = refl
 none_comes (x ∷ xs) s t d (j, step, others) = absurd (not_both (step.done d))

@@ -1,4 +1,4 @@
--- Which nodes of units have to be there.
+-- Which nodes of units have to be present.
 use Rattle.std.proofs.Common.{◌≡◌, ℕ, zero, suc, ◌+◌, ◌-◌, ◌/◌, ◌%◌, ◌<◌, ◌≤◌, Bool, true, false, nat_eq, List, [], ◌∷◌, ◌++◌, Option, Some, None, length, get_or, set, slice_get, take, drop, refl, sym, ap, subst, ◌∙◌, arith, ◌⊎◌, inl, inr, length-set}
 use Rattle.std.specs.Int.{cast_signed, w32}
 use Rattle.std.specs.Option.{is_some}
@@ -54,7 +54,7 @@ pub places_append : (lower upper : Arms) → places_of (lower ++ upper) ≡ plac
 places_append [] upper = refl
 places_append (a ∷ lower) upper = ap (λ z. a.1 ∷ z) (places_append lower upper)
 
--- ---- places
+-- ---- indices
 
 have_lower : (units places others : List ℕ) → AllHaveMaps units (places ++ others) → AllHaveMaps units places
 have_lower units [] others h = tt
@@ -99,7 +99,7 @@ want_keeps : (places : List ℕ) (wanted : List Bool) (q : ℕ) → IsWanted wan
 want_keeps [] wanted q h = h
 want_keeps (p ∷ places) wanted q h = want_keeps places (set wanted p true) q (set_wants wanted p q h)
 
--- what is so at all that are wanted is so at the places that are wanted last
+-- What holds at all marked indices holds at the ones that were marked last.
 pub want_made : (P : ℕ → Type 0) (places : List ℕ) (wanted : List Bool) (p n : ℕ) → n ≡ length wanted → AllBetween p n places
     → AllWantedHold P (want_all places wanted) (p + 1) → AllHold P places
 want_made P [] wanted p n e b all = tt
@@ -130,7 +130,7 @@ have_children units (a ∷ arms) h =
 nothing_past : (units : List ℕ) (q : ℕ) → length units ≤ q → HasMap units q → ⊥
 nothing_past units q h has = holds_within units has.1 (slice_get_past units q h)
 
--- what follows in both cases of what was answered
+-- Maps both cases of a result.
 pub on_both : {X A A' : Type 0} {B B' : X → Type 0} (r : Option X) → (A → A') → ((x : X) → B x → B' x) → MatchOption r A B
     → MatchOption r A' B'
 on_both None f g h = f h
@@ -140,7 +140,7 @@ pub when_some : (A B : Type 0) (r : Option (Unit {0})) → is_some r ≡ true �
 when_some A B None e h = cc
 when_some A B (Some x) e h = h
 
--- ---- a part that is gone through
+-- ---- a part that is visited
 
 pub last_walked : (units : List ℕ) (p n u from : ℕ) (old : List Bool) → n ≡ 1 → slice_get units p ≡ Some u → from ≤ u → p + 1 < length units
     → PartWalked units p n from (u + 1) old (set old (p + 1) true)
@@ -195,7 +195,7 @@ split_walked units p n s d low high from mid next old between new many g g' c e 
   wanted = rw (places_append l.arms w.arms, want_append (places_of l.arms) (places_of w.arms) old) (rw l.wanted at w.wanted);
 }
 
--- ---- a part that is refused
+-- ---- a part that is rejected
 
 pub no_last_child : (units : List ℕ) (p n u from : ℕ) → n ≤ 1 → slice_get units p ≡ Some u → length units ≤ p + 1 → IsNoPart units p n from
 no_last_child units p n u from few g past arms part up f have =
@@ -241,7 +241,7 @@ no_upper units p n s d high from many g g' at never arms part up f have =
     never e.upper (rw at e.above) (ascending_upper e.lower e.upper up') e.right_of_split
     (have_upper units (places_of e.lower) (places_of e.upper) h)
 
--- a unit of the lower part is not below the split unit
+-- A unit of the lower part is not below the split unit.
 pub no_side : (units : List ℕ) (p n s d low from mid : ℕ) (old new : List Bool) → 5 < n → slice_get units p ≡ Some s
     → slice_get units (p + 1) ≡ Some d
     → lower_part units (p + 2) d ≡ Some low → PartWalked units low (n / 2) from mid old new → s < mid → IsNoPart units p n from
@@ -351,9 +351,10 @@ pub no_valued : (units : List ℕ) (p lead q : ℕ) → slice_get units p ≡ So
     → (HasMatch units q (lead % 64) → ⊥) → HasMap units p → ⊥
 no_valued units p lead q g big small e never h = let v = holds_valued units h.1 lead g big small in never (v.rest, rw e v.node)
 
--- ---- all places
+-- ---- all indices
 
--- where it is so at p exactly if it is at the places that are wanted there
+-- If P holds at p whenever it holds at the indices marked there, and it holds at all indices marked
+-- from p + 1 on, then it holds at all indices marked from p on.
 pub back_places : (P : ℕ → Type 0) (places : List ℕ) (p n : ℕ) (old new : List Bool) → n ≡ length old → AllBetween p n places
     → new ≡ want_all places old → (AllHold P places → P p) → AllWantedHold P new (p + 1) → AllWantedHold P old p
 back_places P places p n old new len ahead e makes all q le w = by (nat_eq q p) refl
@@ -377,7 +378,7 @@ pub forth_sound : (units : List ℕ) (p : ℕ) (old new : List Bool) → IsWante
 forth_sound units p old new here r all =
     forth_places (HasMap units) r.places p old new r.wanted (r.gives (all p (omega arith) here)) all
 
--- a place that is wanted is another than one that is not
+-- A marked index differs from one that is not marked.
 other_place : (wanted : List Bool) (p q : ℕ) → get_or wanted p false ≡ false → IsWanted wanted q → q ≡ p → ⊥
 other_place wanted p q never w e = let w' : get_or wanted p false ≡ true = rw e at w in false≢true (sym never ∙ w')
 
@@ -388,7 +389,7 @@ back_unwanted P p wanted never all q le w = all q (omega (arith, other_place wan
 pub forth_unwanted : (P : ℕ → Type 0) (p : ℕ) (wanted : List Bool) → AllWantedHold P wanted p → AllWantedHold P wanted (p + 1)
 forth_unwanted P p wanted all q le w = all q (omega arith) w
 
--- ---- what the nodes lead to is wanted
+-- ---- the nodes that a node leads to are marked
 
 want_back : (places : List ℕ) (wanted : List Bool) (q p n : ℕ) → q ≤ p → AllBetween p n places → IsWanted (want_all places wanted) q
     → IsWanted wanted q

@@ -10,7 +10,7 @@ use Rattle.icu_char16trie.specs.Inside.Opening.{bytes_of, SpellsOn}
 use Rattle.icu_char16trie.specs.declared.spelling.LeadSurrogate.{LeadSurrogate}
 use Rattle.icu_char16trie.specs.declared.spelling.Spelling.{Spelling}
 
--- the character of a unit that is in no pair
+-- The character of a unit that is in no pair.
 abbrev pub lone : ℕ → ℕ
 lone u = unwrap_or (lone_unit_char u) 0xFFFD
 
@@ -23,12 +23,12 @@ text_pair u v more h = rw (utf16_chars_pair u v more h) refl
 pub text_nil : key_text [] ≡ []
 text_nil = rw utf16_chars-nil refl
 
--- no unit but a lead surrogate is the first of a pair
+-- Only a lead surrogate is the first unit of a pair.
 pub text_alone : (u : ℕ) (more : List ℕ) → (u < 0xD800) ⊎ (0xDC00 ≤ u) → key_text (u ∷ more) ≡ encode_utf8 (lone u) ++ key_text more
 text_alone u more (inl h) = text_lone u more (λ p. omega arith)
 text_alone u more (inr h) = text_lone u more (λ p. omega arith)
 
--- a unit that is no trail surrogate is not the second one
+-- Only a trail surrogate is the second unit of a pair.
 pub text_apart : (u v : ℕ) (more : List ℕ) → (v < 0xDC00) ⊎ (0xE000 ≤ v)
     → key_text (u ∷ v ∷ more) ≡ encode_utf8 (lone u) ++ key_text (v ∷ more)
 text_apart u v more (inl h) = text_lone u (v ∷ more) (λ p. omega arith)
@@ -46,12 +46,12 @@ on_then a b c r s h k = record {
   grows = k.grows ∙ ap (λ z. z ++ k.tail) h.grows ∙ append_assoc (bytes_of a) h.tail k.tail;
 }
 
--- a lead surrogate is held
+-- A lead surrogate is held.
 pub on_held : (a b : Spelling) (lead : LeadSurrogate) (u : ℕ) → a.held ≡ None → b.held ≡ Some lead → bytes_of b ≡ bytes_of a → lead.unit ≡ u
     → SpellsOn a (u ∷ []) b
 on_held a b lead u n h e same = record { next = λ more. rw (n, h, e, same) refl; tail = []; grows = e ∙ sym (append-nil (bytes_of a)) }
 
--- a unit that is no lead surrogate, where none is held
+-- A unit that is not a lead surrogate, when none is held.
 pub on_alone : (a b : Spelling) (u : ℕ) → a.held ≡ None → b.held ≡ None → (u < 0xD800) ⊎ (0xDC00 ≤ u)
     → bytes_of b ≡ bytes_of a ++ encode_utf8 (lone u) → SpellsOn a (u ∷ []) b
 on_alone a b u n n' alone e = record {
@@ -61,7 +61,7 @@ on_alone a b u n n' alone e = record {
   grows = e;
 }
 
--- a trail surrogate after the lead surrogate that is held
+-- A trail surrogate after the held lead surrogate.
 pub on_pair : (a b : Spelling) (lead : LeadSurrogate) (u : ℕ) → a.held ≡ Some lead → b.held ≡ None → 0xDC00 ≤ u → u < 0xE000
     → bytes_of b ≡ bytes_of a ++ encode_utf8 (surrogate_pair_char lead.unit u) → SpellsOn a (u ∷ []) b
 on_pair a b lead u h n from below e = record {
@@ -75,7 +75,7 @@ on_pair a b lead u h n from below e = record {
 lone_lead : (lead : LeadSurrogate) → lone lead.unit ≡ 0xFFFD
 lone_lead lead = ap (λ o. unwrap_or o 0xFFFD) (lone_unit_char_surrogate lead.unit lead.in_range.0 (omega (arith, lead.in_range.1)))
 
--- another unit after it: the one that was held is a lone surrogate
+-- Another unit after the held lead surrogate, which is then a lone surrogate.
 pub on_apart : (a b c : Spelling) (lead : LeadSurrogate) (u : ℕ) → a.held ≡ Some lead → b.held ≡ None → (u < 0xDC00) ⊎ (0xE000 ≤ u)
     → bytes_of b ≡ bytes_of a ++ encode_utf8 0xFFFD
     → SpellsOn b (u ∷ []) c → SpellsOn a (u ∷ []) c
@@ -91,12 +91,12 @@ on_apart a b c lead u h n apart e s =
       grows = s.grows ∙ ap (λ z. z ++ s.tail) e ∙ append_assoc (bytes_of a) (encode_utf8 0xFFFD) s.tail;
     }
 
--- the key grows by the same units
+-- The key grows by the same units.
 pub spells_on : (a b : Spelling) (run key : List ℕ) → SpellsOn a run b → Spells (bytes_of a) a.held key
     → Spells (bytes_of b) b.held (key ++ run)
 spells_on a b run key s h = record { whole = λ more. ap key_text (append_assoc key run more) ∙ h.whole (run ++ more) ∙ s.next more }
 
--- ---- the whole text, where a unit that is held is a lone surrogate
+-- ---- the whole text: a held unit is a lone surrogate
 
 pub spelled_none : (text key : List ℕ) → Spells text None key → text ≡ key_text key
 spelled_none text key s =
@@ -109,6 +109,6 @@ spelled_held text key lead s =
     ∙ ap (λ z. encode_utf8 0xFFFD ++ z) text_nil ∙ append-nil (encode_utf8 0xFFFD) in
     sym (ap key_text (sym (append-nil key)) ∙ s.whole [] ∙ ap (λ z. text ++ z) last)
 
--- the empty key
+-- The empty key.
 pub spells_nothing : Spells [] None []
 spells_nothing = record { whole = λ more. refl }

@@ -1,4 +1,4 @@
--- What stands where steps have led.
+-- What is at the position to which steps have led.
 use Rattle.std.proofs.Common.{◌≡◌, ℕ, ℤ, zero, suc, ◌+◌, ◌-◌, Bool, true, false, nat_eq, List, [], ◌∷◌, Option, Some, None, get_or, slice_get, take, refl, sym, ◌∙◌, arith, inl, inr}
 use Rattle.std.proofs.lemmas.Bool.{eqb-true, ne_eqb}
 use Rattle.std.proofs.lemmas.Option.{same_Some, slice_get-get_or}
@@ -103,7 +103,7 @@ along_stand units from [] q m steps h = rw steps h
 along_stand units from (u ∷ w) q m steps h =
     along_stand units steps.0 w q (after u m) steps.2 (steps_stand units from u steps.0 m steps.1 h)
 
--- the value that the steps of a front lead to is that of the map
+-- The value to which the steps of a prefix lead is that of the map.
 front_is_value : (units : List ℕ) (m : UnitMap) (text : List ℕ) (k : ℕ) (v : Option ℤ) → IsTrieOf units m → HasFrontStepped units text k v
     → HasFrontValue m text k v
 front_is_value units m text k v trie h =

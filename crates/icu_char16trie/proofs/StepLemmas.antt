@@ -1,4 +1,4 @@
--- A unit leads to one place.
+-- A unit leads to one position.
 use Rattle.std.proofs.Common.{◌≡◌, ℕ, ◌+◌, ◌-◌, ◌/◌, ◌%◌, ◌<◌, ◌≤◌, Bool, true, false, nat_eq, nat_lt, List, Option, Some, None, slice_get, sym, ap, ◌∙◌, arith}
 use Rattle.std.specs.Bool.{then_some}
 use Rattle.std.proofs.lemmas.Bool.{ne_eqb, lt-ltb, le-ltb}
@@ -11,12 +11,12 @@ use Rattle.icu_char16trie.specs.declared.place.Place.TheVariants.{Nowhere, Node,
 same_eqb : (u : ℕ) → nat_eq u u ≡ true
 same_eqb u = grind arith
 
--- what one fact or another says, by a test
+-- A choice between two facts by a test.
 abbrev Either : Bool → Type 0 → Type 0 → Type 0
 Either true A B = A
 Either false A B = B
 
--- what the units at the front of a row say of where a unit leads
+-- What the first units of a row say about where a unit leads.
 abbrev RowSays : List ℕ → ℕ → ℕ → ℕ → Option ℕ → Option ℕ → Option ℕ → Type 0
 RowSays units u p n r None o = r ≡ None
 RowSays units u p n r (Some x) None = Either (nat_lt 1 n) (r ≡ None) (r ≡ then_some (nat_eq x u) (p + 1))
@@ -52,7 +52,7 @@ row_one units u {r' = r'} (on p n x v r many g other g' d) y =
     rw (g, g', lt-ltb 1 n many, ne_eqb x u other) at (row_says units u y) in
     row_one units u d s
 
--- the same of a part of a branch of more than five entries
+-- What the first units of a part of more than five entries say about where a unit leads.
 abbrev SplitSays : List ℕ → ℕ → ℕ → ℕ → Option ℕ → Option ℕ → Option ℕ → Type 0
 SplitSays units u p n r None o = r ≡ None
 SplitSays units u p n r (Some s) None = r ≡ None

@@ -1,4 +1,4 @@
--- Which value all entries of a node have, by those that it leads to.
+-- The value that all entries of a node have, given those of the nodes that it leads to.
 use Rattle.std.proofs.Common.{◌≡◌, ℕ, ℤ, pos, ◌+◌, ◌-◌, ◌<◌, ◌≤◌, ◌≢◌, ◌↔◌, Bool, false, List, [], ◌∷◌, ◌++◌, Option, Some, None, length, get_or, take, drop, refl, sym, ap, subst, ◌∙◌, arith, inl, inr}
 use Rattle.std.proofs.lemmas.Option.{same_Some, slice_get_past}
 use Rattle.std.proofs.lemmas.List.{get_or_past}
@@ -57,7 +57,7 @@ children_gives units v (more u q rest arms m others all a node c e) h =
       children_gives units v c (values_upper (under (u ∷ []) m) others v h'),
     )
 
--- the map of a node is the only one
+-- The map of a node is unique.
 of_node : (units : List ℕ) (v : ℤ) {q : ℕ} {m : UnitMap} → Holds units q m → HasValue units v q → AllHaveValue m v
 of_node units v node h = subst (λ z. AllHaveValue z v) (holds_one units h.1 node) h.2
 
@@ -140,7 +140,7 @@ maps_of : (units : List ℕ) (v : ℤ) (places : List ℕ) → AllHold (HasValue
 maps_of units v [] h = tt
 maps_of units v (q ∷ places) h = ((h.0.0, h.0.1), maps_of units v places h.1)
 
--- what a node's own value says, where one of these stands there
+-- What a node's own value says, if all its entries have the value v.
 node_is : (units : List ℕ) (v : ℤ) (p : ℕ) → HasValue units v p → Agrees (value_at units (Node p)) v
 node_is units v p h = rw (value_holds units h.1) (own_agrees h.0 v h.2)
 
@@ -182,7 +182,8 @@ no_node units p found never v a h = never (h.0, h.1)
 
 -- ---- all of them
 
--- what is left to be gone through makes the root's value
+-- The entries of the root have the value v exactly if the value found so far and the marked nodes
+-- that are left have it.
 abbrev pub RootRests : List ℕ → ℕ → Option ℤ → List Bool → ℕ → Type 0
 RootRests units root found wanted p =
     (v : ℤ) → (Agrees found v × AllWantedHold (HasValue units v) wanted p) ↔ HasValue units v root
@@ -248,7 +249,7 @@ no_root_value units root p found wanted here never rests v = (
   λ h. let k = (rests v).1 h in absurd (never v k.0 (k.1 p (omega arith) here)),
 )
 
--- ---- from a place on
+-- ---- from a position on
 
 has_not : (m : UnitMap) → HasEntry m → m ≢ []
 has_not m h e = let not : ◌≡◌ {A = UnitMap} [] (h.0 ∷ h.1) = sym e ∙ h.2 in cc
@@ -300,7 +301,7 @@ pub run_past : (units : List ℕ) (p left q : ℕ) → q ≡ p + (left + 1) → 
 run_past units p left q e past v h =
     let r : InRun units p (left + 1) h.0 = h.1 in holds_before units (p + (left + 1)) r.node (omega (arith, e))
 
--- ---- the map of a place
+-- ---- the map of a position
 
 pub stands_one : (units : List ℕ) (place : Place) (m m' : UnitMap) → Stands units place m → Stands units place m' → m ≡ m'
 stands_one units Nowhere m m' h h' = h ∙ sym h'

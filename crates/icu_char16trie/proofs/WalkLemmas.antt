@@ -1,4 +1,4 @@
--- How a walk goes from one entry to the next.
+-- How a walk moves from one entry to the next.
 use Rattle.icu_zerovec.specs.Slice.{slice_values}
 use Rattle.std.proofs.Common.{◌≡◌, ℕ, ℤ, ◌+◌, ◌-◌, ◌/◌, ◌%◌, ◌<◌, ◌≤◌, List, [], ◌∷◌, ◌++◌, Option, Some, None, Bool, true, false, refl, sym, ap, subst, ◌∙◌, arith, length, slice_get, append-nil, reverse, string_bytes, encode_utf8, inl, inr}
 use Rattle.std.specs.Prelude.{◌⊎◌, IfSome, nat_le, nat_lt}
@@ -27,7 +27,7 @@ use Rattle.icu_char16trie.proofs.WorkLemmas.{weight_one, weight_some}
 
 -- ---- a node is read
 
--- nothing stands at the node
+-- The node has no lead unit.
 pub nothing_read : (old new : Pending) → IsWithout old new → ((m : UnitMap) (h : IsPending old m) → h.first ≡ [])
     → ((k : ℕ) → IsFrom k old → ⊥) → work_from new (At Nowhere) ≤ work_left old → ReadsNode old (At Nowhere) None new
 nothing_read old new w none never less = record {
@@ -70,7 +70,7 @@ below_gives units p lead rest last match = by (nat_le 0x8000 lead) refl
     by true e = rw e (last (grind (arith, nat_tests)))
     by false e = rw e (match (grind (arith, nat_tests)))
 
--- a node without a value leads to a match node behind it
+-- A node without a value leads to a later match node.
 below_past : (units : List ℕ) (p lead k : ℕ) → value_by units (p + 1) lead ≡ None → k ≤ p → p < node_end (p + 1) lead
     → IsPastFront (k + 1) (below (p + 1) lead)
 below_past units p lead k none from behind = by (nat_le 0x8000 lead) refl
@@ -92,7 +92,7 @@ below_work len p q lead within behind = by (nat_le 0x8000 lead) refl
     by true e = rw e (weight_some len p)
     by false e = rw e (weight_one len p (node_end q lead) within behind)
 
--- the units of a value stand behind its lead
+-- The units of a value come after its lead.
 pub node_behind : (p lead : ℕ) → p < node_end (p + 1) lead
 unfolding end_by
 node_behind p lead = by (nat_lt (lead / 64 - 1) 0x100) (nat_lt (lead / 64 - 1) 0x1fe) refl refl
@@ -102,7 +102,7 @@ node_behind p lead = by (nat_lt (lead / 64 - 1) 0x100) (nat_lt (lead / 64 - 1) 0
     by false true e f = rw (e, f) (omega arith)
     by false false e f = rw (e, f) (omega arith)
 
--- what a node with or without a value tells
+-- What reading a node with or without a value returns.
 node_tells : (value : Option ℤ) (key : List ℕ) (rest others m : UnitMap) (front : Front) (new : Pending)
     → m ≡ under key (own value ++ rest) ++ others
     → Spells (bytes_of new.spelling) new.spelling.held key → FrontGives (slice_values new.units) front rest
@@ -169,7 +169,7 @@ held_ends old new lead p f v h e = record {
 
 -- ---- from one entry to the next
 
--- a node without a value is read, and what is below it is opened
+-- A node without a value is read, and what is below it is opened.
 pub more_opened : (first : Walk) (old mid read new : Pending) (front : Front) → IsOpened first old → Keeps old mid
     → ReadsNode mid front None read → OpensFront read front new → (IsWalked first → ⊥) → IsOpened first new
 more_opened first old mid read new front i k r o more = record {
@@ -187,7 +187,7 @@ more_passed first old mid read new front k i keeps goes r o past m g =
     let here = i.entries m g in
     o.leads m (r.entries m (keeps.entries m here)) (k + 1) (r.leads refl k (goes m here k (past m g)))
 
--- a node with a value is reached
+-- A node with a value is reached.
 pub entry_found : (first new : Walk) (old mid : Pending) (v : ℤ) (told : Walk) → IsOpened first old → Keeps old mid
     → ReadsNode mid told.front (Some v) told.pending → told.value ≡ v → EndsKey told new → FindsEntry first true new
 entry_found first new old mid v told i k r tv e = record {
@@ -211,7 +211,7 @@ none_found first new old i k o = record {
   work = λ e. absurd (not_both e);
 }
 
--- as many nodes were opened as there are units
+-- As many nodes were opened as there are units.
 pub no_more_found : (first new : Walk) (k : ℕ) → IsOpened first new.pending → length (slice_values new.pending.units) ≤ k
     → ((m : UnitMap) → WalkGives first m → IsPast k new.pending) → FindsEntry first false new
 no_more_found first new k i all past = record {
@@ -222,7 +222,7 @@ no_more_found first new k i all past = record {
   work = λ e. absurd (not_both e);
 }
 
--- what stands at a place is still to come, under the empty key
+-- What is at the position is still to come, under the empty key.
 pub place_gives : (s : Pending) (place : Place) (m : UnitMap) → bytes_of s.spelling ≡ [] → s.spelling.held ≡ None → s.parts.items ≡ []
     → Stands (slice_values s.units) place m → GivesFrom s (At place) m
 place_gives s place m t h p stood = record {

@@ -1,4 +1,4 @@
--- How much work is left.
+-- An upper bound for the work that is left.
 use Rattle.std.proofs.Common.{◌≡◌, ℕ, suc, ◌+◌, ◌-◌, ◌^◌, ◌<◌, ◌≤◌, List, [], ◌∷◌, ◌++◌, arith}
 use Rattle.std.proofs.lemmas.List.Sums.{sum_by-append}
 use Rattle.std.proofs.Math.Nat.{pow-le-pow_right, one-le-pow, pow-suc}
@@ -21,7 +21,7 @@ one_power k x h =
 step : (len p : ℕ) → p < len → len + 1 - p ≡ suc (len - p)
 step len p h = omega arith
 
--- two later places make less work, and so does one
+-- Two later indices have less weight together, and so has one.
 pub weight_two : (len p a b : ℕ) → p < len → p < a → p < b → weight len a + weight len b < weight len p
 unfolding weight
 weight_two len p a b h i j = rw (step len p h) (two_powers (len - p) (len + 1 - a) (len + 1 - b) (omega arith) (omega arith))
@@ -39,7 +39,7 @@ pub work_push : (len : ℕ) (parts : List BranchPart) (part : BranchPart)
 unfolding parts_work
 work_push len parts part = omega (arith, sum_by-append (λ (t : BranchPart). weight len t.place) parts (part ∷ []))
 
--- a later place makes no more work
+-- A later index has no more weight.
 pub weight_le : (len p a : ℕ) → p ≤ a → weight len a ≤ weight len p
 unfolding weight
 weight_le len p a h = pow-le-pow_right (omega arith) (omega arith)

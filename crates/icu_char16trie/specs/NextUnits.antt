@@ -1,33 +1,33 @@
--- The units with which keys go on from a place.
+-- The units that can come next in some key.
 use Rattle.std.specs.Prelude.{◌≡◌, ℕ, ◌+◌, ◌-◌, ◌/◌, ◌%◌, ◌<◌, ◌≤◌, ◌==◌, List, [], ◌∷◌, ◌++◌, Option, Some, None, slice_get, if◌then◌else◌}
 use Rattle.icu_char16trie.specs.Numbers.{short_end, node_end, delta_end, lower_part}
 use Rattle.icu_char16trie.specs.UnitMap.{UnitMap}
 use Rattle.icu_char16trie.specs.declared.place.Place.{Place}
 use Rattle.icu_char16trie.specs.declared.place.Place.TheVariants.{Nowhere, Node, Run}
 
--- the units without the first, where that is u
+-- The units without the first one, if that is u.
 abbrev pub without_first : ℕ → List ℕ → List ℕ
 without_first u [] = []
 without_first u (x ∷ us) = if x == u then us else x ∷ us
 
--- the first units of the keys, each once: keys that begin with the same unit stand together, since
--- keys ascend
+-- The first units of the keys, each once. Keys ascend, so keys that start with the same unit are
+-- adjacent.
 unfoldable pub first_units : UnitMap → List ℕ
 first_units [] = []
 first_units (([], v) ∷ m) = first_units m
 first_units ((u ∷ key, v) ∷ m) = u ∷ without_first u (first_units m)
 
--- every unit of the list is above u
+-- Every unit of the list is above u.
 abbrev pub AllAbove : ℕ → List ℕ → Type 0
 AllAbove u [] = Unit {0}
 AllAbove u (x ∷ us) = (u < x) × AllAbove u us
 
--- the units strictly ascend
+-- The units strictly ascend.
 abbrev pub AreAscending : List ℕ → Type 0
 AreAscending [] = Unit {0}
 AreAscending (u ∷ us) = AllAbove u us × AreAscending us
 
--- the units of the entries of a row of n entries at p, as far as they are there
+-- The units of the entries of a row of n entries at p, as far as they are there.
 pub data RowUnits (units : List ℕ) : ℕ → ℕ → List ℕ → Type 0 where
   gone : (p n : ℕ) (us : List ℕ) → n ≤ 1 → slice_get units p ≡ None → us ≡ []
       → RowUnits units p n us
@@ -40,8 +40,8 @@ pub data RowUnits (units : List ℕ) : ℕ → ℕ → List ℕ → Type 0 where
       → RowUnits units (short_end (p + 2) (v % 0x8000)) (n - 1) rest → us ≡ u ∷ rest
       → RowUnits units p n us
 
--- the units of the entries of a part of a branch with n entries at p: those of the lower part,
--- which has none where its delta is cut off, and then those of the upper part
+-- The units of the entries of a part of a branch with n entries at p: those of the lower part and
+-- then those of the upper part. If the delta is cut off, there are none of the lower part.
 pub data PartUnits (units : List ℕ) : ℕ → ℕ → List ℕ → Type 0 where
   row : (p n : ℕ) (us : List ℕ) → n ≤ 5 → RowUnits units p n us → PartUnits units p n us
   no_split : (p n : ℕ) (us : List ℕ) → 5 < n → slice_get units (p + 1) ≡ None → us ≡ []
@@ -54,13 +54,13 @@ pub data PartUnits (units : List ℕ) : ℕ → ℕ → List ℕ → Type 0 wher
       → PartUnits units (delta_end (p + 2) d) (n - n / 2) upper → us ≡ lower ++ upper
       → PartUnits units p n us
 
--- the unit at p, if it is there
+-- The unit as a list, empty if it is missing.
 abbrev pub unit_list : Option ℕ → List ℕ
 unit_list None = []
 unit_list (Some u) = u ∷ []
 
--- the units with which a match node goes on that has these low six bits; p is the place after its
--- lead and its value
+-- The units that can come next at the match node with these low six bits. p is the index after its
+-- lead and its value.
 pub data MatchUnits (units : List ℕ) : ℕ → ℕ → List ℕ → Type 0 where
   in_run : (p low : ℕ) (us : List ℕ) → 0x30 ≤ low → us ≡ unit_list (slice_get units p)
       → MatchUnits units p low us
@@ -71,7 +71,7 @@ pub data MatchUnits (units : List ℕ) : ℕ → ℕ → List ℕ → Type 0 whe
   no_length : (p low : ℕ) (us : List ℕ) → low ≡ 0 → slice_get units p ≡ None → us ≡ []
       → MatchUnits units p low us
 
--- the units with which the node at p goes on, by its lead unit
+-- The units that can come next at the node at p, by its lead unit.
 pub data NodeUnits (units : List ℕ) : ℕ → List ℕ → Type 0 where
   no_lead : (p : ℕ) (us : List ℕ) → slice_get units p ≡ None → us ≡ [] → NodeUnits units p us
   at_final : (p lead : ℕ) (us : List ℕ) → slice_get units p ≡ Some lead → 0x8000 ≤ lead → us ≡ []
@@ -79,7 +79,7 @@ pub data NodeUnits (units : List ℕ) : ℕ → List ℕ → Type 0 where
   at_match : (p lead : ℕ) (us : List ℕ) → slice_get units p ≡ Some lead → lead < 0x8000
       → MatchUnits units (node_end (p + 1) lead) (lead % 64) us → NodeUnits units p us
 
--- the units with which keys go on from a place, on all units
+-- The units that can come next at a position, on all units.
 abbrev pub GoesOnWith : List ℕ → Place → List ℕ → Type 0
 GoesOnWith units Nowhere us = us ≡ []
 GoesOnWith units (Node p) us = NodeUnits units p us

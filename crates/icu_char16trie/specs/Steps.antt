@@ -1,12 +1,12 @@
--- The step of a unit from a place, on all units: a unit that is needed and is not there is no
--- match.
+-- The step of a unit from a position, on all units: if a unit that is needed is missing, nothing
+-- matches.
 use Rattle.std.specs.Prelude.{◌≡◌, ◌≢◌, ℕ, ◌+◌, ◌-◌, ◌/◌, ◌%◌, ◌<◌, ◌≤◌, List, [], ◌∷◌, Option, Some, None, slice_get, ◌==◌, if◌then◌else◌}
 use Rattle.std.specs.Bool.{then_some}
 use Rattle.icu_char16trie.specs.Numbers.{short_end, node_end, delta_end, entry_child, lower_part}
 use Rattle.icu_char16trie.specs.declared.place.Place.{Place}
 use Rattle.icu_char16trie.specs.declared.place.Place.TheVariants.{Nowhere, Node, Run}
 
--- in a row of n entries at p the unit u leads to the node at r
+-- In a row of n entries at p the unit u leads to the node at r.
 pub data InRow (units : List ℕ) (u : ℕ) : ℕ → ℕ → Option ℕ → Type 0 where
   gone : (p n : ℕ) (r : Option ℕ) → slice_get units p ≡ None → r ≡ None → InRow units u p n r
   last : (p n x : ℕ) (r : Option ℕ) → n ≤ 1 → slice_get units p ≡ Some x
@@ -21,7 +21,7 @@ pub data InRow (units : List ℕ) (u : ℕ) : ℕ → ℕ → Option ℕ → Typ
       → slice_get units (p + 1) ≡ Some v
       → InRow units u (short_end (p + 2) (v % 0x8000)) (n - 1) r → InRow units u p n r
 
--- in a part of a branch with n entries at p the unit u leads to the node at r
+-- In a part of a branch with n entries at p the unit u leads to the node at r.
 pub data InPart (units : List ℕ) (u : ℕ) : ℕ → ℕ → Option ℕ → Type 0 where
   row : (p n : ℕ) (r : Option ℕ) → n ≤ 5 → InRow units u p n r → InPart units u p n r
   no_split : (p n : ℕ) (r : Option ℕ) → 5 < n → slice_get units p ≡ None → r ≡ None
@@ -39,19 +39,19 @@ pub data InPart (units : List ℕ) (u : ℕ) : ℕ → ℕ → Option ℕ → Ty
       → slice_get units (p + 1) ≡ Some d
       → InPart units u (delta_end (p + 2) d) (n - n / 2) r → InPart units u p n r
 
--- the place that a branch leads to
+-- The position that a branch leads to.
 abbrev pub child_place : Option ℕ → Place
 child_place None = Nowhere
 child_place (Some q) = Node q
 
--- the place after the next unit of a linear match, which stands at p and has left more after it
+-- The position after the next unit of a linear match. That unit is at p, and `left` more follow it.
 abbrev pub run_place : ℕ → ℕ → ℕ → Option ℕ → Place
 run_place p left u None = Nowhere
 run_place p left u (Some x) =
     if x == u then (if left == 0 then Node (p + 1) else Run (p + 1) (left - 1)) else Nowhere
 
--- at a match node with these low six bits the unit u leads to a place; p is the place after its
--- lead and its value
+-- At the match node with these low six bits the unit u leads to a position. p is the index after
+-- the node's lead and its value.
 pub data InMatch (units : List ℕ) (u : ℕ) : ℕ → ℕ → Place → Type 0 where
   in_run : (p low : ℕ) (to : Place) → 0x30 ≤ low
       → to ≡ run_place p (low - 0x30) u (slice_get units p) → InMatch units u p low to
@@ -64,8 +64,8 @@ pub data InMatch (units : List ℕ) (u : ℕ) : ℕ → ℕ → Place → Type 0
   no_length : (p low : ℕ) (to : Place) → low ≡ 0 → slice_get units p ≡ None → to ≡ Nowhere
       → InMatch units u p low to
 
--- at the node at p, by its lead unit, the unit u leads to a place; an intermediate value is
--- skipped, also one that is cut off
+-- At the node at p the unit u leads to a position, by the node's lead unit. An intermediate value
+-- is skipped, even if it is cut off.
 pub data InNode (units : List ℕ) (u : ℕ) : ℕ → Place → Type 0 where
   no_lead : (p : ℕ) (to : Place) → slice_get units p ≡ None → to ≡ Nowhere → InNode units u p to
   at_final : (p lead : ℕ) (to : Place) → slice_get units p ≡ Some lead → 0x8000 ≤ lead
@@ -77,13 +77,13 @@ pub data InNode (units : List ℕ) (u : ℕ) : ℕ → Place → Type 0 where
       → lead < 0x8000
       → InMatch units u (node_end (p + 1) lead) (lead % 64) to → InNode units u p to
 
--- a unit leads from one place to another
+-- A unit leads from one position to another.
 abbrev pub StepsTo : List ℕ → Place → ℕ → Place → Type 0
 StepsTo units Nowhere u to = to ≡ Nowhere
 StepsTo units (Node p) u to = InNode units u p to
 StepsTo units (Run p left) u to = to ≡ run_place p left u (slice_get units p)
 
--- units lead from one place to another, one after the other
+-- Units lead from one position to another, one after the other.
 abbrev pub StepsAlong : List ℕ → Place → List ℕ → Place → Type 0
 StepsAlong units from [] to = to ≡ from
 StepsAlong units from (u ∷ w) to =

@@ -14,13 +14,13 @@ use Rattle.icu_char16trie.specs.declared.place.Place.TheVariants.{Nowhere, Node,
 use Rattle.icu_char16trie.specs.declared.spelling.LeadSurrogate.{LeadSurrogate}
 use Rattle.icu_char16trie.specs.declared.walk.Walk.{Walk}
 
--- what comes next gives the entries m: what stands at a place, or a match node
+-- What comes next, at a position or a match node, gives the entries m.
 abbrev pub FrontGives : List ℕ → Front → UnitMap → Type 0
 FrontGives units (At place) m = Stands units place m
 FrontGives units (Match p low) m = Matches units p low m
 
--- the entries m are still to come: those of the front, under the key that is spelled, and then
--- those of the parts that were put off
+-- The entries m are still to come: those of the front, under the key that is spelled, and then
+-- those of the postponed parts.
 pub record GivesFrom (s : Pending) (front : Front) (m : UnitMap) : Type 0 where
   pub key : List ℕ
   pub first : UnitMap
@@ -31,63 +31,66 @@ pub record GivesFrom (s : Pending) (front : Front) (m : UnitMap) : Type 0 where
       (reverse s.parts.items) others
   pub is : m ≡ under key first ++ others
 
+-- The entries m are what a walk has left.
 abbrev pub WalkGives : Walk → UnitMap → Type 0
 WalkGives s m = GivesFrom s.pending s.front m
 
--- the text of the entry that was reached last: of a key that ends in a lead surrogate it stands
--- apart
+-- The text of the current entry's key. A key that ends in a lead surrogate has its own text.
 abbrev pub text_by : Option LeadSurrogate → List ℕ → List ℕ → List ℕ
 text_by None text ended = text
 text_by (Some lead) text ended = ended
 
+-- The text of the current entry's key.
 abbrev pub walk_text : Walk → List ℕ
 walk_text s =
     text_by s.pending.spelling.held (string_bytes s.pending.spelling.text) (string_bytes s.ended)
 
--- nothing is to come, whatever the units are
+-- Nothing is to come, on any units.
 abbrev pub IsWalked : Walk → Type 0
 IsWalked s = (s.front ≡ At Nowhere) × (s.pending.parts.items ≡ [])
 
--- the first of the entries m was reached, and the others are still to come
+-- The first of the entries m was reached, and the others are still to come.
 abbrev pub Reaches : UnitMap → Walk → Type 0
 Reaches m t =
     (key : List ℕ) × (rest : UnitMap) × (m ≡ (key, t.value) ∷ rest) × (walk_text t ≡ key_text key)
     × WalkGives t rest
 
--- the answer says of the entries m whether one was left, which was then reached; after want of
--- memory it says nothing
+-- The contract of a move among the entries m: true if one was left, which was then reached. An
+-- `Err` says nothing about m.
 abbrev pub TellsNext : UnitMap → Result Bool MemoryError → Walk → Type 0
 TellsNext m (Ok true) t = Reaches m t
 TellsNext m (Ok false) t = m ≡ []
 TellsNext m (Err e) t = Unit {0}
 
--- nothing is to come, and no entry is told: the empty text and 0
+-- Nothing is to come, and there is no current entry: the text is empty and the value is 0.
 pub record IsEnd (s : Walk) : Type 0 where
   pub walked : IsWalked s
   pub text : walk_text s ≡ []
   pub value : s.value ≡ pos 0
 
--- after any answer but that an entry was reached it is the end
+-- After any result other than `Ok(true)` the walk is at its end.
 abbrev pub AnswersEnd : Result Bool MemoryError → Walk → Type 0
 AnswersEnd (Ok true) t = Unit {0}
 AnswersEnd (Ok false) t = IsEnd t
 AnswersEnd (Err e) t = IsEnd t
 
--- the value is that of some node of the units
+-- The value is that of some node of the units.
 abbrev pub IsValueOfNode : Walk → Type 0
 IsValueOfNode s = IsNodeValue (slice_values s.pending.units) s.value
 
--- how much work is left at most
+-- An upper bound for the work of what comes next.
 abbrev pub front_work : ℕ → Front → ℕ
 front_work len (At Nowhere) = 0
 front_work len (At (Node p)) = weight len p
 front_work len (At (Run p left)) = weight len p
 front_work len (Match p low) = weight len p
 
+-- An upper bound for the work of a front and of the postponed parts.
 abbrev pub work_from : Pending → Front → ℕ
 work_from s front =
     front_work (length (slice_values s.units)) front
     + parts_work (length (slice_values s.units)) s.parts.items
 
+-- An upper bound for the work that is left.
 abbrev pub walk_work : Walk → ℕ
 walk_work s = work_from s.pending s.front

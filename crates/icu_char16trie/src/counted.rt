@@ -1,8 +1,8 @@
-//! How many entries a trie has.
+//! Counts the entries of a trie.
 //!
-//! Nodes may be shared, so that few units have very many entries. A node's entries are those of the
-//! nodes that it leads to, which stand after it, and so they are counted from the last node to the
-//! root.
+//! Several nodes may lead to the same node, so a few units can have very many entries. A node comes
+//! before the nodes that it leads to, and its entries are its own value and theirs. So the nodes
+//! are counted from the last one back to the root.
 ghost use Rattle.icu_zerovec.specs.Slice.{slice_values};
 ghost use Rattle.std.specs.Prelude.{◌≡◌, ◌↔◌, ℕ, List, ◌+◌, ◌-◌, ◌^◌, ◌<◌, ◌≤◌, length, min, slice_index, IfOk, Some, None};
 ghost use Rattle.icu_char16trie.specs.Grammar.{Arms, Holds, IsTrieOf, Part};
@@ -16,21 +16,21 @@ use crate::trie::Char16Trie;
 use icu_zerovec::{MemoryError, ZeroSlice};
 use std::alloc::Global;
 
-/// The count at a place, 0 past the end.
+/// Returns the count at `place`, or 0 past the end.
 fn count_at(counts: &[u64], place: usize) -> u64
     ensures { result ≡ slice_index counts.now place }
 {
     counts.get(place).copied().unwrap_or(0)
 }
 
-/// Two counts together, or the greatest number where they are above.
+/// Returns the sum of two counts, or `u64::MAX` if it overflows.
 fn both_counts(first: u64, second: u64) -> u64
     ensures { result ≡ capped (first + second) }
 {
     first.saturating_add(second)
 }
 
-/// How many entries the nodes of a row of at most five entries have.
+/// Returns the number of entries of the nodes of a row, which has at most five entries.
 fn count_row(units: ZeroSlice<'_, u16>, counts: &[u64], row: usize, count: usize) -> Option<u64>
     requires near { row < 2 ^ 63 }
     requires short { count ≤ 5 }
@@ -51,7 +51,8 @@ fn count_row(units: ZeroSlice<'_, u16>, counts: &[u64], row: usize, count: usize
     Some(both_counts(total, count_at(counts, place + 1)))
 }
 
-/// The same of a part of a branch. It calls itself at most 16 deep.
+/// Returns the number of entries of the nodes of a part of a branch. The recursion is at most 16
+/// deep.
 fn count_part(units: ZeroSlice<'_, u16>, counts: &[u64], part: usize, count: usize) -> Option<u64>
     requires { part < 2 ^ 63 }
     ensures { (arms : Arms) → Part (slice_values units.entry) part count arms
@@ -69,8 +70,8 @@ fn count_part(units: ZeroSlice<'_, u16>, counts: &[u64], part: usize, count: usi
     Some(both_counts(lower, upper))
 }
 
-/// How many entries the nodes have that a match node leads to, by its low six bits; `place` is
-/// after its lead and its value.
+/// Returns the number of entries of the nodes that a match node leads to. `low` is the low six bits
+/// of its lead unit, and `place` is the index after the lead and its value.
 fn count_match(units: ZeroSlice<'_, u16>, counts: &[u64], place: usize, low: u16) -> Option<u64>
     requires near { place < 2 ^ 63 }
     requires low { low < 0x40 }
@@ -88,7 +89,7 @@ fn count_match(units: ZeroSlice<'_, u16>, counts: &[u64], place: usize, low: u16
     count_part(units, counts, place + 1, usize::from(length) + 1)
 }
 
-/// How many entries a node has, by the counts of those that it leads to.
+/// Returns the number of entries of a node, given the counts of the nodes that it leads to.
 fn count_node(units: ZeroSlice<'_, u16>, counts: &[u64], place: usize) -> Option<u64>
     ensures { (own : ℕ) (kids : List ℕ) → NodeKids (slice_values units.entry) place own kids
         → result ≡ Some (capped (own + sum_at counts.now kids)) }
@@ -105,7 +106,7 @@ fn count_node(units: ZeroSlice<'_, u16>, counts: &[u64], place: usize) -> Option
     Some(both_counts(1, longer))
 }
 
-/// Counts the entries of each node that is wanted.
+/// Counts the entries of each node that is marked in `wanted`.
 fn count_wanted(units: ZeroSlice<'_, u16>, wanted: &[bool], counts: &mut [u64])
     requires wanted { length wanted.now ≡ length (slice_values units) }
     requires counts { length counts.old ≡ length (slice_values units) }
@@ -122,7 +123,8 @@ fn count_wanted(units: ZeroSlice<'_, u16>, wanted: &[bool], counts: &mut [u64])
     }
 }
 
-/// How many entries the root has, which alone is wanted. `None` where no node stands there.
+/// Returns the number of entries of the root, or `None` if the units are not a trie. Only the root
+/// is marked in `wanted`.
 fn count_at_root(units: ZeroSlice<'_, u16>, wanted: &mut [bool], counts: &mut [u64]) -> Option<u64>
     requires some { 0 < length (slice_values units) }
     requires wanted { length wanted.old ≡ length (slice_values units) }
@@ -140,10 +142,10 @@ fn count_at_root(units: ZeroSlice<'_, u16>, wanted: &mut [bool], counts: &mut [u
 }
 
 impl<'data> Char16Trie<'data> {
-    /// How many entries the trie has, and `u64::MAX` where it has more. `None` where the units are
-    /// no trie, as [`Char16Trie::is_trie`] tells.
+    /// Returns the number of entries of the trie, capped at `u64::MAX`, or `None` if the units are
+    /// not a trie, which is when [`Char16Trie::is_trie`] returns false.
     ///
-    /// It goes through each node twice, whatever the number is, and takes nine bytes for each unit.
+    /// Visits each node twice, however many entries there are. Allocates nine bytes for each unit.
     ///
     /// ```
     /// // of the map of "a" to 1 and "ab" to 2: trie.count_entries(alloc)? is Some(2)
@@ -151,7 +153,7 @@ impl<'data> Char16Trie<'data> {
     /// ```
     ///
     /// # Errors
-    /// `MemoryError` where memory was refused.
+    /// Returns `MemoryError` if an allocation fails.
     pub fn count_entries(&self, alloc: Global) -> Result<Option<u64>, MemoryError>
         ensures some { IfOk result (λ told. (m : UnitMap) → IsTrieOf self.now m
             → told ≡ Some (min (length m) (2 ^ 64 - 1))) }

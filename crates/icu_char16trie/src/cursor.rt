@@ -23,12 +23,10 @@ use icu_zerovec::{MemoryError, ZeroSlice};
 use std::alloc::Global;
 use std::marker::Model;
 
-/// A cursor into the units of a trie, for look-up unit by unit.
+/// A cursor over the units of a trie, for looking up keys unit by unit.
 ///
-/// A clause sees the units and the place where the cursor stands, and says what it has passed:
-/// after the units `w` from the root of the map `m` its value is that of the key `w`, and it is
-/// empty where no key goes on beyond `w`. On all units its steps are those of the format, where a
-/// unit that is needed and is not there is no match.
+/// After the units of a key its value is the key's value. It is empty if no key continues after the
+/// units so far. The units may be anything: if one that is needed is missing, nothing matches.
 #[derive(Clone, Debug, Drop)]
 pub struct Char16TrieCursor<'a> {
     units: ZeroSlice<'a, u16>,
@@ -47,7 +45,7 @@ impl<'a> Model for Char16TrieCursor<'a> {
 }
 
 impl<'a> Char16TrieCursor<'a> {
-    /// A cursor at the root of the trie with these units.
+    /// Creates a cursor at the root of the trie with these units.
     #[inline]
     pub fn new(trie: ZeroSlice<'a, u16>) -> Self
         ensures units { result.units ≡ slice_values trie.entry }
@@ -61,12 +59,13 @@ impl<'a> Char16TrieCursor<'a> {
         }
     }
 
-    /// The cursor at a place of the trie with these units (ICU: `resetToState`). The place may be
-    /// of another trie, or from a stranger.
+    /// Creates a cursor at `place` in the trie with these units.
+    ///
+    /// `place` may come from another trie or from untrusted input. ICU: `resetToState`.
     ///
     /// ```
     /// let place = cursor.place();
-    /// let same = Char16TrieCursor::resume(trie.data.as_slice(), place); // stands where cursor stood
+    /// let same = Char16TrieCursor::resume(trie.data.as_slice(), place); // at the position of cursor
     /// ```
     #[inline]
     pub fn resume(trie: ZeroSlice<'a, u16>, place: CursorPlace) -> Self
@@ -79,8 +78,9 @@ impl<'a> Char16TrieCursor<'a> {
         }
     }
 
-    /// Where the cursor stands, to go on from there by [`resume`](Self::resume) (ICU:
-    /// `saveState`).
+    /// Returns the position of the cursor, from which [`resume`](Self::resume) continues.
+    ///
+    /// ICU: `saveState`.
     #[inline]
     pub fn place(&self) -> CursorPlace
         ensures { place_of result ≡ self.now.place }
@@ -88,7 +88,7 @@ impl<'a> Char16TrieCursor<'a> {
         numbers_of(self.place)
     }
 
-    /// One more unit. After no match nothing changes.
+    /// Advances by one unit. If nothing matched before, nothing matches now.
     #[inline(always)]
     pub fn step16(&mut self, unit: u16)
         ensures units { self.new.units ≡ self.old.units }
@@ -102,8 +102,8 @@ impl<'a> Char16TrieCursor<'a> {
         self.place = step(self.units, self.place, unit);
     }
 
-    /// The units of one more code point up to 0x10FFFF: one below 0x10000, surrogates among them,
-    /// and otherwise two. A number above 0x10FFFF matches nothing.
+    /// Advances by the UTF-16 units of the code point `c`: one unit below 0x10000, surrogates
+    /// included, and two from there to 0x10FFFF. Above 0x10FFFF nothing matches.
     pub fn step32(&mut self, c: u32)
         ensures units { self.new.units ≡ self.old.units }
         ensures within { c ≤ 0x10FFFF → Passes self.old (encode_utf16 c) self.new }
@@ -124,7 +124,7 @@ impl<'a> Char16TrieCursor<'a> {
         }
     }
 
-    /// The units of one more character: one, or two for a character from U+10000 on.
+    /// Advances by the UTF-16 units of the character `c`: one below U+10000, and two from there on.
     #[inline]
     pub fn step(&mut self, c: char)
         ensures passes { Passes self.old (encode_utf16 c) self.new }
@@ -135,8 +135,8 @@ impl<'a> Char16TrieCursor<'a> {
         self.step32(c as u32);
     }
 
-    /// The value of the units so far, if they are a key. 0 where the units of the value are cut
-    /// off.
+    /// Returns the value of the units so far if they are a key. The value is 0 if some of its own
+    /// units are missing.
     #[inline]
     pub fn value(&self) -> Option<i32>
         ensures value { (m : UnitMap) (w : List ℕ) → HasPassed self.now m w
@@ -146,8 +146,8 @@ impl<'a> Char16TrieCursor<'a> {
         value_at(self.units, self.place)
     }
 
-    /// Whether no key goes on beyond the units so far: after no match, at a final value, and at a
-    /// node whose lead unit is not there.
+    /// Returns true if no key continues after the units so far: if they match nothing, if they end
+    /// in a final value, or if the lead unit of their node is missing.
     #[inline]
     pub fn is_empty(&self) -> bool
         ensures empty { (m : UnitMap) (w : List ℕ) → HasPassed self.now m w
@@ -157,11 +157,13 @@ impl<'a> Char16TrieCursor<'a> {
         is_empty_at(self.units, self.place)
     }
 
-    /// The entries whose keys go on from here, in unit order, each without the units so far: how a
-    /// dictionary completes what was typed (ICU: `UCharsTrie::Iterator` of a trie that is not at
-    /// its root). Where the units so far are a key, the first entry is that of the empty text. The
-    /// cursor may stand within a linear match, whose rest comes first; after no match there is no
-    /// entry.
+    /// Returns the entries whose keys start with the units so far, in unit order, each key without
+    /// those units.
+    ///
+    /// A dictionary completes typed text this way. If the units so far are a key, the first entry
+    /// has the empty text. In the middle of a linear match each text starts with the rest of it. If
+    /// nothing matched, there are no entries. ICU: `UCharsTrie::Iterator` of a trie that is not at
+    /// its root.
     ///
     /// ```
     /// // of the map of "a" to 1, "ab" to 2 and "b" to 3
@@ -179,11 +181,12 @@ impl<'a> Char16TrieCursor<'a> {
         Entries::new(alloc, self.units, self.place)
     }
 
-    /// The units with which some key goes on from here, ascending, each once: none where
-    /// [`is_empty`](Self::is_empty) holds (ICU: `getNextUChars`).
+    /// Returns the units that can come next in some key, in ascending order and each once.
+    ///
+    /// There are none if [`is_empty`](Self::is_empty) returns true. ICU: `getNextUChars`.
     ///
     /// # Errors
-    /// `MemoryError` where memory was refused.
+    /// Returns `MemoryError` if an allocation fails.
     ///
     /// ```
     /// // of the map of "a" to 1, "ab" to 2 and "b" to 3
@@ -195,7 +198,7 @@ impl<'a> Char16TrieCursor<'a> {
         ensures ascending { IfOk result (λ list. (m : UnitMap) (w : List ℕ)
             → HasPassed self.now m w → AreAscending list.items) }
 
-        // On all units: what the entries of the branch say, as far as they are there.
+        // On all units: the units of the branch's entries, as far as the entries are there.
         ensures exact { IfOk result
             (λ list. GoesOnWith self.now.units self.now.place list.items) }
     {
@@ -204,17 +207,18 @@ impl<'a> Char16TrieCursor<'a> {
         Ok(list)
     }
 
-    /// The value that all keys going on from here have, the units so far among them where they are
-    /// a key. `None` where they have different values, and where no key goes on (ICU:
-    /// `hasUniqueValue`). A program that completes what was typed asks it whether the rest still
-    /// matters.
+    /// Returns the value that all keys have that start with the units so far, or `None` if their
+    /// values differ or there is no such key.
     ///
-    /// On units that are no trie from here on it is `None`. Each node that is ahead is gone through
-    /// once, by ICU as often as others lead to it, and the second value ends it. It takes one byte
-    /// for each unit of the trie.
+    /// If the units so far are a key, it counts too. A program that completes typed text can use
+    /// this to see whether the rest still matters. If the units are no trie from this position on,
+    /// the result is `None`. ICU: `hasUniqueValue`.
+    ///
+    /// Visits each node ahead once and stops at the second value; ICU visits a node once for each
+    /// way that leads to it. Allocates one byte for each unit of the trie.
     ///
     /// # Errors
-    /// `MemoryError` where memory was refused.
+    /// Returns `MemoryError` if an allocation fails.
     ///
     /// ```
     /// // of the map of "a" to 1, "ab" to 1 and "b" to 3
@@ -225,7 +229,7 @@ impl<'a> Char16TrieCursor<'a> {
         ensures value { IfOk result (λ told. (m : UnitMap) (w : List ℕ) (v : ℤ)
             → HasPassed self.now m w → (told ≡ Some v) ↔ HaveOneValue (after_all w m) v) }
 
-        // On all units: only where a node stands at each place that is led to.
+        // On all units: a value is returned only if there is a node at each index that is led to.
         ensures exact { IfOk result (λ told. (v : ℤ) → (told ≡ Some v)
             ↔ StandsForOneValue self.now.units self.now.place v) }
     {

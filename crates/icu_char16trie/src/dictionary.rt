@@ -1,4 +1,4 @@
-//! The keys that begin a text, as a dictionary is asked for its words.
+//! Finds the keys that a text starts with, as a dictionary finds words.
 ghost use Rattle.icu_zerovec.specs.Slice.{slice_values};
 ghost use Rattle.std.specs.Prelude.{◌≡◌, ◌↔◌, ℕ, ℤ, ◌^◌, ◌<◌, List, IfSome, IsTrue};
 ghost use Rattle.std.specs.Iterator.{Drains};
@@ -16,7 +16,7 @@ use crate::step::value_by;
 use crate::trie::Char16Trie;
 use icu_zerovec::ZeroSlice;
 
-/// The match of the first `n` units, if they have a value, or else what was found before them.
+/// Returns the match of the first `n` units if they have a value, and otherwise the earlier match.
 #[inline(always)]
 fn longer_match(n: usize, value: Option<i32>, found: Option<(usize, i32)>) -> Option<(usize, i32)>
     ensures { result ≡ longer n value found }
@@ -27,7 +27,7 @@ fn longer_match(n: usize, value: Option<i32>, found: Option<(usize, i32)>) -> Op
     }
 }
 
-/// Whether a text begins with the `count` units at a place.
+/// Returns true if `text` starts with the `count` units at `place`.
 #[inline(always)]
 fn begins_run(units: ZeroSlice<'_, u16>, place: usize, count: usize, text: &[u16]) -> bool
     requires { place < 2 ^ 63 }
@@ -44,8 +44,9 @@ fn begins_run(units: ZeroSlice<'_, u16>, place: usize, count: usize, text: &[u16
     true
 }
 
-/// Goes on with a text at a match node, by its low six bits, to the next node: its place, and how
-/// many units were passed. `place` is after the match node's lead and its value.
+/// Advances through `text` at a match node to the next node. Returns the index of that node and the
+/// number of units consumed. `low` is the low six bits of the match node's lead unit, and `place`
+/// is the index after the lead and its value.
 #[inline(always)]
 fn pass_match(
     units: ZeroSlice<'_, u16>,
@@ -72,11 +73,11 @@ fn pass_match(
 }
 
 impl<'data> Char16Trie<'data> {
-    /// The longest key that begins a text: how many units it has, and its value. `None` where no
-    /// key begins the text. The empty key begins each text.
+    /// Returns the longest key that `text` starts with: its length in units and its value.
     ///
-    /// No more units are read than some key goes on with. (With ICU: the loop over
-    /// `UCharsTrie::next` that ends where `USTRINGTRIE_HAS_NEXT` does not hold.)
+    /// Returns `None` if `text` starts with no key. The empty key matches at the start of every
+    /// text. Reads no more units of `text` than some key continues with. In ICU this is a loop over
+    /// `UCharsTrie::next` that ends when `USTRINGTRIE_HAS_NEXT` is false.
     ///
     /// ```
     /// // of the map of "a" to 1 and "ab" to 2
@@ -87,7 +88,7 @@ impl<'data> Char16Trie<'data> {
     pub fn longest_match(&self, text: &[u16]) -> Option<(usize, i32)>
         ensures longest { (m : UnitMap) → IsTrieOf self.now m → IsLongestMatch m text.now result }
 
-        // On all units: what the steps of the units lead to.
+        // On all units: the result of stepping through the units of the text.
         ensures exact { IsLongestStepped self.now text.now result }
     {
         let units = self.data.as_slice();
@@ -109,11 +110,12 @@ impl<'data> Char16Trie<'data> {
         found
     }
 
-    /// The longest key that a text begins with: how many bytes of the text it is, and its value.
-    /// `None` where the text begins with no key.
+    /// Returns the longest key that `text` starts with: its length in bytes of `text` and its
+    /// value.
     ///
-    /// A key is here the units in UTF-16 of some first characters: one that ends between the two
-    /// units of a character doesn't count, so that `&text[length..]` is what follows.
+    /// Returns `None` if `text` starts with no key. Only keys that are whole characters in UTF-16
+    /// count: a key that ends between the two units of a character does not. So `&text[length..]`
+    /// is what follows the key.
     ///
     /// ```
     /// // of the map of "\u{e9}" to 1 and "\u{e9}t\u{e9}" to 2
@@ -142,8 +144,10 @@ impl<'data> Char16Trie<'data> {
         found
     }
 
-    /// All keys that begin a text, the shortest one first: how many units each has, and its value.
-    /// It takes no memory, and no more units are read than some key goes on with.
+    /// Returns all keys that `text` starts with, the shortest first: the length of each in units
+    /// and its value.
+    ///
+    /// Allocates nothing, and reads no more units of `text` than some key continues with.
     ///
     /// ```
     /// // of the map of "a" to 1 and "ab" to 2
@@ -156,7 +160,8 @@ impl<'data> Char16Trie<'data> {
         ensures left { (m : UnitMap) → IsTrieOf self.now m
             → AreLeft result m (matches_of m text.now) }
 
-        // A whole run gives exactly the fronts of the text that have a value.
+        // If it is run to its end, the items are exactly the prefixes of the text that have a
+        // value.
         ensures drained { (m : UnitMap) (xs : List (ℕ × ℤ)) → IsTrieOf self.now m
             → Drains GivesMatch result xs → xs ≡ matches_of m text.now }
     {

@@ -1,25 +1,24 @@
-//! Numbers in the units of a trie.
+//! Numbers encoded in the units of a trie.
 ghost use Rattle.icu_zerovec.specs.Slice.{slice_values};
 ghost use Rattle.std.specs.Prelude.{◌≡◌, ℕ, ◌+◌, ◌*◌, ◌^◌, ◌<◌, ◌≤◌, nat_lt, if◌then◌else◌, slice_get, length, bit_and, Some, None, IfSome, MatchOption};
 ghost use Rattle.icu_char16trie.specs.Numbers.{number_by, end_by, short_number, short_end, node_number, node_end, delta_number, delta_end, low_half, both_halves, entry_child, lower_part};
 
 use icu_zerovec::ZeroSlice;
 
-/// The unit at a place, counted from 0. `None` at or past the end.
+/// Returns the unit at an index, or `None` at or past the end.
 #[inline(always)]
 pub(crate) fn unit_at(units: ZeroSlice<'_, u16>, place: usize) -> Option<u16>
     ensures unit { result ≡ slice_get (slice_values units.entry) place }
     ensures within { IfSome result
         (λ _. (place < 2 ^ 62) × (place < length (slice_values units.entry))) }
 {
-    // A packed vector has fewer than 2^63 bytes, so that counting on from a place that was read
-    // never wraps.
+    // A packed vector has fewer than 2^63 bytes, so adding to an index that was read never wraps.
     prove!(units.len() < 1 << 62);
     units.get(place)
 }
 
-/// The units at a place and at the one after it, by one test of a place. `None` where one of them
-/// is not there.
+/// Returns the units at an index and at the one after it, with a single bounds check. `None` if
+/// either is missing.
 #[inline(always)]
 pub(crate) fn two_at(units: ZeroSlice<'_, u16>, place: usize) -> Option<(u16, u16)>
     requires { place < 2 ^ 63 }
@@ -33,14 +32,14 @@ pub(crate) fn two_at(units: ZeroSlice<'_, u16>, place: usize) -> Option<(u16, u1
     Some((units.at(place), second))
 }
 
-/// A number in two halves.
+/// Returns the number with these two halves.
 pub(crate) fn from_halves(high: u16, low: u16) -> u32
     ensures { result ≡ high * 0x10000 + low }
 {
     (u32::from(high) << 16) | u32::from(low)
 }
 
-/// A number whose low half stands at a place.
+/// Returns the number with this high half, whose low half is at `place`.
 fn low_half(units: ZeroSlice<'_, u16>, place: usize, high: u16) -> Option<u32>
     ensures { result ≡ low_half (slice_values units.entry) place high }
 {
@@ -48,7 +47,7 @@ fn low_half(units: ZeroSlice<'_, u16>, place: usize, high: u16) -> Option<u32>
     Some(from_halves(high, low))
 }
 
-/// A number in two units.
+/// Returns the number in the two units at `place`, the high half first.
 fn both_halves(units: ZeroSlice<'_, u16>, place: usize) -> Option<u32>
     ensures { result ≡ both_halves (slice_values units.entry) place }
 {
@@ -56,8 +55,8 @@ fn both_halves(units: ZeroSlice<'_, u16>, place: usize) -> Option<u32>
     low_half(units, place + 1, high)
 }
 
-/// A number by its lead: below `two` the lead is the number, from there to below `three` it is
-/// `two` more than the high half, and else both halves stand at `place`.
+/// Returns the number with this lead. A lead below `two` is the number itself. A lead from there to
+/// below `three` is `two` plus the high half. For any other lead both halves are at `place`.
 #[inline(always)]
 #[tactic(auto, unfolding(crate::specs::Numbers::number_by))]
 fn number_by(
@@ -78,8 +77,9 @@ fn number_by(
     }
 }
 
-/// The place after a number of more than its lead. It stands apart, so that a search that passes
-/// many numbers, of which nearly all are their leads, reads on before it has seen them.
+/// Returns the index after a number that has more units than its lead. It is not inlined: nearly
+/// all numbers are their leads, so a search that skips many of them can read ahead before it has
+/// seen their values.
 #[cold]
 #[inline(never)]
 fn far_end(place: usize, lead: u16, three: u16) -> usize
@@ -89,7 +89,7 @@ fn far_end(place: usize, lead: u16, three: u16) -> usize
     if lead < three { place + 1 } else { place + 2 }
 }
 
-/// The place after it.
+/// Returns the index after a number with this lead.
 #[inline(always)]
 #[tactic(auto, unfolding(crate::specs::Numbers::end_by))]
 fn end_by(place: usize, lead: u16, two: u16, three: u16) -> usize
@@ -105,14 +105,15 @@ fn end_by(place: usize, lead: u16, two: u16, three: u16) -> usize
     }
 }
 
-/// The number of a final value or a jump, by the low 15 bits of the unit before `place`.
+/// Returns the number of a final value or a jump. `low_bits` is the low 15 bits of the unit before
+/// `place`.
 pub(crate) fn short_number(units: ZeroSlice<'_, u16>, place: usize, low_bits: u16) -> Option<u32>
     ensures { result ≡ short_number (slice_values units.entry) place low_bits }
 {
     number_by(units, place, low_bits, 0x4000, 0x7fff)
 }
 
-/// The place after it.
+/// Returns the index after the number of a final value or a jump.
 pub(crate) fn short_end(place: usize, low_bits: u16) -> usize
     requires { place < 2 ^ 63 }
     ensures end { result ≡ short_end place low_bits }
@@ -122,7 +123,7 @@ pub(crate) fn short_end(place: usize, low_bits: u16) -> usize
     end_by(place, low_bits, 0x4000, 0x7fff)
 }
 
-/// The number of an intermediate value, by the lead unit before `place`.
+/// Returns the number of an intermediate value. Its lead unit is before `place`.
 pub(crate) fn node_number(units: ZeroSlice<'_, u16>, place: usize, lead: u16) -> Option<u32>
     requires lead { 0x40 ≤ lead }
     ensures { result ≡ node_number (slice_values units.entry) place lead }
@@ -130,7 +131,7 @@ pub(crate) fn node_number(units: ZeroSlice<'_, u16>, place: usize, lead: u16) ->
     number_by(units, place, (lead >> 6) - 1, 0x100, 0x1fe)
 }
 
-/// The place after it, and `place` itself where the lead unit has no value.
+/// Returns the index after an intermediate value, or `place` itself if the lead unit has no value.
 pub(crate) fn node_end(place: usize, lead: u16) -> usize
     requires { place < 2 ^ 63 }
     ensures end { result ≡ node_end place lead }
@@ -140,14 +141,14 @@ pub(crate) fn node_end(place: usize, lead: u16) -> usize
     end_by(place, (lead >> 6).saturating_sub(1), 0x100, 0x1fe)
 }
 
-/// The delta of a split, by the unit before `place`.
+/// Returns the delta of a split. `delta` is the unit before `place`.
 pub(crate) fn delta_number(units: ZeroSlice<'_, u16>, place: usize, delta: u16) -> Option<u32>
     ensures { result ≡ delta_number (slice_values units.entry) place delta }
 {
     number_by(units, place, delta, 0xfc00, 0xffff)
 }
 
-/// The place after it.
+/// Returns the index after the delta of a split.
 pub(crate) fn delta_end(place: usize, delta: u16) -> usize
     requires { place < 2 ^ 63 }
     ensures end { result ≡ delta_end place delta }
@@ -157,7 +158,7 @@ pub(crate) fn delta_end(place: usize, delta: u16) -> usize
     end_by(place, delta, 0xfc00, 0xffff)
 }
 
-/// Where the node of an entry stands, whose value unit stands before `place`.
+/// Returns the index of the node of an entry whose value unit is before `place`.
 #[tactic(auto, unfolding(crate::specs::Numbers::entry_child))]
 pub(crate) fn entry_child(units: ZeroSlice<'_, u16>, place: usize, value: u16) -> Option<usize>
     requires positive { 0 < place }
@@ -174,7 +175,8 @@ pub(crate) fn entry_child(units: ZeroSlice<'_, u16>, place: usize, value: u16) -
     }
 }
 
-/// Where the part of the lower entries of a branch stands, by the unit of the delta before `place`.
+/// Returns the index of the part with the lower entries of a branch. `delta` is the unit before
+/// `place`.
 #[tactic(auto, unfolding(crate::specs::Numbers::lower_part))]
 pub(crate) fn lower_part(units: ZeroSlice<'_, u16>, place: usize, delta: u16) -> Option<usize>
     requires { place < 2 ^ 63 }

@@ -5,12 +5,13 @@ use crate::pending::Pending;
 use icu_zerovec::{MemoryError, ZeroSlice};
 use std::alloc::Global;
 
-/// The entries of a trie in unit order: each key as text, a lone surrogate as U+FFFD, with its
-/// value.
+/// An iterator over the entries of a trie in unit order: each key as text, with its value. A lone
+/// surrogate becomes U+FFFD.
 ///
-/// After an `Err`, and after the last entry, no item comes. One call opens at most as many nodes as
-/// there are units. A trie has no more of them before an entry; on units that are no trie the items
-/// are what their nodes say as far as they go, and end where a call has opened so many for none.
+/// The iterator ends after an `Err` and after the last entry. One call of `next` opens at most as
+/// many nodes as there are units. A trie never has more of them before an entry. If the units are
+/// not a trie, the items are what their nodes contain, as far as the units go. The iterator then
+/// ends when one call has opened that many nodes without finding an entry.
 #[derive(Debug, Drop)]
 pub struct Iter2<'a> {
     alloc: Global,
@@ -25,7 +26,7 @@ impl<'a> Iter2<'a> {
     ghost use Rattle.icu_char16trie.specs.UnitMap.{UnitMap};
     ghost use Rattle.icu_char16trie.specs.Entries.{IsLeft};
 
-    /// The entries of the trie with these units.
+    /// Creates an iterator over the entries of the trie with these units.
     pub(crate) fn new(alloc: Global, units: ZeroSlice<'a, u16>) -> Self
         ensures left { (m : UnitMap) → IsTrieOf (slice_values units.entry) m → IsLeft result m }
         ensures units { slice_values result.pending.units ≡ slice_values units.entry }

@@ -1,4 +1,4 @@
-//! Look-up with a result for each step, as before there was a cursor.
+//! Look-up with a result for each step, the interface from before the Rust crate had a cursor.
 ghost use Rattle.std.specs.Prelude.{◌≡◌, ℕ, ℤ, List, [], ◌∷◌, ◌++◌, ◌<◌, ◌≤◌, Option, Bool, not};
 ghost use Rattle.icu_zerovec.specs.Slice.{slice_values};
 ghost use Rattle.icu_char16trie.specs.UnitMap.{UnitMap, goes_on, value_of};
@@ -9,22 +9,20 @@ use crate::cursor::Char16TrieCursor;
 use icu_zerovec::ZeroSlice;
 use std::marker::Model;
 
-/// What is told of the units so far.
+/// The result of a step: what the units so far are.
 #[derive(Clone, Copy, Debug, PartialEq)]
 pub enum TrieResult {
-    /// They match nothing, or lead to a node that is not there. From then on more units match
-    /// nothing either.
+    /// They match nothing, or lead to a node that is missing. More units match nothing either.
     NoMatch,
-    /// They are no key, and a key goes on beyond them.
+    /// They are not a key, and some key continues after them.
     NoValue,
-    /// They are a key with this value, and no key goes on beyond them.
+    /// They are a key with this value, and no key continues after them.
     FinalValue(i32),
-    /// They are a key with this value, and a key goes on beyond them.
+    /// They are a key with this value, and some key continues after them.
     Intermediate(i32),
 }
 
-/// A cursor that tells at each step what it found. A clause sees the units and the place, as of
-/// [`Char16TrieCursor`].
+/// A cursor that returns a result for each step.
 #[derive(Clone, Debug, Drop)]
 pub struct Char16TrieIterator<'a> {
     cursor: Char16TrieCursor<'a>,
@@ -46,7 +44,7 @@ impl<'a> Char16TrieIterator<'a> {
     ghost use Rattle.icu_char16trie.specs.Passed.{Passes, answer_at, result_of, result_of};
     ghost use Rattle.icu_char16trie.specs.declared.iterator.TrieResult.TheVariants.{NoMatch};
 
-    /// An iterator at the root of the trie with these units.
+    /// Creates an iterator at the root of the trie with these units.
     #[inline]
     pub fn new(trie: ZeroSlice<'a, u16>) -> Self
         ensures units { result.units ≡ slice_values trie.entry }
@@ -59,7 +57,7 @@ impl<'a> Char16TrieIterator<'a> {
         }
     }
 
-    /// One more character, as its units.
+    /// Advances by the UTF-16 units of the character `c` and returns the result.
     ///
     /// ```
     /// // of the map of "a" to 1 and "ab" to 2
@@ -81,8 +79,8 @@ impl<'a> Char16TrieIterator<'a> {
         self.next32(c as u32)
     }
 
-    /// One more code point up to 0x10FFFF, as [`Char16TrieCursor::step32`]. A number above 0x10FFFF
-    /// matches nothing.
+    /// Advances by the UTF-16 units of the code point `c` and returns the result. Surrogates are
+    /// one unit each. Above 0x10FFFF the result is [`TrieResult::NoMatch`].
     #[tactic(auto, using(crate::proofs::PlaceLemmas::answer_is_after))]
     pub fn next32(&mut self, c: u32) -> TrieResult
         ensures units { self.new.units ≡ self.old.units }
@@ -101,7 +99,7 @@ impl<'a> Char16TrieIterator<'a> {
         self.result()
     }
 
-    /// One more unit.
+    /// Advances by the unit `c` and returns the result.
     #[inline]
     #[tactic(auto, using(crate::proofs::PlaceLemmas::answer_is_after))]
     pub fn next16(&mut self, c: u16) -> TrieResult
@@ -121,7 +119,7 @@ impl<'a> Char16TrieIterator<'a> {
         self.result()
     }
 
-    /// What is told of the units so far.
+    /// Returns what the units so far are.
     fn result(&self) -> TrieResult
         ensures { result ≡ answer_at self.now }
     {

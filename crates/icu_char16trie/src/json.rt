@@ -1,4 +1,5 @@
-//! A trie from and to JSON: an object whose key `data` has the units as an array of numbers.
+//! Reads and writes a trie as JSON: an object whose key `data` has the units as an array of
+//! numbers.
 ghost use Rattle.std.specs.Prelude.{◌≡◌, ◌^◌, ◌<◌, ◌⊎◌, Ok, Err, IfOk, IfErr, All};
 ghost use Rattle.icu_zerovec.specs.Slice.{slice_values};
 ghost use Rattle.icu_zerovec.specs.FirstFault.{read_from};
@@ -11,17 +12,17 @@ use serde_json::{Value, json};
 use std::alloc::Global;
 use thiserror::Error;
 
-/// Why a JSON value is no trie.
+/// Why a JSON value is not a trie.
 #[derive(Clone, Copy, Debug, PartialEq, Eq, Error)]
 pub enum Char16JsonError {
-    /// It is no object, it has neither or both of the keys `data` and `trie_data`, or no array
-    /// stands there.
+    /// It is not an object, it has neither or both of the keys `data` and `trie_data`, or the key's
+    /// value is not an array.
     #[error("no object with one array `data` or `trie_data`")]
     Shape,
-    /// This item of the array, counted from 0, is the first that is no whole number up to 65535.
+    /// The item at this index, counted from 0, is the first that is not a whole number up to 65535.
     #[error("item {0} is no whole number up to 65535")]
     Number(usize),
-    /// Memory was refused.
+    /// An allocation failed.
     #[error("no memory")]
     Memory,
 }
@@ -36,14 +37,14 @@ impl From<MemoryError> for Char16JsonError {
     }
 }
 
-/// The unit that an item is.
+/// Returns the unit of an item, or `None` if the item is not a whole number up to 65535.
 fn unit_of(item: &Value) -> Option<u16>
     ensures { result ≡ unit_of (view item.now) }
 {
     u16::try_from(item.as_u64()?).ok()
 }
 
-/// The units that the items are, in their order.
+/// Returns the units of the items, in their order.
 fn units_of_items(alloc: Global, items: &[Value]) -> Result<Vec<u16>, Char16JsonError>
     ensures ok { IfOk result (λ units.
         read_from unit_or 0 (list_of (items_view items.now)) ≡ Ok units.items) }
@@ -64,7 +65,7 @@ fn units_of_items(alloc: Global, items: &[Value]) -> Result<Vec<u16>, Char16Json
     Ok(units)
 }
 
-/// The units as the object of a trie.
+/// Returns the JSON object of a trie with these units.
 fn object_of(alloc: Global, units: ZeroSlice<'_, u16>) -> Result<Value, MemoryError>
     ensures json { IfOk result (λ value. view value ≡ json_of (slice_values units.entry)) }
     ensures small { IfOk result (λ _. All (λ u. u < 2 ^ 16) (slice_values units.entry)) }
@@ -77,8 +78,10 @@ fn object_of(alloc: Global, units: ZeroSlice<'_, u16>) -> Result<Value, MemoryEr
 }
 
 impl<'data> Char16Trie<'data> {
-    /// The trie that a JSON value says: an object whose key `data`, or `trie_data` in its place, is
-    /// an array of whole numbers up to 65535. Other keys are ignored, and the units are not tested.
+    /// Reads a trie from a JSON value: an object whose key `data` or `trie_data` has an array of
+    /// whole numbers up to 65535.
+    ///
+    /// Other keys are ignored. The units are not validated; [`Char16Trie::is_trie`] does that.
     ///
     /// ```
     /// let trie = Char16Trie::from_json(alloc, &Value::from_str(alloc, r#"{"data":[49,97,98,32771]}"#)?)?;
@@ -86,9 +89,13 @@ impl<'data> Char16Trie<'data> {
     /// ```
     ///
     /// # Errors
-    /// In this order: `Shape` where it is no object, has neither or both of the keys, or where no
-    /// array stands there; `Number` with the first item that is no whole number up to 65535.
-    /// `Memory` where memory was refused.
+    /// In this order:
+    ///
+    /// - `Shape` if the value is not an object, has neither or both of the keys, or the key's value
+    ///   is not an array.
+    /// - `Number` with the index of the first item that is not a whole number up to 65535.
+    ///
+    /// `Memory` if an allocation fails.
     pub fn from_json(alloc: Global, value: &Value) -> Result<Char16Trie<'static>, Char16JsonError>
         ensures ok { IfOk result (λ trie. units_of (view value.now) ≡ Ok trie) }
         ensures err { IfErr result
@@ -105,11 +112,11 @@ impl<'data> Char16Trie<'data> {
         Ok(Char16Trie::new(ZeroVec::alloc_from_slice(alloc, &units)?))
     }
 
-    /// The trie as a JSON value: an object whose one key `data` has the units as an array of
-    /// numbers.
+    /// Writes the trie as a JSON value: an object with the single key `data`, which has the units
+    /// as an array of numbers.
     ///
     /// # Errors
-    /// `MemoryError` where memory was refused.
+    /// Returns `MemoryError` if an allocation fails.
     pub fn to_json(&self, alloc: Global) -> Result<Value, MemoryError>
         ensures json { IfOk result (λ value. view value ≡ json_of self.now) }
         ensures read_back { IfOk result (λ value. units_of (view value) ≡ Ok self.now) }

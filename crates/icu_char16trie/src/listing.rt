@@ -1,4 +1,4 @@
-//! The entries of a trie by one buffer.
+//! The entries of a trie through one buffer.
 ghost use Rattle.icu_char16trie.specs.Inside.Walking.{IsSound, IsSound-prop};
 
 use crate::place::Place;
@@ -6,16 +6,20 @@ use crate::walk::Walk;
 use icu_zerovec::{MemoryError, ZeroSlice};
 use std::alloc::Global;
 
-/// The entries of a trie in unit order, one at a time: [`advance`](Self::advance) goes to the next
-/// one, and [`key`](Self::key) and [`value`](Self::value) tell it. The text of the key is kept in
-/// one buffer, which grows where a key is longer than all before it (ICU: `UCharsTrie::Iterator`);
-/// one that ends in a lead surrogate is written to another one.
+/// The entries of a trie in unit order, one at a time.
 ///
-/// Made by [`Char16Trie::entries`](crate::trie::Char16Trie::entries), and by
-/// [`Char16TrieCursor::entries`](crate::cursor::Char16TrieCursor::entries) of the keys that go on
-/// from a cursor. One call opens at most as many nodes as there are units. A trie has no more of
-/// them before an entry; on units that are no trie the entries are what their nodes say as far as
-/// they go, and end where a call has opened so many for none.
+/// [`advance`](Self::advance) moves to the next entry, and [`key`](Self::key) and
+/// [`value`](Self::value) return it. The text of the key is stored in one buffer, which grows if a
+/// key is longer than all before it. A key that ends in a lead surrogate is written to a second
+/// buffer. ICU: `UCharsTrie::Iterator`.
+///
+/// Created by [`Char16Trie::entries`](crate::trie::Char16Trie::entries), and by
+/// [`Char16TrieCursor::entries`](crate::cursor::Char16TrieCursor::entries) for the keys ahead of a
+/// cursor.
+///
+/// One call of `advance` opens at most as many nodes as there are units. A trie never has more of
+/// them before an entry. If the units are not a trie, the entries are what their nodes contain, as
+/// far as the units go. They end when one call has opened that many nodes without finding an entry.
 #[derive(Debug, Drop)]
 pub struct Entries<'a> {
     walk: Walk<'a>,
@@ -29,7 +33,7 @@ impl<'a> Entries<'a> {
     ghost use Rattle.icu_char16trie.specs.UnitPlaces.{IsNear, Stands};
     ghost use Rattle.icu_char16trie.specs.Listing.{AreToCome, Advances, EndsUnlessReached, IsAtEnd, IsSomeValue, entry_text, entry_value, entries_work, listed_units};
 
-    /// The entries of what stands at a place of these units.
+    /// Creates the listing of the entries from a position in these units.
     pub(crate) fn new(alloc: Global, units: ZeroSlice<'a, u16>, place: Place) -> Self
         requires { IsNear place }
         ensures to_come { (m : UnitMap) → Stands (slice_values units.entry) place m
@@ -43,14 +47,13 @@ impl<'a> Entries<'a> {
         }
     }
 
-    /// Goes to the next entry: whether there is one. Once it has said that none is left, and after
-    /// an `Err`, none is left.
+    /// Moves to the next entry and returns true, or returns false if none is left.
     ///
-    /// It asks for memory only where the key is longer than all before it, or lies deeper below
-    /// branches.
+    /// After it has returned false or an `Err`, no entry is left. Allocates only if the key is
+    /// longer than all before it, or nested below more branches.
     ///
     /// # Errors
-    /// `MemoryError` where memory was refused.
+    /// Returns `MemoryError` if an allocation fails.
     ///
     /// ```
     /// // of the map of "a" to 1 and "ab" to 2
@@ -64,7 +67,7 @@ impl<'a> Entries<'a> {
         ensures ended { EndsUnlessReached result self.new }
         ensures done { IsAtEnd self.old → result ≡ Ok false }
 
-        // On all units: a value is that of a node, and it ends.
+        // On all units: a value is that of a node, and the listing ends.
         ensures value { result ≡ Ok true → IsSomeValue self.new }
         ensures units { IfOk result (λ found. listed_units self.new ≡ listed_units self.old) }
         ensures work { result ≡ Ok true → entries_work self.new < entries_work self.old }
@@ -72,8 +75,10 @@ impl<'a> Entries<'a> {
         self.walk.next_entry()
     }
 
-    /// The text of the key of the entry that was reached last, each lone surrogate as U+FFFD. It is
-    /// empty before the first [`advance`](Self::advance), and after one that reached no entry.
+    /// Returns the text of the current entry's key. Each lone surrogate is U+FFFD.
+    ///
+    /// The text is empty before the first [`advance`](Self::advance), and after one that reached no
+    /// entry.
     #[inline]
     pub fn key(&self) -> &str
         ensures { result.now ≡ entry_text self.now }
@@ -81,9 +86,10 @@ impl<'a> Entries<'a> {
         self.walk.text()
     }
 
-    /// The value of the entry that was reached last. It is 0 before the first
-    /// [`advance`](Self::advance), and after one that reached no entry, and where the units of the
-    /// value are cut off.
+    /// Returns the value of the current entry.
+    ///
+    /// The value is 0 before the first [`advance`](Self::advance), after one that reached no entry,
+    /// and if some units of the value are missing.
     #[inline]
     pub fn value(&self) -> i32
         ensures { result ≡ entry_value self.now }

@@ -1,4 +1,4 @@
-//! The units with which keys go on from a place.
+//! The units that can come next in some key.
 ghost use Rattle.icu_zerovec.specs.Slice.{slice_values};
 ghost use Rattle.std.specs.Prelude.{◌≡◌, ℕ, List, ◌++◌, ◌^◌, ◌<◌, slice_get, OnOk};
 ghost use Rattle.icu_char16trie.specs.NextUnits.{unit_list, RowUnits, PartUnits, MatchUnits, NodeUnits, GoesOnWith};
@@ -9,7 +9,7 @@ use crate::place::Place;
 use icu_zerovec::ZeroSlice;
 use std::alloc::AllocError;
 
-/// Adds the unit at a place, if it is there.
+/// Adds the unit at an index, if it is there.
 fn add_unit(list: &mut Vec<u16>, units: ZeroSlice<'_, u16>, place: usize) -> Result<(), AllocError>
     ensures { OnOk result (list.new.items
         ≡ list.old.items ++ unit_list (slice_get (slice_values units.entry) place)) }
@@ -20,7 +20,7 @@ fn add_unit(list: &mut Vec<u16>, units: ZeroSlice<'_, u16>, place: usize) -> Res
     Ok(())
 }
 
-/// Adds the units of a row of at most five entries.
+/// Adds the units of a row, which has at most five entries.
 fn add_row(
     list: &mut Vec<u16>,
     units: ZeroSlice<'_, u16>,
@@ -71,7 +71,8 @@ fn add_part(
     Ok(())
 }
 
-/// Adds the units of a match node, by its low six bits; `place` is after its lead and its value.
+/// Adds the units that can come next at a match node. `low` is the low six bits of its lead unit,
+/// and `place` is the index after the lead and its value.
 fn add_match(
     list: &mut Vec<u16>,
     units: ZeroSlice<'_, u16>,
@@ -96,7 +97,7 @@ fn add_match(
     Ok(())
 }
 
-/// Adds the units with which keys go on from a node.
+/// Adds the units that can come next at a node.
 fn add_node(list: &mut Vec<u16>, units: ZeroSlice<'_, u16>, node: usize) -> Result<(), AllocError>
     ensures { OnOk result (Adds (NodeUnits (slice_values units.entry) node) list.old.items
         list.new.items) }
@@ -111,7 +112,7 @@ fn add_node(list: &mut Vec<u16>, units: ZeroSlice<'_, u16>, node: usize) -> Resu
     Ok(())
 }
 
-/// Adds the units with which keys go on from a place.
+/// Adds the units that can come next at a position.
 pub(crate) fn add_units(
     list: &mut Vec<u16>,
     units: ZeroSlice<'_, u16>,

@@ -1,4 +1,4 @@
-//! What an iterator over the entries of a trie has still to go through.
+//! What an iterator over the entries of a trie has not visited yet.
 ghost use Rattle.icu_zerovec.specs.Slice.{slice_values};
 ghost use Rattle.std.specs.Prelude.{◌≡◌, ℕ, ◌^◌, ◌<◌, ◌≤◌, length, List, [], Some, None, Ok, IsSome, IfOk, OnOk, true, false};
 ghost use Rattle.icu_char16trie.specs.Grammar.{Matches};
@@ -12,26 +12,26 @@ use crate::step::value_by;
 use icu_zerovec::{MemoryError, ZeroSlice};
 use std::alloc::{AllocError, Global};
 
-/// A part of a branch that is put off.
+/// A part of a branch that is postponed.
 #[derive(Clone, Copy, Debug)]
 pub(crate) struct BranchPart {
-    /// Where it stands.
+    /// Its index.
     pub place: usize,
-    /// How many entries it has.
+    /// Its number of entries.
     pub count: usize,
     /// The key before the units of its entries.
     pub mark: Mark,
 }
 
-/// What is still to be gone through: a node, and after it the parts that were put off.
+/// What is still to be visited: a node, and after it the postponed parts.
 #[derive(Debug, Drop)]
 pub(crate) struct Pending<'a> {
     pub units: ZeroSlice<'a, u16>,
     /// The key of the node.
     pub spelling: Spelling,
-    /// The place of the node, if there is one.
+    /// The index of the node, if there is one.
     pub node: Option<usize>,
-    /// The parts, the next one last.
+    /// The postponed parts, the next one last.
     pub parts: Vec<BranchPart>,
 }
 
@@ -40,7 +40,7 @@ impl<'a> Pending<'a> {
     ghost use Rattle.icu_char16trie.specs.Inside.Cuts.{IsCut};
     ghost use Rattle.icu_char16trie.specs.Inside.Opening.{IsItemBy, PutsOff, Opens, OpensNode, GoesToNode, Keeps, Finds};
 
-    /// All entries of these units.
+    /// Creates the state in which all entries of these units are pending.
     pub(crate) fn new(alloc: Global, units: ZeroSlice<'a, u16>) -> Self
         ensures entries { (m : UnitMap) → Stands (slice_values units.entry) (Node 0) m
             → IsPending result m }
@@ -55,7 +55,7 @@ impl<'a> Pending<'a> {
         }
     }
 
-    /// Puts a part off, under the key so far.
+    /// Postpones a part, under the key so far.
     #[inline(always)]
     fn put_off(&mut self, place: usize, count: usize) -> Result<(), AllocError>
         ensures { OnOk result (PutsOff self.old place count self.new) }
@@ -65,7 +65,7 @@ impl<'a> Pending<'a> {
         Ok(())
     }
 
-    /// Goes to the first node of a part of at most five entries, and puts the others off.
+    /// Moves to the first node of a row of at most five entries, and postpones the rest.
     #[inline(always)]
     fn enter_row(&mut self, place: usize, count: usize) -> Result<(), AllocError>
         requires node { self.old.node ≡ None }
@@ -93,7 +93,7 @@ impl<'a> Pending<'a> {
         Ok(())
     }
 
-    /// Goes to the first node of a part, and puts the others off.
+    /// Moves to the first node of a part, and postpones the rest.
     fn enter_part(&mut self, place: usize, count: usize) -> Result<(), AllocError>
         requires { self.old.node ≡ None }
         ensures { OnOk result (Opens self.old place
@@ -118,7 +118,7 @@ impl<'a> Pending<'a> {
         Ok(())
     }
 
-    /// Goes to the node after a linear match.
+    /// Moves to the node after a linear match.
     #[inline(always)]
     pub(crate) fn pass_run(&mut self, place: usize, count: usize) -> Result<(), AllocError>
         requires node { self.old.node ≡ None }
@@ -136,8 +136,8 @@ impl<'a> Pending<'a> {
         Ok(())
     }
 
-    /// Goes to the first node after a match node, by its low six bits; `place` is after its lead
-    /// and its value.
+    /// Moves to the first node after a match node. `low` is the low six bits of its lead unit, and
+    /// `place` is the index after the lead and its value.
     pub(crate) fn open_match(&mut self, place: usize, low: u16) -> Result<(), AllocError>
         requires node { self.old.node ≡ None }
         requires place { place < 2 ^ 63 }
@@ -160,7 +160,7 @@ impl<'a> Pending<'a> {
         Ok(())
     }
 
-    /// The item at a lead unit before `place`, if there is a value.
+    /// Returns the item of the node whose lead unit is before `place`, if the node has a value.
     #[inline(always)]
     fn item_by(
         &self,
@@ -178,7 +178,7 @@ impl<'a> Pending<'a> {
         Ok(Some((text, value)))
     }
 
-    /// Opens the node: gives its item, if it has a value, and goes to the first node after it.
+    /// Opens the node: returns its item, if it has a value, and moves to the first node after it.
     fn open_node(&mut self, alloc: Global) -> Result<Option<(String, i32)>, AllocError>
         ensures { IfOk result (λ item. OpensNode self.old item self.new) }
     {
@@ -196,8 +196,8 @@ impl<'a> Pending<'a> {
         Ok(item)
     }
 
-    /// Goes to the next node, by the next part where there is none: whether anything was left. A
-    /// part of a trie leads to a node.
+    /// Moves to the next node: the current one, or else the first node of the next part. Returns
+    /// false if nothing was left. In a trie every part leads to a node.
     pub(crate) fn go_to_node(&mut self) -> Result<bool, AllocError>
         requires { IsCut self.old }
         ensures done { IsOver self.old → result ≡ Ok false }
@@ -216,8 +216,8 @@ impl<'a> Pending<'a> {
         Ok(true)
     }
 
-    /// The next item. It opens at most as many nodes as there are units, and then nothing is left:
-    /// a node of a trie that has no item leads to a later one.
+    /// Returns the next item. Opens at most as many nodes as there are units, and then nothing is
+    /// left: in a trie a node without an item leads to a later node.
     fn find_item(&mut self, alloc: Global) -> Result<Option<(String, i32)>, AllocError>
         requires { IsCut self.old }
         ensures done { IsOver self.old → result ≡ Ok None }
@@ -236,7 +236,7 @@ impl<'a> Pending<'a> {
         Ok(None)
     }
 
-    /// The next item, or want of memory, after which nothing is left.
+    /// Returns the next item, or an `Err` if an allocation fails. After an `Err` nothing is left.
     pub(crate) fn next_item(&mut self, alloc: Global) -> Option<Result<(String, i32), MemoryError>>
         requires { IsCut self.old }
         ensures cuts { IsCut self.new }

@@ -8,31 +8,31 @@ ghost use Rattle.icu_char16trie.specs.LossyText.{key_text};
 use icu_zerovec::ZeroSlice;
 use std::alloc::{AllocError, Global};
 
-/// The first unit of a pair of surrogates.
+/// A lead surrogate, the first unit of a surrogate pair.
 #[derive(Clone, Copy, Debug)]
 pub(crate) struct LeadSurrogate {
     pub unit: u16,
     ghost in_range: { (0xD800 ≤ unit) × (unit < 0xDC00) },
 }
 
-/// Where a spelling is to be cut back to.
+/// A point to which a spelling can be cut back.
 #[derive(Clone, Copy, Debug)]
 pub(crate) struct Mark {
-    /// How many bytes of the text stay.
+    /// The length of the text at that point, in bytes.
     pub len: usize,
-    /// The unit that was held there.
+    /// The lead surrogate that was held at that point.
     pub held: Option<LeadSurrogate>,
 }
 
-/// The text of a key whose units come one after another. A lead surrogate is held until the next
-/// unit says whether they are a pair.
+/// The text of a key whose units come one by one. A lead surrogate is held until the next unit
+/// shows whether the two are a pair.
 #[derive(Debug, Drop)]
 pub(crate) struct Spelling {
     pub text: String,
     pub held: Option<LeadSurrogate>,
 }
 
-/// The unit, if it is the first of a pair.
+/// Returns the unit if it is a lead surrogate.
 #[inline(always)]
 fn lead_surrogate(unit: u16) -> Option<LeadSurrogate>
     ensures { MatchOption result (unit < 0xD800 ⊎ 0xDC00 ≤ unit) (λ lead. lead.unit ≡ unit) }
@@ -43,7 +43,7 @@ fn lead_surrogate(unit: u16) -> Option<LeadSurrogate>
     Some(LeadSurrogate { unit })
 }
 
-/// The character of a unit that is in no pair.
+/// Returns the character of a unit that is in no pair: U+FFFD for a surrogate.
 #[inline(always)]
 fn lone_char(unit: u16) -> char
     ensures { result ≡ unwrap_or (lone_unit_char unit) 0xFFFD }
@@ -51,7 +51,7 @@ fn lone_char(unit: u16) -> char
     char::from_u32(u32::from(unit)).unwrap_or(char::REPLACEMENT_CHARACTER)
 }
 
-/// The character of a lead surrogate and the unit after it, if they are a pair.
+/// Returns the character of a lead surrogate and the unit after it, if they are a pair.
 #[inline(always)]
 fn pair_char(lead: LeadSurrogate, unit: u16) -> Option<char>
     ensures { MatchOption result (unit < 0xDC00 ⊎ 0xE000 ≤ unit)
@@ -67,7 +67,7 @@ impl Spelling {
     ghost use Rattle.icu_char16trie.specs.Pending.{Spells};
     ghost use Rattle.icu_char16trie.specs.Inside.Opening.{SpellsOn};
 
-    /// The spelling of the empty key.
+    /// Creates the spelling of the empty key.
     pub(crate) fn new(alloc: Global) -> Self
         ensures text { string_bytes result.text ≡ [] }
         ensures held { result.held ≡ None }
@@ -78,7 +78,7 @@ impl Spelling {
         }
     }
 
-    /// One more unit, where none is held.
+    /// Appends a unit when no lead surrogate is held.
     #[inline(always)]
     fn push_next(&mut self, unit: u16) -> Result<(), AllocError>
         requires { self.old.held ≡ None }
@@ -92,7 +92,7 @@ impl Spelling {
         Ok(())
     }
 
-    /// One more unit after a lead surrogate that is held.
+    /// Appends a unit after a held lead surrogate.
     #[inline(never)]
     fn push_after(&mut self, lead: LeadSurrogate, unit: u16) -> Result<(), AllocError>
         requires { self.old.held ≡ Some lead }
@@ -108,7 +108,7 @@ impl Spelling {
         Ok(())
     }
 
-    /// One more unit.
+    /// Appends a unit.
     #[inline(always)]
     pub(crate) fn push(&mut self, unit: u16) -> Result<(), AllocError>
         ensures { OnOk result (SpellsOn self.old (unit ∷ []) self.new) }
@@ -121,7 +121,7 @@ impl Spelling {
         Ok(())
     }
 
-    /// So many units more.
+    /// Appends the `count` units at `place`.
     pub(crate) fn push_run(
         &mut self,
         units: ZeroSlice<'_, u16>,
@@ -142,7 +142,7 @@ impl Spelling {
         Ok(())
     }
 
-    /// Where the spelling is now.
+    /// Returns a mark of the current state.
     pub(crate) fn mark(&self) -> Mark
         ensures len { result.len ≡ length (string_bytes self.now.text) }
         ensures held { result.held ≡ self.now.held }
@@ -153,7 +153,7 @@ impl Spelling {
         }
     }
 
-    /// The spelling is what it was at the mark.
+    /// Cuts the spelling back to what it was at the mark.
     pub(crate) fn cut_to(&mut self, mark: Mark)
         requires { IsCharBoundary (string_bytes self.old.text) mark.len }
         ensures text { string_bytes self.new.text ≡ take mark.len (string_bytes self.old.text) }
@@ -163,7 +163,7 @@ impl Spelling {
         self.held = mark.held;
     }
 
-    /// The text of the key: a unit that is held is a lone surrogate.
+    /// Returns the text of the key. A held unit counts as a lone surrogate.
     pub(crate) fn key_text(&self, alloc: Global) -> Result<String, AllocError>
         ensures { IfOk result (λ text. (key : List ℕ)
             → Spells (string_bytes self.now.text) self.now.held key

@@ -1,4 +1,4 @@
-//! A step of a cursor, and what stands where it is.
+//! Steps of a cursor, and the value at a position.
 ghost use Rattle.icu_zerovec.specs.Slice.{slice_values};
 ghost use Rattle.std.specs.Prelude.{◌≡◌, ℕ, ℤ, ◌+◌, ◌*◌, ◌^◌, ◌<◌, ◌≤◌, slice_get, length, List, [], not, IfSome, Option, None};
 ghost use Rattle.icu_char16trie.specs.Grammar.{Arms, Holds, Matches, Part, IsAscending, Children};
@@ -12,7 +12,7 @@ use crate::encoded::{node_end, node_number, short_number, unit_at};
 use crate::place::Place;
 use icu_zerovec::ZeroSlice;
 
-/// The place after the first unit of a run of `left + 1` units.
+/// Returns the position after the unit `unit` in a linear match that has `left + 1` units left.
 #[inline(always)]
 fn step_in_run(units: ZeroSlice<'_, u16>, place: usize, left: u8, unit: u16) -> Place
     requires { place < 2 ^ 63 }
@@ -34,7 +34,7 @@ fn step_in_run(units: ZeroSlice<'_, u16>, place: usize, left: u8, unit: u16) -> 
     }
 }
 
-/// The place after a unit at a branch of so many entries.
+/// Returns the position after the unit `unit` at a branch with `length` entries.
 #[inline(always)]
 fn step_in_branch(units: ZeroSlice<'_, u16>, place: usize, length: usize, unit: u16) -> Place
     requires { place < 2 ^ 63 }
@@ -52,8 +52,8 @@ fn step_in_branch(units: ZeroSlice<'_, u16>, place: usize, length: usize, unit: 
     }
 }
 
-/// The place after a unit at a match node, by its low six bits; `place` is after its lead and its
-/// value.
+/// Returns the position after the unit `unit` at a match node. `low` is the low six bits of its
+/// lead unit, and `place` is the index after the lead and its value.
 #[inline(always)]
 fn step_in_match(units: ZeroSlice<'_, u16>, place: usize, low: u16, unit: u16) -> Place
     requires place { place < 2 ^ 63 }
@@ -75,7 +75,7 @@ fn step_in_match(units: ZeroSlice<'_, u16>, place: usize, low: u16, unit: u16) -
     }
 }
 
-/// The place after a unit at a node.
+/// Returns the position after the unit `unit` at a node.
 #[inline(always)]
 fn step_in_node(units: ZeroSlice<'_, u16>, place: usize, unit: u16) -> Place
     requires { place < 2 ^ 63 }
@@ -97,7 +97,7 @@ fn step_in_node(units: ZeroSlice<'_, u16>, place: usize, unit: u16) -> Place
     step_in_match(units, node_end(place + 1, lead), lead % 64, unit)
 }
 
-/// The place after one more unit.
+/// Returns the position after one more unit.
 #[inline(always)]
 pub(crate) fn step(units: ZeroSlice<'_, u16>, place: Place, unit: u16) -> Place
     requires { IsNear place }
@@ -114,7 +114,8 @@ pub(crate) fn step(units: ZeroSlice<'_, u16>, place: Place, unit: u16) -> Place
     }
 }
 
-/// The value that stands at a lead unit before `place`, 0 if it is cut off.
+/// Returns the value of the node whose lead unit is before `place`. It is 0 if some of its units
+/// are missing.
 #[inline(always)]
 pub(crate) fn value_by(units: ZeroSlice<'_, u16>, place: usize, lead: u16) -> Option<i32>
     ensures { result ≡ value_by (slice_values units.entry) place lead }
@@ -132,7 +133,7 @@ pub(crate) fn value_by(units: ZeroSlice<'_, u16>, place: usize, lead: u16) -> Op
     }
 }
 
-/// The value at a place.
+/// Returns the value at a position.
 #[inline(always)]
 pub(crate) fn value_at(units: ZeroSlice<'_, u16>, place: Place) -> Option<i32>
     requires { IsNear place }
@@ -147,7 +148,7 @@ pub(crate) fn value_at(units: ZeroSlice<'_, u16>, place: Place) -> Option<i32>
     }
 }
 
-/// Whether nothing can match from a place on.
+/// Returns true if no unit can match at a position.
 pub(crate) fn is_empty_at(units: ZeroSlice<'_, u16>, place: Place) -> bool
     ensures { result ≡ is_empty_at (slice_values units.entry) place }
 {

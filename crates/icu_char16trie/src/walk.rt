@@ -1,4 +1,4 @@
-//! The walk of a listing from one entry of a trie to the next.
+//! How a listing walks from one entry of a trie to the next.
 ghost use Rattle.icu_zerovec.specs.Slice.{slice_values};
 ghost use Rattle.std.specs.Prelude.{◌≡◌, ◌<◌, List, [], pos, Ok, IfOk, OnOk, true, false};
 ghost use Rattle.icu_char16trie.specs.UnitMap.{UnitMap};
@@ -14,13 +14,13 @@ use std::alloc::{AllocError, Global};
 /// A walk over the entries of a trie: the entry that it reached last, and what is still to come.
 #[derive(Debug, Drop)]
 pub(crate) struct Walk<'a> {
-    /// The key of the entry as it is spelled, and the parts that were put off.
+    /// The key of the entry as it is spelled, and the postponed parts.
     pub pending: Pending<'a>,
     /// What comes next under that key, before the parts.
     pub front: Front,
     /// The value of the entry.
     pub value: i32,
-    /// The text of the key, where it ends in a lead surrogate.
+    /// The text of the key, if it ends in a lead surrogate.
     pub ended: String,
 }
 
@@ -28,7 +28,7 @@ impl<'a> Walk<'a> {
     ghost use Rattle.icu_char16trie.specs.Walk.{WalkGives, walk_text, IsWalked, TellsNext, AnswersEnd, IsValueOfNode, walk_work};
     ghost use Rattle.icu_char16trie.specs.Inside.Walking.{EndsKey, FindsEntry, IsSound};
 
-    /// The walk over what stands at a place.
+    /// Creates the walk over the entries from a position.
     pub(crate) fn new(alloc: Global, units: ZeroSlice<'a, u16>, place: Place) -> Self
         requires { IsNear place }
         ensures entries { (m : UnitMap) → Stands (slice_values units.entry) place m
@@ -52,7 +52,7 @@ impl<'a> Walk<'a> {
         }
     }
 
-    /// The text of the key.
+    /// Returns the text of the key.
     #[inline]
     pub(crate) fn text(&self) -> &str
         ensures { result.now ≡ walk_text self.now }
@@ -63,7 +63,7 @@ impl<'a> Walk<'a> {
         }
     }
 
-    /// Writes the text of the key, where it ends in a lead surrogate: with U+FFFD for that.
+    /// If the key ends in a lead surrogate, writes its text with U+FFFD instead.
     #[inline(always)]
     fn end_key(&mut self) -> Result<(), AllocError>
         ensures { OnOk result (EndsKey self.old self.new) }
@@ -77,8 +77,8 @@ impl<'a> Walk<'a> {
         Ok(())
     }
 
-    /// Goes to the next entry, if there is one. It reads at most as many nodes as there are units:
-    /// a node of a trie that has no value leads to a later one.
+    /// Moves to the next entry and returns true, or returns false if there is none. Reads at most
+    /// as many nodes as there are units: in a trie a node without a value leads to a later node.
     fn find_entry(&mut self) -> Result<bool, AllocError>
         requires { IsSound self.old }
         ensures done { IsWalked self.old → result ≡ Ok false }
@@ -102,7 +102,7 @@ impl<'a> Walk<'a> {
         Ok(false)
     }
 
-    /// Nothing is left, and no entry is told.
+    /// Ends the walk: nothing is left, the text is empty and the value is 0.
     fn end(&mut self)
         ensures walked { IsWalked self.new }
         ensures text { walk_text self.new ≡ [] }
@@ -117,7 +117,7 @@ impl<'a> Walk<'a> {
         self.value = 0;
     }
 
-    /// Goes to the next entry, if there is one. After anything else nothing is left.
+    /// Moves to the next entry and returns true. In all other cases nothing is left.
     pub(crate) fn next_entry(&mut self) -> Result<bool, MemoryError>
         requires { IsSound self.old }
         ensures tells { (m : UnitMap) → WalkGives self.old m → TellsNext m result self.new }

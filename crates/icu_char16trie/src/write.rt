@@ -1,4 +1,4 @@
-//! A cursor takes the units of a text that is written to it.
+//! Looks up text that is written to a cursor.
 ghost use Rattle.std.specs.Prelude.{◌≡◌, Ok, IsOk};
 ghost use Rattle.std.specs.Char.Escape.{encode_utf16};
 ghost use Rattle.std.specs.List.{flat_map};
@@ -8,7 +8,7 @@ ghost use Rattle.icu_char16trie.specs.Passed.{Passes};
 use crate::cursor::Char16TrieCursor;
 use std::fmt;
 
-/// What is written is looked up: its units in UTF-16 are passed, and every write answers `Ok`.
+/// Advances the cursor by the UTF-16 units of the written text. Every write returns `Ok`.
 impl<'a> fmt::Write for Char16TrieCursor<'a> {
     ghost write_str_gives = { λ old bytes new. Passes old
         (flat_map encode_utf16 (chars bytes)) new };

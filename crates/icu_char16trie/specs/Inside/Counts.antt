@@ -1,20 +1,20 @@
--- How many entries the nodes of a trie have, counted from the last node to the root.
+-- The number of entries of the nodes of a trie, counted from the last node to the root.
 use Rattle.std.specs.Prelude.{◌≡◌, ℕ, ◌+◌, ◌-◌, ◌%◌, ◌<◌, ◌≤◌, Bool, List, [], ◌∷◌, Some, ⊤, length, min, slice_get, slice_index}
 use Rattle.icu_char16trie.specs.Numbers.{node_end}
 use Rattle.icu_char16trie.specs.Grammar.{Arms, Holds, Part, branch_len, branch_start}
 use Rattle.icu_char16trie.specs.UnitMap.{UnitMap}
 use Rattle.icu_char16trie.specs.Inside.Soundness.{AllBetween, IsWanted, places_of}
 
--- what a number of 64 bits tells of a number
+-- A number as a saturated 64-bit count.
 abbrev pub capped : ℕ → ℕ
 capped n = min n 0xFFFF_FFFF_FFFF_FFFF
 
--- the sum of the counts at these places
+-- The sum of the counts at these indices.
 abbrev pub sum_at : List ℕ → List ℕ → ℕ
 sum_at counts [] = 0
 sum_at counts (q ∷ places) = slice_index counts q + sum_at counts places
 
--- the match node with these low six bits leads to the nodes at these places
+-- The match node with these low six bits leads to the nodes at these indices.
 pub data MatchKids (units : List ℕ) : ℕ → ℕ → List ℕ → Type 0 where
   after_run : (p low : ℕ) (kids : List ℕ) → 0x30 ≤ low → kids ≡ (p + (low - 0x2f)) ∷ []
       → MatchKids units p low kids
@@ -23,7 +23,7 @@ pub data MatchKids (units : List ℕ) : ℕ → ℕ → List ℕ → Type 0 wher
       → Part units (branch_start p low) (n + 1) arms → kids ≡ places_of arms
       → MatchKids units p low kids
 
--- the node at p has so many values of its own, none or one, and leads to the nodes at these places
+-- The node at p has `own` values of its own, 0 or 1, and leads to the nodes at these indices.
 pub data NodeKids (units : List ℕ) : ℕ → ℕ → List ℕ → Type 0 where
   no_kids : (p lead own : ℕ) (kids : List ℕ) → slice_get units p ≡ Some lead → 0x8000 ≤ lead
       → own ≡ 1 → kids ≡ [] → NodeKids units p own kids
@@ -33,26 +33,26 @@ pub data NodeKids (units : List ℕ) : ℕ → ℕ → List ℕ → Type 0 where
       → lead < 0x8000 → own ≡ 1 → MatchKids units (node_end (p + 1) lead) (lead % 64) kids
       → NodeKids units p own kids
 
--- it leads to the nodes at these places
+-- The node at p leads to the nodes at these indices.
 abbrev pub NodeLeadsTo : List ℕ → ℕ → List ℕ → Type 0
 NodeLeadsTo units p kids = (own : ℕ) × NodeKids units p own kids
 
--- the count at q is that of the entries of its node
+-- The count at q is the number of entries of the node at q.
 abbrev pub IsCounted : List ℕ → List ℕ → ℕ → Type 0
 IsCounted units counts q =
     (m : UnitMap) → Holds units q m → slice_index counts q ≡ capped (length m)
 
--- so is each of these
+-- IsCounted holds at each of these indices.
 abbrev pub AllCounted : List ℕ → List ℕ → List ℕ → Type 0
 AllCounted units counts [] = ⊤
 AllCounted units counts (q ∷ places) = IsCounted units counts q × AllCounted units counts places
 
--- nodes are wanted at these places
+-- Each of these indices is marked.
 abbrev pub AllWanted : List Bool → List ℕ → Type 0
 AllWanted wanted [] = ⊤
 AllWanted wanted (q ∷ places) = IsWanted wanted q × AllWanted wanted places
 
--- where a node is wanted at q, the nodes that it leads to are wanted too
+-- There is a node at q, and all nodes that it leads to are after q and marked.
 pub record LeadsToWanted (units : List ℕ) (wanted : List Bool) (q : ℕ) : Type 0 where
   pub own : ℕ
   pub kids : List ℕ
@@ -60,6 +60,6 @@ pub record LeadsToWanted (units : List ℕ) (wanted : List Bool) (q : ℕ) : Typ
   pub ahead : AllBetween q (length units) kids
   pub all : AllWanted wanted kids
 
--- and so from each place below p on
+-- LeadsToWanted holds at each marked index below p.
 abbrev pub IsClosed : List ℕ → List Bool → ℕ → Type 0
 IsClosed units wanted p = (q : ℕ) → q < p → IsWanted wanted q → LeadsToWanted units wanted q

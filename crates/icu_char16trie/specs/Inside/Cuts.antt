@@ -6,21 +6,22 @@ use Rattle.std.specs.Str.{IsCharBoundary}
 use Rattle.icu_char16trie.specs.declared.pending.BranchPart.{BranchPart}
 use Rattle.icu_char16trie.specs.declared.pending.Pending.{Pending}
 
--- the text may be cut at the mark of each part, one after another
+-- The text may be cut at the mark of each part, one after another.
 abbrev pub AreCuts : List ℕ → List BranchPart → Type 0
 AreCuts text [] = ⊤
 AreCuts text (part ∷ parts) =
     IsCharBoundary text part.mark.len × AreCuts (take part.mark.len text) parts
 
--- the marks of the parts are places where the text of the key may be cut
+-- The mark of each postponed part is a character boundary of the key's text.
 abbrev pub IsCut : Pending → Type 0
 IsCut s = AreCuts (string_bytes s.spelling.text) (reverse s.parts.items)
 
--- which can be shown in one way only, as a field wants
+-- AreCuts is a proposition, which a ghost field requires.
 AreCuts-prop : (text : List ℕ) (parts : List BranchPart) → IsProp (AreCuts text parts)
 AreCuts-prop text [] = Unit-prop
 AreCuts-prop text (part ∷ parts) =
     ×_prop (hlevel props) (AreCuts-prop (take part.mark.len text) parts)
 
+-- IsCut is a proposition, which a ghost field requires.
 pub IsCut-prop : (s : Pending) → IsProp (IsCut s)
 IsCut-prop s = AreCuts-prop (string_bytes s.spelling.text) (reverse s.parts.items)

@@ -18,32 +18,32 @@ use Rattle.icu_char16trie.specs.declared.place.Place.{Place}
 use Rattle.icu_char16trie.specs.declared.place.Place.TheVariants.{Nowhere, Node, Run}
 use Rattle.icu_char16trie.specs.declared.walk.Walk.{Walk}
 
--- a front from which counting on never wraps
+-- Adding to the index of this front never wraps.
 abbrev pub IsNearFront : Front → Type 0
 IsNearFront (At place) = IsNear place
 IsNearFront (Match p low) = (p < 2 ^ 63) × (low < 0x40)
 
--- the text of the key may be cut at the marks, and counting on never wraps
+-- The text of the key may be cut at the marks, and adding to an index never wraps.
 abbrev pub IsSound : Walk → Type 0
 IsSound s = IsCut s.pending × IsNearFront s.front
 
--- what comes after the value of a node, by its lead unit before p
+-- What comes after the value of a node whose lead unit is before p.
 abbrev pub below : ℕ → ℕ → Front
 below p lead =
     if nat_le 0x8000 lead then At Nowhere else Match (node_end p lead) (lead % 64)
 
--- the entry of a node's own value
+-- The entry of a node's own value.
 abbrev pub own : Option ℤ → UnitMap
 own None = []
 own (Some v) = ([], v) ∷ []
 
--- k nodes of a trie were read, and had no value: what comes next is a match node at k or behind, or
--- nothing after none at all
+-- k nodes of a trie were read and had no value. What comes next is a match node at index k or
+-- later. If the lead unit of the first node is missing, nothing comes next (k = 1).
 abbrev pub IsPastFront : ℕ → Front → Type 0
 IsPastFront k (At place) = (k ≡ 1) × (place ≡ Nowhere)
 IsPastFront k (Match p low) = k ≤ p
 
--- what comes next is opened: what was still to come is pending
+-- What comes next is opened: what was still to come is pending.
 pub record OpensFront (old : Pending) (front : Front) (new : Pending) : Type 0 where
   pub units : new.units ≡ old.units
   pub entries : (m : UnitMap) → GivesFrom old front m → IsPending new m
@@ -52,8 +52,8 @@ pub record OpensFront (old : Pending) (front : Front) (new : Pending) : Type 0 w
   pub work : work_left new ≤ work_from old front
   pub over : front ≡ At Nowhere → old.parts.items ≡ [] → IsOver new
 
--- the value of a node is that of the first of the entries m; where it has none, all are to come
--- still
+-- If a node has a value, it is that of the first of the entries m. If it has none, all of them are
+-- still to come.
 abbrev pub TellsNode : UnitMap → Option ℤ → Front → Pending → Type 0
 TellsNode m None front t = GivesFrom t front m
 TellsNode m (Some v) front t =
@@ -61,7 +61,7 @@ TellsNode m (Some v) front t =
     × Spells (bytes_of t.spelling) t.spelling.held key
     × GivesFrom t front rest
 
--- the node is read: what was pending is still to come
+-- The node is read: what was pending is still to come.
 pub record ReadsNode (old : Pending) (front : Front) (value : Option ℤ) (new : Pending)
     : Type 0 where
   pub units : new.units ≡ old.units
@@ -73,7 +73,7 @@ pub record ReadsNode (old : Pending) (front : Front) (value : Option ℤ) (new :
   pub work : MatchOption value (work_from new front ≤ work_left old)
       (λ v. work_from new front < work_left old)
 
--- what a walk had still to give is pending
+-- What a walk had left is pending.
 pub record IsOpened (old : Walk) (new : Pending) : Type 0 where
   pub units : new.units ≡ old.pending.units
   pub entries : (m : UnitMap) → WalkGives old m → IsPending new m
@@ -81,7 +81,7 @@ pub record IsOpened (old : Walk) (new : Pending) : Type 0 where
   pub work : work_left new ≤ walk_work old
   pub over : IsWalked old → IsOver new
 
--- the text of the key is there
+-- The text of the key is complete.
 pub record EndsKey (old new : Walk) : Type 0 where
   pub pending : new.pending ≡ old.pending
   pub front : new.front ≡ old.front
@@ -90,11 +90,12 @@ pub record EndsKey (old new : Walk) : Type 0 where
       → Spells (bytes_of old.pending.spelling) old.pending.spelling.held key
       → walk_text new ≡ key_text key
 
--- the next entry was reached, or there is none
+-- The next entry was reached, or there is none.
 abbrev pub TellsEntry : UnitMap → Bool → Walk → Type 0
 TellsEntry m true t = Reaches m t
 TellsEntry m false t = m ≡ []
 
+-- The next entry was searched: it was reached, or there is none.
 pub record FindsEntry (old : Walk) (found : Bool) (new : Walk) : Type 0 where
   pub units : new.pending.units ≡ old.pending.units
   pub entries : (m : UnitMap) → WalkGives old m → TellsEntry m found new
@@ -102,7 +103,7 @@ pub record FindsEntry (old : Walk) (found : Bool) (new : Walk) : Type 0 where
   pub sound : found ≡ true → IsSound new
   pub work : found ≡ true → walk_work new < walk_work old
 
--- a walk is sound in one way only, as a field wants
+-- IsNear and IsSound are propositions, which a ghost field requires.
 IsNear-prop : (place : Place) → IsProp (IsNear place)
 IsNear-prop Nowhere = Unit-prop
 IsNear-prop (Node p) = hlevel props
@@ -112,5 +113,6 @@ IsNearFront-prop : (front : Front) → IsProp (IsNearFront front)
 IsNearFront-prop (At place) = IsNear-prop place
 IsNearFront-prop (Match p low) = ×_prop (hlevel props) (hlevel props)
 
+-- IsSound is a proposition.
 pub IsSound-prop : (s : Walk) → IsProp (IsSound s)
 IsSound-prop s = ×_prop (IsCut-prop s.pending) (IsNearFront-prop s.front)

@@ -3,7 +3,7 @@ use Rattle.std.proofs.Common.{ℕ, ◌^◌, ◌<◌, Option}
 use Rattle.icu_char16trie.specs.Steps.{InPart}
 use Rattle.icu_char16trie.proofs.branch.child_in_part.Given as goal
 
--- where the smaller part leads, the whole one leads
+-- If the smaller part leads to a node, the whole one leads to it too.
 abbrev pub invariant-loop-left : goal.invariant-loop-left
 invariant-loop-left l = record {
   near : l.place < 2 ^ 63;

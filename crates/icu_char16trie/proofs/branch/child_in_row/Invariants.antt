@@ -3,7 +3,7 @@ use Rattle.std.proofs.Common.{ℕ, ◌^◌, ◌<◌, Option}
 use Rattle.icu_char16trie.specs.Steps.{InRow}
 use Rattle.icu_char16trie.proofs.branch.child_in_row.Given as goal
 
--- where the entries that are left lead, the row leads
+-- If the entries that are left lead to a node, the row leads to it too.
 abbrev pub invariant-loop-left : goal.invariant-loop-left
 invariant-loop-left l = record {
   near : l.place < 2 ^ 63;

@@ -3,7 +3,7 @@ use Rattle.std.proofs.Common.{ℕ, ◌^◌, ◌<◌, ◌≤◌, Option}
 use Rattle.icu_char16trie.proofs.CountLemmas.{CountsFrom, CountsPart}
 use Rattle.icu_char16trie.proofs.counted.count_row.Given as goal
 
--- what is counted at the entries that are left, with what was counted before, is counted at the row
+-- The count so far and the count of the entries that are left make the count of the row.
 abbrev pub invariant-loop-left : goal.invariant-loop-left
 invariant-loop-left l = record {
   near : l.place < 2 ^ 63;

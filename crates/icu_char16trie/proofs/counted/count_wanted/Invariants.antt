@@ -4,7 +4,7 @@ use Rattle.icu_char16trie.specs.Inside.Counts.{IsCounted}
 use Rattle.icu_char16trie.specs.Inside.Soundness.{IsWanted}
 use Rattle.icu_char16trie.proofs.counted.count_wanted.Given as goal
 
--- the entries of each node that is wanted from here on are counted
+-- The entries of each marked node from here on are counted.
 abbrev pub invariant-loop-place : goal.invariant-loop-place
 invariant-loop-place l = record {
   within : l.place ≤ length (slice_values l.units);

@@ -5,7 +5,7 @@ use Rattle.serde_json.specs.Data.{number, unsigned}
 use Rattle.serde_json.specs.View.{view}
 use Rattle.icu_char16trie.proofs.json.object_of.Given as goal
 
--- the items are the units so far, which are units
+-- The items are the units so far, each below 2^16.
 abbrev pub invariant-loop-unit : goal.invariant-loop-unit
 invariant-loop-unit l = record {
   items : map view l.items.items ≡ map (λ u. number (unsigned u)) l.yielded;

@@ -3,7 +3,7 @@ use Rattle.std.proofs.Common.{◌≡◌, ℕ, ◌<◌, ◌^◌, List, ◌++◌}
 use Rattle.icu_char16trie.specs.NextUnits.{RowUnits}
 use Rattle.icu_char16trie.proofs.next_units.add_row.Given as goal
 
--- the units so far, and then those of the rest of the row, are those of the row
+-- The units so far, followed by those of the rest of the row, are the units of the row.
 abbrev pub invariant-loop-left : goal.invariant-loop-left
 invariant-loop-left l = record {
   near : l.place < 2 ^ 63;

@@ -3,7 +3,7 @@ use Rattle.std.proofs.Common.{ℕ, ◌^◌, ◌<◌, ◌≤◌, List, Bool}
 use Rattle.icu_char16trie.specs.Inside.Soundness.{PartWalked, IsNoPart}
 use Rattle.icu_char16trie.proofs.soundness.check_row.Given as goal
 
--- where the entries that are left are gone through, the row is, and where they are refused it is too
+-- If the entries that are left are visited, so is the row; if they are rejected, so is the row.
 abbrev pub invariant-loop-left : goal.invariant-loop-left
 invariant-loop-left l = record {
   near : l.place < 2 ^ 63;

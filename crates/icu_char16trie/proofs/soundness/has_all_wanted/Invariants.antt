@@ -4,7 +4,8 @@ use Rattle.icu_char16trie.specs.Inside.Counts.{IsClosed}
 use Rattle.icu_char16trie.specs.Inside.Soundness.{AllWantedHave, IsWanted}
 use Rattle.icu_char16trie.proofs.soundness.has_all_wanted.Given as goal
 
--- nodes stand where they were wanted at first exactly if they stand where they are wanted from here
+-- There are nodes at the indices marked at first exactly if there are nodes at those marked from
+-- here on.
 abbrev pub invariant-loop-place : goal.invariant-loop-place
 invariant-loop-place l = record {
   told : AllWantedHave (slice_values l.units) l.wanted l.place ↔ AllWantedHave (slice_values l.units) l.fn.wanted 0;

@@ -8,7 +8,7 @@ use Rattle.icu_char16trie.proofs.MatchLemmas.{first_left}
 use Rattle.icu_char16trie.proofs.matches.MatchesIterator.next.Goals as goal
 use Rattle.icu_char16trie.proofs.matches.MatchesIterator.next.Goals.{After-go_on}
 
--- the match at the front that is told comes first, and those at the longer fronts are left
+-- The match at the reported prefix comes first, and those at the longer prefixes are left.
 front_told : (c : After-go_on) (m : UnitMap) (xs : List (ℕ × ℤ)) → AreLeft c.args.self.now m xs
     → (rest : List (ℕ × ℤ)) × (xs ≡ match_at c.in-Some.length c.value-value.result ++ rest) × AreLeft c.go_on.new.self m rest
 front_told c m xs are =

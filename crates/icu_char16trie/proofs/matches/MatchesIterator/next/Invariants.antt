@@ -3,7 +3,7 @@ use Rattle.icu_char16trie.specs.UnitMap.{UnitMap}
 use Rattle.icu_char16trie.specs.MatchesLeft.{AreLeft, fronts_left}
 use Rattle.icu_char16trie.proofs.matches.MatchesIterator.next.Given as goal
 
--- what was left at first is left still
+-- What was left at first is still left.
 abbrev pub invariant-loop-self : goal.invariant-loop-self
 invariant-loop-self l = record {
   left : (m : UnitMap) (xs : List (ℕ × ℤ)) → AreLeft l.fn.self m xs → AreLeft l.self m xs;

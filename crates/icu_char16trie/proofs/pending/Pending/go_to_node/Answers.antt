@@ -2,7 +2,7 @@ use Rattle.std.proofs.Common.{refl, sym, ◌∙◌}
 use Rattle.icu_char16trie.proofs.NextLemmas.{TakesPart, is_nothing, part_keeps, part_leads}
 use Rattle.icu_char16trie.proofs.pending.Pending.go_to_node.Goals as goal
 
--- the last part is taken off, and the text is cut back to its mark
+-- The last part is taken off, and the text is cut back to its mark.
 takes : (c : goal.In_ok-enter_part)
     → TakesPart c.args.self.now c.in-Some.part
     (record { units = c.args.self.now.units; spelling = c.cut_to.new.self; node = c.args.self.now.node; parts = c.pop.new.self })

@@ -7,7 +7,7 @@ use Rattle.icu_char16trie.proofs.SpellingLemmas.{on_nothing, on_then}
 use Rattle.icu_char16trie.proofs.spelling.Spelling.push_run.Goals as goal
 use Rattle.icu_char16trie.proofs.spelling.Spelling.push_run.Goals.{in-Some+in_ok-push, in_default}
 
--- one more of the units
+-- One more of the units.
 one_more : (units : List ℕ) (p i x : ℕ) → slice_get units (p + i) ≡ Some x → take i (drop p units) ++ x ∷ [] ≡ take (i + 1) (drop p units)
 one_more units p i x g =
     let here : p + i < length units = slice_get_within units (p + i) x g in

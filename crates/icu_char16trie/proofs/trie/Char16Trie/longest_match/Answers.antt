@@ -45,7 +45,7 @@ pub returns-in_default-pass_match-clause-longest : goal.returns-in_default-pass_
 returns-in_default-pass_match-clause-longest c =
     λ m trie. stepped_is_longest c.args.self.now m c.args.text.now _ _ trie (returns-in_default-pass_match-clause-exact c)
 
--- the text goes on to the next node
+-- The text continues to the next node.
 leads_on : (c : goal.In-Some-pass_match)
     → LeadsToNode (slice_values c.as_slice-units.result) (Node c.loop-lead.node) (drop c.loop-lead.passed c.args.text.now)
     c.in-Some-pass_match.next c.in-Some-pass_match.count

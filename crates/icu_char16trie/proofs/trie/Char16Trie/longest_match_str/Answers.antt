@@ -19,7 +19,7 @@ use Rattle.icu_char16trie.proofs.PassedLemmas.{along_then}
 use Rattle.icu_char16trie.proofs.trie.Char16Trie.longest_match_str.Goals as goal
 use Rattle.icu_char16trie.proofs.trie.Char16Trie.longest_match_str.Goals.{In-Some}
 
--- the characters so far are the first of the text, and so they are with the next
+-- The characters so far are the first of the text, and they still are with the next one.
 are_first : (c : In-Some) → (c.loop-c.yielded ≡ take (length c.loop-c.yielded) (chars c.args.text.now))
     × (length c.loop-c.yielded < length (chars c.args.text.now))
     × (c.loop-c.yielded ++ c.in-Some.c ∷ [] ≡ take (length c.loop-c.yielded + 1) (chars c.args.text.now))

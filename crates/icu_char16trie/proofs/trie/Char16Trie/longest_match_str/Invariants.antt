@@ -11,8 +11,8 @@ use Rattle.icu_char16trie.specs.Matches.{HasCharsValue, HasCharsStepped, Longest
 use Rattle.icu_char16trie.specs.declared.place.Place.TheVariants.{Node}
 use Rattle.icu_char16trie.proofs.trie.Char16Trie.longest_match_str.Given as goal
 
--- the cursor has passed the units of the characters so far, and the longest match of at most these is found, in
--- characters and so in bytes
+-- The cursor has passed the units of the characters so far. The longest match among at most these
+-- characters is found, as a length in characters and so in bytes.
 abbrev pub invariant-loop-c : goal.invariant-loop-c
 invariant-loop-c l = record {
   units : l.cursor.units ≡ l.fn.self;
