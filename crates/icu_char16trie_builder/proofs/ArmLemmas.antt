@@ -53,7 +53,7 @@ ascends_push : (s u : ℕ) (us : List ℕ) → Below s us → s ≤ u → Ascend
 ascends_push s u [] b h a = (tt, tt)
 ascends_push s u (x ∷ us) b h a = (from_push x s u us b.0 h a.0, ascends_push s u us b.1 h a.1)
 
--- one more arm, whose unit is above the others
+-- One more arm, whose unit is above the others.
 pub arm_below_push : (s : ℕ) (arms : List Arm) (a : Arm) → Below s (arm_units arms) → s ≤ a.unit
     → Below (a.unit + 1) (arm_units (arms ++ a ∷ []))
 arm_below_push s arms a b h = rw (arm_units_append arms (a ∷ [])) (below_push s a.unit (arm_units arms) b h)
@@ -89,7 +89,7 @@ from_less s t (u ∷ us) h f = (omega (arith, f.0, h), from_less s t us h f.1)
 from_split : (x : ℕ) (vs : List ℕ) → Ascends (x ∷ vs) → From x (x ∷ vs)
 from_split x vs h = (omega arith, from_less x (x + 1) vs (omega arith) h.0)
 
--- arms that ascend, split before the arm a
+-- Ascending arms, split before the arm with the unit x.
 pub record SplitArms (lower upper : List Arm) (x : ℕ) : Type 0 where
   pub low : Ascends (arm_units lower)
   pub high : Ascends (arm_units upper)
@@ -134,13 +134,13 @@ some_count : (d u : ℕ) (es : List Entry) (count : ℕ) → unit_of es d ≡ So
 some_count d u es zero h out = absurd (out h)
 some_count d u es (suc count) h out = omega arith
 
--- a first unit is one of the keys' first units
+-- If all keys start with a unit that is at least s, so does the first one.
 first_begin : (d u s : ℕ) (es : List Entry) → unit_of es d ≡ Some u → AllBeginFrom s (cut d es) → s ≤ u
 first_begin d u s [] h b = absurd (none-some _ h)
 first_begin d u s (e ∷ es) h b = let c : BeginsFrom s (u ∷ drop (d + 1) e.key.now) =
     subst (λ z. BeginsFrom s z) (drop_here e.key.now d u h) b.0 in c
 
--- all keys begin from the first one's unit
+-- All keys start with a unit that is at least that of the first key.
 all_from_first : (d u : ℕ) (es : List Entry) → unit_of es d ≡ Some u → IsAscendingKeys (cut d es) → AllBeginFrom u (cut d es)
 all_from_first d u [] h a = tt
 all_from_first d u (e ∷ es) h a =
@@ -155,7 +155,7 @@ not_empty : (d u : ℕ) (es : List Entry) → unit_of es d ≡ Some u → (e : E
 not_empty d u [] h = absurd (none-some _ h)
 not_empty d u (e ∷ rest) h = (e, rest, refl)
 
--- one more arm
+-- One more arm.
 pub arms_step : (d u count : ℕ) (all rest others : List Entry) (arms : List Arm) (a : Arm) → ArmsSoFar d all rest arms → u < 2 ^ 16
     → unit_of rest d ≡ Some u → a.unit ≡ u → a.entries.now ≡ take count rest → others ≡ drop count rest → IsGroup d u (take count rest)
     → (unit_of (drop count rest) d ≡ Some u → ⊥) → (0 < length a.entries.now) × ArmsSoFar d all others (arms ++ a ∷ [])
@@ -211,7 +211,7 @@ arms_step d u count all rest others arms a so fits first is_u is_group is_others
       },
     )
 
--- a key goes on at d, so that the first unit is there
+-- Keys with more than d units have a unit at d.
 pub longer_some : (d : ℕ) (es : List Entry) → AllLonger d es → unit_of es d ≡ None → es ≡ []
 longer_some d [] h n = refl
 longer_some d (e ∷ es) h n = absurd (some_none (get_or e.key.now d 0) (sym (slice_get-get_or e.key.now d 0 h.0) ∙ n))

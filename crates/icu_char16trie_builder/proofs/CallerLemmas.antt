@@ -1,5 +1,5 @@
--- What a caller's proof cites of the words in `specs/Entries.antt`, and of a run of `iter2` over a trie that was
--- built.
+-- Lemmas for callers' proofs, on the definitions in `specs/Entries.antt` and on a run of `iter2`
+-- over a trie that was built.
 use Rattle.std.proofs.Common.{◌≡◌, ℕ, ℤ, ◌+◌, ◌*◌, Bool, true, false, cond, List, [], ◌∷◌, Option, Some, None, Ok, String, Global, length, refl, sym, ap, subst, ◌∙◌, arith, ◌⊎◌, inl, inr}
 use Rattle.std.specs.Prelude.{map, string_bytes}
 use Rattle.std.specs.Cmp.Lexicographic.{slice_cmp}
@@ -12,7 +12,7 @@ use Rattle.icu_char16trie.specs.Entries.{AreEntries, AreCutShort}
 use Rattle.icu_char16trie_builder.specs.Entries.{with_entry, most_units}
 use Rattle.icu_char16trie_builder.proofs.EntryLemmas.{IsCompared, compared, ascends_with}
 use Rattle.icu_char16trie.proofs.CallerLemmas.{below_itself, same_key_eq, same_key_self}
--- Keys that go on beyond some units
+-- Keys that continue after some units.
 pub use Rattle.icu_char16trie_builder.proofs.LongerKeys.{goes_on-with_entry}
 
 -- ---- the entries with one more
@@ -23,7 +23,7 @@ IsAscendingKeys-with_entry key v m up = ascends_with key v m up
 not_below : (a b : List ℕ) → a ≡ b → KeyBelow b a → ⊥
 not_below a b e h = below_itself b (subst (λ z. KeyBelow b z) e h)
 
--- of two keys that differ no third key is both
+-- If two keys differ, a third key equals at most one of them.
 swapped : (a b w : List ℕ) (x y : Option ℤ) (o : Option ℤ) → (same_key a w ≡ true → same_key b w ≡ true → ⊥)
     → cond (same_key b w) y (cond (same_key a w) x o) ≡ cond (same_key a w) x (cond (same_key b w) y o)
 swapped a b w x y o not_both = cases (same_key a w) (same_key b w) not_both
@@ -50,7 +50,7 @@ value_by key v e m rest w Greater h r =
     ∙ swapped key e.0 w (Some v) (Some e.1) (value_of m w)
     (λ a b. not_below key e.0 (same_key_eq key w a ∙ sym (same_key_eq e.0 w b)) (h.greater refl))
 
--- each key has the value that it was added with
+-- The value of a key is the one that was added last for it.
 pub value_of-with_entry : (key : List ℕ) (v : ℤ) (m : UnitMap) (w : List ℕ)
     → value_of (with_entry key v m) w ≡ cond (same_key key w) (Some v) (value_of m w)
 unfolding with_entry value_of
@@ -58,11 +58,11 @@ value_of-with_entry key v [] w = refl
 value_of-with_entry key v (e ∷ m) w =
     value_by key v e m (with_entry key v m) w (slice_cmp nat_cmp key e.0) (compared key e.0) (value_of-with_entry key v m w)
 
--- the key that was added has the value that it was added with
+-- The key that was added has the value that it was added with.
 pub value_of-added : (key : List ℕ) (v : ℤ) (m : UnitMap) → value_of (with_entry key v m) key ≡ Some v
 value_of-added key v m = rw (value_of-with_entry key v m key, same_key_self key) refl
 
--- and each other one the value that it had
+-- Each other key has the value that it had.
 pub value_of-others : (key : List ℕ) (v : ℤ) (m : UnitMap) (w : List ℕ) → (key ≡ w → ⊥) → value_of (with_entry key v m) w ≡ value_of m w
 value_of-others key v m w other = value_of-with_entry key v m w ∙ by (same_key key w) refl
   where
@@ -78,7 +78,7 @@ most_by key v e m rest Less h new r = refl
 most_by key v e m rest Equal h new r = absurd (new refl)
 most_by key v e m rest Greater h new r = omega (arith, r)
 
--- a key that has no value is not that of the first entry
+-- A key that has no value is not that of the first entry.
 not_first : (key : List ℕ) (e : List ℕ × ℤ) (m : UnitMap) → value_of (e ∷ m) key ≡ None → (key ≡ e.0 → ⊥) × (value_of m key ≡ None)
 unfolding value_of
 not_first key e m new =
@@ -92,7 +92,7 @@ not_first key e m new =
     both : (p : Bool) → p ≡ true → p ≡ false → ⊥
     both p t f = cc
 
--- a key that is new takes its own room
+-- A new key adds its own bound.
 pub most_units-with_entry : (key : List ℕ) (v : ℤ) (m : UnitMap) → value_of m key ≡ None
     → most_units (with_entry key v m) ≡ 2 * length key + 16 + most_units m
 unfolding with_entry most_units
@@ -108,20 +108,20 @@ never_cut : (ys : List (String Global × ℤ)) (m : UnitMap) → AreCutShort (ma
 never_cut [] m cut = cut
 never_cut (y ∷ ys) m cut = never_cut ys cut.1 cut.4
 
--- where no item is a want of memory, the items are all the entries
+-- If no item is an `Err`, the items are all the entries.
 pub AreEntries-of_run : (ys : List (String Global × ℤ)) (m : UnitMap)
     → AreEntries (map Ok ys) m ⊎ AreCutShort (map Ok ys) m → AreEntries (map Ok ys) m
 AreEntries-of_run ys m (inl all) = all
 AreEntries-of_run ys m (inr cut) = absurd (never_cut ys m cut)
 
--- what an item shows, and what it has to show
+-- An item as its text and value, and the text and value that an entry has to show.
 abbrev pub shown : String Global × ℤ → List ℕ × ℤ
 shown y = (string_bytes y.0, y.1)
 
 abbrev pub text_of : List ℕ × ℤ → List ℕ × ℤ
 text_of e = (key_text e.0, e.1)
 
--- the items are the texts of the keys, with their values
+-- The items are the texts of the keys, with their values.
 pub texts_of_entries : (ys : List (String Global × ℤ)) (m : UnitMap) → AreEntries (map Ok ys) m → map shown ys ≡ map text_of m
 texts_of_entries [] m all = ap (map text_of) (sym all)
 texts_of_entries (y ∷ ys) m all =

@@ -1,4 +1,4 @@
--- How the entries below a node fall into the entries below its arms.
+-- How the entries below a node are divided among its arms.
 use Rattle.std.proofs.Common.{◌≡◌, ℕ, ℤ, zero, suc, ◌+◌, ◌*◌, ◌<◌, ◌≤◌, List, [], ◌∷◌, ◌++◌, Some, None, Option, Bool, true, false, not, nat_eq, refl, sym, ap, subst, ◌∙◌, arith, length, take, drop, slice_get, drop-cons, add-one, append_assoc, inl, inr}
 use Rattle.std.proofs.lemmas.Bool.{cases_lt}
 use Rattle.std.proofs.Common.{eqb-true}
@@ -45,7 +45,7 @@ below_strip : (front key : List ℕ) (m : UnitMap) → KeyBelowAll (front ++ key
 below_strip front key [] h = tt
 below_strip front key (e ∷ m) h = (key_below_strip front key e.0 h.0, below_strip front key m h.1)
 
--- keys that ascend behind units that they share
+-- Keys ascend after a prefix that they share.
 pub ascends_strip : (front : List ℕ) (m : UnitMap) → IsAscendingKeys (under front m) → IsAscendingKeys m
 ascends_strip front [] h = tt
 ascends_strip front (e ∷ m) h = (below_strip front e.0 m h.0, ascends_strip front m h.1)
@@ -55,7 +55,7 @@ under_append a b [] = refl
 under_append a b (e ∷ m) = ap (λ z. ((a ++ b) ++ e.0, e.1) ∷ z) (under_append a b m)
     ∙ ap (λ z. (z, e.1) ∷ under a (under b m)) (append_assoc a b e.0)
 
--- ---- keys that go on beyond d
+-- ---- keys with more than d units
 
 drop_all : (d : ℕ) (key : List ℕ) → length key ≤ d → drop d key ≡ []
 drop_all d key h = drop_of_length-le key h
@@ -71,11 +71,11 @@ pub below_all_longer : (d : ℕ) (a : List ℕ) (es : List Entry) → KeyBelowAl
 below_all_longer d a [] h = tt
 below_all_longer d a (e ∷ es) h = (below_longer d a e.key.now h.0, below_all_longer d a es h.1)
 
--- the first key ends at d
+-- The first key ends at d.
 pub cut_own : (d : ℕ) (first : Entry) (rest : List Entry) → length first.key.now ≤ d → cut d (first ∷ rest) ≡ ([], first.value) ∷ cut d rest
 cut_own d first rest h = ap (λ z. (z, first.value) ∷ cut d rest) (drop_all d first.key.now h)
 
--- a key that goes on begins with a unit
+-- A key with more than d units has a first unit after d.
 longer_one : (d : ℕ) (key : List ℕ) → d < length key → BeginsFrom 0 (drop d key)
 longer_one zero [] h = absurd (omega arith)
 longer_one zero (x ∷ key) h = omega arith
@@ -96,7 +96,7 @@ shared_one : (d k : ℕ) (first key : List ℕ) → k ≤ length first → take 
 shared_one d k first key h e = sym (take-append-drop k (drop d key)) ∙ ap (λ z. z ++ drop k (drop d key)) e
     ∙ ap (λ z. take k first ++ z) (drop_on d k key)
 
--- entries whose keys share units stand under these
+-- Entries whose keys share units are under these units.
 pub cut_shared : (d k : ℕ) (first : List ℕ) (es : List Entry) → k ≤ length first → AllShare d k first es
     → cut d es ≡ under (take k first) (cut (d + k) es)
 cut_shared d k first [] h a = refl
@@ -111,12 +111,12 @@ share_append d k first (e ∷ a) b h i = (h.0, share_append d k first a b h.1 i)
 take_less : (j k : ℕ) (a b : List ℕ) → j ≤ k → take k a ≡ take k b → take j a ≡ take j b
 take_less j k a b h e = sym (take-take j k a h) ∙ ap (take j) e ∙ take-take j k b h
 
--- they share fewer units too
+-- They also share fewer units.
 pub share_less : (d j k : ℕ) (first : List ℕ) (es : List Entry) → j ≤ k → AllShare d k first es → AllShare d j first es
 share_less d j k first [] h a = tt
 share_less d j k first (e ∷ es) h a = (take_less j k (drop d e.key.now) first h a.0, share_less d j k first es h a.1)
 
--- the room below shared units: at least two for each of them is not needed any more
+-- Below shared units the bound is not larger.
 pub room_less : (d k : ℕ) (es : List Entry) → room (d + k) es ≤ room d es
 room_less d k [] = omega arith
 room_less d k (e ∷ es) = omega (arith, room_less d k es)
@@ -126,14 +126,14 @@ room_less d k (e ∷ es) = omega (arith, room_less d k es)
 pub drop_here : (key : List ℕ) (d u : ℕ) → slice_get key d ≡ Some u → drop d key ≡ u ∷ drop (d + 1) key
 drop_here key d u g = rw (drop-cons key d 0 (slice_get_within key d u g), get_or_from_slice_get key d u 0 g, add-one) refl
 
--- a group stands under its unit
+-- A group is under its unit.
 pub cut_group : (d u : ℕ) (es : List Entry) → IsGroup d u es → cut d es ≡ under (u ∷ []) (cut (d + 1) es)
 cut_group d u [] h = refl
 cut_group d u (e ∷ es) h =
     let one : (drop d e.key.now, e.value) ≡ (u ∷ drop (d + 1) e.key.now, e.value) = ap (λ z. (z, e.value)) (drop_here e.key.now d u h.0) in
     ap (λ z. (drop d e.key.now, e.value) ∷ z) (cut_group d u es h.1) ∙ ap (λ z. z ∷ under (u ∷ []) (cut (d + 1) es)) one
 
--- two units of room for each entry of a group are spent on its unit
+-- The bound of a group is two units for each entry more than the bound below its unit.
 pub room_group : (d u : ℕ) (es : List Entry) → IsGroup d u es → room d es ≡ room (d + 1) es + 2 * length es
 room_group d u [] h = omega arith
 room_group d u (e ∷ es) h = omega (arith, room_group d u es h.1, slice_get_within e.key.now d u h.0)
@@ -142,7 +142,7 @@ pub group_append : (d u : ℕ) (a b : List Entry) → IsGroup d u a → IsGroup 
 group_append d u [] b h i = i
 group_append d u (e ∷ a) b h i = (h.0, group_append d u a b h.1 i)
 
--- ---- the units that keys begin with
+-- ---- the first units of keys
 
 begin_more : (s t : ℕ) (key : List ℕ) → s ≤ t → BeginsFrom t key → BeginsFrom s key
 begin_more s t [] h b = b
@@ -161,7 +161,7 @@ begins_above x a [] h = h
 begins_above x a (y ∷ key) (inl h) = omega arith
 begins_above x a (y ∷ key) (inr h) = omega (arith, h.0)
 
--- the keys behind one that begins with x do not begin with a smaller unit
+-- The keys after one that starts with x do not start with a smaller unit.
 pub begin_above : (x : ℕ) (a : List ℕ) (m : UnitMap) → KeyBelowAll (x ∷ a) m → AllBeginFrom x m
 begin_above x a [] h = tt
 begin_above x a (e ∷ m) h = (begins_above x a e.0 h.0, begin_above x a m h.1)
@@ -182,7 +182,7 @@ first_at key zero = refl
 first_at [] (suc d) = refl
 first_at (x ∷ key) (suc d) = first_at key d
 
--- behind a group the keys begin with a greater unit
+-- The keys after a group start with a greater unit.
 pub next_begin : (d u : ℕ) (es : List Entry) → AllBeginFrom u (cut d es) → IsAscendingKeys (cut d es) → (unit_of es d ≡ Some u → ⊥)
     → AllBeginFrom (u + 1) (cut d es)
 next_begin d u [] b h out = tt
@@ -202,7 +202,7 @@ share_more d j k zero first es h a b = b
 share_more d j k (suc i) first [] h a b = tt
 share_more d j k (suc i) first (e ∷ es) h a b = (take_less j k (drop d e.key.now) first h a.0, share_more d j k i first es h a.1 b)
 
--- sharing with a part of a list is sharing with the list
+-- Units that are shared with a prefix of a list are shared with the list.
 pub share_part : (d j k : ℕ) (first : List ℕ) (es : List Entry) → j ≤ k → AllShare d j (take k first) es → AllShare d j first es
 share_part d j k first [] h a = tt
 share_part d j k first (e ∷ es) h a = (a.0 ∙ take-take j k first h, share_part d j k first es h a.1)
@@ -218,7 +218,7 @@ is_by o u r e h = option_is o u (cases (option_eq nat_eq o (Some u)) (sym h ∙ 
     cases true h = refl
     cases false h = cc
 
--- a step of the loop that looks for the units that all keys share
+-- A step of the loop that finds the units that all keys share.
 pub share_step : (d j k i : ℕ) (units part : List ℕ) (es rest : List Entry) → part ≡ take k units → rest ≡ drop i es → k ≤ length units
     → j ≤ length part
     → AllShare d k units (take i es) → AllShare d j part (take 1 rest) → (j ≤ k) × AllShare d j units (take (i + 1) es)

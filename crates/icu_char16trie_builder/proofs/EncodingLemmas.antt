@@ -1,4 +1,4 @@
--- What was written as a number is read as it.
+-- A number that was written is read back.
 use Rattle.std.proofs.Common.{◌≡◌, ℕ, ◌+◌, ◌-◌, ◌*◌, ◌/◌, ◌%◌, ◌<◌, ◌≤◌, Bool, true, false, cond, nat_lt, List, [], ◌∷◌, ◌++◌, Some, refl, ap, arith, length, inl, inr}
 use Rattle.std.proofs.lemmas.Bool.{lt-ltb, le-ltb, cases_lt}
 use Rattle.std.proofs.lemmas.Nat.{div-add-mod'}
@@ -13,7 +13,7 @@ pub skip : {A : Type 0} (b : Bool) (x y : A) → b ≡ false → cond b x y ≡ 
 skip true x y h = cc
 skip false x y h = refl
 
--- by the lead, and by the tail before other units, the number is read
+-- From the lead, and the tail in front of other units, the number is read.
 pub record IsRead (two three : ℕ) (units : List ℕ) (n lead : ℕ) (tail : List ℕ) : Type 0 where
   pub number : number_by two three (tail ++ units) 0 lead ≡ Some n
   pub end : (p : ℕ) → end_by two three p lead ≡ p + length tail

@@ -1,4 +1,4 @@
--- An entry that is added stands in unit order among the others.
+-- An added entry is in unit order among the others.
 use Rattle.std.proofs.Common.{Vec, ◌&&◌, ◌≡◌, ℕ, ℤ, zero, suc, take, drop, get_or, add-one, ◌+◌, ◌*◌, ◌<◌, ◌≤◌, Bool, true, false, cond, nat_lt, nat_eq, List, [], ◌∷◌, ◌++◌, Option, Some, Result, Ok, Err, refl, sym, ap, subst, ◌∙◌, arith, length, inl, inr, ltb-true, eqb-true, eq-eqb, ⊎_elim}
 use Rattle.std.proofs.lemmas.Bool.{ne_eqb, cases_lt, ltb-false}
 use Rattle.std.specs.Option.{is_some}
@@ -106,7 +106,7 @@ ascends_with key v (e ∷ m) h =
     ascends_with_by key v e m (with_entry key v m) (slice_cmp nat_cmp key e.0) (compared key e.0) h (ascends_with key v m h.1)
     (λ k. below_with e.0 key v m k h.0)
 
--- ---- as a map keeps them
+-- ---- as a map stores them
 
 abbrev pub key_cmp : Vec ℕ Global → Vec ℕ Global → Ordering
 key_cmp a b = slice_cmp nat_cmp a.items b.items
@@ -167,7 +167,7 @@ cut_pushed (y ∷ list) e x rest (a ∷ all) h s = ap (λ z. z ∷ (cut 0 (list 
     tails : {a b : List ℕ × ℤ} {m n : UnitMap} → ◌≡◌ {A = UnitMap} (a ∷ m) (b ∷ n) → m ≡ n
     tails h = cc
 
--- a step of the loop that adds up what the entries take
+-- A step of the loop that adds up the bound of the entries.
 pub room_more : (i : ℕ) (es rest : List Entry) → rest ≡ drop i es → room 0 (take (i + 1) es) ≡ room 0 (take i es) + room 0 (take 1 rest)
 room_more i es rest e = rw add-one (ap (room 0) (front i es) ∙ room_append 0 (take i es) (take 1 (drop i es))
     ∙ ap (λ z. room 0 (take i es) + room 0 (take 1 z)) (sym e))
@@ -184,7 +184,7 @@ pub first_room : (es : List Entry) (other : Entry) → 0 < length es → room 0 
 first_room [] other h = absurd (omega arith)
 first_room (e ∷ es) other h = omega arith
 
--- an entry was added or refused
+-- An entry was added or rejected.
 pub ascends_added : {A E : Type 0} (r : Result A E) (key : List ℕ) (v : ℤ) (new old : UnitMap) → OnOk r (new ≡ with_entry key v old)
     → OnErr r (new ≡ old) → IsAscendingKeys old → IsAscendingKeys new
 ascends_added (Ok x) key v new old h k up = subst (λ z. IsAscendingKeys z) (sym h) (ascends_with key v old up)
@@ -193,7 +193,7 @@ ascends_added (Err e) key v new old h k up = subst (λ z. IsAscendingKeys z) (sy
 pub too_much : (n most : ℕ) → most < n → (IsTrue false → n ≤ most) × (n ≤ most → IsTrue false)
 too_much n most h = (λ k. cc, λ k. absurd (omega arith))
 
--- what the entries of a builder take
+-- The bound of the entries of a builder.
 pub room_self : (es list : List Entry) (m view : UnitMap) → es ≡ list → cut 0 list ≡ m → view ≡ m → room 0 es ≡ most_units view
 room_self es list m view e f g = ap (room 0) e ∙ map_of_cut list 0 refl ∙ ap most_units (f ∙ sym g)
 
@@ -211,7 +211,7 @@ more_than b n most h f =
     both : (b : Bool) → IsTrue b → b ≡ false → ⊥
     both b t f = cc
 
--- ---- how many entries there are
+-- ---- the number of entries
 
 pub length-entry_map : (es : List (Vec ℕ Global × ℤ)) → length (entry_map es) ≡ length es
 length-entry_map [] = refl

@@ -1,4 +1,4 @@
--- Entries that are alike, one after the other.
+-- Equal entries, one after the other.
 use Rattle.std.proofs.Common.{◌≡◌, ℕ, zero, suc, add-one, ◌+◌, List, [], ◌∷◌, ◌++◌, refl, sym, ap, ◌∙◌, take, drop}
 use Rattle.icu_char16trie_builder.specs.Inside.Cuts.{cut}
 use Rattle.icu_char16trie_builder.specs.declared.entry.Entry.{Entry}
@@ -12,7 +12,7 @@ front_more (suc i) (x ∷ es) = ap (λ z. x ∷ z) (front_more i es)
 cut_more : (d i : ℕ) (es : List Entry) → cut d (take (i + 1) es) ≡ cut d (take i es) ++ cut d (take 1 (drop i es))
 cut_more d i es = rw add-one (ap (cut d) (front_more i es) ∙ cut_append d (take i es) (take 1 (drop i es)))
 
--- one more entry is alike
+-- One more entry is equal.
 pub alike_more : (d e i : ℕ) (a b a' b' : List Entry) → a' ≡ drop i a → b' ≡ drop i b → cut d (take i a) ≡ cut e (take i b)
     → cut d (take 1 a') ≡ cut e (take 1 b')
     → cut d (take (i + 1) a) ≡ cut e (take (i + 1) b)

@@ -1,4 +1,4 @@
--- One level of a trie, written before what it leads to.
+-- One level of a trie, written in front of what it leads to.
 use Rattle.std.proofs.Common.{◌≡◌, ℕ, ℤ, false, ◌+◌, ◌-◌, ◌*◌, ◌/◌, ◌%◌, ◌<◌, ◌≤◌, nat_lt, nat_eq, List, [], ◌∷◌, ◌++◌, Some, refl, sym, ap, subst, ◌∙◌, arith, length, length-append, append_assoc, append-nil, take, drop, of_z, to_z, SFits}
 use Rattle.std.proofs.lemmas.Bool.{lt-ltb, le-ltb, ne_eqb}
 use Rattle.std.proofs.Math.Seq.{take-append_seam}
@@ -13,11 +13,11 @@ use Rattle.icu_char16trie_builder.specs.Inside.Written.{heads, PartAt, Below, Fr
 use Rattle.icu_char16trie_builder.proofs.ShiftLemmas.{number_moved, holds_behind, part_at_behind, holds_moved, part_at_moved, matches_behind}
 use Rattle.icu_char16trie_builder.proofs.EncodingLemmas.{read_back, pick, skip}
 
--- a number is read back as the value that it was cast from
+-- A number is read back as the value from which it was cast.
 pub back_of : (v : ℤ) (n : ℕ) → n ≡ of_z w32 (to_z w32 (of_z w32 v)) → SFits w32 v → cast_signed w32 n ≡ v
 back_of v n e fits = rw e (ap (λ t. to_z w32 (of_z w32 t)) (to_z-of_z w32 v fits) ∙ to_z-of_z w32 v fits)
 
--- a final value
+-- A final value.
 pub final_level : (v : ℤ) (n : ℕ) (units new : List ℕ) → cast_signed w32 n ≡ v → new ≡ final_units n ++ units → Holds new 0 (([], v) ∷ [])
 final_level v n units new e f =
     let r = read_back 0x4000 0x7fff n units (omega arith) in
@@ -26,7 +26,7 @@ final_level v n units new e f =
     let number : short_number (final_units n ++ units) 1 (w - 0x8000) ≡ Some n = rw lead (number_moved 0x4000 0x7fff _ _ 0 _ ∙ r.number) in
     rw f (final 0 w n _ refl (omega arith) number (ap (λ z. ([], z) ∷ []) (sym e)))
 
--- the last arm of a row: its unit, directly before its node
+-- The last arm of a row: its unit, directly before its node.
 pub last_level : (u : ℕ) (units : List ℕ) (m : UnitMap) → Holds units 0 m → PartAt (u ∷ units) 0 1 (u ∷ []) (under (u ∷ []) m)
 unfolding heads
 last_level u units m h = record {
@@ -36,7 +36,7 @@ last_level u units m h = record {
   children = more u 1 [] _ m [] _ refl (holds_moved u units h) (none [] [] refl refl) (sym (append-nil (under (u ∷ []) m)));
 }
 
--- an arm, its unit and the units of its value or jump, before the other arms of a row
+-- An arm, its unit and the units of its value or jump, before the other arms of a row.
 arm_before : (u w n child : ℕ) (tail units us : List ℕ) (m1 m2 : UnitMap) → 1 < n → n ≤ 5 → PartAt units 0 (n - 1) us m2
     → entry_child (u ∷ w ∷ (tail ++ units)) 2 w ≡ Some child → short_end 2 (w % 0x8000) ≡ 2 + length tail
     → Holds (u ∷ w ∷ (tail ++ units)) child m1
@@ -52,7 +52,7 @@ arm_before u w n child tail units us m1 m2 many few rest leads end node =
       children = more u child others.arms _ m1 m2 _ refl node others.children refl;
     }
 
--- an arm that jumps to a node further on
+-- An arm that jumps to a later node.
 pub entry_level : (u j n : ℕ) (units mid new us : List ℕ) (m1 m2 : UnitMap) → 1 < n → n ≤ 5 → Holds units j m1
     → PartAt units 0 (n - 1) us m2
     → mid ≡ short_units j ++ units → new ≡ u ∷ mid → PartAt new 0 n (u ∷ us) (under (u ∷ []) m1 ++ m2)
@@ -69,7 +69,7 @@ entry_level u j n units mid new us m1 m2 many few node rest e f =
     let low : w % 0x8000 ≡ w = omega (arith, r.within) in
     rw (f, e) (arm_before u w n _ tail units us m1 m2 many few rest leads (rw low (r.end 2)) (holds_behind (u ∷ w ∷ tail) units node))
 
--- an arm whose key ends there, with its value
+-- An arm whose key ends there, with its value.
 pub value_level : (u : ℕ) (v : ℤ) (k n : ℕ) (units mid new us : List ℕ) (m : UnitMap) → cast_signed w32 k ≡ v → 1 < n → n ≤ 5
     → PartAt units 0 (n - 1) us m
     → mid ≡ final_units k ++ units → new ≡ u ∷ mid → PartAt new 0 n (u ∷ us) ((u ∷ [], v) ∷ m)
@@ -109,7 +109,7 @@ children_append units {b = b} {n = n} (more u q rest arms m others all a node d 
     more u q (rest ++ b) (arms ++ b) m (others ++ n) (all ++ n) (ap (λ z. z ++ b) a) node (children_append units d c)
     (ap (λ z. z ++ n) e ∙ append_assoc (under (u ∷ []) m) others n)
 
--- a split, before the part of the upper arms
+-- A split, before the part with the upper arms.
 pub split_level : (s j n : ℕ) (units mid new us1 us2 : List ℕ) (m1 m2 : UnitMap) → 5 < n → PartAt units j (n / 2) us1 m1
     → PartAt units 0 (n - n / 2) us2 m2
     → Below s us1 → From s us2 → mid ≡ delta_units j ++ units → new ≡ s ∷ mid → PartAt new 0 n (us1 ++ us2) (m1 ++ m2)
@@ -133,7 +133,7 @@ split_level s j n units mid new us1 us2 m1 m2 many lower upper below from e f =
       children = children_append _ low.children up.children;
     })
 
--- ---- match nodes, from behind their lead on
+-- ---- match nodes, after their lead
 
 pub run_level : (low : ℕ) (front units mid : List ℕ) (m : UnitMap) → low ≡ 0x2f + length front → mid ≡ front ++ units → 0 < length front
     → length front ≤ 16 → Holds units 0 m
@@ -184,9 +184,9 @@ valued_level v n low units new m e h f node =
     (omega (arith, h, r.within)) number (subst (λ z. Matches (node_units n low ++ units) (node_end 1 w) z m) bits behind)
     (ap (λ z. ([], z) ∷ m) (sym e)))
 
--- ---- how many units were written
+-- ---- the number of units that were written
 
--- more units were written before others
+-- More units were written in front of others.
 pub grew_more : (j k : ℕ) (front units mid new : List ℕ) → mid ≡ front ++ units → length front ≤ k → Grew j mid new → Grew (j + k) units new
 grew_more j k front units mid new e h g =
     (g.0 ++ front, g.1 ∙ ap (λ z. g.0 ++ z) e ∙ sym (append_assoc g.0 front units), omega (arith, length-append g.0 front, g.2, h))
@@ -211,7 +211,7 @@ pub grew_arm : (two three u w n : ℕ) (units mid new : List ℕ) → two < thre
 grew_arm two three u w n units mid new h e f =
     grew_twice 1 3 units mid new (grew_number two three w n units mid h e) (grew_last u mid new f)
 
--- a chunk of a list before what is behind it
+-- A chunk of a list in front of the rest.
 pub chunk_before : (start left : ℕ) (units : List ℕ) → start ≤ left
     → take (left - start) (drop start units) ++ drop left units ≡ drop start units
 chunk_before start left units h =

@@ -1,4 +1,4 @@
--- Whether a key goes on beyond some units, of entries with one more.
+-- Whether a key of the entries with one more continues after some units.
 use Rattle.std.proofs.Common.{◌≡◌, ℕ, ℤ, ◌||◌, Bool, true, false, List, [], ◌∷◌, refl, ap, ◌∙◌}
 use Rattle.std.specs.Cmp.Lexicographic.{slice_cmp}
 use Rattle.std.specs.declared.cmp.Ordering.{Ordering}
@@ -29,7 +29,7 @@ goes_on_by key v e m rest w Greater h r =
     swapped false true b = refl
     swapped false false b = refl
 
--- a key goes on among the entries with one more, where it does among the others or is the one
+-- A key continues exactly if one of the others does or the added one does.
 pub goes_on-with_entry : (key : List ℕ) (v : ℤ) (m : UnitMap) (w : List ℕ)
     → goes_on (with_entry key v m) w ≡ (key_goes_on key w || goes_on m w)
 unfolding with_entry goes_on

@@ -18,7 +18,7 @@ use Rattle.icu_char16trie_builder.proofs.CutLemmas.{below_all_longer, cut_own, c
 use Rattle.icu_char16trie_builder.proofs.ArmLemmas.{arm_units_append, arm_map_append, arm_room_append, split_arms}
 use Rattle.icu_char16trie_builder.proofs.StepLemmas.{pushed, cost_pushed, led, grew_length}
 
--- the part of a branch with these arms
+-- The part of a branch with these arms.
 abbrev pub part_of : ℕ → List Arm → Piece
 part_of d arms = part (length arms) (arm_units arms) (arm_map d arms)
 
@@ -180,7 +180,7 @@ run_is d u j (x ∷ es) first units rest front g at e f few le a is =
           (subst (λ w. AllShare d (suc j) (u ∷ rest) w) s share).1.0);
     }
 
--- the entries of a run, as a step has them
+-- The entries of a linear match, as a step has them.
 pub gives_run : (d k : ℕ) (value : Option ℤ) (old mid new : List Step) (front : Bor (List ℕ)) (es : Bor (List Entry)) (s : State)
     (goal : UnitMap)
     → mid ≡ old ++ steps.Run front value ∷ [] → new ≡ mid ++ steps.Node es (d + k) ∷ [] → IsRun d k front.now es.now → 0 < length es.now
@@ -199,7 +199,7 @@ room_less : (d k : ℕ) (es : List Entry) → room (d + k) es ≤ room d es
 room_less d k [] = omega arith
 room_less d k (e ∷ es) = omega (arith, room_less d k es)
 
--- what the entries of a run are spared
+-- By how much the bound of the entries of a linear match shrinks.
 run_spares : (d k : ℕ) (front : List ℕ) (es : List Entry) → IsRun d k front es → 0 < length es → room (d + k) es + 2 * k ≤ room d es
 run_spares d k front [] run some = absurd (omega arith)
 run_spares d k front (e ∷ es) run some = omega (arith, run.share e es refl, room_less d k es)
@@ -222,7 +222,7 @@ pub branch_cost : (value : Option ℤ) → lead_cost value + 1 ≤ 2 + 16 * leng
 branch_cost None = omega arith
 branch_cost (Some v) = omega arith
 
--- with one arm all keys go on with one unit
+-- With one arm all keys continue with one unit.
 group_of_cut : (d u : ℕ) (es : List Entry) (m : UnitMap) → cut d es ≡ under (u ∷ []) m → IsGroup d u es
 group_of_cut d u [] m h = tt
 group_of_cut d u (e ∷ es) [] h = absurd (cons_nil h)
@@ -254,7 +254,7 @@ one_group d count (e ∷ es) (a ∷ []) so len few some =
     (a.unit, group_of_cut d a.unit (e ∷ es) (cut (d + 1) a.entries.now) (sym so.map ∙ append-nil (one ++ []) ∙ append-nil one))
 one_group d count (e ∷ es) (a ∷ b ∷ arms) so len few some = absurd (omega (arith, len, few))
 
--- ---- what the steps of a part cost
+-- ---- the cost of the steps of a part
 
 pub split_cost : (d x : ℕ) (old one two three new : List Step) (arms lower upper : List Arm) → arms ≡ lower ++ upper
     → one ≡ old ++ steps.Split x ∷ [] → cost two + 5 ≤ cost one + arm_room d upper
@@ -304,7 +304,7 @@ jump_cost d u old one two new arms rest a e f g k some =
 pub first_below : (d : ℕ) (arms rest : List Arm) (a : Arm) → arms ≡ a ∷ rest → AreBelow d arms → IsBelow d a.entries.now
 first_below d arms rest a e h = let k : AreBelow d (a ∷ rest) = subst (λ z. AreBelow d z) e h in k.0
 
--- ---- entries, as the functions that open a node have them
+-- ---- entries, in the form that the functions use that open a node
 
 pub rest_longer : (d : ℕ) (es rest : List Entry) (e : Entry) → es ≡ e ∷ rest → IsAscendingKeys (cut d es) → AllLonger d rest
 rest_longer d es rest e f h =
@@ -322,7 +322,7 @@ own_gives d v old es rest e saved goal f le same h =
     subst (λ z. Gives (reverse old) (state (node z) saved) goal)
     (ap (cut d) f ∙ cut_own d e rest le ∙ ap (λ z. ([], z) ∷ cut d rest) (sym same)) h
 
--- a node of one entry was written
+-- A node of one entry was written.
 pub tail_led : (d k : ℕ) (v : ℤ) (units new places tail : List ℕ) (known : List KnownNode) (es : Bor (List Entry)) (rest : List Entry)
     (e : Entry) (others : List Step) (goal : UnitMap) → es.now ≡ e ∷ rest → length rest ≡ 0
     → tail ≡ drop d e.key.now → v ≡ e.value → Holds new 0 ((tail, v) ∷ []) → Grew k units new

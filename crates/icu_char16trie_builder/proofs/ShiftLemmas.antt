@@ -1,4 +1,4 @@
--- What stands in a list of units stands in it behind others, so many places further on.
+-- What is in a list of units is also in the list with others in front, at a shifted index.
 use Rattle.std.proofs.Common.{◌≡◌, ℕ, ℤ, suc, ◌+◌, ◌-◌, ◌/◌, ◌%◌, ◌<◌, Bool, true, false, cond, nat_lt, nat_eq, List, [], ◌∷◌, ◌++◌, Option, Some, None, refl, sym, ap, ◌∙◌, arith, length, slice_get}
 use Rattle.std.proofs.lemmas.Option.{none-some, same_Some}
 use Rattle.std.specs.Prelude.{option_and_then}
@@ -6,7 +6,7 @@ use Rattle.icu_char16trie.specs.Numbers.{low_half, both_halves, number_by, end_b
 use Rattle.icu_char16trie.specs.Grammar.{UnitsBelow, UnitsFrom, IsAscending, Part, last, entry, split, branch_start, Holds, final, plain, valued, Matches, run, branch, Children, none, more}
 use Rattle.icu_char16trie_builder.specs.Inside.Written.{heads, PartAt}
 
--- the same arms, with one more unit in front of the list
+-- The same arms, with one more unit in front of the list.
 unfoldable pub moved : List (ℕ × ℕ) → List (ℕ × ℕ)
 moved [] = []
 moved (a ∷ arms) = (a.0, suc a.1) ∷ moved arms
@@ -121,7 +121,7 @@ mutual
   children_moved x units (more u q rest arms m others all a node c e) =
       more u (suc q) (moved rest) (moved arms) m others all (ap moved a) (holds_moved x units node) (children_moved x units c) e
 
--- the same behind any units
+-- The same with any units in front.
 pub holds_behind : (front units : List ℕ) {p : ℕ} {m : List (List ℕ × ℤ)} → Holds units p m → Holds (front ++ units) (length front + p) m
 holds_behind [] units {p = p} h = let z : 0 + p ≡ p = omega arith in rw z h
 holds_behind (x ∷ front) units {p = p} h = rw (on (length front) p) (holds_moved x (front ++ units) (holds_behind front units h))

@@ -1,4 +1,4 @@
--- Entries that stand in unit order already: one after another, and what is told of them.
+-- Entries that are already in unit order: one after another, and the errors that they can have.
 use Rattle.std.proofs.Common.{◌≡◌, ℕ, ℤ, pos, zero, suc, add-one, ◌+◌, ◌-◌, ◌*◌, ◌<◌, ◌≤◌, Bool, false, List, [], ◌∷◌, ◌++◌, Some, Result, Ok, Err, length, take, get_or, refl, sym, ap, subst, ◌∙◌, arith, inl, inr}
 use Rattle.std.specs.Prelude.{IsTrue, IsErrAnd, ◌↔◌}
 use Rattle.std.specs.Borrow.{Bor}
@@ -40,7 +40,7 @@ append_none : (m : UnitMap) → m ++ [] ≡ m
 append_none [] = refl
 append_none (e ∷ m) = ap (λ z. e ∷ z) (append_none m)
 
--- the next entry in a list of them
+-- The next entry in a list of entries.
 pub cut_more : (list : List Entry) (e : Entry) (es : List Pair) (i : ℕ) (d : Pair) → i < length es → cut 0 list ≡ pair_map (take i es)
     → ◌≡◌ {A = List ℕ × ℤ} (e.key.now, e.value) ((get_or es i d).0.now, (get_or es i d).1)
     → cut 0 (list ++ e ∷ []) ≡ pair_map (take (i + 1) es)
@@ -65,7 +65,7 @@ below_by a b Less h = (λ t. h.less refl, λ k. refl)
 below_by a b Equal h = (λ t. cc, λ k. absurd (below_itself b (subst (λ z. KeyBelow z b) (h.equal refl) k)))
 below_by a b Greater h = (λ t. cc, λ k. absurd (below_itself a (key_trans a b a k (h.greater refl))))
 
--- the test of two slices is that of two keys
+-- The comparison of two slices is that of two keys.
 pub is_below : (a b : List ℕ) (r : Bool) → r ≡ is_some_and is_lt (slice_partial_cmp (λ x y. Some (nat_cmp x y)) a b)
     → IsTrue r ↔ KeyBelow a b
 is_below a b r h =
@@ -73,7 +73,7 @@ is_below a b r h =
     same_from_slice_cmp_tested nat_cmp is_lt (λ xs ys. is_lt (slice_cmp nat_cmp xs ys)) refl (λ _ _. refl) (λ _ _. refl) test_by a b r h in
     subst (λ z. IsTrue z ↔ KeyBelow a b) (sym same) (below_by a b (slice_cmp nat_cmp a b) (compared a b))
 
--- ---- one entry more in order
+-- ---- one more entry in order
 
 abbrev Short : List ℕ × ℤ → Type 0
 Short e = length e.0 ≤ 65535
@@ -88,7 +88,7 @@ ascends_front zero m h = tt
 ascends_front (suc n) [] h = tt
 ascends_front (suc n) (e ∷ m) h = (below_front n e.0 m h.0, ascends_front n m h.1)
 
--- entries in order are so up to each place
+-- A prefix of entries in order is in order.
 front_in_order : (n : ℕ) (m : UnitMap) → IsInOrder m → IsInOrder (take n m)
 front_in_order n m h = (All-take Short n m h.0, ascends_front n m h.1)
 
@@ -115,7 +115,7 @@ below_at zero (e ∷ []) h up = absurd (omega (arith, h))
 below_at zero (e ∷ f ∷ m) h up = up.0.0
 below_at (suc i) (e ∷ m) h up = below_at i m (omega (arith, h)) up.1
 
--- the key of the last of some entries in order is not too long
+-- The key of the last of some entries in order is not too long.
 pub short_at : (m : UnitMap) (i : ℕ) → i < length m → IsInOrder (take (i + 1) m) → length (key_at m i) ≤ 65535
 short_at m i h up =
     let len : length (take (i + 1) m) ≡ i + 1 = length-take-le (i + 1) m (omega (arith, h)) in
@@ -138,7 +138,7 @@ below_before m (suc i) some h up =
     let n : suc i + 1 ≡ suc (suc i) = omega arith in
     subst (λ j. KeyBelow (key_at m j) (key_at m (suc i))) before (below_at i m h (subst (λ j. IsAscendingKeys (take j m)) n up))
 
--- another entry follows exactly where its key stands after the one before
+-- Another entry is valid exactly if its key is greater than the one before.
 pub follows_by : (b : Bool) (m : UnitMap) (i : ℕ) (x y : List ℕ) → 0 < i → i < length m → key_at m (i - 1) ≡ x → key_at m i ≡ y
     → IsInOrder (take i m) → length y ≤ 65535
     → IsTrue b ↔ KeyBelow x y → IsTrue b ↔ IsInOrder (take (i + 1) m)
@@ -152,7 +152,7 @@ follows_by b m i x y some h ex ey front short test = (
 pub is_no : {P : Type 0} → (P → ⊥) → IsTrue false ↔ P
 is_no never = (λ t. cc, λ p. absurd (never p))
 
--- ---- what entries take
+-- ---- the bound of entries
 
 most_next : (i : ℕ) (es : List Pair) (d : Pair) → i < length es
     → most_units (pair_map (take (suc i) es)) ≡ most_units (pair_map (take i es)) + 2 * length (get_or es i d).0.now + 16
@@ -171,11 +171,11 @@ most_least zero es = omega arith
 most_least (suc i) [] = omega arith
 most_least (suc i) (e ∷ es) = omega (arith, most_least i es)
 
--- what a list of the entries takes
+-- The bound of a list of the entries.
 pub room_of_pairs : (list : List Entry) (m : UnitMap) → cut 0 list ≡ m → room 0 list ≡ most_units m
 room_of_pairs list m e = map_of_cut list 0 refl ∙ ap most_units e
 
--- ---- one refusal at most holds
+-- ---- at most one error applies
 
 one_place : (m : UnitMap) (i j : ℕ) → IsFirstRefusedKey m i → IsFirstRefusedKey m j → i ≡ j
 one_place m i j h k =
@@ -218,17 +218,17 @@ none_refused m Memory w h = h
 err_same : {A : Type 0} {e f : SortedError} → ◌≡◌ {A = Result A SortedError} (Err e) (Err f) → e ≡ f
 err_same h = cc
 
--- a refusal is told, and no other one holds
+-- An error is returned, and no other one applies.
 pub told_refusal : {A : Type 0} (m : UnitMap) (e f : SortedError) → IsRefusal m e
     → ◌≡◌ {A = Result A SortedError} (Err e) (Err f) ↔ IsRefusal m f
 told_refusal m e f h = (λ s. subst (λ z. IsRefusal m z) (err_same s) h, λ k. ap Err (one_refusal m e f h k))
 
--- another answer is told where none holds
+-- If no error applies, another result is returned.
 pub told_other : {A : Type 0} (m : UnitMap) (r : Result A SortedError) (f : SortedError) → CanBeWritten m → (r ≡ Err f → ⊥)
     → (r ≡ Err f) ↔ IsRefusal m f
 told_other m r f w other = (λ s. absurd (other s), λ k. absurd (none_refused m f w k))
 
--- want of memory is told where none holds
+-- If no error applies, `Memory` may be returned.
 pub told_memory : {A : Type 0} (m : UnitMap) (r : Result A SortedError) (f : SortedError) → CanBeWritten m
     → IsErrAnd r (λ e. e ≡ Memory) → (Memory ≡ f → ⊥) → (r ≡ Err f) ↔ IsRefusal m f
 told_memory m (Ok x) f w h other = absurd h

@@ -1,4 +1,5 @@
--- What was saved stays when more units are written, and a step makes what it says.
+-- What was saved stays valid when more units are written, and a step makes what its definition
+-- says.
 use Rattle.std.proofs.Common.{◌≡◌, ℕ, ℤ, zero, suc, Some, slice_get, ◌+◌, ◌-◌, ◌/◌, ◌<◌, ◌≤◌, List, [], ◌∷◌, ◌++◌, Option, refl, sym, ap, subst, ◌∙◌, arith, length, length-append, reverse}
 use Rattle.std.proofs.lemmas.List.{length-reverse, reverse-append}
 use Rattle.std.proofs.lemmas.Option.{none-some, same_Some}
@@ -45,11 +46,11 @@ known_more : (units : List ℕ) (known : List KnownNode) (k : KnownNode) → Are
 known_more units [] k h i = (i, tt)
 known_more units (x ∷ known) k h i = (h.0, known_more units known k h.1 i)
 
--- what a step leaves: a piece in front, and pieces at places before more units were written
+-- What a step leaves: a piece in front, and pieces at indices before more units were written.
 abbrev pub Makes : List ℕ → List ℕ → List ℕ → State → Type 0
 Makes units new places t = Stands new 0 t.front × AreSaved units places t.saved
 
--- one step was taken
+-- One step was taken.
 pub led : (k : ℕ) (units new places kept : List ℕ) (known : List KnownNode) (x : Step) (others : List Step) (goal : UnitMap)
     → Grew k units new
     → ((s t : State) → Stands units 0 s.front → AreSaved units places s.saved → Takes x s t → Makes units new kept t)
@@ -116,7 +117,7 @@ saved_here units len x same h =
     let here : length units - len ≡ 0 = omega arith in
     record { within = omega arith; stands = subst (λ z. Stands units z x) (sym here) h }
 
--- what stands in front is saved
+-- What is in front is saved.
 pub save_led : (units places : List ℕ) (known : List KnownNode) (len : ℕ) (others : List Step) (goal : UnitMap) → len ≡ length units
     → Leads units places known (steps.Save ∷ others) goal → Leads units (len ∷ places) known others goal
 save_led units places known len others goal same h =
@@ -124,7 +125,7 @@ save_led units places known len others goal same h =
     let now : AreSaved units (len ∷ places) (h.0.front ∷ h.0.saved) = (saved_here units len h.0.front same h.1, h.2) in
     (t, subst (λ z. Stands units 0 z.front) (sym h.3.1) h.1, subst (λ z. AreSaved units (len ∷ places) z.saved) (sym h.3.1) now, h.3.2, h.4)
 
--- the node that stands in front is known and saved
+-- The node in front becomes known and is saved.
 pub keep_led : (units places : List ℕ) (known known' : List KnownNode) (len d : ℕ) (es : Bor (List Entry)) (others : List Step)
     (goal : UnitMap) → len ≡ length units
     → known' ≡ known ++ record { entries = es; depth = d; place = len } ∷ []
@@ -141,7 +142,7 @@ keep_led units places known known' len d es others goal same more h =
       subst (λ z. AreKnown units z) (sym more) (known_more units known (record { entries = es; depth = d; place = len }) h.4 is),
     )
 
--- the entries of a node were opened into steps that make it
+-- The entries of a node were opened into steps that make it.
 pub opened : (units places : List ℕ) (known : List KnownNode) (x : Step) (others new : List Step) (goal : UnitMap)
     → ((s t : State) → Takes x s t → Gives others t goal → Gives new s goal)
     → Leads units places known (x ∷ others) goal → Leads units places known new goal
@@ -152,7 +153,7 @@ opened units places known x others new goal f h = (h.0, h.1, h.2, f h.0 h.3.0 h.
 pub turned : {A : Type 0} (new old : List A) (a : A) → old ≡ new ++ a ∷ [] → reverse old ≡ a ∷ reverse new
 turned new old a e = ap reverse e ∙ reverse-append new (a ∷ [])
 
--- a step was pushed
+-- A step was pushed.
 pub pushed : (old new : List Step) (x : Step) (s t : State) (goal : UnitMap) → new ≡ old ++ x ∷ [] → Takes x s t
     → Gives (reverse old) t goal → Gives (reverse new) s goal
 pushed old new x s t goal e h g = rw (turned old new x e) (t, h, g)
@@ -175,7 +176,7 @@ pub start_leads : (es : Bor (List Entry)) → IsBelow 0 es.now → Leads [] [] [
 start_leads es below =
     (record { front = nothing; saved = [] }, tt, tt, (record { front = node (cut 0 es.now); saved = [] }, (below, refl), refl), tt)
 
--- a node of a list of known ones
+-- A node of a list of known ones.
 pub known_at : (units : List ℕ) (known : List KnownNode) (i : ℕ) (k : KnownNode) (m : UnitMap) → AreKnown units known
     → slice_get known i ≡ Some k → cut k.depth k.entries.now ≡ m → IsSaved units k.place (node m)
 known_at units [] i k m h g e = absurd (none-some _ g)

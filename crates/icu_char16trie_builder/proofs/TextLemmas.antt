@@ -7,7 +7,7 @@ use Rattle.std.proofs.lemmas.List.{take-append-drop}
 use Rattle.std.specs.Char.Escape.{encode_utf16}
 use Rattle.std.specs.List.{flat_map}
 
--- characters that were yielded, and one more, are the first of all
+-- If the characters yielded so far are the first ones, they still are with the next one.
 pub front_next : (cs ys : List ℕ) (c : ℕ) → ys ≡ take (length ys) cs → length ys < length cs → c ≡ get_or cs (length ys) c
     → ys ++ c ∷ [] ≡ take (length ys + 1) cs
 front_next cs ys c so_far within is =
@@ -15,7 +15,7 @@ front_next cs ys c so_far within is =
     ap (λ (z : List ℕ). z ++ c ∷ []) so_far ∙ ap (λ (z : ℕ). take (length ys) cs ++ z ∷ []) is
     ∙ sym (take-suc cs (length ys) c within) ∙ ap (λ (k : ℕ). take k cs) next
 
--- the units of one character more
+-- The units of one more character.
 pub units_next : (cs : List ℕ) (c : ℕ) → flat_map encode_utf16 (cs ++ c ∷ []) ≡ flat_map encode_utf16 cs ++ encode_utf16 c
 units_next cs c = flat_map-append encode_utf16 cs (c ∷ []) ∙ ap (λ z. flat_map encode_utf16 cs ++ z) (append-nil (encode_utf16 c))
 
@@ -40,7 +40,7 @@ count_next cs c n one two =
     ap length (units_next cs c) ∙ length-append (flat_map encode_utf16 cs) (encode_utf16 c)
     ∙ ap (λ (k : ℕ). length (flat_map encode_utf16 cs) + k) (one_or_two c n one two)
 
--- fewer characters have no more units
+-- Fewer characters have no more units.
 pub count_within : (cs : List ℕ) (k : ℕ) → length (flat_map encode_utf16 (take k cs)) ≤ length (flat_map encode_utf16 cs)
 count_within cs k =
     omega (

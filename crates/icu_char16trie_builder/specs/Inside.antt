@@ -1,4 +1,4 @@
--- Words that the functions inside the crate and their proofs need. No public contract cites them.
+-- Definitions for the functions inside the crate and their proofs. No public contract uses them.
 pub mod Encoding
 pub mod Written
 pub mod Cuts

@@ -1,5 +1,5 @@
-//! The arms of a branch: its entries by the unit that their keys go on with. What stands before
-//! `depth` in the keys has been passed.
+//! The arms of a branch: its entries, grouped by their next unit. The first `depth` units of the
+//! keys have been passed.
 ghost use Rattle.std.specs.Prelude.{◌≡◌, ℕ, ◌+◌, ◌-◌, ◌*◌, ◌^◌, ◌<◌, ◌≤◌, List, [], ◌∷◌, ◌++◌, Some, None, length, take, drop, slice_get, OnOk, IfOk};
 ghost use Rattle.icu_char16trie.specs.UnitMap.{IsAscendingKeys};
 ghost use Rattle.icu_char16trie_builder.specs.Inside.Cuts.{cut, room, AllLonger, AllShare, IsGroup, unit_of, ArmsSoFar};
@@ -7,7 +7,7 @@ ghost use Rattle.icu_char16trie_builder.specs.Inside.Cuts.{cut, room, AllLonger,
 use crate::entry::{Arm, Entry};
 use std::alloc::{AllocError, Global};
 
-/// How many units two lists begin with together.
+/// Returns the length of the longest common prefix of two lists.
 fn common_len(a: &[u16], b: &[u16]) -> usize
     ensures within { result ≤ length a.now }
     ensures same { take result a.now ≡ take result b.now }
@@ -21,7 +21,7 @@ fn common_len(a: &[u16], b: &[u16]) -> usize
     end
 }
 
-/// How many units the key of the first entry shares from `depth` on with a list.
+/// Returns the length of the common prefix of `units` and the first entry's key from `depth` on.
 fn shared_by_first(units: &[u16], entries: &[Entry<'_>], depth: usize) -> usize
     ensures within { result ≤ length units.now }
     ensures share { AllShare depth result units.now (take 1 entries.now) }
@@ -35,7 +35,7 @@ fn shared_by_first(units: &[u16], entries: &[Entry<'_>], depth: usize) -> usize
     0
 }
 
-/// How many units, at most `most`, all keys share from `depth` on with a list.
+/// Returns the length, at most `most`, of a common prefix of `units` and all keys from `depth` on.
 pub(crate) fn shared_len(units: &[u16], entries: &[Entry<'_>], depth: usize, most: usize) -> usize
     ensures within { result ≤ length units.now }
     ensures few { result ≤ most }
@@ -48,7 +48,7 @@ pub(crate) fn shared_len(units: &[u16], entries: &[Entry<'_>], depth: usize, mos
     shared
 }
 
-/// The unit at `depth` of the key of the first entry.
+/// Returns the unit at `depth` of the first entry's key.
 fn first_unit(entries: &[Entry<'_>], depth: usize) -> Option<u16>
     ensures { result ≡ unit_of entries.now depth }
 {
@@ -56,7 +56,7 @@ fn first_unit(entries: &[Entry<'_>], depth: usize) -> Option<u16>
     first.key.get(depth).copied()
 }
 
-/// How many of the first entries have this unit at `depth`.
+/// Returns the number of leading entries that have `unit` at `depth`.
 fn group_len(entries: &[Entry<'_>], depth: usize, unit: u16) -> usize
     ensures within { result ≤ length entries.now }
     ensures group { IsGroup depth unit (take result entries.now) }
@@ -70,7 +70,7 @@ fn group_len(entries: &[Entry<'_>], depth: usize, unit: u16) -> usize
     entries.len()
 }
 
-/// The arms of a branch of entries whose keys all go on at `depth`.
+/// Returns the arms of a branch. Each key has more than `depth` units.
 pub(crate) fn arms_of<'a>(
     alloc: Global,
     entries: &'a [Entry<'a>],

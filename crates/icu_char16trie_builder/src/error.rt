@@ -1,4 +1,4 @@
-//! Why an entry was refused, or a trie could not be built.
+//! Why an entry was rejected, or a trie could not be built.
 ghost use Rattle.std.specs.Prelude.{◌≡◌};
 ghost use Rattle.icu_char16trie_builder.specs.declared.error.BuildError.TheVariants.{Memory};
 ghost use Rattle.icu_char16trie_builder.specs.declared.error.AddError.TheVariants.{Memory as AddMemory};
@@ -8,16 +8,16 @@ use icu_zerovec::MemoryError;
 use std::alloc::{AllocError, AllocFailed};
 use thiserror::Error;
 
-/// Why an entry was refused. The entries are then as before.
+/// Why an entry was rejected. The entries are then unchanged.
 #[derive(Clone, Copy, Debug, PartialEq, Eq, Error)]
 pub enum AddError {
     /// The key has more than 65,535 units.
     #[error("key too long")]
     KeyTooLong,
-    /// There is an entry with this key.
+    /// There is already an entry with this key.
     #[error("duplicate key")]
     Duplicate,
-    /// Memory was refused.
+    /// An allocation failed.
     #[error("no memory")]
     Memory,
 }
@@ -33,14 +33,14 @@ impl From<MemoryError> for AddError {
 /// Why a trie could not be built.
 #[derive(Clone, Copy, Debug, PartialEq, Eq, Error)]
 pub enum BuildError {
-    /// The entries may take more than `0x7FFF_FFFF` units.
+    /// The entries may need more than `0x7FFF_FFFF` units.
     #[error("too large")]
     TooLarge,
-    /// An entry was refused. No build gives this: it stands here for `?`, in a function that adds
-    /// entries and builds.
+    /// An entry was rejected. The builder never returns this: it is for `?` in a function that both
+    /// adds entries and builds.
     #[error("{0}")]
     Entry(AddError),
-    /// Memory was refused.
+    /// An allocation failed.
     #[error("no memory")]
     Memory,
 }
@@ -69,7 +69,7 @@ impl From<MemoryError> for BuildError {
     }
 }
 
-/// For `?` after an entry was added. Want of memory stays what it is.
+/// For `?` after adding an entry. `Memory` stays `Memory`.
 impl From<AddError> for BuildError {
     ghost use Rattle.icu_char16trie_builder.specs.Errors.{entry_refusal};
 
@@ -83,19 +83,20 @@ impl From<AddError> for BuildError {
     }
 }
 
-/// Why no trie was built of a slice of entries. A place is an index in the slice.
+/// Why no trie was built from a slice of entries. An index is that of an entry in the slice.
 #[derive(Clone, Copy, Debug, PartialEq, Eq, Error)]
 pub enum SortedError {
-    /// The key at this place, the first that can't be taken, has more than 65,535 units.
+    /// The key at this index has more than 65,535 units. It is the first entry that is not valid.
     #[error("key {0} too long")]
     KeyTooLong(usize),
-    /// The key at this place, the first that can't be taken, does not stand after the one before.
+    /// The key at this index is not greater than the one before. It is the first entry that is not
+    /// valid.
     #[error("key {0} not ascending")]
     NotAscending(usize),
-    /// The entries may take more than `0x7FFF_FFFF` units.
+    /// The entries may need more than `0x7FFF_FFFF` units.
     #[error("too large")]
     TooLarge,
-    /// Memory was refused.
+    /// An allocation failed.
     #[error("no memory")]
     Memory,
 }

@@ -1,4 +1,4 @@
-//! Nodes that were written, so that an equal one is not written again.
+//! Nodes that were written, so that an equal node is not written again.
 ghost use Rattle.std.specs.Prelude.{◌≡◌, ℕ, List, [], ◌∷◌, ◌++◌, take, IsTrue, IfSome, OnOk};
 ghost use Rattle.icu_char16trie_builder.specs.Inside.Cuts.{cut};
 ghost use Rattle.icu_char16trie_builder.specs.Inside.Steps.{node, IsSaved, AreKnown};
@@ -9,11 +9,11 @@ use std::alloc::{AllocError, Global};
 use std::collections::HashMap;
 use std::marker::Model;
 
-/// How many entries, and how many units of a key, make up a hash.
+/// The number of entries, and of units of a key, that go into a hash.
 const HASHED: usize = 16;
 
-/// A node that was written: its entries, whose keys have passed `depth` units, and where it stands,
-/// counted from the end.
+/// A node that was written: its entries, the number of units of their keys that have been passed,
+/// and its index, counted from the end of the units.
 #[derive(Clone, Copy)]
 pub(crate) struct KnownNode<'a> {
     pub(crate) entries: &'a [Entry<'a>],
@@ -21,11 +21,11 @@ pub(crate) struct KnownNode<'a> {
     pub(crate) place: usize,
 }
 
-/// Nodes that were written. A clause sees the list of them.
+/// The nodes that were written.
 #[derive(Drop)]
 pub(crate) struct Known<'a> {
     nodes: Vec<KnownNode<'a>>,
-    // The last node of each hash. Any number would do: the entries are compared.
+    // The last node of each hash. Any hash function is correct, because the entries are compared.
     last: HashMap<u64, usize>,
 }
 
@@ -38,12 +38,12 @@ impl<'a> Model for Known<'a> {
     ghost view = { λ k. k.nodes.items };
 }
 
-/// One number more in a hash.
+/// Mixes one more number into a hash.
 fn mixed(hash: u64, number: u64) -> u64 {
     (hash.rotate_left(5) ^ number).wrapping_mul(0x517C_C1B7_2722_0A95)
 }
 
-/// The units of a key, in a hash.
+/// Mixes the units of a key into a hash.
 fn with_key(hash: u64, units: &[u16]) -> u64 {
     let mut hash = mixed(hash, units.len() as u64);
     for unit in units.split_at(units.len().min(HASHED)).0 {
@@ -52,7 +52,7 @@ fn with_key(hash: u64, units: &[u16]) -> u64 {
     hash
 }
 
-/// The hash of a node: equal ones have the same.
+/// Returns the hash of a node. Equal nodes have equal hashes.
 fn hash_of(entries: &[Entry<'_>], depth: usize) -> u64 {
     let mut hash = entries.len() as u64;
     for entry in entries.split_at(entries.len().min(HASHED)).0 {
@@ -62,7 +62,8 @@ fn hash_of(entries: &[Entry<'_>], depth: usize) -> u64 {
     hash
 }
 
-/// Whether two lists of entries begin alike, each without the units that its keys have passed.
+/// Returns true if the first entries of two lists are equal, each without the units of its key that
+/// have been passed.
 fn begin_alike(a: &[Entry<'_>], a_depth: usize, b: &[Entry<'_>], b_depth: usize) -> bool
     ensures { IsTrue result → cut a_depth (take 1 a.now) ≡ cut b_depth (take 1 b.now) }
 {
@@ -72,7 +73,8 @@ fn begin_alike(a: &[Entry<'_>], a_depth: usize, b: &[Entry<'_>], b_depth: usize)
     false
 }
 
-/// Whether two lists of entries are the same map, each without the units that its keys have passed.
+/// Returns true if two lists of entries are the same map, each without the units of its keys that
+/// have been passed.
 fn are_alike(a: &[Entry<'_>], a_depth: usize, b: &[Entry<'_>], b_depth: usize) -> bool
     ensures { IsTrue result → cut a_depth a.now ≡ cut b_depth b.now }
 {
@@ -90,7 +92,7 @@ fn are_alike(a: &[Entry<'_>], a_depth: usize, b: &[Entry<'_>], b_depth: usize) -
 impl<'a> Known<'a> {
     ghost use Rattle.icu_char16trie_builder.specs.declared.known.KnownNode.{KnownNode};
 
-    /// No nodes. It takes no memory.
+    /// Creates an empty list of nodes. Allocates nothing.
     pub(crate) fn new(alloc: Global) -> Self
         ensures { result ≡ [] }
     {
@@ -100,7 +102,7 @@ impl<'a> Known<'a> {
         }
     }
 
-    /// The place of a node of these entries, if one is found.
+    /// Returns the index of a known node of these entries, if one is found.
     pub(crate) fn find(&self, entries: &[Entry<'_>], depth: usize) -> Option<usize>
         ensures { IfSome result (λ place. (units : List ℕ)
             → AreKnown units self.now → IsSaved units place (node (cut depth entries.now))) }
@@ -113,7 +115,7 @@ impl<'a> Known<'a> {
         Some(known.place)
     }
 
-    /// Adds a node of these entries that stands at a place.
+    /// Adds the node of these entries, which was written at `place`.
     pub(crate) fn add(
         &mut self,
         entries: &'a [Entry<'a>],

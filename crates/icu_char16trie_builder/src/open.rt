@@ -1,4 +1,4 @@
-//! A node of entries becomes the steps that write it. What is to be written first is pushed last.
+//! Turns a node of entries into the steps that write it. The step to be taken first is pushed last.
 ghost use Rattle.std.specs.Prelude.{slice_get, ◌≡◌, ℕ, ℤ, ◌+◌, ◌-◌, ◌*◌, ◌^◌, ◌<◌, ◌≤◌, List, [], ◌∷◌, ◌++◌, Some, None, length, drop, reverse, OnOk, IfSome};
 ghost use Rattle.icu_char16trie.specs.UnitMap.{UnitMap, IsAscendingKeys};
 ghost use Rattle.icu_char16trie_builder.specs.Inside.Cuts.{cut, room, AllLonger, IsBelow, IsGroup, arm_units, arm_map, arm_room, IsPart};
@@ -13,10 +13,10 @@ use crate::level::{LONGEST_RUN, write_tail};
 use crate::step::Step;
 use std::alloc::{AllocError, Global};
 
-/// The most entries of a row, which are searched one by one.
+/// The largest number of entries in a row, which is searched one by one.
 const LONGEST_ROW: usize = 5;
 
-/// The value of an arm whose only key ends at `depth`.
+/// Returns the value of an arm whose only key ends at `depth`.
 fn final_value(arm: Arm<'_>, depth: usize) -> Option<i32>
     ensures { IfSome result (λ v. cut depth arm.entry.entries.now ≡ ([], v) ∷ []) }
 {
@@ -28,7 +28,7 @@ fn final_value(arm: Arm<'_>, depth: usize) -> Option<i32>
     None
 }
 
-/// The units of a key from `depth` on.
+/// Returns the units of a key from `depth` on.
 pub(crate) fn units_from(key: &[u16], depth: usize) -> &[u16]
     ensures { result.now ≡ drop depth key.now }
 {
@@ -38,7 +38,7 @@ pub(crate) fn units_from(key: &[u16], depth: usize) -> &[u16]
     key.split_at(depth).1
 }
 
-/// The first of some arms.
+/// Returns the first arm.
 fn first_arm<'a>(arms: &[Arm<'a>]) -> Arm<'a>
     requires { 0 < length arms.now }
     ensures { arms.now ≡ result ∷ drop 1 arms.now }
@@ -46,10 +46,11 @@ fn first_arm<'a>(arms: &[Arm<'a>]) -> Arm<'a>
     arms[0]
 }
 
-/// Adds the steps of the part of a branch with these arms, whose keys have passed `depth` units.
+/// Adds the steps of the part of a branch with these arms. The first `depth` units of their keys
+/// have been passed.
 ///
-/// More than five arms are split in halves, and of five or fewer one is taken at a time: so its
-/// calls are at most 18 deep, since there are no more than 65,536 arms.
+/// More than five arms are split in halves; of at most five, one is taken at a time. There are at
+/// most 65,536 arms, so the recursion is at most 18 deep.
 fn push_part<'a>(
     steps: &mut Vec<Step<'a>>,
     arms: &[Arm<'a>],
@@ -87,8 +88,8 @@ fn push_part<'a>(
     Ok(())
 }
 
-/// Adds the steps of a linear match: of the unit that all keys go on with at `depth`, and up to
-/// fifteen more that they share.
+/// Adds the steps of a linear match: the unit that all keys have at `depth`, and up to fifteen more
+/// that they share.
 fn push_run<'a>(
     steps: &mut Vec<Step<'a>>,
     first: &Entry<'a>,
@@ -114,8 +115,8 @@ fn push_run<'a>(
     Ok(())
 }
 
-/// Adds the steps of a match node: of a branch, or of a linear match where all keys go on with one
-/// unit. `value` is that of the key that ends at `depth`.
+/// Adds the steps of a match node: a linear match if all keys continue with one unit, and otherwise
+/// a branch. `value` is that of the key that ends at `depth`.
 fn push_match<'a>(
     alloc: Global,
     steps: &mut Vec<Step<'a>>,
@@ -144,7 +145,7 @@ fn push_match<'a>(
     push_run(steps, first, entries, depth, value)
 }
 
-/// Adds the steps of the match node of entries whose keys go on beyond `depth`.
+/// Adds the steps of the match node of entries whose keys have more than `depth` units.
 fn push_entries<'a>(
     alloc: Global,
     steps: &mut Vec<Step<'a>>,
@@ -167,7 +168,7 @@ fn push_entries<'a>(
     Ok(())
 }
 
-/// Adds the steps of the node of several entries, of which the first key may end at `depth`.
+/// Adds the steps of the node of several entries. The first key may end at `depth`.
 fn push_node<'a>(
     alloc: Global,
     steps: &mut Vec<Step<'a>>,
@@ -191,8 +192,8 @@ fn push_node<'a>(
     Ok(())
 }
 
-/// Opens the node of entries whose keys have passed `depth` units: writes it, if it has one entry,
-/// and else adds its steps.
+/// Opens the node of entries whose keys have passed `depth` units. Writes the node if it has one
+/// entry, and otherwise adds its steps.
 pub(crate) fn open_node<'a>(
     alloc: Global,
     out: &mut Vec<u16>,

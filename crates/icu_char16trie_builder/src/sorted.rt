@@ -1,4 +1,4 @@
-//! Entries that stand in unit order already: they are tested, and no key of them is copied.
+//! Entries that are already in unit order. They are checked, and no key is copied.
 ghost use Rattle.std.specs.Prelude.{◌≡◌, ◌↔◌, ℕ, ◌+◌, ◌<◌, ◌≤◌, length, take, IsTrue, IfOk, MatchOption};
 ghost use Rattle.icu_char16trie.specs.UnitMap.{KeyBelow};
 ghost use Rattle.icu_char16trie_builder.specs.Entries.{most_units};
@@ -11,14 +11,14 @@ use crate::entry::Entry;
 use crate::error::SortedError;
 use std::alloc::{AllocError, Global};
 
-/// Whether a key stands before another one in unit order.
+/// Returns true if a key is before another in unit order.
 fn is_before(a: &[u16], b: &[u16]) -> bool
     ensures { IsTrue result ↔ KeyBelow a.now b.now }
 {
     a < b
 }
 
-/// Whether the entry at a place follows those before it, which are in order.
+/// Returns true if the entry at index `i` is valid after those before it, which are in order.
 fn follows(entries: &[(&[u16], i32)], i: usize) -> bool
     requires within { i < length entries.now }
     requires front { IsInOrder (take i (pair_map entries.now)) }
@@ -34,7 +34,7 @@ fn follows(entries: &[(&[u16], i32)], i: usize) -> bool
     is_before(entries[i - 1].0, key)
 }
 
-/// The place of the first entry that can't be taken, if there is one.
+/// Returns the index of the first entry that is not valid, if there is one.
 fn first_refused(entries: &[(&[u16], i32)]) -> Option<usize>
     ensures { MatchOption result (IsInOrder (pair_map entries.now))
         (IsFirstRefusedKey (pair_map entries.now)) }
@@ -47,7 +47,7 @@ fn first_refused(entries: &[(&[u16], i32)]) -> Option<usize>
     None
 }
 
-/// Why the entry at a place is refused, which is the first that can't be taken.
+/// Returns why the entry at index `i`, the first that is not valid, is rejected.
 fn refusal_at(entries: &[(&[u16], i32)], i: usize) -> SortedError
     requires { IsFirstRefusedKey (pair_map entries.now) i }
     ensures { IsRefusal (pair_map entries.now) result }
@@ -58,7 +58,7 @@ fn refusal_at(entries: &[(&[u16], i32)], i: usize) -> SortedError
     SortedError::NotAscending(i)
 }
 
-/// Whether no trie of the entries can need too many units.
+/// Returns true if no trie of the entries can need too many units.
 fn fit(entries: &[(&[u16], i32)]) -> bool
     ensures { IsTrue result ↔ (most_units (pair_map entries.now) ≤ 0x7FFF_FFFF) }
 {
@@ -72,7 +72,7 @@ fn fit(entries: &[(&[u16], i32)]) -> bool
     true
 }
 
-/// Why no trie is built of the entries, if anything but memory is in the way.
+/// Returns why no trie can be built from the entries, apart from a failed allocation.
 pub(crate) fn refusal(entries: &[(&[u16], i32)]) -> Option<SortedError>
     ensures { IsTold (pair_map entries.now) result }
 {
@@ -85,7 +85,7 @@ pub(crate) fn refusal(entries: &[(&[u16], i32)]) -> Option<SortedError>
     None
 }
 
-/// The entries, in their order.
+/// Returns the entries, in their order.
 pub(crate) fn entries_of_pairs<'a>(
     alloc: Global,
     pairs: &[(&'a [u16], i32)],

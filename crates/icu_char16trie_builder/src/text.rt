@@ -6,7 +6,7 @@ ghost use Rattle.icu_char16trie.specs.Matches.{text_units};
 use crate::builder::LONGEST_KEY;
 use std::alloc::{AllocError, Global};
 
-/// Whether a text has more units than a key may have.
+/// Returns true if a text has more units than a key may have.
 pub(crate) fn is_too_long(text: &str) -> bool
     ensures { IsTrue result ↔ (65535 < length (text_units text.now)) }
 {
@@ -20,7 +20,7 @@ pub(crate) fn is_too_long(text: &str) -> bool
     false
 }
 
-/// Adds the units of a character.
+/// Appends the units of a character.
 fn push_char(units: &mut Vec<u16>, c: char) -> Result<(), AllocError>
     ensures { OnOk result (units.new.items ≡ units.old.items ++ encode_utf16 c) }
 {
@@ -35,7 +35,7 @@ fn push_char(units: &mut Vec<u16>, c: char) -> Result<(), AllocError>
     Ok(())
 }
 
-/// The units of a text.
+/// Returns the units of a text.
 pub(crate) fn units_of_text(alloc: Global, text: &str) -> Result<Vec<u16>, AllocError>
     ensures { IfOk result (λ units. units.items ≡ text_units text.now) }
 {

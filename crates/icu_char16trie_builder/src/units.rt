@@ -8,8 +8,8 @@ use crate::known::Known;
 use crate::step::{Step, take_step};
 use std::alloc::{AllocError, Global};
 
-/// The units of a trie of some entries, whose keys ascend: at most two for each unit of a key, and
-/// sixteen for each entry.
+/// Returns the units of a trie of entries whose keys ascend: at most two for each unit of a key,
+/// and sixteen for each entry.
 pub(crate) fn units_of(alloc: Global, entries: &[Entry<'_>]) -> Result<Vec<u16>, AllocError>
     requires below { IsBelow 0 entries.now }
     requires few { room 0 entries.now < 2 ^ 32 }

@@ -1,5 +1,5 @@
-//! The numbers of a trie as units, written from the end of the trie to its front: what is pushed
-//! later stands earlier.
+//! Encodes the numbers of a trie as units. They are written from the end of the trie to its front:
+//! a unit that is pushed later comes earlier.
 ghost use Rattle.std.specs.Prelude.{◌≡◌, ℕ, ◌+◌, ◌-◌, ◌*◌, ◌/◌, ◌%◌, ◌^◌, ◌<◌, ◌≤◌, List, [], ◌∷◌, ◌++◌, length, reverse, OnOk, IfOk};
 ghost use Rattle.icu_char16trie_builder.specs.Inside.Encoding.{lead_by, tail_by, short_units, delta_units, node_units, final_units};
 
@@ -13,8 +13,9 @@ pub(crate) fn put_one(out: &mut Vec<u16>, first: u16) -> Result<(), AllocError>
     Ok(())
 }
 
-/// Writes the units that follow a number's lead, and gives the lead: the number itself below `two`,
-/// from there to below `three` the high half and `two` more, and else `three`.
+/// Writes the units that follow a number's lead, and returns the lead. A number below `two` is its
+/// own lead. If its high half is below `three - two`, the lead is `two` plus the high half.
+/// Otherwise the lead is `three`.
 #[tactic(auto, unfolding(crate::specs::Inside::Encoding::lead_by, crate::specs::Inside::Encoding::tail_by))]
 fn put_tail(out: &mut Vec<u16>, number: u32, two: u16, three: u16) -> Result<u16, AllocError>
     requires { two < three }
@@ -35,7 +36,7 @@ fn put_tail(out: &mut Vec<u16>, number: u32, two: u16, three: u16) -> Result<u16
     Ok(three)
 }
 
-/// Writes the jump of an entry: one unit below 0x4000, two below 0x3FFF_0000, and else three.
+/// Writes the jump of an entry: one unit below 0x4000, two below 0x3FFF_0000, and otherwise three.
 pub(crate) fn put_short(out: &mut Vec<u16>, number: u32) -> Result<(), AllocError>
     ensures { OnOk result (reverse out.new.items ≡ short_units number ++ reverse out.old.items) }
 {
@@ -43,7 +44,7 @@ pub(crate) fn put_short(out: &mut Vec<u16>, number: u32) -> Result<(), AllocErro
     put_one(out, lead)
 }
 
-/// Writes a final value: one unit below 0x4000, two below 0x3FFF_0000, and else three.
+/// Writes a final value: one unit below 0x4000, two below 0x3FFF_0000, and otherwise three.
 pub(crate) fn put_final(out: &mut Vec<u16>, number: u32) -> Result<(), AllocError>
     ensures { OnOk result (reverse out.new.items ≡ final_units number ++ reverse out.old.items) }
 {
@@ -52,7 +53,7 @@ pub(crate) fn put_final(out: &mut Vec<u16>, number: u32) -> Result<(), AllocErro
 }
 
 /// Writes the lead of a match node with these low six bits and a value: one unit below 0x100, two
-/// below 0xFE_0000, and else three.
+/// below 0xFE_0000, and otherwise three.
 pub(crate) fn put_value(out: &mut Vec<u16>, number: u32, low: u16) -> Result<(), AllocError>
     requires { low < 0x40 }
     ensures { OnOk result (reverse out.new.items ≡ node_units number low ++ reverse out.old.items) }
@@ -61,7 +62,7 @@ pub(crate) fn put_value(out: &mut Vec<u16>, number: u32, low: u16) -> Result<(),
     put_one(out, (lead + 1) * 64 + low)
 }
 
-/// Writes the delta of a split: one unit below 0xFC00, two below 0x03FF_0000, and else three.
+/// Writes the delta of a split: one unit below 0xFC00, two below 0x03FF_0000, and otherwise three.
 pub(crate) fn put_delta(out: &mut Vec<u16>, number: u32) -> Result<(), AllocError>
     ensures { OnOk result (reverse out.new.items ≡ delta_units number ++ reverse out.old.items) }
 {

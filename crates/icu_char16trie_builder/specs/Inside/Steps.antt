@@ -1,5 +1,4 @@
--- What the steps that are left make of what stands in front of the units so far, and of what was
--- saved.
+-- What the remaining steps make from what is in front of the units so far and from what was saved.
 use Rattle.std.specs.Prelude.{◌≡◌, ℕ, ℤ, ◌+◌, ◌-◌, ◌*◌, ◌/◌, ◌^◌, ◌<◌, ◌≤◌, List, [], ◌∷◌, ◌++◌, length, reverse, Option, Some, None}
 use Rattle.icu_char16trie.specs.Grammar.{Holds}
 use Rattle.icu_char16trie.specs.UnitMap.{UnitMap, under}
@@ -11,46 +10,49 @@ use Rattle.icu_char16trie_builder.specs.declared.known.KnownNode.{KnownNode}
 use Rattle.icu_char16trie_builder.specs.declared.step.Step.{Step}
 use Rattle.icu_char16trie_builder.specs.declared.step.Step.TheVariants as steps
 
--- nothing yet, a node of a map, or a part of a branch with n entries, their units and its map
+-- What can be in front: nothing yet, a node of a map, or a part of a branch with n entries, their
+-- units and its map.
 pub data Piece : Type 0 where
   nothing : Piece
   node : (m : UnitMap) → Piece
   part : (n : ℕ) (us : List ℕ) (m : UnitMap) → Piece
 
--- a piece stands at a place
+-- A piece is at index p.
 abbrev pub Stands : List ℕ → ℕ → Piece → Type 0
 Stands units p nothing = Unit {0}
 Stands units p (node m) = Holds units p m
 Stands units p (part n us m) = PartAt units p n us m
 
--- a piece stands so many units before the end
+-- A piece is `from_end` units before the end.
 pub record IsSaved (units : List ℕ) (from_end : ℕ) (x : Piece) : Type 0 where
   pub within : from_end ≤ length units
   pub stands : Stands units (length units - from_end) x
 
--- pieces stand at places, which are counted from the end
+-- Pieces are at these indices, which are counted from the end.
 abbrev pub AreSaved : List ℕ → List ℕ → List Piece → Type 0
 AreSaved units [] [] = Unit {0}
 AreSaved units [] (x ∷ saved) = ⊥
 AreSaved units (p ∷ places) [] = ⊥
 AreSaved units (p ∷ places) (x ∷ saved) = IsSaved units p x × AreSaved units places saved
 
--- nodes that were written stand at their places
+-- The known nodes are at their indices.
 abbrev pub AreKnown : List ℕ → List KnownNode → Type 0
 AreKnown units [] = Unit {0}
 AreKnown units (k ∷ known) =
     IsSaved units k.place (node (cut k.depth k.entries.now)) × AreKnown units known
 
--- what stands in front, and what was saved, the last first
+-- What is in front, and what was saved, the last first.
 pub record State : Type 0 where
   pub front : Piece
   pub saved : List Piece
 
+-- The unit u of the last entry of a row is written in front of its node.
 pub record TakesLast (u : ℕ) (s t : State) : Type 0 where
   pub m : UnitMap
   pub was : s.front ≡ node m
   pub is : t ≡ record { front = part 1 (u ∷ []) (under (u ∷ []) m); saved = s.saved }
 
+-- The entry of the unit u, with a jump to the node saved last, is written in front of a row.
 pub record TakesJump (u : ℕ) (s t : State) : Type 0 where
   pub n : ℕ
   pub us : List ℕ
@@ -62,6 +64,7 @@ pub record TakesJump (u : ℕ) (s t : State) : Type 0 where
   pub was : s ≡ record { front = part (n - 1) us m2; saved = node m1 ∷ rest }
   pub is : t ≡ record { front = part n (u ∷ us) (under (u ∷ []) m1 ++ m2); saved = rest }
 
+-- The entry of the unit u, with the final value v, is written in front of a row.
 pub record TakesValue (u : ℕ) (v : ℤ) (s t : State) : Type 0 where
   pub n : ℕ
   pub us : List ℕ
@@ -71,6 +74,7 @@ pub record TakesValue (u : ℕ) (v : ℤ) (s t : State) : Type 0 where
   pub was : s.front ≡ part (n - 1) us m
   pub is : t ≡ record { front = part n (u ∷ us) ((u ∷ [], v) ∷ m); saved = s.saved }
 
+-- A split at x is written in front of the upper part. The lower part is the one saved last.
 pub record TakesSplit (x : ℕ) (s t : State) : Type 0 where
   pub n : ℕ
   pub us1 : List ℕ
@@ -84,6 +88,7 @@ pub record TakesSplit (x : ℕ) (s t : State) : Type 0 where
   pub from : From x us2
   pub is : t ≡ record { front = part n (us1 ++ us2) (m1 ++ m2); saved = rest }
 
+-- A linear match, and its own value, if it has one, is written in front of its node.
 pub record TakesRun (units : List ℕ) (value : Option ℤ) (s t : State) : Type 0 where
   pub m : UnitMap
   pub some : 0 < length units
@@ -91,6 +96,7 @@ pub record TakesRun (units : List ℕ) (value : Option ℤ) (s t : State) : Type
   pub was : s.front ≡ node m
   pub is : t ≡ record { front = node (own_entry value ++ under units m); saved = s.saved }
 
+-- The lead of a branch, and its own value, if it has one, is written in front of its part.
 pub record TakesBranch (count : ℕ) (value : Option ℤ) (s t : State) : Type 0 where
   pub us : List ℕ
   pub m : UnitMap
@@ -100,7 +106,7 @@ pub record TakesBranch (count : ℕ) (value : Option ℤ) (s t : State) : Type 0
   pub was : s.front ≡ part count us m
   pub is : t ≡ record { front = node (own_entry value ++ m); saved = s.saved }
 
--- a step makes t of s
+-- A step leads from the state s to the state t.
 abbrev pub Takes : Step → State → State → Type 0
 Takes (steps.Node entries d) s t =
     IsBelow d entries.now × (t ≡ record { front = node (cut d entries.now); saved = s.saved })
@@ -118,41 +124,42 @@ Takes (steps.Split u) s t = TakesSplit u s t
 Takes (steps.Run units value) s t = TakesRun units.now value s t
 Takes (steps.Branch count value) s t = TakesBranch count value s t
 
--- the steps, the next one first, make a node of the map goal
+-- The steps, the next one first, make a node of the map goal.
 abbrev pub Gives : List Step → State → UnitMap → Type 0
 Gives [] s goal = s ≡ record { front = node goal; saved = [] }
 Gives (x ∷ others) s goal = (t : State) × Takes x s t × Gives others t goal
 
--- and what they need stands there
+-- The remaining steps make a node of the map goal from what is in the units.
 abbrev pub Leads : List ℕ → List ℕ → List KnownNode → List Step → UnitMap → Type 0
 Leads units places known others goal =
     (s : State) × Stands units 0 s.front × AreSaved units places s.saved × Gives others s goal
     × AreKnown units known
 
--- the part of a branch with these arms, whose units are before d
+-- The part of a branch with these arms. The first d units of their keys have been passed.
 abbrev pub part_of : ℕ → List Arm → Piece
 part_of d arms = part (length arms) (arm_units arms) (arm_map d arms)
 
--- the node of the entries below d, and of the empty key, if it has a value
+-- The node of the entries below d, and of the empty key, if it has a value.
 abbrev pub node_of : Option ℤ → ℕ → List Entry → Piece
 node_of value d es = node (own_entry value ++ cut d es)
 
--- steps were added that put a piece in front, whatever stood there: what the steps before make with
--- it, all together make without it
+-- Steps were added that put a piece in front, in any state: the new steps make what the old steps
+-- make when the piece is in front.
 abbrev pub PutsInFront : List Step → List Step → Piece → Type 0
 PutsInFront old new x = (s : State) (goal : UnitMap)
     → Gives (reverse old) (record { front = x; saved = s.saved }) goal → Gives (reverse new) s goal
 
--- the room of the entries below d, and of the empty key, if it has a value
+-- The largest number of units in a trie of the entries below d, and of the empty key, if it has a
+-- value.
 abbrev pub room_of : Option ℤ → ℕ → List Entry → ℕ
 room_of value d es = 16 * length (own_entry value) + room d es
 
--- the units of a lead
+-- The largest number of units in a lead.
 abbrev pub lead_cost : Option ℤ → ℕ
 lead_cost None = 1
 lead_cost (Some v) = 3
 
--- the most units that a step writes, together with the steps that it leaves
+-- The largest number of units that a step writes, together with the steps that it adds.
 abbrev pub step_cost : Step → ℕ
 step_cost (steps.Node entries d) = 1 + (room d entries.now - 7)
 step_cost steps.Save = 1
@@ -165,11 +172,12 @@ step_cost (steps.Split u) = 4
 step_cost (steps.Run units value) = lead_cost value + length units.now
 step_cost (steps.Branch count value) = lead_cost value + 1
 
+-- The largest number of units that all steps write.
 abbrev pub cost : List Step → ℕ
 cost [] = 0
 cost (x ∷ others) = step_cost x + cost others
 
--- a step can be taken
+-- The arguments of a step are valid.
 abbrev pub IsReady : Step → Type 0
 IsReady (steps.Node entries d) = IsBelow d entries.now
 IsReady steps.Save = Unit {0}

@@ -5,7 +5,7 @@ use Rattle.icu_char16trie_builder.proofs.ArmLemmas.{part_low, part_high}
 use Rattle.icu_char16trie_builder.proofs.OpenLemmas.{gives_value, gives_jump, gives_split, last_cost, value_cost, jump_cost, split_cost, first_below}
 use Rattle.icu_char16trie_builder.proofs.open.+push_part.Goals as goal
 
--- a list is its first item and what comes after it
+-- A list is its first item and what comes after it.
 begins : {A : Type 0} {x : A} {all rest : List A} → all ≡ x ∷ drop 1 all → rest ≡ drop 1 all → all ≡ x ∷ rest
 begins {x = x} e r = e ∙ ap (λ z. x ∷ z) (sym r)
 

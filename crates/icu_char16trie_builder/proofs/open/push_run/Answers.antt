@@ -5,7 +5,7 @@ use Rattle.icu_char16trie_builder.proofs.OpenLemmas.{IsRun, run_is, gives_run, r
 use Rattle.icu_char16trie_builder.proofs.open.push_run.Goals as goal
 use Rattle.icu_char16trie_builder.proofs.open.push_run.Goals.{After-shared_len-shared}
 
--- the units of the run are units of the key from the depth on
+-- The units of the linear match are units of the key from `depth` on.
 run_within : (c : After-shared_len-shared) → (1 + c.shared_len-shared.result ≤ length c.units_from-units.result.now)
     × (c.args.depth + (1 + c.shared_len-shared.result) ≤ length c.args.first.now.key.now)
 run_within c =
@@ -21,7 +21,7 @@ split_at-requires c = omega (arith, (run_within (goal.at.split_at-requires c).Af
 pub overflow_add-depth-2 : goal.overflow_add-depth-2
 overflow_add-depth-2 c = let within = (run_within (goal.at.overflow_add-depth-2 c).After-shared_len-shared).1 in search rules
 
--- all keys have the units of the run
+-- All keys have the units of the linear match.
 run : (c : goal.In_ok-push-2) → IsRun c.args.depth (1 + c.shared_len-shared.result) c.split_at.result.0.now c.args.entries.now
 run c = run_is c.args.depth c.requires.group.0 c.shared_len-shared.result c.args.entries.now c.args.first.now c.units_from-units.result.now
     c.units_from.result.now c.split_at.result.0.now c.requires.group.1 c.requires.first c.units_from-units.ensures c.units_from.ensures

@@ -10,12 +10,12 @@ use Rattle.icu_char16trie_builder.specs.declared.step.Step.TheVariants as steps
 use Rattle.icu_char16trie_builder.proofs.StepLemmas.{led, save_led, keep_led, turned, last_takes, value_takes, run_takes, branch_takes, jump_takes, split_takes}
 use Rattle.icu_char16trie_builder.proofs.step.take_step.Goals as goal
 
--- what the next step is
+-- The next step.
 next : (units places : List ℕ) (known : List KnownNode) (x y : Step) (others : List Step) (goal : UnitMap) → x ≡ y
     → Leads units places known (x ∷ others) goal → Leads units places known (y ∷ others) goal
 next units places known x y others goal e h = subst (λ z. Leads units places known (z ∷ others) goal) e h
 
--- where the place that was saved last is
+-- The index that was saved last.
 at_place : (units places places' : List ℕ) (known : List KnownNode) (others : List Step) (goal : UnitMap) → places ≡ places'
     → Leads units places known others goal → Leads units places' known others goal
 at_place units places places' known others goal e h = subst (λ z. Leads units z known others goal) e h

@@ -7,7 +7,7 @@ use Rattle.icu_char16trie_builder.proofs.EntryLemmas.{room_self, most_none, more
 use Rattle.icu_char16trie_builder.proofs.builder.Char16TrieBuilder.build.Goals as goal
 use Rattle.icu_char16trie_builder.proofs.builder.Char16TrieBuilder.build.Goals.{In_ok-entries}
 
--- the room of the entries is the most units of a trie of the builder's map
+-- The bound of the entries is the largest number of units in a trie of the builder's map.
 room_is : (c : In_ok-entries) {slice : List Entry} → slice ≡ c.in_ok-entries.entries.items → room 0 slice ≡ most_units c.args.self
 room_is c is = room_self _ c.in_ok-entries.entries.items (entry_map c.self.inside.entries.entries) c.args.self is
     c.in_ok-entries.ensures (search rules)
