@@ -1,4 +1,4 @@
--- The items of a JSON array, and that what is written of a trie is read back.
+-- The items of a JSON array; what is written of a trie is read back.
 use Rattle.std.proofs.Common.{◌≡◌, ℕ, suc, ◌+◌, ◌<◌, ◌^◌, List, [], ◌∷◌, true, Option, Some, None, Result, Ok, refl, ap, subst, ◌∙◌, map, arith}
 use Rattle.std.proofs.lemmas.Bool.{lt-ltb}
 use Rattle.std.proofs.lemmas.List.{map-id}
@@ -91,7 +91,8 @@ cells_from i (n ∷ ns) h =
     ∙ ap (before (Ok n)) (cells_from (i + 1) ns (λ k d lt. h (suc k) d (omega arith)))
 
 -- ---- the trie
--- the steps after the shapes
+--
+-- The steps after the kinds of the members are checked.
 abbrev steps : {T : Type 0} → (ℕ → Option T) → Result CodePointTrieHeader JsonFault → List Data → List Data → Result (Parts T) JsonFault
 steps range h index values =
     and_then h (λ h. and_then (cells_of index) (λ index. and_then (values_of range values) (λ values. trie_with range h index values)))
@@ -102,7 +103,7 @@ shapes_read : {T : Type 0} (num : T → ℕ) (range : ℕ → Option T) (t : Par
 unfolding serde_json_on_literals
 shapes_read num range t = refl
 
--- what is written is read back, where the parts have no fault
+-- What is written is read back if the parts are valid.
 pub json_read : {T : Type 0} (num : T → ℕ) (range : ℕ → Option T) (t : Parts T) → header_of (header_json t.header) ≡ Ok t.header
     → All (IsGivenBack (λ x. x) (fitting (2 ^ 16))) t.index → All (IsGivenBack num range) t.values
     → parts_fault range t.header t.index t.values ≡ None → trie_of_json range (json_of num t) ≡ Ok t

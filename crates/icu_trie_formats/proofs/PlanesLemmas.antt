@@ -1,4 +1,4 @@
--- The packed bytes of the planes trie are its cells, and no test of a trie's parts refuses them.
+-- The packed bytes of the planes trie are its cells, and they pass every check of a trie's parts.
 use Rattle.std.proofs.Common.{◌≡◌, ℕ, ◌^◌, List, Option, Some, None, refl, sym, ◌∙◌}
 use Rattle.std.proofs.lemmas.Bool.{true≢false}
 use Rattle.icu_zerovec.specs.Cells.{values_of, IsFault}
@@ -23,7 +23,8 @@ pub no_fault : parts_fault (fitting (2 ^ 8)) planes_header planes_index planes_d
 unfolding planes_index planes_data
 no_fault = refl
 
--- bytes of which each cell is a value are refused for their number alone, and these are whole cells
+-- If each cell of some bytes is a value, only their number can be an error. These bytes are whole
+-- cells.
 pub no_fault_of_INDEX : (e : UleError) → IsFault (λ b. Some (number_of 2 b)) 2 INDEX e → ⊥
 no_fault_of_INDEX Length h = h refl
 no_fault_of_INDEX (Cell i) h = absurd (true≢false h.2)

@@ -19,7 +19,7 @@ type_of_number : (k : TrieType) (n : ℕ) → n ≡ type_number k → type_of n 
 type_of_number Fast n e = rw e
 type_of_number Small n e = rw e
 
--- after the header and the values, the trie is that of these parts
+-- After the header and the values, the trie is the one of these parts.
 pub same_trie : {T : Type 0} (range : ℕ → Option T) (t : TomlParts) (h : CodePointTrieHeader) (values : List T) (index : List ℕ)
     (cells : List T) → GivesHeader t (Ok h) → typed_data range t ≡ Ok values → index ≡ t.index → cells ≡ values
     → trie_of range t ≡ trie_with range h index cells

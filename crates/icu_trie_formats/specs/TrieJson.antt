@@ -15,51 +15,53 @@ use Rattle.icu_trie_formats.specs.TrieOfParts.{trie_of_parts}
 use Rattle.icu_trie_formats.specs.declared.json.TrieJsonError.{TrieJsonError}
 use Rattle.icu_trie_formats.specs.declared.json.TrieJsonError.TheVariants.{Shape, Number, Value, Trie, Memory}
 
--- ---- what a value says
--- the fault of a value: nothing, or something of another kind, stands at the key; a number there is
--- none of its range; a cell of the data is the number of no value; the parts make no trie
+-- ---- how a value is read
+--
+-- The errors of a value: a key is missing or its member is of another kind; a number is not in its
+-- range; a data cell is not the number of a value; the parts do not form a trie.
 pub data JsonFault : Type 0 where
   shape : List ℕ → JsonFault
   no_number : List ℕ → JsonFault
   no_value : ℕ → JsonFault
   of_parts : CodePointTrieError → JsonFault
 
--- a whole number of 32 bits, written without a fraction
+-- A number that fits in 32 bits.
 abbrev pub u32_of : ℕ → Option ℕ
 u32_of n = if nat_lt n (2 ^ 32) then Some n else None
 
+-- The whole number of a value, written without a fraction, if it fits in 32 bits.
 abbrev pub number_of : Data → Option ℕ
 number_of d = option_and_then u32_of (option_and_then as_u64 (as_number d))
 
--- the number that a value is, if it has this range, or the fault of the key
+-- The number of a value, if it is in this range, or the error for the key.
 abbrev pub number_or : {T : Type 0} → (ℕ → Option T) → List ℕ → Data → Result T JsonFault
 number_or range key d = ok_or (option_and_then range (number_of d)) (no_number key)
 
--- what stands at a key
+-- The member at a key.
 abbrev pub member_at : List ℕ → Data → Result Data JsonFault
 member_at key d = ok_or (get key d) (shape key)
 
--- the same value, if it is an object
+-- The same value, if it is an object.
 abbrev pub object_or : List ℕ → Data → Result Data JsonFault
 object_or key d = if is_some (as_object d) then Ok d else Err (shape key)
 
--- the number at a key
+-- The number at a key.
 abbrev pub number_at : {T : Type 0} → (ℕ → Option T) → List ℕ → Data → Result T JsonFault
 number_at range key d = and_then (member_at key d) (number_or range key)
 
--- the type of a name
+-- The type with this name.
 abbrev pub type_named : List ℕ → Option TrieType
 type_named name =
     if bytes_eq name (codes "Fast") then Some Fast
     else (if bytes_eq name (codes "Small") then Some Small else None)
 
--- the type at its key
+-- The type at its key.
 abbrev pub type_at : Data → Result TrieType JsonFault
 type_at d =
     and_then (member_at (codes "trie_type") d) (λ t.
     ok_or (option_and_then type_named (as_str t)) (shape (codes "trie_type")))
 
--- the header that an object says, or its first fault
+-- The header that an object encodes, or its first error.
 abbrev pub header_of : Data → Result CodePointTrieHeader JsonFault
 header_of d =
     and_then (number_at (fitting (2 ^ 32)) (codes "high_start") d) (λ high_start.
@@ -78,45 +80,45 @@ header_of d =
       trie_type = trie_type;
     })))))))
 
--- the header at its key
+-- The header at its key.
 abbrev pub header_at : Data → Result CodePointTrieHeader JsonFault
 header_at d = and_then (member_at (codes "header") d)
     (λ h. and_then (object_or (codes "header") h) header_of)
 
--- items as a list
+-- JSON array items as a list.
 abbrev pub list_of : Items → List Data
 list_of no_items = []
 list_of (item d items) = d ∷ list_of items
 
--- the items of an array
+-- The items of an array.
 abbrev pub items_in : Data → Option (List Data)
 items_in d = option_map list_of (as_array d)
 
--- the items of the array at a key
+-- The items of the array at a key.
 abbrev pub items_at : List ℕ → Data → Result (List Data) JsonFault
 items_at key d = and_then (member_at key d) (λ a. ok_or (items_in a) (shape key))
 
--- the cells of the index
+-- The cells of the index.
 abbrev pub cells_of : List Data → Result (List ℕ) JsonFault
 cells_of items = read_from (λ _ d. number_or (fitting (2 ^ 16)) (codes "index") d) 0 items
 
--- the value that cell i of the data is
+-- The value of the data cell at index i.
 abbrev pub value_of : {T : Type 0} → (ℕ → Option T) → ℕ → Data → Result T JsonFault
 value_of of_number i d =
     and_then (ok_or (number_of d) (no_number (codes "data")))
     (λ n. ok_or (of_number n) (no_value i))
 
--- the values of the data
+-- The values of the data.
 abbrev pub values_of : {T : Type 0} → (ℕ → Option T) → List Data → Result (List T) JsonFault
 values_of of_number items = read_from (value_of of_number) 0 items
 
--- the trie of these parts, or their first fault
+-- The trie of these parts, or their first error.
 abbrev pub trie_with : {T : Type 0} → (ℕ → Option T) → CodePointTrieHeader → List ℕ → List T
     → Result (Parts T) JsonFault
 trie_with of_number h index values = trie_of_parts of_parts of_number h index values
 
--- the trie that an object says, or its first fault: of the header, of the index, of the data, of
--- the parts
+-- The trie that an object encodes, or its first error: in the header, in the index, in the data, of
+-- the parts.
 abbrev pub trie_in : {T : Type 0} → (ℕ → Option T) → Data → Result (Parts T) JsonFault
 trie_in of_number d =
     and_then (header_at d) (λ h.
@@ -124,11 +126,11 @@ trie_in of_number d =
     and_then (and_then (items_at (codes "data") d) (values_of of_number)) (λ values.
     trie_with of_number h index values)))
 
--- the trie that a value says, or its first fault
+-- The trie that a value encodes, or its first error.
 abbrev pub trie_of_json : {T : Type 0} → (ℕ → Option T) → Data → Result (Parts T) JsonFault
 trie_of_json of_number d = and_then (object_or [] d) (trie_in of_number)
 
--- the refusal is the first fault. Want of memory may come in place of any answer
+-- The returned error is the first one. `Memory` may be returned instead of any result.
 abbrev pub IsRefusedJson : {A : Type 0} → Result A JsonFault → TrieJsonError → Type 0
 IsRefusedJson r (Shape key) = r ≡ Err (shape key.now)
 IsRefusedJson r (Number key) = r ≡ Err (no_number key.now)
@@ -137,12 +139,13 @@ IsRefusedJson r (Trie e) = r ≡ Err (of_parts e)
 IsRefusedJson r Memory = Unit {0}
 
 -- ---- how a trie is written
--- the name of a type
+--
+-- The name of a type.
 abbrev pub type_name : TrieType → List ℕ
 type_name Fast = codes "Fast"
 type_name Small = codes "Small"
 
--- a header as JSON
+-- A header as JSON.
 abbrev pub header_json : CodePointTrieHeader → Data
 header_json h = object (member (codes "data_null_offset") (number (unsigned h.data_null_offset))
     (member (codes "high_start") (number (unsigned h.high_start))
@@ -151,17 +154,17 @@ header_json h = object (member (codes "data_null_offset") (number (unsigned h.da
     (member (codes "shifted12_high_start") (number (unsigned h.shifted12_high_start))
     (member (codes "trie_type") (string (type_name h.trie_type)) no_members))))))
 
--- numbers as JSON
+-- Numbers as JSON.
 abbrev pub numbers_json : List ℕ → Data
 numbers_json ns = array (items_of (map (λ n. number (unsigned n)) ns))
 
--- the object of a header, an index and data. The keys of an object ascend
+-- The object of a header, an index and data. The keys of an object ascend.
 abbrev pub trie_object : Data → Data → Data → Data
 trie_object header index values =
     object (member (codes "data") values
     (member (codes "header") header (member (codes "index") index no_members)))
 
--- a trie as JSON, where number_of_value gives the number of a value
+-- A trie as JSON. number_of_value is the number of a value.
 abbrev pub json_of : {T : Type 0} → (T → ℕ) → Parts T → Data
 json_of number_of_value t =
     trie_object (header_json t.header) (numbers_json t.index)

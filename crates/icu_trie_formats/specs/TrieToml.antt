@@ -1,4 +1,4 @@
--- A trie in TOML as ICU4C exports it: what a table says, its first fault, and the trie that it has.
+-- A trie in TOML as ICU4C exports it: the contents of a table, its first error, and the trie in it.
 use Rattle.std.specs.Prelude.{◌≡◌, ℕ, ◌^◌, ℤ, pos, negsuc, List, [], ◌∷◌, codes, Option, Some, None, Result, Ok, Err, nat_lt, if◌then◌else◌, option_and_then, option_map}
 use Rattle.std.specs.Option.{ok_or, option_or}
 use Rattle.toml.specs.Data.{Data, Items, no_items, item, Members, as_integer, as_array, get_member}
@@ -19,14 +19,15 @@ use Rattle.icu_trie_formats.specs.declared.trie_toml.TrieFromTomlError.TheVarian
 use Rattle.icu_trie_formats.specs.declared.trie_toml.CodePointDataSlice.{CodePointDataSlice}
 use Rattle.icu_trie_formats.specs.declared.trie_toml.CodePointDataSlice.TheVariants.{U8, U16, U32}
 
--- ---- what a table says
--- the fault of a table: nothing stands at a needed key, or what stands at the key is of another
--- kind or out of its range
+-- ---- how a table is read
+--
+-- The errors of a table: a required key is missing, or its value is of another kind or out of
+-- range.
 pub data TomlFault : Type 0 where
   missing : List ℕ → TomlFault
   out_of_range : List ℕ → TomlFault
 
--- what a table holds of a trie
+-- The contents of a table with a trie.
 pub record TomlParts : Type 0 where
   pub index : List ℕ
   pub data_8 : Option (List ℕ)
@@ -34,58 +35,59 @@ pub record TomlParts : Type 0 where
   pub data_32 : Option (List ℕ)
   pub fields : TomlFields
 
--- a whole number of 32 bits
+-- A whole number that fits in 32 bits.
 abbrev pub u32_of : ℤ → Option ℕ
 u32_of (pos n) = if nat_lt n (2 ^ 32) then Some n else None
 u32_of (negsuc n) = None
 
--- the number that a value is, if it is a whole number that the range has
+-- The number of a value, if it is a whole number in this range.
 abbrev pub number_of : {T : Type 0} → (ℕ → Option T) → Data → Option T
 number_of range d = option_and_then range (option_and_then u32_of (as_integer d))
 
--- the same, or the fault of the key
+-- The number of a value, if it is a whole number in this range, or the error for the key.
 abbrev pub number_or : {T : Type 0} → (ℕ → Option T) → List ℕ → Data → Result T TomlFault
 number_or range key d = ok_or (number_of range d) (out_of_range key)
 
--- the numbers of the items of the array at the key
+-- The numbers of the items of the array at the key.
 abbrev pub numbers_of : {T : Type 0} → (ℕ → Option T) → List ℕ → List Data
     → Result (List T) TomlFault
 numbers_of range key items = read_from (λ _ d. number_or range key d) 0 items
 
--- items as a list
+-- TOML array items as a list.
 abbrev pub list_of : Items → List Data
 list_of no_items = []
 list_of (item d items) = d ∷ list_of items
 
--- the items of an array
+-- The items of an array.
 abbrev pub items_in : Data → Option (List Data)
 items_in d = option_map list_of (as_array d)
 
--- the number at a needed key
+-- The number at a required key.
 abbrev pub number_at : {T : Type 0} → (ℕ → Option T) → List ℕ → Members → Result T TomlFault
 number_at range key table =
     and_then (ok_or (get_member key table) (missing key)) (number_or range key)
 
--- the numbers of an array
+-- The numbers of an array.
 abbrev pub numbers_in : {T : Type 0} → (ℕ → Option T) → List ℕ → Data → Result (List T) TomlFault
 numbers_in range key d = and_then (ok_or (items_in d) (out_of_range key)) (numbers_of range key)
 
--- the numbers of the array at a key, if anything stands there
+-- The numbers of an array, if there is one.
 abbrev pub numbers_if : {T : Type 0} → (ℕ → Option T) → List ℕ → Option Data
     → Result (Option (List T)) TomlFault
 numbers_if range key None = Ok None
 numbers_if range key (Some d) = and_then (numbers_in range key d) (λ ns. Ok (Some ns))
 
+-- The numbers of the array at an optional key.
 abbrev pub optional_numbers_at : {T : Type 0} → (ℕ → Option T) → List ℕ → Members
     → Result (Option (List T)) TomlFault
 optional_numbers_at range key table = numbers_if range key (get_member key table)
 
--- the numbers of the array at a needed key
+-- The numbers of the array at a required key.
 abbrev pub numbers_at : {T : Type 0} → (ℕ → Option T) → List ℕ → Members → Result (List T) TomlFault
 numbers_at range key table =
     and_then (optional_numbers_at range key table) (λ o. ok_or o (missing key))
 
--- the numbers beside the arrays, or the first fault in the order of the keys
+-- The numbers besides the arrays, or the first error in the order of the keys.
 abbrev pub fields_of : Members → Result TomlFields TomlFault
 fields_of table =
     and_then (number_at (fitting (2 ^ 32)) (codes "highStart") table) (λ high_start.
@@ -106,7 +108,7 @@ fields_of table =
       null_value = null_value;
     }))))))))
 
--- what a table says, or its first fault in the order of the keys
+-- The contents of a table, or its first error in the order of the keys.
 abbrev pub toml_of : Members → Result TomlParts TomlFault
 toml_of table =
     and_then (numbers_at (fitting (2 ^ 16)) (codes "index") table) (λ index.
@@ -122,14 +124,15 @@ toml_of table =
       fields = fields;
     }))))))
 
--- the refusal names the first fault. Want of memory may come in place of any answer
+-- The returned error is the first one. `Memory` may be returned instead of any result.
 abbrev pub IsRefused : {A : Type 0} → Result A TomlFault → TomlError → Type 0
 IsRefused r (Missing key) = r ≡ Err (missing key.now)
 IsRefused r (OutOfRange key) = r ≡ Err (out_of_range key.now)
 IsRefused r Memory = Unit {0}
 
 -- ---- the trie
--- the data are the first array that the table had
+--
+-- The data are the first array in the table.
 abbrev pub GivesData : TomlParts → Result CodePointDataSlice CodePointTrieError → Type 0
 GivesData t (Ok (U8 cells)) = t.data_8 ≡ Some cells.now
 GivesData t (Ok (U16 cells)) = (t.data_8 ≡ None) × (t.data_16 ≡ Some cells.now)
@@ -139,7 +142,7 @@ GivesData t (Err (FromDeserialized reason)) =
     × (reason.now ≡ codes "Did not find data array for CodePointTrie in TOML")
 GivesData t (Err _) = ⊥
 
--- the header of these fields, of this type
+-- The header with these fields and this type.
 abbrev pub header_with : TomlFields → TrieType → CodePointTrieHeader
 header_with f kind = record {
   high_start = f.high_start;
@@ -150,68 +153,69 @@ header_with f kind = record {
   trie_type = kind;
 }
 
--- the header has the fields of the table, and the type of its number; another number is refused
+-- The header has the fields of the table and the type with the table's number. Another number is an
+-- error.
 abbrev pub GivesHeader : TomlParts → Result CodePointTrieHeader CodePointTrieError → Type 0
 GivesHeader t (Ok h) =
     (h ≡ header_with t.fields h.trie_type) × (t.fields.trie_type ≡ type_number h.trie_type)
 GivesHeader t (Err e) = GivesType t.fields.trie_type (Err e)
 
--- why what a table holds is no trie: by what is said of the table, or as the parts of a trie
+-- Why the contents of a table are not a trie: an error in the table, or an error of the parts.
 pub data TrieFault : Type 0 where
   unread : List ℕ → TrieFault
   of_parts : CodePointTrieError → TrieFault
 
--- the type of a number
+-- The type with this number.
 abbrev pub type_of : ℕ → Result TrieType TrieFault
 type_of n =
     if nat_lt n 1 then Ok Fast
     else (if nat_lt n 2 then Ok Small else Err (unread (codes "Cannot parse value for trie_type")))
 
--- the data of a table
+-- The data of a table.
 abbrev pub data_of : TomlParts → Result (List ℕ) TrieFault
 data_of t =
     ok_or (option_or t.data_8 (option_or t.data_16 t.data_32))
     (unread (codes "Did not find data array for CodePointTrie in TOML"))
 
--- the values of numbers
+-- The value with this number.
 abbrev pub value_of : {T : Type 0} → (ℕ → Option T) → ℕ → Result T TrieFault
 value_of of_number n =
     ok_or (of_number n) (unread (codes "Could not parse data array to typed array"))
 
+-- The values with these numbers.
 abbrev pub values_of : {T : Type 0} → (ℕ → Option T) → List ℕ → Result (List T) TrieFault
 values_of of_number ns = read_from (λ _ n. value_of of_number n) 0 ns
 
--- the values of the data of a table
+-- The values of the data of a table.
 abbrev pub typed_data : {T : Type 0} → (ℕ → Option T) → TomlParts → Result (List T) TrieFault
 typed_data of_number t = and_then (data_of t) (values_of of_number)
 
--- the trie of these parts, or their first fault
+-- The trie of these parts, or their first error.
 abbrev pub trie_with : {T : Type 0} → (ℕ → Option T) → CodePointTrieHeader → List ℕ → List T
     → Result (Parts T) TrieFault
 trie_with of_number h index values = trie_of_parts of_parts of_number h index values
 
--- the trie that a table says, or the first fault: of its type, of its data, of a value, of the
--- parts
+-- The trie of a table, or the first error: of its type, of its data, of a value, of the parts.
 abbrev pub trie_of : {T : Type 0} → (ℕ → Option T) → TomlParts → Result (Parts T) TrieFault
 trie_of of_number t =
     and_then (type_of t.fields.trie_type) (λ kind.
     and_then (typed_data of_number t) (λ values.
     trie_with of_number (header_with t.fields kind) t.index values))
 
--- the refusal is the first fault. Want of memory may come in place of any answer
+-- The returned error is the first one. `Memory` may be returned instead of any result.
 abbrev pub IsRefusedTrie : {A : Type 0} → Result A TrieFault → TrieFromTomlError → Type 0
 IsRefusedTrie r (refusals.Trie (FromDeserialized reason)) = r ≡ Err (unread reason.now)
 IsRefusedTrie r (refusals.Trie e) = r ≡ Err (of_parts e)
 IsRefusedTrie r (refusals.Table _) = ⊥
 IsRefusedTrie r refusals.Memory = Unit {0}
 
--- a refused table among the refusals of a trie: want of memory stays what it is
+-- A table error as an error of the conversion. `Memory` stays `Memory`.
 abbrev pub table_refusal : TomlError → TrieFromTomlError
 table_refusal (Missing key) = refusals.Table (Missing key)
 table_refusal (OutOfRange key) = refusals.Table (OutOfRange key)
 table_refusal Memory = refusals.Memory
 
--- what the conversion gives
+-- The contract of the conversion to a trie.
 abbrev pub GivesTrie : {T : Type 0} → (ℕ → Option T) → TomlParts
     → Result (Parts T) TrieFromTomlError → Type 0
 GivesTrie of_number t (Ok trie) = trie_of of_number t ≡ Ok trie

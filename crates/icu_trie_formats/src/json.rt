@@ -1,4 +1,4 @@
-//! A trie from and to JSON: an object with a header, an index and data.
+//! Reads and writes a trie as JSON: an object with a header, an index and data.
 ghost use Rattle.std.specs.Prelude.{◌≡◌, Ok, None, IfOk, IfErr, All, map, option_map};
 ghost use Rattle.icu_zerovec.specs.Slice.{slice_values};
 ghost use Rattle.serde_json.specs.View.{view};
@@ -14,23 +14,23 @@ use serde_json::{Value, json};
 use std::alloc::Global;
 use thiserror::Error;
 
-/// Why a JSON value is no trie.
+/// Why a JSON value is not a trie.
 #[derive(Clone, Copy, Debug, PartialEq, Error)]
 pub enum TrieJsonError {
-    /// Nothing stands at this key, or something else where an object, an array or the name of a
-    /// trie type was to stand. The key is empty where the value itself is no object.
+    /// The member at this key is missing, or is not the required object, array or name of a trie
+    /// type. The key is empty if the value itself is not an object.
     #[error("no value of the right kind at the key `{0}`")]
     Shape(&'static str),
-    /// What stands at this key, or an item of the array there, is no whole number in its range.
+    /// The member at this key, or an item of its array, is not a whole number in its range.
     #[error("no whole number in its range at the key `{0}`")]
     Number(&'static str),
-    /// This cell of the data, counted from 0, is the first that is the number of no value.
+    /// The data cell at this index, counted from 0, is the first that is not the number of a value.
     #[error("cell {0} of the data is the number of no value")]
     Value(usize),
-    /// The parts make no trie.
+    /// The parts do not form a trie.
     #[error("{0}")]
     Trie(CodePointTrieError),
-    /// Memory was refused.
+    /// An allocation failed.
     #[error("no memory")]
     Memory,
 }
@@ -55,14 +55,14 @@ impl From<MemoryError> for TrieJsonError {
     }
 }
 
-/// The number that a value is, where it is a whole number of 32 bits.
+/// Returns the number of a JSON value if it is a whole number that fits in 32 bits.
 fn number_of(value: &Value) -> Option<u32>
     ensures { result ≡ number_of (view value.now) }
 {
     u32::try_from(value.as_u64()?).ok()
 }
 
-/// What stands at a key.
+/// Returns the member at a key.
 fn member_at<'a>(value: &'a Value, key: &'static str) -> Result<&'a Value, TrieJsonError>
     ensures ok { IfOk result (λ v. member_at key.now (view value.now) ≡ Ok (view v.now)) }
     ensures err { IfErr result (IsRefusedJson (member_at key.now (view value.now))) }
@@ -73,7 +73,7 @@ fn member_at<'a>(value: &'a Value, key: &'static str) -> Result<&'a Value, TrieJ
     }
 }
 
-/// The number at a key, of the range of its type.
+/// Returns the number at a key if it is in the range of its type.
 fn number_at<N: TrieValue>(value: &Value, key: &'static str) -> Result<N, TrieJsonError>
     ensures ok { IfOk result (λ n. number_at N.of_number key.now (view value.now) ≡ Ok n) }
     ensures err { IfErr result (IsRefusedJson (number_at N.of_number key.now (view value.now))) }
@@ -88,7 +88,7 @@ fn number_at<N: TrieValue>(value: &Value, key: &'static str) -> Result<N, TrieJs
     Ok(number)
 }
 
-/// The type of a trie, at its key.
+/// Returns the trie type at its key.
 fn type_at(value: &Value) -> Result<TrieType, TrieJsonError>
     ensures ok { IfOk result (λ t. type_at (view value.now) ≡ Ok t) }
     ensures err { IfErr result (IsRefusedJson (type_at (view value.now))) }
@@ -103,7 +103,7 @@ fn type_at(value: &Value) -> Result<TrieType, TrieJsonError>
     }
 }
 
-/// The header that an object says.
+/// Returns the header that an object encodes.
 fn header_of(value: &Value) -> Result<CodePointTrieHeader, TrieJsonError>
     ensures ok { IfOk result (λ h. header_of (view value.now) ≡ Ok h) }
     ensures err { IfErr result (IsRefusedJson (header_of (view value.now))) }
@@ -118,7 +118,7 @@ fn header_of(value: &Value) -> Result<CodePointTrieHeader, TrieJsonError>
     })
 }
 
-/// The header at its key.
+/// Returns the header at its key.
 fn header_at(value: &Value) -> Result<CodePointTrieHeader, TrieJsonError>
     ensures ok { IfOk result (λ h. header_at (view value.now) ≡ Ok h) }
     ensures err { IfErr result (IsRefusedJson (header_at (view value.now))) }
@@ -131,7 +131,7 @@ fn header_at(value: &Value) -> Result<CodePointTrieHeader, TrieJsonError>
     Ok(header)
 }
 
-/// The items of an array.
+/// Returns the items of an array.
 fn items_of(value: &Value) -> Option<&[Value]>
     ensures { option_map (λ items. map view items.now) result ≡ items_in (view value.now) }
 {
@@ -141,7 +141,7 @@ fn items_of(value: &Value) -> Option<&[Value]>
     }
 }
 
-/// The items of the array at a key.
+/// Returns the items of the array at a key.
 fn items_at<'a>(value: &'a Value, key: &'static str) -> Result<&'a [Value], TrieJsonError>
     ensures ok { IfOk result (λ vs. items_at key.now (view value.now) ≡ Ok (map view vs.now)) }
     ensures err { IfErr result (IsRefusedJson (items_at key.now (view value.now))) }
@@ -152,7 +152,7 @@ fn items_at<'a>(value: &'a Value, key: &'static str) -> Result<&'a [Value], Trie
     Ok(items)
 }
 
-/// The cells of an index.
+/// Returns the cells of an index.
 fn cells_of(alloc: Global, items: &[Value]) -> Result<Vec<u16>, TrieJsonError>
     ensures ok { IfOk result (λ v. cells_of (map view items.now) ≡ Ok v.items) }
     ensures err { IfErr result (IsRefusedJson (cells_of (map view items.now))) }
@@ -174,7 +174,7 @@ fn cells_of(alloc: Global, items: &[Value]) -> Result<Vec<u16>, TrieJsonError>
     Ok(cells)
 }
 
-/// The values of the data.
+/// Returns the values of the data.
 fn values_of<T: TrieValue>(alloc: Global, items: &[Value]) -> Result<Vec<T>, TrieJsonError>
     ensures ok { IfOk result (λ v. values_of T.of_number (map view items.now) ≡ Ok v.items) }
     ensures err { IfErr result (IsRefusedJson (values_of T.of_number (map view items.now))) }
@@ -196,7 +196,7 @@ fn values_of<T: TrieValue>(alloc: Global, items: &[Value]) -> Result<Vec<T>, Tri
     Ok(values)
 }
 
-/// The trie of these parts, which owns its cells.
+/// Returns the trie of these parts. It owns its cells.
 fn trie_with<T: TrieValue>(
     alloc: Global,
     header: CodePointTrieHeader,
@@ -213,7 +213,7 @@ fn trie_with<T: TrieValue>(
     }
 }
 
-/// The numbers of these values as JSON.
+/// Returns the numbers of these values as JSON.
 fn numbers_json<T: TrieValue>(alloc: Global, values: ZeroSlice<'_, T>) -> Result<Value, MemoryError>
     ensures json { IfOk result
         (λ v. view v ≡ numbers_json (map T.number (slice_values values.entry))) }
@@ -228,7 +228,7 @@ fn numbers_json<T: TrieValue>(alloc: Global, values: ZeroSlice<'_, T>) -> Result
     Ok(Value::Array(items))
 }
 
-/// The name of a type.
+/// Returns the name of a trie type.
 fn type_name(trie_type: TrieType) -> &'static str
     ensures { result.now ≡ type_name trie_type }
 {
@@ -238,7 +238,7 @@ fn type_name(trie_type: TrieType) -> &'static str
     }
 }
 
-/// A header as JSON.
+/// Returns a header as JSON.
 fn header_json(alloc: Global, header: CodePointTrieHeader) -> Result<Value, MemoryError>
     ensures json { IfOk result (λ v. view v ≡ header_json header) }
     ensures back { IfOk result (λ _. header_of (header_json header) ≡ Ok header) }
@@ -254,19 +254,19 @@ fn header_json(alloc: Global, header: CodePointTrieHeader) -> Result<Value, Memo
     Ok(value)
 }
 
-/// The object of a header, an index and data.
+/// Returns the object of a header, an index and data.
 fn object_of(alloc: Global, header: Value, index: Value, data: Value) -> Result<Value, MemoryError>
     ensures { IfOk result (λ v. view v ≡ trie_object (view header) (view index) (view «data»)) }
 {
     Ok(json!(in alloc; { "header": header, "index": index, "data": data })?)
 }
 
-/// The trie that a JSON value says: an object with a header, an index and data.
+/// Reads a trie from a JSON value: an object with a header, an index and data.
 ///
 /// `header` is an object with the whole numbers `high_start`, `data_null_offset` and `null_value`
 /// (32 bits), `shifted12_high_start` and `index3_null_offset` (16 bits), and `trie_type`, the
-/// string `Fast` or `Small`. `index` is an array of whole numbers up to 65535, and `data` one of
-/// the numbers of the values. Other keys are ignored.
+/// string `Fast` or `Small`. `index` is an array of whole numbers up to 65535, and `data` is an
+/// array of the numbers of the values. Other keys are ignored.
 ///
 /// ```
 /// let value = to_json(alloc, &get_planes_trie())?;
@@ -275,14 +275,23 @@ fn object_of(alloc: Global, header: Value, index: Value, data: Value) -> Result<
 /// ```
 ///
 /// # Errors
-/// The first fault in this order: `Shape("")` where the value is no object; those of the header,
-/// whose keys are tested as `high_start`, `shifted12_high_start`, `index3_null_offset`,
-/// `data_null_offset`, `null_value`, `trie_type`; those of the index, and of the data, cell by
-/// cell. `Shape` with the key where nothing stands there, or something else where an object, an
-/// array or the name of a trie type was to stand; `Number` with the key where a number, or an item
-/// of the array there, is no whole number in its range; `Value` with the cell of the data that is
-/// the number of no value. Then `Trie` where `CodePointTrie::try_new` refuses the parts. `Memory`
-/// where memory was refused.
+/// Returns the first error in this order:
+///
+/// - `Shape("")` if the value is not an object.
+/// - An error in the header. Its keys are checked in the order `high_start`,
+///   `shifted12_high_start`, `index3_null_offset`, `data_null_offset`, `null_value`, `trie_type`.
+/// - An error in the index, then one in the data, cell by cell.
+/// - `Trie` if `CodePointTrie::try_new` rejects the parts.
+///
+/// An error at a key is one of these:
+///
+/// - `Shape` with the key if it is missing, or is not the required object, array or name of a trie
+///   type.
+/// - `Number` with the key if the number, or an item of the array, is not a whole number in its
+///   range.
+/// - `Value` with the index of a data cell if the cell is not the number of a value.
+///
+/// Returns `Memory` if an allocation fails.
 pub fn from_json<T: TrieValue>(
     alloc: Global,
     value: &Value,
@@ -300,8 +309,8 @@ pub fn from_json<T: TrieValue>(
     Ok(trie)
 }
 
-/// The trie as a JSON value, as [`from_json`] reads it: an object with the keys `header`, `index`
-/// and `data`.
+/// Writes the trie as a JSON value that [`from_json`] can read: an object with the keys `header`,
+/// `index` and `data`.
 ///
 /// ```
 /// let value = to_json(alloc, &get_planes_trie())?;
@@ -309,7 +318,7 @@ pub fn from_json<T: TrieValue>(
 /// ```
 ///
 /// # Errors
-/// `MemoryError` where memory was refused.
+/// Returns `MemoryError` if an allocation fails.
 pub fn to_json<T: TrieValue>(
     alloc: Global,
     trie: &CodePointTrie<'_, T>,

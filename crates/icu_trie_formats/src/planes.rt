@@ -1,4 +1,4 @@
-//! The trie of the planes: each code point has the number of its plane, `c >> 16`.
+//! The trie of the planes: the value of the code point `c` is the number of its plane, `c >> 16`.
 ghost use Rattle.std.specs.Prelude.{◌≡◌};
 ghost use Rattle.icu_trie_formats.specs.Planes.{planes_header, planes_index, planes_data};
 
@@ -9,7 +9,7 @@ use icu_trie::header::{CodePointTrieHeader, TrieType};
 use icu_zerovec::ZeroVec;
 use table::{DATA, INDEX};
 
-/// The index, read in place.
+/// Returns the index, read in place.
 fn index_cells() -> ZeroVec<'static, u16>
     ensures { result ≡ planes_index }
 {
@@ -19,7 +19,7 @@ fn index_cells() -> ZeroVec<'static, u16>
     }
 }
 
-/// The data, read in place.
+/// Returns the data, read in place.
 fn data_cells() -> ZeroVec<'static, u8>
     ensures { result ≡ planes_data }
 {
@@ -29,10 +29,10 @@ fn data_cells() -> ZeroVec<'static, u8>
     }
 }
 
-/// The trie that maps each code point to the number of its plane, 0 to 16, and numbers above
-/// 0x10FFFF to 0.
+/// Returns the trie that maps each code point to the number of its plane, 0 to 16, and numbers
+/// above 0x10FFFF to 0.
 ///
-/// It borrows its cells from the program: making it takes no memory.
+/// The trie borrows its cells from the program. Creating it allocates nothing.
 ///
 /// ```
 /// let planes = get_planes_trie();

@@ -7,7 +7,7 @@ use Rattle.icu_trie_formats.specs.TrieJson.{number_or, cells_of}
 use Rattle.icu_zerovec.proofs.CallerLemmas.{with_front}
 use Rattle.icu_trie_formats.proofs.json.cells_of.Given as goal
 
--- the cells so far, before those of the items that are left, are those of all
+-- The cells so far, followed by those of the items that are left, are all cells.
 abbrev pub invariant-loop-item : goal.invariant-loop-item
 invariant-loop-item l =
     with_front l.cells.items (read_from (λ _ d. number_or (fitting (2 ^ 16)) (codes "index") d) l.item-index

@@ -6,7 +6,7 @@ use Rattle.serde_json.specs.View.{view}
 use Rattle.icu_trie_formats.specs.Inside.Numbers.{IsGivenBack}
 use Rattle.icu_trie_formats.proofs.json.numbers_json.Given as goal
 
--- the items are the numbers so far, which give their values back
+-- The items are the numbers so far, from which their values are read back.
 abbrev pub invariant-loop-value : goal.invariant-loop-value
 invariant-loop-value g l = record {
   items : map view l.items.items ≡ map (λ n. number (unsigned n)) (map g.T.TrieValue.number l.yielded);

@@ -5,7 +5,7 @@ use Rattle.icu_trie_formats.specs.TrieToml.{number_or, numbers_of}
 use Rattle.icu_zerovec.proofs.CallerLemmas.{with_front}
 use Rattle.icu_trie_formats.proofs.trie_toml.numbers_of_items.Given as goal
 
--- the numbers so far, before those of the items that are left, are those of all
+-- The numbers so far, followed by those of the items that are left, are all numbers.
 abbrev pub invariant-loop-item : goal.invariant-loop-item
 invariant-loop-item g l =
     with_front l.numbers.items (read_from (λ _ d. number_or g.N.TrieValue.of_number l.fn.key d) l.item-index
