@@ -1,4 +1,4 @@
--- The values of ASCII in a trie whose data begin with them.
+-- The values of ASCII in a trie whose data start with them.
 use Rattle.std.proofs.Common.{◌≡◌, ap, refl, ℕ, zero, suc, ◌+◌, ◌/◌, ◌%◌, ◌<◌, ◌≤◌, List, length, slice_get, Some, arith, inl, inr}
 use Rattle.std.proofs.lemmas.Bool.{cases_lt, le-ltb, lt-ltb}
 use Rattle.std.proofs.lemmas.Option.{slice_get_cases}
@@ -32,7 +32,7 @@ module _ {T : Type 0} (t : Parts T) (first : slice_get t.index 0 ≡ Some 0) (se
   ascii_in_place : (end : ℕ) → end ≤ 128 → HasAsciiInPlace t t.values end
   ascii_in_place end e = record { ascii = e; there = omega arith; in_place = λ c h. in_place c (omega arith) }
 
--- what the tests of the index and of the data say
+-- What the checks of the index and of the data imply.
 pub ascii_known : {T : Type 0} (t : Parts T) (index : List ℕ) (values : List T) (end : ℕ) → index ≡ t.index → values ≡ t.values → end ≤ 128
     → (0 < end → slice_get index 0 ≡ Some 0) → (0 < end → slice_get index 1 ≡ Some 64) → (0 < end → 128 ≤ length values)
     → HasAsciiInPlace t values end

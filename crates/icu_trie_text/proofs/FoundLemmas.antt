@@ -11,8 +11,9 @@ use Rattle.icu_trie.specs.Parts.{Parts, trie_value}
 use Rattle.icu_trie_text.specs.Found.{AnswersOf, IsAcceptedFront, IsFirstAccepted}
 use Rattle.icu_trie_text.specs.Indices.{index_item, with_indices}
 
--- ---- where characters stand
--- how many bytes characters take
+-- ---- the offsets of characters
+--
+-- The number of bytes of characters.
 abbrev pub size : List ℕ → ℕ
 size cs = length (encode_utf8_all cs)
 
@@ -27,7 +28,7 @@ later_scalars : (xs ys : List ℕ) → all_scalars (xs ++ ys) ≡ true → all_s
 later_scalars [] ys e = e
 later_scalars (x ∷ xs) ys e = later_scalars xs ys (and_parts _ _ e).1
 
--- a text may be cut between two of its characters
+-- A text may be cut between two of its characters.
 pub boundary_between : (text before after : List ℕ) → IsUtf8 text → chars text ≡ before ++ after → IsCharBoundary text (size before)
 boundary_between text before after u e =
     let seam : text ≡ encode_utf8_all before ++ encode_utf8_all after =
@@ -38,7 +39,8 @@ boundary_between text before after u e =
 
 -- ---- the walk
 module _ {F T : Type 0} (post : F → T → Bool → Type 0) (f : F) (trie : Parts T) (answer : Bool) (text : List ℕ) where
-  -- f answered so of the values of all characters that were passed, and what is left begins there
+  -- f returned `answer` for the values of all characters that were passed, and what is left starts
+  -- after them.
   pub record IsPassed (left : List (ℕ × ℕ × Option T)) : Type 0 where
     pub before : List ℕ
     pub after : List ℕ
@@ -56,7 +58,7 @@ module _ {F T : Type 0} (post : F → T → Bool → Type 0) (f : F) (trie : Par
         refl;
   }
 
-  -- an item of what is left stands between the characters before it and others
+  -- An item of what is left is between the characters before it and others.
   record IsBetween (before : List ℕ) (item : ℕ × ℕ × T) (rest : List (ℕ × ℕ × Option T)) : Type 0 where
     after : List ℕ
     characters : chars text ≡ before ++ item.1 ∷ after
@@ -100,7 +102,7 @@ module _ {F T : Type 0} (post : F → T → Bool → Type 0) (f : F) (trie : Par
           left_is = here.rest_is ∙ ap (λ (n : ℕ). with_indices trie n here.after) (sym (size-push p.before item.1));
         }
 
-  -- all characters were passed
+  -- All characters were passed.
   pub passed_all : (left : List (ℕ × ℕ × Option T)) → IsPassed left → left ≡ [] → All (AnswersOf post f trie answer) (chars text)
   passed_all left p e = all_of p.before p.after p.characters p.answered (sym e ∙ p.left_is) where
     all_of : (before after : List ℕ) → chars text ≡ before ++ after → All (AnswersOf post f trie answer) before

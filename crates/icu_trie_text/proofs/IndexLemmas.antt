@@ -1,4 +1,4 @@
--- The items that an iterator over values and their places gives.
+-- The items of an iterator over values and offsets.
 use Rattle.std.proofs.Common.{◌≡◌, ◌∙◌, sym, ap, refl, ℕ, ◌+◌, ◌-◌, ◌≤◌, List, [], ◌∷◌, length, map, Option, Some, arith}
 use Rattle.std.specs.Char.{len_utf8}
 use Rattle.std.specs.List.{All}
@@ -44,7 +44,7 @@ module _ {T : Type 0} (trie : Parts T) where
         values = All-cons HasItsValue x xs (ap (λ (n : ℕ). trie_value trie n) character ∙ sym value) r.values;
       }
 
-  -- what the calls give until nothing is left are the characters, each with its place and its value
+  -- The items until nothing is left are the characters, each with its offset and its value.
   pub indices_of_drained : (cs : List ℕ) (items : List (ℕ × ℕ × T)) → Drains GivesIndex (with_indices trie 0 cs) items
       → AreIndicesOf trie cs items
   indices_of_drained cs items d =
@@ -53,11 +53,11 @@ module _ {T : Type 0} (trie : Parts T) where
       (YieldsList-from_first index_item (λ left. left) (with_indices trie 0 cs) refl)) in
       record { offsets = r.offsets; values = r.values }
 
-  -- each run gives the front of what was left
+  -- Each run returns a prefix of what was left.
   pub index_runs : EveryRun (GivesIndex {T = T}) (λ p. ItemsMapTo p index_item p.from)
   index_runs p s = from_front (GivesIndex {T = T}) index_item (λ left. left) (λ s t h. ap length h.0) (λ s x t h. h) p s
 
-  -- there are no more characters than bytes
+  -- There are no more characters than bytes.
   pub indices_fit : (text : List ℕ) → IsUtf8 text → length (with_indices trie 0 (chars text)) ≤ length text
   indices_fit text u =
       omega (
@@ -68,7 +68,7 @@ module _ {T : Type 0} (trie : Parts T) where
         ap (λ (bs : List ℕ). length bs) (encodes-chars text u),
       )
 
-  -- the first of what is left of a text that ends at `end`
+  -- The first of what is left of a text that ends at `end`.
   pub first_index : (text rest : List ℕ) (c end : ℕ) (value : T) → IsFirstCharacter text c rest → length text ≤ end
       → Some value ≡ trie_value trie c
       → with_indices trie (end - length text) (chars text)

@@ -7,18 +7,18 @@ pub code_points-nil : code_points_of [] ≡ []
 unfolding code_points_of
 code_points-nil = refl
 
--- a unit that is no high surrogate is one by itself
+-- A unit that is not a high surrogate is a code point of its own.
 pub code_points_alone : (u : ℕ) (us : List ℕ) → is_high_surrogate u ≡ false → code_points_of (u ∷ us) ≡ u ∷ code_points_of us
 unfolding code_points_of
 code_points_alone u [] e = refl
 code_points_alone u (v ∷ us) e = rw e refl
 
--- and so is the last one
+-- The last unit is a code point of its own.
 pub code_points_last : (u : ℕ) → code_points_of (u ∷ []) ≡ u ∷ code_points_of []
 unfolding code_points_of
 code_points_last u = refl
 
--- and one before a unit that is no low surrogate
+-- A high surrogate before a unit that is not a low surrogate is a code point of its own.
 pub code_points_before : (u v : ℕ) (us : List ℕ) → is_high_surrogate u ≡ true → is_low_surrogate v ≡ false
     → code_points_of (u ∷ v ∷ us) ≡ u ∷ code_points_of (v ∷ us)
 unfolding code_points_of
@@ -29,7 +29,7 @@ pub code_points_pair : (u v : ℕ) (us : List ℕ) → is_high_surrogate u ≡ t
 unfolding code_points_of
 code_points_pair u v us e f = rw (e, f) refl
 
--- there are no more code points than units
+-- There are no more code points than units.
 length_by_pair : (u v : ℕ) (us : List ℕ) (b : Bool) → (is_high_surrogate u && is_low_surrogate v) ≡ b
     → length (code_points_of us) ≤ length us
     → length (code_points_of (v ∷ us)) ≤ length (v ∷ us) → length (code_points_of (u ∷ v ∷ us)) ≤ length (u ∷ v ∷ us)

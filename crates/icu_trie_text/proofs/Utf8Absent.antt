@@ -1,4 +1,4 @@
--- Bytes that no character begins, byte by byte.
+-- Bytes that do not start with a character, byte by byte.
 use Rattle.std.proofs.Common.{◌≡◌, ◌∙◌, ℕ, ◌+◌, ◌-◌, ◌*◌, ◌<◌, ◌≤◌, List, length, get_or, drop, ap, arith, inl, inr, Option, Some, None, encode_utf8}
 use Rattle.std.specs.Prelude.{◌⊎◌}
 use Rattle.std.specs.Char.{IsScalar}
@@ -12,11 +12,11 @@ use Rattle.icu_trie_text.specs.Utf8.{IsFirstPart, IsIllFormedPart}
 use Rattle.icu_trie_text.proofs.Utf8Table.{longer_than_three, longer_than_two, scalar_high, scalar_low}
 use Rattle.icu_trie_text.proofs.Utf8Parts.{bad_second_of_four, bad_second_of_three, four_found, not_first, not_fourth, not_second_of_two, not_third_of_four, not_third_of_three, part_of_ascii, three_found, two_found}
 
--- a character that begins the bytes is one
+-- A character at the start of the bytes.
 begins : (bytes : List ℕ) (c size : ℕ) → IsFirstPart bytes (Some c) size → StartsWithNoChar bytes → ⊥
 begins bytes c size p none = none c (drop size bytes) p.0 p.2
 
--- a byte is a trail byte or not
+-- A byte is a trail byte or not.
 trail_cases : (bytes : List ℕ) (place : ℕ) → ((bits : ℕ) → IsTrail bytes place bits → ⊥) → IsNoTrail bytes place
 trail_cases bytes place bad there = elim (cases_lt (get_or bytes place 0) 128) [
   | inl low ↦ inl low
@@ -26,7 +26,7 @@ trail_cases bytes place bad there = elim (cases_lt (get_or bytes place 0) 128) [
   ]
 ]
 
--- bytes that are fewer than their first one leads
+-- The first byte is the lead byte of more bytes than there are.
 pub too_few_for_three : (bytes : List ℕ) → 224 ≤ get_or bytes 0 0 → length bytes < 3 → StartsWithNoChar bytes
 too_few_for_three bytes lead few c rest s e =
     let lengths = ap (λ (bs : List ℕ). length bs) e ∙ length-append (encode_utf8 c) rest in
@@ -37,7 +37,8 @@ too_few_for_four bytes lead few c rest s e =
     let lengths = ap (λ (bs : List ℕ). length bs) e ∙ length-append (encode_utf8 c) rest in
     omega (arith, few, lengths, longer_than_three c rest bytes s e lead)
 
--- whether ten bits are the upper ones of a character of three bytes, and nine of one of four
+-- Whether ten bits are the upper ones of a three-byte character, and nine bits those of a four-byte
+-- one.
 three_cases : (h : ℕ) → IsHighOfThree h ⊎ (IsHighOfThree h → ⊥)
 three_cases h = elim (cases_lt h 32) [
   | inl low ↦ inr (λ g. omega (arith, low, g.0))

@@ -10,7 +10,8 @@ use Rattle.icu_trie_text.specs.Utf8.{BeginsCharacter, IsFirstPart, IsIllFormedPa
 use Rattle.icu_trie_text.proofs.Utf8Table.{HasBytes, IsSecond, begins_four, begins_three, begins_two, four, longer_than_one, longer_than_three, longer_than_two, one, second_of_four, second_of_three, second_of_two, three, two}
 
 -- ---- characters
--- a character and what follows it
+--
+-- A character and what follows it.
 found : (c : ℕ) (own rest : List ℕ) → HasBytes c own → IsScalar c × (len_utf8 c ≡ length own) × (own ++ rest ≡ encode_utf8 c ++ rest)
 found c own rest h = (
   h.scalar,
@@ -62,7 +63,8 @@ no_trail x (inl low) t = omega (arith, low, t.0)
 no_trail x (inr high) t = omega (arith, high, t.1)
 
 module _ (bytes : List ℕ) where
-  -- no character begins the bytes that is longer than the part where no longer front begins one
+  -- If no longer prefix starts a character, the bytes do not start with a character that is longer
+  -- than the part.
   none_begins : (size : ℕ) → ((n : ℕ) → size < n → n ≤ length bytes → ¬ (BeginsCharacter (take n bytes)))
       → (c : ℕ) (rest : List ℕ) → IsScalar c → bytes ≡ encode_utf8 c ++ rest → size < length (encode_utf8 c) → ⊥
   none_begins size longest c rest s e n =
@@ -70,7 +72,7 @@ module _ (bytes : List ℕ) where
       let front : take (length (encode_utf8 c)) bytes ≡ encode_utf8 c = rw e (take-append_seam (encode_utf8 c) rest) in
       longest (length (encode_utf8 c)) n (omega arith) (c, s, ([], append-nil (take (length (encode_utf8 c)) bytes) ∙ front))
 
-  -- a byte of a front is that of the bytes
+  -- A byte of a prefix is a byte of the whole.
   byte_of_front : (n k : ℕ) → k < n → get_or (take n bytes) k 0 ≡ get_or bytes k 0
   byte_of_front n k h = get_or-take n bytes k 0 h
 
@@ -117,7 +119,7 @@ module _ (bytes : List ℕ) where
         longest = longest;
       }
 
--- the second byte of two is no trail byte
+-- The second byte of two is not a trail byte.
 pub not_second_of_two : (bytes : List ℕ) → 194 ≤ get_or bytes 0 0 → get_or bytes 0 0 < 224 → IsNoTrail bytes 1 → 0 < length bytes
     → IsIllFormedPart bytes 1
 not_second_of_two bytes from to bad some = one_byte bytes some (omega (arith, from)) (λ more second. refused more second) where
@@ -126,7 +128,7 @@ not_second_of_two bytes from to bad some = one_byte bytes some (omega (arith, fr
   refused more (second_of_three a b la lb x y h) = omega (arith, x, to)
   refused more (second_of_four a b lb x y h) = omega (arith, x, to)
 
--- the second byte of three is no trail byte, or none that may follow the first one
+-- The second byte of three is not a trail byte, or none that may follow the first one.
 not_second_of_three : (bytes : List ℕ) → 224 ≤ get_or bytes 0 0 → get_or bytes 0 0 < 240 → 0 < length bytes
     → ((a b : ℕ) → 1 < length bytes → b < 64 → get_or bytes 0 0 ≡ 224 + a → get_or bytes 1 0 ≡ 128 + b → IsHighOfThree (a * 64 + b) → ⊥)
     → IsIllFormedPart bytes 1
@@ -150,7 +152,7 @@ bad_second_of_three bytes a b e l s bad =
     (λ i k more lk x y h. let first : i ≡ a = omega (arith, e, x) in let second : k ≡ b = omega (arith, byte, y) in
     bad (rw (first, second) at h))
 
--- and so of four
+-- The second byte of four is not a trail byte, or none that may follow the first one.
 not_second_of_four : (bytes : List ℕ) → 240 ≤ get_or bytes 0 0 → 0 < length bytes
     → ((a b : ℕ) → 1 < length bytes → b < 64 → get_or bytes 0 0 ≡ 240 + a → get_or bytes 1 0 ≡ 128 + b → IsHighOfFour (a * 64 + b) → ⊥)
     → IsIllFormedPart bytes 1
@@ -172,7 +174,7 @@ bad_second_of_four bytes a b e s bad =
     (λ i k more lk x y h. let first : i ≡ a = omega (arith, e, x) in let second : k ≡ b = omega (arith, byte, y) in
     bad (rw (first, second) at h))
 
--- no character begins with this byte
+-- No character starts with this byte.
 pub not_first : (bytes : List ℕ) → 0 < length bytes → 128 ≤ get_or bytes 0 0 → (get_or bytes 0 0 < 194) ⊎ (245 ≤ get_or bytes 0 0)
     → IsIllFormedPart bytes 1
 not_first bytes some lead bad = one_byte bytes some lead (λ more second. refused bad second) where
@@ -184,7 +186,7 @@ not_first bytes some lead bad = one_byte bytes some lead (λ more second. refuse
   refused (inr high) (second_of_three a b la lb x y h) = omega (arith, high, x, la)
   refused (inr high) (second_of_four a b lb x y h) = omega (arith, high, x, h.1)
 
--- ---- where the second byte may follow the first one, and the third one is no trail byte
+-- ---- the second byte may follow the first one, and the third one is not a trail byte
 pub not_third_of_three : (bytes : List ℕ) (a b : ℕ) → get_or bytes 0 0 ≡ 224 + a → a < 16 → IsTrail bytes 1 b → IsHighOfThree (a * 64 + b)
     → IsNoTrail bytes 2 → IsIllFormedPart bytes 2
 not_third_of_three [] a b e l s h bad = let n = s.there in absurd (omega arith)
@@ -217,7 +219,7 @@ not_fourth (x ∷ y ∷ z ∷ rest) a b d e s h t bad =
     three_bytes (x ∷ y ∷ z ∷ rest) t.there (omega (arith, e))
     ((a * 64 + b) * 4096 + d * 64 + 0, u.scalar, ((128 + 0) ∷ [], rw (e, second, third) (sym u.encoded))) bad
 
--- ---- how long a part is
+-- ---- the length of a part
 pub part_size : (bytes : List ℕ) (part : Option ℕ) (size : ℕ) → IsFirstPart bytes part size → (0 < size) × (size ≤ length bytes)
 part_size bytes None size p = (p.some, p.within)
 part_size bytes (Some c) size p =

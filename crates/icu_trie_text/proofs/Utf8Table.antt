@@ -1,4 +1,5 @@
--- The bytes of characters, row by row (table 3-7 of the Unicode Standard), and which bytes are the front of one's.
+-- The bytes of characters, row by row (table 3-7 of the Unicode Standard), and which bytes are a
+-- prefix of them.
 use Rattle.std.proofs.Common.{◌≡◌, ◌∙◌, ℕ, ◌+◌, ◌*◌, ◌/◌, ◌%◌, ◌<◌, ◌≤◌, List, [], ◌∷◌, ◌++◌, length, get_or, refl, ap, sym, arith, inl, inr}
 use Rattle.std.specs.Prelude.{◌⊎◌}
 use Rattle.std.specs.Char.{IsScalar, encode_utf8}
@@ -28,7 +29,7 @@ scalar_low c h = rw (lt-ltb c 0xD800 h) refl
 pub scalar_high : (c : ℕ) → 0xE000 ≤ c → c < 0x110000 → IsScalar c
 scalar_high c l h = rw (le-ltb c 0xD800 (omega arith), le-leb 0xE000 c l, lt-ltb c 0x110000 h) refl
 
--- a character with these bytes
+-- A character with these bytes.
 pub record HasBytes (c : ℕ) (bytes : List ℕ) : Type 0 where
   pub scalar : IsScalar c
   pub encoded : encode_utf8 c ≡ bytes
@@ -114,7 +115,7 @@ row c s = elim (cases_lt c 128) [
   ]
 ]
 
--- ---- the first bytes of a character tell how many follow
+-- ---- the first byte of a character determines how many follow
 module _ (c : ℕ) (rest bytes : List ℕ) (s : IsScalar c) (parts : bytes ≡ encode_utf8 c ++ rest) where
   lead : (own : List ℕ) → encode_utf8 c ≡ own → get_or bytes 0 0 ≡ get_or (own ++ rest) 0 0
   lead own e = ap (λ (bs : List ℕ). get_or bs 0 0) (parts ∙ ap (λ (bs : List ℕ). bs ++ rest) e)
@@ -146,8 +147,9 @@ module _ (c : ℕ) (rest bytes : List ℕ) (s : IsScalar c) (parts : bytes ≡ e
     | of_four a b d f lb ld lf h e ↦ omega (arith, long _ e)
   ]
 
--- ---- what bytes are that are the front of a character's
--- the second byte that may follow the first one
+-- ---- the bytes that are a prefix of a character's
+--
+-- The second byte that may follow the first one.
 pub data IsSecond (x y : ℕ) : Type 0 where
   second_of_two : 194 ≤ x → x < 224 → 128 ≤ y → y < 192 → IsSecond x y
   second_of_three : (a b : ℕ) → a < 16 → b < 64 → x ≡ 224 + a → y ≡ 128 + b → IsHighOfThree (a * 64 + b) → IsSecond x y

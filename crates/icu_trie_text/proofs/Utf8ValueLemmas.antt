@@ -1,4 +1,4 @@
--- The items that an iterator over bytes that may be ill-formed UTF-8 gives.
+-- The items of an iterator over bytes that may be ill-formed UTF-8.
 use Rattle.std.proofs.Common.{◌≡◌, ◌∙◌, sym, ap, subst, ℕ, ◌<◌, List, [], ◌∷◌, drop, get_or, length, true, Option, Some, None, arith}
 use Rattle.std.specs.Option.{unwrap_or}
 use Rattle.std.specs.Iterator.{Drains, Yields}
@@ -12,7 +12,7 @@ use Rattle.icu_trie_text.specs.Utf8Values.{AreValuesOfBytes, BytesToValue, Gives
 use Rattle.icu_trie_text.specs.Values.{AreValuesOf}
 use Rattle.icu_trie_text.proofs.Utf8Parts.{part_of_ascii}
 
--- a character begins text that is not empty
+-- A text that is not empty starts with a character.
 some_begins : (bytes cs : List ℕ) → all_scalars cs ≡ true → encode_utf8_all cs ≡ bytes → 0 < length bytes → StartsWithNoChar bytes → ⊥
 some_begins bytes [] s e n none = omega (arith, n, ap (λ (bs : List ℕ). length bs) e)
 some_begins bytes (c ∷ cs) s e n none = none c (encode_utf8_all cs) (and_parts _ _ s).0 (sym e)
@@ -31,7 +31,7 @@ module _ {T : Type 0} where
             (subst (λ (p : Parts T). AreValuesOfBytes p j.bytes xs) y.1.trie r),
       )
 
-  -- what the calls give until nothing is left are the items of the parts of the bytes
+  -- The items until nothing is left are those of the parts of the bytes.
   pub values_of_bytes_drained : (s : BytesToValue T) (items : List (ℕ × T)) → Drains GivesPart s items
       → AreValuesOfBytes s.trie s.bytes items
   values_of_bytes_drained s items d = values_of_run s d.1.0 items d.1.2.steps.0 d.1.1
@@ -54,14 +54,14 @@ module _ {T : Type 0} (trie : Parts T) where
         values = All-cons HasItsValue item items own r.values;
       }
 
-  -- the parts of a text are its characters
+  -- The parts of a text are its characters.
   pub values_of_text : (bytes : List ℕ) (items : List (ℕ × T)) → IsUtf8 bytes → AreValuesOfBytes trie bytes items
       → AreValuesOf trie (chars bytes) items
   values_of_text bytes [] u e = rw e (record { code_points = sym chars-nil; values = All-nil HasItsValue })
   values_of_text bytes (x ∷ xs) u a =
       text_item bytes x xs a.0 a.1.part u a.1.stands a.1.character a.1.value (λ v. values_of_text (drop a.0 bytes) xs v a.2)
 
-  -- a byte of ASCII is a character
+  -- An ASCII byte is a character.
   pub ascii_item : (bytes : List ℕ) (lead c : ℕ) (value : T) → 0 < length bytes → lead ≡ get_or bytes 0 0 → lead < 128 → c ≡ lead
       → Some value ≡ trie_value trie lead → IsFirstItem trie bytes (c, value) 1
   ascii_item bytes lead c value some l h e v = record {

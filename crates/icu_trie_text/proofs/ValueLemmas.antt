@@ -1,4 +1,4 @@
--- The items that an iterator over values gives.
+-- The items of an iterator over values.
 use Rattle.std.proofs.Common.{◌≡◌, ◌∙◌, sym, ap, refl, ℕ, ◌≤◌, List, [], ◌∷◌, length, map, Option, Some, arith}
 use Rattle.std.specs.Iterator.{Drains}
 use Rattle.std.specs.Iterator.Runs.{EveryRun, ItemsMapTo}
@@ -36,21 +36,21 @@ module _ {T : Type 0} (trie : Parts T) where
         values = All-cons HasItsValue x xs (ap (λ (n : ℕ). trie_value trie n) (sym code_point) ∙ value) r.values;
       }
 
-  -- what the calls give until nothing is left are the code points, each with its value
+  -- The items until nothing is left are the code points, each with its value.
   pub values_of_drained : (cs : List ℕ) (items : List (ℕ × T)) → Drains GivesValue (with_values trie cs) items → AreValuesOf trie cs items
   values_of_drained cs items d =
       listed_values cs items (items_from_drains items (d.1.0, d.1.1, λ _. (d.0, d.1.2))
       (YieldsList-from_first value_item (λ left. left) (with_values trie cs) refl))
 
-  -- each run gives the front of what was left
+  -- Each run returns a prefix of what was left.
   pub value_runs : EveryRun (GivesValue {T = T}) (λ p. ItemsMapTo p value_item p.from)
   value_runs p s = from_front (GivesValue {T = T}) value_item (λ left. left) (λ s t h. ap length h.0) (λ s x t h. h) p s
 
-  -- there are no more characters than bytes
+  -- There are no more characters than bytes.
   pub values_fit : (text : List ℕ) → IsUtf8 text → length (with_values trie (chars text)) ≤ length text
   values_fit text u =
       omega (arith, length-with_values (chars text), length-le-encodes (chars text), ap (λ (bs : List ℕ). length bs) (encodes-chars text u))
 
-  -- and no more code points than units
+  -- There are no more code points than units.
   pub units_fit : (units : List ℕ) → length (with_values trie (code_points_of units)) ≤ length units
   units_fit units = omega (arith, length-with_values (code_points_of units), length-code_points units)

@@ -6,19 +6,20 @@ use Rattle.icu_trie.specs.Parts.{Parts, trie_value}
 use Rattle.icu_trie_text.specs.declared.found.Found.{Found}
 
 module _ {F T : Type 0} (post : F → T → Bool → Type 0) (f : F) (trie : Parts T) where
-  -- f answers this of the value of the character
+  -- f returns `answer` for the value of the character.
   abbrev pub AnswersOf : Bool → ℕ → Type 0
   AnswersOf answer c = (value : T) × (trie_value trie c ≡ Some value) × post f value answer
 
-  -- f accepts the value of each of these characters; it refuses that of each
+  -- f accepts the value of each of these characters.
   abbrev pub AreAccepted : List ℕ → Type 0
   AreAccepted cs = All (AnswersOf true) cs
 
+  -- f rejects the value of each of these characters.
   abbrev pub AreRefused : List ℕ → Type 0
   AreRefused cs = All (AnswersOf false) cs
 
-  -- the character stands there in the text, f accepts its value, and it refuses those of all
-  -- characters before it
+  -- The character is in the text at this offset, f accepts its value, and f rejects the values of
+  -- all characters before it.
   pub record IsFirstAccepted (text : List ℕ) (found : Found T) : Type 0 where
     pub before : List ℕ
     pub after : List ℕ
@@ -28,13 +29,13 @@ module _ {F T : Type 0} (post : F → T → Bool → Type 0) (f : F) (trie : Par
     pub value : trie_value trie found.character ≡ Some found.value
     pub accepted : post f found.value true
 
-  -- f refuses the value of the first of the characters, if there is one
+  -- f rejects the value of the first of the characters, if there is one.
   abbrev pub IsFirstRefused : List ℕ → Type 0
   IsFirstRefused [] = Unit {0}
   IsFirstRefused (c ∷ cs) = AnswersOf false c
 
-  -- the first `end` bytes of the text are its longest front whose characters all have values that f
-  -- accepts
+  -- The first `end` bytes of the text are its longest prefix in which f accepts the value of every
+  -- character.
   pub record IsAcceptedFront (text : List ℕ) (end : ℕ) : Type 0 where
     pub front : List ℕ
     pub after : List ℕ

@@ -1,4 +1,4 @@
--- Words that the functions inside the crate and their proofs need. No public contract cites them.
+-- Definitions for the functions inside the crate and their proofs. No public contract uses them.
 pub mod Ascii
 pub mod FirstItem
 pub mod Trails

@@ -2,8 +2,9 @@
 use Rattle.std.specs.Prelude.{ℕ, ◌&&◌, List, [], ◌∷◌, if◌then◌else◌}
 use Rattle.std.specs.Char.Utf16.{is_high_surrogate, is_low_surrogate, surrogate_pair_char}
 
--- the code points of the units in order: a high surrogate and the low surrogate after it are one,
--- above 0xFFFF, and each other unit is one by itself, a surrogate that has no partner too
+-- The code points of the units in order. A high surrogate followed by a low surrogate is one code
+-- point, above 0xFFFF. Each other unit is a code point of its own, including a surrogate that is
+-- not part of a pair.
 unfoldable pub code_points_of : List ℕ → List ℕ
 code_points_of [] = []
 code_points_of (u ∷ []) = u ∷ []

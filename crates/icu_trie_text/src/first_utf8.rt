@@ -5,7 +5,7 @@ ghost use Rattle.std.specs.Str.{StartsWithNoChar};
 ghost use Rattle.icu_trie_text.specs.Inside.Trails.{IsHighOfFour, IsHighOfThree, IsNoTrail, IsTrail};
 ghost use Rattle.icu_trie_text.specs.Utf8.{IsFirstPart, IsIllFormedPart};
 
-/// The six bits of the trail byte at the place, `None` where there is none.
+/// Returns the six bits of the trail byte at `place`, or `None` if there is no trail byte.
 #[inline(always)]
 fn trail_bits(bytes: &[u8], place: usize) -> Option<u32>
     ensures { MatchOption result (IsNoTrail bytes.now place) (IsTrail bytes.now place) }
@@ -20,7 +20,8 @@ fn trail_bits(bytes: &[u8], place: usize) -> Option<u32>
     Some(byte - 0x80)
 }
 
-/// The character that begins bytes whose first one leads two, `None` where none does.
+/// Returns the character at the start of the bytes, or `None` if there is none. The first byte is
+/// the lead byte of two.
 #[inline(always)]
 pub(crate) fn of_two(bytes: &[u8]) -> Option<char>
     requires some { 0 < length bytes.now }
@@ -34,9 +35,9 @@ pub(crate) fn of_two(bytes: &[u8]) -> Option<char>
     char::from_u32(first * 64 + second)
 }
 
-/// The character that begins bytes whose first one leads three, `None` where none does: so where
-/// fewer bytes would say it, and where it would be a surrogate. The length is tested once, for all
-/// reads.
+/// Returns the character at the start of the bytes, or `None` if there is none. The first byte is
+/// the lead byte of three. Overlong sequences and surrogates are not characters. The length is
+/// checked once, for all reads.
 #[inline(always)]
 pub(crate) fn of_three(bytes: &[u8]) -> Option<char>
     requires some { 0 < length bytes.now }
@@ -58,9 +59,9 @@ pub(crate) fn of_three(bytes: &[u8]) -> Option<char>
     char::from_u32(code_point)
 }
 
-/// The character that begins bytes whose first one leads four, `None` where none does: so where
-/// fewer bytes would say it, and where it would be above 0x10FFFF. The length is tested once, for
-/// all reads.
+/// Returns the character at the start of the bytes, or `None` if there is none. The first byte is
+/// the lead byte of four, or greater. Overlong sequences and numbers above 0x10FFFF are not
+/// characters. The length is checked once, for all reads.
 #[inline(always)]
 pub(crate) fn of_four(bytes: &[u8]) -> Option<char>
     requires some { 0 < length bytes.now }
@@ -82,23 +83,23 @@ pub(crate) fn of_four(bytes: &[u8]) -> Option<char>
     char::from_u32(code_point)
 }
 
-/// Whether these are the upper ten bits of a character of three bytes, which its first two say: of
-/// one that takes no fewer bytes, and is no surrogate.
+/// Returns true if these can be the upper ten bits of a three-byte character, which its first two
+/// bytes contain: they are not those of an overlong sequence or a surrogate.
 fn is_high_of_three(high: u32) -> bool
     ensures { IsTrue result ↔ IsHighOfThree high }
 {
     0x20 <= high && (high < 0x360 || 0x380 <= high)
 }
 
-/// Whether these are the upper nine bits of a character of four bytes, which its first two say: of
-/// one that takes no fewer bytes, and is no number above 0x10FFFF.
+/// Returns true if these can be the upper nine bits of a four-byte character, which its first two
+/// bytes contain: they are not those of an overlong sequence or a number above 0x10FFFF.
 fn is_high_of_four(high: u32) -> bool
     ensures { IsTrue result ↔ IsHighOfFour high }
 {
     0x10 <= high && high < 0x110
 }
 
-/// How long the ill-formed part is of bytes whose first one leads three.
+/// Returns the length of the ill-formed part if the first byte is the lead byte of three.
 fn size_of_three(bytes: &[u8]) -> usize
     requires none { StartsWithNoChar bytes.now }
     requires some { 0 < length bytes.now }
@@ -116,7 +117,8 @@ fn size_of_three(bytes: &[u8]) -> usize
     2
 }
 
-/// How long the ill-formed part is of bytes whose first one leads four, or is above those.
+/// Returns the length of the ill-formed part if the first byte is the lead byte of four, or
+/// greater.
 fn size_of_four(bytes: &[u8]) -> usize
     requires none { StartsWithNoChar bytes.now }
     requires some { 0 < length bytes.now }
@@ -136,8 +138,8 @@ fn size_of_four(bytes: &[u8]) -> usize
     3
 }
 
-/// How long the ill-formed part is that begins the bytes, which are some, where no character does
-/// (table 3-7 of the Unicode Standard).
+/// Returns the length of the ill-formed part at the start of the bytes (table 3-7 of the Unicode
+/// Standard). The bytes are not empty and do not start with a character.
 #[cold]
 #[inline(never)]
 pub(crate) fn ill_formed_size(bytes: &[u8]) -> usize

@@ -1,4 +1,4 @@
-//! The value of each character of a text, with the place of the character.
+//! The value of each character of a text, with the character's byte offset.
 ghost use Rattle.std.specs.Prelude.{◌≡◌, ◌^◌, ◌<◌, ℕ, List, length};
 ghost use Rattle.std.specs.Iterator.{Drains, item_count};
 ghost use Rattle.std.specs.Iterator.Runs.{EveryRun, ItemsMapTo};
@@ -11,13 +11,14 @@ use icu_trie::cptrie::CodePointTrie;
 use icu_trie_core::value::TrieValue;
 use std::marker::Model;
 
-/// The characters of a text, each with its place and its value in a trie, as [`value_indices_of`]
-/// gives them. A clause sees those that are left, each with what the trie has for it.
+/// An iterator over the characters of a text, each with its byte offset and its value in a trie.
+///
+/// Created by [`value_indices_of`].
 #[derive(Debug, Drop)]
 pub struct ValueIndicesOf<'a, T: TrieValue> {
     trie: AsciiInPlace<'a, T>,
     rest: &'a str,
-    /// How many bytes the whole text has.
+    /// The length of the whole text in bytes.
     end: usize,
 }
 
@@ -33,8 +34,11 @@ impl<'a, T: TrieValue> Model for ValueIndicesOf<'a, T> {
     ghost invariant = { λ a. length a.rest.now ≤ a.end };
 }
 
-/// The characters of the text as [`values_of`](crate::values::values_of) gives them, each with the
-/// byte offset at which it begins, as [`char_indices`](str::char_indices) has it.
+/// Returns an iterator over the characters of the text, each with its byte offset and its value in
+/// the trie.
+///
+/// The characters and values are those of [`values_of`](crate::values::values_of), and the offsets
+/// are those of [`char_indices`](str::char_indices).
 ///
 /// ```
 /// for (offset, c, category) in value_indices_of(&categories, "éB") {

@@ -11,8 +11,9 @@ use icu_trie::cptrie::CodePointTrie;
 use icu_trie_core::value::TrieValue;
 use std::marker::Model;
 
-/// The characters of a text, each with its value in a trie, as [`values_of`] gives them. A clause
-/// sees those that are left, each with what the trie has for it.
+/// An iterator over the characters of a text, each with its value in a trie.
+///
+/// Created by [`values_of`].
 #[derive(Debug, Drop)]
 pub struct ValuesOf<'a, T: TrieValue> {
     trie: AsciiInPlace<'a, T>,
@@ -29,9 +30,10 @@ impl<'a, T: TrieValue> Model for ValuesOf<'a, T> {
     ghost view = { λ a. with_values a.trie (chars a.rest.now) };
 }
 
-/// The characters of the text, from its front on, each with its value in the trie, as
-/// [`get`](CodePointTrie::get) answers it (ICU: a loop over `UCPTRIE_FAST_U8_NEXT` on text that is
-/// well-formed).
+/// Returns an iterator over the characters of the text in order, each with its value in the trie.
+///
+/// The values are those that [`get`](CodePointTrie::get) returns. ICU: a loop over
+/// `UCPTRIE_FAST_U8_NEXT` on well-formed text.
 ///
 /// ```
 /// for (c, category) in values_of(&categories, "aB1") {

@@ -1,8 +1,8 @@
--- Tries whose values of ASCII stand in their places.
+-- Tries whose data start with the values of ASCII.
 use Rattle.std.specs.Prelude.{◌≡◌, ℕ, ◌<◌, ◌≤◌, List, length, slice_get}
 use Rattle.icu_trie.specs.Parts.{Parts, trie_value}
 
--- the code points below `end`, which are of ASCII, have the values of their own places
+-- The code points below `end`, which are ASCII, have their values at their own index in the data.
 pub record HasAsciiInPlace {T : Type 0} (trie : Parts T) (values : List T) (end : ℕ) : Type 0 where
   pub ascii : end ≤ 0x80
   pub there : end ≤ length values
