@@ -6,7 +6,7 @@ use Rattle.std.proofs.lemmas.List.{nil_from_length, take-append-le, drop-append-
 use Rattle.icu_zerovec.specs.Cells.{values_from, values_of}
 
 module _ {T : Type 0} (f : List ℕ → Option T) (w : ℕ) (positive : 0 < w) where
-  -- those of n cells, and of m cells behind them
+  -- The values of n cells, and of m cells after them.
   values_from-append : (a b : List ℕ) (n m : ℕ) → length a ≡ n * w
       → values_from f w (a ++ b) (n + m) ≡ values_from f w a n ++ values_from f w b m
   values_from-append a b zero m e =
@@ -23,7 +23,7 @@ module _ {T : Type 0} (f : List ℕ → Option T) (w : ℕ) (positive : 0 < w) w
       ∙ rw (take-append-le w a b fits, drop-append-le w a b fits, values_from-append (drop w a) b n m rest)
       (sym (append_assoc (option_to_list (f (take w a))) _ _))
 
-  -- those of whole cells, and of whole cells behind them
+  -- The values of whole cells, and of whole cells after them.
   pub values_of-append : (a b : List ℕ) (n m : ℕ) → length a ≡ n * w → length b ≡ m * w
       → values_of f w (a ++ b) ≡ values_of f w a ++ values_of f w b
   unfolding values_of

@@ -2,7 +2,7 @@
 use Rattle.std.proofs.Common.{◌≡◌, ℕ, ◌+◌, List, ◌++◌, length, take, drop, refl, arith, sym, ◌∙◌, ap, append_assoc}
 use Rattle.std.proofs.lemmas.List.{length-append, drop-drop, drop_at, take_at}
 
--- a header, an index, what is put behind it, data, and what follows
+-- A header, an index, its padding, data, and what follows.
 module _ (a b c d rest : List ℕ) where
   pub length-joined : length a ≡ 16 → length (a ++ ((b ++ c) ++ (d ++ rest))) ≡ 16 + length b + length c + length d + length rest
   length-joined e =
@@ -15,7 +15,7 @@ module _ (a b c d rest : List ℕ) where
         length-append d rest,
       )
 
-  -- all but what follows
+  -- Everything except what follows.
   split-joined : a ++ ((b ++ c) ++ (d ++ rest)) ≡ ((a ++ (b ++ c)) ++ d) ++ rest
   split-joined = simp append_assoc
 
@@ -34,7 +34,7 @@ module _ (a b c d rest : List ℕ) where
   pub whole-joined : (front cells : List ℕ) → a ++ (b ++ c) ≡ front → d ≡ cells → a ++ ((b ++ c) ++ (d ++ rest)) ≡ (front ++ cells) ++ rest
   whole-joined front cells e f = split-joined ∙ ap (λ x. (x ++ d) ++ rest) e ∙ ap (λ x. (front ++ x) ++ rest) f
 
--- the parts that were copied to their places
+-- The parts that were copied to their offsets.
 pub joined-copied : (bytes a b c d header index behind cells at_index at_behind at_cells rest : List ℕ)
     → header ≡ a → index ≡ b → behind ≡ c → cells ≡ d
     → at_index ≡ drop 16 bytes → at_behind ≡ drop (length b) at_index → at_cells ≡ drop (length c) at_behind

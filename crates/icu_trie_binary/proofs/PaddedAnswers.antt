@@ -1,4 +1,4 @@
--- Cells behind an index change no answer that there is, and keep a trie coherent.
+-- Cells after an index change no value that a look-up returns, and they keep a trie coherent.
 use Rattle.std.proofs.Common.{◌≡◌, ℕ, zero, suc, ◌+◌, ◌-◌, ◌*◌, ◌/◌, ◌%◌, List, [], ◌∷◌, ◌++◌, length, slice_get, Option, Some, None, refl}
 use Rattle.std.specs.Prelude.{Bool, true, false, nat_lt, if◌then◌else◌}
 use Rattle.std.specs.Option.{option_and_then}
@@ -7,7 +7,7 @@ use Rattle.icu_trie_core.specs.declared.header.TrieType.{TrieType}
 use Rattle.icu_trie_core.specs.declared.header.CodePointTrieHeader.{CodePointTrieHeader}
 use Rattle.icu_trie_core.specs.Format.{answer, place, fast_limit, small_offset, index2_cell, offset_in_block, high_cell, long_offset, index1_start}
 
--- what there is stays
+-- If the first is Some, the second is the same.
 abbrev pub Keeps : {A : Type 0} → Option A → Option A → Type 0
 Keeps {A} o p = (x : A) → o ≡ Some x → p ≡ Some x
 

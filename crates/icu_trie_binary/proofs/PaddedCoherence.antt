@@ -1,4 +1,5 @@
--- Cells behind an index keep a trie coherent if its null value stays, or if its header names no null block.
+-- Cells after an index keep a trie coherent if the null value is unchanged, or if the header names no block
+-- of the data.
 use Rattle.std.proofs.Common.{◌≡◌, ℕ, ◌+◌, ◌*◌, ◌/◌, ◌%◌, ◌<◌, ◌≤◌, List, ◌++◌, length, slice_get, Option, Some, None, refl, arith, sym, ◌∙◌, ap}
 use Rattle.std.specs.Prelude.{true, false, nat_lt, IsSome}
 use Rattle.std.specs.Option.{option_and_then}
@@ -18,7 +19,7 @@ some_of (Some x) h = (x, refl)
 is_some-kept : {A : Type 0} (o p : Option A) → Keeps o p → IsSome o → IsSome p
 is_some-kept o p k s = let x = some_of o s in rw (k x.0 x.1) refl
 
--- what is kept of what there is, is what was there
+-- If the first is Some, a value of the second is a value of the first.
 back : {A : Type 0} (o p : Option A) (x : A) → Keeps o p → IsSome o → p ≡ Some x → o ≡ Some x
 back o p x k s e = let y = some_of o s in y.1 ∙ (sym (k y.0 y.1) ∙ e)
 
@@ -29,7 +30,7 @@ not_none : {A : Type 0} (o : Option A) → IsSome o → o ≡ None → ⊥
 not_none None s e = cc
 not_none (Some x) s e = cc
 
--- where there is an end there is a middle
+-- If the whole is Some, its first step is Some.
 some_before : {A B : Type 0} (f : A → Option B) (o : Option A) → IsSome (option_and_then f o) → IsSome o
 some_before f None s = s
 some_before f (Some x) s = refl
@@ -41,7 +42,7 @@ module _ {T : Type 0} (of_number : ℕ → Option T) (h g : CodePointTrieHeader)
   kept : (u : ℕ) → Keeps (answer h (contents_of index values) u) (answer g (contents_of (index ++ behind) values) u)
   kept u = keeps_answer index behind h g values u same_type same_start
 
-  -- below the high start the cells of the index are there
+  -- Below the high start the cells of the index exist.
   some_fast : (u : ℕ) → u < fast_limit h.trie_type → u < h.high_start → IsSome (fast_offset index u)
   unfolding answer
   some_fast u l s =
@@ -63,7 +64,7 @@ module _ {T : Type 0} (of_number : ℕ → Option T) (h g : CodePointTrieHeader)
   unfolding small_offset
   some_index2 u l s = some_before _ (index2_cell h.trie_type index u) (some_small u l s)
 
-  -- what is named as null with the cells behind is named so without them
+  -- A block that is named as null with the cells after the index is named as null without them.
   named_64 : (b : ℕ) → b * 64 < fast_limit g.trie_type → b * 64 < g.high_start
       → fast_offset (index ++ behind) (b * 64) ≡ Some g.data_null_offset
       → (b * 64 < fast_limit h.trie_type) × (b * 64 < h.high_start) × (fast_offset index (b * 64) ≡ Some h.data_null_offset)
@@ -127,7 +128,7 @@ module _ {T : Type 0} (of_number : ℕ → Option T) (h g : CodePointTrieHeader)
           null_kept 512 b (good.null_512 b n.0 n.1 n.2);
     }
 
-  -- the header names no block of the data, and no block of 512 is said to be null
+  -- The header names no block of the data, and no block of 512 is named as null.
   module _ (far : length values ≤ h.data_null_offset)
       (no_512 : (b : ℕ) → fast_limit h.trie_type ≤ b * 512 → b * 512 < h.high_start
       → index2_cell h.trie_type index (b * 512) ≡ Some h.index3_null_offset → ⊥) where

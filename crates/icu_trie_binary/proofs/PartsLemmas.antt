@@ -1,4 +1,5 @@
--- The parts of a trie's binary form: they read as the trie's stored form, and are the bytes that are wanted.
+-- The parts of a trie's binary form: they are read as the trie's stored form, and they are the
+-- specified bytes.
 use Rattle.std.proofs.Common.{◌≡◌, ℕ, ◌+◌, ◌*◌, ◌^◌, ◌<◌, List, ◌++◌, length, Option, Some, None, arith, sym, ◌∙◌, ap}
 use Rattle.std.specs.Prelude.{is_none, false}
 use Rattle.std.specs.List.{flat_map}

@@ -1,4 +1,4 @@
--- A trie and the form that it is read in again: the answers, coherence, and when both are one.
+-- A trie and the stored form that is read back: look-ups, coherence, and when both are equal.
 use Rattle.std.proofs.Common.{◌≡◌, ℕ, ◌+◌, ◌/◌, ◌*◌, ◌<◌, ◌≤◌, List, [], ◌++◌, length, Option, Some, None, refl, sym, ◌∙◌, ap}
 use Rattle.std.specs.Prelude.{Err, IsSome, Ok, Result, is_none, false}
 use Rattle.std.proofs.lemmas.List.{append-nil}
@@ -17,12 +17,12 @@ some_from_none : {A : Type 0} (o : Option A) → is_none o ≡ false → IsSome 
 some_from_none None h = cc
 some_from_none (Some x) h = refl
 
--- the header that was read, and h where none was
+-- The header that was read, or h if none was.
 abbrev header_or : BinaryHeader → Result (BinaryHeader × ℕ) BinaryError → BinaryHeader
 header_or h (Ok read) = read.0
 header_or h (Err e) = h
 
--- bytes begin with one trie
+-- Bytes start with at most one trie.
 pub stored-one : {T : Type 0} (width : ℕ) (number : T → ℕ) (unpack : List ℕ → Option T) (of_number : ℕ → Option T) (b : List ℕ)
     (u v : Parts T) (m n : ℕ) → IsStored unpack width number of_number b u m → IsStored unpack width number of_number b v n → v ≡ u
 stored-one width number unpack of_number b u v m n first second =
@@ -30,19 +30,21 @@ stored-one width number unpack of_number b u v m n first second =
     second.trie ∙ ap (λ h. trie_in unpack width number of_number h b) header ∙ sym first.trie
 
 module _ {T : Type 0} (width : ℕ) (number : T → ℕ) (t : Parts T) where
-  -- what the trie answers, its stored form answers
+  -- If the trie has a value for c, its stored form has the same value.
   pub answers-stored : (c : ℕ) (x : T) → answers t c ≡ Some x → answers (stored_form width number t) c ≡ Some x
   answers-stored c x e = keeps_answer t.index (padding width (length t.index)) t.header (stored_form width number t).header t.values c refl
       refl x e
 
-  -- what bytes are read as that begin with the stored form answers what the trie answers
+  -- If bytes start with the stored form, any trie that is read from them has the values of the
+  -- trie.
   pub answers-read : (unpack : List ℕ → Option T) (of_number : ℕ → Option T) (b : List ℕ) (u : Parts T) (m n : ℕ)
       → IsStored unpack width number of_number b (stored_form width number t) n → IsStored unpack width number of_number b u m
       → (c : ℕ) (x : T) → answers t c ≡ Some x → answers u c ≡ Some x
   answers-read unpack of_number b u m n stored read c x e =
-      ap (λ v. answers v c) (stored-one width number unpack of_number b (stored_form width number t) u n m stored read) ∙ answers-stored c x e
+      ap (λ v. answers v c) (stored-one width number unpack of_number b (stored_form width number t) u n m stored read)
+      ∙ answers-stored c x e
 
-  -- where the header names a block of the data, the stored form of a coherent trie is coherent
+  -- If the header names a block of the data, the stored form of a coherent trie is coherent.
   pub coherent-stored : (of_number : ℕ → Option T) → why_not_written width number t ≡ None → t.header.data_null_offset < length t.values
       → parts_fault of_number t.header t.index t.values ≡ None → IsCoherentTrie of_number t
       → IsCoherentTrie of_number (stored_form width number t)
@@ -51,7 +53,7 @@ module _ {T : Type 0} (width : ℕ) (number : T → ℕ) (t : Parts T) where
       refl refl good
       (sym (null_fits width number t room named)) (some_from_none _ (first_faults _ _ _ _ whole).1)
 
-  -- the same if bytes begin with the stored form
+  -- The same if bytes start with the stored form.
   pub coherent-stored_in : (unpack : List ℕ → Option T) (of_number : ℕ → Option T) (b : List ℕ) (n : ℕ)
       → IsStored unpack width number of_number b (stored_form width number t) n → why_not_written width number t ≡ None
       → t.header.data_null_offset < length t.values → IsCoherentTrie of_number t → IsCoherentTrie of_number (stored_form width number t)
@@ -62,7 +64,7 @@ module _ {T : Type 0} (width : ℕ) (number : T → ℕ) (t : Parts T) where
       coherent-padded of_number t.header (stored_form width number t).header t.index (padding width (length t.index)) t.values refl refl
       refl refl good (sym fits) (rw fits valued)
 
-  -- so is that of a coherent trie whose header names no block of the data, if no index-2 cell is the null index-3 offset
+  -- The same if the header names no block of the data, and no index-2 cell is the null index-3 offset.
   pub coherent-stored_far : (of_number : ℕ → Option T) → length t.values ≤ t.header.data_null_offset
       → ((b : ℕ) → fast_limit t.header.trie_type ≤ b * 512 → b * 512 < t.header.high_start
       → index2_cell t.header.trie_type t.index (b * 512) ≡ Some t.header.index3_null_offset → ⊥)
@@ -71,7 +73,8 @@ module _ {T : Type 0} (width : ℕ) (number : T → ℕ) (t : Parts T) where
       coherent-far of_number t.header (stored_form width number t).header t.index (padding width (length t.index)) t.values refl refl
       refl refl good far no_512
 
-  -- it is the trie itself where nothing is put behind the index, and the header says what the form says
+  -- The stored form is the trie itself if nothing is added after the index and the header has the
+  -- fields of the form.
   pub stored_form-same : padding width (length t.index) ≡ [] → t.header.shifted12_high_start ≡ (t.header.high_start + 0xfff) / 0x1000
       → t.header.null_value ≡ null_number width number t → stored_form width number t ≡ t
   stored_form-same none shifted null = made _ _ _ (sym shifted) (sym null) (ap (λ p. t.index ++ p) none ∙ append-nil t.index)

@@ -1,4 +1,4 @@
--- The bytes of an index that is written are its cells, with the one behind it.
+-- The bytes of a written index are its cells and the one after it.
 use Rattle.std.proofs.Common.{◌≡◌, ℕ, ◌*◌, ◌/◌, ◌%◌, List, [], ◌∷◌, ◌++◌, length, Option, Some, refl, arith, sym, ◌∙◌, ap, lit<}
 use Rattle.std.specs.Prelude.{Bool, true, false, nat_eq, ◌&&◌, if◌then◌else◌}
 use Rattle.std.specs.List.{flat_map}
@@ -11,14 +11,14 @@ use Rattle.icu_zerovec.proofs.CallerLemmas.{length-values_of}
 use Rattle.icu_trie_binary.specs.WrittenTrie.{padding, stored_index}
 use Rattle.icu_trie_binary.proofs.CellsAppended.{values_of-append}
 
--- packed bytes are w for each value
+-- Packed bytes are w for each value.
 pub length-packed : {T : Type 0} (f : List ℕ → Option T) (w : ℕ) (b : List ℕ) (xs : List T) → IsPacked f w b → xs ≡ values_of f w b
     → length b ≡ length xs * w
 length-packed f w b xs p e =
     let n : length xs ≡ length b / w = ap length e ∙ length-values_of f w b p in
     omega (arith, div-add-mod' (length b) w, p.whole, ap (λ k. k * w) n)
 
--- the bytes of one cell, or of none, give it back
+-- The bytes of one cell, or of none, are read back.
 padding-values : (b : Bool) → values_of (λ c. Some (number_of 2 c)) 2 (flat_map (low_bytes 2) (if b then 0xffee ∷ [] else []))
     ≡ (if b then 0xffee ∷ [] else [])
 unfolding values_of

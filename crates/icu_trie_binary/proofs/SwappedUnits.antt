@@ -1,4 +1,4 @@
--- Groups of bytes in the other order, one after another: one group more, and how many bytes they are.
+-- Groups of bytes in the other order, one after another: one more group, and the number of bytes.
 use Rattle.std.proofs.Common.{◌≡◌, ℕ, zero, suc, ◌+◌, ◌*◌, ◌/◌, ◌≤◌, List, ◌++◌, length, take, drop, reverse, refl, arith, sym, ◌∙◌, ap, append_assoc}
 use Rattle.std.proofs.Math.Nat.{zero-mul, suc-mul}
 use Rattle.std.proofs.lemmas.List.{length-append, length-take, length-drop, length-take-le, length-reverse, append-nil, drop-drop}
@@ -36,7 +36,7 @@ pub length-swap_units : (k : ℕ) (b : List ℕ) → length (swap_units k b) ≡
 unfolding swap_units
 length-swap_units k b = length-swapped_groups k (length b / k) b (omega (arith, div-add-mod' (length b) k))
 
--- a header has 16 bytes in either order
+-- A header has 16 bytes in either order.
 pub length-swapped_header : (b : List ℕ) → 16 ≤ length b → length (swapped_header b) ≡ 16
 unfolding swapped_header
 length-swapped_header b l =
@@ -49,7 +49,7 @@ length-swapped_header b l =
       length-take-le 12 (drop 4 b) (omega (arith, l, length-drop 4 b)),
     )
 
--- a trie takes no more bytes in the other order than there are
+-- A trie in the other order takes no more bytes than there are.
 pub length-swapped : (width : ℕ) (header b : List ℕ) → length header ≡ 16 → 16 ≤ length b
     → length (header ++ swapped_cells width header (drop 16 b)) ≤ length b
 length-swapped width header b h l =

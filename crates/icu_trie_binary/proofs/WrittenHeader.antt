@@ -1,4 +1,4 @@
--- A header that was written is read.
+-- A header that was written is read back.
 use Rattle.std.proofs.Common.{◌≡◌, ℕ, ◌+◌, ◌*◌, ◌/◌, ◌%◌, ◌^◌, ◌<◌, ◌≤◌, List, ◌++◌, length, drop, refl, arith, ◌∙◌, ap}
 use Rattle.std.specs.Prelude.{Some, Ok, nat_lt, nat_eq, true, false}
 use Rattle.std.proofs.lemmas.Grind.{common_steps}
@@ -45,7 +45,7 @@ width_of-code o Bits16 e = rw e refl
 width_of-code o Bits32 e = rw e refl
 width_of-code o Bits8 e = rw e refl
 
--- ---- a header without a fault
+-- ---- a header without an error
 pub header_of-ok : (b : List ℕ) (kind : TrieType) (width : ValueWidth) → 16 ≤ length b → signature_of b ≡ 0x54726933
     → type_of (options_of b) ≡ Some kind → width_of (options_of b) ≡ Some width → options_of b / 8 % 8 ≡ 0
     → header_of b ≡ Ok (fields_of b kind width)
@@ -55,7 +55,8 @@ header_of-ok b kind width long sig t w r =
     rw (l, sig, t, w, r) refl
 
 -- ---- a header that was written
--- it has 16 bytes, the signature first
+--
+-- It has 16 bytes, and the signature is first.
 signature-back : (h : BinaryHeader) (rest : List ℕ) → signature_of (header_bytes h ++ rest) ≡ 0x54726933
 unfolding header_bytes
 signature-back h rest = refl
@@ -81,7 +82,7 @@ module _ (h : BinaryHeader) (rest : List ℕ) (small_index : h.index_length < 2 
   options-small : options_for h < 2 ^ 16
   options-small = omega (arith, small_data, small_null, type_code-small h.trie_type, width_code-small h.value_width)
 
-  -- its options
+  -- Its options.
   options-back : options_of (header_bytes h ++ rest) ≡ options_for h
   unfolding header_bytes
   options-back = omega (arith, options-small)
@@ -106,7 +107,7 @@ module _ (h : BinaryHeader) (rest : List ℕ) (small_index : h.index_length < 2 
   unfolding header_bytes
   start-back = omega (arith, small_start)
 
-  -- its fields
+  -- Its fields.
   fields-back : fields_of (header_bytes h ++ rest) h.trie_type h.value_width ≡ h
   fields-back =
       let t = type_code-small h.trie_type in let w = width_code-small h.value_width in
@@ -130,7 +131,7 @@ module _ (h : BinaryHeader) (rest : List ℕ) (small_index : h.index_length < 2 
           } in made ≡ g
       all_fields g i d m n s a b c e f = rw (a, b, c, e, f) refl
 
-  -- what it says
+  -- Its contents.
   pub header_of-written : header_of (header_bytes h ++ rest) ≡ Ok h
   header_of-written =
       let t = type_code-small h.trie_type in let w = width_code-small h.value_width in
@@ -145,7 +146,7 @@ module _ (h : BinaryHeader) (rest : List ℕ) (small_index : h.index_length < 2 
       (width_of-code (options_of b) _ width) reserved
       ∙ ap Ok fields-back
 
-  -- and how many bytes it says, where they are there
+  -- Its number of bytes, if they are all there.
   pub stored_header-written : stored_length h ≤ 16 + length rest
       → stored_header (width_bytes h.value_width) (header_bytes h ++ rest) ≡ Ok (h, stored_length h)
   unfolding stored_header

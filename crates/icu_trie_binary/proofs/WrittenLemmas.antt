@@ -1,4 +1,4 @@
--- A trie that was written is read as the form has it.
+-- A trie that was written is read as the form stores it.
 use Rattle.std.proofs.Common.{◌≡◌, ℕ, ◌+◌, ◌*◌, ◌/◌, ◌%◌, ◌^◌, ◌<◌, ◌≤◌, List, ◌++◌, length, refl, arith, ap}
 use Rattle.std.specs.Prelude.{Bool, Option, Some, None, is_none, Ok, nat_lt, nat_eq, true, false, not, ◌||◌, ◌&&◌, if◌then◌else◌}
 use Rattle.std.proofs.lemmas.Grind.{common_steps}
@@ -16,7 +16,7 @@ use Rattle.icu_trie_binary.specs.BinaryTrie.{index_bytes, data_bytes, trie_heade
 use Rattle.icu_trie_binary.specs.WrittenTrie.{header_bytes, width_for, padding, stored_index, header_for, null_number, stored_form, written_length, why_not_written}
 use Rattle.icu_trie_binary.proofs.WrittenHeader.{drop-header_bytes, stored_header-written}
 
--- ---- index and data behind a header
+-- ---- index and data after a header
 module _ (h : BinaryHeader) (index cells rest : List ℕ) (long_index : length index ≡ index_size h) where
   pub index_bytes-written : index_bytes h (header_bytes h ++ (index ++ (cells ++ rest))) ≡ index
   index_bytes-written = rw drop-header_bytes (take_at index _ _ long_index)
@@ -24,7 +24,7 @@ module _ (h : BinaryHeader) (index cells rest : List ℕ) (long_index : length i
   pub data_bytes-written : length cells ≡ data_size h → data_bytes h (header_bytes h ++ (index ++ (cells ++ rest))) ≡ cells
   data_bytes-written e = rw (drop-header_bytes, drop_at index (cells ++ rest) (index_size h) long_index) (take_at cells rest _ e)
 
--- ---- parts without a fault
+-- ---- parts without an error
 pub first_faults : (a b c d : Bool)
     → (if a then Some EmptyDataVector else (if b then Some InvalidNullValue else (if c then Some IndexTooShortForFastAccess
     else (if d then Some DataTooShortForFastAccess else None)))) ≡ None
@@ -35,7 +35,7 @@ first_faults false false true d e = cc
 first_faults false false false true e = cc
 first_faults false false false false e = (refl, refl, refl, refl)
 
--- cells behind the index make none, nor does another null value that is a value's
+-- Cells after the index cause no error, nor does another null value that is the number of a value.
 pub fault-padded : {T : Type 0} (of_number : ℕ → Option T) (h g : CodePointTrieHeader) (index behind : List ℕ) (values : List T)
     → g.trie_type ≡ h.trie_type → is_none (of_number g.null_value) ≡ false
     → parts_fault of_number h index values ≡ None → parts_fault of_number g (index ++ behind) values ≡ None
@@ -46,7 +46,7 @@ fault-padded of_number h g index behind values same_type valued e =
     let long : nat_lt (length (index ++ behind)) (fast_index_len h.trie_type) ≡ false = rw length-append (grind (arith, common_steps)) in
     rw (same_type, f.0, valued, long, take-append-le (fast_index_len h.trie_type) index behind whole, f.3) refl
 
--- ---- what is known of a trie for which there is room
+-- ---- what is known of a trie that the form can store
 first_causes : (a b c d e f : Bool)
     → (if a then Some UnknownWidth else (if b then Some LongIndex else (if c then Some LongData else (if d then Some NullOffset
     else (if e then Some HighStart else (if f then Some NullValue else None)))))) ≡ None
@@ -90,7 +90,7 @@ module _ {T : Type 0} (width : ℕ) (number : T → ℕ) (t : Parts T) (room : w
       neither true b e = cc
       neither false b e = (refl, e)
 
-  -- where the header names a block, the null value is that of the form
+  -- If the header names a block, the null value is that of the form.
   pub null_fits : t.header.data_null_offset < length t.values → t.header.null_value ≡ null_number width number t
   null_fits l =
       let f : (nat_lt t.header.data_null_offset (length t.values) && not (nat_eq t.header.null_value (null_number width number t)))

@@ -1,2 +1,2 @@
--- Words that the functions inside the crate and their proofs need. No public contract cites them.
+-- Definitions for the functions inside the crate and their proofs. No public contract uses them.
 pub mod Written

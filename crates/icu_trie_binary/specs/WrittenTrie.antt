@@ -1,5 +1,5 @@
--- What is written of a trie in ICU's binary form (`ucptrie_toBinary`): the bytes, the trie that
--- they read as, and why the form has no room for a trie.
+-- What is written for a trie in ICU's binary form (`ucptrie_toBinary`): the bytes, the trie that is
+-- read from them, and why the form cannot store a trie.
 use Rattle.std.specs.Prelude.{ℕ, ◌+◌, ◌*◌, ◌/◌, ◌%◌, nat_lt, nat_eq, not, ◌&&◌, ◌||◌, List, [], ◌∷◌, ◌++◌, length, slice_get, Option, Some, None, option_map, if◌then◌else◌}
 use Rattle.std.specs.List.{flat_map}
 use Rattle.icu_zerovec.specs.PackedBytes.{low_bytes}
@@ -15,25 +15,27 @@ use Rattle.icu_trie_binary.specs.declared.error.WriteError.{WriteError}
 use Rattle.icu_trie_binary.specs.declared.error.WriteError.TheVariants.{UnknownWidth, LongIndex, LongData, NullOffset, HighStart, NullValue}
 
 -- ---- the header
--- the code of a type in the options (UCPTrieType)
+--
+-- The code of a type in the options (UCPTrieType).
 abbrev pub type_code : TrieType → ℕ
 type_code Fast = 0
 type_code Small = 1
 
--- the code of a value width (UCPTrieValueWidth)
+-- The code of a value width (UCPTrieValueWidth).
 abbrev pub width_code : ValueWidth → ℕ
 width_code Bits16 = 0
 width_code Bits32 = 1
 width_code Bits8 = 2
 
--- the width of values of 1, 2 or 4 bytes. The form has no other: `Bits8` stands for these, and its
--- values don't take as many bytes
+-- The width of values of 1, 2 or 4 bytes. The form has no other width: for any other number of
+-- bytes the result is `Bits8`, whose values have 1 byte.
 abbrev pub width_for : ℕ → ValueWidth
 width_for width =
     if nat_eq width 2 then Bits16 else (if nat_eq width 4 then Bits32 else Bits8)
 
--- the options: bits 15 to 12 are bits 19 to 16 of the data length, bits 11 to 8 those of the offset
--- of the data null block, bits 7 and 6 the type, bits 5 to 3 are 0, bits 2 to 0 the value width
+-- The options: bits 15 to 12 are bits 19 to 16 of the data length, bits 11 to 8 are bits 19 to 16
+-- of the offset of the data null block, bits 7 and 6 are the type, bits 5 to 3 are 0, and bits 2 to
+-- 0 are the value width.
 abbrev pub options_for : BinaryHeader → ℕ
 options_for h =
     h.data_length / 0x10000 * 0x1000 + h.data_null_offset / 0x10000 * 0x100
@@ -53,13 +55,13 @@ header_bytes h =
 abbrev pub padding : ℕ → ℕ → List ℕ
 padding width cells = if nat_eq width 4 && nat_eq (cells % 2) 1 then 0xffee ∷ [] else []
 
--- the index as it is written, before values of so many bytes
+-- The index as it is written, in front of values of `width` bytes.
 abbrev pub stored_index : ℕ → List ℕ → List ℕ
 stored_index width index = index ++ padding width (length index)
 
--- ---- the trie. Its values take `width` bytes each, and `number` gives the number of a value
+-- ---- the trie: its values have `width` bytes each, and `number` is the number of a value
 module _ {T : Type 0} (width : ℕ) (number : T → ℕ) where
-  -- the header that is written
+  -- The header that is written.
   abbrev pub header_for : Parts T → BinaryHeader
   header_for t = record {
     trie_type = t.header.trie_type;
@@ -71,8 +73,8 @@ module _ {T : Type 0} (width : ℕ) (number : T → ℕ) where
     shifted_high_start = t.header.high_start / 0x200;
   }
 
-  -- the number that the form has for the null value: that of the cell at the offset of the data
-  -- null block, and that of the high value where the offset lies outside the data
+  -- The number of the null value in the form: that of the cell at the offset of the data null
+  -- block, or that of the high value if the offset is outside the data.
   abbrev pub null_number : Parts T → ℕ
   null_number t =
       number_or_zero (option_map number (slice_get t.values (null_place (header_for t))))
@@ -94,15 +96,14 @@ module _ {T : Type 0} (width : ℕ) (number : T → ℕ) where
     values = t.values;
   }
 
-  -- how many bytes are written
+  -- The number of bytes that are written.
   abbrev pub written_length : Parts T → ℕ
   written_length t = 16 + 2 * length (stored_index width t.index) + width * length t.values
 
-  -- why the form has no room for a trie, the first cause of these: values of another number of
-  -- bytes; an index or data that are too long, or the offset of the data null block too large, for
-  -- the 16 and 20 bits that the form has for them; a high start that is no multiple of 0x200, or
-  -- that has more than 25 bits; and a null value that is not that of the block which the header
-  -- names
+  -- Why the form cannot store a trie, the first reason of these: its values do not have 1, 2 or 4
+  -- bytes; the index has more cells than 16 bits can count; the data or the offset of the data null
+  -- block need more than 20 bits; the high start is not a multiple of 0x200, or has more than 25
+  -- bits; the null value is not that of the block that the header names.
   abbrev pub why_not_written : Parts T → Option WriteError
   why_not_written t =
       if not (nat_eq (width_bytes (width_for width)) width) then Some UnknownWidth
@@ -114,11 +115,11 @@ module _ {T : Type 0} (width : ℕ) (number : T → ℕ) where
       else (if nat_lt t.header.data_null_offset (length t.values)
       && not (nat_eq t.header.null_value (null_number t)) then Some NullValue else None)))))
 
-  -- header and index as they are written
+  -- Header and index as they are written.
   abbrev pub front_bytes : Parts T → List ℕ
   front_bytes t =
       header_bytes (header_for t) ++ flat_map (low_bytes 2) (stored_index width t.index)
 
-  -- the bytes of a trie, where each value has one encoding
+  -- The bytes of a trie if each value has one encoding.
   abbrev pub binary_of : (T → List ℕ) → Parts T → List ℕ
   binary_of pack t = front_bytes t ++ flat_map pack t.values

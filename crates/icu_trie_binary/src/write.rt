@@ -1,4 +1,4 @@
-//! Tries to ICU's binary form, as `ucptrie_toBinary` writes them.
+//! Writes tries in ICU's binary form, as `ucptrie_toBinary` does.
 ghost use Rattle.std.specs.Prelude.{◌≡◌, ℕ, ◌+◌, ◌*◌, ◌^◌, ◌<◌, ◌≤◌, ◌++◌, ◌⊎◌, List, length, take, drop, Option, Some, None, IfOk, IfErr, OnErr, OnOk, [], is_none, false};
 ghost use Rattle.std.specs.List.{flat_map};
 ghost use Rattle.icu_zerovec.specs.Canonical.{IsCanonical};
@@ -19,7 +19,7 @@ use icu_trie::cptrie::CodePointTrie;
 use icu_trie::value::TrieValue;
 use std::alloc::{AllocError, Global};
 
-/// The bytes that are put behind an index of so many cells where values of so many bytes follow it.
+/// Returns the bytes after an index of `cells` cells if values of `width` bytes follow it.
 fn padding(width: usize, cells: usize) -> &'static [u8]
     ensures bytes { result.now ≡ flat_map (low_bytes 2) (padding width cells) }
     ensures len { length result.now ≡ 2 * length (padding width cells) }
@@ -31,7 +31,7 @@ fn padding(width: usize, cells: usize) -> &'static [u8]
     }
 }
 
-/// The header that is written of a trie, or why the form has no room for the trie.
+/// Returns the header to be written for a trie, or why the form cannot store the trie.
 fn header_for<T: TrieValue>(trie: &CodePointTrie<'_, T>) -> Result<BinaryHeader, WriteError>
     ensures header { IfOk result (λ h. h ≡ header_for T.WIDTH T.number trie.now) }
     ensures room { IfOk result (λ _. why_not_written T.WIDTH T.number trie.now ≡ None) }
@@ -82,12 +82,12 @@ struct WrittenParts<'a> {
     index: &'a [u8],
     padding: &'a [u8],
     values: &'a [u8],
-    /// How many bytes they take.
+    /// The number of bytes of all parts.
     len: usize,
 }
 
 impl<'a> WrittenParts<'a> {
-    /// Writes the parts at the front of the bytes.
+    /// Writes the parts at the start of the bytes.
     fn write(&self, bytes: &mut [u8])
         requires { joined_length self.now ≤ length bytes.old }
         ensures { bytes.new ≡ joined self.now (drop (joined_length self.now) bytes.old) }
@@ -113,7 +113,7 @@ impl<'a> WrittenParts<'a> {
     }
 }
 
-/// The parts of the binary form of a trie, or why the form has no room for the trie.
+/// Returns the parts of the binary form of a trie, or why the form cannot store the trie.
 fn written_parts<'a, T: TrieValue>(
     trie: &'a CodePointTrie<'_, T>,
 ) -> Result<WrittenParts<'a>, WriteError>
@@ -141,13 +141,14 @@ fn written_parts<'a, T: TrieValue>(
     })
 }
 
-/// How many bytes [`to_binary`] and [`write_binary`] write of a trie: 16 for the header, two for
-/// each cell of the index, and as many for each value as it takes. Where values take four bytes an
-/// index of an odd length is one cell longer there.
+/// Returns the number of bytes that [`to_binary`] and [`write_binary`] write for a trie.
+///
+/// These are 16 bytes for the header, two for each cell of the index, and the bytes of each value.
+/// If values have four bytes, an index of an odd length is written with one more cell.
 ///
 /// # Errors
-/// The first cause in the order of [`WriteError`] for which the form has no room for the trie;
-/// `Short` and `Memory` never come.
+/// Returns the first variant of [`WriteError`] that says why the form cannot store the trie.
+/// `Short` and `Memory` are never returned.
 pub fn binary_len<T: TrieValue>(trie: &CodePointTrie<'_, T>) -> Result<usize, WriteError>
     ensures ok { IfOk result (λ n. n ≡ written_length T.WIDTH T.number trie.now) }
     ensures room { IfOk result (λ _. why_not_written T.WIDTH T.number trie.now ≡ None) }
@@ -160,9 +161,9 @@ pub fn binary_len<T: TrieValue>(trie: &CodePointTrie<'_, T>) -> Result<usize, Wr
 /// has the lowest byte first. Read by `from_binary` they give the trie as the form has it,
 /// `stored_form`, which answers as the trie does.
 ///
-/// The header of 16 bytes comes first, then the index, then the data. As ICU's builder does, an
-/// index of an odd length gets a cell 0xFFEE behind it where values take four bytes, so that these
-/// stand at a multiple of four.
+/// The bytes are the header of 16 bytes, the index and the data. If values have four bytes, an
+/// index of an odd length is followed by the cell 0xFFEE, as ICU's builder does. The values are
+/// then at a multiple of four.
 ///
 /// ```
 /// let bytes = to_binary(alloc, &trie)?;
@@ -171,9 +172,13 @@ pub fn binary_len<T: TrieValue>(trie: &CodePointTrie<'_, T>) -> Result<usize, Wr
 /// ```
 ///
 /// # Errors
-/// The first cause in the order of [`WriteError`]: `UnknownWidth`, `LongIndex`, `LongData`,
-/// `NullOffset`, `HighStart`, `NullValue` where the form has no room for the trie, and `Memory`
-/// where memory was refused, which is asked for once. `Short` never comes.
+/// Returns the first of these that applies:
+///
+/// - `UnknownWidth`, `LongIndex`, `LongData`, `NullOffset`, `HighStart` or `NullValue` if the form
+///   cannot store the trie.
+/// - `Memory` if the one allocation fails.
+///
+/// `Short` is never returned.
 pub fn to_binary<T: TrieValue>(
     alloc: Global,
     trie: &CodePointTrie<'_, T>,
@@ -198,13 +203,18 @@ pub fn to_binary<T: TrieValue>(
     Ok(bytes)
 }
 
-/// Writes a trie into the front of the bytes, as [`to_binary`] does, and tells how many bytes it
-/// takes. The bytes behind it stay, and no memory is taken.
+/// Writes a trie at the start of the bytes, as [`to_binary`] does. Returns the number of bytes
+/// written.
+///
+/// The bytes after it are unchanged. Nothing is allocated.
 ///
 /// # Errors
-/// The first cause in the order of [`WriteError`]: one for which the form has no room for the trie,
-/// and `Short` where the slice has fewer bytes than [`binary_len`] says. Then nothing is written.
-/// `Memory` never comes.
+/// Returns the first of these that applies, and leaves the slice unchanged:
+///
+/// - A variant of [`WriteError`] that says why the form cannot store the trie.
+/// - `Short` if the slice has fewer bytes than [`binary_len`] returns.
+///
+/// `Memory` is never returned.
 pub fn write_binary<T: TrieValue>(
     trie: &CodePointTrie<'_, T>,
     bytes: &mut [u8],

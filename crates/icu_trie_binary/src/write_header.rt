@@ -1,11 +1,11 @@
-//! The header of the binary form, written.
+//! Writes the header of the binary form.
 ghost use Rattle.std.specs.Prelude.{◌≡◌, ◌+◌, ◌*◌, ◌/◌, ◌%◌, ◌^◌, ◌<◌};
 ghost use Rattle.icu_trie_binary.specs.WrittenTrie.{type_code, width_code, width_for, options_for, header_bytes};
 
 use crate::header::{BinaryHeader, HEADER_SIZE, SIGNATURE, ValueWidth};
 use icu_trie::header::TrieType;
 
-/// The code of a type in the options.
+/// Returns the code of a type in the options.
 fn type_code(trie_type: TrieType) -> u32
     ensures code { result ≡ type_code trie_type }
     ensures low { result < 2 }
@@ -16,7 +16,7 @@ fn type_code(trie_type: TrieType) -> u32
     }
 }
 
-/// The code of a width in the options.
+/// Returns the code of a width in the options.
 fn width_code(width: ValueWidth) -> u32
     ensures code { result ≡ width_code width }
     ensures low { result < 3 }
@@ -28,7 +28,7 @@ fn width_code(width: ValueWidth) -> u32
     }
 }
 
-/// The width of values of so many bytes. There is one for 1, 2 and 4.
+/// Returns the width of values of `width` bytes, which is 1, 2 or 4.
 pub(crate) fn width_for(width: usize) -> ValueWidth
     ensures { result ≡ width_for width }
 {
@@ -39,7 +39,7 @@ pub(crate) fn width_for(width: usize) -> ValueWidth
     }
 }
 
-/// The options of a header.
+/// Returns the options of a header.
 fn options_for(header: &BinaryHeader) -> u16
     requires data_length { header.now.data_length < 2 ^ 20 }
     requires null_offset { header.now.data_null_offset < 2 ^ 20 }
@@ -49,7 +49,7 @@ fn options_for(header: &BinaryHeader) -> u16
     (upper + type_code(header.trie_type) * 0x40 + width_code(header.value_width)) as u16
 }
 
-/// The bytes of a header.
+/// Returns the bytes of a header.
 #[tactic(auto, unfolding(crate::specs::WrittenTrie::header_bytes))]
 pub(crate) fn header_bytes(header: &BinaryHeader) -> [u8; HEADER_SIZE]
     requires data_length { header.now.data_length < 2 ^ 20 }

@@ -1,4 +1,4 @@
--- The fault of a trie of the header's width is that of the bytes.
+-- The error of a trie of the header's width is that of the bytes.
 use Rattle.std.proofs.Common.{rules, sym, ◌∙◌}
 use Rattle.icu_trie_binary.proofs.BinaryLemmas.{none_of_width}
 use Rattle.icu_trie_binary.specs.declared.header.ValueWidth.TheVariants.{Bits16, Bits32, Bits8}

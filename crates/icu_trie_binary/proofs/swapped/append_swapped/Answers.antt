@@ -1,4 +1,4 @@
--- Each turn appends one group more.
+-- Each iteration appends one more group.
 use Rattle.std.proofs.Common.{◌≡◌, ◌*◌, ◌/◌, ◌++◌, take, drop, reverse, length, arith, sym, ◌∙◌, ap, append_assoc}
 use Rattle.icu_trie_binary.specs.SwappedTrie.{swapped_groups, swap_units}
 use Rattle.icu_trie_binary.proofs.SwappedUnits.{swapped_groups-more}

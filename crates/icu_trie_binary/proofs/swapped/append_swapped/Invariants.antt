@@ -1,4 +1,4 @@
--- So many groups were appended.
+-- This many groups were appended.
 use Rattle.std.proofs.Common.{◌≡◌, ◌++◌}
 use Rattle.icu_trie_binary.specs.SwappedTrie.{swapped_groups}
 use Rattle.icu_trie_binary.proofs.swapped.append_swapped.Given as goal

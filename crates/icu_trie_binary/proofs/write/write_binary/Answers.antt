@@ -1,4 +1,4 @@
--- The bytes begin with the parts, one after another, and the others stay.
+-- The bytes start with the parts, one after another, and the others are unchanged.
 use Rattle.std.proofs.Common.{◌≡◌, drop}
 use Rattle.icu_trie_binary.specs.Inside.Written.{joined, joined_length}
 use Rattle.icu_trie_binary.proofs.JoinedParts.{drop-joined, front-joined}

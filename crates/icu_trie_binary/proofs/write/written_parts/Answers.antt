@@ -1,4 +1,4 @@
--- The parts read as the stored form, and take as many bytes as the header says.
+-- The parts are read as the stored form, and take as many bytes as the header says.
 use Rattle.std.proofs.Common.{◌≡◌, length, refl, sym, ◌∙◌, ap}
 use Rattle.std.specs.List.{flat_map}
 use Rattle.icu_zerovec.proofs.CallerLemmas.{canonical_u16}

@@ -1,4 +1,4 @@
--- Each part is copied to its place, and what follows the last stays.
+-- Each part is copied to its offset, and what follows the last one is unchanged.
 use Rattle.icu_trie_binary.proofs.JoinedParts.{joined-copied}
 use Rattle.icu_trie_binary.proofs.write.WrittenParts.write.Goals as goal
 
