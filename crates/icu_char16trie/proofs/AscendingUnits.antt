@@ -5,7 +5,7 @@ use Rattle.std.proofs.lemmas.Bool.{cases_lt}
 use Rattle.icu_char16trie.specs.UnitMap.{UnitMap, KeyBelow, KeyBelowAll, IsAscendingKeys}
 use Rattle.icu_char16trie.specs.NextUnits.{AllAbove, AreAscending, first_units, without_first}
 
--- every unit of the list is u or above
+-- Every unit of the list is u or above.
 abbrev AllFrom : ℕ → List ℕ → Type 0
 AllFrom u [] = Unit {0}
 AllFrom u (x ∷ us) = (u ≤ x) × AllFrom u us
@@ -22,7 +22,7 @@ first_above : (u x : ℕ) (key rest : List ℕ) → KeyBelow (u ∷ key) (x ∷ 
 first_above u x key rest (inl h) = omega (arith, h)
 first_above u x key rest (inr h) = omega (arith, h.0)
 
--- keys that are above a key begin with its first unit or a greater one
+-- Keys that are above a key start with its first unit or a greater one.
 first_from : (u : ℕ) (key : List ℕ) (m : UnitMap) → KeyBelowAll (u ∷ key) m → AllFrom u (first_units m)
 unfolding first_units
 first_from u key [] h = tt

@@ -4,9 +4,9 @@ use Rattle.std.proofs.Common.{◌≡◌, ℕ, ℤ, ◌<◌, zero, suc, false, Li
 use Rattle.icu_char16trie.specs.UnitMap.{UnitMap, after, after_all, goes_on, key_goes_on, value_of}
 use Rattle.icu_char16trie.specs.Matches.{HasFrontValue, IsLongestMatch, LongestWithin}
 use Rattle.icu_char16trie.proofs.MapLemmas.{value_after, value_after_all, goes_on_after_all}
--- The entries of a map and the values of its keys
+-- The entries of a map and the values of its keys.
 pub use Rattle.icu_char16trie.proofs.ListedKeys.{Contains-value_of, below_itself, same_key_eq, same_key_self, value_of-listed, value_of-some}
--- The keys of the map of a trie ascend, and so do their first units
+-- The keys of the map of a trie ascend, and so do their first units.
 pub use Rattle.icu_char16trie.proofs.OneMap.{trie_ascends}
 pub use Rattle.icu_char16trie.proofs.AscendingUnits.{first_units-ascending}
 

@@ -40,7 +40,7 @@ entry_by e m w v others true s g =
     subst (λ z. Contains (e ∷ m) z) is (Contains-append_left (e ∷ []) m e (Contains-push [] e))
 entry_by e m w v others false s g = Contains-append_right (e ∷ []) m (w, v) (others g)
 
--- the value of a key is that of an entry with the key
+-- The value of a key is that of an entry with the key.
 pub Contains-value_of : (m : UnitMap) (w : List ℕ) (v : ℤ) → value_of m w ≡ Some v → Contains m (w, v)
 unfolding value_of
 Contains-value_of [] w v h = cc
@@ -62,7 +62,7 @@ has_by e m w v others (inl one) false s g =
     let yes : same_key e.0 w ≡ true = subst (λ z. same_key z w ≡ true) (sym key) (same_key_self w) in cc
 has_by e m w v others (inr rest) false s g = others rest g
 
--- a key with an entry has a value
+-- A key with an entry has a value.
 pub value_of-some : (m : UnitMap) (w : List ℕ) (v : ℤ) → Contains m (w, v) → value_of m w ≡ None → ⊥
 unfolding value_of
 value_of-some [] w v h n = absurd (omega (arith, h.1))
@@ -92,7 +92,7 @@ its_by e m w v up others (inr rest) true s =
     absurd (below_itself w (subst (λ z. KeyBelow z w) key (below_listed e.0 m w v up rest)))
 its_by e m w v up others (inr rest) false s = others rest
 
--- if the keys ascend, each entry has the value of its key
+-- If the keys ascend, each entry has the value of its key.
 pub value_of-listed : (m : UnitMap) (w : List ℕ) (v : ℤ) → IsAscendingKeys m → Contains m (w, v) → value_of m w ≡ Some v
 unfolding value_of
 value_of-listed [] w v up h = absurd (omega (arith, h.1))

@@ -160,7 +160,7 @@ pub trie_ascends : (units : List ℕ) (m : List (List ℕ × ℤ)) → IsTrieOf 
 trie_ascends units m (grammar.node h) = holds_ascends units h
 trie_ascends units m (grammar.empty u e) = rw e tt
 
--- so do those of the entries at which a cursor stands
+-- So do those of the entries at a cursor's position.
 pub stands_ascends : (units : List ℕ) (place : Place) (m : List (List ℕ × ℤ)) → Stands units place m → IsAscendingKeys m
 stands_ascends units Nowhere m h = rw h tt
 stands_ascends units (Node p) m (inl h) = holds_ascends units h

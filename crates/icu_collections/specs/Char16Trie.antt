@@ -1,5 +1,5 @@
--- The words of unit tries: maps from lists of units, the grammar of their units, what cursors and
--- entries give, and what a builder holds.
+-- The definitions of unit tries: maps from lists of units, the grammar of their units, what cursors
+-- and entries return, and the entries of a builder.
 pub use Rattle.icu_char16trie.specs.UnitMap.{IsAscendingKeys, KeyBelow, KeyBelowAll, UnitMap, under}
 unfoldable pub use Rattle.icu_char16trie.specs.UnitMap.{after, after_all, same_key, value_of}
 unfoldable pub use Rattle.icu_char16trie.specs.UnitMap.{goes_on, key_goes_on}
@@ -21,7 +21,7 @@ pub use Rattle.icu_char16trie.specs.LossyText.{key_text}
 unfoldable pub use Rattle.icu_char16trie_builder.specs.Entries.{most_units, with_entry}
 pub use Rattle.icu_char16trie_builder.specs.Sorted.{IsFirstRefusedKey, IsInOrder, key_at, pair_map}
 pub use Rattle.icu_char16trie_builder.specs.Errors.{entry_refusal}
--- The format, unit by unit, how a unit leads on, and what an iterator has still to give
+-- The format, unit by unit, where a unit leads, and what an iterator has left.
 pub use Rattle.icu_char16trie.specs.Numbers
 pub use Rattle.icu_char16trie.specs.Grammar
 pub use Rattle.icu_char16trie.specs.Steps

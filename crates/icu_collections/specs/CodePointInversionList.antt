@@ -1,5 +1,5 @@
--- The words of sets of code points: inversion lists, what they hold, their ranges, and operations
--- on them; the spans of a text by a frozen set, and its tables.
+-- The definitions of sets of code points: inversion lists, their members, their ranges, and
+-- operations on them; the spans of a text by a frozen set, and its tables.
 pub use Rattle.icu_zerovec.specs.CodePoints.{code_point_limit}
 pub use Rattle.icu_invlist.specs.InversionList.{IsValid, holds, is_odd}
 unfoldable pub use Rattle.icu_invlist.specs.InversionList.{ends_up_to, members, members_below}

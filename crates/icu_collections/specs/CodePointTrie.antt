@@ -1,5 +1,5 @@
--- The words of code point tries: the format, answers, ranges, coherence, mapped tries and typed
--- views.
+-- The definitions of code point tries: the format, look-ups, ranges, coherence, mapped tries and
+-- typed views.
 pub use Rattle.icu_trie_core.specs.Format.{fast_limit, fast_offset, high_cell, high_value, index1_start, index2_cell, long_offset, offset_in_block, place, place_or_last, with_cell}
 unfoldable pub use Rattle.icu_trie_core.specs.Format.{answer, small_offset}
 pub use Rattle.icu_trie_core.specs.Contents.{Contents, contents_of}
@@ -18,6 +18,7 @@ pub use Rattle.icu_trie.specs.MappedRanges.{CanFuse, iter_mapped_source, iter_ma
 pub use Rattle.icu_trie.specs.MappedTrie.{AnswersAlways, CallsInTurn, IsMapOfTrie, IsTrieOfAnswers, IsWhyNone, MapsInTurn, ok_answer}
 pub use Rattle.icu_trie.specs.Conversion.{Becomes, same_packed, with_null_value}
 pub use Rattle.icu_trie.specs.Typed.{IsOfType, IsTyped}
--- For a value type of one's own: the numbers of values, and the laws of those of the crate
+-- For a user-defined value type: the numbers of values, and the laws of the value types in the
+-- crate.
 pub use Rattle.icu_trie_core.specs.ValueNumbers.{GivesType, character, fitting, is_within, signed_fitting, type_number}
 pub use Rattle.icu_trie_core.specs.ValueNumberLaws.{character-scalar, equal_numbers, equal_signed_numbers, fitting-small, signed_fitting-number}

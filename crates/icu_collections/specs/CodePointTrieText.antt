@@ -1,4 +1,4 @@
--- The words of values along texts: characters, 16-bit units, and bytes that may be ill-formed
+-- The definitions of values along texts: characters, 16-bit units, and bytes that may be ill-formed
 -- UTF-8.
 pub use Rattle.icu_trie_text.specs.Values.{AreValuesOf, GivesValue, value_item, with_values}
 pub use Rattle.icu_trie_text.specs.Indices.{AreIndicesOf, GivesIndex, index_item, with_indices, with_offsets}

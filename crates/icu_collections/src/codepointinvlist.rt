@@ -1,10 +1,10 @@
-//! Sets of code points as inversion lists, as ICU's UnicodeSet keeps them.
+//! Sets of code points as inversion lists, as in ICU's UnicodeSet.
 //!
-//! [`CodePointInversionListBuilder`] makes a [`CodePointInversionList`];
-//! [`FrozenCodePointSet::freeze`] adds a bit for each code point, for many look-ups, and
-//! [`FrozenCodePointSetAndStrings::freeze`] adds it to a set with strings.
-//! [`FrozenCodePointSet::spans`] cuts a text into what is held and what is not. [`serialized`] has
-//! sets in ICU's serialized form, written and read.
+//! - [`CodePointInversionListBuilder`] builds a [`CodePointInversionList`].
+//! - [`FrozenCodePointSet::freeze`] adds a bit for each code point, for many look-ups.
+//!   [`FrozenCodePointSetAndStrings::freeze`] does so for a set with strings.
+//! - [`FrozenCodePointSet::spans`] splits a text into spans inside and outside the set.
+//! - [`serialized`] reads and writes sets in ICU's serialized form.
 
 pub use icu_frozen_sets::frozen::{FrozenCodePointSet, FrozenTables};
 pub use icu_frozen_sets::spans::{Span, Spans};

@@ -1,10 +1,11 @@
-//! Maps from code points to values that are read in place (ICU's code point tries).
+//! Maps from code points to values, read in place (ICU's code point tries).
 //!
-//! [`CodePointTrieBuilder`] or [`build_from_writes`] makes a trie, [`CodePointTrie::get32`] asks
-//! it. A trie that ICU wrote is read where it is by [`binary::from_binary`], and one is written for
-//! ICU by [`binary::to_binary`]; one of another file is made of its parts by
-//! [`CodePointTrie::try_new`], which borrows them. The values along a text are those of
-//! [`text::values_of`].
+//! - [`CodePointTrieBuilder`] or [`build_from_writes`] builds a trie, and [`CodePointTrie::get32`]
+//!   looks up a value.
+//! - [`binary::from_binary`] reads in place a trie that ICU wrote, and [`binary::to_binary`] writes
+//!   one for ICU.
+//! - [`CodePointTrie::try_new`] makes a trie from the parts in another file, and borrows them.
+//! - [`text::values_of`] returns the values along a text.
 
 pub use icu_trie::cells::{Cells, Steps};
 pub use icu_trie::coherent::is_coherent;

@@ -1,17 +1,18 @@
 //! Collections for Unicode data: the crate `icu_collections` of ICU4X, with contracts.
 //!
-//! | What you have | What keeps it |
+//! | Data | Module |
 //! |---|---|
-//! | a value for each code point, as a property of characters | [`codepointtrie`] |
+//! | a value for each code point, such as a property of characters | [`codepointtrie`] |
 //! | a set of code points | [`codepointinvlist`] |
-//! | a set of code points and of longer texts | [`codepointinvliststringlist`] |
+//! | a set of code points and longer texts | [`codepointinvliststringlist`] |
 //! | a number for each word of a list | [`char16trie`] |
 //! | a list of numbers or characters, packed and read in place | [`zerovec`] |
-//! | ranges with values, to be joined where they touch and have equal values | [`iterator_utils`] |
+//! | ranges with values, to be joined if they are adjacent and have equal values | [`iterator_utils`] |
 //!
 //! # Values
 //!
-//! Rows of ranges become a trie, which answers every number of 32 bits in at most five reads:
+//! A trie is built from rows of ranges. It returns a value for every 32-bit number in at most five
+//! reads:
 //!
 //! ```
 //! let writes = [Write::Range(0x41..=0x5A, 1u8), Write::One(0x1F600, 2)];
@@ -19,11 +20,11 @@
 //! Ok(trie.get32(0x41)) // 1: the last write that covers it
 //! ```
 //!
-//! The ranges of one value are a set: `trie.get_set_for_value(alloc, category)?`.
+//! The code points with one value are a set: `trie.get_set_for_value(alloc, category)?`.
 //!
 //! # Sets
 //!
-//! A builder takes characters, ranges and sets, by union, difference, intersection and symmetric
+//! A builder combines characters, ranges and sets by union, difference, intersection and symmetric
 //! difference:
 //!
 //! ```
@@ -35,7 +36,7 @@
 //!
 //! # Words
 //!
-//! Keys are lists of 16-bit units. They are added in any order; what is built is asked unit by
+//! Keys are lists of 16-bit units and may be added in any order. The trie looks up a key unit by
 //! unit, or lists its entries in unit order:
 //!
 //! ```
@@ -51,8 +52,8 @@
 //! cursor.value()
 //! ```
 //!
-//! The crate `uses` has these lines, proved and run. All items lie in crates of their own, one for
-//! each layer, and are shown here under the Rust crate's paths; this crate has no code.
+//! These lines are proved and run in the crate `uses`. This crate has no code of its own: it
+//! re-exports the items of the crates below, one for each layer, under the Rust crate's paths.
 #![tactic(auto)]
 
 pub mod char16trie;

@@ -23,7 +23,7 @@ pub use Rattle.icu_trie_builder.proofs.AfterLemmas.{IsAfter-append, value_after-
 pub use Rattle.icu_trie_builder.proofs.FewWrites.{count_different-few}
 -- The results of look-ups and walks over the cells of a trie of a map.
 pub use Rattle.icu_trie_builder.proofs.RangesOfMap.{answer-of-map, longest_of_map, no_answer-of-map}
--- A trie of a map whose header names no block of the data says of no block of 512 that it is null
+-- If the header of a trie of a map names no block of the data, no block of 512 is named as null.
 pub use Rattle.icu_trie_builder.proofs.NoNullBlock.{no_512-of-map}
 
 -- The values of a map that had the default everywhere depend only on the writes.

@@ -1,4 +1,4 @@
--- A built trie whose header names no block of the data says of no block of 512 that it is null.
+-- If the header of a built trie names no block of the data, no block of 512 is named as null.
 use Rattle.std.proofs.Common.{◌≡◌, ◌∙◌, refl, sym, ap, ℕ, ◌+◌, ◌*◌, ◌%◌, ◌<◌, ◌≤◌, inl, inr, length, slice_get, Option, Some, None, arith}
 use Rattle.std.proofs.lemmas.Option.{slice_get_past}
 use Rattle.icu_trie.specs.Parts.{Parts}
@@ -52,7 +52,7 @@ module _ {T : Type 0} (of_number : ℕ → Option T) (number : T → ℕ) (f : �
   unfolding NamesNull
   named some = well.null_block some
 
-  -- the block of 512 would hold one value, and so the header would name a block of the data
+  -- Otherwise the block of 512 would have one value, and so the header would name a block of the data.
   pub no_512-of-map : (b : ℕ) → fast_limit t.header.trie_type ≤ b * 512 → b * 512 < t.header.high_start
       → index2_cell t.header.trie_type t.index (b * 512) ≡ Some t.header.index3_null_offset → ⊥
   no_512-of-map b from under is =
