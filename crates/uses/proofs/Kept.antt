@@ -1,15 +1,15 @@
--- The walk that keeps the characters of a text that pass.
+-- The walk that keeps the characters of a text that pass a test.
 use Rattle.std.proofs.Common.{◌≡◌, ◌∙◌, sym, ap, refl, ℕ, List, [], ◌∷◌, ◌++◌, append_assoc, length, Bool, true, false, if◌then◌else◌, encode_utf8}
 use Rattle.std.specs.List.{filter}
 use Rattle.std.specs.Str.{chars, encode_utf8_all, IsUtf8}
 use Rattle.std.proofs.lemmas.List.{nil_from_length, append-nil}
 use Rattle.std.proofs.lemmas.Str.{chars_past_char, IsUtf8-past_char, chars_from_encodes, IsUtf8-nil}
 
--- the bytes of the characters that pass
+-- The bytes of the characters that pass.
 abbrev pub kept_of : (ℕ → Bool) → List ℕ → List ℕ
 kept_of p text = encode_utf8_all (filter p (chars text))
 
--- what was kept so far, and what of the rest will be, is what is to be kept
+-- What was kept so far, followed by what of the rest will be, is what is to be kept.
 pub record Keeping (p : ℕ → Bool) (text rest kept : List ℕ) : Type 0 where
   pub utf8 : IsUtf8 rest
   pub so_far : kept_of p text ≡ kept ++ kept_of p rest
@@ -17,7 +17,7 @@ pub record Keeping (p : ℕ → Bool) (text rest kept : List ℕ) : Type 0 where
 pub keep_start : (p : ℕ → Bool) (text rest kept : List ℕ) → IsUtf8 text → rest ≡ text → kept ≡ [] → Keeping p text rest kept
 keep_start p text rest kept u e k = rw (e, k) (record { utf8 = u; so_far = refl })
 
--- the bytes of one character more
+-- The bytes of one more character.
 pass : (p : ℕ → Bool) (c : ℕ) (cs : List ℕ) (b : Bool) → b ≡ p c
     → encode_utf8_all (filter p (c ∷ cs)) ≡ (if b then encode_utf8 c else []) ++ encode_utf8_all (filter p cs)
 pass p c cs true e = rw (sym e) refl

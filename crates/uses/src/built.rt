@@ -1,5 +1,6 @@
-//! What is known of a built trie beside its answers: how many cells it has, which block its header
-//! names as null, how far one walk over it reads, and which maps are never refused for their size.
+//! What is known about a built trie besides its values: the number of its cells, the block that its
+//! header names as null, how many cells a walk reads, and which maps are never rejected for their
+//! size.
 ghost use Rattle.std.specs.Prelude.{◌≡◌, ◌≢◌, ◌+◌, ◌*◌, ◌<◌, ◌≤◌, ◌⊎◌, ℕ, Err, Some, IfOk, IfSome};
 ghost use Rattle.icu_collections.specs.CodePointTrie.{IsCoherentTrie, IsShared, LongestRun, answers, contents_of, fast_limit, fast_offset, last_of, small_offset};
 ghost use Rattle.icu_collections.specs.CodePointTrieBuilder.{block_of, compact_data_bound, count_different, index_bound, short_index_bound, value_after};
@@ -10,8 +11,9 @@ use icu_collections::codepointtrie::{
 };
 use std::alloc::Global;
 
-/// How many cells of data and of index the trie of these writes has. The bounds count the map's
-/// different blocks alone, and are reached by no trie of real data.
+/// Returns the numbers of data cells and index cells in the trie of these writes.
+///
+/// The bounds count only the map's different blocks. No trie of real data reaches them.
 pub fn cells_of<T: TrieValue>(
     alloc: Global,
     default: T,
@@ -34,7 +36,8 @@ pub fn cells_of<T: TrieValue>(
     Ok((data.len(), index.len()))
 }
 
-/// The trie of a map of few different blocks: only memory can be missing.
+/// Builds the trie of a map with few different blocks. The only possible error is a failed
+/// allocation.
 pub fn built_if_memory_lasts<T: TrieValue>(
     alloc: Global,
     default: T,
@@ -51,9 +54,11 @@ pub fn built_if_memory_lasts<T: TrieValue>(
     build_from_writes(alloc, default, error, trie_type, writes)
 }
 
-/// Where the block `b` of 64 code points below the fast limit has one value throughout, the header
-/// names the offset of a block that has one, of 64 below the limit or of 16 from it on: a reader
-/// may then pass such blocks without a look at their cells.
+/// Builds a trie whose header names a null block. The block `b` of 64 code points, which is below
+/// the fast limit, has one value throughout.
+///
+/// The offset in the header is that of a block of 64 code points below the limit, or of 16 from it
+/// on. A reader may skip such blocks without reading their cells.
 pub fn with_null_block<T: TrieValue>(
     alloc: Global,
     default: T,
@@ -77,7 +82,8 @@ pub fn with_null_block<T: TrieValue>(
     Ok(trie)
 }
 
-/// The range at a code point of a trie whose cells lie anywhere, within 6,000 reads.
+/// Returns the range at a code point of a trie whose cells may be anywhere, with at most 6,000
+/// reads.
 pub fn walked<T: TrieValue, C: Cells<T>>(
     trie: &CodePointTrie<'_, T>,
     cells: &mut C,

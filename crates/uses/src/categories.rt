@@ -1,4 +1,4 @@
-//! Values of the caller's own: an enum in a trie.
+//! User-defined values: an enum in a trie.
 ghost use Rattle.std.specs.Prelude.{◌≡◌, ◌==◌, ℕ, IfOk, Some};
 ghost use Rattle.std.specs.Cmp.Rules.{comparing};
 ghost use Rattle.std.specs.Ordering.{on};
@@ -14,15 +14,15 @@ use icu_collections::codepointtrie::{
 use icu_collections::zerovec::ule::AsULE;
 use std::alloc::Global;
 
-/// What a character is. Two categories are equal where their numbers are, which is the form that
-/// the law of a trie's values asks for.
+/// The kind of a character. Two categories are equal if their numbers are, which is the form that
+/// the law of a trie's values requires.
 #[derive(Clone, Copy, Debug)]
 pub enum Category {
-    /// Neither of these.
+    /// Neither a letter nor a number.
     Other,
     /// A letter.
     Letter,
-    /// A digit, or a number of another form.
+    /// A digit, or a number in another form.
     Number,
 }
 
@@ -117,15 +117,15 @@ impl TrieValue for Category {
     ghost equal_by_number = { λ x y _ _. equal_numbers (number_of x) (number_of y) };
 }
 
-/// Whether a character is a letter, by a trie of categories.
+/// Returns true if a trie of categories has `Letter` for a character.
 pub fn is_letter(trie: &CodePointTrie<'_, Category>, c: char) -> bool
     ensures { result ≡ is_letter (trie_value trie.now c) }
 {
     trie.get(c) == Category::Letter
 }
 
-/// A trie of these rows, in which each code point has the category of the last row that covers it,
-/// else `Other`. Numbers that are no code points have `Other` too.
+/// Builds a trie in which each code point has the category of the last row that covers it, and
+/// otherwise `Other`. Numbers that are not code points also have `Other`.
 pub fn categories_of(
     alloc: Global,
     rows: &[Write<Category>],

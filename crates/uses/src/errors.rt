@@ -1,5 +1,5 @@
-//! `?` among the errors of the collections: what a function that answers one of them may call. Want
-//! of memory stays want of memory, whatever tells it.
+//! `?` among the errors of the collections: what a function that returns one of them may call. A
+//! failed allocation stays one, whichever error reports it.
 ghost use Rattle.std.specs.Prelude.{◌≡◌, ◌==◌, List, [], ◌∷◌, ◌++◌, IfOk, OnErr, OnOk};
 ghost use Rattle.icu_collections.specs.Char16Trie.{IsTrieOf, with_entry};
 ghost use Rattle.icu_collections.specs.CodePointInversionList.{Acts, either};
@@ -27,7 +27,7 @@ use std::alloc::Global;
 use std::convert::Infallible;
 use thiserror::Error;
 
-/// Writes a table, and one value over it. The place of a refused row is of no use here.
+/// Writes a table, and one value over it. The index of a rejected row is not needed here.
 pub fn write_over(
     builder: &mut CodePointTrieBuilder<u8>,
     rows: &[Write<u8>],
@@ -42,8 +42,8 @@ pub fn write_over(
     Ok(())
 }
 
-/// Adds a word to a list that becomes a trie, and its first unit to a set. A refused word leaves
-/// the list as it was.
+/// Adds a word to a list that becomes a trie, and its first unit to a set. On an error the list is
+/// unchanged.
 pub fn add_word(
     words: &mut Char16TrieBuilder,
     firsts: &mut CodePointInversionListBuilder,
@@ -60,7 +60,7 @@ pub fn add_word(
     Ok(())
 }
 
-/// The trie of one word. A word that is too long is told as such.
+/// Builds the trie of one word. A word that is too long is reported as such.
 pub fn trie_of_word(
     alloc: Global,
     word: &[u16],
@@ -74,7 +74,7 @@ pub fn trie_of_word(
     Ok(trie)
 }
 
-/// A trie that is written to JSON and read back is the trie.
+/// Writes a trie to JSON and reads it back. The result is the same trie.
 pub fn words_read_back(
     alloc: Global,
     trie: &Char16Trie<'_>,
@@ -86,7 +86,8 @@ pub fn words_read_back(
     Ok(read)
 }
 
-/// The set of these ends and one code point more. A list that is no inversion list is told with it.
+/// Returns the set with these boundaries and one more code point. Boundaries that are not an
+/// inversion list are reported with the error.
 pub fn ends_and_one(
     alloc: Global,
     ends: ZeroVec<'_, PotentialCodePoint>,
@@ -102,7 +103,7 @@ pub fn ends_and_one(
     Ok(made)
 }
 
-/// The set of a range, copied. An empty or reversed range is told with its ends.
+/// Returns a copy of the set of a range. An empty or reversed range is reported with its ends.
 pub fn copied_range<R: RangeOf<char>>(
     alloc: Global,
     range: R,
@@ -114,7 +115,7 @@ pub fn copied_range<R: RangeOf<char>>(
     Ok(copy)
 }
 
-/// A set that is written to JSON and read back, with strings beside it.
+/// Writes a set to JSON, reads it back, and adds strings to it.
 pub fn read_with_strings(
     alloc: Global,
     set: &CodePointInversionList<'_>,
@@ -129,7 +130,7 @@ pub fn read_with_strings(
     Ok(whole)
 }
 
-/// A trie that is written to JSON and read back is the trie.
+/// Writes a trie to JSON and reads it back. The result is the same trie.
 pub fn table_read_back<T: TrieValue>(
     alloc: Global,
     trie: &CodePointTrie<'_, T>,
@@ -141,7 +142,7 @@ pub fn table_read_back<T: TrieValue>(
     Ok(read)
 }
 
-/// The trie of these cells, its values copied and its index lent.
+/// Returns the trie of these cells. Its values are copied, and its index is borrowed.
 pub fn trie_of_cells<'a>(
     alloc: Global,
     header: CodePointTrieHeader,
@@ -156,7 +157,7 @@ pub fn trie_of_cells<'a>(
     Ok(trie)
 }
 
-/// A copy of a trie, each of its values halved.
+/// Returns a copy of a trie with each of its values halved.
 pub fn halved_copy(
     alloc: Global,
     trie: &CodePointTrie<'_, u8>,
@@ -166,18 +167,19 @@ pub fn halved_copy(
     Ok(halved)
 }
 
-/// Why bytes are no table: an error of a caller's own, of those that its calls give.
+/// Why bytes are not a table: a user-defined error with a variant for each error of the functions
+/// called.
 #[derive(Clone, Copy, Debug, PartialEq, Error)]
 pub enum TableError {
-    /// The bytes of the index or of the values are no packed vector.
+    /// The bytes of the index or of the values are not a packed vector.
     #[error("{0}")]
     Bytes(#[from] UleError),
-    /// The three parts make no trie.
+    /// The three parts do not form a trie.
     #[error("{0}")]
     Parts(#[from] CodePointTrieError),
 }
 
-/// A trie that borrows packed bytes.
+/// Returns a trie that borrows packed bytes.
 pub fn table_of_bytes<'a>(
     header: CodePointTrieHeader,
     index: &'a [u8],

@@ -1,16 +1,16 @@
-//! What callers of `icu_collections` prove of their own code, from the contracts of that crate
-//! alone: the examples of the README, and one caller for each promise that others build upon.
+//! What callers of `icu_collections` prove about their own code, from the contracts of that crate
+//! alone: the examples of the README, and one caller for each guarantee that others rely on.
 //!
 //! - `tables`: properties of characters in tries that are built, stored and read
 //! - `sets`: sets of code points
 //! - `words`: word lists in unit tries
-//! - `texts`: a quick check of a text, as a normalizer makes it
-//! - `own_cells`: a look-up over cells of the caller's own, which counts its reads
-//! - `categories`: an enum of the caller's own as the value of a trie
-//! - `built`: what is known of a built trie beside its answers
-//! - `strangers`: tries of parts of any origin
+//! - `texts`: a quick check of a text, as in a normalizer
+//! - `own_cells`: a look-up over user-defined cells, which counts its reads
+//! - `categories`: a user-defined enum as the value of a trie
+//! - `built`: what is known about a built trie besides its values
+//! - `strangers`: tries of untrusted parts
 //! - `stored`: tries in ICU's binary form
-//! - `errors`: what a function that answers one of the errors may call by `?`
+//! - `errors`: what a function that returns one of the errors may call with `?`
 #![tactic(auto)]
 
 pub mod built;

@@ -1,6 +1,6 @@
-//! A look-up over cells of the caller's own. A trie's index and data may lie anywhere, as here in
-//! slices: what gives their cells is a [`Cells`], and [`Steps`] counts the reads for the proof. The
-//! count has no bytes at run time.
+//! A look-up over user-defined cells. A trie's index and data may be anywhere, here in slices. A
+//! type that returns their cells implements [`Cells`], and [`Steps`] counts the reads for the
+//! proof. The counter has no bytes at run time.
 ghost use Rattle.std.specs.Prelude.{◌≡◌, ◌+◌, ◌<◌, ◌≤◌};
 ghost use Rattle.icu_collections.specs.CodePointTrie.{IsWhole, answer, contents_of};
 
@@ -8,7 +8,7 @@ use icu_collections::codepointtrie::{Cells, CodePointTrieHeader, Steps, look_up,
 use std::marker::Brand;
 use std::sync::ledger::{Blank, Ledger};
 
-/// Index and values in slices. The four calls below are all that a look-up needs.
+/// Index and values in slices. The four functions below are all that a look-up needs.
 #[derive(Drop)]
 pub struct SliceCells<'a, L: Ledger> {
     index: &'a [u16],
@@ -40,7 +40,7 @@ impl<'a, L: Ledger> Cells<u32> for SliceCells<'a, L> {
     }
 }
 
-/// The value of `c`, counted in the ledger of `blank`.
+/// Returns the value of `c`, counted in the ledger of `blank`.
 fn look_up_counted<L: Ledger>(
     header: &CodePointTrieHeader,
     index: &[u16],
@@ -61,8 +61,8 @@ fn look_up_counted<L: Ledger>(
     look_up(header, &mut cells, c)
 }
 
-/// The value of `c` in a trie of these parts, whatever they say; none where the error value stands
-/// for it. The counter is made for this one call.
+/// Returns the value of `c` in a trie of these parts, whatever they are, or `None` if `c` has the
+/// error value. The counter is made for this one call.
 pub fn look_up_in_slices(
     header: &CodePointTrieHeader,
     index: &[u16],
@@ -74,8 +74,9 @@ pub fn look_up_in_slices(
     look_up_counted::<Brand>(header, index, values, c, Blank::new(1))
 }
 
-/// Where the fast index is whole, `look_up_whole` is `look_up`, and both give the format's answer,
-/// over any cells; each makes at most five reads.
+/// Looks up `c` in two ways. If the fast index is whole, `look_up_whole` returns what `look_up`
+/// returns, and both return the value of the format, over any cells. Together they make at most ten
+/// reads.
 pub fn both_look_ups<C: Cells<u32>>(
     header: &CodePointTrieHeader,
     cells: &mut C,

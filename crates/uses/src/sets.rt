@@ -14,14 +14,15 @@ use icu_collections::zerovec::MemoryError;
 use std::alloc::Global;
 use std::ops::RangeInclusive;
 
-/// No number above the code space is in a set, wherever the set came from.
+/// Returns true if a set contains 0x110000. It never does: no set contains a number above 0x10FFFF,
+/// whatever its source.
 pub fn holds_a_far_number(set: &CodePointInversionList<'_>) -> bool
     ensures { result ≡ false }
 {
     set.contains32(0x11_0000)
 }
 
-/// The first range, if there is one. It has a code point, and none above the code space.
+/// Returns the first range, if there is one. It is not empty, and is within the code points.
 pub fn first_range(set: &CodePointInversionList<'_>) -> Option<RangeInclusive<u32>>
     ensures first { result ≡ slice_get (ranges_of set.now) 0 }
     ensures within { IfSome result IsOfCodePoints }
@@ -29,8 +30,8 @@ pub fn first_range(set: &CodePointInversionList<'_>) -> Option<RangeInclusive<u3
     set.get_nth_range(0)
 }
 
-/// How many ranges there are: each has a code point and ends within the code space, they ascend,
-/// and a code point is in one of them exactly if the set holds it.
+/// Returns the number of ranges. Each range is not empty and is within the code points, the ranges
+/// ascend, and a code point is in one of them exactly if the set contains it.
 pub fn count_ranges(set: &CodePointInversionList<'_>) -> usize
     ensures count { result ≡ length (ranges_of set.now) }
     ensures within { All IsOfCodePoints (ranges_of set.now) }
@@ -40,7 +41,8 @@ pub fn count_ranges(set: &CodePointInversionList<'_>) -> usize
     set.iter_ranges().count()
 }
 
-/// A set that is written to JSON and read back is the set, and only want of memory is refused.
+/// Writes a set to JSON and reads it back. The result is the same set, and the only error is a
+/// failed allocation.
 pub fn stored(
     alloc: Global,
     set: &CodePointInversionList<'_>,
@@ -67,8 +69,7 @@ pub fn changed_letters(
     Ok(changed)
 }
 
-/// Adds a code point, and says whether it was added. Where memory was refused, the set is as it
-/// was.
+/// Adds a code point. Returns false if an allocation fails, and the set is then unchanged.
 pub fn try_to_add(builder: &mut CodePointInversionListBuilder, c: u32) -> bool
     ensures refused { result ≡ false → builder.new ≡ builder.old }
     ensures added { result ≡ true → Acts either builder.old (between c (c + 1)) builder.new }
@@ -76,18 +77,18 @@ pub fn try_to_add(builder: &mut CodePointInversionListBuilder, c: u32) -> bool
     builder.add32(c).is_ok()
 }
 
-/// What follows the letters that a text begins with.
+/// Returns what follows the longest prefix of a text whose characters are all in the set.
 pub fn behind_its_front<'a>(set: &CodePointInversionList<'_>, text: &'a str) -> &'a str {
     &text[set.span(text, true)..]
 }
 
-/// What stands before the letters that a text ends with.
+/// Returns what precedes the longest suffix of a text whose characters are all in the set.
 pub fn before_its_tail<'a>(set: &CodePointInversionList<'_>, text: &'a str) -> &'a str {
     &text[..set.span_back(text, true)]
 }
 
-/// The value of a code point in a table that has one for each member of a set, in their order. A
-/// table of another length has none.
+/// Returns the value of a code point in a table that has one value for each member of a set, in
+/// their order. Returns `None` if the table has another length.
 pub fn value_beside(set: &CodePointInversionList<'_>, values: &[u16], c: u32) -> Option<u16>
     ensures beside { length values.now ≡ members_below set.now code_point_limit → result
         ≡ (if holds set.now c then slice_get values.now (members_below set.now c) else None) }
@@ -100,7 +101,7 @@ pub fn value_beside(set: &CodePointInversionList<'_>, values: &[u16], c: u32) ->
     Some(values[place])
 }
 
-/// What neither of two sets holds.
+/// Returns the code points that are in neither of two sets.
 pub fn neither(
     alloc: Global,
     first: &CodePointInversionList<'_>,
@@ -117,7 +118,7 @@ pub fn neither(
     Ok(made)
 }
 
-/// What a set does not hold.
+/// Returns the code points that are not in a set.
 pub fn outside(
     alloc: Global,
     set: &CodePointInversionList<'_>,
@@ -132,7 +133,8 @@ pub fn outside(
     Ok(made)
 }
 
-/// The same by De Morgan's law: what is outside of both.
+/// Returns the code points that are outside both sets. By De Morgan's law these are those of
+/// [`neither`].
 pub fn outside_both(
     alloc: Global,
     first: &CodePointInversionList<'_>,
@@ -150,7 +152,7 @@ pub fn outside_both(
     Ok(made)
 }
 
-/// Whether the two are one set, as they are.
+/// Returns true if [`neither`] and [`outside_both`] give the same set. They always do.
 pub fn are_one_set(
     alloc: Global,
     first: &CodePointInversionList<'_>,
@@ -163,7 +165,7 @@ pub fn are_one_set(
     Ok(left == right)
 }
 
-/// Appends a character, if it is to be kept.
+/// Appends a character if `is_kept` is true.
 fn push_if(kept: &mut String, c: char, is_kept: bool) -> Result<(), MemoryError>
     ensures { OnOk result
         (string_bytes kept.new
@@ -175,7 +177,7 @@ fn push_if(kept: &mut String, c: char, is_kept: bool) -> Result<(), MemoryError>
     Ok(())
 }
 
-/// The characters of a text that a frozen set holds, in their order.
+/// Returns the characters of a text that are in a frozen set, in their order.
 pub fn kept_characters(
     alloc: Global,
     set: &FrozenCodePointSet,

@@ -1,4 +1,4 @@
-//! Tables as ICU's files keep them.
+//! Tables in the form of ICU's files.
 ghost use Rattle.std.specs.Prelude.{◌≡◌, ℕ, drop, Some, IfOk};
 ghost use Rattle.icu_collections.specs.BinaryTrie.{IsUnsignedStored};
 ghost use Rattle.icu_collections.specs.CodePointTrie.{answers};
@@ -9,21 +9,22 @@ use icu_collections::zerovec::MemoryError;
 use std::alloc::Global;
 use thiserror::Error;
 
-/// Why a table does not pass through a file.
+/// Why a table cannot pass through a file.
 #[derive(Clone, Copy, Debug, PartialEq, Error)]
 pub enum FileError {
-    /// It can't be written.
+    /// It cannot be written.
     #[error("{0}")]
     Write(#[from] WriteError),
-    /// It can't be read.
+    /// It cannot be read.
     #[error("{0}")]
     Read(#[from] BinaryError),
-    /// There is no memory for what was read.
+    /// An allocation for what was read failed.
     #[error("{0}")]
     Memory(#[from] MemoryError),
 }
 
-/// A trie by way of a file between two programs. It answers what the trie answers.
+/// Passes a trie through a file between two programs. If the trie has a value for a code point, the
+/// copy has the same value.
 pub fn through_a_file(
     alloc: Global,
     trie: &CodePointTrie<'_, u8>,
@@ -37,7 +38,7 @@ pub fn through_a_file(
     Ok(copy)
 }
 
-/// Two tables of a file, one behind the other: values of 8 bits, and of 16.
+/// Reads two tables in a file, one after the other: 8-bit values, and 16-bit values.
 pub fn two_tables(
     bytes: &[u8],
 ) -> Result<(CodePointTrie<'_, u8>, CodePointTrie<'_, u16>), BinaryError>

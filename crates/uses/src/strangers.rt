@@ -1,4 +1,4 @@
-//! Tries from strangers: parts of any origin are tested, and what is then asked is proved.
+//! Untrusted tries: the parts are validated, and what is then used is proved.
 ghost use Rattle.std.specs.Prelude.{◌≡◌, ◌<◌, ◌↔◌, ℕ, true, Some, IfOk, IfSome, map};
 ghost use Rattle.icu_collections.specs.CodePointInversionList.{holds};
 ghost use Rattle.icu_collections.specs.CodePointTrie.{AreMaximalRuns, LongestRun, answer, answers, last_of, run_of, trie_value};
@@ -12,8 +12,8 @@ use icu_collections::zerovec::ZeroVec;
 use icu_collections::zerovec::ule::AsULE;
 use std::alloc::Global;
 
-/// A trie that borrows packed bytes. `None` where the bytes are no packed vectors, or where the
-/// three are no trie.
+/// Returns a trie that borrows packed bytes, or `None` if the bytes are not packed vectors or the
+/// three parts do not form a trie.
 pub fn trie_of_bytes<'a, T: TrieValue>(
     header: CodePointTrieHeader,
     index: &'a [u8],
@@ -29,8 +29,8 @@ pub fn trie_of_bytes<'a, T: TrieValue>(
     CodePointTrie::try_new(header, index, values).ok()
 }
 
-/// The ranges of a trie, only where they can be trusted: they are then the maximal runs of what it
-/// answers. `None` also where memory was refused.
+/// Returns the ranges of a trie, but only if it is coherent. They are then the maximal runs of its
+/// values. Also returns `None` if an allocation fails.
 pub fn trusted_runs<T: TrieValue>(
     alloc: Global,
     trie: &CodePointTrie<'_, T>,
@@ -43,8 +43,8 @@ pub fn trusted_runs<T: TrieValue>(
     trie.iter_ranges().collect::<Vec<_>>(alloc).ok()
 }
 
-/// The range of a character, only where it can be trusted: the longest run of one answer from the
-/// character on.
+/// Returns the range of a character, but only if the trie is coherent. It is then the longest run
+/// of one value from the character on.
 pub fn trusted_range<T: TrieValue>(
     trie: &CodePointTrie<'_, T>,
     c: char,

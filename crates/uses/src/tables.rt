@@ -17,7 +17,7 @@ use icu_collections::zerovec::ule::AsULE;
 use std::alloc::Global;
 use std::ops::RangeInclusive;
 
-/// The value of `A` where `A` to `Z` have 1.
+/// Returns the value of `A` if `A` to `Z` have 1.
 pub fn value_of_a(alloc: Global) -> Result<u8, BuildError>
     ensures { IfOk result (λ v. v ≡ 1) }
 {
@@ -35,7 +35,7 @@ pub fn general_category(alloc: Global, rows: &[Write<u8>], c: char) -> Result<u8
     Ok(trie.get(c))
 }
 
-/// The same by two calls of a builder, of any type of values, at any number.
+/// Returns the value of a number after two calls of a builder, for any type of values.
 pub fn written_twice<T: TrieValue>(
     alloc: Global,
     default: T,
@@ -55,8 +55,8 @@ pub fn written_twice<T: TrieValue>(
     Ok(trie.get32(c))
 }
 
-/// The value of a code point by two tables, the second one over the first. A table that is refused
-/// is want of memory, as `?` has it.
+/// Returns the value of a code point in two tables, the second one on top of the first. A rejected
+/// table is reported as `Memory` by `?`.
 pub fn amended_value(
     alloc: Global,
     first: &[Write<u8>],
@@ -72,8 +72,8 @@ pub fn amended_value(
     Ok(trie.get32(c))
 }
 
-/// A table with another value in one range: all other numbers answer as before, whatever the
-/// table's header says.
+/// Returns a table with another value in one range. All other numbers have the same value as
+/// before, whatever is in the table's header.
 pub fn with_range_changed(
     alloc: Global,
     table: &CodePointTrie<'_, u8>,
@@ -91,8 +91,7 @@ pub fn with_range_changed(
     builder.build()
 }
 
-/// Writes a value, and says whether memory was found for it. Where it was not, the map is as it
-/// was.
+/// Writes a value. Returns false if an allocation fails, and the map is then unchanged.
 pub fn try_to_write<T: TrieValue>(builder: &mut CodePointTrieBuilder<T>, c: u32, value: T) -> bool
     ensures refused { result ≡ false → builder.new ≡ builder.old }
     ensures written { result ≡ true → IsAfter (Write.One c value ∷ []) builder.old builder.new }
@@ -100,7 +99,7 @@ pub fn try_to_write<T: TrieValue>(builder: &mut CodePointTrieBuilder<T>, c: u32,
     builder.set_value(c, value).is_ok()
 }
 
-/// A trie that is written to JSON and read back answers as before.
+/// Writes a trie to JSON, reads it back, and returns the value of `c`, which is unchanged.
 pub fn stored_value<T: TrieValue>(
     alloc: Global,
     trie: &CodePointTrie<'_, T>,
@@ -115,7 +114,7 @@ pub fn stored_value<T: TrieValue>(
     }
 }
 
-/// The set of the characters that have a category.
+/// Returns the set of the characters that have a category.
 pub fn set_of_category(
     alloc: Global,
     rows: &[Write<u8>],
@@ -129,8 +128,8 @@ pub fn set_of_category(
     Ok(set)
 }
 
-/// The ranges of a table, collected: they are the maximal runs of what its rows say. A table of a
-/// few rows always fits.
+/// Returns the ranges of a table. They are the maximal runs of the values in its rows. A table of a
+/// few rows is never too large.
 pub fn runs_of_rows(
     alloc: Global,
     rows: &[Write<u8>],
@@ -144,8 +143,8 @@ pub fn runs_of_rows(
     Ok(ranges)
 }
 
-/// The set of the code points with a value, by a table from a stranger: only where its ranges can
-/// be trusted, and where memory was found.
+/// Returns the set of the code points with a value in an untrusted table. `None` if the table is
+/// not coherent or an allocation fails.
 pub fn trusted_set(
     alloc: Global,
     trie: &CodePointTrie<'_, u8>,
@@ -161,7 +160,7 @@ pub fn trusted_set(
     Some(set)
 }
 
-/// The ranges of the code points that have a value, and of those that don't, in turn.
+/// Returns the ranges of the code points that have a value, and of those that do not, alternating.
 pub fn runs_of_having(
     alloc: Global,
     trie: &CodePointTrie<'_, u8>,
@@ -181,8 +180,8 @@ pub fn runs_of_having(
     Ok(ranges)
 }
 
-/// The ranges of the code points that have a value, by a table from a stranger: `None` where its
-/// ranges can't be trusted, and where memory was refused.
+/// Returns the ranges of the code points that have a value in an untrusted table. `None` if the
+/// table is not coherent or an allocation fails.
 pub fn trusted_ranges_of(
     alloc: Global,
     trie: &CodePointTrie<'_, u8>,
@@ -199,7 +198,7 @@ pub fn trusted_ranges_of(
         .ok()
 }
 
-/// A trie of numbers read as one of differences, which have a sign, over the same bytes.
+/// Returns a trie of numbers as one of differences, which are signed, over the same bytes.
 pub fn as_differences(trie: CodePointTrie<'_, u16>) -> Result<CodePointTrie<'_, i16>, ConvertError>
     ensures { IfOk result (λ t. (i : ℕ) → slice_get t.values i
         ≡ same_packed ⟦<u16 as AsULE>⟧.pack ⟦<i16 as AsULE>⟧.unpack
@@ -208,7 +207,8 @@ pub fn as_differences(trie: CodePointTrie<'_, u16>) -> Result<CodePointTrie<'_, 
     trie.try_into_converted::<i16>()
 }
 
-/// The value of a code point by a table, plus one, from a trie whose values are mapped once.
+/// Returns the value of a code point in a table, plus one, from a trie whose values are mapped
+/// once.
 pub fn next_value(alloc: Global, rows: &[Write<u8>], c: u32) -> Result<u16, BuildError>
     ensures { IfOk result (λ v. v ≡ answer_after 0 9 rows.now c + 1) }
 {
@@ -219,7 +219,7 @@ pub fn next_value(alloc: Global, rows: &[Write<u8>], c: u32) -> Result<u16, Buil
     }
 }
 
-/// The value of a character, by the trie of its type.
+/// Returns the value of a character, with the look-up for the trie's type.
 pub fn value_by_type(trie: &CodePointTrie<'_, u8>, c: char) -> u8
     ensures { Some result ≡ trie_value trie.now c }
 {

@@ -1,4 +1,4 @@
-//! What a normalizer asks of a text before it copies it.
+//! What a normalizer checks in a text before it copies it.
 ghost use Rattle.std.specs.Prelude.{◌≡◌, ◌↔◌, IsTrue, Some};
 ghost use Rattle.std.specs.List.{All};
 ghost use Rattle.std.specs.Str.{chars};
@@ -10,11 +10,11 @@ use icu_collections::codepointtrie::text::find_value;
 /// The value of the characters that no step of normalization changes.
 const YES: u8 = 1;
 
-/// Whether each character of the text has the value 1 in the table, as those have that are normal
-/// wherever they stand. A text of such characters alone is normal as it is.
+/// Returns true if each character of the text has the value 1 in the table. These are the
+/// characters that are normalized in any context, so a text of only such characters is normalized.
 ///
 /// ```
-/// // is_surely_normal(&table, "ab") is true where 'a' and 'b' have 1
+/// // is_surely_normal(&table, "ab") is true if 'a' and 'b' have 1
 /// ```
 pub fn is_surely_normal(table: &CodePointTrie<'_, u8>, text: &str) -> bool
     ensures { IsTrue result ↔ All (λ c. trie_value table.now c ≡ Some 1) (chars text.now) }

@@ -11,7 +11,7 @@ use icu_collections::char16trie::{Char16Trie, Char16TrieBuilder, TrieResult};
 use std::alloc::Global;
 use std::fmt::Write;
 
-/// The number of a word, if the trie has it.
+/// Returns the number of a word, if the trie has the word.
 pub fn number_of_word(trie: &Char16Trie<'_>, word: &str) -> Option<i32>
     ensures { (m : UnitMap) → IsTrieOf trie.now m
         → result ≡ value_of m (flat_map encode_utf16 (chars word.now)) }
@@ -21,8 +21,8 @@ pub fn number_of_word(trie: &Char16Trie<'_>, word: &str) -> Option<i32>
     cursor.value()
 }
 
-/// What the trie has of a word of one character: its number, whether longer words begin with it, or
-/// neither.
+/// Returns what the trie has for a word of one character: its number, whether longer words start
+/// with it, or neither.
 pub fn first_result(trie: &Char16Trie<'_>, c: char) -> TrieResult
     ensures { (m : UnitMap) → IsTrieOf trie.now m
         → result ≡ result_of (value_of m (encode_utf16 c)) (not (goes_on m (encode_utf16 c))) }
@@ -31,8 +31,8 @@ pub fn first_result(trie: &Char16Trie<'_>, c: char) -> TrieResult
     iterator.next(c)
 }
 
-/// The entries of a trie, in unit order: each key as text, with its value. `None` where memory is
-/// refused.
+/// Returns the entries of a trie, in unit order: each key as text, with its value. `None` if an
+/// allocation fails.
 pub fn list_of(alloc: Global, trie: &Char16Trie<'_>) -> Option<Vec<(String, i32)>>
     ensures { IfSome result
         (λ list. (m : UnitMap) → IsTrieOf trie.now m → AreEntries (map Ok list.items) m) }
@@ -44,8 +44,8 @@ pub fn list_of(alloc: Global, trie: &Char16Trie<'_>) -> Option<Vec<(String, i32)
     Some(list)
 }
 
-/// The words of a trie that go on from a prefix, each without it, in unit order, with their
-/// numbers. `None` where memory is refused.
+/// Returns the words of a trie that start with a prefix, each without it, in unit order, with their
+/// numbers. `None` if an allocation fails.
 pub fn completions(alloc: Global, trie: &Char16Trie<'_>, prefix: &str) -> Option<Vec<(String, i32)>>
     ensures { IfSome result (λ list. (m : UnitMap) → IsTrieOf trie.now m
         → AreEntries (map Ok list.items)
@@ -62,8 +62,8 @@ pub fn completions(alloc: Global, trie: &Char16Trie<'_>, prefix: &str) -> Option
     Some(list)
 }
 
-/// The entries of a trie of two words, which come in unit order and not as they were added. `None`
-/// where memory is refused.
+/// Returns the entries of a trie of two words, in unit order rather than the order in which they
+/// were added. `None` if an allocation fails.
 pub fn two_words(alloc: Global) -> Option<Vec<(String, i32)>>
     ensures { IfSome result
         (λ list. map bytes_and_number list.items ≡ (codes "a", pos 1) ∷ (codes "ab", pos 2) ∷ []) }
@@ -75,15 +75,15 @@ pub fn two_words(alloc: Global) -> Option<Vec<(String, i32)>>
     list_of(alloc, &trie)
 }
 
-/// The longest word of a trie that begins a text: how many units it has, and its number.
+/// Returns the longest word of a trie that a text starts with: its length in units, and its number.
 pub fn longest_word(trie: &Char16Trie<'_>, text: &[u16]) -> Option<(usize, i32)>
     ensures { (m : UnitMap) → IsTrieOf trie.now m → IsLongestMatch m text.now result }
 {
     trie.longest_match(text)
 }
 
-/// How many units the first word of a text has: those of the longest key of the dictionary that
-/// begins it, or one, where no key but the empty one does.
+/// Returns the length in units of the first word of a text: that of the longest key of the
+/// dictionary that the text starts with. It is 1 if there is no such key or only the empty one.
 fn first_word(dictionary: &Char16Trie<'_>, text: &[u16]) -> usize
     requires { 0 < length text.now }
     ensures word { (m : UnitMap) → IsTrieOf dictionary.now m → IsFirstWord m text.now result }
@@ -96,9 +96,11 @@ fn first_word(dictionary: &Char16Trie<'_>, text: &[u16]) -> usize
     }
 }
 
-/// A text cut into words: how many units each one has, in their order. At each place the word is
-/// the longest key of the dictionary that stands there, or one unit, where no key but the empty one
-/// does. `None` where memory is refused.
+/// Cuts a text into words. Returns the length of each in units, in their order, or `None` if an
+/// allocation fails.
+///
+/// At each position the word is the longest key of the dictionary there. It is one unit if there is
+/// no such key or only the empty one.
 ///
 /// ```
 /// // of "abxa" by the words "a" and "ab" it is 2, 1, 1

@@ -1,4 +1,4 @@
--- What is read answers as what was written, and the copy is what was read.
+-- What is read has the values of what was written, and the copy is what was read.
 use Rattle.std.proofs.Common.{◌≡◌, rules}
 use Rattle.uses.proofs.stored.through_a_file.Goals as goal
 

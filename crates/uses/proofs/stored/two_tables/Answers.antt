@@ -1,4 +1,4 @@
--- The second table stands where the first one ends.
+-- The second table is after the end of the first one.
 use Rattle.std.proofs.Common.{◌≡◌, ◌-◌, ap, drop, length, sym, take, ◌∙◌}
 use Rattle.std.proofs.Math.Seq.{take-length}
 use Rattle.std.proofs.lemmas.List.{length-drop}

@@ -9,7 +9,7 @@ use Rattle.icu_collections.specs.CodePointTrieBuilder.{AnswersMap, CodePointMap,
 use Rattle.icu_collections.specs.declared.codepointtrie.Write.{Write}
 use Rattle.uses.proofs.tables.with_range_changed.Goals as goal
 
--- The trie s of the map `new`, which is `old` after one write
+-- The trie s of the map `new`, which is `old` after one write.
 module _ (r : RangeInclusive ℕ) (v : ℕ) (old new : CodePointMap ℕ) (s : Parts ℕ) (after : IsAfter (Write.Range r v ∷ []) old new)
     (of : AnswersMap (map_value new) new.error s) where
   in_space : (u : ℕ) → u ≤ 0x10FFFF → trie_value s u ≡ Some (value_after (Write.Range r v ∷ []) (map_value old u) u)

@@ -23,7 +23,7 @@ turned : (b s : Bool) → s ≡ not b → b ≡ not s
 turned true s e = sym (ap not e)
 turned false s e = sym (ap not e)
 
--- where a closure refuses 1 alone: what `find_value` answers by it
+-- The result of `find_value` with a closure that rejects only 1.
 module _ {F : Type 0} (post : F → ℕ → Bool → Type 0) (f : F) (trie : Parts ℕ) (text : List ℕ) where
   none_found : (r : Option (Found ℕ)) → IfNone r (AreRefused post f trie (chars text))
       → ((v : ℕ) (a : Bool) → post f v a → a ≡ not (v == 1)) → IsTrue (is_none r)

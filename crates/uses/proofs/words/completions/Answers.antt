@@ -19,7 +19,7 @@ told m (Ok y) b b' e some is h = subst (λ z. Advances m (Ok z) e) (same some �
     same h = cc
 told m (Err y) b b' e some is h = cc
 
--- one entry more at the end of the list, and the others behind it
+-- One more entry at the end of the list, and the others after it.
 one_more : (m : UnitMap) (items new ys : List (String Global × ℤ)) (y : String Global × ℤ) → new ≡ items ++ y ∷ []
     → AreEntries (map Ok (items ++ y ∷ ys)) m → AreEntries (map Ok (new ++ ys)) m
 one_more m items new ys y e h =

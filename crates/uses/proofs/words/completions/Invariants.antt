@@ -6,7 +6,7 @@ use Rattle.std.specs.Str.{chars}
 use Rattle.icu_collections.specs.Char16Trie.{AreEntries, AreToCome, IsTrieOf, UnitMap, after_all, entries_work}
 use Rattle.uses.proofs.words.completions.Given as goal
 
--- the words so far, and then those that are still to come, are those that go on from the prefix
+-- The words so far, followed by those still to come, are those that start with the prefix.
 abbrev pub invariant-loop-list : goal.invariant-loop-list
 invariant-loop-list l = (m : UnitMap) → IsTrieOf l.fn.trie m
     → (rest : UnitMap) × AreToCome l.entries rest

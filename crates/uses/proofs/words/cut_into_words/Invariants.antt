@@ -3,7 +3,7 @@ use Rattle.icu_collections.specs.Char16Trie.{IsTrieOf, UnitMap}
 use Rattle.uses.specs.Pieces.{AreWords}
 use Rattle.uses.proofs.words.cut_into_words.Given as goal
 
--- the words so far, and then those of the rest, are those of the text
+-- The words so far, followed by those of the rest, are those of the text.
 abbrev pub invariant-loop-rest : goal.invariant-loop-rest
 invariant-loop-rest l = record {
   within : length l.rest ≤ length l.fn.text;

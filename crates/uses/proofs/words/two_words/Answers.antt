@@ -23,7 +23,7 @@ ok_value {A} (Ok y) x P e h = subst P (some_eq e) h
     some_eq h = cc
 ok_value (Err y) x P e h = cc
 
--- the two words in unit order
+-- The two words in unit order.
 abbrev words : UnitMap
 words = (97 ∷ [], pos 1) ∷ (97 ∷ 98 ∷ [], pos 2) ∷ []
 
