@@ -9,6 +9,7 @@ CLAUSES = [
     r"(?:^| )(?:A clause|The clauses) .*?\.(?= |$)( That they .*? is in no clause\.)?",
     r",? and a clause .*?(?=\.(?: |$))",
     r": contracts name it .*?(?=\.(?: |$))",
+    r"(?:^| )In contracts, .*?\.(?= |$)",
 ]
 WHOLE = {"break_long_words": False, "break_on_hyphens": False}
 DOC_RULES = [
@@ -17,7 +18,6 @@ DOC_RULES = [
     (r", whose changes take their memory from `alloc`", ""),
     (r": `alloc` is kept for", "; that is left to"),
     (r"\[(`walk`)\]\(icu_trie_core::walk::walk\)", r"\1"),
-    (r"`stored_form`, which answers", "which answers"),
     # What answers a `Result` here, and what is inside.
     (r"\bbuild_from_writes(?=\(.*\)\?)", "try_build_from_writes"),
     (r"(?<=\[`CodePointTrieBuilder::)build(?=`\])", "try_build"),

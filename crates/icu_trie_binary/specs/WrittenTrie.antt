@@ -41,8 +41,8 @@ options_for h =
     h.data_length / 0x10000 * 0x1000 + h.data_null_offset / 0x10000 * 0x100
     + type_code h.trie_type * 0x40 + width_code h.value_width
 
--- the 16 bytes of a header: the signature `Tri3` (UCPTRIE_SIG), and six numbers of 16 bits, each
--- with its lowest byte first
+-- The 16 bytes of a header: the signature `Tri3` (UCPTRIE_SIG), and six numbers of 16 bits, each
+-- with its lowest byte first.
 unfoldable pub header_bytes : BinaryHeader → List ℕ
 header_bytes h =
     low_bytes 4 0x54726933 ++ (low_bytes 2 (options_for h) ++ (low_bytes 2 h.index_length
@@ -50,8 +50,9 @@ header_bytes h =
     ++ (low_bytes 2 (h.data_null_offset % 0x10000) ++ low_bytes 2 h.shifted_high_start)))))
 
 -- ---- the index
--- The cell that ICU's builder puts behind an index of an odd length where values of 32 bits follow
--- it, so that these stand at a multiple of four bytes. No look-up of a coherent trie reads it.
+-- The cell that ICU's builder adds after an index of an odd length if values of 32 bits follow it, so
+-- that the offset of the values is a multiple of four bytes. No look-up in a coherent trie reads this
+-- cell.
 abbrev pub padding : ℕ → ℕ → List ℕ
 padding width cells = if nat_eq width 4 && nat_eq (cells % 2) 1 then 0xffee ∷ [] else []
 
@@ -79,9 +80,11 @@ module _ {T : Type 0} (width : ℕ) (number : T → ℕ) where
   null_number t =
       number_or_zero (option_map number (slice_get t.values (null_place (header_for t))))
 
-  -- the trie as the form has it. It differs from the trie in what no look-up reads: the cell behind
-  -- an index of an odd length, the null value where the header names no block of the data, and
-  -- `shifted12_high_start`, which is that of the high start
+  -- The trie that the form stores. It differs from the trie in the cell after an index of an odd
+  -- length, in the null value if the header names no block of the data, and in
+  -- `shifted12_high_start`, which is computed from the high start. No look-up reads the last two.
+  -- A look-up reads the first only if the trie has no cell for the code point, which never happens
+  -- in a coherent trie.
   abbrev pub stored_form : Parts T → Parts T
   stored_form t = record {
     header = record {

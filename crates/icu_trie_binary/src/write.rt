@@ -157,18 +157,22 @@ pub fn binary_len<T: TrieValue>(trie: &CodePointTrie<'_, T>) -> Result<usize, Wr
     Ok(written_parts(trie)?.len)
 }
 
-/// The bytes of a trie in ICU's binary form, as `ucptrie_toBinary` writes them on a machine that
-/// has the lowest byte first. Read by `from_binary` they give the trie as the form has it,
-/// `stored_form`, which answers as the trie does.
+/// Returns the bytes of a trie in ICU's binary form, as `ucptrie_toBinary` writes them on a
+/// little-endian machine.
 ///
-/// The bytes are the header of 16 bytes, the index and the data. If values have four bytes, an
-/// index of an odd length is followed by the cell 0xFFEE, as ICU's builder does. The values are
-/// then at a multiple of four.
+/// `from_binary` reads these bytes as the trie's stored form. For every code point whose cells the
+/// trie has, the stored form has the same value. A coherent trie has the cells of every code point,
+/// and every built trie is coherent. A trie that is not coherent may lack some: there a look-up in the
+/// trie returns the error value, and a look-up in its stored form may return another value.
+///
+/// The bytes are the header of 16 bytes, the index, and the data. If the index has an odd length and
+/// values take four bytes, a cell 0xFFEE follows the index, as in ICU's builder, so that the offset of
+/// the data is a multiple of four.
 ///
 /// ```
 /// let bytes = to_binary(alloc, &trie)?;
 /// let (read, len) = from_binary::<u8>(&bytes)?;
-/// // len is bytes.len(), and read.get32(c) is trie.get32(c) for each code point c
+/// // len is bytes.len(), and read.get32(c) is trie.get32(c) for each c if the trie is coherent
 /// ```
 ///
 /// # Errors
