@@ -12,8 +12,9 @@
 //! long. [`Char16Trie::count_entries`](char16trie::Char16Trie::count_entries) returns the number of
 //! entries in advance.
 //!
-//! All public items are in [`char16trie`], as in the Rust crate. Inside:
+//! All public items are in `char16trie`, as in the Rust crate:
 //!
+//! - `char16trie`: the public items, under the Rust crate's names
 //! - `trie`: [`Char16Trie`](char16trie::Char16Trie)
 //! - `cursor`: [`Char16TrieCursor`](char16trie::Char16TrieCursor), for look-up unit by unit;
 //!   `write`: look-up of text that is written to it

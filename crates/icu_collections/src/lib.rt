@@ -7,7 +7,7 @@
 //! | a set of code points and longer texts | [`codepointinvliststringlist`] |
 //! | a number for each word of a list | [`char16trie`] |
 //! | a list of numbers or characters, packed and read in place | [`zerovec`] |
-//! | ranges with values, to be joined if they are adjacent and have equal values | [`iterator_utils`] |
+//! | ranges with values, joined if adjacent and equal in value | [`iterator_utils`] |
 //!
 //! # Values
 //!

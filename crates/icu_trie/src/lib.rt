@@ -8,6 +8,7 @@
 //! - `mapped_ranges`: the joined ranges of mapped values
 //! - `map_value`: a trie with mapped values
 //! - `packed_cells`, `cell_bytes`: access to the cells, and to the bytes of one cell
+//! - `equality`: comparing tries, whether they borrow or own their cells
 //! - `convert`, `typed`: conversion to another type of values, and tries of a known trie type
 //! - `error`: why parts are rejected, and why a trie cannot be converted
 //!

@@ -87,7 +87,8 @@ module _ {T : Type 0} (of_number : ℕ → Option T) (h g : CodePointTrieHeader)
 
   named_512 : (b : ℕ) → fast_limit g.trie_type ≤ b * 512 → b * 512 < g.high_start
       → index2_cell g.trie_type (index ++ behind) (b * 512) ≡ Some g.index3_null_offset
-      → (fast_limit h.trie_type ≤ b * 512) × (b * 512 < h.high_start) × (index2_cell h.trie_type index (b * 512) ≡ Some h.index3_null_offset)
+      → (fast_limit h.trie_type ≤ b * 512) × (b * 512 < h.high_start)
+      × (index2_cell h.trie_type index (b * 512) ≡ Some h.index3_null_offset)
   named_512 b far below named =
       let f : fast_limit h.trie_type ≤ b * 512 = rw same_type at far in
       let l : b * 512 < h.high_start = rw same_start at below in (

@@ -49,10 +49,9 @@ header_bytes h =
     ++ (low_bytes 2 (h.data_length % 0x10000) ++ (low_bytes 2 h.index3_null_offset
     ++ (low_bytes 2 (h.data_null_offset % 0x10000) ++ low_bytes 2 h.shifted_high_start)))))
 
--- ---- the index
--- The cell that ICU's builder adds after an index of an odd length if values of 32 bits follow it, so
--- that the offset of the values is a multiple of four bytes. No look-up in a coherent trie reads this
--- cell.
+-- ---- the index The cell that ICU's builder adds after an index of an odd length if values of 32
+-- bits follow it, so that the offset of the values is a multiple of four bytes. No look-up in a
+-- coherent trie reads this cell.
 abbrev pub padding : ℕ → ℕ → List ℕ
 padding width cells = if nat_eq width 4 && nat_eq (cells % 2) 1 then 0xffee ∷ [] else []
 

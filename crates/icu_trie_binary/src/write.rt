@@ -162,12 +162,12 @@ pub fn binary_len<T: TrieValue>(trie: &CodePointTrie<'_, T>) -> Result<usize, Wr
 ///
 /// `from_binary` reads these bytes as the trie's stored form. For every code point whose cells the
 /// trie has, the stored form has the same value. A coherent trie has the cells of every code point,
-/// and every built trie is coherent. A trie that is not coherent may lack some: there a look-up in the
-/// trie returns the error value, and a look-up in its stored form may return another value.
+/// and every built trie is coherent. A trie that is not coherent may lack some: there a look-up in
+/// the trie returns the error value, and a look-up in its stored form may return another value.
 ///
-/// The bytes are the header of 16 bytes, the index, and the data. If the index has an odd length and
-/// values take four bytes, a cell 0xFFEE follows the index, as in ICU's builder, so that the offset of
-/// the data is a multiple of four.
+/// The bytes are the header of 16 bytes, the index, and the data. If the index has an odd length
+/// and values take four bytes, a cell 0xFFEE follows the index, as in ICU's builder, so that the
+/// offset of the data is a multiple of four.
 ///
 /// ```
 /// let bytes = to_binary(alloc, &trie)?;
