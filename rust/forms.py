@@ -14,7 +14,7 @@ KEYWORDS = set(
     " mut pub ref return self Self static struct super trait type unsafe use where while true false".split()
 )
 BEFORE_NAMES = KEYWORDS - set("break continue crate loop self Self super true false".split())
-ATTRIBUTES = set("derive error from inline cold test cfg tactic".split())
+ATTRIBUTES = set("derive error from inline cold test cfg tactic repr".split())
 MACROS = set("assert assert_eq format json matches panic println unreachable vec write writeln".split())
 # What is proof, by the word that it begins with: whether its docs go too, and its form. Braces of
 # the proof language follow where the form asks for one by `(?={)`.

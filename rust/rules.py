@@ -59,6 +59,7 @@ RULES = [
     (r"use thiserror::Error;\n", ""),
     (r"use std::marker::Model;\n", ""),
     (r"use std::marker::\{Model, (\w+)\};", r"use std::marker::\1;"),
+    (r"use std::marker::\{Brand, (\w+)\};", r"use std::marker::\1;\nuse crate::support::Brand;"),
     (r"use std::alloc::Global;\n", ""),
     (r"(use std::alloc::\{[^}]*), Global\}", r"\1}"),
     (r"\bstd::(alloc|collections|sync::ledger)::", "crate::support::"),
@@ -87,6 +88,11 @@ RULES = [
     # No clause stands before the body, nor what was said of one.
     (r"(?<=[^,;{}\s\x03])(?:\n *\x01\d+\x03|\n)*\n *\{\n", " {\n"),
 ]
+# What no rule may leave: it is Rattle's alone, or something else in Rust.
+NOT_IN_RUST = (
+    r"\bGlobal\b", r"\b(?<!crate::)alloc\b", r"\bstd::\w+", r"\bthiserror\b", r"\bModel\b",
+    r"\bcore::[^;(]*\b(?:Brand|Drop)\b", r"\bstd::\{"
+)
 # What one source has in another form here, and how often.
 EDITS = {
     # Reads of cells, in the forms of rust/support/cells.
@@ -95,6 +101,16 @@ EDITS = {
         (r"match read\(bytes, i\) \{", "match T::from_unaligned(proved_cell(bytes, T::WIDTH, i)) {", 1),
         (r"bytes\.split_at\(T::WIDTH\);", "bytes.split_at_checked(T::WIDTH)?;", 1),
         (r"(?=use crate::ule)", "use crate::support::cells::{cell, proved_cell};\n", 1),
+    ],
+    "icu_collections_c/cells": [
+        (r"let start = i \* T::WIDTH;\n +", "", 1),
+        (r"&bytes\[start\.\.start \+ T::WIDTH\]", "proved_cell(bytes, T::WIDTH, i)", 1),
+        (
+            r"(?s)if i >= bytes.len\(\) / T::WIDTH \{.*?Some\(value_there\(bytes, i\)\)",
+            "T::from_unaligned(cell(bytes, T::WIDTH, i)?)",
+            1,
+        ),
+        (r"(?=use icu_trie_core::cells)", "use crate::support::cells::{cell, proved_cell};\n", 1),
     ],
     # Of two types of which Rust takes one for the other each may have a width of its own: so no
     # vector of the one is taken for one of the other.

@@ -128,12 +128,23 @@ def output(crate):
     return f"{crate.folder}/out/{crate.name}{'' if crate.is_program else '_tests'}"
 
 
+def is_built(rt, crate):
+    """Whether what the crate is built into was built here from the files as they are."""
+    made = output(crate)
+    return rt.rtlib.text_of(f"{made}.mark") == crate.stamp() + rt.rtlib.sum_of(made)
+
+
+def is_kept(rt, crate):
+    """Whether the crate is built, or can be without proving a library below it."""
+    return is_built(rt, crate) or take_passed(rt, crate)
+
+
 def built(rt, crate):
     """The path of the crate's program, of its static library, or of its tests if it is another
     library; None if it cannot be built. Takes what `rt ci` passed, or what was built here from the
     files as they are, which a file with their checksums shows; otherwise proves and builds it."""
     made, stamp = output(crate), crate.stamp()
-    if rt.rtlib.text_of(f"{made}.mark") == stamp + rt.rtlib.sum_of(made):
+    if is_built(rt, crate):
         return made
     if take_passed(rt, crate, tests=not crate.is_program) and not crate.is_static:
         return made

@@ -1,0 +1,86 @@
+//! The library that c/bekstaudi.h declares, built by cargo alone.
+//!
+//! `icu_collections_c` has the functions of the proved crate of that name, without their proofs.
+//! They use the modules of rust/bekstaudi, which are compiled from where they are. Unsafe code is
+//! in this file and in `exports`, and only touches memory that the C caller or `malloc` provides.
+#![no_std]
+#![deny(unsafe_op_in_unsafe_fn)]
+#![allow(dead_code, unused_imports, unused_variables)]
+
+extern crate alloc;
+
+use core::alloc::{GlobalAlloc, Layout};
+use core::ffi::c_void;
+
+mod exports;
+#[forbid(unsafe_code)]
+mod icu_collections_c;
+
+unsafe extern "C" {
+    fn malloc(size: usize) -> *mut c_void;
+    fn realloc(block: *mut c_void, size: usize) -> *mut c_void;
+    fn free(block: *mut c_void);
+    fn abort() -> !;
+}
+
+/// The alignment that `malloc` guarantees.
+const ALIGNMENT: usize = 16;
+
+/// Allocates with the program's own `malloc`.
+struct Malloc;
+
+#[global_allocator]
+static MALLOC: Malloc = Malloc;
+
+// SAFETY: a block of `malloc` or `realloc` has at least the requested size and is aligned to
+// ALIGNMENT. A request for a larger alignment, which no type here needs, fails.
+unsafe impl GlobalAlloc for Malloc {
+    unsafe fn alloc(&self, layout: Layout) -> *mut u8 {
+        if layout.align() > ALIGNMENT {
+            return core::ptr::null_mut();
+        }
+        // `black_box` keeps the compiler from merging `malloc` and `memset` into `calloc`, so that
+        // a caller who wraps `malloc` sees each request.
+        core::hint::black_box(unsafe { malloc(layout.size()).cast() })
+    }
+
+    unsafe fn dealloc(&self, block: *mut u8, _: Layout) {
+        unsafe { free(block.cast()) }
+    }
+
+    unsafe fn realloc(&self, block: *mut u8, layout: Layout, size: usize) -> *mut u8 {
+        unsafe { realloc(block.cast(), size).cast() }
+    }
+}
+
+/// Ends the program. The proofs show that no function panics.
+#[panic_handler]
+fn panicked(_: &core::panic::PanicInfo) -> ! {
+    unsafe { abort() }
+}
+
+/// Returns the slice of `count` items at `first`. If `count` is 0, `first` may be any pointer.
+///
+/// # Safety
+/// There are `count` readable items at `first`, and nothing writes to them during `'a`.
+#[inline(always)]
+unsafe fn slice<'a, T>(first: *const T, count: usize) -> &'a [T] {
+    if count == 0 {
+        return &[];
+    }
+    unsafe { core::slice::from_raw_parts(first, count) }
+}
+
+/// Returns the mutable slice of `count` items at `first`. If `count` is 0, `first` may be any
+/// pointer.
+///
+/// # Safety
+/// There are `count` writable items at `first`, and nothing else accesses them during `'a`.
+#[inline(always)]
+unsafe fn slice_mut<'a, T>(first: *mut T, count: usize) -> &'a mut [T] {
+    if count == 0 {
+        return &mut [];
+    }
+    unsafe { core::slice::from_raw_parts_mut(first, count) }
+}
+
