@@ -4,7 +4,7 @@ import shutil
 import subprocess
 import sys
 
-from running import CC, CXX, OUT, PARTS, STRICT, TOP, passes, prints
+from running import BUILD, CC, CXX, OUT, PARTS, STRICT, TOP, passes, prints
 
 
 def in_python(room):
@@ -16,7 +16,7 @@ def in_python(room):
 
 def examples(room):
     """The library installed, and the examples as a user runs them."""
-    yield passes("c/build PREFIX", [f"{TOP}/c/build", f"{room}/usr"])
+    yield passes("c/build PREFIX", [*BUILD, f"{room}/usr"])
     flags = [f"-I{room}/usr/include", f"-L{room}/usr/lib", f"-Wl,-rpath,{room}/usr/lib", "-lbekstaudi"]
     code, text = f"{TOP}/c/examples", "A\u00df7 \u4e16\U0001f600\u0301"
     yield passes("make_table.c", [CC, *STRICT, "-o", f"{room}/make_table", f"{code}/make_table.c", "-licuuc"])

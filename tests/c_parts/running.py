@@ -1,6 +1,9 @@
-"""How tests/c runs what it tries."""
+"""How tests/c builds the library, and runs what it tries."""
 import os
+import re
+import shutil
 import subprocess
+import sys
 
 PARTS = os.path.dirname(os.path.realpath(__file__))
 TOP = os.path.dirname(os.path.dirname(PARTS))
@@ -8,10 +11,19 @@ OUT = f"{TOP}/c/out"
 STRICT = ["-Wall", "-Wextra", "-pedantic", "-Werror", f"-I{TOP}/c"]
 SANITIZED = ["-g", "-O1", "-fsanitize=address,undefined", "-fno-sanitize-recover=all"]
 CC, CXX = os.environ.get("CC", "cc"), os.environ.get("CXX", "c++")
+# Which library is tested: that of the kit, or without it or with --cargo that of cargo.
+IS_CARGO = "--cargo" in sys.argv or not shutil.which("rt")
+BUILD = [f"{TOP}/c/build", "--cargo" if IS_CARGO else "--proved"]
+
+
+def functions():
+    """The functions that bekstaudi.h declares, without the inline ones."""
+    with open(f"{TOP}/c/bekstaudi.h", encoding="utf-8") as file:
+        return re.findall(r"(?m)^(?!static)[a-z]\w* (bks_\w+)\(", file.read())
 
 
 def passes(what, words, **more):
-    """Whether a command ends well. It says what it was, or prints what it said."""
+    """Whether a command succeeds. Prints what it was; if it fails, also what it printed."""
     ran = subprocess.run(words, stdout=subprocess.PIPE, stderr=subprocess.STDOUT, text=True, errors="replace", **more)
     print(ran.stdout.rstrip() if ran.returncode else f"{what}: {ran.stdout.strip() or 'done'}", flush=True)
     if ran.returncode:
@@ -20,7 +32,7 @@ def passes(what, words, **more):
 
 
 def prints(what, words, wanted, environment, given=""):
-    """Whether a program, which is given this text, prints what is wanted."""
+    """Whether a program that gets this text on standard input prints what is wanted."""
     ran = subprocess.run(words, input=given.encode("utf-8"), stdout=subprocess.PIPE, env=environment)
     found = ran.stdout.decode("utf-8")
     print(f"{what}: {'as wanted' if found == wanted else found}")
