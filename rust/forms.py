@@ -15,7 +15,7 @@ KEYWORDS = set(
 )
 BEFORE_NAMES = KEYWORDS - set("break continue crate loop self Self super true false".split())
 ATTRIBUTES = set("derive error from inline cold test cfg tactic repr".split())
-MACROS = set("assert assert_eq format json matches panic println unreachable vec write writeln".split())
+MACROS = set("anyhow assert assert_eq eprintln format json matches panic println unreachable vec write writeln".split())
 # What is proof, by the word that it begins with: whether its docs go too, and its form. Braces of
 # the proof language follow where the form asks for one by `(?={)`.
 PROOFS = [

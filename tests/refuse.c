@@ -1,8 +1,8 @@
 /* Loaded before the C library (LD_PRELOAD): the request for memory number REFUSE (from 1) is
    refused, as by malloc that gives NULL. Where it is, the byte `x` and a newline are written to
    standard output, so that it stands between what the program prints before and after. A read gives
-   up to MOST bytes, and read number FAILING_READ fails, and so does the write to standard output
-   number FAILING_WRITE. What is not set changes nothing. Needs no header and no other library than
+   up to MOST bytes, and read number FAILING_READ fails, and so does write number FAILING_WRITE, of
+   those that are not to standard error. What is not set changes nothing. Needs no header and no other library than
    glibc, and Linux on x86-64. */
 typedef unsigned long size;
 extern void *__libc_malloc(size), *__libc_realloc(void *, size);
@@ -52,7 +52,7 @@ long read(int file, void *to, size n) {
 
 long write(int file, const void *from, size n) {
     begin();
-    if (file == 1 && writes && !--writes) return failed();
+    if (file != 2 && writes && !--writes) return failed();
     return syscall(WRITE, file, from, n);
 }
 

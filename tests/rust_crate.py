@@ -11,8 +11,8 @@ import sys
 
 import public_calls
 from rust_rules import (
-    FORM_MODULES, FORM_RULES, NOT_SWEPT, OTHER_NAMES, TEST_NAMES, TEST_RULES, TESTS,
-    UNKNOWN
+    FORM_MODULES, FORM_RULES, KNOWN, NOT_SWEPT, OTHER_HEADERS, OTHER_NAMES, TEST_NAMES, TEST_RULES,
+    TESTS, UNKNOWN
 )
 
 TOP = os.path.dirname(os.path.dirname(os.path.realpath(__file__)))
@@ -21,6 +21,7 @@ README = f"{TOP}/rust/README.md"
 # Sources of serde_json and toml, as Debian has them in librust-serde-json-dev, librust-toml-dev.
 SOURCES = "/usr/share/cargo/registry"
 HAS_FORMATS = all(glob.glob(f"{SOURCES}/{it}-*") for it in ("serde_json", "toml"))
+HAS_CLAP = HAS_FORMATS and bool(glob.glob(f"{SOURCES}/clap-4*"))
 # What rust_parts has that needs them.
 FORMS = ["stored_forms"] if HAS_FORMATS else []
 
@@ -45,35 +46,54 @@ def maker():
 
 
 def refuses_all(made, folder):
-    """Whether each form that nobody knows is refused, and not passed on."""
+    """Whether rust/make stops at each unknown form, and turns each known one into what it is."""
     failed = []
-    for number, text in enumerate(UNKNOWN):
-        path = f"{folder}/unknown{number}.rt"
+    for number, text in enumerate([*UNKNOWN, *KNOWN]):
+        path = f"{folder}/form{number}.rt"
         write(path, text)
         try:
-            made.rust(path, "icu_zerovec", "icu_zerovec/unknown")
-            print(f"rust/make takes {text!r}")
+            code = made.rust(path, "icu_zerovec", "icu_zerovec/form")
+        except SystemExit as why:
+            code = why
+        if text in KNOWN and code != KNOWN[text] or text in UNKNOWN and isinstance(code, str):
+            print(f"rust/make: {text!r} becomes {code!r}")
             failed.append(text)
-        except SystemExit:
-            pass
+    return not failed
+
+
+def compares_header(made, folder):
+    """Whether rust/make stops if c/bekstaudi.h declares something else than the crate has."""
+    header, failed = read(f"{TOP}/c/bekstaudi.h"), []
+    for number, (old, new) in enumerate(OTHER_HEADERS):
+        path = f"{folder}/header{number}.h"
+        write(path, header.replace(old, new))
+        try:
+            made.c_library(f"{folder}/other_c", f"{folder}/bekstaudi", path, made.make)
+            print(f"rust/make does not see that a header has {new!r} for {old!r}")
+            failed.append(old)
+        except made.Stop:
+            failed += [] if header.count(old) == 1 else [old]
     return not failed
 
 
 def files(folder):
-    """The files of a folder that are written for it."""
+    """The files of a package."""
     found = glob.glob(f"{folder}/**/*.*", recursive=True)
     return {os.path.relpath(it, folder) for it in found if os.path.isfile(it)} - {"Cargo.lock"}
 
 
 def is_as_made(made, folder):
-    """Whether what lies in rust/bekstaudi is what rust/make writes."""
-    made.edition(folder)
-    kept = f"{TOP}/rust/bekstaudi"
-    names = files(folder) | {it for it in files(kept) if not it.startswith("target")}
-    _, other, missing = filecmp.cmpfiles(folder, kept, names, shallow=False)
-    for name in sorted(other + missing):
-        print(f"rust/bekstaudi/{name} is not what rust/make writes")
-    return not other and not missing
+    """Whether the packages in rust/ are what rust/make writes."""
+    made.packages(folder)
+    failed = []
+    for package in os.listdir(folder):
+        new, kept = f"{folder}/{package}", f"{TOP}/rust/{package}"
+        names = files(new) | {it for it in files(kept) if not it.startswith("target")}
+        _, other, missing = filecmp.cmpfiles(new, kept, names, shallow=False)
+        failed += [f"{package}/{it}" for it in sorted(other + missing)]
+    for name in failed:
+        print(f"rust/{name} is not what rust/make writes")
+    return not failed
 
 
 def runs_all():

@@ -75,6 +75,26 @@ UNKNOWN = [
     "pub const fn unsafe_two(x: u8)\n    requires { x < 3 }\n{\n}\n",
     "use std::process::Abort;\n",
     "fn f() {\n    g(1, Global);\n}\n",
+    "use std::marker::{Copy, Brand, PhantomData};\n",
+    "use std::{marker::{Brand, PhantomData}};\n",
+    'pub extern "C" fn f(x: &[u8]) -> u8 {\n    x[0]\n}\n',
+    "#[unsafe(no_mangle)]\npub fn f(x: u8) -> u8 {\n    x\n}\n",
+]
+# Forms that it knows, and what they become.
+KNOWN = {
+    "use std::marker::{Brand, PhantomData};\n": "use core::marker::PhantomData;\nuse crate::support::Brand;\n",
+}
+# Changes of c/bekstaudi.h after which it no longer declares what icu_collections_c has.
+OTHER_HEADERS = [
+    ("bool bks_set_test(", "int bks_set_test("),
+    ("bool bks_set_test(const uint32_t *ends, size_t count);", ""),
+    ("uint32_t width, void *bytes", "uint16_t width, void *bytes"),
+    ("uint64_t bks_trie_bound(size_t count, ", "uint64_t bks_trie_bound("),
+    ("bks_cursor *cursor, uint16_t unit", "const bks_cursor *cursor, uint16_t unit"),
+    ("uint16_t index3_null_offset;\n    uint16_t shifted12_high_start;",
+     "uint16_t shifted12_high_start;\n    uint16_t index3_null_offset;"),
+    ("    size_t start;\n    size_t size;", "    uint32_t start;\n    size_t size;"),
+    ("} bks_word;", "    int32_t other;\n} bks_word;"),
 ]
 # What each source of them sees.
 TEST_NAMES = "#[allow(unused_imports)]\nuse crate::runtime::*;\n"

@@ -1,0 +1,93 @@
+"""Writes the programs for cargo, rust/ucptab and rust/ucptrie, over the library rust/bekstaudi."""
+import glob
+import os
+import re
+import shutil
+
+from files import read, write
+
+HERE = os.path.dirname(os.path.realpath(__file__))
+# The programs, and the crates of each.
+PROGRAMS = {
+    "ucptab": ["ucptab", "ucptab_table"],
+    "ucptrie": ["ucptrie", "ucptrie_tables", "ucptab_table"],
+}
+# The paths in the proved sources, and the public modules of bekstaudi that have the same names.
+PUBLIC = {
+    r"icu_zerovec": "zerovec",
+    r"icu_trie_formats": "codepointtrie",
+    r"icu_trie_binary::binary": "codepointtrie::binary",
+    r"icu_trie(?:_core)?::(?:cptrie|header|map_value|range|value)": "codepointtrie",
+    r"icu_trie_builder(?:::(?:error|writes))?": "codepointtrie",
+}
+RULES = [
+    (r"\bicu_trie_core::cells::Steps\b", "crate::host::Steps"),
+    *((rf"\b{path}(?=::)", f"bekstaudi::{module}") for path, module in PUBLIC.items()),
+    (r"\bfn main\(", "pub(crate) fn main("),
+    (r"\buse std::str;\n", ""),
+    (r"\buse std::\{error, fmt\};", "use core::{error, fmt};"),
+    (r"\buse std::\{env, fs, io\};", "use crate::host::{env, fs, io};"),
+    (r"\bstd::(env|fs|io|process|collections::BTreeSet)\b", lambda it: f"crate::host::{it[1].split('::')[-1]}"),
+    (r"\bstd::marker::Brand\b", "crate::support::Brand"),
+    (r"\beprintln!\(rt; ", "writeln!(io::stderr(), "),
+    # anyhow, clap, serde_json and toml.
+    (r"\buse anyhow::", "use crate::context::"),
+    (r"\buse clap::builder::ValueParser;", "use crate::formats::ValueParser;"),
+    (r"\buse clap::error::ErrorKind;\n", ""),
+    (r"\b(ArgMatches|Arg|Command)<'\w+>", r"\1"),
+    (r"\bValue::from_str\(alloc, ", "serde_json::from_str::<Value>("),
+    (r"\btoml::table_from_str\(alloc, ", "crate::formats::table_from_str("),
+    (r"\btoml::Table\b", "toml::value::Table"),
+    (r"\btoml::de::Error\b", "crate::formats::TomlError"),
+]
+# What one source has in another form here, and how often.
+EDITS = {
+    "ucptrie/main": [
+        (r"\bfn form<'a>(\(matches: &ArgMatches\) -> Result<Form)<'a>", r"fn form\1<'_>", 1),
+        (r"matches\.get_str\((\x02\d+\x03|id)\)", r"matches.get_one::<String>(\1).map(String::as_str)", 6),
+        (r"matches\.get_one\((\x02\d+\x03)\)", r"matches.get_one::<u32>(\1).copied()", 2),
+        (r"matches\.get_strs(\(\x02\d+\x03\))\.unwrap_or\(&\[\]\)", r"matches.get_many::<String>\1.into_iter().flatten()", 1),
+        # clap ends the program if an allocation fails.
+        (r"use crate::support::AllocError;\n", "", 1),
+        (r"(?s)    if matches!\(error\.kind\(\), ErrorKind::OutOfMemory\) \{.*?\n    \}\n", "", 1),
+        (r"fn not_taken\(rt: &HostRuntime, ", "fn not_taken(", 1),
+        (r"not_taken\(rt, ", "not_taken(", 1),
+        (r"error\.print\(rt\)", "error.print()", 1),
+        (r"error\.exit_code\(\) as u8", "if error.use_stderr() { 2 } else { 0 }", 1),
+    ],
+    "ucptrie/words": [
+        (r"(name|about): &'a str", r"\1: &'static str", 2),
+        (r"(\.arg\(arg_of\(row\)\))\?", r"\1", 1),
+        (r"(\.subcommand\(command_of\(.*\)\?\))\?", r"\1", 1),
+        (r"(fn \w+)<'a>", r"\1", 5),
+    ],
+    "ucptrie_tables/fault": [
+        (r"(?s)        if error\.is_memory\(\) \{.*?\n        \}\n", "", 1),
+        (r"(#\[derive\()Clone, Copy, (Debug, PartialEq, Eq\)\]\npub struct TomlFault)", r"\1Clone, \2", 1),
+        (r"(?s)\btext: &str, (error: \S+\) -> TomlFault \{\n).*?\n( +TomlFault \{ line)", r"\1\2: error.line", 1),
+        (r"self\.error\.message\(\)", "&self.error.message", 1),
+    ],
+    "ucptrie_tables/read": [
+        (r"\n *Err\(error\) if error\.is_memory\(\) => [^\n]*", "", 1),
+        (r"TomlFault::new\(text, error\)", "TomlFault::new(error)", 1),
+    ],
+    # serde_json ends the program if an allocation fails.
+    "ucptrie_tables/written": [(r"\.to_string\(\)\?", ".to_string()", 1), (r"text\.try_push(\(\x02\d+\x03\))\?", r"text.push\1", 1)],
+}
+NAMES = "#[allow(unused_imports)]\nuse crate::host::{HostRuntime, Text};\n"
+
+
+def programs(folder, make):
+    """Writes the packages beside the library's. `make` writes the modules of crates."""
+    for name, crates in PROGRAMS.items():
+        package = f"{folder}/{name}"
+        shutil.rmtree(f"{package}/src", ignore_errors=True)
+        shutil.copytree(f"{HERE}/programs/{name}", package, dirs_exist_ok=True)
+        shutil.copytree(f"{HERE}/support", f"{package}/src/support")
+        shutil.copy(f"{HERE}/programs/host.rs", f"{package}/src")
+        make(package, crates, RULES, EDITS)
+        for crate in crates:
+            for path in glob.glob(f"{package}/src/{crate}/*.rs"):
+                text = read(path)
+                place = re.match(r"(?://!.*\n)*\n*", text).end()
+                write(path, text[:place] + NAMES + text[place:])

@@ -1,0 +1,177 @@
+//! What the programs use of Rattle's std that Rust's std has in another form: the runtime that is
+//! passed around, words, files and streams, and texts whose growth may fail.
+#![allow(dead_code)]
+
+use crate::support::{AllocError, AllocFailed, BTreeMap, Blank, Ledger};
+use core::borrow::Borrow;
+use core::fmt;
+use core::marker::PhantomData;
+
+/// The runtime of a program.
+pub struct HostRuntime;
+
+impl HostRuntime {
+    /// Returns the standard input.
+    pub fn stdin(&self) -> std::io::Stdin {
+        std::io::stdin()
+    }
+
+    /// Returns the standard output, which is not buffered.
+    pub fn stdout(&self) -> Stdout {
+        Stdout
+    }
+}
+
+/// The standard output. Each write reports its own failure.
+pub struct Stdout;
+
+#[cfg(unix)]
+impl std::io::Write for Stdout {
+    fn write(&mut self, bytes: &[u8]) -> std::io::Result<usize> {
+        use std::os::fd::AsFd;
+        // Not through std's own buffer, which would write again at the end what failed before.
+        std::fs::File::from(std::io::stdout().as_fd().try_clone_to_owned()?).write(bytes)
+    }
+
+    fn flush(&mut self) -> std::io::Result<()> {
+        Ok(())
+    }
+}
+
+#[cfg(not(unix))]
+impl std::io::Write for Stdout {
+    fn write(&mut self, bytes: &[u8]) -> std::io::Result<usize> {
+        let mut stdout = std::io::stdout().lock();
+        stdout.write_all(bytes)?;
+        stdout.flush()?;
+        Ok(bytes.len())
+    }
+
+    fn flush(&mut self) -> std::io::Result<()> {
+        Ok(())
+    }
+}
+
+/// The words of the command line.
+pub mod env {
+    use super::{AllocError, HostRuntime};
+    use std::io;
+
+    /// Words of the command line.
+    pub struct Args(std::vec::IntoIter<String>);
+
+    impl Args {
+        /// Returns the words after the first `count`.
+        pub fn skip(mut self, count: usize) -> Args {
+            for _ in 0..count {
+                self.0.next();
+            }
+            self
+        }
+
+        /// Returns the words.
+        pub fn collect(self) -> Result<Vec<String>, AllocError> {
+            Ok(self.0.collect())
+        }
+    }
+
+    /// Returns the words, the name of the program first.
+    ///
+    /// # Errors
+    /// Returns an error of the kind `InvalidData` if a word is not UTF-8.
+    pub fn args(_: &HostRuntime) -> io::Result<Args> {
+        let words: Result<Vec<_>, _> = std::env::args_os().map(|it| it.into_string()).collect();
+        match words {
+            Ok(words) => Ok(Args(words.into_iter())),
+            Err(_) => Err(io::Error::new(io::ErrorKind::InvalidData, "a word is not UTF-8")),
+        }
+    }
+}
+
+/// Files.
+pub mod fs {
+    use super::HostRuntime;
+
+    /// Returns the bytes of a file.
+    pub fn read(_: &HostRuntime, path: &str) -> std::io::Result<Vec<u8>> {
+        std::fs::read(path)
+    }
+}
+
+#[allow(unused_imports)]
+pub use std::{io, process};
+
+impl From<AllocError> for io::Error {
+    fn from(_: AllocError) -> io::Error {
+        io::ErrorKind::OutOfMemory.into()
+    }
+}
+
+impl<T> From<AllocFailed<T>> for io::Error {
+    fn from(_: AllocFailed<T>) -> io::Error {
+        io::ErrorKind::OutOfMemory.into()
+    }
+}
+
+/// A text to which `write!` appends, if allocation succeeds.
+pub trait Text {
+    fn write_fmt(&mut self, arguments: fmt::Arguments<'_>) -> Result<(), AllocError>;
+}
+
+impl Text for String {
+    fn write_fmt(&mut self, arguments: fmt::Arguments<'_>) -> Result<(), AllocError> {
+        fmt::write(&mut Growing(self), arguments).map_err(|_| AllocError)
+    }
+}
+
+/// A text as Rust's formatter writes to it.
+struct Growing<'a>(&'a mut String);
+
+impl fmt::Write for Growing<'_> {
+    fn write_str(&mut self, text: &str) -> fmt::Result {
+        self.0.try_reserve(text.len()).map_err(|_| fmt::Error)?;
+        self.0.push_str(text);
+        Ok(())
+    }
+}
+
+/// A set of keys.
+pub struct BTreeSet<K>(BTreeMap<K, ()>);
+
+impl<K: Ord> BTreeSet<K> {
+    /// Returns the empty set.
+    pub fn new() -> Self {
+        BTreeSet(BTreeMap::new())
+    }
+
+    /// Adds a key.
+    pub fn try_insert(&mut self, key: K) -> Result<(), AllocError> {
+        self.0.try_insert(key, ()).map(|_| ())
+    }
+
+    /// Returns whether the set contains the key.
+    pub fn contains<Q: Ord + ?Sized>(&self, key: &Q) -> bool
+    where
+        K: Borrow<Q>,
+    {
+        self.0.contains_key(key)
+    }
+
+    /// Returns the number of keys.
+    pub fn len(&self) -> usize {
+        self.0.len()
+    }
+}
+
+/// A count of steps, which exists in proofs only.
+pub struct Steps<L>(PhantomData<L>);
+
+impl<L: Ledger> Steps<L> {
+    /// Returns a count.
+    pub fn new(_: Blank) -> Steps<L> {
+        Steps(PhantomData)
+    }
+
+    /// Counts nothing.
+    pub fn tick(&mut self) {}
+}

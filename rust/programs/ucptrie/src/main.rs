@@ -1,0 +1,21 @@
+//! The program ucptrie: crates/ucptrie, crates/ucptrie_tables and crates/ucptab_table without their
+//! proofs, over `bekstaudi`, `clap`, `serde_json` and `toml`.
+#![forbid(unsafe_code)]
+
+extern crate alloc;
+
+mod context;
+mod formats;
+mod host;
+#[allow(dead_code, unused_imports, unused_macros)]
+mod support;
+#[allow(dead_code, unused_variables)]
+mod ucptab_table;
+#[allow(unused_variables)]
+mod ucptrie;
+#[allow(dead_code, unused_variables)]
+mod ucptrie_tables;
+
+fn main() -> std::process::ExitCode {
+    ucptrie::main(host::HostRuntime)
+}

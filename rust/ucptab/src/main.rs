@@ -1,0 +1,15 @@
+//! The program ucptab: crates/ucptab and crates/ucptab_table without their proofs, over `bekstaudi`.
+#![forbid(unsafe_code)]
+
+extern crate alloc;
+
+mod host;
+#[allow(dead_code, unused_imports, unused_macros)]
+mod support;
+mod ucptab;
+#[allow(dead_code, unused_variables)]
+mod ucptab_table;
+
+fn main() -> std::process::ExitCode {
+    ucptab::main(host::HostRuntime)
+}

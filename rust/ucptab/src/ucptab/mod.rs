@@ -1,0 +1,90 @@
+//! Prints what a code point trie answers, made from the rows that standard input holds.
+
+#[allow(unused_imports)]
+use crate::host::{HostRuntime, Text};
+#[allow(unused_imports)]
+use crate::support::prelude::*;
+use crate::host::Steps;
+use crate::host::env;
+use crate::host::io::{ErrorKind, Read, Write};
+use crate::support::Brand;
+use crate::host::process::ExitCode;
+use crate::support::{Blank, Ledger};
+use crate::ucptab_table::fault::TableError;
+use crate::ucptab_table::streams::{Failed, Sink, Source};
+use crate::ucptab_table::text::write_fault;
+use crate::ucptab_table::{run_words, write_usage};
+
+/// A reader, with a count of its failures.
+struct Input<R: Read, L: Ledger> {
+    reader: R,
+    failures: Steps<L>,
+}
+
+impl<R: Read, L: Ledger> Source for Input<R, L> {
+    fn read(&mut self, buf: &mut [u8]) -> Result<usize, Failed> {
+        match self.reader.read(buf) {
+            Ok(n) => Ok(n),
+            Err(_) => {
+                self.failures.tick();
+                Err(Failed)
+            }
+        }
+    }
+}
+
+/// A writer, with a count of its failures.
+struct Output<W: Write, L: Ledger> {
+    writer: W,
+    failures: Steps<L>,
+}
+
+impl<W: Write, L: Ledger> Sink for Output<W, L> {
+    fn write(&mut self, buf: &[u8]) -> Result<(), Failed> {
+        match self.writer.write_all(buf) {
+            Ok(()) => Ok(()),
+            Err(_) => {
+                self.failures.tick();
+                Err(Failed)
+            }
+        }
+    }
+}
+
+/// Says why there are no words, and answers the status: by the line of refused memory, or the usage
+/// line where a word is no text.
+fn without_words<W: Sink>(writer: &mut W, why: ErrorKind) -> u8 {
+    if why != ErrorKind::OutOfMemory {
+        write_usage(writer);
+        return 2;
+    }
+    let _ = write_fault(writer, TableError::Memory);
+    1
+}
+
+/// Runs the program over standard input and output, with a ledger for the failures of each.
+/// It answers the status.
+fn status<L: Ledger, K: Ledger>(rt: &HostRuntime, reads: Blank, writes: Blank) -> u8 {
+    let mut reader = Input {
+        reader: rt.stdin(),
+        failures: Steps::<L>::new(reads),
+    };
+    let mut writer = Output {
+        writer: rt.stdout(),
+        failures: Steps::<K>::new(writes),
+    };
+    let args = match env::args(rt) {
+        Ok(args) => args,
+        Err(error) => return without_words(&mut writer, error.kind()),
+    };
+    let Ok(words) = args.skip(1).collect() else {
+        let _ = write_fault(&mut writer, TableError::Memory);
+        return 1;
+    };
+    let words: Vec<String> = words;
+    run_words(&words, &mut reader, &mut writer)
+}
+
+pub(crate) fn main(rt: HostRuntime) -> ExitCode {
+    ExitCode::from(status::<Brand, Brand>(&rt, Blank::new(1), Blank::new(1)))
+}

@@ -1,0 +1,26 @@
+//! What Rattle's std has and Rust's has not: vectors, texts and maps that answer want of memory.
+
+pub(crate) mod cells;
+mod ledger;
+mod maps;
+pub(crate) mod memory;
+
+pub(crate) use ledger::{Blank, Book, Brand, Ledger, Share};
+pub use maps::{BTreeMap, HashMap};
+pub use memory::{AllocError, AllocFailed};
+
+/// A JSON value. For its objects serde_json asks for memory, and ends the program where it is
+/// refused.
+#[cfg(feature = "json")]
+macro_rules! try_json {
+    ($($part:tt)*) => { Ok::<serde_json::Value, crate::support::AllocError>(serde_json::json!($($part)*)) };
+}
+#[cfg(feature = "json")]
+pub(crate) use try_json;
+
+/// What each module of the proved source sees.
+pub(crate) mod prelude {
+    pub(crate) use super::memory::{TryString, TryVec, try_vec};
+    pub(crate) use alloc::string::String;
+    pub(crate) use alloc::vec::Vec;
+}

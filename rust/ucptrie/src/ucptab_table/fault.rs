@@ -1,0 +1,85 @@
+//! Why a table can't be answered, and the line that says so.
+
+#[allow(unused_imports)]
+use crate::host::{HostRuntime, Text};
+use bekstaudi::codepointtrie::BuildError;
+use crate::support::AllocError;
+use core::error::Error;
+use core::fmt;
+
+/// What is wrong with a row. Rows are tested in this order.
+#[derive(Clone, Copy, Debug, PartialEq, Eq)]
+pub enum RowFault {
+    /// The line has neither the form `HEX;N` nor the form `HEX..HEX;N`.
+    NotARow,
+    /// A code point is above 10FFFF.
+    CodePoint,
+    /// The end of the range is below its start.
+    Reversed,
+    /// The value is above 4294967295.
+    Value,
+}
+
+impl RowFault {
+    /// What is wrong, in words.
+    pub fn text(self) -> &'static str {
+        match self {
+            RowFault::NotARow => "not a row",
+            RowFault::CodePoint => "code point too large",
+            RowFault::Reversed => "range reversed",
+            RowFault::Value => "value too large",
+        }
+    }
+}
+
+impl fmt::Display for RowFault {
+    fn fmt(&self, f: &mut fmt::Formatter<'_>) -> fmt::Result {
+        f.write_str(self.text())
+    }
+}
+
+impl Error for RowFault {}
+
+/// Why a table can't be answered.
+#[derive(Clone, Copy, Debug, PartialEq, Eq)]
+pub enum TableError {
+    /// The first line, counted from 1, that is no row, and what is wrong with it.
+    Row(u64, RowFault),
+    /// The map is too large for a trie.
+    TooLarge,
+    /// Memory was refused.
+    Memory,
+    /// The input can't be read.
+    Read,
+    /// The output can't be written.
+    Write,
+}
+
+impl fmt::Display for TableError {
+    fn fmt(&self, f: &mut fmt::Formatter<'_>) -> fmt::Result {
+        match self {
+            TableError::Row(number, fault) => write!(f, "line {number}: {fault}"),
+            TableError::TooLarge => f.write_str("too large"),
+            TableError::Memory => f.write_str("no memory"),
+            TableError::Read => f.write_str("read fault"),
+            TableError::Write => f.write_str("write fault"),
+        }
+    }
+}
+
+impl Error for TableError {}
+
+impl From<BuildError> for TableError {
+    fn from(error: BuildError) -> TableError {
+        match error {
+            BuildError::TooLarge => TableError::TooLarge,
+            BuildError::Memory => TableError::Memory,
+        }
+    }
+}
+
+impl From<AllocError> for TableError {
+    fn from(_e: AllocError) -> TableError {
+        TableError::Memory
+    }
+}

@@ -1,0 +1,72 @@
+//! Reads the table: its bytes, then its lines, then the rows.
+
+#[allow(unused_imports)]
+use crate::host::{HostRuntime, Text};
+#[allow(unused_imports)]
+use crate::support::prelude::*;
+use crate::ucptab_table::fault::TableError;
+use crate::ucptab_table::rows::{position_or_len, row_of};
+use crate::ucptab_table::streams::{Failed, Source};
+use bekstaudi::codepointtrie::Write;
+
+/// All bytes that are left. `Read` where a read failed, and `Memory` where they found no room.
+pub fn read_all<S: Source>(reader: &mut S) -> Result<Vec<u8>, TableError> {
+    let mut all = Vec::new();
+    let mut buf = [0u8; 4096];
+    for turn in 0..u64::MAX {
+        let n = match reader.read(&mut buf) {
+            Ok(n) => n,
+            Err(Failed) => return Err(TableError::Read),
+        };
+        if n == 0 {
+            return Ok(all);
+        }
+        if all.try_extend_from_slice(&buf[..n]).is_err() {
+            return Err(TableError::Memory);
+        }
+    }
+    // Each turn adds a byte, and a `Vec` has fewer than there are turns.
+    unreachable!()
+}
+
+/// The line without the one carriage return at its end, if it has one.
+fn strip_carriage_return(line: &[u8]) -> &[u8] {
+    match line {
+        [front @ .., b'\r'] => front,
+        _ => line,
+    }
+}
+
+/// The first line, and what is after its LF. `None` where there is no line.
+fn first_line(input: &[u8]) -> Option<(&[u8], &[u8])> {
+    let place = position_or_len(b'\n', input);
+    if place < input.len() {
+        return Some((strip_carriage_return(&input[..place]), &input[place + 1..]));
+    }
+    if input.is_empty() {
+        return None;
+    }
+    Some((input, &[]))
+}
+
+/// The writes of all rows of the table, in order. `Row` with the first line that has a fault,
+/// counted from 1, and `Memory` where the writes found no room.
+pub fn read_rows(input: &[u8]) -> Result<Vec<Write<u32>>, TableError> {
+    let mut writes = Vec::new();
+    let mut number = 0u64;
+    let mut rest = input;
+    while let Some((line, after)) = first_line(rest) {
+        number += 1;
+        rest = after;
+        match row_of(line) {
+            Ok(None) => {}
+            Ok(Some(write)) => {
+                if writes.try_push(write).is_err() {
+                    return Err(TableError::Memory);
+                }
+            }
+            Err(fault) => return Err(TableError::Row(number, fault)),
+        }
+    }
+    Ok(writes)
+}

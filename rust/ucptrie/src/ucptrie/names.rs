@@ -1,0 +1,32 @@
+//! Names in source.
+#[allow(unused_imports)]
+use crate::host::{HostRuntime, Text};
+use crate::ucptrie::refused;
+use crate::context::Result;
+use crate::ucptrie_tables::source::is_name;
+
+/// What names no module in Rust: its keywords, also those that it keeps for later, and `_`.
+const KEPT_BY_RUST: [&str; 53] = [
+    "_", "abstract", "as", "async", "await", "become", "box", "break", "const", "continue",
+    "crate", "do", "dyn", "else", "enum", "extern", "false", "final", "fn", "for", "gen", "if",
+    "impl", "in", "let", "loop", "macro", "match", "mod", "move", "mut", "override", "priv", "pub",
+    "ref", "return", "self", "Self", "static", "struct", "super", "trait", "true", "try", "type",
+    "typeof", "unsafe", "unsized", "use", "virtual", "where", "while", "yield",
+];
+
+/// The word, where it can stand in front of each name in source.
+pub fn name_of(word: &str) -> Result<&str> {
+    if !is_name(word) {
+        let why = "no name of letters, digits and _ that begins with no digit";
+        return Err(refused(word, why));
+    }
+    Ok(word)
+}
+
+/// The name, where it can be that of a module in Rust.
+pub fn module_name(name: &str) -> Result<&str> {
+    if KEPT_BY_RUST.iter().any(|kept| *kept == name) {
+        return Err(refused(name, "a word that Rust keeps for itself"));
+    }
+    Ok(name)
+}

@@ -1,0 +1,211 @@
+//! The words that the program takes.
+#[allow(unused_imports)]
+use crate::host::{HostRuntime, Text};
+#[allow(unused_imports)]
+use crate::support::prelude::*;
+use crate::formats::ValueParser;
+use clap::{Arg, Command};
+use crate::support::{AllocError};
+
+/// Where an argument stands.
+#[derive(Clone, Copy)]
+enum Place {
+    /// `--id VALUE`, anywhere.
+    Option,
+    /// One word, by its place.
+    Word,
+    /// This word and all that follow.
+    Words,
+}
+
+/// What a command takes: one argument.
+#[derive(Clone, Copy)]
+struct Argument {
+    id: &'static str,
+    place: Place,
+    required: bool,
+    /// What help calls the value: nothing for the id itself.
+    value_name: &'static [&'static str],
+    /// What a value has to be.
+    values: ValueParser<'static>,
+    /// The value where the argument is left out, if it has one.
+    default: &'static [&'static str],
+    help: &'static str,
+}
+
+/// An option that takes any value, and may be left out.
+const OPTION: Argument = Argument {
+    id: "",
+    place: Place::Option,
+    required: false,
+    value_name: &[],
+    values: ValueParser::String,
+    default: &[],
+    help: "",
+};
+
+/// An option that takes a value of 32 bits, as `value_parser!(u32)` tests it, and is 0 where it is
+/// left out.
+const NUMBER: Argument = Argument {
+    value_name: &["N"],
+    values: ValueParser::Signed(0, 0xffffffff),
+    default: &["0"],
+    ..OPTION
+};
+
+/// The name of a file.
+const FILE: Argument = Argument {
+    id: "file",
+    place: Place::Word,
+    required: true,
+    value_name: &["FILE"],
+    help: "A table in ICU's binary form, in JSON or in TOML; - for standard input",
+    ..OPTION
+};
+
+/// The form in which a table is written.
+const FORM: Argument = Argument {
+    id: "as",
+    values: ValueParser::Names(&["icu", "toml", "json", "c", "rust", "rows"]),
+    required: true,
+    help: "The form that is written",
+    ..OPTION
+};
+
+/// What stands in front of each name in source.
+const NAME: Argument = Argument {
+    id: "name",
+    default: &["table"],
+    help: "The name in C and Rust",
+    ..OPTION
+};
+
+/// What rows become.
+const BUILD: [Argument; 6] = [
+    Argument {
+        id: "type",
+        values: ValueParser::Names(&["fast", "small"]),
+        default: &["fast"],
+        help: "Two reads below 10000, or a smaller trie",
+        ..OPTION
+    },
+    Argument {
+        id: "width",
+        values: ValueParser::Names(&["8", "16", "32"]),
+        default: &["32"],
+        help: "How many bits a value has",
+        ..OPTION
+    },
+    Argument {
+        id: "default",
+        help: "The value of a code point in no row",
+        ..NUMBER
+    },
+    Argument {
+        id: "error",
+        help: "The value above 10FFFF",
+        ..NUMBER
+    },
+    FORM,
+    NAME,
+];
+
+/// A table, and what it becomes.
+const CONVERT: [Argument; 3] = [FILE, FORM, NAME];
+
+/// A table, and the numbers that it is asked.
+const GET: [Argument; 2] = [
+    FILE,
+    Argument {
+        id: "asked",
+        place: Place::Words,
+        value_name: &["HEX"],
+        help: "Numbers of 1 to 8 hexadecimal digits",
+        ..FILE
+    },
+];
+
+/// Two tables.
+const DIFF: [Argument; 2] = [
+    Argument {
+        id: "first",
+        ..FILE
+    },
+    Argument {
+        id: "second",
+        ..FILE
+    },
+];
+
+/// The commands: the name of each, what it does, and what it takes.
+const COMMANDS: [(&str, &str, &[Argument]); 5] = [
+    (
+        "build",
+        "Writes the table of rows, HEX;N or HEX..HEX;N a line of standard input",
+        &BUILD,
+    ),
+    (
+        "convert",
+        "Writes a table in another form to standard output",
+        &CONVERT,
+    ),
+    (
+        "show",
+        "Prints the header of a table, its sizes and its ranges",
+        &[FILE],
+    ),
+    ("get", "Prints the value of each number in a table", &GET),
+    (
+        "diff",
+        "Prints the ranges in which two tables differ, with the value of each",
+        &DIFF,
+    ),
+];
+
+/// The argument's values: how many, what they are called, and what stands for none.
+fn with_values(argument: Arg, row: &Argument) -> Arg {
+    argument
+        .value_names(row.value_name)
+        .value_parser(row.values)
+        .default_values(row.default)
+}
+
+/// The argument by its place among the words.
+fn placed(argument: Arg, row: &Argument) -> Arg {
+    match row.place {
+        Place::Option => argument.long(row.id),
+        Place::Word => argument,
+        Place::Words => argument.num_args(1..),
+    }
+}
+
+/// The argument, as clap takes it.
+fn arg_of(row: &Argument) -> Arg {
+    let argument = Arg::new(row.id)
+        .required(row.required)
+        .help(row.help);
+    placed(with_values(argument, row), row)
+}
+
+/// A command that takes these arguments.
+fn command_of(
+    name: &'static str,
+    about: &'static str,
+    arguments: &[Argument],
+) -> Result<Command, AllocError> {
+    let mut command = Command::new(name).about(about);
+    for row in arguments {
+        command = command.arg(arg_of(row));
+    }
+    Ok(command)
+}
+
+/// The program's words.
+pub fn program_words() -> Result<Command, AllocError> {
+    let about = "Makes code point tries of tables of rows, and reads them";
+    let mut program = command_of("ucptrie", about, &[])?.subcommand_required(true);
+    for (name, about, arguments) in COMMANDS {
+        program = program.subcommand(command_of(name, about, arguments)?);
+    }
+    Ok(program)
+}

@@ -1,0 +1,173 @@
+//! Why a table can't be made of rows, written or read.
+
+#[allow(unused_imports)]
+use crate::host::{HostRuntime, Text};
+use crate::ucptrie_tables::width::ValueWidth;
+use bekstaudi::codepointtrie::binary::{BinaryError, SwappedError, WriteError};
+use bekstaudi::codepointtrie::BuildError;
+use bekstaudi::codepointtrie::json::TrieJsonError;
+use bekstaudi::codepointtrie::trie_toml::{TomlError, TrieFromTomlError};
+use bekstaudi::zerovec::MemoryError;
+use crate::support::AllocError;
+use core::{error, fmt};
+use crate::ucptab_table::fault::TableError;
+
+/// Why rows make no table, or a table is not written.
+#[derive(Clone, Copy, Debug, PartialEq, Eq)]
+pub enum BuildFault {
+    /// A row is at fault, the map is too large for a trie, or memory was refused.
+    Table(TableError),
+    /// This value has more bits than are asked for.
+    Width(u32, ValueWidth),
+    /// ICU's binary form has no room for the trie.
+    Binary(WriteError),
+}
+
+impl From<TableError> for BuildFault {
+    fn from(fault: TableError) -> BuildFault {
+        BuildFault::Table(fault)
+    }
+}
+
+impl From<BuildError> for BuildFault {
+    fn from(error: BuildError) -> BuildFault {
+        BuildFault::Table(TableError::from(error))
+    }
+}
+
+impl From<WriteError> for BuildFault {
+    fn from(error: WriteError) -> BuildFault {
+        match error {
+            WriteError::Memory => BuildFault::Table(TableError::Memory),
+            _ => BuildFault::Binary(error),
+        }
+    }
+}
+
+impl From<AllocError> for BuildFault {
+    fn from(_error: AllocError) -> BuildFault {
+        BuildFault::Table(TableError::Memory)
+    }
+}
+
+impl From<MemoryError> for BuildFault {
+    fn from(_error: MemoryError) -> BuildFault {
+        BuildFault::Table(TableError::Memory)
+    }
+}
+
+/// Why a text is no TOML, and in which line, counted from 1.
+#[derive(Clone, Debug, PartialEq, Eq)]
+pub struct TomlFault {
+    line: usize,
+    error: crate::formats::TomlError,
+}
+
+impl TomlFault {
+    /// The fault of a text.
+    pub(crate) fn new(error: crate::formats::TomlError) -> TomlFault {
+        TomlFault { line: error.line, error }
+    }
+}
+
+/// In one line.
+impl fmt::Display for TomlFault {
+    fn fmt(&self, f: &mut fmt::Formatter<'_>) -> fmt::Result {
+        let (line, message) = (self.line, &self.error.message);
+        write!(f, "line {line}: {message}")
+    }
+}
+
+impl error::Error for TomlFault {}
+
+/// Why a file has no table.
+#[derive(Debug)]
+pub enum ReadFault {
+    /// It begins as a trie in ICU's binary form, and is none.
+    Binary(BinaryError),
+    /// It is no text in UTF-8.
+    Text,
+    /// It begins as JSON, and is none.
+    Json(serde_json::Error),
+    /// Its JSON is no trie.
+    TrieJson(TrieJsonError),
+    /// It is no TOML, nor any of the other forms.
+    Toml(TomlFault),
+    /// Its TOML is no trie.
+    TrieToml(TrieFromTomlError),
+    /// Memory was refused.
+    Memory,
+}
+
+impl From<BinaryError> for ReadFault {
+    fn from(error: BinaryError) -> ReadFault {
+        ReadFault::Binary(error)
+    }
+}
+
+impl From<SwappedError> for ReadFault {
+    fn from(error: SwappedError) -> ReadFault {
+        match error {
+            SwappedError::Binary(error) => ReadFault::Binary(error),
+            SwappedError::Memory => ReadFault::Memory,
+        }
+    }
+}
+
+impl From<serde_json::Error> for ReadFault {
+    fn from(error: serde_json::Error) -> ReadFault {
+        ReadFault::Json(error)
+    }
+}
+
+impl From<TrieJsonError> for ReadFault {
+    fn from(error: TrieJsonError) -> ReadFault {
+        match error {
+            TrieJsonError::Memory => ReadFault::Memory,
+            _ => ReadFault::TrieJson(error),
+        }
+    }
+}
+
+impl From<TomlError> for ReadFault {
+    fn from(error: TomlError) -> ReadFault {
+        ReadFault::from(TrieFromTomlError::from(error))
+    }
+}
+
+impl From<TrieFromTomlError> for ReadFault {
+    fn from(error: TrieFromTomlError) -> ReadFault {
+        match error {
+            TrieFromTomlError::Memory => ReadFault::Memory,
+            _ => ReadFault::TrieToml(error),
+        }
+    }
+}
+
+impl core::fmt::Display for BuildFault {
+    fn fmt(&self, f: &mut core::fmt::Formatter<'_>) -> core::fmt::Result {
+        match self {
+            BuildFault::Table(_0) => write!(f, "{_0}"),
+            BuildFault::Width(_0, _1) => write!(f, "value {_0} has more than {_1}"),
+            BuildFault::Binary(_0) => write!(f, "{_0}"),
+        }
+    }
+}
+
+impl core::error::Error for BuildFault {}
+
+impl core::fmt::Display for ReadFault {
+    fn fmt(&self, f: &mut core::fmt::Formatter<'_>) -> core::fmt::Result {
+        match self {
+            ReadFault::Binary(_0) => write!(f, "{_0}"),
+            ReadFault::Text => write!(f, "neither a trie in the binary form nor a text in UTF-8"),
+            ReadFault::Json(_0) => write!(f, "{_0}"),
+            ReadFault::TrieJson(_0) => write!(f, "{_0}"),
+            ReadFault::Toml(_0) => write!(f, "no TOML: {_0}"),
+            ReadFault::TrieToml(_0) => write!(f, "{_0}"),
+            ReadFault::Memory => write!(f, "no memory"),
+        }
+    }
+}
+
+impl core::error::Error for ReadFault {}

@@ -1,0 +1,50 @@
+//! Texts with places for a name and for numbers.
+#[allow(unused_imports)]
+use crate::host::{HostRuntime, Text};
+#[allow(unused_imports)]
+use crate::support::prelude::*;
+use crate::support::AllocError;
+
+/// A number, and its digits.
+#[derive(Clone, Copy)]
+pub(crate) enum Number {
+    Decimal(usize),
+    /// Behind `0x`.
+    Hexadecimal(u32),
+}
+
+/// Appends a number.
+pub(crate) fn push_number(text: &mut String, number: Number) -> Result<(), AllocError> {
+    match number {
+        Number::Decimal(n) => write!(text, "{n}"),
+        Number::Hexadecimal(n) => write!(text, "{n:#x}"),
+    }
+}
+
+/// Appends a text in which each `@` stands for the name.
+pub(crate) fn push_named(text: &mut String, pattern: &str, name: &str) -> Result<(), AllocError> {
+    for (i, piece) in pattern.split('@').enumerate() {
+        if i > 0 {
+            text.try_push_str(name)?;
+        }
+        text.try_push_str(piece)?;
+    }
+    Ok(())
+}
+
+/// Appends a text in which each `@` stands for the name, and each `%` for the next number.
+pub(crate) fn push_pattern(
+    text: &mut String,
+    pattern: &str,
+    name: &str,
+    numbers: &[Number],
+) -> Result<(), AllocError> {
+    for (i, piece) in pattern.split('%').enumerate() {
+        if i > 0
+            && let Some(number) = numbers.get(i - 1) {
+            push_number(text, *number)?;
+        }
+        push_named(text, piece, name)?;
+    }
+    Ok(())
+}

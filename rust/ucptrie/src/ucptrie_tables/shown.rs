@@ -1,0 +1,89 @@
+//! What a table is, in lines.
+
+#[allow(unused_imports)]
+use crate::host::{HostRuntime, Text};
+#[allow(unused_imports)]
+use crate::support::prelude::*;
+use crate::ucptrie_tables::pattern::Number::{Decimal, Hexadecimal};
+use crate::ucptrie_tables::pattern::push_pattern;
+use crate::ucptrie_tables::sizes::bounds_of;
+use crate::ucptrie_tables::source::type_name;
+use crate::ucptrie_tables::table::Table;
+use crate::support::{AllocError};
+use crate::ucptab_table::text::{answers_text, ranges_text};
+
+/// What the header says.
+const HEADER: &str = "\
+# type: @
+# value width: % bits
+# high start: %
+# shifted12 high start: %
+# index3 null offset: %
+# data null offset: %
+# null value: %
+# error value: %
+";
+
+/// Appends what the header says.
+fn push_header(text: &mut String, table: &Table) -> Result<(), AllocError> {
+    let (header, _, _) = table.trie.parts();
+    let numbers = [
+        Decimal(table.width.bits() as usize),
+        Hexadecimal(header.high_start),
+        Hexadecimal(header.shifted12_high_start as u32),
+        Hexadecimal(header.index3_null_offset as u32),
+        Hexadecimal(header.data_null_offset),
+        Decimal(header.null_value as usize),
+        Decimal(table.trie.error_value() as usize),
+    ];
+    push_pattern(text, HEADER, type_name(header.trie_type), &numbers)
+}
+
+/// How many cells there are, and whether the header can be trusted.
+const CELLS: &str = "\
+# index cells: %, bound %
+# data cells: %, bound %
+# coherent: @
+";
+
+/// Appends how many cells the table has, each count with the bound on it, and whether the header
+/// can be trusted.
+fn push_cells(text: &mut String, table: &Table) -> Result<(), AllocError> {
+    let (_, index, values) = table.trie.parts();
+    let bounds = bounds_of(&table.trie)?;
+    let coherent = if table.trie.is_coherent() {
+        "yes"
+    } else {
+        "no"
+    };
+    let numbers = [
+        Decimal(index.len()),
+        Decimal(bounds.index),
+        Decimal(values.len()),
+        Decimal(bounds.data),
+    ];
+    push_pattern(text, CELLS, coherent, &numbers)
+}
+
+/// What the table is: the fields of its header, how many cells it has beside the bounds that a
+/// built trie of its values keeps, and whether its header can be trusted, each in a comment of
+/// `ucptab`'s form; and then its ranges, in rows of that form. So the whole text is a table again.
+///
+/// # Errors
+/// `AllocError` where memory was refused.
+pub fn shown(table: &Table) -> Result<String, AllocError> {
+    let mut text = String::new();
+    push_header(&mut text, table)?;
+    push_cells(&mut text, table)?;
+    let ranges = ranges_text(&table.trie)?;
+    text.try_push_str(&ranges)?;
+    Ok(text)
+}
+
+/// The lines of the asked numbers, in order, as `ucptab` prints them.
+///
+/// # Errors
+/// `AllocError` where memory was refused.
+pub fn answered(table: &Table, asked: &[u32]) -> Result<String, AllocError> {
+    answers_text(asked, |n| table.trie.get32(n))
+}

@@ -1,0 +1,73 @@
+//! How many cells a trie may have by its values: the bounds that a built one keeps.
+
+#[allow(unused_imports)]
+use crate::host::{HostRuntime, Text};
+#[allow(unused_imports)]
+use crate::support::prelude::*;
+use bekstaudi::codepointtrie::CodePointTrie;
+use bekstaudi::zerovec::CODE_POINT_LIMIT;
+use crate::support::{AllocError};
+use crate::host::BTreeSet;
+
+/// The most cells that a built trie of some values has.
+#[derive(Clone, Copy, Debug, PartialEq, Eq)]
+pub struct Bounds {
+    pub index: usize,
+    pub data: usize,
+}
+
+/// The value of each code point.
+fn values_of(trie: &CodePointTrie<'_, u32>) -> Result<Vec<u32>, AllocError> {
+    let mut values = Vec::with_room(CODE_POINT_LIMIT as usize)?;
+    for c in 0..CODE_POINT_LIMIT {
+        values.try_push(trie.get32(c))?;
+    }
+    Ok(values)
+}
+
+/// The lists of 16 neighbours in an aligned block of 64.
+fn windows_of(values: &[u32]) -> Result<BTreeSet<&[u32]>, AllocError> {
+    let mut windows = BTreeSet::new();
+    for block in values.chunks(64) {
+        for window in block.windows(16) {
+            windows.try_insert(window)?;
+        }
+    }
+    Ok(windows)
+}
+
+/// How many different aligned blocks of so many values there are beside those that are known.
+fn count_different(
+    values: &[u32],
+    size: usize,
+    known: &BTreeSet<&[u32]>,
+) -> Result<usize, AllocError> {
+    let mut blocks = BTreeSet::new();
+    for block in values.chunks(size) {
+        if !known.contains(block) {
+            blocks.try_insert(block)?;
+        }
+    }
+    Ok(blocks.len())
+}
+
+/// The bounds on the cells of a trie that is built of the values of this one, of its type, which
+/// count different aligned blocks: 64 cells of data for each of 64 code points below the fast
+/// limit, and 16 for each of 16 from there on that stands in none of these, and 160; 36 cells of
+/// index for each of 512 from the fast limit on, or 32 where that bound on the data is at most
+/// 0x10000, and 3,200.
+pub fn bounds_of(trie: &CodePointTrie<'_, u32>) -> Result<Bounds, AllocError> {
+    let (header, _, _) = trie.parts();
+    let values = values_of(trie)?;
+    let (fast, small) = values.split_at(header.trie_type.fast_limit() as usize);
+    let (none, windows) = (BTreeSet::new(), windows_of(fast)?);
+    let fast_cells = count_different(fast, 64, &none)?.saturating_mul(64);
+    let small_cells = count_different(small, 16, &windows)?.saturating_mul(16);
+    let data = fast_cells.saturating_add(small_cells).saturating_add(160);
+    let cells = if data <= 0x10000 { 32 } else { 36 };
+    let index = count_different(small, 512, &none)?.saturating_mul(cells);
+    Ok(Bounds {
+        index: index.saturating_add(3200),
+        data,
+    })
+}

@@ -1,0 +1,83 @@
+//! What the texts of a table have in common.
+#[allow(unused_imports)]
+use crate::host::{HostRuntime, Text};
+#[allow(unused_imports)]
+use crate::support::prelude::*;
+use crate::ucptrie_tables::pattern::Number::{self, Decimal, Hexadecimal};
+use crate::ucptrie_tables::pattern::push_pattern;
+use crate::ucptrie_tables::table::Table;
+use bekstaudi::codepointtrie::TrieType;
+use crate::support::AllocError;
+
+/// Whether a text can be a name in C and in Rust: ASCII letters, digits and `_`, and no digit in
+/// front. Words of either language are not looked for.
+pub fn is_name(text: &str) -> bool {
+    let Some(first) = text.bytes().next() else {
+        return false;
+    };
+    !first.is_ascii_digit()
+        && text
+            .bytes()
+            .all(|byte| byte.is_ascii_alphanumeric() || byte == b'_')
+}
+
+/// The name of a type, as `ucptab` takes it.
+pub(crate) fn type_name(trie_type: TrieType) -> &'static str {
+    match trie_type {
+        TrieType::Fast => "fast",
+        TrieType::Small => "small",
+    }
+}
+
+/// The number that ICU has for a type (UCPTRIE_TYPE_FAST, _SMALL).
+pub(crate) fn type_code(trie_type: TrieType) -> u8 {
+    match trie_type {
+        TrieType::Fast => 0,
+        TrieType::Small => 1,
+    }
+}
+
+/// What is added to `c >> 14` for the place of a code point's index-1 cell: behind the fast index,
+/// where a fast trie leaves out the four cells of the BMP.
+pub(crate) fn index1_offset(trie_type: TrieType) -> u32 {
+    match trie_type {
+        TrieType::Fast => 1024 - 4,
+        TrieType::Small => 64,
+    }
+}
+
+/// What the trie is, and its sizes.
+const SIZES: &str = "\
+// Made by ucptrie: a @ code point trie, with values of % bits.
+// Index: % cells, % bytes. Data: % cells, % bytes.
+";
+
+/// Appends a comment that says what the trie is, and its sizes.
+pub(crate) fn push_sizes(text: &mut String, table: &Table) -> Result<(), AllocError> {
+    let (header, index, values) = table.trie.parts();
+    let numbers = [
+        Decimal(table.width.bits() as usize),
+        Decimal(index.len()),
+        Decimal(index.as_bytes().len()),
+        Decimal(values.len()),
+        Decimal(values.len().saturating_mul(table.width.bytes())),
+    ];
+    push_pattern(text, SIZES, type_name(header.trie_type), &numbers)
+}
+
+/// The numbers of the header in the order of ICU's own struct, which TOML has too: lengths, where
+/// the high values begin, type and width, null blocks and the null value.
+pub(crate) fn header_numbers(table: &Table) -> [Number; 9] {
+    let (header, index, values) = table.trie.parts();
+    [
+        Decimal(index.len()),
+        Decimal(values.len()),
+        Hexadecimal(header.high_start),
+        Hexadecimal(header.shifted12_high_start as u32),
+        Decimal(type_code(header.trie_type) as usize),
+        Decimal(table.width.code() as usize),
+        Hexadecimal(header.index3_null_offset as u32),
+        Hexadecimal(header.data_null_offset),
+        Hexadecimal(header.null_value),
+    ]
+}

@@ -1,0 +1,61 @@
+//! A trie with the width of its values, and the one that rows make.
+
+#[allow(unused_imports)]
+use crate::host::{HostRuntime, Text};
+#[allow(unused_imports)]
+use crate::support::prelude::*;
+use crate::ucptrie_tables::fault::BuildFault;
+use crate::ucptrie_tables::width::ValueWidth;
+use bekstaudi::codepointtrie::CodePointTrie;
+use bekstaudi::codepointtrie::TrieType;
+use bekstaudi::codepointtrie::try_build_from_writes;
+use crate::ucptab_table::input::read_rows;
+
+/// A trie over numbers, and how many bits its values take where it is stored.
+#[derive(Debug)]
+pub struct Table {
+    pub trie: CodePointTrie<'static, u32>,
+    pub width: ValueWidth,
+}
+
+/// What a table is to be beside its rows.
+#[derive(Clone, Copy, Debug)]
+pub struct TableOptions {
+    /// The type of the trie.
+    pub trie_type: TrieType,
+    /// How many bits a value takes.
+    pub width: ValueWidth,
+    /// The value of each code point that no row names.
+    pub default: u32,
+    /// The answer above 10FFFF.
+    pub error: u32,
+}
+
+/// The first value in the trie's data that has more bits.
+fn first_wider(trie: &CodePointTrie<'_, u32>, width: ValueWidth) -> Option<u32> {
+    let (_, _, values) = trie.parts();
+    values.iter().find(|value| !width.fits(*value))
+}
+
+/// The table of the rows that the bytes have, in `ucptab`'s form.
+///
+/// # Errors
+/// `Table` with the first line that is no row, where the map is too large for a trie, and where
+/// memory was refused; `Width` with the first value in the trie's data that has more bits than are
+/// asked for.
+pub fn table_of_rows(rows: &[u8], options: TableOptions) -> Result<Table, BuildFault> {
+    let writes = read_rows(rows)?;
+    let trie = try_build_from_writes(
+        options.default,
+        options.error,
+        options.trie_type,
+        &writes,
+    )?;
+    match first_wider(&trie, options.width) {
+        Some(value) => Err(BuildFault::Width(value, options.width)),
+        None => Ok(Table {
+            trie,
+            width: options.width,
+        }),
+    }
+}

@@ -1,0 +1,26 @@
+//! The same numbers as values of another type.
+
+#[allow(unused_imports)]
+use crate::host::{HostRuntime, Text};
+#[allow(unused_imports)]
+use crate::support::prelude::*;
+use bekstaudi::codepointtrie::CodePointTrie;
+use bekstaudi::codepointtrie::MapError;
+use bekstaudi::codepointtrie::TrieValue;
+
+/// The value that has the number of another type's value, or that number where there is none.
+fn same_number<T: TrieValue, P: TrieValue>(value: T) -> Result<P, u32> {
+    let number = value.to_u32();
+    let Ok(same) = P::try_from_u32(number) else {
+        return Err(number);
+    };
+    Ok(same)
+}
+
+/// The trie that has the same numbers as values of another type. `Closure` with a number of which
+/// there is no such value: that of the error value, of the null value or of a cell, the first one.
+pub(crate) fn with_values_of<P: TrieValue, T: TrieValue>(
+    trie: &CodePointTrie<'_, T>,
+) -> Result<CodePointTrie<'static, P>, MapError<u32>> {
+    trie.try_alloc_map_value(|value: T| same_number::<T, P>(value))
+}

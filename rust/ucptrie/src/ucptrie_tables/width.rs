@@ -1,0 +1,58 @@
+//! How many bits a value takes where a trie is stored.
+
+#[allow(unused_imports)]
+use crate::host::{HostRuntime, Text};
+use core::fmt;
+
+/// How many bits a value takes where a trie is stored (UCPTrieValueWidth).
+#[derive(Clone, Copy, Debug, PartialEq, Eq)]
+pub enum ValueWidth {
+    Bits8,
+    Bits16,
+    Bits32,
+}
+
+impl ValueWidth {
+    /// How many bits these are: 8, 16 or 32.
+    pub fn bits(self) -> u32 {
+        match self {
+            ValueWidth::Bits8 => 8,
+            ValueWidth::Bits16 => 16,
+            ValueWidth::Bits32 => 32,
+        }
+    }
+
+    /// How many bytes these are: 1, 2 or 4.
+    pub fn bytes(self) -> usize {
+        match self {
+            ValueWidth::Bits8 => 1,
+            ValueWidth::Bits16 => 2,
+            ValueWidth::Bits32 => 4,
+        }
+    }
+
+    /// The number that ICU has for the width (UCPTRIE_VALUE_BITS_16, _32 and _8): 2, 0 or 1.
+    pub fn code(self) -> u32 {
+        match self {
+            ValueWidth::Bits8 => 2,
+            ValueWidth::Bits16 => 0,
+            ValueWidth::Bits32 => 1,
+        }
+    }
+
+    /// Whether a value has no more bits.
+    pub fn fits(self, value: u32) -> bool {
+        match self {
+            ValueWidth::Bits8 => value <= 0xff,
+            ValueWidth::Bits16 => value <= 0xffff,
+            ValueWidth::Bits32 => true,
+        }
+    }
+}
+
+impl fmt::Display for ValueWidth {
+    fn fmt(&self, f: &mut fmt::Formatter<'_>) -> fmt::Result {
+        let bits = self.bits();
+        write!(f, "{bits} bits")
+    }
+}

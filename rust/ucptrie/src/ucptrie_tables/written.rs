@@ -1,0 +1,81 @@
+//! A table as the bytes of a file.
+
+#[allow(unused_imports)]
+use crate::host::{HostRuntime, Text};
+#[allow(unused_imports)]
+use crate::support::prelude::*;
+use crate::ucptrie_tables::c_source::c_text;
+use crate::ucptrie_tables::fault::BuildFault;
+use crate::ucptrie_tables::rust_source::rust_text;
+use crate::ucptrie_tables::table::Table;
+use crate::ucptrie_tables::toml_text::toml_text;
+use crate::ucptrie_tables::values::with_values_of;
+use crate::ucptrie_tables::width::ValueWidth;
+use bekstaudi::codepointtrie::CodePointTrie;
+use bekstaudi::codepointtrie::MapError;
+use bekstaudi::codepointtrie::TrieValue;
+use bekstaudi::codepointtrie::binary::to_binary;
+use bekstaudi::codepointtrie::json::to_json;
+use bekstaudi::zerovec::MemoryError;
+use crate::ucptab_table::fault::TableError;
+use crate::ucptab_table::text::ranges_text;
+
+/// The forms in which a table is written.
+#[derive(Clone, Copy, Debug, PartialEq, Eq)]
+pub enum Form<'a> {
+    /// ICU's binary form, which `ucptrie_openFromBinary` opens.
+    Icu,
+    /// TOML, as ICU's tools write it.
+    Toml,
+    /// JSON, as the Rust crate has it.
+    Json,
+    /// Source in C, with this name in front of each of its own.
+    C(&'a str),
+    /// Source in Rust, a module of this name.
+    Rust(&'a str),
+    /// The rows of `ucptab`: a line for each range of equal values.
+    Rows,
+}
+
+/// The bytes of the table's trie, over values of another type, in ICU's binary form.
+fn binary_over<P: TrieValue>(table: &Table) -> Result<Vec<u8>, BuildFault> {
+    let narrowed: CodePointTrie<'static, P> = match with_values_of(&table.trie) {
+        Ok(narrowed) => narrowed,
+        Err(MapError::Closure(value)) => return Err(BuildFault::Width(value, table.width)),
+        Err(MapError::Memory) => return Err(BuildFault::Table(TableError::Memory)),
+    };
+    Ok(to_binary(&narrowed)?)
+}
+
+/// The table in ICU's binary form, with values of its width.
+fn binary(table: &Table) -> Result<Vec<u8>, BuildFault> {
+    match table.width {
+        ValueWidth::Bits8 => binary_over::<u8>(table),
+        ValueWidth::Bits16 => binary_over::<u16>(table),
+        ValueWidth::Bits32 => Ok(to_binary(&table.trie)?),
+    }
+}
+
+/// The table in JSON, in one line.
+fn json_text(table: &Table) -> Result<String, MemoryError> {
+    let mut text = to_json(&table.trie)?.to_string();
+    text.push('\n');
+    Ok(text)
+}
+
+/// The table in a form, as the bytes of a file.
+///
+/// # Errors
+/// `Binary` where ICU's binary form has no room for the trie, `Width` where a value has more bits
+/// than the table's width, `Table` where memory was refused.
+pub fn written(table: &Table, form: Form<'_>) -> Result<Vec<u8>, BuildFault> {
+    let text = match form {
+        Form::Icu => return binary(table),
+        Form::Toml => toml_text(table)?,
+        Form::Json => json_text(table)?,
+        Form::C(name) => c_text(table, name)?,
+        Form::Rust(name) => rust_text(table, name)?,
+        Form::Rows => ranges_text(&table.trie)?,
+    };
+    Ok(text.into_bytes())
+}
