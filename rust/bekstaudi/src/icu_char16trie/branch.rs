@@ -1,9 +1,9 @@
-//! The search in a branch.
+//! Finds the entry of a unit in a branch.
 
 use crate::icu_char16trie::encoded::{delta_end, entry_child, lower_part, short_end, two_at, unit_at};
 use crate::icu_zerovec::ZeroSlice;
 
-/// The place of the node of the entry with this unit, in a row of at most five entries.
+/// Returns the index of the child node of `unit` in a row, which has at most five entries.
 #[inline(always)]
 fn child_in_row(units: ZeroSlice<'_, u16>, row: usize, length: usize, unit: u16) -> Option<usize> {
     let mut left = length;
@@ -20,8 +20,8 @@ fn child_in_row(units: ZeroSlice<'_, u16>, row: usize, length: usize, unit: u16)
     (last == unit).then_some(place + 1)
 }
 
-/// The half of a part of more than five entries that has the entry with this unit, if one has it:
-/// where it stands, and how many entries it has.
+/// Returns the half of a part that contains the entry of `unit`, if there is one: its index and its
+/// number of entries. The part has more than five entries.
 #[inline(always)]
 fn half_of_part(
     units: ZeroSlice<'_, u16>,
@@ -32,8 +32,8 @@ fn half_of_part(
     let (split, delta) = two_at(units, part)?;
     let half = length >> 1;
     if delta < 0xfc00 {
-        // Nearly all deltas are themselves the number. Which half it is can't be foretold, and so
-        // no jump of the processor hangs on it.
+        // For nearly all deltas the unit is the number itself. The processor cannot predict which
+        // half it is, so the choice is made without a branch instruction.
         let (low, left) = if unit < split {
             (usize::from(delta), half)
         } else {
@@ -49,7 +49,7 @@ fn half_of_part(
     }
 }
 
-/// The place of the node of the entry with this unit, in a part of a branch.
+/// Returns the index of the child node of `unit` in a part of a branch.
 #[inline(always)]
 pub(crate) fn child_in_part(
     units: ZeroSlice<'_, u16>,
@@ -67,8 +67,8 @@ pub(crate) fn child_in_part(
     child_in_row(units, place, left, unit)
 }
 
-/// The place of the node of the entry with this unit, in the branch of a match node with these low
-/// six bits; `place` is after its lead and its value.
+/// Returns the index of the child node of `unit` in the branch of a match node. `low` is the low
+/// six bits of the node's lead unit, and `place` is the index after the lead and its value.
 #[inline(always)]
 pub(crate) fn child_in_branch(
     units: ZeroSlice<'_, u16>,

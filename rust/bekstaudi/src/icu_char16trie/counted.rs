@@ -1,8 +1,8 @@
-//! How many entries a trie has.
+//! Counts the entries of a trie.
 //!
-//! Nodes may be shared, so that few units have very many entries. A node's entries are those of the
-//! nodes that it leads to, which stand after it, and so they are counted from the last node to the
-//! root.
+//! Several nodes may lead to the same node, so a few units can have very many entries. A node comes
+//! before the nodes that it leads to, and its entries are its own value and theirs. So the nodes
+//! are counted from the last one back to the root.
 
 #[allow(unused_imports)]
 use crate::support::prelude::*;
@@ -11,19 +11,19 @@ use crate::icu_char16trie::soundness::has_all_wanted;
 use crate::icu_char16trie::trie::Char16Trie;
 use crate::icu_zerovec::{MemoryError, ZeroSlice};
 
-/// The count at a place, 0 past the end.
+/// Returns the count at `place`, or 0 past the end.
 #[inline]
 fn count_at(counts: &[u64], place: usize) -> u64 {
     counts.get(place).copied().unwrap_or(0)
 }
 
-/// Two counts together, or the greatest number where they are above.
+/// Returns the sum of two counts, or `u64::MAX` if it overflows.
 #[inline]
 fn both_counts(first: u64, second: u64) -> u64 {
     first.saturating_add(second)
 }
 
-/// How many entries the nodes of a row of at most five entries have.
+/// Returns the number of entries of the nodes of a row, which has at most five entries.
 fn count_row(units: ZeroSlice<'_, u16>, counts: &[u64], row: usize, count: usize) -> Option<u64> {
     let mut left = count;
     let mut place = row;
@@ -39,7 +39,8 @@ fn count_row(units: ZeroSlice<'_, u16>, counts: &[u64], row: usize, count: usize
     Some(both_counts(total, count_at(counts, place + 1)))
 }
 
-/// The same of a part of a branch. It calls itself at most 16 deep.
+/// Returns the number of entries of the nodes of a part of a branch. The recursion is at most 16
+/// deep.
 #[inline]
 fn count_part(units: ZeroSlice<'_, u16>, counts: &[u64], part: usize, count: usize) -> Option<u64> {
     if count <= 5 {
@@ -54,8 +55,8 @@ fn count_part(units: ZeroSlice<'_, u16>, counts: &[u64], part: usize, count: usi
     Some(both_counts(lower, upper))
 }
 
-/// How many entries the nodes have that a match node leads to, by its low six bits; `place` is
-/// after its lead and its value.
+/// Returns the number of entries of the nodes that a match node leads to. `low` is the low six bits
+/// of its lead unit, and `place` is the index after the lead and its value.
 #[inline]
 fn count_match(units: ZeroSlice<'_, u16>, counts: &[u64], place: usize, low: u16) -> Option<u64> {
     if low >= 0x30 {
@@ -69,7 +70,7 @@ fn count_match(units: ZeroSlice<'_, u16>, counts: &[u64], place: usize, low: u16
     count_part(units, counts, place + 1, usize::from(length) + 1)
 }
 
-/// How many entries a node has, by the counts of those that it leads to.
+/// Returns the number of entries of a node, given the counts of the nodes that it leads to.
 #[inline]
 fn count_node(units: ZeroSlice<'_, u16>, counts: &[u64], place: usize) -> Option<u64> {
     let lead = unit_at(units, place)?;
@@ -84,7 +85,7 @@ fn count_node(units: ZeroSlice<'_, u16>, counts: &[u64], place: usize) -> Option
     Some(both_counts(1, longer))
 }
 
-/// Counts the entries of each node that is wanted.
+/// Counts the entries of each node that is marked in `wanted`.
 #[inline]
 fn count_wanted(units: ZeroSlice<'_, u16>, wanted: &[bool], counts: &mut [u64]) {
     let mut place = units.len();
@@ -97,7 +98,8 @@ fn count_wanted(units: ZeroSlice<'_, u16>, wanted: &[bool], counts: &mut [u64]) 
     }
 }
 
-/// How many entries the root has, which alone is wanted. `None` where no node stands there.
+/// Returns the number of entries of the root, or `None` if the units are not a trie. Only the root
+/// is marked in `wanted`.
 #[inline]
 fn count_at_root(units: ZeroSlice<'_, u16>, wanted: &mut [bool], counts: &mut [u64]) -> Option<u64> {
     if !has_all_wanted(units, wanted) {
@@ -108,10 +110,10 @@ fn count_at_root(units: ZeroSlice<'_, u16>, wanted: &mut [bool], counts: &mut [u
 }
 
 impl<'data> Char16Trie<'data> {
-    /// How many entries the trie has, and `u64::MAX` where it has more. `None` where the units are
-    /// no trie, as [`Char16Trie::is_trie`] tells.
+    /// Returns the number of entries of the trie, capped at `u64::MAX`, or `None` if the units are
+    /// not a trie, which is when [`Char16Trie::is_trie`] returns false.
     ///
-    /// It goes through each node twice, whatever the number is, and takes nine bytes for each unit.
+    /// Visits each node twice, however many entries there are. Allocates nine bytes for each unit.
     ///
     /// ```text
     /// // of the map of "a" to 1 and "ab" to 2: trie.try_count_entries()? is Some(2)
@@ -119,7 +121,7 @@ impl<'data> Char16Trie<'data> {
     /// ```
     ///
     /// # Errors
-    /// `MemoryError` where memory was refused.
+    /// Returns `MemoryError` if an allocation fails.
     #[inline]
     pub fn try_count_entries(&self) -> Result<Option<u64>, MemoryError> {
         let units = self.data.as_slice();

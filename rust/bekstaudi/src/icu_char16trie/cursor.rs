@@ -9,10 +9,10 @@ use crate::icu_char16trie::step::{is_empty_at, step, value_at};
 use crate::icu_char16trie::unique::unique_value_at;
 use crate::icu_zerovec::{MemoryError, ZeroSlice};
 
-/// A cursor into the units of a trie, for look-up unit by unit.
+/// A cursor over the units of a trie, for looking up keys unit by unit.
 ///
-/// On all units its steps are those of the format, where a unit that is needed and is not there is
-/// no match.
+/// After the units of a key its value is the key's value. It is empty if no key continues after the
+/// units so far. The units may be anything: if one that is needed is missing, nothing matches.
 #[derive(Clone, Debug)]
 pub struct Char16TrieCursor<'a> {
     units: ZeroSlice<'a, u16>,
@@ -20,7 +20,7 @@ pub struct Char16TrieCursor<'a> {
 }
 
 impl<'a> Char16TrieCursor<'a> {
-    /// A cursor at the root of the trie with these units.
+    /// Creates a cursor at the root of the trie with these units.
     #[inline]
     pub fn new(trie: ZeroSlice<'a, u16>) -> Self {
         Char16TrieCursor {
@@ -29,12 +29,13 @@ impl<'a> Char16TrieCursor<'a> {
         }
     }
 
-    /// The cursor at a place of the trie with these units (ICU: `resetToState`). The place may be
-    /// of another trie, or from a stranger.
+    /// Creates a cursor at `place` in the trie with these units.
+    ///
+    /// `place` may come from another trie or from untrusted input. ICU: `resetToState`.
     ///
     /// ```ignore
     /// let place = cursor.place();
-    /// let same = Char16TrieCursor::resume(trie.data.as_slice(), place); // stands where cursor stood
+    /// let same = Char16TrieCursor::resume(trie.data.as_slice(), place); // at the position of cursor
     /// ```
     #[inline]
     pub fn resume(trie: ZeroSlice<'a, u16>, place: CursorPlace) -> Self {
@@ -44,21 +45,22 @@ impl<'a> Char16TrieCursor<'a> {
         }
     }
 
-    /// Where the cursor stands, to go on from there by [`resume`](Self::resume) (ICU:
-    /// `saveState`).
+    /// Returns the position of the cursor, from which [`resume`](Self::resume) continues.
+    ///
+    /// ICU: `saveState`.
     #[inline]
     pub fn place(&self) -> CursorPlace {
         numbers_of(self.place)
     }
 
-    /// One more unit. After no match nothing changes.
+    /// Advances by one unit. If nothing matched before, nothing matches now.
     #[inline(always)]
     pub fn step16(&mut self, unit: u16) {
         self.place = step(self.units, self.place, unit);
     }
 
-    /// The units of one more code point up to 0x10FFFF: one below 0x10000, surrogates among them,
-    /// and otherwise two. A number above 0x10FFFF matches nothing.
+    /// Advances by the UTF-16 units of the code point `c`: one unit below 0x10000, surrogates
+    /// included, and two from there to 0x10FFFF. Above 0x10FFFF nothing matches.
     #[inline]
     pub fn step32(&mut self, c: u32) {
         if let Ok(unit) = u16::try_from(c) {
@@ -72,31 +74,33 @@ impl<'a> Char16TrieCursor<'a> {
         }
     }
 
-    /// The units of one more character: one, or two for a character from U+10000 on.
+    /// Advances by the UTF-16 units of the character `c`: one below U+10000, and two from there on.
     #[inline]
     pub fn step(&mut self, c: char) {
         self.step32(c as u32);
     }
 
-    /// The value of the units so far, if they are a key. 0 where the units of the value are cut
-    /// off.
+    /// Returns the value of the units so far if they are a key. The value is 0 if some of its own
+    /// units are missing.
     #[inline]
     pub fn value(&self) -> Option<i32> {
         value_at(self.units, self.place)
     }
 
-    /// Whether no key goes on beyond the units so far: after no match, at a final value, and at a
-    /// node whose lead unit is not there.
+    /// Returns true if no key continues after the units so far: if they match nothing, if they end
+    /// in a final value, or if the lead unit of their node is missing.
     #[inline]
     pub fn is_empty(&self) -> bool {
         is_empty_at(self.units, self.place)
     }
 
-    /// The entries whose keys go on from here, in unit order, each without the units so far: how a
-    /// dictionary completes what was typed (ICU: `UCharsTrie::Iterator` of a trie that is not at
-    /// its root). Where the units so far are a key, the first entry is that of the empty text. The
-    /// cursor may stand within a linear match, whose rest comes first; after no match there is no
-    /// entry.
+    /// Returns the entries whose keys start with the units so far, in unit order, each key without
+    /// those units.
+    ///
+    /// A dictionary completes typed text this way. If the units so far are a key, the first entry
+    /// has the empty text. In the middle of a linear match each text starts with the rest of it. If
+    /// nothing matched, there are no entries. ICU: `UCharsTrie::Iterator` of a trie that is not at
+    /// its root.
     ///
     /// ```text
     /// // of the map of "a" to 1, "ab" to 2 and "b" to 3
@@ -109,11 +113,12 @@ impl<'a> Char16TrieCursor<'a> {
         Entries::new(self.units, self.place)
     }
 
-    /// The units with which some key goes on from here, ascending, each once: none where
-    /// [`is_empty`](Self::is_empty) holds (ICU: `getNextUChars`).
+    /// Returns the units that can come next in some key, in ascending order and each once.
+    ///
+    /// There are none if [`is_empty`](Self::is_empty) returns true. ICU: `getNextUChars`.
     ///
     /// # Errors
-    /// `MemoryError` where memory was refused.
+    /// Returns `MemoryError` if an allocation fails.
     ///
     /// ```text
     /// // of the map of "a" to 1, "ab" to 2 and "b" to 3
@@ -126,17 +131,18 @@ impl<'a> Char16TrieCursor<'a> {
         Ok(list)
     }
 
-    /// The value that all keys going on from here have, the units so far among them where they are
-    /// a key. `None` where they have different values, and where no key goes on (ICU:
-    /// `hasUniqueValue`). A program that completes what was typed asks it whether the rest still
-    /// matters.
+    /// Returns the value that all keys have that start with the units so far, or `None` if their
+    /// values differ or there is no such key.
     ///
-    /// On units that are no trie from here on it is `None`. Each node that is ahead is gone through
-    /// once, by ICU as often as others lead to it, and the second value ends it. It takes one byte
-    /// for each unit of the trie.
+    /// If the units so far are a key, it counts too. A program that completes typed text can use
+    /// this to see whether the rest still matters. If the units are no trie from this position on,
+    /// the result is `None`. ICU: `hasUniqueValue`.
+    ///
+    /// Visits each node ahead once and stops at the second value; ICU visits a node once for each
+    /// way that leads to it. Allocates one byte for each unit of the trie.
     ///
     /// # Errors
-    /// `MemoryError` where memory was refused.
+    /// Returns `MemoryError` if an allocation fails.
     ///
     /// ```text
     /// // of the map of "a" to 1, "ab" to 1 and "b" to 3

@@ -1,4 +1,4 @@
-//! The keys that begin a text, as a dictionary is asked for its words.
+//! Finds the keys that a text starts with, as a dictionary finds words.
 
 use crate::icu_char16trie::branch::child_in_branch;
 use crate::icu_char16trie::encoded::{node_end, unit_at};
@@ -7,7 +7,7 @@ use crate::icu_char16trie::step::value_by;
 use crate::icu_char16trie::trie::Char16Trie;
 use crate::icu_zerovec::ZeroSlice;
 
-/// The match of the first `n` units, if they have a value, or else what was found before them.
+/// Returns the match of the first `n` units if they have a value, and otherwise the earlier match.
 #[inline(always)]
 fn longer_match(n: usize, value: Option<i32>, found: Option<(usize, i32)>) -> Option<(usize, i32)> {
     match value {
@@ -16,7 +16,7 @@ fn longer_match(n: usize, value: Option<i32>, found: Option<(usize, i32)>) -> Op
     }
 }
 
-/// Whether a text begins with the `count` units at a place.
+/// Returns true if `text` starts with the `count` units at `place`.
 #[inline(always)]
 fn begins_run(units: ZeroSlice<'_, u16>, place: usize, count: usize, text: &[u16]) -> bool {
     if text.len() < count {
@@ -30,8 +30,9 @@ fn begins_run(units: ZeroSlice<'_, u16>, place: usize, count: usize, text: &[u16
     true
 }
 
-/// Goes on with a text at a match node, by its low six bits, to the next node: its place, and how
-/// many units were passed. `place` is after the match node's lead and its value.
+/// Advances through `text` at a match node to the next node. Returns the index of that node and the
+/// number of units consumed. `low` is the low six bits of the match node's lead unit, and `place`
+/// is the index after the lead and its value.
 #[inline(always)]
 fn pass_match(
     units: ZeroSlice<'_, u16>,
@@ -54,11 +55,11 @@ fn pass_match(
 }
 
 impl<'data> Char16Trie<'data> {
-    /// The longest key that begins a text: how many units it has, and its value. `None` where no
-    /// key begins the text. The empty key begins each text.
+    /// Returns the longest key that `text` starts with: its length in units and its value.
     ///
-    /// No more units are read than some key goes on with. (With ICU: the loop over
-    /// `UCharsTrie::next` that ends where `USTRINGTRIE_HAS_NEXT` does not hold.)
+    /// Returns `None` if `text` starts with no key. The empty key matches at the start of every
+    /// text. Reads no more units of `text` than some key continues with. In ICU this is a loop over
+    /// `UCharsTrie::next` that ends when `USTRINGTRIE_HAS_NEXT` is false.
     ///
     /// ```text
     /// // of the map of "a" to 1 and "ab" to 2
@@ -86,11 +87,12 @@ impl<'data> Char16Trie<'data> {
         found
     }
 
-    /// The longest key that a text begins with: how many bytes of the text it is, and its value.
-    /// `None` where the text begins with no key.
+    /// Returns the longest key that `text` starts with: its length in bytes of `text` and its
+    /// value.
     ///
-    /// A key is here the units in UTF-16 of some first characters: one that ends between the two
-    /// units of a character doesn't count, so that `&text[length..]` is what follows.
+    /// Returns `None` if `text` starts with no key. Only keys that are whole characters in UTF-16
+    /// count: a key that ends between the two units of a character does not. So `&text[length..]`
+    /// is what follows the key.
     ///
     /// ```text
     /// // of the map of "\u{e9}" to 1 and "\u{e9}t\u{e9}" to 2
@@ -114,8 +116,10 @@ impl<'data> Char16Trie<'data> {
         found
     }
 
-    /// All keys that begin a text, the shortest one first: how many units each has, and its value.
-    /// It takes no memory, and no more units are read than some key goes on with.
+    /// Returns all keys that `text` starts with, the shortest first: the length of each in units
+    /// and its value.
+    ///
+    /// Allocates nothing, and reads no more units of `text` than some key continues with.
     ///
     /// ```text
     /// // of the map of "a" to 1 and "ab" to 2

@@ -1,45 +1,44 @@
-//! Numbers in the units of a trie.
+//! Numbers encoded in the units of a trie.
 
 use crate::icu_zerovec::ZeroSlice;
 
-/// The unit at a place, counted from 0. `None` at or past the end.
+/// Returns the unit at an index, or `None` at or past the end.
 #[inline(always)]
 pub(crate) fn unit_at(units: ZeroSlice<'_, u16>, place: usize) -> Option<u16> {
-    // A packed vector has fewer than 2^63 bytes, so that counting on from a place that was read
-    // never wraps.
+    // A packed vector has fewer than 2^63 bytes, so adding to an index that was read never wraps.
     units.get(place)
 }
 
-/// The units at a place and at the one after it, by one test of a place. `None` where one of them
-/// is not there.
+/// Returns the units at an index and at the one after it, with a single bounds check. `None` if
+/// either is missing.
 #[inline(always)]
 pub(crate) fn two_at(units: ZeroSlice<'_, u16>, place: usize) -> Option<(u16, u16)> {
     let second = unit_at(units, place + 1)?;
     Some((units.at(place), second))
 }
 
-/// A number in two halves.
+/// Returns the number with these two halves.
 #[inline]
 pub(crate) fn from_halves(high: u16, low: u16) -> u32 {
     (u32::from(high) << 16) | u32::from(low)
 }
 
-/// A number whose low half stands at a place.
+/// Returns the number with this high half, whose low half is at `place`.
 #[inline]
 fn low_half(units: ZeroSlice<'_, u16>, place: usize, high: u16) -> Option<u32> {
     let low = unit_at(units, place)?;
     Some(from_halves(high, low))
 }
 
-/// A number in two units.
+/// Returns the number in the two units at `place`, the high half first.
 #[inline]
 fn both_halves(units: ZeroSlice<'_, u16>, place: usize) -> Option<u32> {
     let high = unit_at(units, place)?;
     low_half(units, place + 1, high)
 }
 
-/// A number by its lead: below `two` the lead is the number, from there to below `three` it is
-/// `two` more than the high half, and else both halves stand at `place`.
+/// Returns the number with this lead. A lead below `two` is the number itself. A lead from there to
+/// below `three` is `two` plus the high half. For any other lead both halves are at `place`.
 #[inline(always)]
 fn number_by(
     units: ZeroSlice<'_, u16>,
@@ -57,15 +56,16 @@ fn number_by(
     }
 }
 
-/// The place after a number of more than its lead. It stands apart, so that a search that passes
-/// many numbers, of which nearly all are their leads, reads on before it has seen them.
+/// Returns the index after a number that has more units than its lead. It is not inlined: nearly
+/// all numbers are their leads, so a search that skips many of them can read ahead before it has
+/// seen their values.
 #[cold]
 #[inline(never)]
 fn far_end(place: usize, lead: u16, three: u16) -> usize {
     if lead < three { place + 1 } else { place + 2 }
 }
 
-/// The place after it.
+/// Returns the index after a number with this lead.
 #[inline(always)]
 fn end_by(place: usize, lead: u16, two: u16, three: u16) -> usize {
     if lead < two {
@@ -75,43 +75,44 @@ fn end_by(place: usize, lead: u16, two: u16, three: u16) -> usize {
     }
 }
 
-/// The number of a final value or a jump, by the low 15 bits of the unit before `place`.
+/// Returns the number of a final value or a jump. `low_bits` is the low 15 bits of the unit before
+/// `place`.
 #[inline]
 pub(crate) fn short_number(units: ZeroSlice<'_, u16>, place: usize, low_bits: u16) -> Option<u32> {
     number_by(units, place, low_bits, 0x4000, 0x7fff)
 }
 
-/// The place after it.
+/// Returns the index after the number of a final value or a jump.
 #[inline]
 pub(crate) fn short_end(place: usize, low_bits: u16) -> usize {
     end_by(place, low_bits, 0x4000, 0x7fff)
 }
 
-/// The number of an intermediate value, by the lead unit before `place`.
+/// Returns the number of an intermediate value. Its lead unit is before `place`.
 #[inline]
 pub(crate) fn node_number(units: ZeroSlice<'_, u16>, place: usize, lead: u16) -> Option<u32> {
     number_by(units, place, (lead >> 6) - 1, 0x100, 0x1fe)
 }
 
-/// The place after it, and `place` itself where the lead unit has no value.
+/// Returns the index after an intermediate value, or `place` itself if the lead unit has no value.
 #[inline]
 pub(crate) fn node_end(place: usize, lead: u16) -> usize {
     end_by(place, (lead >> 6).saturating_sub(1), 0x100, 0x1fe)
 }
 
-/// The delta of a split, by the unit before `place`.
+/// Returns the delta of a split. `delta` is the unit before `place`.
 #[inline]
 pub(crate) fn delta_number(units: ZeroSlice<'_, u16>, place: usize, delta: u16) -> Option<u32> {
     number_by(units, place, delta, 0xfc00, 0xffff)
 }
 
-/// The place after it.
+/// Returns the index after the delta of a split.
 #[inline]
 pub(crate) fn delta_end(place: usize, delta: u16) -> usize {
     end_by(place, delta, 0xfc00, 0xffff)
 }
 
-/// Where the node of an entry stands, whose value unit stands before `place`.
+/// Returns the index of the node of an entry whose value unit is before `place`.
 #[inline]
 pub(crate) fn entry_child(units: ZeroSlice<'_, u16>, place: usize, value: u16) -> Option<usize> {
     if value < 0x8000 {
@@ -122,7 +123,8 @@ pub(crate) fn entry_child(units: ZeroSlice<'_, u16>, place: usize, value: u16) -
     }
 }
 
-/// Where the part of the lower entries of a branch stands, by the unit of the delta before `place`.
+/// Returns the index of the part with the lower entries of a branch. `delta` is the unit before
+/// `place`.
 #[inline]
 pub(crate) fn lower_part(units: ZeroSlice<'_, u16>, place: usize, delta: u16) -> Option<usize> {
     let number = delta_number(units, place, delta)?;

@@ -5,19 +5,20 @@ use crate::support::prelude::*;
 use crate::icu_char16trie::pending::Pending;
 use crate::icu_zerovec::{MemoryError, ZeroSlice};
 
-/// The entries of a trie in unit order: each key as text, a lone surrogate as U+FFFD, with its
-/// value.
+/// An iterator over the entries of a trie in unit order: each key as text, with its value. A lone
+/// surrogate becomes U+FFFD.
 ///
-/// After an `Err`, and after the last entry, no item comes. One call opens at most as many nodes as
-/// there are units. A trie has no more of them before an entry; on units that are no trie the items
-/// are what their nodes say as far as they go, and end where a call has opened so many for none.
+/// The iterator ends after an `Err` and after the last entry. One call of `next` opens at most as
+/// many nodes as there are units. A trie never has more of them before an entry. If the units are
+/// not a trie, the items are what their nodes contain, as far as the units go. The iterator then
+/// ends when one call has opened that many nodes without finding an entry.
 #[derive(Debug)]
 pub struct Iter2<'a> {
     pending: Pending<'a>,
 }
 
 impl<'a> Iter2<'a> {
-    /// The entries of the trie with these units.
+    /// Creates an iterator over the entries of the trie with these units.
     #[inline]
     pub(crate) fn new(units: ZeroSlice<'a, u16>) -> Self {
         Iter2 {

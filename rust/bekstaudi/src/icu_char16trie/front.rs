@@ -6,16 +6,16 @@ use crate::icu_char16trie::place::Place;
 use crate::icu_char16trie::step::value_by;
 use crate::support::AllocError;
 
-/// What comes next, under the key that is spelled.
+/// What comes next, under the key that is spelled so far.
 #[derive(Clone, Copy, Debug)]
 pub(crate) enum Front {
-    /// What stands at a place.
+    /// The node or linear match at this position.
     At(Place),
-    /// A match node: the place after its lead and its value, and its low six bits.
+    /// A match node: the index after its lead and its value, and the low six bits of the lead.
     Match(usize, u16),
 }
 
-/// What comes after the value of a node, by its lead unit before `place`.
+/// Returns what comes after the value of a node whose lead unit is before `place`.
 #[inline(always)]
 pub(crate) fn below(place: usize, lead: u16) -> Front {
     if lead >= 0x8000 {
@@ -26,7 +26,7 @@ pub(crate) fn below(place: usize, lead: u16) -> Front {
 }
 
 impl<'a> Pending<'a> {
-    /// Goes to the first node of what comes next. A node that was gone to is left.
+    /// Moves to the first node of `front`, and leaves the current node.
     #[inline]
     pub(crate) fn open_front(&mut self, front: Front) -> Result<(), AllocError> {
         self.node = None;
@@ -39,7 +39,7 @@ impl<'a> Pending<'a> {
         Ok(())
     }
 
-    /// Leaves the node that was gone to: what comes after its value, and the value, if it has one.
+    /// Leaves the current node and returns what comes after its value, and the value if it has one.
     #[inline(always)]
     pub(crate) fn read_node(&mut self) -> (Front, Option<i32>) {
         let Some(place) = self.node.take() else {

@@ -1,30 +1,29 @@
-//! Look-up with a result for each step, as before there was a cursor.
+//! Look-up with a result for each step, the interface from before the Rust crate had a cursor.
 
 use crate::icu_char16trie::cursor::Char16TrieCursor;
 use crate::icu_zerovec::ZeroSlice;
 
-/// What is told of the units so far.
+/// The result of a step: what the units so far are.
 #[derive(Clone, Copy, Debug, PartialEq)]
 pub enum TrieResult {
-    /// They match nothing, or lead to a node that is not there. From then on more units match
-    /// nothing either.
+    /// They match nothing, or lead to a node that is missing. More units match nothing either.
     NoMatch,
-    /// They are no key, and a key goes on beyond them.
+    /// They are not a key, and some key continues after them.
     NoValue,
-    /// They are a key with this value, and no key goes on beyond them.
+    /// They are a key with this value, and no key continues after them.
     FinalValue(i32),
-    /// They are a key with this value, and a key goes on beyond them.
+    /// They are a key with this value, and some key continues after them.
     Intermediate(i32),
 }
 
-/// A cursor that tells at each step what it found.
+/// A cursor that returns a result for each step.
 #[derive(Clone, Debug)]
 pub struct Char16TrieIterator<'a> {
     cursor: Char16TrieCursor<'a>,
 }
 
 impl<'a> Char16TrieIterator<'a> {
-    /// An iterator at the root of the trie with these units.
+    /// Creates an iterator at the root of the trie with these units.
     #[inline]
     pub fn new(trie: ZeroSlice<'a, u16>) -> Self {
         Char16TrieIterator {
@@ -32,7 +31,7 @@ impl<'a> Char16TrieIterator<'a> {
         }
     }
 
-    /// One more character, as its units.
+    /// Advances by the UTF-16 units of the character `c` and returns the result.
     ///
     /// ```text
     /// // of the map of "a" to 1 and "ab" to 2
@@ -45,22 +44,22 @@ impl<'a> Char16TrieIterator<'a> {
         self.next32(c as u32)
     }
 
-    /// One more code point up to 0x10FFFF, as [`Char16TrieCursor::step32`]. A number above 0x10FFFF
-    /// matches nothing.
+    /// Advances by the UTF-16 units of the code point `c` and returns the result. Surrogates are
+    /// one unit each. Above 0x10FFFF the result is [`TrieResult::NoMatch`].
     #[inline]
     pub fn next32(&mut self, c: u32) -> TrieResult {
         self.cursor.step32(c);
         self.result()
     }
 
-    /// One more unit.
+    /// Advances by the unit `c` and returns the result.
     #[inline]
     pub fn next16(&mut self, c: u16) -> TrieResult {
         self.cursor.step16(c);
         self.result()
     }
 
-    /// What is told of the units so far.
+    /// Returns what the units so far are.
     #[inline]
     fn result(&self) -> TrieResult {
         match (self.cursor.value(), self.cursor.is_empty()) {

@@ -1,4 +1,5 @@
-//! A trie from and to JSON: an object whose key `data` has the units as an array of numbers.
+//! Reads and writes a trie as JSON: an object whose key `data` has the units as an array of
+//! numbers.
 
 #[allow(unused_imports)]
 use crate::support::prelude::*;
@@ -6,15 +7,15 @@ use crate::icu_char16trie::trie::Char16Trie;
 use crate::icu_zerovec::{MemoryError, ZeroSlice, ZeroVec};
 use serde_json::{Value, json};
 
-/// Why a JSON value is no trie.
+/// Why a JSON value is not a trie.
 #[derive(Clone, Copy, Debug, PartialEq, Eq)]
 pub enum Char16JsonError {
-    /// It is no object, it has neither or both of the keys `data` and `trie_data`, or no array
-    /// stands there.
+    /// It is not an object, it has neither or both of the keys `data` and `trie_data`, or the key's
+    /// value is not an array.
     Shape,
-    /// This item of the array, counted from 0, is the first that is no whole number up to 65535.
+    /// The item at this index, counted from 0, is the first that is not a whole number up to 65535.
     Number(usize),
-    /// Memory was refused.
+    /// An allocation failed.
     Memory,
 }
 
@@ -25,13 +26,13 @@ impl From<MemoryError> for Char16JsonError {
     }
 }
 
-/// The unit that an item is.
+/// Returns the unit of an item, or `None` if the item is not a whole number up to 65535.
 #[inline]
 fn unit_of(item: &Value) -> Option<u16> {
     u16::try_from(item.as_u64()?).ok()
 }
 
-/// The units that the items are, in their order.
+/// Returns the units of the items, in their order.
 fn units_of_items(items: &[Value]) -> Result<Vec<u16>, Char16JsonError> {
     let Ok(mut units) = Vec::with_room(items.len()) else {
         return Err(Char16JsonError::Memory);
@@ -47,7 +48,7 @@ fn units_of_items(items: &[Value]) -> Result<Vec<u16>, Char16JsonError> {
     Ok(units)
 }
 
-/// The units as the object of a trie.
+/// Returns the JSON object of a trie with these units.
 #[inline]
 fn object_of(units: ZeroSlice<'_, u16>) -> Result<Value, MemoryError> {
     let mut items = Vec::with_room(units.len())?;
@@ -58,8 +59,10 @@ fn object_of(units: ZeroSlice<'_, u16>) -> Result<Value, MemoryError> {
 }
 
 impl<'data> Char16Trie<'data> {
-    /// The trie that a JSON value says: an object whose key `data`, or `trie_data` in its place, is
-    /// an array of whole numbers up to 65535. Other keys are ignored, and the units are not tested.
+    /// Reads a trie from a JSON value: an object whose key `data` or `trie_data` has an array of
+    /// whole numbers up to 65535.
+    ///
+    /// Other keys are ignored. The units are not validated; [`Char16Trie::is_trie`] does that.
     ///
     /// ```ignore
     /// let trie = Char16Trie::from_json(&Value::from_str(r#"{"data":[49,97,98,32771]}"#)?)?;
@@ -67,9 +70,13 @@ impl<'data> Char16Trie<'data> {
     /// ```
     ///
     /// # Errors
-    /// In this order: `Shape` where it is no object, has neither or both of the keys, or where no
-    /// array stands there; `Number` with the first item that is no whole number up to 65535.
-    /// `Memory` where memory was refused.
+    /// In this order:
+    ///
+    /// - `Shape` if the value is not an object, has neither or both of the keys, or the key's value
+    ///   is not an array.
+    /// - `Number` with the index of the first item that is not a whole number up to 65535.
+    ///
+    /// `Memory` if an allocation fails.
     #[inline]
     pub fn from_json(value: &Value) -> Result<Char16Trie<'static>, Char16JsonError> {
         let items = match (value.get("data"), value.get("trie_data")) {
@@ -83,11 +90,11 @@ impl<'data> Char16Trie<'data> {
         Ok(Char16Trie::new(ZeroVec::alloc_from_slice(&units)?))
     }
 
-    /// The trie as a JSON value: an object whose one key `data` has the units as an array of
-    /// numbers.
+    /// Writes the trie as a JSON value: an object with the single key `data`, which has the units
+    /// as an array of numbers.
     ///
     /// # Errors
-    /// `MemoryError` where memory was refused.
+    /// Returns `MemoryError` if an allocation fails.
     #[inline]
     pub fn to_json(&self) -> Result<Value, MemoryError> {
         let value = object_of(self.data.as_slice())?;

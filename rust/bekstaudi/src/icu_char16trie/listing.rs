@@ -1,4 +1,4 @@
-//! The entries of a trie by one buffer.
+//! The entries of a trie through one buffer.
 
 #[allow(unused_imports)]
 use crate::support::prelude::*;
@@ -6,23 +6,27 @@ use crate::icu_char16trie::place::Place;
 use crate::icu_char16trie::walk::Walk;
 use crate::icu_zerovec::{MemoryError, ZeroSlice};
 
-/// The entries of a trie in unit order, one at a time: [`advance`](Self::advance) goes to the next
-/// one, and [`key`](Self::key) and [`value`](Self::value) tell it. The text of the key is kept in
-/// one buffer, which grows where a key is longer than all before it (ICU: `UCharsTrie::Iterator`);
-/// one that ends in a lead surrogate is written to another one.
+/// The entries of a trie in unit order, one at a time.
 ///
-/// Made by [`Char16Trie::entries`](crate::icu_char16trie::trie::Char16Trie::entries), and by
-/// [`Char16TrieCursor::entries`](crate::icu_char16trie::cursor::Char16TrieCursor::entries) of the keys that go on
-/// from a cursor. One call opens at most as many nodes as there are units. A trie has no more of
-/// them before an entry; on units that are no trie the entries are what their nodes say as far as
-/// they go, and end where a call has opened so many for none.
+/// [`advance`](Self::advance) moves to the next entry, and [`key`](Self::key) and
+/// [`value`](Self::value) return it. The text of the key is stored in one buffer, which grows if a
+/// key is longer than all before it. A key that ends in a lead surrogate is written to a second
+/// buffer. ICU: `UCharsTrie::Iterator`.
+///
+/// Created by [`Char16Trie::entries`](crate::icu_char16trie::trie::Char16Trie::entries), and by
+/// [`Char16TrieCursor::entries`](crate::icu_char16trie::cursor::Char16TrieCursor::entries) for the keys ahead of a
+/// cursor.
+///
+/// One call of `advance` opens at most as many nodes as there are units. A trie never has more of
+/// them before an entry. If the units are not a trie, the entries are what their nodes contain, as
+/// far as the units go. They end when one call has opened that many nodes without finding an entry.
 #[derive(Debug)]
 pub struct Entries<'a> {
     walk: Walk<'a>,
 }
 
 impl<'a> Entries<'a> {
-    /// The entries of what stands at a place of these units.
+    /// Creates the listing of the entries from a position in these units.
     #[inline]
     pub(crate) fn new(units: ZeroSlice<'a, u16>, place: Place) -> Self {
         Entries {
@@ -30,14 +34,13 @@ impl<'a> Entries<'a> {
         }
     }
 
-    /// Goes to the next entry: whether there is one. Once it has said that none is left, and after
-    /// an `Err`, none is left.
+    /// Moves to the next entry and returns true, or returns false if none is left.
     ///
-    /// It asks for memory only where the key is longer than all before it, or lies deeper below
-    /// branches.
+    /// After it has returned false or an `Err`, no entry is left. Allocates only if the key is
+    /// longer than all before it, or nested below more branches.
     ///
     /// # Errors
-    /// `MemoryError` where memory was refused.
+    /// Returns `MemoryError` if an allocation fails.
     ///
     /// ```text
     /// // of the map of "a" to 1 and "ab" to 2
@@ -51,16 +54,19 @@ impl<'a> Entries<'a> {
         self.walk.next_entry()
     }
 
-    /// The text of the key of the entry that was reached last, each lone surrogate as U+FFFD. It is
-    /// empty before the first [`advance`](Self::advance), and after one that reached no entry.
+    /// Returns the text of the current entry's key. Each lone surrogate is U+FFFD.
+    ///
+    /// The text is empty before the first [`advance`](Self::advance), and after one that reached no
+    /// entry.
     #[inline]
     pub fn key(&self) -> &str {
         self.walk.text()
     }
 
-    /// The value of the entry that was reached last. It is 0 before the first
-    /// [`advance`](Self::advance), and after one that reached no entry, and where the units of the
-    /// value are cut off.
+    /// Returns the value of the current entry.
+    ///
+    /// The value is 0 before the first [`advance`](Self::advance), after one that reached no entry,
+    /// and if some units of the value are missing.
     #[inline]
     pub fn value(&self) -> i32 {
         self.walk.value

@@ -1,20 +1,23 @@
-//! All keys that begin a text.
+//! All keys that a text starts with.
 
 use crate::icu_char16trie::cursor::Char16TrieCursor;
 
-/// The keys that begin a text, the shortest one first: how many units each has, and its value.
-/// Made by [`Char16Trie::matches`](crate::icu_char16trie::trie::Char16Trie::matches). After the last item no item
-/// comes. On units that are no trie the items are those that the steps lead to, and they end.
+/// An iterator over the keys that a text starts with, the shortest first: the length of each in
+/// units and its value.
+///
+/// Created by [`Char16Trie::matches`](crate::icu_char16trie::trie::Char16Trie::matches). After the last item it
+/// keeps returning `None`. If the units are not a trie, the items are what the steps lead to. The
+/// iterator ends on all units.
 #[derive(Debug)]
 pub struct Matches<'a> {
     cursor: Char16TrieCursor<'a>,
     text: &'a [u16],
-    /// How many units the cursor has passed, where that front is still to be told.
+    /// The number of units that the cursor has passed, if that prefix has not been reported yet.
     length: Option<usize>,
 }
 
 impl<'a> Matches<'a> {
-    /// The matches of a text, by a cursor at the root.
+    /// Creates an iterator over the matches of `text`. The cursor is at the root.
     #[inline]
     pub(crate) fn new(cursor: Char16TrieCursor<'a>, text: &'a [u16]) -> Self {
         Matches {
@@ -24,7 +27,7 @@ impl<'a> Matches<'a> {
         }
     }
 
-    /// Goes on from the front of `length` units to the next one, if a key may be there.
+    /// Advances from the prefix of `length` units to the next one, if a key may be there.
     #[inline(always)]
     fn go_on(&mut self, length: usize) {
         let text = self.text;

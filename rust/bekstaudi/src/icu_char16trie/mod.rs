@@ -1,4 +1,4 @@
-//! Maps from lists of 16-bit units to numbers, kept in one list of units: ICU's `UCharsTrie`.
+//! Maps from lists of 16-bit units to numbers, stored in one list of units: ICU's `UCharsTrie`.
 //!
 //! ```ignore
 //! let trie = Char16Trie::new(ZeroVec::alloc_from_slice(&[0x30, 0x61, 0xb0, 0x62, 0x8002])?);
@@ -7,29 +7,31 @@
 //! cursor.step('b'); // cursor.value() is Some(2), and cursor.is_empty()
 //! ```
 //!
-//! The list may come from a stranger: every call answers on all units, where a unit that is needed
-//! and is not there is no match. To list the entries of such units can take long, since they may be
-//! many: [`Char16Trie::count_entries`](char16trie::Char16Trie::count_entries) tells before.
+//! The units may be untrusted: every function returns on all units, and if a unit that is needed is
+//! missing, nothing matches. Untrusted units can have very many entries, so listing them can take
+//! long. [`Char16Trie::count_entries`](char16trie::Char16Trie::count_entries) returns the number of
+//! entries in advance.
 //!
-//! All public items stand in [`char16trie`], as in the Rust crate. Inside:
+//! All public items are in `char16trie`, as in the Rust crate:
 //!
+//! - `char16trie`: the public items, under the Rust crate's names
 //! - `trie`: [`Char16Trie`](char16trie::Char16Trie)
 //! - `cursor`: [`Char16TrieCursor`](char16trie::Char16TrieCursor), for look-up unit by unit;
-//!   `write`: of a text that is written to it
-//! - `iterator`: [`Char16TrieIterator`](char16trie::Char16TrieIterator), the same with a result for
+//!   `write`: look-up of text that is written to it
+//! - `iterator`: [`Char16TrieIterator`](char16trie::Char16TrieIterator), a cursor with a result for
 //!   each step
-//! - `dictionary`: the longest key that begins a text; `matches`: [`Matches`](char16trie::Matches),
-//!   all of them
-//! - `soundness`: whether units are a trie; `counted`: how many entries they have
-//! - `entries`: [`Iter2`](char16trie::Iter2), the entries in unit order; `pending`: what they have
-//!   still to go through; `spelling`: the key as text while it grows
-//! - `listing`: [`Entries`](char16trie::Entries), the entries by one buffer, from the root or from
-//!   a cursor on; `walk`: how it goes from one entry to the next; `front`: what comes next
-//! - `next_units`: the units with which keys go on from a cursor
-//! - `unique`: the value that all keys going on from a cursor have
-//! - `json`: a trie from and to JSON
-//! - `place`, `step`, `branch`, `encoded`: where a cursor stands, where a unit leads from there,
-//!   and how numbers stand in units
+//! - `dictionary`: the longest key that a text starts with; `matches`:
+//!   [`Matches`](char16trie::Matches), all such keys
+//! - `soundness`: whether units are a trie; `counted`: the number of its entries
+//! - `entries`: [`Iter2`](char16trie::Iter2), the entries in unit order; `pending`: what such an
+//!   iterator has not visited yet; `spelling`: the key as text while it grows
+//! - `listing`: [`Entries`](char16trie::Entries), the entries through one buffer, from the root or
+//!   from a cursor; `walk`: how it moves from one entry to the next; `front`: what comes next
+//! - `next_units`: the units that can come next in some key
+//! - `unique`: the value that all keys ahead of a cursor have
+//! - `json`: reading and writing JSON
+//! - `place`, `step`, `branch`, `encoded`: positions of a cursor, steps between them, and numbers
+//!   encoded in units
 
 mod branch;
 pub mod char16trie;

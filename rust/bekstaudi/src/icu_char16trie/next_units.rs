@@ -1,4 +1,4 @@
-//! The units with which keys go on from a place.
+//! The units that can come next in some key.
 
 #[allow(unused_imports)]
 use crate::support::prelude::*;
@@ -7,7 +7,7 @@ use crate::icu_char16trie::place::Place;
 use crate::icu_zerovec::ZeroSlice;
 use crate::support::AllocError;
 
-/// Adds the unit at a place, if it is there.
+/// Adds the unit at an index, if it is there.
 #[inline]
 fn add_unit(list: &mut Vec<u16>, units: ZeroSlice<'_, u16>, place: usize) -> Result<(), AllocError> {
     if let Some(unit) = unit_at(units, place) {
@@ -16,7 +16,7 @@ fn add_unit(list: &mut Vec<u16>, units: ZeroSlice<'_, u16>, place: usize) -> Res
     Ok(())
 }
 
-/// Adds the units of a row of at most five entries.
+/// Adds the units of a row, which has at most five entries.
 fn add_row(
     list: &mut Vec<u16>,
     units: ZeroSlice<'_, u16>,
@@ -59,7 +59,8 @@ fn add_part(
     Ok(())
 }
 
-/// Adds the units of a match node, by its low six bits; `place` is after its lead and its value.
+/// Adds the units that can come next at a match node. `low` is the low six bits of its lead unit,
+/// and `place` is the index after the lead and its value.
 fn add_match(
     list: &mut Vec<u16>,
     units: ZeroSlice<'_, u16>,
@@ -80,7 +81,7 @@ fn add_match(
     Ok(())
 }
 
-/// Adds the units with which keys go on from a node.
+/// Adds the units that can come next at a node.
 #[inline]
 fn add_node(list: &mut Vec<u16>, units: ZeroSlice<'_, u16>, node: usize) -> Result<(), AllocError> {
     let Some(lead) = unit_at(units, node) else {
@@ -93,7 +94,7 @@ fn add_node(list: &mut Vec<u16>, units: ZeroSlice<'_, u16>, node: usize) -> Resu
     Ok(())
 }
 
-/// Adds the units with which keys go on from a place.
+/// Adds the units that can come next at a position.
 #[inline]
 pub(crate) fn add_units(
     list: &mut Vec<u16>,

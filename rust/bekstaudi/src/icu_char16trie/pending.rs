@@ -1,4 +1,4 @@
-//! What an iterator over the entries of a trie has still to go through.
+//! What an iterator over the entries of a trie has not visited yet.
 
 #[allow(unused_imports)]
 use crate::support::prelude::*;
@@ -8,31 +8,31 @@ use crate::icu_char16trie::step::value_by;
 use crate::icu_zerovec::{MemoryError, ZeroSlice};
 use crate::support::{AllocError};
 
-/// A part of a branch that is put off.
+/// A part of a branch that is postponed.
 #[derive(Clone, Copy, Debug)]
 pub(crate) struct BranchPart {
-    /// Where it stands.
+    /// Its index.
     pub place: usize,
-    /// How many entries it has.
+    /// Its number of entries.
     pub count: usize,
     /// The key before the units of its entries.
     pub mark: Mark,
 }
 
-/// What is still to be gone through: a node, and after it the parts that were put off.
+/// What is still to be visited: a node, and after it the postponed parts.
 #[derive(Debug)]
 pub(crate) struct Pending<'a> {
     pub units: ZeroSlice<'a, u16>,
     /// The key of the node.
     pub spelling: Spelling,
-    /// The place of the node, if there is one.
+    /// The index of the node, if there is one.
     pub node: Option<usize>,
-    /// The parts, the next one last.
+    /// The postponed parts, the next one last.
     pub parts: Vec<BranchPart>,
 }
 
 impl<'a> Pending<'a> {
-    /// All entries of these units.
+    /// Creates the state in which all entries of these units are pending.
     #[inline]
     pub(crate) fn new(units: ZeroSlice<'a, u16>) -> Self {
         Pending {
@@ -43,7 +43,7 @@ impl<'a> Pending<'a> {
         }
     }
 
-    /// Puts a part off, under the key so far.
+    /// Postpones a part, under the key so far.
     #[inline(always)]
     fn put_off(&mut self, place: usize, count: usize) -> Result<(), AllocError> {
         let mark = self.spelling.mark();
@@ -51,7 +51,7 @@ impl<'a> Pending<'a> {
         Ok(())
     }
 
-    /// Goes to the first node of a part of at most five entries, and puts the others off.
+    /// Moves to the first node of a row of at most five entries, and postpones the rest.
     #[inline(always)]
     fn enter_row(&mut self, place: usize, count: usize) -> Result<(), AllocError> {
         let Some(unit) = unit_at(self.units, place) else {
@@ -74,7 +74,7 @@ impl<'a> Pending<'a> {
         Ok(())
     }
 
-    /// Goes to the first node of a part, and puts the others off.
+    /// Moves to the first node of a part, and postpones the rest.
     fn enter_part(&mut self, place: usize, count: usize) -> Result<(), AllocError> {
         if count <= 5 {
             self.enter_row(place, count)?;
@@ -95,7 +95,7 @@ impl<'a> Pending<'a> {
         Ok(())
     }
 
-    /// Goes to the node after a linear match.
+    /// Moves to the node after a linear match.
     #[inline(always)]
     pub(crate) fn pass_run(&mut self, place: usize, count: usize) -> Result<(), AllocError> {
         if self.units.len() < place + count {
@@ -106,8 +106,8 @@ impl<'a> Pending<'a> {
         Ok(())
     }
 
-    /// Goes to the first node after a match node, by its low six bits; `place` is after its lead
-    /// and its value.
+    /// Moves to the first node after a match node. `low` is the low six bits of its lead unit, and
+    /// `place` is the index after the lead and its value.
     pub(crate) fn open_match(&mut self, place: usize, low: u16) -> Result<(), AllocError> {
         if low >= 0x30 {
             self.pass_run(place, low as usize - 0x2f)?;
@@ -124,7 +124,7 @@ impl<'a> Pending<'a> {
         Ok(())
     }
 
-    /// The item at a lead unit before `place`, if there is a value.
+    /// Returns the item of the node whose lead unit is before `place`, if the node has a value.
     #[inline(always)]
     fn item_by(
         &self,
@@ -138,7 +138,7 @@ impl<'a> Pending<'a> {
         Ok(Some((text, value)))
     }
 
-    /// Opens the node: gives its item, if it has a value, and goes to the first node after it.
+    /// Opens the node: returns its item, if it has a value, and moves to the first node after it.
     fn open_node(&mut self, ) -> Result<Option<(String, i32)>, AllocError> {
         let Some(place) = self.node.take() else {
             return Ok(None);
@@ -154,8 +154,8 @@ impl<'a> Pending<'a> {
         Ok(item)
     }
 
-    /// Goes to the next node, by the next part where there is none: whether anything was left. A
-    /// part of a trie leads to a node.
+    /// Moves to the next node: the current one, or else the first node of the next part. Returns
+    /// false if nothing was left. In a trie every part leads to a node.
     #[inline]
     pub(crate) fn go_to_node(&mut self) -> Result<bool, AllocError> {
         if self.node.is_some() {
@@ -169,8 +169,8 @@ impl<'a> Pending<'a> {
         Ok(true)
     }
 
-    /// The next item. It opens at most as many nodes as there are units, and then nothing is left:
-    /// a node of a trie that has no item leads to a later one.
+    /// Returns the next item. Opens at most as many nodes as there are units, and then nothing is
+    /// left: in a trie a node without an item leads to a later node.
     #[inline]
     fn find_item(&mut self, ) -> Result<Option<(String, i32)>, AllocError> {
         for _opened in 0..self.units.len() {
@@ -186,7 +186,7 @@ impl<'a> Pending<'a> {
         Ok(None)
     }
 
-    /// The next item, or want of memory, after which nothing is left.
+    /// Returns the next item, or an `Err` if an allocation fails. After an `Err` nothing is left.
     #[inline]
     pub(crate) fn next_item(&mut self, ) -> Option<Result<(String, i32), MemoryError>> {
         let units = self.units;

@@ -1,30 +1,30 @@
-//! The places of a cursor in the units of a trie.
+//! Positions of a cursor in the units of a trie.
 
-/// Where a cursor stands.
+/// The position of a cursor.
 #[derive(Clone, Copy, Debug, PartialEq, Eq)]
 pub(crate) enum Place {
-    /// After no match.
+    /// Nothing matched.
     Nowhere,
-    /// At the node at this place.
+    /// At the node at this index.
     Node(usize),
-    /// In a linear match: the place of its next unit, and how many more units follow that one.
+    /// In a linear match: the index of its next unit, and how many more units follow that one.
     Run(usize, u8),
 }
 
-/// Where a cursor stands, as two numbers that may be kept or handed on (ICU's `UCharsTrie::State`).
+/// The position of a cursor as two numbers, which can be stored or passed on.
 ///
-/// Any two numbers are a place: from one that no cursor had, steps lead where the units say, and
-/// they match nothing where a unit is not there.
+/// Any two numbers are a valid position. From one that no cursor had, steps lead wherever the units
+/// say, and nothing matches if a unit is missing. ICU: `UCharsTrie::State`.
 #[derive(Clone, Copy, Debug, PartialEq, Eq)]
 pub struct CursorPlace {
-    /// The place of the next unit among the units of the trie.
+    /// The index of the next unit among the units of the trie.
     pub position: usize,
-    /// 0 at a node; in a linear match how many of its units are left, 1 to 256; above 256 after no
-    /// match.
+    /// 0 at a node; in a linear match the number of its units that are left, 1 to 256; above 256 if
+    /// nothing matched.
     pub left: u16,
 }
 
-/// The numbers of a place.
+/// Returns the two numbers of a position.
 #[inline]
 pub(crate) fn numbers_of(place: Place) -> CursorPlace {
     match place {
@@ -40,7 +40,7 @@ pub(crate) fn numbers_of(place: Place) -> CursorPlace {
     }
 }
 
-/// The place of two numbers.
+/// Returns the position of two numbers.
 #[inline]
 pub(crate) fn place_of(numbers: CursorPlace) -> Place {
     if numbers.position > isize::MAX as usize || numbers.left > 256 {

@@ -1,7 +1,7 @@
-//! Whether units are a trie: a node has to stand at each place that the root leads to.
+//! Whether units are a trie: there has to be a node at each index that the root leads to.
 //!
-//! Each node stands before those that it leads to, so that one pass over the units is enough: a
-//! node that is found sound marks the places where it wants others.
+//! Each node comes before those that it leads to, so one pass over the units is enough. A node that
+//! is valid so far marks, in `wanted`, the indices at which other nodes are required.
 
 #[allow(unused_imports)]
 use crate::support::prelude::*;
@@ -12,7 +12,7 @@ use crate::icu_char16trie::encoded::{
 use crate::icu_char16trie::trie::Char16Trie;
 use crate::icu_zerovec::{MemoryError, ZeroSlice};
 
-/// Wants a node at a place. `None` where no unit stands there.
+/// Marks `place` as the index of a required node. `None` if there is no unit.
 #[inline]
 fn want(wanted: &mut [bool], place: usize) -> Option<()> {
     if place >= wanted.len() {
@@ -22,8 +22,8 @@ fn want(wanted: &mut [bool], place: usize) -> Option<()> {
     Some(())
 }
 
-/// Goes through a row of at most five entries, whose units may not be below `from`, and wants their
-/// nodes. It answers one more than the last unit.
+/// Checks a row of at most five entries and marks the nodes that it leads to. Its units must ascend
+/// and be at least `from`. Returns one more than the last unit.
 fn check_row(
     units: ZeroSlice<'_, u16>,
     wanted: &mut [bool],
@@ -53,7 +53,8 @@ fn check_row(
     Some(usize::from(last) + 1)
 }
 
-/// The same of a part of a branch. It calls itself at most 16 deep.
+/// Checks a part of a branch and marks the nodes that it leads to. Its units must ascend and be at
+/// least `from`. Returns one more than the last unit. The recursion is at most 16 deep.
 fn check_part(
     units: ZeroSlice<'_, u16>,
     wanted: &mut [bool],
@@ -75,8 +76,8 @@ fn check_part(
     check_part(units, wanted, high, count - half, usize::from(split))
 }
 
-/// Whether a match node is sound as far as its own units say, by its low six bits; `place` is after
-/// its lead and its value. The nodes that it leads to are wanted.
+/// Checks the own units of a match node and marks the nodes that it leads to. `low` is the low six
+/// bits of its lead unit, and `place` is the index after the lead and its value.
 fn check_match(units: ZeroSlice<'_, u16>, wanted: &mut [bool], place: usize, low: u16) -> Option<()> {
     if low >= 0x30 {
         return want(wanted, place + (usize::from(low) - 0x2f));
@@ -93,7 +94,7 @@ fn check_match(units: ZeroSlice<'_, u16>, wanted: &mut [bool], place: usize, low
     Some(())
 }
 
-/// Whether a node is sound as far as its own units say. The nodes that it leads to are wanted.
+/// Checks the own units of a node and marks the nodes that it leads to.
 #[inline]
 pub(crate) fn check_node(units: ZeroSlice<'_, u16>, wanted: &mut [bool], place: usize) -> Option<()> {
     let lead = unit_at(units, place)?;
@@ -109,7 +110,7 @@ pub(crate) fn check_node(units: ZeroSlice<'_, u16>, wanted: &mut [bool], place: 
     check_match(units, wanted, end, lead % 64)
 }
 
-/// Whether a node stands at each place where one is wanted.
+/// Returns true if there is a node at each marked index.
 #[inline]
 pub(crate) fn has_all_wanted(units: ZeroSlice<'_, u16>, wanted: &mut [bool]) -> bool {
     for place in 0..units.len() {
@@ -121,28 +122,30 @@ pub(crate) fn has_all_wanted(units: ZeroSlice<'_, u16>, wanted: &mut [bool]) -> 
 }
 
 impl<'data> Char16Trie<'data> {
-    /// Whether the units are a trie of some map, so that what is listed of a stranger's units are
-    /// its entries. [`Char16Trie::new`] does not ask, and the Rust crate and ICU have no such test.
-    /// How many entries there are, and so how long a listing takes, tells
-    /// [`Char16Trie::count_entries`].
+    /// Returns true if the units are the trie of some map. Then a listing of them, even if they are
+    /// untrusted, gives exactly the entries of that map.
     ///
-    /// They are one where a node stands at each place that the root leads to: its lead, its value,
-    /// its linear match or its branch are whole, the units of a branch strictly ascend, also past
-    /// its split units, and it has two entries at least. No unit at all is the trie of the empty
-    /// map. What no node leads to is not looked at, and two nodes may lead to one, as ICU's builder
-    /// writes it.
+    /// [`Char16Trie::new`] does not check this, and the Rust crate and ICU have no such check.
+    /// [`Char16Trie::count_entries`] returns the number of entries, and so how long a listing
+    /// takes.
     ///
-    /// Each node is gone through once, and a part of a branch once for each of the branches that
-    /// share it; a branch has at most 65,536 entries. It takes one byte for each unit.
+    /// The units are a trie if there is a valid node at each index that the root leads to. The
+    /// lead, the value and the linear match or branch of a node must be complete. A branch must
+    /// have at least two entries, and its units must strictly ascend, also relative to its split
+    /// units. An empty list of units is the trie of the empty map. Units that no node leads to are
+    /// ignored. Two nodes may lead to the same node, as in tries from ICU's builder.
+    ///
+    /// Visits each node once, and a part of a branch once for each branch that shares it; a branch
+    /// has at most 65,536 entries. Allocates one byte for each unit.
     ///
     /// ```text
     /// // of [0x31, 0x61, 0x62, 0x8003], the map of "ab" to 3: trie.try_is_trie()? is true
-    /// // of [0x31, 0x61, 0x62], where no node stands behind the linear match, it is false
+    /// // of [0x31, 0x61, 0x62], which has no node after the linear match, it is false
     /// // of [1, 0x62, 0x8001, 0x61, 0x8002], whose units descend, it is false
     /// ```
     ///
     /// # Errors
-    /// `MemoryError` where memory was refused.
+    /// Returns `MemoryError` if an allocation fails.
     #[inline]
     pub fn try_is_trie(&self) -> Result<bool, MemoryError> {
         let units = self.data.as_slice();

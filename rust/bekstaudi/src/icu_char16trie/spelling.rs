@@ -5,30 +5,30 @@ use crate::support::prelude::*;
 use crate::icu_zerovec::ZeroSlice;
 use crate::support::{AllocError};
 
-/// The first unit of a pair of surrogates.
+/// A lead surrogate, the first unit of a surrogate pair.
 #[derive(Clone, Copy, Debug)]
 pub(crate) struct LeadSurrogate {
     pub unit: u16,
 }
 
-/// Where a spelling is to be cut back to.
+/// A point to which a spelling can be cut back.
 #[derive(Clone, Copy, Debug)]
 pub(crate) struct Mark {
-    /// How many bytes of the text stay.
+    /// The length of the text at that point, in bytes.
     pub len: usize,
-    /// The unit that was held there.
+    /// The lead surrogate that was held at that point.
     pub held: Option<LeadSurrogate>,
 }
 
-/// The text of a key whose units come one after another. A lead surrogate is held until the next
-/// unit says whether they are a pair.
+/// The text of a key whose units come one by one. A lead surrogate is held until the next unit
+/// shows whether the two are a pair.
 #[derive(Debug)]
 pub(crate) struct Spelling {
     pub text: String,
     pub held: Option<LeadSurrogate>,
 }
 
-/// The unit, if it is the first of a pair.
+/// Returns the unit if it is a lead surrogate.
 #[inline(always)]
 fn lead_surrogate(unit: u16) -> Option<LeadSurrogate> {
     if !(0xD800..0xDC00).contains(&unit) {
@@ -37,13 +37,13 @@ fn lead_surrogate(unit: u16) -> Option<LeadSurrogate> {
     Some(LeadSurrogate { unit })
 }
 
-/// The character of a unit that is in no pair.
+/// Returns the character of a unit that is in no pair: U+FFFD for a surrogate.
 #[inline(always)]
 fn lone_char(unit: u16) -> char {
     char::from_u32(u32::from(unit)).unwrap_or(char::REPLACEMENT_CHARACTER)
 }
 
-/// The character of a lead surrogate and the unit after it, if they are a pair.
+/// Returns the character of a lead surrogate and the unit after it, if they are a pair.
 #[inline(always)]
 fn pair_char(lead: LeadSurrogate, unit: u16) -> Option<char> {
     if !(0xDC00..0xE000).contains(&unit) {
@@ -53,7 +53,7 @@ fn pair_char(lead: LeadSurrogate, unit: u16) -> Option<char> {
 }
 
 impl Spelling {
-    /// The spelling of the empty key.
+    /// Creates the spelling of the empty key.
     #[inline]
     pub(crate) fn new() -> Self {
         Spelling {
@@ -62,7 +62,7 @@ impl Spelling {
         }
     }
 
-    /// One more unit, where none is held.
+    /// Appends a unit when no lead surrogate is held.
     #[inline(always)]
     fn push_next(&mut self, unit: u16) -> Result<(), AllocError> {
         if let Some(lead) = lead_surrogate(unit) {
@@ -73,7 +73,7 @@ impl Spelling {
         Ok(())
     }
 
-    /// One more unit after a lead surrogate that is held.
+    /// Appends a unit after a held lead surrogate.
     #[inline(never)]
     fn push_after(&mut self, lead: LeadSurrogate, unit: u16) -> Result<(), AllocError> {
         self.held = None;
@@ -86,7 +86,7 @@ impl Spelling {
         Ok(())
     }
 
-    /// One more unit.
+    /// Appends a unit.
     #[inline(always)]
     pub(crate) fn try_push(&mut self, unit: u16) -> Result<(), AllocError> {
         let Some(lead) = self.held else {
@@ -97,7 +97,7 @@ impl Spelling {
         Ok(())
     }
 
-    /// So many units more.
+    /// Appends the `count` units at `place`.
     #[inline]
     pub(crate) fn push_run(
         &mut self,
@@ -113,7 +113,7 @@ impl Spelling {
         Ok(())
     }
 
-    /// Where the spelling is now.
+    /// Returns a mark of the current state.
     #[inline]
     pub(crate) fn mark(&self) -> Mark {
         Mark {
@@ -122,14 +122,14 @@ impl Spelling {
         }
     }
 
-    /// The spelling is what it was at the mark.
+    /// Cuts the spelling back to what it was at the mark.
     #[inline]
     pub(crate) fn cut_to(&mut self, mark: Mark) {
         self.text.truncate(mark.len);
         self.held = mark.held;
     }
 
-    /// The text of the key: a unit that is held is a lone surrogate.
+    /// Returns the text of the key. A held unit counts as a lone surrogate.
     #[inline]
     pub(crate) fn key_text(&self) -> Result<String, AllocError> {
         let mut text = String::from_str(&self.text)?;

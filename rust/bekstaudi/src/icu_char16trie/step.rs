@@ -1,11 +1,11 @@
-//! A step of a cursor, and what stands where it is.
+//! Steps of a cursor, and the value at a position.
 
 use crate::icu_char16trie::branch::child_in_part;
 use crate::icu_char16trie::encoded::{node_end, node_number, short_number, unit_at};
 use crate::icu_char16trie::place::Place;
 use crate::icu_zerovec::ZeroSlice;
 
-/// The place after the first unit of a run of `left + 1` units.
+/// Returns the position after the unit `unit` in a linear match that has `left + 1` units left.
 #[inline(always)]
 fn step_in_run(units: ZeroSlice<'_, u16>, place: usize, left: u8, unit: u16) -> Place {
     let Some(next) = unit_at(units, place) else {
@@ -20,7 +20,7 @@ fn step_in_run(units: ZeroSlice<'_, u16>, place: usize, left: u8, unit: u16) -> 
     }
 }
 
-/// The place after a unit at a branch of so many entries.
+/// Returns the position after the unit `unit` at a branch with `length` entries.
 #[inline(always)]
 fn step_in_branch(units: ZeroSlice<'_, u16>, place: usize, length: usize, unit: u16) -> Place {
     match child_in_part(units, place, length, unit) {
@@ -29,8 +29,8 @@ fn step_in_branch(units: ZeroSlice<'_, u16>, place: usize, length: usize, unit: 
     }
 }
 
-/// The place after a unit at a match node, by its low six bits; `place` is after its lead and its
-/// value.
+/// Returns the position after the unit `unit` at a match node. `low` is the low six bits of its
+/// lead unit, and `place` is the index after the lead and its value.
 #[inline(always)]
 fn step_in_match(units: ZeroSlice<'_, u16>, place: usize, low: u16, unit: u16) -> Place {
     if low >= 0x30 {
@@ -45,7 +45,7 @@ fn step_in_match(units: ZeroSlice<'_, u16>, place: usize, low: u16, unit: u16) -
     }
 }
 
-/// The place after a unit at a node.
+/// Returns the position after the unit `unit` at a node.
 #[inline(always)]
 fn step_in_node(units: ZeroSlice<'_, u16>, place: usize, unit: u16) -> Place {
     let Some(lead) = unit_at(units, place) else {
@@ -60,7 +60,7 @@ fn step_in_node(units: ZeroSlice<'_, u16>, place: usize, unit: u16) -> Place {
     step_in_match(units, node_end(place + 1, lead), lead % 64, unit)
 }
 
-/// The place after one more unit.
+/// Returns the position after one more unit.
 #[inline(always)]
 pub(crate) fn step(units: ZeroSlice<'_, u16>, place: Place, unit: u16) -> Place {
     match place {
@@ -70,7 +70,8 @@ pub(crate) fn step(units: ZeroSlice<'_, u16>, place: Place, unit: u16) -> Place 
     }
 }
 
-/// The value that stands at a lead unit before `place`, 0 if it is cut off.
+/// Returns the value of the node whose lead unit is before `place`. It is 0 if some of its units
+/// are missing.
 #[inline(always)]
 pub(crate) fn value_by(units: ZeroSlice<'_, u16>, place: usize, lead: u16) -> Option<i32> {
     if lead < 0x40 {
@@ -86,7 +87,7 @@ pub(crate) fn value_by(units: ZeroSlice<'_, u16>, place: usize, lead: u16) -> Op
     }
 }
 
-/// The value at a place.
+/// Returns the value at a position.
 #[inline(always)]
 pub(crate) fn value_at(units: ZeroSlice<'_, u16>, place: Place) -> Option<i32> {
     match place {
@@ -98,7 +99,7 @@ pub(crate) fn value_at(units: ZeroSlice<'_, u16>, place: Place) -> Option<i32> {
     }
 }
 
-/// Whether nothing can match from a place on.
+/// Returns true if no unit can match at a position.
 #[inline]
 pub(crate) fn is_empty_at(units: ZeroSlice<'_, u16>, place: Place) -> bool {
     match place {

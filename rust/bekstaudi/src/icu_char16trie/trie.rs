@@ -1,4 +1,4 @@
-//! The trie over a packed vector of units.
+//! The trie, stored in a packed vector of units.
 
 #[allow(unused_imports)]
 use crate::support::prelude::*;
@@ -8,8 +8,8 @@ use crate::icu_char16trie::iterator::Char16TrieIterator;
 use crate::icu_char16trie::listing::Entries;
 use crate::icu_zerovec::{MemoryError, ZeroVec};
 
-/// A map from lists of 16-bit units, mostly texts in UTF-16, to numbers of 32 bits with sign, in
-/// the format of ICU's `UCharsTrie`.
+/// A map from lists of 16-bit units, mostly texts in UTF-16, to signed 32-bit numbers, in the
+/// format of ICU's `UCharsTrie`.
 ///
 /// ```ignore
 /// let trie = Char16Trie::new(ZeroVec::alloc_from_slice(&[0x31, 0x61, 0x62, 0x8003])?);
@@ -19,7 +19,7 @@ use crate::icu_zerovec::{MemoryError, ZeroVec};
 /// cursor.step('b'); // cursor.value() is Some(3)
 /// ```
 ///
-/// Two tries are equal exactly if their units are, whichever of them borrows.
+/// Two tries are equal exactly if their units are, whether they own or borrow them.
 #[derive(Debug)]
 pub struct Char16Trie<'data> {
     /// The units.
@@ -27,13 +27,13 @@ pub struct Char16Trie<'data> {
 }
 
 impl<'data> Char16Trie<'data> {
-    /// The trie of these units. They are not tested: look-ups answer on all units.
+    /// Creates the trie of these units. They are not validated: look-ups return on all units.
     #[inline]
     pub fn new(data: ZeroVec<'data, u16>) -> Self {
         Char16Trie { data }
     }
 
-    /// A cursor at the root, for look-up unit by unit.
+    /// Returns a cursor at the root, for looking up keys unit by unit.
     ///
     /// ```text
     /// // of the map of "ab" to 3
@@ -46,7 +46,7 @@ impl<'data> Char16Trie<'data> {
         Char16TrieCursor::new(self.data.as_slice())
     }
 
-    /// An iterator at the root: a cursor that tells at each step what it found.
+    /// Returns an iterator at the root: a cursor that returns a result for each step.
     ///
     /// ```text
     /// // of the map of "ab" to 3
@@ -58,15 +58,16 @@ impl<'data> Char16Trie<'data> {
         Char16TrieIterator::new(self.data.as_slice())
     }
 
-    /// The entries, in unit order: each key as text, with its value. It takes no memory before its
-    /// first item.
+    /// Returns an iterator over the entries, in unit order: each key as text, with its value.
     ///
-    /// One item opens at most as many nodes as there are units, whatever they are. All of them take
-    /// as long as there are entries, which may be very many over few units, since nodes may be
-    /// shared: [`Char16Trie::count_entries`] tells how many there are.
+    /// Allocates nothing before the first item. An item is an `Err` if an allocation fails, and
+    /// then the iterator ends.
     ///
-    /// It is not named `iter`, since in the Rust crate that call gives what looks up and does not
-    /// list.
+    /// One item opens at most as many nodes as there are units. A whole run takes time proportional
+    /// to the number of entries. Nodes may be shared, so a few units can have very many entries:
+    /// [`Char16Trie::count_entries`] returns how many.
+    ///
+    /// It is not named `iter` because in the Rust crate `iter` returns a look-up, not a listing.
     ///
     /// ```text
     /// // of the map of "a" to 1 and "ab" to 2
@@ -79,11 +80,11 @@ impl<'data> Char16Trie<'data> {
         Iter2::new(self.data.as_slice())
     }
 
-    /// The entries, in unit order, by one buffer for the text of their keys: for a listing that
-    /// keeps no keys, where [`iter2`](Self::iter2) gives each as a text of its own.
+    /// Returns the entries, in unit order, with one buffer for the text of their keys.
     ///
-    /// It takes no memory before the first entry. As with `iter2`, one call opens at most as many
-    /// nodes as there are units, and there may be very many entries.
+    /// Use this to list entries without storing the keys; [`iter2`](Self::iter2) returns each key
+    /// as a text of its own. Allocates nothing before the first entry. As with `iter2`, one call
+    /// opens at most as many nodes as there are units, and there may be very many entries.
     ///
     /// ```text
     /// // of the map of "a" to 1 and "ab" to 2
@@ -97,10 +98,10 @@ impl<'data> Char16Trie<'data> {
         self.cursor().entries()
     }
 
-    /// An equal trie that owns its units.
+    /// Returns an equal trie that owns its units.
     ///
     /// # Errors
-    /// `MemoryError` where memory was refused.
+    /// Returns `MemoryError` if an allocation fails.
     #[inline]
     pub fn try_clone(&self) -> Result<Char16Trie<'static>, MemoryError> {
         Ok(Char16Trie::new(self.data.try_clone()?))

@@ -1,7 +1,8 @@
-//! The value that all keys going on from a place have.
+//! The value that all keys ahead of a position have.
 //!
-//! Nodes may be shared, so that few units have very many keys. Each node stands before those that
-//! it leads to, and so one pass goes through each once: it marks the places of the nodes to come.
+//! Several nodes may lead to the same node, so a few units can have very many keys. Each node comes
+//! before those that it leads to, so one pass visits each node once. It marks the indices of the
+//! nodes that are still to come.
 
 #[allow(unused_imports)]
 use crate::support::prelude::*;
@@ -10,8 +11,8 @@ use crate::icu_char16trie::soundness::check_node;
 use crate::icu_char16trie::step::value_at;
 use crate::icu_zerovec::{MemoryError, ZeroSlice};
 
-/// The place of the node that comes after what is left of a linear match. `None` after no match,
-/// and where no unit stands there.
+/// Returns the index of the node that comes after the rest of a linear match. `None` if nothing
+/// matched or there is no unit at that index.
 #[inline]
 fn node_ahead(units: ZeroSlice<'_, u16>, place: Place) -> Option<usize> {
     let node = match place {
@@ -25,7 +26,7 @@ fn node_ahead(units: ZeroSlice<'_, u16>, place: Place) -> Option<usize> {
     Some(node)
 }
 
-/// Whether no other value was found before.
+/// Returns true if no other value was found before.
 #[inline]
 fn agrees(found: Option<i32>, value: i32) -> bool {
     match found {
@@ -34,8 +35,8 @@ fn agrees(found: Option<i32>, value: i32) -> bool {
     }
 }
 
-/// Goes through a node: the value that was found, by now. `None` where the node is not sound, or
-/// where its value is another one. The nodes that it leads to are wanted.
+/// Visits a node, marks the nodes that it leads to, and returns the value that was found so far.
+/// `None` if the node is not valid or has another value.
 fn pass_node(
     units: ZeroSlice<'_, u16>,
     wanted: &mut [bool],
@@ -52,8 +53,8 @@ fn pass_node(
     Some(Some(value))
 }
 
-/// The value of all entries of the node at `root`, which alone is wanted. `None` where they have
-/// different ones, and where the units are no trie from there on.
+/// Returns the value of all entries of the node at `root`, the only index that is marked in
+/// `wanted`. `None` if the values differ or the units are no trie from there on.
 #[inline]
 fn value_of_wanted(units: ZeroSlice<'_, u16>, wanted: &mut [bool], root: usize) -> Option<i32> {
     let mut found = None;
@@ -65,8 +66,8 @@ fn value_of_wanted(units: ZeroSlice<'_, u16>, wanted: &mut [bool], root: usize) 
     found
 }
 
-/// The value of all keys that go on from a place. `None` where they have different ones, where no
-/// key goes on, and where the units are no trie from there on.
+/// Returns the value of all keys ahead of a position. `None` if the values differ, if there is no
+/// key, or if the units are no trie from there on.
 #[inline]
 pub(crate) fn unique_value_at(
     units: ZeroSlice<'_, u16>,

@@ -1,4 +1,4 @@
-//! The walk of a listing from one entry of a trie to the next.
+//! How a listing walks from one entry of a trie to the next.
 
 #[allow(unused_imports)]
 use crate::support::prelude::*;
@@ -12,18 +12,18 @@ use crate::support::{AllocError};
 /// A walk over the entries of a trie: the entry that it reached last, and what is still to come.
 #[derive(Debug)]
 pub(crate) struct Walk<'a> {
-    /// The key of the entry as it is spelled, and the parts that were put off.
+    /// The key of the entry as it is spelled, and the postponed parts.
     pub pending: Pending<'a>,
     /// What comes next under that key, before the parts.
     pub front: Front,
     /// The value of the entry.
     pub value: i32,
-    /// The text of the key, where it ends in a lead surrogate.
+    /// The text of the key, if it ends in a lead surrogate.
     pub ended: String,
 }
 
 impl<'a> Walk<'a> {
-    /// The walk over what stands at a place.
+    /// Creates the walk over the entries from a position.
     pub(crate) fn new(units: ZeroSlice<'a, u16>, place: Place) -> Self {
         let pending = Pending {
             units,
@@ -39,7 +39,7 @@ impl<'a> Walk<'a> {
         }
     }
 
-    /// The text of the key.
+    /// Returns the text of the key.
     #[inline]
     pub(crate) fn text(&self) -> &str {
         match self.pending.spelling.held {
@@ -48,7 +48,7 @@ impl<'a> Walk<'a> {
         }
     }
 
-    /// Writes the text of the key, where it ends in a lead surrogate: with U+FFFD for that.
+    /// If the key ends in a lead surrogate, writes its text with U+FFFD instead.
     #[inline(always)]
     fn end_key(&mut self) -> Result<(), AllocError> {
         let Some(_lead) = self.pending.spelling.held else {
@@ -60,8 +60,8 @@ impl<'a> Walk<'a> {
         Ok(())
     }
 
-    /// Goes to the next entry, if there is one. It reads at most as many nodes as there are units:
-    /// a node of a trie that has no value leads to a later one.
+    /// Moves to the next entry and returns true, or returns false if there is none. Reads at most
+    /// as many nodes as there are units: in a trie a node without a value leads to a later node.
     fn find_entry(&mut self) -> Result<bool, AllocError> {
         let front = self.front;
         self.pending.open_front(front)?;
@@ -81,7 +81,7 @@ impl<'a> Walk<'a> {
         Ok(false)
     }
 
-    /// Nothing is left, and no entry is told.
+    /// Ends the walk: nothing is left, the text is empty and the value is 0.
     #[inline]
     fn end(&mut self) {
         self.pending.parts.clear();
@@ -91,7 +91,7 @@ impl<'a> Walk<'a> {
         self.value = 0;
     }
 
-    /// Goes to the next entry, if there is one. After anything else nothing is left.
+    /// Moves to the next entry and returns true. In all other cases nothing is left.
     #[inline]
     pub(crate) fn next_entry(&mut self) -> Result<bool, MemoryError> {
         match self.find_entry() {

@@ -1,9 +1,9 @@
-//! A cursor takes the units of a text that is written to it.
+//! Looks up text that is written to a cursor.
 
 use crate::icu_char16trie::cursor::Char16TrieCursor;
 use core::fmt;
 
-/// What is written is looked up: its units in UTF-16 are passed, and every write answers `Ok`.
+/// Advances the cursor by the UTF-16 units of the written text. Every write returns `Ok`.
 impl<'a> fmt::Write for Char16TrieCursor<'a> {
     #[inline]
     fn write_str(&mut self, s: &str) -> fmt::Result {

@@ -1,12 +1,12 @@
-//! The arms of a branch: its entries by the unit that their keys go on with. What stands before
-//! `depth` in the keys has been passed.
+//! The arms of a branch: its entries, grouped by their next unit. The first `depth` units of the
+//! keys have been passed.
 
 #[allow(unused_imports)]
 use crate::support::prelude::*;
 use crate::icu_char16trie_builder::entry::{Arm, Entry};
 use crate::support::{AllocError};
 
-/// How many units two lists begin with together.
+/// Returns the length of the longest common prefix of two lists.
 #[inline]
 fn common_len(a: &[u16], b: &[u16]) -> usize {
     let end = a.len().min(b.len());
@@ -18,7 +18,7 @@ fn common_len(a: &[u16], b: &[u16]) -> usize {
     end
 }
 
-/// How many units the key of the first entry shares from `depth` on with a list.
+/// Returns the length of the common prefix of `units` and the first entry's key from `depth` on.
 #[inline]
 fn shared_by_first(units: &[u16], entries: &[Entry<'_>], depth: usize) -> usize {
     if let Some(entry) = entries.first() {
@@ -30,7 +30,7 @@ fn shared_by_first(units: &[u16], entries: &[Entry<'_>], depth: usize) -> usize 
     0
 }
 
-/// How many units, at most `most`, all keys share from `depth` on with a list.
+/// Returns the length, at most `most`, of a common prefix of `units` and all keys from `depth` on.
 #[inline]
 pub(crate) fn shared_len(units: &[u16], entries: &[Entry<'_>], depth: usize, most: usize) -> usize {
     let mut shared = units.len().min(most);
@@ -40,14 +40,14 @@ pub(crate) fn shared_len(units: &[u16], entries: &[Entry<'_>], depth: usize, mos
     shared
 }
 
-/// The unit at `depth` of the key of the first entry.
+/// Returns the unit at `depth` of the first entry's key.
 #[inline]
 fn first_unit(entries: &[Entry<'_>], depth: usize) -> Option<u16> {
     let first = entries.first()?;
     first.key.get(depth).copied()
 }
 
-/// How many of the first entries have this unit at `depth`.
+/// Returns the number of leading entries that have `unit` at `depth`.
 #[inline]
 fn group_len(entries: &[Entry<'_>], depth: usize, unit: u16) -> usize {
     for i in 0..entries.len() {
@@ -58,7 +58,7 @@ fn group_len(entries: &[Entry<'_>], depth: usize, unit: u16) -> usize {
     entries.len()
 }
 
-/// The arms of a branch of entries whose keys all go on at `depth`.
+/// Returns the arms of a branch. Each key has more than `depth` units.
 pub(crate) fn arms_of<'a>(
     entries: &'a [Entry<'a>],
     depth: usize,

@@ -1,4 +1,4 @@
-//! Entries are added, and become a trie.
+//! Collects entries and builds a trie.
 
 #[allow(unused_imports)]
 use crate::support::prelude::*;
@@ -12,14 +12,15 @@ use crate::icu_zerovec::{MemoryError, ZeroVec};
 use crate::support::{AllocError};
 use crate::support::BTreeMap;
 
-/// The most units that a key may have.
+/// The largest number of units in a key.
 pub(crate) const LONGEST_KEY: usize = 65_535;
 
-/// The most units that a trie may need: a jump over so many has its number.
+/// The largest number of units that a trie may need: it is a number that a jump can encode.
 const MOST_UNITS: u64 = 0x7FFF_FFFF;
 
-/// Entries, each a key of 16-bit units with a value, on their way into a trie (ICU's
-/// `UCharsTrieBuilder`).
+/// A builder of a trie from entries: keys of 16-bit units, each with a value.
+///
+/// ICU: `UCharsTrieBuilder`.
 ///
 /// ```ignore
 /// let mut builder = Char16TrieBuilder::new();
@@ -33,13 +34,13 @@ pub struct Char16TrieBuilder {
     entries: BTreeMap<Vec<u16>, i32>,
 }
 
-/// Whether a map has a key.
+/// Returns true if the map contains the key.
 #[inline]
 fn has_key(entries: &BTreeMap<Vec<u16>, i32>, key: &[u16]) -> bool {
     entries.contains_key(key)
 }
 
-/// Adds an entry, whose key is given away, to a map. A refused one leaves it as it was.
+/// Adds an entry to a map, which takes ownership of the key. On an error the map is unchanged.
 #[inline]
 fn insert_key(
     entries: &mut BTreeMap<Vec<u16>, i32>,
@@ -50,7 +51,7 @@ fn insert_key(
     Ok(())
 }
 
-/// Adds an entry to a map. A refused one leaves it as it was.
+/// Adds an entry to a map. On an error the map is unchanged.
 #[inline]
 fn insert(
     entries: &mut BTreeMap<Vec<u16>, i32>,
@@ -61,7 +62,7 @@ fn insert(
     insert_key(entries, key, value)
 }
 
-/// The entries of a map, in their order.
+/// Returns the entries of a map, in their order.
 #[inline]
 fn entries_of<'a>(
     entries: &'a BTreeMap<Vec<u16>, i32>,
@@ -76,13 +77,14 @@ fn entries_of<'a>(
     Ok(list)
 }
 
-/// How many units the key of the first entry has.
+/// Returns the number of units in the first entry's key.
 #[inline]
 fn first_len(entries: &[Entry<'_>]) -> usize {
     entries[0].key.len()
 }
 
-/// What entries take with one more whose key has so many units, if that is not too much.
+/// Returns the bound for entries whose bound is `total` and one more whose key has `len` units, or
+/// `None` if it is too large.
 #[inline]
 pub(crate) fn total_with(total: u64, len: usize) -> Option<u64> {
     let len = len as u64;
@@ -96,7 +98,7 @@ pub(crate) fn total_with(total: u64, len: usize) -> Option<u64> {
     Some(more)
 }
 
-/// Whether no trie of the entries can need too many units.
+/// Returns true if no trie of the entries can need too many units.
 #[inline]
 fn fits(entries: &[Entry<'_>]) -> bool {
     let mut total: u64 = 0;
@@ -109,7 +111,7 @@ fn fits(entries: &[Entry<'_>]) -> bool {
     true
 }
 
-/// The units of a trie of the entries: none, if there are none.
+/// Returns the units of a trie of the entries. Without entries there are no units.
 #[inline]
 fn trie_units(entries: &[Entry<'_>]) -> Result<Vec<u16>, AllocError> {
     if entries.is_empty() {
@@ -118,7 +120,7 @@ fn trie_units(entries: &[Entry<'_>]) -> Result<Vec<u16>, AllocError> {
     units_of(entries)
 }
 
-/// The trie of the entries.
+/// Returns the trie of the entries.
 #[inline]
 fn trie_of(entries: &[Entry<'_>]) -> Result<Char16Trie<'static>, MemoryError> {
     let units = trie_units(entries)?;
@@ -127,7 +129,7 @@ fn trie_of(entries: &[Entry<'_>]) -> Result<Char16Trie<'static>, MemoryError> {
 }
 
 impl Char16TrieBuilder {
-    /// No entries. It takes no memory; that is left to the calls that do.
+    /// Creates a builder without entries. Allocates nothing.
     #[inline]
     pub fn new() -> Self {
         Char16TrieBuilder {
@@ -135,13 +137,15 @@ impl Char16TrieBuilder {
         }
     }
 
-    /// Adds an entry, in any order of keys. A key may be empty, and may be the front of another
-    /// one.
+    /// Adds an entry. Keys may be added in any order. A key may be empty, and may be a prefix of
+    /// another.
     ///
     /// # Errors
-    /// `KeyTooLong` exactly where the key has more than 65,535 units, else `Duplicate` exactly
-    /// where there is an entry with this key, and `Memory` where memory was refused. The entries
-    /// are then as before.
+    /// - `KeyTooLong` if and only if the key has more than 65,535 units.
+    /// - Otherwise `Duplicate` if and only if there is already an entry with this key.
+    /// - Otherwise `Memory` if an allocation fails.
+    ///
+    /// On an error the entries are unchanged.
     #[inline]
     pub fn add(&mut self, key: &[u16], value: i32) -> Result<(), AddError> {
         if key.len() > LONGEST_KEY {
@@ -156,7 +160,7 @@ impl Char16TrieBuilder {
         }
     }
 
-    /// Adds an entry whose key is the units of a text in UTF-16, as [`add`](Self::add).
+    /// Adds an entry whose key is a text, as its units in UTF-16.
     ///
     /// ```ignore
     /// builder.add_str("ab", 2)?; // as builder.add(&[0x61, 0x62], 2)?
@@ -164,9 +168,12 @@ impl Char16TrieBuilder {
     /// ```
     ///
     /// # Errors
-    /// `KeyTooLong` exactly where the text has more than 65,535 units. Else, where there is an
-    /// entry with this key, `Duplicate`, and `Memory` where memory was refused, also for the units
-    /// of a key that is there. The entries are then as before.
+    /// - `KeyTooLong` if and only if the text has more than 65,535 units in UTF-16.
+    /// - Otherwise `Duplicate` if there is already an entry with this key.
+    /// - `Memory` if an allocation fails. The units of the key are allocated first, so this may
+    ///   also happen for a duplicate key.
+    ///
+    /// On an error the entries are unchanged.
     pub fn add_str(&mut self, key: &str, value: i32) -> Result<(), AddError> {
         if is_too_long(key) {
             return Err(AddError::KeyTooLong);
@@ -183,25 +190,28 @@ impl Char16TrieBuilder {
         }
     }
 
-    /// How many entries there are.
+    /// Returns the number of entries.
     #[inline]
     pub fn len(&self) -> usize {
         self.entries.len()
     }
 
-    /// Whether there is no entry.
+    /// Returns true if there are no entries.
     #[inline]
     pub fn is_empty(&self) -> bool {
         self.entries.is_empty()
     }
 
-    /// The trie of the entries: the empty list of units, if there are none. With U units in the
-    /// keys of E entries it has at most 2 U + 16 E units. Equal nodes that are jumped to are
-    /// written once.
+    /// Builds the trie of the entries. Without entries it has no units.
+    ///
+    /// If E entries have keys with U units in all, the trie has at most 2 U + 16 E units. Equal
+    /// nodes that are reached by a jump are written once.
     ///
     /// # Errors
-    /// `TooLarge` exactly where 2 U + 16 E is more than `0x7FFF_FFFF` and no memory was refused
-    /// before that was found, and `Memory` where memory was refused. The entries are dropped.
+    /// Both errors drop the entries.
+    ///
+    /// - `TooLarge` if 2 U + 16 E is more than `0x7FFF_FFFF`.
+    /// - `Memory` if an allocation fails. This can happen before the size is checked.
     #[inline]
     pub fn try_build(self) -> Result<Char16Trie<'static>, BuildError> {
         let entries = entries_of(&self.entries)?;
@@ -212,9 +222,10 @@ impl Char16TrieBuilder {
         Ok(trie)
     }
 
-    /// The trie of entries whose keys ascend in unit order already, each after the one before: the
-    /// empty list of units, if there are none. It is the trie that a builder builds of them, and no
-    /// key is copied for it.
+    /// Builds the trie of entries whose keys already strictly ascend in unit order. Without entries
+    /// it has no units.
+    ///
+    /// The trie is the one that a builder builds from these entries, but no key is copied.
     ///
     /// ```ignore
     /// let entries: [(&[u16], i32); 2] = [(&[0x61], 1), (&[0x61, 0x62], 2)];
@@ -223,11 +234,13 @@ impl Char16TrieBuilder {
     /// ```
     ///
     /// # Errors
-    /// Of the first entry that can't be taken the place, counted from 0: `KeyTooLong` exactly where
-    /// its key has more than 65,535 units, and else `NotAscending`, exactly where its key is equal
-    /// to the key before it or stands before that. `TooLarge` exactly where all can be taken, and
-    /// 2 U + 16 E is more than `0x7FFF_FFFF`, with U units in the keys of E entries. These take no
-    /// memory. Else `Memory` where memory was refused.
+    /// The first two carry the index, counted from 0, of the first entry that is not valid:
+    ///
+    /// - `KeyTooLong` if and only if its key has more than 65,535 units.
+    /// - `NotAscending` otherwise: its key is equal to the key before it, or less.
+    /// - `TooLarge` if and only if all entries are valid and 2 U + 16 E is more than `0x7FFF_FFFF`,
+    ///   for E entries with U units in their keys.
+    /// - `Memory` if an allocation fails. The other errors are found without allocating.
     #[inline]
     pub fn build_sorted(
         entries: &[(&[u16], i32)],

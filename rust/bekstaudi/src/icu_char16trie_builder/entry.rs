@@ -7,7 +7,7 @@ pub(crate) struct Entry<'a> {
     pub(crate) value: i32,
 }
 
-/// An entry of a branch: a unit, and the entries whose keys go on with it.
+/// An entry of a branch: a unit, and the entries whose keys continue with it.
 #[derive(Clone, Copy)]
 pub(crate) struct Arm<'a> {
     pub(crate) unit: u16,

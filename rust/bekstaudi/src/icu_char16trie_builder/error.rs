@@ -1,16 +1,16 @@
-//! Why an entry was refused, or a trie could not be built.
+//! Why an entry was rejected, or a trie could not be built.
 
 use crate::icu_zerovec::MemoryError;
 use crate::support::{AllocError, AllocFailed};
 
-/// Why an entry was refused. The entries are then as before.
+/// Why an entry was rejected. The entries are then unchanged.
 #[derive(Clone, Copy, Debug, PartialEq, Eq)]
 pub enum AddError {
     /// The key has more than 65,535 units.
     KeyTooLong,
-    /// There is an entry with this key.
+    /// There is already an entry with this key.
     Duplicate,
-    /// Memory was refused.
+    /// An allocation failed.
     Memory,
 }
 
@@ -24,12 +24,12 @@ impl From<MemoryError> for AddError {
 /// Why a trie could not be built.
 #[derive(Clone, Copy, Debug, PartialEq, Eq)]
 pub enum BuildError {
-    /// The entries may take more than `0x7FFF_FFFF` units.
+    /// The entries may need more than `0x7FFF_FFFF` units.
     TooLarge,
-    /// An entry was refused. No build gives this: it stands here for `?`, in a function that adds
-    /// entries and builds.
+    /// An entry was rejected. The builder never returns this: it is for `?` in a function that both
+    /// adds entries and builds.
     Entry(AddError),
-    /// Memory was refused.
+    /// An allocation failed.
     Memory,
 }
 
@@ -54,7 +54,7 @@ impl From<MemoryError> for BuildError {
     }
 }
 
-/// For `?` after an entry was added. Want of memory stays what it is.
+/// For `?` after adding an entry. `Memory` stays `Memory`.
 impl From<AddError> for BuildError {
     #[inline]
     fn from(error: AddError) -> BuildError {
@@ -65,16 +65,17 @@ impl From<AddError> for BuildError {
     }
 }
 
-/// Why no trie was built of a slice of entries. A place is an index in the slice.
+/// Why no trie was built from a slice of entries. An index is that of an entry in the slice.
 #[derive(Clone, Copy, Debug, PartialEq, Eq)]
 pub enum SortedError {
-    /// The key at this place, the first that can't be taken, has more than 65,535 units.
+    /// The key at this index has more than 65,535 units. It is the first entry that is not valid.
     KeyTooLong(usize),
-    /// The key at this place, the first that can't be taken, does not stand after the one before.
+    /// The key at this index is not greater than the one before. It is the first entry that is not
+    /// valid.
     NotAscending(usize),
-    /// The entries may take more than `0x7FFF_FFFF` units.
+    /// The entries may need more than `0x7FFF_FFFF` units.
     TooLarge,
-    /// Memory was refused.
+    /// An allocation failed.
     Memory,
 }
 

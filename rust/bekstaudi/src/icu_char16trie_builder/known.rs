@@ -1,4 +1,4 @@
-//! Nodes that were written, so that an equal one is not written again.
+//! Nodes that were written, so that an equal node is not written again.
 
 #[allow(unused_imports)]
 use crate::support::prelude::*;
@@ -7,11 +7,11 @@ use crate::icu_char16trie_builder::open::units_from;
 use crate::support::{AllocError};
 use crate::support::HashMap;
 
-/// How many entries, and how many units of a key, make up a hash.
+/// The number of entries, and of units of a key, that go into a hash.
 const HASHED: usize = 16;
 
-/// A node that was written: its entries, whose keys have passed `depth` units, and where it stands,
-/// counted from the end.
+/// A node that was written: its entries, the number of units of their keys that have been passed,
+/// and its index, counted from the end of the units.
 #[derive(Clone, Copy)]
 pub(crate) struct KnownNode<'a> {
     pub(crate) entries: &'a [Entry<'a>],
@@ -19,20 +19,20 @@ pub(crate) struct KnownNode<'a> {
     pub(crate) place: usize,
 }
 
-/// Nodes that were written.
+/// The nodes that were written.
 pub(crate) struct Known<'a> {
     nodes: Vec<KnownNode<'a>>,
-    // The last node of each hash. Any number would do: the entries are compared.
+    // The last node of each hash. Any hash function is correct, because the entries are compared.
     last: HashMap<u64, usize>,
 }
 
-/// One number more in a hash.
+/// Mixes one more number into a hash.
 #[inline]
 fn mixed(hash: u64, number: u64) -> u64 {
     (hash.rotate_left(5) ^ number).wrapping_mul(0x517C_C1B7_2722_0A95)
 }
 
-/// The units of a key, in a hash.
+/// Mixes the units of a key into a hash.
 #[inline]
 fn with_key(hash: u64, units: &[u16]) -> u64 {
     let mut hash = mixed(hash, units.len() as u64);
@@ -42,7 +42,7 @@ fn with_key(hash: u64, units: &[u16]) -> u64 {
     hash
 }
 
-/// The hash of a node: equal ones have the same.
+/// Returns the hash of a node. Equal nodes have equal hashes.
 #[inline]
 fn hash_of(entries: &[Entry<'_>], depth: usize) -> u64 {
     let mut hash = entries.len() as u64;
@@ -53,7 +53,8 @@ fn hash_of(entries: &[Entry<'_>], depth: usize) -> u64 {
     hash
 }
 
-/// Whether two lists of entries begin alike, each without the units that its keys have passed.
+/// Returns true if the first entries of two lists are equal, each without the units of its key that
+/// have been passed.
 #[inline]
 fn begin_alike(a: &[Entry<'_>], a_depth: usize, b: &[Entry<'_>], b_depth: usize) -> bool {
     if let (Some((x, _)), Some((y, _))) = (a.split_first(), b.split_first()) {
@@ -62,7 +63,8 @@ fn begin_alike(a: &[Entry<'_>], a_depth: usize, b: &[Entry<'_>], b_depth: usize)
     false
 }
 
-/// Whether two lists of entries are the same map, each without the units that its keys have passed.
+/// Returns true if two lists of entries are the same map, each without the units of its keys that
+/// have been passed.
 #[inline]
 fn are_alike(a: &[Entry<'_>], a_depth: usize, b: &[Entry<'_>], b_depth: usize) -> bool {
     if a.len() != b.len() {
@@ -77,7 +79,7 @@ fn are_alike(a: &[Entry<'_>], a_depth: usize, b: &[Entry<'_>], b_depth: usize) -
 }
 
 impl<'a> Known<'a> {
-    /// No nodes. It takes no memory.
+    /// Creates an empty list of nodes. Allocates nothing.
     #[inline]
     pub(crate) fn new() -> Self {
         Known {
@@ -86,7 +88,7 @@ impl<'a> Known<'a> {
         }
     }
 
-    /// The place of a node of these entries, if one is found.
+    /// Returns the index of a known node of these entries, if one is found.
     #[inline]
     pub(crate) fn find(&self, entries: &[Entry<'_>], depth: usize) -> Option<usize> {
         let i = *self.last.get(&hash_of(entries, depth))?;
@@ -97,7 +99,7 @@ impl<'a> Known<'a> {
         Some(known.place)
     }
 
-    /// Adds a node of these entries that stands at a place.
+    /// Adds the node of these entries, which was written at `place`.
     pub(crate) fn add(
         &mut self,
         entries: &'a [Entry<'a>],

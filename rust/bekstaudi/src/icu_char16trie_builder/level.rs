@@ -1,18 +1,18 @@
-//! One level of a trie, written in front of what it leads to. A place is counted from the end of
-//! the units, so that it stays the same while more are written.
+//! Writes one level of a trie in front of what it leads to. Indices are counted from the end of the
+//! units, so they stay the same while more units are written.
 
 #[allow(unused_imports)]
 use crate::support::prelude::*;
 use crate::icu_char16trie_builder::write::{put_all, put_delta, put_final, put_one, put_short, put_value};
 use crate::support::AllocError;
 
-/// The most units of a linear match.
+/// The largest number of units in a linear match.
 pub(crate) const LONGEST_RUN: usize = 16;
 
-/// The most entries of a branch whose number stands in its lead.
+/// The largest number of entries of a branch whose length fits in its lead.
 const LONGEST_SHORT_BRANCH: usize = 0x30;
 
-/// Writes a node that has a value only.
+/// Writes a node that has only a value.
 #[inline]
 fn write_final(out: &mut Vec<u16>, value: i32) -> Result<(), AllocError> {
     put_final(out, value.cast_unsigned())?;
@@ -26,7 +26,7 @@ pub(crate) fn write_last(out: &mut Vec<u16>, unit: u16) -> Result<(), AllocError
     Ok(())
 }
 
-/// Writes an entry of a row in front of the others: its unit, and a jump to its node, which stands
+/// Writes an entry of a row in front of the others: its unit, and a jump to its node, which is
 /// `from_end` units before the end.
 #[inline]
 pub(crate) fn write_jump(out: &mut Vec<u16>, unit: u16, from_end: usize) -> Result<(), AllocError> {
@@ -45,8 +45,8 @@ pub(crate) fn write_value(out: &mut Vec<u16>, unit: u16, value: i32) -> Result<(
     Ok(())
 }
 
-/// Writes a split unit in front of the part of the upper entries, with a delta to that of the lower
-/// ones, which stands `from_end` units before the end.
+/// Writes a split in front of the part with the upper entries: a split unit, and a delta to the
+/// part with the lower ones. The lower part is `from_end` units before the end.
 #[inline]
 pub(crate) fn write_split(out: &mut Vec<u16>, unit: u16, from_end: usize) -> Result<(), AllocError> {
     let delta = out.len().saturating_sub(from_end);
@@ -66,8 +66,8 @@ fn write_lead(out: &mut Vec<u16>, low: u16, value: Option<i32>) -> Result<(), Al
     Ok(())
 }
 
-/// Writes the length of a branch in front of its part, if it needs a unit, and answers the low six
-/// bits of its lead.
+/// Writes the length of a branch in front of its part, if it needs a unit of its own. Returns the
+/// low six bits of the lead.
 #[inline]
 fn write_length(out: &mut Vec<u16>, count: usize) -> Result<u16, AllocError> {
     if count <= LONGEST_SHORT_BRANCH {
@@ -77,8 +77,8 @@ fn write_length(out: &mut Vec<u16>, count: usize) -> Result<u16, AllocError> {
     Ok(0)
 }
 
-/// Writes what stands in front of the part of a branch of so many entries: its lead, the value of
-/// the empty key, if there is one, and its length.
+/// Writes the beginning of a branch with `count` entries, in front of its part: its lead, the value
+/// of the empty key, if there is one, and its length.
 #[inline]
 pub(crate) fn write_branch(
     out: &mut Vec<u16>,

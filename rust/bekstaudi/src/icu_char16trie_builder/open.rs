@@ -1,4 +1,4 @@
-//! A node of entries becomes the steps that write it. What is to be written first is pushed last.
+//! Turns a node of entries into the steps that write it. The step to be taken first is pushed last.
 
 #[allow(unused_imports)]
 use crate::support::prelude::*;
@@ -8,10 +8,10 @@ use crate::icu_char16trie_builder::level::{LONGEST_RUN, write_tail};
 use crate::icu_char16trie_builder::step::Step;
 use crate::support::{AllocError};
 
-/// The most entries of a row, which are searched one by one.
+/// The largest number of entries in a row, which is searched one by one.
 const LONGEST_ROW: usize = 5;
 
-/// The value of an arm whose only key ends at `depth`.
+/// Returns the value of an arm whose only key ends at `depth`.
 #[inline]
 fn final_value(arm: Arm<'_>, depth: usize) -> Option<i32> {
     if let Some((only, rest)) = arm.entries.split_first() {
@@ -22,7 +22,7 @@ fn final_value(arm: Arm<'_>, depth: usize) -> Option<i32> {
     None
 }
 
-/// The units of a key from `depth` on.
+/// Returns the units of a key from `depth` on.
 #[inline]
 pub(crate) fn units_from(key: &[u16], depth: usize) -> &[u16] {
     if key.len() < depth {
@@ -31,16 +31,17 @@ pub(crate) fn units_from(key: &[u16], depth: usize) -> &[u16] {
     key.split_at(depth).1
 }
 
-/// The first of some arms.
+/// Returns the first arm.
 #[inline]
 fn first_arm<'a>(arms: &[Arm<'a>]) -> Arm<'a> {
     arms[0]
 }
 
-/// Adds the steps of the part of a branch with these arms, whose keys have passed `depth` units.
+/// Adds the steps of the part of a branch with these arms. The first `depth` units of their keys
+/// have been passed.
 ///
-/// More than five arms are split in halves, and of five or fewer one is taken at a time: so its
-/// calls are at most 18 deep, since there are no more than 65,536 arms.
+/// More than five arms are split in halves; of at most five, one is taken at a time. There are at
+/// most 65,536 arms, so the recursion is at most 18 deep.
 fn push_part<'a>(
     steps: &mut Vec<Step<'a>>,
     arms: &[Arm<'a>],
@@ -72,8 +73,8 @@ fn push_part<'a>(
     Ok(())
 }
 
-/// Adds the steps of a linear match: of the unit that all keys go on with at `depth`, and up to
-/// fifteen more that they share.
+/// Adds the steps of a linear match: the unit that all keys have at `depth`, and up to fifteen more
+/// that they share.
 #[inline]
 fn push_run<'a>(
     steps: &mut Vec<Step<'a>>,
@@ -89,8 +90,8 @@ fn push_run<'a>(
     Ok(())
 }
 
-/// Adds the steps of a match node: of a branch, or of a linear match where all keys go on with one
-/// unit. `value` is that of the key that ends at `depth`.
+/// Adds the steps of a match node: a linear match if all keys continue with one unit, and otherwise
+/// a branch. `value` is that of the key that ends at `depth`.
 fn push_match<'a>(
     steps: &mut Vec<Step<'a>>,
     first: &Entry<'a>,
@@ -107,7 +108,7 @@ fn push_match<'a>(
     push_run(steps, first, entries, depth, value)
 }
 
-/// Adds the steps of the match node of entries whose keys go on beyond `depth`.
+/// Adds the steps of the match node of entries whose keys have more than `depth` units.
 #[inline]
 fn push_entries<'a>(
     steps: &mut Vec<Step<'a>>,
@@ -121,7 +122,7 @@ fn push_entries<'a>(
     Ok(())
 }
 
-/// Adds the steps of the node of several entries, of which the first key may end at `depth`.
+/// Adds the steps of the node of several entries. The first key may end at `depth`.
 fn push_node<'a>(
     steps: &mut Vec<Step<'a>>,
     entries: &'a [Entry<'a>],
@@ -137,8 +138,8 @@ fn push_node<'a>(
     Ok(())
 }
 
-/// Opens the node of entries whose keys have passed `depth` units: writes it, if it has one entry,
-/// and else adds its steps.
+/// Opens the node of entries whose keys have passed `depth` units. Writes the node if it has one
+/// entry, and otherwise adds its steps.
 pub(crate) fn open_node<'a>(
     out: &mut Vec<u16>,
     steps: &mut Vec<Step<'a>>,

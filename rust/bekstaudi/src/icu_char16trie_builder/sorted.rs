@@ -1,4 +1,4 @@
-//! Entries that stand in unit order already: they are tested, and no key of them is copied.
+//! Entries that are already in unit order. They are checked, and no key is copied.
 
 #[allow(unused_imports)]
 use crate::support::prelude::*;
@@ -7,13 +7,13 @@ use crate::icu_char16trie_builder::entry::Entry;
 use crate::icu_char16trie_builder::error::SortedError;
 use crate::support::{AllocError};
 
-/// Whether a key stands before another one in unit order.
+/// Returns true if a key is before another in unit order.
 #[inline]
 fn is_before(a: &[u16], b: &[u16]) -> bool {
     a < b
 }
 
-/// Whether the entry at a place follows those before it, which are in order.
+/// Returns true if the entry at index `i` is valid after those before it, which are in order.
 #[inline]
 fn follows(entries: &[(&[u16], i32)], i: usize) -> bool {
     let key = entries[i].0;
@@ -26,7 +26,7 @@ fn follows(entries: &[(&[u16], i32)], i: usize) -> bool {
     is_before(entries[i - 1].0, key)
 }
 
-/// The place of the first entry that can't be taken, if there is one.
+/// Returns the index of the first entry that is not valid, if there is one.
 #[inline]
 fn first_refused(entries: &[(&[u16], i32)]) -> Option<usize> {
     for i in 0..entries.len() {
@@ -37,7 +37,7 @@ fn first_refused(entries: &[(&[u16], i32)]) -> Option<usize> {
     None
 }
 
-/// Why the entry at a place is refused, which is the first that can't be taken.
+/// Returns why the entry at index `i`, the first that is not valid, is rejected.
 #[inline]
 fn refusal_at(entries: &[(&[u16], i32)], i: usize) -> SortedError {
     if entries[i].0.len() > LONGEST_KEY {
@@ -46,7 +46,7 @@ fn refusal_at(entries: &[(&[u16], i32)], i: usize) -> SortedError {
     SortedError::NotAscending(i)
 }
 
-/// Whether no trie of the entries can need too many units.
+/// Returns true if no trie of the entries can need too many units.
 #[inline]
 fn fit(entries: &[(&[u16], i32)]) -> bool {
     let mut total: u64 = 0;
@@ -59,7 +59,7 @@ fn fit(entries: &[(&[u16], i32)]) -> bool {
     true
 }
 
-/// Why no trie is built of the entries, if anything but memory is in the way.
+/// Returns why no trie can be built from the entries, apart from a failed allocation.
 #[inline]
 pub(crate) fn refusal(entries: &[(&[u16], i32)]) -> Option<SortedError> {
     if let Some(i) = first_refused(entries) {
@@ -71,7 +71,7 @@ pub(crate) fn refusal(entries: &[(&[u16], i32)]) -> Option<SortedError> {
     None
 }
 
-/// The entries, in their order.
+/// Returns the entries, in their order.
 #[inline]
 pub(crate) fn entries_of_pairs<'a>(
     pairs: &[(&'a [u16], i32)],

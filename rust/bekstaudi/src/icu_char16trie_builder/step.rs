@@ -1,7 +1,7 @@
 //! The steps in which a trie is written, last unit first.
 //!
-//! The steps that are left stand on a stack, so that no call is nested for each unit of a key;
-//! beside it are the units so far, a stack of places in them, and the nodes that are known.
+//! The steps that are left are on a stack, so there is no recursion for each unit of a key. Besides
+//! it there are the units so far, a stack of saved indices, and the known nodes.
 
 #[allow(unused_imports)]
 use crate::support::prelude::*;
@@ -11,36 +11,35 @@ use crate::icu_char16trie_builder::level::{write_branch, write_jump, write_last,
 use crate::icu_char16trie_builder::open::open_node;
 use crate::support::{AllocError};
 
-/// One step of writing. It finds what it needs in front of the units so far, or at the place saved
-/// last.
+/// One step of writing. It needs what is in front of the units so far, or at the index saved last.
 #[derive(Clone, Copy)]
 pub(crate) enum Step<'a> {
-    /// The node of these entries, whose keys have passed so many units, is put in front.
+    /// Puts the node of these entries in front. The number is how many units of their keys have
+    /// been passed.
     Node(&'a [Entry<'a>], usize),
-    /// The place of what stands in front is saved.
+    /// Saves the index of what is in front.
     Save,
-    /// The place of a node of these entries is saved: of one that was written, or else of a new
-    /// one.
+    /// Saves the index of a node of these entries: of a known one, or else of a new one.
     Place(&'a [Entry<'a>], usize),
-    /// The node of these entries, which stands in front, is known from now on, and its place saved.
+    /// Adds the node of these entries, which is in front, to the known nodes and saves its index.
     Keep(&'a [Entry<'a>], usize),
-    /// The unit of the last entry of a row, in front of its node.
+    /// Writes the unit of the last entry of a row, in front of its node.
     Last(u16),
-    /// An entry of a row, in front of the others; its node stands at the place saved last.
+    /// Writes an entry of a row in front of the others. Its node is at the index saved last.
     Jump(u16),
-    /// An entry of a row, in front of the others, with its final value.
+    /// Writes an entry of a row in front of the others, with its final value.
     Value(u16, i32),
-    /// A split, in front of the part of the upper entries; that of the lower ones stands at the
-    /// place saved last.
+    /// Writes a split in front of the part with the upper entries. The part with the lower ones is
+    /// at the index saved last.
     Split(u16),
-    /// A linear match of these units, in front of its node, and the value that it has itself.
+    /// Writes a linear match of these units in front of its node, and its own value, if it has one.
     Run(&'a [u16], Option<i32>),
-    /// The lead of a branch of so many entries, in front of its part, and the value that it has
-    /// itself.
+    /// Writes the lead of a branch with this number of entries in front of its part, and its own
+    /// value, if it has one.
     Branch(usize, Option<i32>),
 }
 
-/// Saves the place of a node of these entries that is known, or adds the steps that write one.
+/// Saves the index of a known node of these entries, or adds the steps that write one.
 fn place_node<'a>(
     places: &mut Vec<usize>,
     steps: &mut Vec<Step<'a>>,
@@ -57,7 +56,7 @@ fn place_node<'a>(
     Ok(())
 }
 
-/// Takes one step. Of a jump or a split the place is there: what was saved for it is on top.
+/// Takes one step. The index for a jump or a split is on top of the saved ones.
 pub(crate) fn take_step<'a>(
     out: &mut Vec<u16>,
     places: &mut Vec<usize>,

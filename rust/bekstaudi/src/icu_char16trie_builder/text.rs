@@ -5,7 +5,7 @@ use crate::support::prelude::*;
 use crate::icu_char16trie_builder::builder::LONGEST_KEY;
 use crate::support::{AllocError};
 
-/// Whether a text has more units than a key may have.
+/// Returns true if a text has more units than a key may have.
 #[inline]
 pub(crate) fn is_too_long(text: &str) -> bool {
     let mut count = 0;
@@ -18,7 +18,7 @@ pub(crate) fn is_too_long(text: &str) -> bool {
     false
 }
 
-/// Adds the units of a character.
+/// Appends the units of a character.
 #[inline]
 fn push_char(units: &mut Vec<u16>, c: char) -> Result<(), AllocError> {
     let number = c as u32;
@@ -32,7 +32,7 @@ fn push_char(units: &mut Vec<u16>, c: char) -> Result<(), AllocError> {
     Ok(())
 }
 
-/// The units of a text.
+/// Returns the units of a text.
 #[inline]
 pub(crate) fn units_of_text(text: &str) -> Result<Vec<u16>, AllocError> {
     let mut units = Vec::with_room(text.len())?;

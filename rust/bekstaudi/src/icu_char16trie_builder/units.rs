@@ -7,8 +7,8 @@ use crate::icu_char16trie_builder::known::Known;
 use crate::icu_char16trie_builder::step::{Step, take_step};
 use crate::support::{AllocError};
 
-/// The units of a trie of some entries, whose keys ascend: at most two for each unit of a key, and
-/// sixteen for each entry.
+/// Returns the units of a trie of entries whose keys ascend: at most two for each unit of a key,
+/// and sixteen for each entry.
 #[inline]
 pub(crate) fn units_of(entries: &[Entry<'_>]) -> Result<Vec<u16>, AllocError> {
     let mut out = Vec::new();

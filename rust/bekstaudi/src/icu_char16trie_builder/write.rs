@@ -1,5 +1,5 @@
-//! The numbers of a trie as units, written from the end of the trie to its front: what is pushed
-//! later stands earlier.
+//! Encodes the numbers of a trie as units. They are written from the end of the trie to its front:
+//! a unit that is pushed later comes earlier.
 
 #[allow(unused_imports)]
 use crate::support::prelude::*;
@@ -12,8 +12,9 @@ pub(crate) fn put_one(out: &mut Vec<u16>, first: u16) -> Result<(), AllocError> 
     Ok(())
 }
 
-/// Writes the units that follow a number's lead, and gives the lead: the number itself below `two`,
-/// from there to below `three` the high half and `two` more, and else `three`.
+/// Writes the units that follow a number's lead, and returns the lead. A number below `two` is its
+/// own lead. If its high half is below `three - two`, the lead is `two` plus the high half.
+/// Otherwise the lead is `three`.
 #[inline]
 fn put_tail(out: &mut Vec<u16>, number: u32, two: u16, three: u16) -> Result<u16, AllocError> {
     if number < u32::from(two) {
@@ -28,14 +29,14 @@ fn put_tail(out: &mut Vec<u16>, number: u32, two: u16, three: u16) -> Result<u16
     Ok(three)
 }
 
-/// Writes the jump of an entry: one unit below 0x4000, two below 0x3FFF_0000, and else three.
+/// Writes the jump of an entry: one unit below 0x4000, two below 0x3FFF_0000, and otherwise three.
 #[inline]
 pub(crate) fn put_short(out: &mut Vec<u16>, number: u32) -> Result<(), AllocError> {
     let lead = put_tail(out, number, 0x4000, 0x7fff)?;
     put_one(out, lead)
 }
 
-/// Writes a final value: one unit below 0x4000, two below 0x3FFF_0000, and else three.
+/// Writes a final value: one unit below 0x4000, two below 0x3FFF_0000, and otherwise three.
 #[inline]
 pub(crate) fn put_final(out: &mut Vec<u16>, number: u32) -> Result<(), AllocError> {
     let lead = put_tail(out, number, 0x4000, 0x7fff)?;
@@ -43,14 +44,14 @@ pub(crate) fn put_final(out: &mut Vec<u16>, number: u32) -> Result<(), AllocErro
 }
 
 /// Writes the lead of a match node with these low six bits and a value: one unit below 0x100, two
-/// below 0xFE_0000, and else three.
+/// below 0xFE_0000, and otherwise three.
 #[inline]
 pub(crate) fn put_value(out: &mut Vec<u16>, number: u32, low: u16) -> Result<(), AllocError> {
     let lead = put_tail(out, number, 0x100, 0x1fe)?;
     put_one(out, (lead + 1) * 64 + low)
 }
 
-/// Writes the delta of a split: one unit below 0xFC00, two below 0x03FF_0000, and else three.
+/// Writes the delta of a split: one unit below 0xFC00, two below 0x03FF_0000, and otherwise three.
 #[inline]
 pub(crate) fn put_delta(out: &mut Vec<u16>, number: u32) -> Result<(), AllocError> {
     let lead = put_tail(out, number, 0xfc00, 0xffff)?;

@@ -1,52 +1,53 @@
-//! A bit for each code point, in two stages, so that each look-up is two loads.
+//! A bit for each code point, in two stages, so that each look-up takes two loads.
 
 #[allow(unused_imports)]
 use crate::support::prelude::*;
 use crate::icu_zerovec::{CODE_POINT_LIMIT, MemoryError};
 
-/// How many blocks of 256 code points there are.
+/// The number of blocks of 256 code points.
 pub(crate) const BLOCKS: u32 = CODE_POINT_LIMIT / 256;
 
-/// The words of the block that holds nothing, and of the one that holds everything.
+/// The words of the empty block, followed by those of the full block.
 const TWO_BLOCKS: [u64; 8] = [0, 0, 0, 0, u64::MAX, u64::MAX, u64::MAX, u64::MAX];
 
-/// How many blocks of their own there is room for at first, at most: letters, marks and unassigned
-/// code points have fewer, and a set has seldom more than ranges.
+/// The greatest number of blocks for which capacity is reserved at first, besides the two shared
+/// ones. The sets of letters, marks and unassigned code points have fewer blocks that are neither
+/// empty nor full, and a set rarely has more such blocks than ranges.
 const ROOM: usize = 142;
 
-/// The place of the block that holds nothing.
+/// The index of the first word of the empty block.
 const EMPTY_BLOCK: u16 = 0;
 
-/// The place of the block that holds everything.
+/// The index of the first word of the full block.
 const FULL_BLOCK: u16 = 4;
 
-/// A bit for each code point, in blocks of 256. All blocks that hold nothing share their words, and
-/// all that hold everything; each other one has four words of its own.
+/// A bit for each code point, in blocks of 256. All empty blocks share their words, and so do all
+/// full blocks. Each other block has four words of its own.
 #[derive(Debug)]
 pub(crate) struct CodePointBits {
-    /// The place of each block's first word.
+    /// For each block, the index of its first word.
     index: Vec<u16>,
-    /// The bits of 64 code points each, that of the first one lowest.
+    /// Each word has the bits of 64 code points, lowest first.
     words: Vec<u64>,
 }
 
-/// The place of the block that holds everything, or, for `value` false, nothing.
+/// Returns the index of the full block if `value` is true, and of the empty block otherwise.
 #[inline(always)]
 fn shared_place(value: bool) -> u16 {
     if value { FULL_BLOCK } else { EMPTY_BLOCK }
 }
 
-/// Whether each of the block's words is this one.
+/// Returns true if all words of the block equal `word`.
 #[inline]
 fn is_all(block: &[u64; 4], word: u64) -> bool {
     block[0] == word && block[1] == word && block[2] == word && block[3] == word
 }
 
 impl CodePointBits {
-    /// No block yet, of a set of so many ranges.
+    /// Returns tables without any block, with capacity for the blocks of a set of `ranges` ranges.
     ///
     /// # Errors
-    /// `MemoryError` where memory was refused.
+    /// Returns `MemoryError` if an allocation fails.
     #[inline]
     pub(crate) fn new(ranges: usize) -> Result<CodePointBits, MemoryError> {
         let index = Vec::with_room(BLOCKS as usize)?;
@@ -56,26 +57,26 @@ impl CodePointBits {
         Ok(CodePointBits { index, words })
     }
 
-    /// The place of each block's first word.
+    /// Returns the index of each block's first word.
     #[inline]
     pub(crate) fn index(&self) -> &[u16] {
         &self.index
     }
 
-    /// The bits of 64 code points each, that of the first one lowest.
+    /// Returns the words. Each has the bits of 64 code points, lowest first.
     #[inline]
     pub(crate) fn words(&self) -> &[u64] {
         &self.words
     }
 
-    /// The bit of the code point, whose block is there.
+    /// Returns the bit of the code point `c`, whose block must be in the tables.
     #[inline(always)]
     pub(crate) fn contains32(&self, c: u32) -> bool {
         self.contains_in(c / 64, c % 64)
     }
 
-    /// The bit of the code point at `place` among the 64 of a word, which are those from
-    /// `64 * word` on: as its last trail byte and the bytes before it tell them.
+    /// Returns the bit of the code point `64 * word + place`. In UTF-8, `place` is the payload of
+    /// the last trail byte, and `word` that of the bytes before it.
     #[inline(always)]
     pub(crate) fn contains_in(&self, word: u32, place: u32) -> bool {
         let first = self.index[(word / 4) as usize];
@@ -83,7 +84,7 @@ impl CodePointBits {
         (bits >> place) & 1 == 1
     }
 
-    /// The bits of ASCII, whose block is there.
+    /// Returns the bits of the ASCII characters. The first block must be in the tables.
     #[inline]
     pub(crate) fn ascii(&self) -> [bool; 128] {
         let first = self.index[0] as usize;
@@ -96,7 +97,8 @@ impl CodePointBits {
         ascii
     }
 
-    /// The bits of the first 2,048 code points, whose blocks are there, 64 a word.
+    /// Returns the bits of the first 2,048 code points, 64 in each word. Their blocks must be in
+    /// the tables.
     #[inline]
     pub(crate) fn first_words(&self) -> [u64; 32] {
         let mut words = [0; 32];
@@ -107,10 +109,10 @@ impl CodePointBits {
         words
     }
 
-    /// Appends so many blocks that hold everything, or, for `value` false, nothing.
+    /// Appends `count` blocks, all full if `value` is true and all empty otherwise.
     ///
     /// # Errors
-    /// `MemoryError` where memory was refused.
+    /// Returns `MemoryError` if an allocation fails.
     #[inline]
     pub(crate) fn push_run(&mut self, count: usize, value: bool) -> Result<(), MemoryError> {
         self.index
@@ -126,10 +128,11 @@ impl CodePointBits {
         Ok(())
     }
 
-    /// Appends a block of these words. One that holds nothing or everything takes no words.
+    /// Appends a block with these words. An empty or full block shares its words with the others of
+    /// its kind.
     ///
     /// # Errors
-    /// `MemoryError` where memory was refused.
+    /// Returns `MemoryError` if an allocation fails.
     #[inline]
     pub(crate) fn push_block(&mut self, block: &[u64; 4]) -> Result<(), MemoryError> {
         if is_all(block, 0) {
@@ -141,10 +144,10 @@ impl CodePointBits {
         self.push_own(block)
     }
 
-    /// A copy.
+    /// Returns a copy.
     ///
     /// # Errors
-    /// `MemoryError` where memory was refused.
+    /// Returns `MemoryError` if an allocation fails.
     #[inline]
     pub(crate) fn try_clone(&self) -> Result<CodePointBits, MemoryError> {
         let index = Vec::from_slice(&self.index)?;

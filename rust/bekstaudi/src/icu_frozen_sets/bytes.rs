@@ -1,9 +1,9 @@
-//! How far bytes that may be no text lie in a frozen set.
+//! Spans of bytes that may not be valid UTF-8.
 
 use crate::icu_frozen_sets::frozen::FrozenCodePointSet;
 
-/// The longest text that the bytes begin with: all of them, or those before the first ill-formed
-/// sequence.
+/// Returns the longest prefix of the bytes that is valid UTF-8: all bytes, or those before the
+/// first ill-formed sequence.
 #[inline]
 fn front_text(bytes: &[u8]) -> &str {
     let error = match str::from_utf8(bytes) {
@@ -16,14 +16,15 @@ fn front_text(bytes: &[u8]) -> &str {
     }
 }
 
-/// Bytes in a frozen set.
+/// Spans of bytes.
 impl FrozenCodePointSet {
-    /// The length in bytes of the longest front of the bytes whose characters are all held, or, for
-    /// `held` false, all not held, where the bytes may be no text: as
-    /// [`span`](FrozenCodePointSet::span) of the text that stands before the first ill-formed
-    /// sequence. That sequence ends a span of either kind (ICU: `UnicodeSet::spanUTF8` takes it for
-    /// U+FFFD). What the length cuts off is text, and the bytes are tested first, up to the
-    /// ill-formed sequence.
+    /// Returns the length in bytes of the longest prefix of `bytes` whose characters are all in the
+    /// set, or all outside it if `held` is false. `bytes` may be ill-formed UTF-8.
+    ///
+    /// An ill-formed sequence ends the span for both values of `held`; ICU's `UnicodeSet::spanUTF8`
+    /// treats it as U+FFFD instead. So the result is that of [`span`](FrozenCodePointSet::span) for
+    /// the text before the first ill-formed sequence, and the prefix is valid UTF-8. The method
+    /// first validates the bytes up to that sequence.
     ///
     /// ```text
     /// // letters.span_utf8(b"ab\xFFc", true) is 2, and letters.span_utf8(b"\xFFab", false) is 0

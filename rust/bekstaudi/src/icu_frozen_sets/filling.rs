@@ -1,27 +1,27 @@
-//! How bits are filled in, from the first code point on.
+//! Filling the bits of a set, from the first code point on.
 
 use crate::icu_frozen_sets::bits::CodePointBits;
 use crate::icu_zerovec::MemoryError;
 
-/// Bits that are filled in from the first code point on, up to `reached`.
+/// The bits of the code points below `reached`. The rest is filled in ascending order.
 #[derive(Debug)]
 pub(crate) struct Filling {
-    /// The blocks that are whole.
+    /// The complete blocks.
     bits: CodePointBits,
-    /// The words of the block that is filled now. The bits from `reached` on are 0.
+    /// The words of the current block. The bits from `reached` on are 0.
     block: [u64; 4],
-    /// The first code point whose bit is not there yet.
+    /// The first code point whose bit is not filled yet.
     reached: u32,
 }
 
-/// Sets the bits of the block from `from` to before `to`, which are of one word.
+/// Sets the bits of the code points in `from..to`, which are all in one word of the block.
 #[inline(always)]
 fn set_bits(block: &mut [u64; 4], from: u32, to: u32) {
     let mask = (u64::MAX << (from % 64)) & (u64::MAX >> (63 - (to - 1) % 64));
     block[(from / 64 % 4) as usize] |= mask;
 }
 
-/// Sets the bits of the block from `from` to before `to`.
+/// Sets the bits of the code points in `from..to`, which are all in the block.
 #[inline(always)]
 fn set_ones(block: &mut [u64; 4], from: u32, to: u32) {
     let mut begin = from;
@@ -34,10 +34,10 @@ fn set_ones(block: &mut [u64; 4], from: u32, to: u32) {
 }
 
 impl Filling {
-    /// Nothing is filled in yet, of a set of so many ranges.
+    /// Returns a filling in which no bit is filled, with capacity for a set of `ranges` ranges.
     ///
     /// # Errors
-    /// `MemoryError` where memory was refused.
+    /// Returns `MemoryError` if an allocation fails.
     #[inline]
     pub(crate) fn new(ranges: usize) -> Result<Filling, MemoryError> {
         Ok(Filling {
@@ -47,7 +47,7 @@ impl Filling {
         })
     }
 
-    /// Fills up to `next`, within a block.
+    /// Fills the bits up to `next` exclusive, which is in the current block or at its end.
     #[inline(always)]
     fn fill_part(&mut self, next: u32, value: bool) {
         if value {
@@ -56,7 +56,7 @@ impl Filling {
         self.reached = next;
     }
 
-    /// Appends the block that is filled now, where it is whole.
+    /// Moves the current block into the tables if it is complete.
     #[inline(always)]
     fn settle(&mut self) -> Result<(), MemoryError> {
         if self.reached % 256 != 0 {
@@ -67,7 +67,7 @@ impl Filling {
         Ok(())
     }
 
-    /// Fills so many whole blocks.
+    /// Fills `count` whole blocks.
     #[inline]
     fn fill_blocks(&mut self, count: u32, value: bool) -> Result<(), MemoryError> {
         if count == 0 {
@@ -78,7 +78,7 @@ impl Filling {
         Ok(())
     }
 
-    /// Fills what is left of the block that is filled now, if any of it is there already.
+    /// Fills the rest of the current block, unless the next code point starts a block.
     #[inline]
     fn fill_block(&mut self, value: bool) -> Result<(), MemoryError> {
         if self.reached % 256 == 0 {
@@ -88,7 +88,7 @@ impl Filling {
         self.settle()
     }
 
-    /// Fills up to `end`, which lies in a later block.
+    /// Fills the bits up to `end` exclusive, which is in a later block.
     #[inline]
     fn fill_far(&mut self, end: u32, value: bool) -> Result<(), MemoryError> {
         self.fill_block(value)?;
@@ -99,10 +99,10 @@ impl Filling {
         Ok(())
     }
 
-    /// Gives the code points up to `end`, which is not included, the bit `value`.
+    /// Sets the bits of the code points from the current one to `end` exclusive to `value`.
     ///
     /// # Errors
-    /// `MemoryError` where memory was refused. The filling is then of no more use.
+    /// Returns `MemoryError` if an allocation fails. The filling must not be used after that.
     #[inline(always)]
     pub(crate) fn fill_to(&mut self, end: u32, value: bool) -> Result<(), MemoryError> {
         if self.reached / 256 < end / 256 {
@@ -114,7 +114,7 @@ impl Filling {
         Ok(())
     }
 
-    /// The bits of all code points.
+    /// Returns the bits of all code points.
     #[inline]
     pub(crate) fn finish(self) -> CodePointBits {
         let Filling {

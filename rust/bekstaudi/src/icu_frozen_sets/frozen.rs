@@ -1,4 +1,4 @@
-//! Frozen sets: for many look-ups, a bit for each code point.
+//! Frozen sets of code points, for many look-ups: a bit for each code point.
 
 #[allow(unused_imports)]
 use crate::support::prelude::*;
@@ -9,9 +9,11 @@ use crate::icu_zerovec::ule::AsULE;
 use crate::icu_zerovec::{CODE_POINT_LIMIT, MemoryError};
 
 /// A set of code points for many look-ups, each of which takes two loads and no search (ICU: a
-/// frozen UnicodeSet). It keeps the set beside a bit for each code point, in blocks of 256: 9 kB,
-/// and 32 bytes for each range, of 142 of them at most; more only where more blocks than that are
-/// neither empty nor full, and then 64 bytes for each of these at most.
+/// frozen UnicodeSet).
+///
+/// It stores the set and a bit for each code point, in blocks of 256. The bits take 9 kB, plus 32
+/// bytes for each range up to 142 ranges. If more blocks than that are neither empty nor full, they
+/// take at most 64 bytes for each such block.
 ///
 /// ```ignore
 /// let letters = FrozenCodePointSet::try_freeze(&set)?;
@@ -20,32 +22,34 @@ use crate::icu_zerovec::{CODE_POINT_LIMIT, MemoryError};
 #[derive(Debug)]
 pub struct FrozenCodePointSet {
     set: CodePointInversionList<'static>,
-    /// Whether each byte of ASCII is held: what the bits say, in one load.
+    /// For each ASCII character, whether the set contains it. Repeats the bits so that a look-up
+    /// takes one load.
     ascii: [bool; 128],
-    /// The bits of what is below 0x800, and so of at most two bytes: a word for each lead byte.
+    /// The bits of the code points below 0x800, which have at most two bytes in UTF-8: one word for
+    /// each lead byte.
     two_bytes: [u64; 32],
     bits: CodePointBits,
 }
 
-/// The tables of a frozen set, lent: of code point `c`, bit `c % 64` of the word at
-/// `index[c / 256] + c / 64 % 4`, bit 0 being the lowest, says whether the set holds it.
+/// A view of the tables of a frozen set. The set contains the code point `c` if bit `c % 64` of the
+/// word at `index[c / 256] + c / 64 % 4` is 1. Bit 0 is the lowest.
 #[derive(Clone, Copy, Debug)]
 pub struct FrozenTables<'a> {
-    /// The place of the first of its four words for each block of 256 code points, of which there
-    /// are 4,352. Blocks may share their words.
+    /// For each of the 4,352 blocks of 256 code points, the index of the first of its four words.
+    /// Blocks may share their words.
     pub index: &'a [u16],
-    /// The bits of 64 code points each, that of the first one lowest: four words a block at most,
-    /// and eight.
+    /// Each word has the bits of 64 code points, lowest first. There are at most four words for
+    /// each block, plus eight.
     pub words: &'a [u64],
 }
 
-/// How a set is frozen.
+/// Constructors and copies.
 impl FrozenCodePointSet {
-    /// The set with a bit for each code point (ICU: `UnicodeSet::freeze`). The given set stays as
-    /// it is, and the frozen one has a copy of its ends.
+    /// Returns a frozen set with the code points of `set` (ICU: `UnicodeSet::freeze`). It has its
+    /// own copy of the boundaries, and `set` is unchanged.
     ///
     /// # Errors
-    /// `MemoryError` where memory was refused.
+    /// Returns `MemoryError` if an allocation fails.
     pub fn try_freeze(
         set: &CodePointInversionList<'_>,
     ) -> Result<FrozenCodePointSet, MemoryError> {
@@ -65,10 +69,10 @@ impl FrozenCodePointSet {
         })
     }
 
-    /// A copy, which takes no new look at the ranges.
+    /// Returns an equal frozen set. This copies the bits and does not compute them again.
     ///
     /// # Errors
-    /// `MemoryError` where memory was refused.
+    /// Returns `MemoryError` if an allocation fails.
     #[inline]
     pub fn try_clone(&self) -> Result<FrozenCodePointSet, MemoryError> {
         Ok(FrozenCodePointSet {
@@ -80,15 +84,16 @@ impl FrozenCodePointSet {
     }
 }
 
-/// What a frozen set holds.
+/// Queries.
 impl FrozenCodePointSet {
-    /// The set itself.
+    /// Returns a reference to the set that was frozen, with its boundaries.
     #[inline]
     pub fn as_set(&self) -> &CodePointInversionList<'static> {
         &self.set
     }
 
-    /// The bits of all code points, as they are kept: to be stored, or to be asked elsewhere.
+    /// Returns a view of the bits of all code points as they are stored, for example to write them
+    /// to a file.
     ///
     /// ```ignore
     /// let FrozenTables { index, words } = letters.tables();
@@ -102,31 +107,33 @@ impl FrozenCodePointSet {
         }
     }
 
-    /// Whether the set holds the code point. No number above 0x10FFFF is held.
+    /// Returns true if the set contains the code point `c`. Returns false for any number above
+    /// 0x10FFFF.
     #[inline(always)]
     pub fn contains32(&self, c: u32) -> bool {
         c < CODE_POINT_LIMIT && self.bits.contains32(c)
     }
 
-    /// Whether the set holds the character.
+    /// Returns true if the set contains the character `c`.
     #[inline(always)]
     pub fn contains(&self, c: char) -> bool {
         self.contains32(u32::from(c))
     }
 }
 
-/// How far a text lies in a frozen set.
+/// Spans of text.
 impl FrozenCodePointSet {
-    /// Whether the character is held that has two bytes, or one: `word` is told by its lead byte,
-    /// and `place` by its trail byte.
+    /// Returns true if the set contains the code point `64 * word + place`, which is below 0x800.
+    /// In UTF-8 of two bytes, `word` comes from the lead byte and `place` from the trail byte.
     #[inline(always)]
     fn contains_short(&self, word: u32, place: u32) -> bool {
         let bits = self.two_bytes[word as usize];
         (bits >> place) & 1 == 1
     }
 
-    /// Whether the character is held that begins at `start`, and where it ends. Its lead and trail
-    /// bytes are the place of its bit, so no `char` is made of them.
+    /// Returns whether the set contains the character that starts at offset `start`, and the offset
+    /// of its end. The payload of the lead and trail bytes is the position of the character's bit,
+    /// so the character is not decoded into a `char`.
     #[inline(always)]
     fn ask_character(&self, bytes: &[u8], start: usize) -> (bool, usize) {
         let lead = u32::from(bytes[start]);
@@ -147,8 +154,8 @@ impl FrozenCodePointSet {
         (self.bits.contains_in(word, fourth), start + 4)
     }
 
-    /// Where the bytes of ASCII end that follow `start` and are all held, or, for `held` false, all
-    /// not held.
+    /// Returns the offset of the first byte from `start` on that is not ASCII, or whose membership
+    /// in the set is not `held`, or of the end of the text.
     #[inline(always)]
     fn past_ascii(&self, text: &str, start: usize, held: bool) -> usize {
         let bytes = text.as_bytes();
@@ -166,9 +173,11 @@ impl FrozenCodePointSet {
         end
     }
 
-    /// The length in bytes of the longest front of the text whose characters are all held, or, for
-    /// `held` false, all not held (ICU: `UnicodeSet::spanUTF8`). A character starts there, or the
-    /// text ends: so `&text[set.span(text, true)..]` is what follows.
+    /// Returns the length in bytes of the longest prefix of `text` whose characters are all in the
+    /// set, or all outside it if `held` is false (ICU: `UnicodeSet::spanUTF8`).
+    ///
+    /// The result is a character boundary, so `&text[set.span(text, true)..]` is the rest of the
+    /// text.
     #[inline(never)]
     pub fn span(&self, text: &str, held: bool) -> usize {
         let bytes = text.as_bytes();
@@ -186,10 +195,11 @@ impl FrozenCodePointSet {
         }
     }
 
-    /// The place of the byte from which on all characters of the text are held, or, for `held`
-    /// false, all not held: the start of its longest such tail (ICU: `UnicodeSet::spanBackUTF8`). A
-    /// character starts there, or the text ends: so `&text[..set.span_back(text, true)]` is what
-    /// stands before.
+    /// Returns the byte offset at which the longest suffix starts whose characters are all in the
+    /// set, or all outside it if `held` is false (ICU: `UnicodeSet::spanBackUTF8`).
+    ///
+    /// The result is a character boundary, so `&text[..set.span_back(text, true)]` is the text
+    /// before that suffix.
     #[inline]
     pub fn span_back(&self, text: &str, held: bool) -> usize {
         let mut start = text.len();
@@ -204,7 +214,7 @@ impl FrozenCodePointSet {
     }
 }
 
-/// Equal exactly where the sets are: what each keeps beside its set follows from it.
+/// Compares the sets, because the set determines the bits.
 impl PartialEq for FrozenCodePointSet {
     #[inline]
     fn eq(&self, other: &Self) -> bool {

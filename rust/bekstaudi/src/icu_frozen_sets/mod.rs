@@ -1,12 +1,13 @@
-//! Frozen sets of code points, and of code points and texts: ICU's UnicodeSet once it is frozen.
+//! Frozen sets of code points, and of code points and strings, like ICU's frozen UnicodeSet.
 //!
-//! - `frozen`: [`FrozenCodePointSet`](frozen::FrozenCodePointSet), and what it can be asked
-//! - `spans`: [`Spans`](spans::Spans), the pieces of a text that are held and that are not
-//! - `ranges`: whether it holds all of a range
-//! - `bytes`: how far bytes lie in it that may be no text
+//! - `frozen`: [`FrozenCodePointSet`](frozen::FrozenCodePointSet) and its queries
+//! - `spans`: [`Spans`](spans::Spans), an iterator over the pieces of a text that are in the set
+//!   and those that are not
+//! - `ranges`: whether a frozen set contains a range
+//! - `bytes`: spans of bytes that may not be valid UTF-8
 //! - `text_sets`: [`FrozenCodePointSetAndStrings`](text_sets::FrozenCodePointSetAndStrings), a
-//!   frozen set beside strings
-//! - `filling`: how the bits of a set are filled in, range by range
+//!   frozen set with strings
+//! - `filling`: filling the bits of a set, range by range
 //! - `bits`: a bit for each code point, in two stages
 
 mod bits;

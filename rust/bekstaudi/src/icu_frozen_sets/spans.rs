@@ -1,25 +1,25 @@
-//! The pieces of a text that are, and are not, in a frozen set.
+//! An iterator over the pieces of a text that are in a frozen set and those that are not.
 
 use crate::icu_frozen_sets::frozen::FrozenCodePointSet;
 
-/// A piece of a text whose characters are all in a set, or all not in it.
+/// A piece of a text whose characters are all in a set, or all outside it.
 #[derive(Clone, Copy, Debug)]
 pub struct Span<'t> {
-    /// The piece itself, which is not empty.
+    /// The piece, which is not empty.
     pub text: &'t str,
-    /// Whether the set holds its characters.
+    /// Whether the set contains its characters.
     pub is_held: bool,
 }
 
-/// The spans of a text, from its front on, as
-/// [`spans`](crate::icu_frozen_sets::frozen::FrozenCodePointSet::spans) gives them.
+/// An iterator over the spans of a text, from its start to its end.
+/// [`spans`](crate::icu_frozen_sets::frozen::FrozenCodePointSet::spans) returns it.
 #[derive(Debug)]
 pub struct Spans<'s, 't> {
     set: &'s FrozenCodePointSet,
     rest: &'t str,
 }
 
-/// The first span of a text, with what follows it. `None` exactly where the text is empty.
+/// Returns the first span of a text and the rest of the text, or `None` if the text is empty.
 #[inline]
 fn first_span<'t>(set: &FrozenCodePointSet, text: &'t str) -> Option<(Span<'t>, &'t str)> {
     let first = text.chars().next()?;
@@ -43,11 +43,13 @@ impl<'s, 't> Iterator for Spans<'s, 't> {
     }
 }
 
-/// How a text is cut by a frozen set.
+/// Cutting a text into spans.
 impl FrozenCodePointSet {
-    /// The spans of a text, from its front on: its longest pieces whose characters are all held, or
-    /// all not held, in turn. Joined they are the text, none is empty, and each is a slice of it,
-    /// so no memory is taken.
+    /// Returns an iterator over the spans of `text`, from its start to its end: its longest pieces
+    /// whose characters are all in the set, and all outside it, in turn.
+    ///
+    /// Joined, the spans are the text. None is empty, and each is a slice of `text`, so nothing is
+    /// allocated.
     ///
     /// ```ignore
     /// for span in letters.spans("ab, c") {

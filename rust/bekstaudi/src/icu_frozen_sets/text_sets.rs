@@ -1,4 +1,4 @@
-//! Frozen sets of code points and texts.
+//! Frozen sets of code points and strings.
 
 #[allow(unused_imports)]
 use crate::support::prelude::*;
@@ -6,8 +6,8 @@ use crate::icu_frozen_sets::frozen::FrozenCodePointSet;
 use crate::icu_text_sets::codepointinvliststringlist::CodePointInversionListAndStringList;
 use crate::icu_zerovec::MemoryError;
 
-/// A set of code points and strings for many look-ups (ICU: a frozen UnicodeSet with strings): the
-/// set beside its code points, frozen.
+/// A set of code points and strings for many look-ups (ICU: a frozen UnicodeSet with strings). It
+/// stores the set and a frozen set of its code points.
 ///
 /// ```ignore
 /// let words = FrozenCodePointSetAndStrings::try_freeze(&set)?;
@@ -19,13 +19,13 @@ pub struct FrozenCodePointSetAndStrings {
     code_points: FrozenCodePointSet,
 }
 
-/// How a set is frozen.
+/// Constructors and copies.
 impl FrozenCodePointSetAndStrings {
-    /// The set with a bit for each code point (ICU: `UnicodeSet::freeze`). The given set stays as
-    /// it is, and the frozen one has a copy of its ends and of its strings.
+    /// Returns a frozen set with the code points and the strings of `set` (ICU:
+    /// `UnicodeSet::freeze`). It has its own copy of both, and `set` is unchanged.
     ///
     /// # Errors
-    /// `MemoryError` where memory was refused.
+    /// Returns `MemoryError` if an allocation fails.
     #[inline]
     pub fn try_freeze(
         set: &CodePointInversionListAndStringList<'_>,
@@ -37,10 +37,10 @@ impl FrozenCodePointSetAndStrings {
         })
     }
 
-    /// A copy, which takes no new look at the ranges.
+    /// Returns an equal frozen set. This copies the bits and does not compute them again.
     ///
     /// # Errors
-    /// `MemoryError` where memory was refused.
+    /// Returns `MemoryError` if an allocation fails.
     #[inline]
     pub fn try_clone(&self) -> Result<FrozenCodePointSetAndStrings, MemoryError> {
         let code_points = self.code_points.try_clone()?;
@@ -51,16 +51,18 @@ impl FrozenCodePointSetAndStrings {
     }
 }
 
-/// What a frozen set holds.
+/// Queries.
 impl FrozenCodePointSetAndStrings {
-    /// The set itself.
+    /// Returns a reference to the set that was frozen.
     #[inline]
     pub fn as_set(&self) -> &CodePointInversionListAndStringList<'static> {
         &self.set
     }
 
-    /// Whether the set holds the text: one of exactly one character if that is among the code
-    /// points, any other one if it is among the strings. A character takes no search.
+    /// Returns true if the set contains the text: as a code point if it has exactly one character,
+    /// and otherwise as a string.
+    ///
+    /// A text of one character takes no search.
     #[inline]
     pub fn contains_str(&self, text: &str) -> bool {
         let mut chars = text.chars();
@@ -70,20 +72,21 @@ impl FrozenCodePointSetAndStrings {
         }
     }
 
-    /// Whether the set holds the code point. No number above 0x10FFFF is held.
+    /// Returns true if the set contains the code point `cp`. Returns false for any number above
+    /// 0x10FFFF.
     #[inline(always)]
     pub fn contains32(&self, cp: u32) -> bool {
         self.code_points.contains32(cp)
     }
 
-    /// Whether the set holds the character.
+    /// Returns true if the set contains the character `ch`.
     #[inline(always)]
     pub fn contains(&self, ch: char) -> bool {
         self.code_points.contains(ch)
     }
 }
 
-/// Equal exactly where the sets are: what each keeps beside its set follows from it.
+/// Compares the sets, because the set determines the bits.
 impl PartialEq for FrozenCodePointSetAndStrings {
     #[inline]
     fn eq(&self, other: &Self) -> bool {

@@ -1,20 +1,20 @@
-//! Changes of a list of ends in place, range by range: searches for the borders, and the ends
-//! between them changed.
+//! Changes of a list of boundaries in place, one range at a time.
 //!
-//! Between the ends that stand below a range and those that stand above it, at most the two borders
-//! of the range are left: its start where the answer changes there, and its end likewise.
+//! Boundaries below and above the range stay. Of those in between, at most the two borders of the
+//! range remain: its start if membership changes there, and likewise its end.
 
 #[allow(unused_imports)]
 use crate::support::prelude::*;
 use crate::icu_zerovec::{CODE_POINT_LIMIT, MemoryError};
 
-/// Whether the end at `place` stands below `c`.
+/// Returns true if the boundary at index `place` is below `c`.
 #[inline(always)]
 fn is_below(ends: &[u32], place: usize, c: u32) -> bool {
     ends[place] < c
 }
 
-/// How many of the next three steps from `low` on, below which all stand below `c`, end so too.
+/// Returns how many of the next three steps from `low` end at a boundary below `c`. All boundaries
+/// before `low` must be below `c`.
 #[inline(always)]
 fn steps_below(ends: &[u32], low: usize, step: usize, c: u32) -> usize {
     let first = is_below(ends, low + step - 1, c);
@@ -23,8 +23,11 @@ fn steps_below(ends: &[u32], low: usize, step: usize, c: u32) -> usize {
     first as usize + second as usize + third as usize
 }
 
-/// From where on at most three ends are left to look at, and how many. Each turn leaves a quarter,
-/// and no jump depends on what it reads.
+/// Returns a start index and a count of at most three boundaries that are still to be compared with
+/// `c`.
+///
+/// Each round leaves a quarter of the list. It adds up comparisons, so no branch depends on a value
+/// read.
 #[inline(always)]
 fn narrowed(ends: &[u32], c: u32) -> (usize, usize) {
     let mut low = 0;
@@ -37,8 +40,8 @@ fn narrowed(ends: &[u32], c: u32) -> (usize, usize) {
     (low, size)
 }
 
-/// How many ends stand below `c`. Past the last end, where ranges in order are added, nothing is
-/// searched.
+/// Returns how many boundaries are below `c`. There is no search if all are, as when ranges are
+/// added in ascending order.
 #[inline]
 fn count_below(ends: &[u32], c: u32) -> usize {
     let count = ends.len();
@@ -53,7 +56,8 @@ fn count_below(ends: &[u32], c: u32) -> usize {
     low
 }
 
-/// The same, where at least `from` ends stand below `c`, and mostly no more.
+/// Returns how many boundaries are below `c`, given that at least `from` are. It is fast if there
+/// are exactly `from`.
 #[inline]
 fn count_below_from(ends: &[u32], from: usize, c: u32) -> usize {
     if from < ends.len() && c <= ends[from] {
@@ -62,8 +66,8 @@ fn count_below_from(ends: &[u32], from: usize, c: u32) -> usize {
     count_below(ends, c)
 }
 
-/// Writes the borders that are wanted over the ends from `lower` to before `upper`, and takes the
-/// rest out.
+/// Replaces the boundaries at indices `lower..upper` by `start` if `first` is true and `end` if
+/// `second` is true.
 fn overwrite(
     ends: &mut Vec<u32>,
     lower: usize,
@@ -85,7 +89,7 @@ fn overwrite(
     drop(ends.drain(place..upper));
 }
 
-/// Puts two ends in at `place`. The ends from there on move once.
+/// Inserts two boundaries at index `place`. The boundaries after them are moved only once.
 #[inline]
 fn insert_two(ends: &mut Vec<u32>, place: usize, start: u32, end: u32) -> Result<(), MemoryError> {
     let count = ends.len();
@@ -98,8 +102,8 @@ fn insert_two(ends: &mut Vec<u32>, place: usize, start: u32, end: u32) -> Result
     Ok(())
 }
 
-/// Gives all code points from `start` to before `end` the answer `value`. The list grows only where
-/// the range lies between two neighbouring ends and both borders are put in.
+/// Sets the membership of all code points in `start..end` to `value`. The list grows only if the
+/// range is between two neighbouring boundaries and both of its borders are inserted.
 #[inline]
 fn fill(ends: &mut Vec<u32>, start: u32, end: u32, value: bool) -> Result<(), MemoryError> {
     let lower = count_below(ends, start);
@@ -114,8 +118,8 @@ fn fill(ends: &mut Vec<u32>, start: u32, end: u32, value: bool) -> Result<(), Me
     }
 }
 
-/// Takes out all code points from `start` to before `end`, of which one is an end of the code
-/// space, so that the list does not grow.
+/// Removes all code points in `start..end`. The range starts or ends at the edge of the code space,
+/// so the list does not grow.
 #[inline]
 fn clear_side(ends: &mut Vec<u32>, start: u32, end: u32) {
     let lower = count_below(ends, start);
@@ -131,7 +135,7 @@ fn clear_side(ends: &mut Vec<u32>, start: u32, end: u32) {
     );
 }
 
-/// Keeps the code points from `start` to before `end` alone. It takes no memory.
+/// Removes all code points outside `start..end`. This does not allocate.
 #[inline]
 pub(crate) fn retain(ends: &mut Vec<u32>, start: u32, end: u32) {
     let last = end.min(CODE_POINT_LIMIT);
@@ -147,7 +151,7 @@ pub(crate) fn retain(ends: &mut Vec<u32>, start: u32, end: u32) {
     }
 }
 
-/// Adds the code points from `start` to before `end`.
+/// Adds the code points in `start..end`.
 #[inline]
 pub(crate) fn add(ends: &mut Vec<u32>, start: u32, end: u32) -> Result<(), MemoryError> {
     let last = end.min(CODE_POINT_LIMIT);
@@ -158,7 +162,7 @@ pub(crate) fn add(ends: &mut Vec<u32>, start: u32, end: u32) -> Result<(), Memor
     }
 }
 
-/// Removes the code points from `start` to before `end`.
+/// Removes the code points in `start..end`.
 #[inline]
 pub(crate) fn remove(ends: &mut Vec<u32>, start: u32, end: u32) -> Result<(), MemoryError> {
     let last = end.min(CODE_POINT_LIMIT);
@@ -169,13 +173,13 @@ pub(crate) fn remove(ends: &mut Vec<u32>, start: u32, end: u32) -> Result<(), Me
     }
 }
 
-/// Whether `x` is no end.
+/// Returns true if `x` is not a boundary.
 #[inline]
 fn is_new(ends: &[u32], x: u32) -> bool {
     ends.binary_search(&x).is_err()
 }
 
-/// Puts `x` in if it is no end, for which there has to be room, and takes it out if it is one.
+/// Removes `x` if it is a boundary, and inserts it otherwise. Inserting needs spare capacity.
 #[inline]
 fn toggle(ends: &mut Vec<u32>, x: u32) {
     match ends.binary_search(&x) {
@@ -188,7 +192,7 @@ fn toggle(ends: &mut Vec<u32>, x: u32) {
     }
 }
 
-/// Makes room for two ends more, where they are wanted.
+/// Reserves capacity for two more boundaries if `wanted` is true.
 #[inline]
 fn reserve_two(ends: &mut Vec<u32>, wanted: bool) -> Result<(), MemoryError> {
     if wanted {
@@ -197,8 +201,8 @@ fn reserve_two(ends: &mut Vec<u32>, wanted: bool) -> Result<(), MemoryError> {
     Ok(())
 }
 
-/// Flips the code points from `start` to before `end`. The list grows only where neither is an end:
-/// else the one that is an end is taken out first.
+/// Flips the code points in `start..end`. The list grows only if neither border is a boundary;
+/// otherwise the one that is a boundary is removed first.
 #[inline]
 fn toggle_both(ends: &mut Vec<u32>, start: u32, end: u32) -> Result<(), MemoryError> {
     let new_start = is_new(ends, start);
@@ -214,8 +218,7 @@ fn toggle_both(ends: &mut Vec<u32>, start: u32, end: u32) -> Result<(), MemoryEr
     Ok(())
 }
 
-/// Flips the code points from `start` to before `end`: those that were in the set are not in it,
-/// and the others are.
+/// Flips the code points in `start..end`: removes those in the set and adds the others.
 #[inline]
 pub(crate) fn flip(ends: &mut Vec<u32>, start: u32, end: u32) -> Result<(), MemoryError> {
     let last = end.min(CODE_POINT_LIMIT);

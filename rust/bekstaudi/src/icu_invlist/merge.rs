@@ -1,10 +1,12 @@
-//! Two lists of ends made into one, for the four operations on two sets.
+//! Merging of two lists of boundaries, for the four operations on two sets.
 //!
-//! The walk goes over the ends of both lists in ascending order. Past each of them the numbers of
-//! ends passed in the two lists say whether the next code points are in the one set and in the
-//! other, and so whether they are in the new one: where that answer changes, the end is one of the
-//! new list's. Up to the next end of the other list, ends of one are all written or none. Once one
-//! list is passed, the rest of the other is either copied or left out.
+//! The merge goes through the boundaries of both lists in ascending order. After each of them, the
+//! parity of the number of boundaries passed in a list says whether the next code points are in its
+//! set. From both parities follows whether they are in the result. If that changes at a boundary,
+//! the boundary is one of the result.
+//!
+//! Up to the next boundary of the other list, the boundaries of one list are either all written or
+//! all skipped. When one list is used up, the rest of the other is either copied or dropped.
 
 #[allow(unused_imports)]
 use crate::support::prelude::*;
@@ -14,14 +16,15 @@ use crate::icu_zerovec::{MemoryError, PotentialCodePoint, ZeroSlice};
 
 /// An operation on two sets, code point by code point.
 pub(crate) trait SetOperation {
-    /// The same.
+    /// Returns whether a code point is in the result, from its membership in the two sets.
     fn of(first: bool, second: bool) -> bool;
 
-    /// Changes the ends to those of the set that the operation gives of theirs and a range.
+    /// Applies the operation to a set and the range `start..end`. `ends` are the boundaries of the
+    /// set.
     fn of_range(ends: &mut Vec<u32>, start: u32, end: u32) -> Result<(), MemoryError>;
 }
 
-/// What is in either set.
+/// Code points in at least one of the sets.
 pub(crate) struct Union;
 
 impl SetOperation for Union {
@@ -36,7 +39,7 @@ impl SetOperation for Union {
     }
 }
 
-/// What is in the first set and not in the second.
+/// Code points in the first set but not in the second.
 pub(crate) struct Difference;
 
 impl SetOperation for Difference {
@@ -51,7 +54,7 @@ impl SetOperation for Difference {
     }
 }
 
-/// What is in both sets.
+/// Code points in both sets.
 pub(crate) struct Intersection;
 
 impl SetOperation for Intersection {
@@ -67,7 +70,7 @@ impl SetOperation for Intersection {
     }
 }
 
-/// What is in one of the sets alone.
+/// Code points in exactly one of the sets.
 pub(crate) struct SymmetricDifference;
 
 impl SetOperation for SymmetricDifference {
@@ -82,7 +85,7 @@ impl SetOperation for SymmetricDifference {
     }
 }
 
-/// How far a walk over two lists has come: how many ends of each it has passed, and how many it has
+/// The progress of a merge: how many boundaries of each list it has passed, and how many it has
 /// written.
 #[derive(Clone, Copy)]
 struct Walk {
@@ -91,8 +94,8 @@ struct Walk {
     written: usize,
 }
 
-/// Passes the ends of the first list that stand below the next one of the second. The answer
-/// changes at each of them or at none.
+/// Passes the boundaries of the first list that are below the next one of the second. The result
+/// changes at all of them or at none.
 #[inline(always)]
 fn pass_first<O: SetOperation>(
     out: &mut [u32],
@@ -117,7 +120,8 @@ fn pass_first<O: SetOperation>(
     }
 }
 
-/// The same with the lists exchanged.
+/// Passes the boundaries of the second list that are below the next one of the first. The result
+/// changes at all of them or at none.
 #[inline(always)]
 fn pass_second<O: SetOperation>(
     out: &mut [u32],
@@ -147,7 +151,7 @@ fn pass_second<O: SetOperation>(
     }
 }
 
-/// Passes the ends that both lists have next. The answer changes at each of them or at none.
+/// Passes the boundaries that are next in both lists. The result changes at all of them or at none.
 #[inline(always)]
 fn pass_both<O: SetOperation>(
     out: &mut [u32],
@@ -175,7 +179,8 @@ fn pass_both<O: SetOperation>(
     passed
 }
 
-/// Passes ends of the first list alone, then of both, and then of the second alone: at least one.
+/// Passes boundaries of the first list only, then common ones, then boundaries of the second list
+/// only: at least one in total.
 #[inline(always)]
 fn pass_some<O: SetOperation>(
     out: &mut [u32],
@@ -192,8 +197,8 @@ fn pass_some<O: SetOperation>(
     }
 }
 
-/// Walks over both lists until one of them is passed, and writes the ends of the new one to the
-/// front of `out`.
+/// Merges until one of the lists is used up, and writes the boundaries of the result to the start
+/// of `out`.
 fn walk_both<O: SetOperation>(
     out: &mut [u32],
     a: &[u32],
@@ -211,14 +216,14 @@ fn walk_both<O: SetOperation>(
     walk
 }
 
-/// Where the rest of a list of this length starts: at the place, if the rest is wanted, and else
-/// there is none.
+/// Returns the index from which the rest of a list is copied: `place` if the rest is wanted, and
+/// otherwise `len`, so that nothing is copied.
 #[inline]
 fn rest_from(wanted: bool, place: usize, len: usize) -> usize {
     if wanted { place } else { len }
 }
 
-/// The ends of the set that the operation gives of two sets, in room that is asked for once.
+/// Returns the boundaries of the result of the operation. It allocates once, before the merge.
 #[inline]
 fn merge<O: SetOperation>(
     a: &[u32],
@@ -234,7 +239,8 @@ fn merge<O: SetOperation>(
     Ok(ends)
 }
 
-/// Whether all ends of the list stand below those of the set: also where one of them has none.
+/// Returns true if all boundaries in `ends` are below those of `set`, which includes the case that
+/// one of them has none.
 #[inline]
 fn stand_before(ends: &[u32], set: &CodePointInversionList<'_>) -> bool {
     let count = ends.len();
@@ -245,7 +251,8 @@ fn stand_before(ends: &[u32], set: &CodePointInversionList<'_>) -> bool {
     ends[count - 1] < set.end_at(0)
 }
 
-/// The same with the list and the set exchanged.
+/// Returns true if all boundaries of `set` are below those in `ends`, which includes the case that
+/// one of them has none.
 #[inline]
 fn stand_past(ends: &[u32], set: &CodePointInversionList<'_>) -> bool {
     let count = ends.len();
@@ -256,7 +263,8 @@ fn stand_past(ends: &[u32], set: &CodePointInversionList<'_>) -> bool {
     set.end_at(others - 1) < ends[0]
 }
 
-/// What the operation leaves of a set that has no code point in common with the other one.
+/// Leaves what remains of a set that has no code point in common with the other: the set itself or
+/// the empty set.
 #[inline]
 fn leave<O: SetOperation>(ends: &mut Vec<u32>) {
     if !O::of(true, false) {
@@ -264,10 +272,11 @@ fn leave<O: SetOperation>(ends: &mut Vec<u32>) {
     }
 }
 
-/// Changes the ends to those of the set that the operation gives of theirs and the other one.
-/// Nothing is walked over where all of them stand below those of the other set, nor, by an
-/// operation that brings in nothing of it, where they stand above: memory is then asked for only if
-/// ends are added. Another set of one range is taken as the range.
+/// Applies the operation to the set with the boundaries `ends` and to `set`.
+///
+/// There is no merge if all of `ends` are below the boundaries of `set`. For difference and
+/// intersection there is none either if they are above. Then memory is allocated only if boundaries
+/// are appended. A `set` of one range is applied as a range.
 #[inline]
 pub(crate) fn change<O: SetOperation>(
     ends: &mut Vec<u32>,

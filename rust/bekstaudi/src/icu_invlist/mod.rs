@@ -1,22 +1,22 @@
-//! Sets of code points: ICU's UnicodeSet.
+//! Sets of code points, like ICU's UnicodeSet.
 //!
-//! - `codepointinvlist`: sets of code points as inversion lists, that is as the ascending list of
-//!   their ends
-//!   - `cpinvlist`: [`CodePointInversionList`](codepointinvlist::CodePointInversionList), the set,
-//!     and what it can be asked
-//!     - `packing`: its ends, packed and unpacked
-//!     - `places`: where a code point stands among them
-//!     - `subsets`: whether it holds another set
-//!   - `equality`: sets are equal, and hash alike, exactly if they hold the same code points
-//!   - `utils`: what ranges name, and what makes a list valid
-//!   - `iter`: its ranges, the ranges that it does not hold, and its characters, one after another
+//! - `codepointinvlist`: sets of code points as inversion lists, which are ascending lists of
+//!   boundaries
+//!   - `cpinvlist`: [`CodePointInversionList`](codepointinvlist::CodePointInversionList), the
+//!     immutable set, and its queries
+//!     - `packing`: packing and unpacking of boundaries
+//!     - `places`: searches for a code point among the boundaries
+//!     - `subsets`: the subset test
+//!   - `equality`: equality and hashing
+//!   - `utils`: the numbers in a range, and the validity of a list
+//!   - `iter`: iterators over the ranges, the ranges of the complement, and the characters
 //!   - `builder`:
-//!     [`CodePointInversionListBuilder`](codepointinvlist::CodePointInversionListBuilder), the set
-//!     that changes
-//!   - `conversions`: sets of ranges
-//!   - `json`: sets to and from JSON
-//!   - `error`: why lists, ranges and JSON values are refused
-//! - `fill`, `merge`: changes of a list of ends, range by range, and set with set
+//!     [`CodePointInversionListBuilder`](codepointinvlist::CodePointInversionListBuilder), the
+//!     mutable set
+//!   - `conversions`: sets made from ranges
+//!   - `json`: conversion to and from JSON
+//!   - `error`: errors for invalid lists, ranges and JSON values
+//! - `fill`, `merge`: changes of a list of boundaries, by a range and by another set
 //! - `spelling`: how ranges are spelled in JSON
 
 pub mod codepointinvlist;

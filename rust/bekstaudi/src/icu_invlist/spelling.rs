@@ -4,7 +4,7 @@
 use crate::support::prelude::*;
 use crate::icu_zerovec::MemoryError;
 
-/// The first character, and what follows.
+/// Returns the first character and the rest of the text.
 #[inline]
 fn first_of(text: &str) -> Option<(char, &str)> {
     let mut rest = text.chars();
@@ -12,7 +12,8 @@ fn first_of(text: &str) -> Option<(char, &str)> {
     Some((first, rest.as_str()))
 }
 
-/// A hexadecimal digit, after the number so far, and what follows.
+/// Reads one hexadecimal digit. Returns `number` with that digit appended, and the rest of the
+/// text.
 #[inline]
 fn digit_at(number: u32, text: &str) -> Option<(u32, &str)> {
     let (digit, rest) = first_of(text)?;
@@ -20,7 +21,7 @@ fn digit_at(number: u32, text: &str) -> Option<(u32, &str)> {
     Some((number * 16 + digit, rest))
 }
 
-/// Four hexadecimal digits, and what follows.
+/// Reads four hexadecimal digits. Returns their number and the rest of the text.
 #[inline]
 fn hex_at(text: &str) -> Option<(u32, &str)> {
     let (first, rest) = digit_at(0, text)?;
@@ -29,8 +30,8 @@ fn hex_at(text: &str) -> Option<(u32, &str)> {
     digit_at(third, rest)
 }
 
-/// The point at the front of a text, and what follows: `U+` and four hexadecimal digits of either
-/// case, or a character.
+/// Reads a code point: `U+` and four hexadecimal digits of either case, or a character. Returns it
+/// and the rest of the text.
 #[inline]
 fn point_at(text: &str) -> Option<(u32, &str)> {
     let (first, rest) = first_of(text)?;
@@ -42,7 +43,7 @@ fn point_at(text: &str) -> Option<(u32, &str)> {
     Some((first as u32, rest))
 }
 
-/// The range that a whole text spells.
+/// Returns the first and the last code point of the range that the whole text spells.
 fn range_at(text: &str) -> Option<(u32, u32)> {
     let (first, rest) = point_at(text)?;
     if first_of(rest).is_none() {
@@ -59,13 +60,14 @@ fn range_at(text: &str) -> Option<(u32, u32)> {
     }
 }
 
-/// The first and the last point of the range that a whole text spells.
+/// Returns the first and the last code point of the range that the whole text spells, or `None` if
+/// it does not spell a range.
 #[inline]
 pub(crate) fn range_of(text: &str) -> Option<(u32, u32)> {
     range_at(text)
 }
 
-/// The hexadecimal digit of a number below 16, in upper case.
+/// Returns the upper-case hexadecimal digit of a number below 16.
 #[inline]
 fn upper_digit(digit: u32) -> char {
     if digit < 10 {
@@ -85,7 +87,7 @@ fn push_hex(text: &mut String, number: u32) -> Result<(), MemoryError> {
     Ok(())
 }
 
-/// Appends a point to the text.
+/// Appends a code point to the text.
 #[inline]
 fn push_point(text: &mut String, point: u32) -> Result<(), MemoryError> {
     match char::from_u32(point) {
@@ -99,7 +101,7 @@ fn push_point(text: &mut String, point: u32) -> Result<(), MemoryError> {
     Ok(())
 }
 
-/// The text of the range from `first` through `last`.
+/// Returns the text of the range from `first` to `last` inclusive.
 #[inline]
 pub(crate) fn text_of_range(first: u32, last: u32) -> Result<String, MemoryError> {
     let mut text = String::new();

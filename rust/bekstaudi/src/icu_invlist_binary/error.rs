@@ -1,14 +1,14 @@
-//! Why a set has no serialized form, and why units are none.
+//! Errors of writing and reading the serialized form.
 
 use crate::icu_zerovec::MemoryError;
 use crate::support::AllocError;
 
-/// Why no set was serialized.
+/// The error of [`to_serialized`](crate::icu_invlist_binary::serialized::to_serialized).
 #[derive(Clone, Copy, Debug, PartialEq, Eq)]
 pub enum SerializeError {
-    /// The ends take more than 0x7FFF units (U_INDEX_OUTOFBOUNDS_ERROR).
+    /// The boundaries take more than 0x7FFF units (ICU: `U_INDEX_OUTOFBOUNDS_ERROR`).
     TooLong,
-    /// Memory was refused.
+    /// An allocation failed.
     Memory,
 }
 
@@ -19,25 +19,28 @@ impl From<AllocError> for SerializeError {
     }
 }
 
-/// Why no set was written into a slice. Where there are both causes, the first is told.
+/// The error of [`write_serialized`](crate::icu_invlist_binary::serialized::write_serialized). If both variants apply,
+/// the first is returned.
 #[derive(Clone, Copy, Debug, PartialEq, Eq)]
 pub enum WriteError {
-    /// The ends take more than 0x7FFF units (U_INDEX_OUTOFBOUNDS_ERROR).
+    /// The boundaries take more than 0x7FFF units (ICU: `U_INDEX_OUTOFBOUNDS_ERROR`).
     TooLong,
-    /// The slice has fewer units than the set takes (U_BUFFER_OVERFLOW_ERROR).
+    /// The slice is shorter than the serialized form (ICU: `U_BUFFER_OVERFLOW_ERROR`).
     Short,
 }
 
-/// Why no set was read of its units. Where there are several causes, the first of these is told.
+/// The error of [`from_serialized`](crate::icu_invlist_binary::serialized::from_serialized). If several variants apply,
+/// the first is returned.
 #[derive(Clone, Copy, Debug, PartialEq, Eq)]
 pub enum SerializedSetError {
-    /// There is no unit, or there are fewer than the first one says.
+    /// There is no unit, or there are fewer units than the first one says.
     Short,
-    /// There are fewer units of ends than ends of one unit, or those that are left are no pairs.
+    /// There are fewer units of boundaries than boundaries of one unit, or an odd number of units
+    /// is left for boundaries of two units.
     Count,
-    /// The ends do not ascend, or one is above 0x110000.
+    /// The boundaries are not strictly ascending, or one is above 0x110000.
     Invalid,
-    /// Memory was refused.
+    /// An allocation failed.
     Memory,
 }
 

@@ -1,11 +1,11 @@
-//! The ends that units have, read in place.
+//! The boundaries in serialized units, read in place.
 
 #[allow(unused_imports)]
 use crate::support::prelude::*;
 use crate::icu_invlist_binary::error::SerializedSetError;
 use crate::icu_zerovec::{CODE_POINT_LIMIT, MemoryError};
 
-/// The unit at place `i`, and 0 where there is none.
+/// Returns the unit at index `i`, or 0 if there is none.
 #[inline]
 fn unit_at(units: &[u16], i: usize) -> usize {
     match units.get(i) {
@@ -14,19 +14,19 @@ fn unit_at(units: &[u16], i: usize) -> usize {
     }
 }
 
-/// How many units stand before those of the ends.
+/// Returns the number of units before the units of the boundaries.
 #[inline]
 fn head_length(units: &[u16]) -> usize {
     if unit_at(units, 0) >= 0x8000 { 2 } else { 1 }
 }
 
-/// How many units the ends take.
+/// Returns the number of units that the boundaries take.
 #[inline]
 fn ends_length(units: &[u16]) -> usize {
     unit_at(units, 0) % 0x8000
 }
 
-/// How many ends take one unit.
+/// Returns the number of boundaries that take one unit.
 #[inline]
 fn singles_length(units: &[u16]) -> usize {
     if unit_at(units, 0) >= 0x8000 {
@@ -36,13 +36,13 @@ fn singles_length(units: &[u16]) -> usize {
     }
 }
 
-/// How many units the whole set takes.
+/// Returns the number of units that the whole set takes.
 #[inline]
 pub(crate) fn serialized_length(units: &[u16]) -> usize {
     head_length(units) + ends_length(units)
 }
 
-/// The units of the ends.
+/// Returns the units of the boundaries.
 #[inline]
 fn units_of_ends(units: &[u16]) -> Result<&[u16], SerializedSetError> {
     let len = serialized_length(units);
@@ -53,14 +53,14 @@ fn units_of_ends(units: &[u16]) -> Result<&[u16], SerializedSetError> {
     Ok(&ends[..ends_length(units)])
 }
 
-/// The ends of a set in their units: those of one unit each, and those of two.
+/// The boundaries of a set in serialized units: those of one unit, and those of two.
 #[derive(Clone, Copy, Debug)]
 pub(crate) struct LentEnds<'a> {
     pub(crate) singles: &'a [u16],
     pub(crate) pairs: &'a [u16],
 }
 
-/// The ends that the units have.
+/// Returns the boundaries in the units.
 #[inline]
 pub(crate) fn lent_ends(units: &[u16]) -> Result<LentEnds<'_>, SerializedSetError> {
     let ends = units_of_ends(units)?;
@@ -75,13 +75,13 @@ pub(crate) fn lent_ends(units: &[u16]) -> Result<LentEnds<'_>, SerializedSetErro
 }
 
 impl<'a> LentEnds<'a> {
-    /// How many ends there are.
+    /// Returns the number of boundaries.
     #[inline]
     fn count(&self) -> usize {
         self.singles.len() + self.pairs.len() / 2
     }
 
-    /// The end at place `i`, counted from 0.
+    /// Returns the boundary at index `i`, counted from 0.
     #[inline]
     fn end_at(&self, i: usize) -> u32 {
         let singles = self.singles.len();
@@ -92,7 +92,8 @@ impl<'a> LentEnds<'a> {
         u32::from(self.pairs[pair]) * 0x1_0000 + u32::from(self.pairs[pair + 1])
     }
 
-    /// Whether they are an inversion list, with 0x110000 after an odd number of them.
+    /// Returns true if the boundaries are an inversion list, with 0x110000 appended if their number
+    /// is odd.
     #[inline]
     pub(crate) fn is_valid(&self) -> bool {
         let count = self.count();
@@ -107,7 +108,7 @@ impl<'a> LentEnds<'a> {
         count % 2 == 0 || next <= CODE_POINT_LIMIT
     }
 
-    /// The ends, copied, with 0x110000 after an odd number of them.
+    /// Returns a copy of the boundaries, with 0x110000 appended if their number is odd.
     #[inline]
     pub(crate) fn copied(&self) -> Result<Vec<u32>, MemoryError> {
         let count = self.count();

@@ -1,9 +1,9 @@
-//! Sets of code points in ICU's serialized form: what `uset_serialize` writes and
+//! Sets of code points in ICU's serialized form, which `uset_serialize` writes and
 //! `uset_getSerializedSet` reads.
 //!
-//! - `serialized`: sets to and from the form
-//! - `lent_ends`: the ends that units have, read in place
-//! - `error`: why a set has no form, and why units are refused
+//! - `serialized`: writing and reading the form; `target`: writing units into a caller's slice
+//! - `lent_ends`: the boundaries in serialized units, read in place
+//! - `error`: errors of writing and reading
 
 mod error;
 mod lent_ends;

@@ -1,11 +1,15 @@
 //! Sets of code points in ICU's serialized form, which `uset_serialize` writes and
 //! `uset_getSerializedSet` reads.
 //!
-//! The form has units of 16 bits: how many units the ends take, and the ends of the set's inversion
-//! list but for a last 0x110000. An end below 0x10000 is a unit. Where there are others, bit 15 of
-//! the first unit is set, the second one says how many ends are below 0x10000, and the others are
-//! two units each, the upper 16 bits first. The set of `a` to `z` and of U+1F600 to U+10FFFF is
-//! `[0x8004, 2, 0x61, 0x7B, 1, 0xF600]`.
+//! The form consists of 16-bit units. The first unit is the number of units that the boundaries
+//! take. The boundaries of the inversion list follow, without a last 0x110000.
+//!
+//! A boundary below 0x10000 takes one unit. If there are larger ones, bit 15 of the first unit is
+//! set, and the second unit is the number of boundaries below 0x10000. Each larger boundary takes
+//! two units, the upper 16 bits first.
+//!
+//! For example, the set of `a` to `z` and U+1F600 to U+10FFFF is `[0x8004, 2, 0x61, 0x7B, 1,
+//! 0xF600]`.
 
 #[allow(unused_imports)]
 use crate::support::prelude::*;
@@ -15,17 +19,17 @@ use crate::icu_invlist_binary::target::{put_ends, put_unit};
 use crate::icu_invlist::codepointinvlist::CodePointInversionList;
 use crate::icu_zerovec::{CODE_POINT_LIMIT, PotentialCodePoint, ZeroSlice};
 
-/// The most units that ends may take.
+/// The greatest number of units that the boundaries may take.
 const MOST_UNITS: usize = 0x7FFF;
 
-/// How many units ends take, and how many ends take one.
+/// The number of units that the boundaries take, and the number of boundaries of one unit.
 #[derive(Clone, Copy, Debug)]
 struct Counts {
     units: usize,
     singles: usize,
 }
 
-/// Counts the units of the ends.
+/// Counts the units of the boundaries.
 fn counts_of(ends: ZeroSlice<'_, PotentialCodePoint>) -> Counts {
     let mut units = 0;
     let mut singles = 0;
@@ -42,7 +46,7 @@ fn counts_of(ends: ZeroSlice<'_, PotentialCodePoint>) -> Counts {
 }
 
 impl Counts {
-    /// How many units the set takes.
+    /// Returns the number of units that the whole set takes.
     #[inline]
     fn len(&self) -> usize {
         if self.singles < self.units {
@@ -53,7 +57,8 @@ impl Counts {
     }
 }
 
-/// Puts what stands before the units of the ends to the front, and answers the place behind it.
+/// Writes the units before those of the boundaries to the start of `target`. Returns the index
+/// after them.
 #[inline]
 fn put_head(target: &mut [u16], counts: Counts) -> usize {
     if counts.singles < counts.units {
@@ -64,15 +69,17 @@ fn put_head(target: &mut [u16], counts: Counts) -> usize {
     }
 }
 
-/// Puts the set with these ends to the front.
+/// Writes the set with these boundaries to the start of `target`.
 #[inline]
 fn put_set(target: &mut [u16], counts: Counts, ends: ZeroSlice<'_, PotentialCodePoint>) {
     let at = put_head(target, counts);
     put_ends(target, at, ends);
 }
 
-/// How many units the set takes in ICU's serialized form, which is what `uset_serialize` answers.
-/// `None` exactly where the ends take more than 0x7FFF units, so that there is no form.
+/// Returns the number of units of the set in ICU's serialized form, or `None` if the boundaries
+/// take more than 0x7FFF units. Such a set has no serialized form.
+///
+/// ICU: `uset_serialize` returns this number.
 #[inline]
 pub fn serialized_len(set: &CodePointInversionList<'_>) -> Option<usize> {
     let counts = counts_of(set.as_inversion_list());
@@ -82,7 +89,7 @@ pub fn serialized_len(set: &CodePointInversionList<'_>) -> Option<usize> {
     Some(counts.len())
 }
 
-/// The set in ICU's serialized form: what `uset_serialize` writes.
+/// Returns the set in ICU's serialized form, as `uset_serialize` writes it.
 ///
 /// ```ignore
 /// let units = to_serialized(&set)?;
@@ -90,8 +97,8 @@ pub fn serialized_len(set: &CodePointInversionList<'_>) -> Option<usize> {
 /// ```
 ///
 /// # Errors
-/// `SerializeError::TooLong` exactly where the ends take more than 0x7FFF units;
-/// `SerializeError::Memory` where memory was refused.
+/// - `SerializeError::TooLong` if and only if the boundaries take more than 0x7FFF units.
+/// - `SerializeError::Memory` if an allocation fails.
 #[inline]
 pub fn to_serialized(
     set: &CodePointInversionList<'_>,
@@ -106,8 +113,10 @@ pub fn to_serialized(
     Ok(units)
 }
 
-/// Writes the set in ICU's serialized form to the front of a slice, and answers how many units it
-/// takes, as `uset_serialize` does. The units behind these are unchanged. It takes no memory.
+/// Writes the set in ICU's serialized form to the start of `target`, and returns the number of
+/// units written, as `uset_serialize` does.
+///
+/// The other units in `target` are unchanged. This does not allocate.
 ///
 /// ```ignore
 /// let mut units = [0; 8];
@@ -116,9 +125,10 @@ pub fn to_serialized(
 /// ```
 ///
 /// # Errors
-/// Nothing is written then. `WriteError::TooLong` exactly where the ends take more than 0x7FFF
-/// units, and otherwise `WriteError::Short` exactly where the slice has fewer units than
-/// [`serialized_len`] says.
+/// - `WriteError::TooLong` if and only if the boundaries take more than 0x7FFF units.
+/// - `WriteError::Short` otherwise, if and only if `target` is shorter than [`serialized_len`].
+///
+/// `target` is unchanged on error.
 pub fn write_serialized(
     set: &CodePointInversionList<'_>,
     target: &mut [u16],
@@ -136,11 +146,20 @@ pub fn write_serialized(
     Ok(len)
 }
 
-/// The set that the units begin with, and how many of them it takes: what `uset_getSerializedSet`
-/// reads. What follows is the caller's.
+/// Reads a set in ICU's serialized form, like `uset_getSerializedSet`. Returns the set at the start
+/// of `units` and the number of units that it takes.
+///
+/// Units after the set are ignored.
 ///
 /// # Errors
-/// The first cause in the order of [`SerializedSetError`].
+/// Returns the first variant that applies:
+/// - `SerializedSetError::Short` if there is no unit, or there are fewer units than the first one
+///   says.
+/// - `SerializedSetError::Count` if there are fewer units of boundaries than boundaries of one
+///   unit, or an odd number of units is left for boundaries of two units.
+/// - `SerializedSetError::Invalid` if the boundaries are not strictly ascending, or one is above
+///   0x110000.
+/// - `SerializedSetError::Memory` if the units are valid and an allocation fails.
 #[inline]
 pub fn from_serialized(
     units: &[u16],

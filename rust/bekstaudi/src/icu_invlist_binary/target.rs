@@ -1,15 +1,15 @@
-//! Units written into a caller's slice.
+//! Writing units into a caller's slice.
 
 use crate::icu_zerovec::{CODE_POINT_LIMIT, PotentialCodePoint, ZeroSlice};
 
-/// Puts the unit at place `at`, and answers the place behind it.
+/// Writes the unit at index `at`, and returns the index after it.
 #[inline]
 pub(crate) fn put_unit(target: &mut [u16], at: usize, unit: u16) -> usize {
     target[at] = unit;
     at + 1
 }
 
-/// Puts the units of the ends at place `at`. There is room for them.
+/// Writes the units of the boundaries from index `at` on. `target` must be long enough.
 #[inline]
 pub(crate) fn put_ends(target: &mut [u16], at: usize, ends: ZeroSlice<'_, PotentialCodePoint>) {
     let mut next = at;

@@ -1,11 +1,11 @@
-//! Sets of code points and texts: ICU's UnicodeSet with its strings.
+//! Sets of code points and strings, like ICU's UnicodeSet with strings.
 //!
-//! - `codepointinvliststringlist`:
-//! [`CodePointInversionListAndStringList`](codepointinvliststringlist::CodePointInversionListAndStringList)
-//!   - `set`: the set, and what it can be asked
-//!   - `make`: how it is made of a list of strings, or of texts in any order
-//!   - `equality`: sets are equal exactly if they hold the same code points and strings
-//!   - `json`: sets to and from JSON
-//!   - `error`: why lists of strings and JSON values are refused
+//! - `codepointinvliststringlist`: the type
+//!   [`codepointinvliststringlist::CodePointInversionListAndStringList`]
+//!   - `set`: the set and its queries
+//!   - `make`: constructors, from a list of strings or from texts in any order
+//!   - `equality`: equality of sets
+//!   - `json`: conversion to and from JSON
+//!   - `error`: errors for invalid lists of strings and JSON values
 
 pub mod codepointinvliststringlist;

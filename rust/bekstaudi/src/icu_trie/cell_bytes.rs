@@ -10,7 +10,7 @@ use crate::icu_zerovec::{ZeroSlice, ZeroVec};
 use crate::support::Brand;
 use crate::support::{Blank, Ledger};
 
-/// `cell_of` over packed vectors, with a count in the ledger of `blank`.
+/// `cell_of` over packed vectors, counting in the ledger of `blank`.
 #[inline]
 fn cell_counted<T: TrieValue, L: Ledger>(
     header: &CodePointTrieHeader,
@@ -27,7 +27,7 @@ fn cell_counted<T: TrieValue, L: Ledger>(
     cell_of(header, &mut cells, c)
 }
 
-/// `cell_of` over packed vectors. Counts in a ledger of its own, which is then dropped.
+/// `cell_of` over packed vectors. It counts in its own ledger, which it then drops.
 #[inline]
 fn cell_in<T: TrieValue>(
     header: &CodePointTrieHeader,
@@ -38,7 +38,7 @@ fn cell_in<T: TrieValue>(
     cell_counted::<T, Brand>(header, index, values, c, Blank::new(1))
 }
 
-/// The packed bytes of the value at place `i`. `None` at or past the end.
+/// Returns the packed bytes of the value at index `i`, or `None` if `i` is past the end.
 #[inline]
 fn bytes_at<'a, T: TrieValue>(values: &'a ZeroVec<'_, T>, i: usize) -> Option<&'a [u8]> {
     if i >= values.len() {
@@ -49,12 +49,14 @@ fn bytes_at<'a, T: TrieValue>(values: &'a ZeroVec<'_, T>, i: usize) -> Option<&'
 }
 
 impl<'trie, T: TrieValue> CodePointTrie<'trie, T> {
-    /// The packed bytes of the cell of the code point `c`, `T::WIDTH` of them, lent: for values
-    /// that are read in place. Above 0x10FFFF, and where a cell of the index is missing, those of
-    /// the last cell, which is the error value. `None` exactly where the index leads outside the
-    /// data.
+    /// Returns a reference to the packed bytes of the cell of the code point `c`, `T::WIDTH` bytes
+    /// long.
     ///
-    /// Where each value of the type has one encoding, as in all types of this crate, they are the
+    /// It is for values that are read in place. If `c` is above 0x10FFFF, or if a cell of the index
+    /// is missing, it returns the bytes of the last cell, which is the error value. It returns
+    /// `None` exactly if the index leads outside the data.
+    ///
+    /// If each value of the type has one encoding, as in all types of this crate, these are the
     /// bytes that the value packs to.
     #[inline]
     pub fn get32_ule(&self, c: u32) -> Option<&[u8]> {

@@ -1,4 +1,4 @@
-//! Whether what a trie's header says is so.
+//! The check whether a trie is coherent.
 
 use crate::icu_trie::cptrie::CodePointTrie;
 use crate::icu_trie::packed_cells::PackedCells;
@@ -10,7 +10,7 @@ use crate::icu_zerovec::ZeroSlice;
 use crate::support::Brand;
 use crate::support::{Blank, Ledger};
 
-/// `is_coherent` over packed vectors, with a count in the ledger of `blank`.
+/// `is_coherent` over packed vectors, counting in the ledger of `blank`.
 #[inline]
 fn is_coherent_counted<T: TrieValue, L: Ledger>(
     header: &CodePointTrieHeader,
@@ -26,7 +26,7 @@ fn is_coherent_counted<T: TrieValue, L: Ledger>(
     is_coherent(header, &mut cells)
 }
 
-/// `is_coherent` over packed vectors. Counts in a ledger of its own, which is then dropped.
+/// `is_coherent` over packed vectors. It counts in its own ledger, which it then drops.
 #[inline]
 fn is_coherent_in<T: TrieValue>(
     header: &CodePointTrieHeader,
@@ -37,32 +37,33 @@ fn is_coherent_in<T: TrieValue>(
 }
 
 impl<'trie, T: TrieValue> CodePointTrie<'trie, T> {
-    /// Whether the trie is coherent: whether what its header says of the high value and of null
-    /// blocks is so.
+    /// Returns true if the trie is coherent: what its header says about the high value and about
+    /// null blocks is true.
     ///
-    /// `try_new` takes any header over cells that look-ups can read, since a look-up answers
-    /// whatever the header says. Ranges trust it: they skip each block that it names as null, by
+    /// `try_new` accepts headers that are wrong about this, since look-ups return a value for any
+    /// header. Ranges trust the header: they skip each block that it names as null, by
     /// `data_null_offset` or `index3_null_offset`, and all code points from `high_start` on. In a
-    /// coherent trie what they skip is what look-ups answer, so that `get_range`, `iter_ranges` and
-    /// `get_set_for_value` are exact. Every built trie is coherent, and a trie read from a file may
-    /// be tested once:
+    /// coherent trie the skipped code points have the value that look-ups return. So `get_range`,
+    /// `iter_ranges` and `get_set_for_value` are exact.
+    ///
+    /// Every built trie is coherent. A trie from a file can be checked once:
     ///
     /// ```ignore
     /// let trie = CodePointTrie::try_new(header, index, data)?;
     /// if trie.is_coherent() {
-    ///     // exactly the code points at which get32 answers 1
+    ///     // exactly the code points for which get32 returns 1
     ///     let letters = trie.try_get_set_for_value(1)?;
     /// }
     /// ```
     ///
-    /// All of these hold of a coherent trie (UCPTrie), and of no other one:
+    /// A trie (ICU: `UCPTrie`) is coherent exactly if all of these hold:
     /// - `high_start` is a multiple of 512 and at most 0x110000;
-    /// - each code point from it on has the last cell of data but one as its answer;
-    /// - for a code point below it no read falls outside index or data;
+    /// - look-ups of all code points from `high_start` on return the last data cell but one;
+    /// - look-ups of code points below `high_start` read no cell outside the index or the data;
     /// - blocks of 64, of 16 and of 512 that the header names as null have the null value
-    /// throughout.
+    ///   throughout.
     ///
-    /// It takes no memory, and reads a few cells for each aligned block, on whatever trie.
+    /// The check allocates nothing. For any trie it reads a few cells for each aligned block.
     #[inline]
     pub fn is_coherent(&self) -> bool {
         is_coherent_in(&self.header, self.index.as_slice(), self.data.as_slice())

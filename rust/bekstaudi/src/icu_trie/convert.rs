@@ -1,4 +1,4 @@
-//! The data of a trie, read as values of another type.
+//! Reading the data of a trie as values of another type.
 
 #[allow(unused_imports)]
 use crate::support::prelude::*;
@@ -9,7 +9,7 @@ use crate::icu_trie_core::value::TrieValue;
 use crate::icu_zerovec::ZeroVec;
 use crate::icu_zerovec::ule::{AsULE, UleError};
 
-/// The value of the other type that has the same packed bytes. `None` where there is none.
+/// Returns the value of the other type that has the same packed bytes, or `None` if there is none.
 #[inline]
 fn same_packed<T: AsULE, P: AsULE>(value: T) -> Option<P> {
     value.shown();
@@ -17,15 +17,17 @@ fn same_packed<T: AsULE, P: AsULE>(value: T) -> Option<P> {
 }
 
 impl<'trie, T: TrieValue> CodePointTrie<'trie, T> {
-    /// The same trie over values of another type of the same width: its index and the bytes of its
-    /// data are kept, borrowed or owned as they were, none of them copied. The header's null value
-    /// becomes the other type's number for the same packed bytes.
+    /// Converts the trie to values of another type of the same width, without copying.
+    ///
+    /// The index and the bytes of the data are unchanged, and borrowed or owned as before. The
+    /// header's null value becomes the other type's number for the same packed bytes.
     ///
     /// # Errors
-    /// In this order: `Width` where values of the two types take different numbers of bytes; `Cell`
-    /// with the first cell of the data that is no value of the other type, the error value among
-    /// them; `ErrorOrNull` where the null value's packed bytes are no value of the other type. The
-    /// trie is then dropped.
+    /// The trie is dropped, and the first of these that applies is returned:
+    /// - `Width` if values of the two types take different numbers of bytes;
+    /// - `Cell` with the position of the first data cell that is not a value of the other type,
+    ///   which may be the error value;
+    /// - `ErrorOrNull` if the packed bytes of the null value are not a value of the other type.
     pub fn try_into_converted<P: TrieValue>(self) -> Result<CodePointTrie<'trie, P>, ConvertError> {
         if T::WIDTH != P::WIDTH {
             return Err(ConvertError::Width);
@@ -51,7 +53,7 @@ impl<'trie, T: TrieValue> CodePointTrie<'trie, T> {
         }
     }
 
-    /// The trie of parts that were tested, with this null value.
+    /// Returns the trie of parts that were already checked, with this null value.
     pub(crate) fn with_data(
         header: CodePointTrieHeader,
         index: ZeroVec<'trie, u16>,

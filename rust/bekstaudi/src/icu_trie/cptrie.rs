@@ -10,7 +10,7 @@ use crate::icu_trie_core::impl_const::{CODE_POINT_MAX, FAST_TYPE_DATA_BLOCK_LENG
 use crate::icu_trie_core::value::TrieValue;
 use crate::icu_zerovec::{MemoryError, ZeroSlice, ZeroVec};
 
-/// Whether a block of 64 that the fast index names ends outside data of this length.
+/// Returns true if the fast index names a block of 64 that ends outside data of length `len`.
 #[inline]
 fn fast_block_passes(trie_type: TrieType, index: ZeroSlice<'_, u16>, len: usize) -> bool {
     for i in 0..trie_type.fast_index_len() {
@@ -23,17 +23,17 @@ fn fast_block_passes(trie_type: TrieType, index: ZeroSlice<'_, u16>, len: usize)
     false
 }
 
-/// Whether a number is the number of a value.
+/// Returns true if a number is the number of a value.
 #[inline]
 fn is_number_of_value<T: TrieValue>(number: u32) -> bool {
     T::try_from_u32(number).is_ok()
 }
 
-/// A map from all code points to values, kept in two packed vectors by the format of ICU's code
-/// point tries (UCPTrie).
+/// A map from all code points to values, stored in two packed vectors in the format of ICU's code
+/// point tries (`UCPTrie`).
 ///
-/// What a trie was tested for when it was made holds of it from then on, so every look-up is total:
-/// a trie from a stranger's file may answer nonsense, but it answers.
+/// The parts of a trie are checked when it is made, so every look-up returns a value and reads
+/// nothing outside the trie. An untrusted trie may have wrong values.
 ///
 /// ```ignore
 /// let letters = try_build_from_writes(0u8, 9, TrieType::Small, &[Write::Range(0x41..=0x5A, 1)])?;
@@ -44,19 +44,24 @@ pub struct CodePointTrie<'trie, T: TrieValue> {
     pub(crate) header: CodePointTrieHeader,
     pub(crate) index: ZeroVec<'trie, u16>,
     pub(crate) data: ZeroVec<'trie, T>,
-    // The last cell of the data, which `error_value` answers without a read.
+    // The last cell of the data, so that `error_value` returns it without a read.
     pub(crate) error_value: T,
 }
 
 impl<'trie, T: TrieValue> CodePointTrie<'trie, T> {
-    /// The trie of these parts.
+    /// Makes a trie of these parts.
+    ///
+    /// The header is checked only for its null value and its trie type. If it is wrong in other
+    /// ways, look-ups still return values.
     ///
     /// # Errors
-    /// In this order: `EmptyDataVector`; `InvalidNullValue` where the header's null value is the
-    /// number of no `T`; `IndexTooShortForFastAccess` where the index has fewer than 1,024 cells
-    /// (`Fast`) or 64 (`Small`); `DataTooShortForFastAccess` where the data have fewer cells than
-    /// the greatest offset of the fast index plus 64. All else that a header may say wrongly is
-    /// answered for by the look-up.
+    /// Returns the first of these that applies:
+    /// - `EmptyDataVector` if `data` is empty;
+    /// - `InvalidNullValue` if the header's null value is not the number of any `T`;
+    /// - `IndexTooShortForFastAccess` if `index` has fewer than 1,024 cells (`Fast`) or 64
+    ///   (`Small`);
+    /// - `DataTooShortForFastAccess` if `data` has fewer cells than the greatest offset in the fast
+    ///   index plus 64.
     ///
     /// ```text
     /// // index has 64 zeros and data has 64 values; the header says `Small`, and 0x1000 as the high start
@@ -88,11 +93,13 @@ impl<'trie, T: TrieValue> CodePointTrie<'trie, T> {
         })
     }
 
-    /// The trie of these parts, which are copied: index and values are packed, each into memory
-    /// that is asked for once.
+    /// Makes a trie of copies of these parts.
+    ///
+    /// It packs the index and the values, with one allocation for each.
     ///
     /// # Errors
-    /// `Memory` where memory was refused; `Trie` with the error that `try_new` has for these parts.
+    /// Returns `Memory` if an allocation fails, and `Trie` with the error of
+    /// [`try_new`](Self::try_new) for these parts.
     #[inline]
     pub fn alloc_from_slices(
         header: CodePointTrieHeader,
@@ -105,10 +112,11 @@ impl<'trie, T: TrieValue> CodePointTrie<'trie, T> {
         Ok(trie)
     }
 
-    /// What stands in where the format gives no answer: the last cell, which is the error value.
+    /// Returns the last cell, which is the error value. It is the value of all look-ups for which
+    /// the format has no cell.
     ///
-    /// It stays a call, and reads the cell, so that the path of those who have an answer has
-    /// neither its load nor its jump: a read of the field would be drawn into that path.
+    /// It is not inlined, and reads the cell instead of the field: the compiler would move a read
+    /// of the field into the common path. So that path has neither this read nor a jump.
     #[cold]
     #[inline(never)]
     fn without_answer(&self) -> T {
@@ -118,10 +126,11 @@ impl<'trie, T: TrieValue> CodePointTrie<'trie, T> {
         }
     }
 
-    /// The value of `c` by the three stages of the index, with each place tested.
+    /// Returns the value of `c` through the three stages of the index, with a bounds check for each
+    /// read.
     ///
-    /// It stays a call, told apart as the rarer case, so that the short paths are short and keep
-    /// all that they need in registers.
+    /// It is cold and not inlined, so that the short paths stay short and keep all they need in
+    /// registers.
     #[cold]
     #[inline(never)]
     fn small_value(&self, c: u32) -> T {
@@ -131,13 +140,13 @@ impl<'trie, T: TrieValue> CodePointTrie<'trie, T> {
         }
     }
 
-    /// The value of a code point below the fast limit, in two reads.
+    /// Returns the value of a code point below the fast limit, in two reads.
     #[inline(always)]
     pub(crate) fn fast_value(&self, c: u32) -> T {
         look_up_fast_in(&self.header, self.index.as_slice(), self.data.as_slice(), c)
     }
 
-    /// The value of a code point from the fast limit on.
+    /// Returns the value of a code point from the fast limit on.
     #[inline(always)]
     fn far_value(&self, c: u32) -> T {
         if c >= self.header.high_start {
@@ -146,7 +155,7 @@ impl<'trie, T: TrieValue> CodePointTrie<'trie, T> {
         self.small_value(c)
     }
 
-    /// The value of `c` in a trie of this type.
+    /// Returns the value of `c` in a trie of this type.
     #[inline(always)]
     pub(crate) fn value_by_type(&self, trie_type: TrieType, c: u32) -> T {
         let (index, data) = (self.index.as_slice(), self.data.as_slice());
@@ -159,14 +168,15 @@ impl<'trie, T: TrieValue> CodePointTrie<'trie, T> {
         self.far_value(c)
     }
 
-    /// The value of a number above the code points, which is no code point's.
+    /// Returns the error value, for a number above 0x10FFFF.
     #[inline(always)]
     fn outside_value(&self, c: u32) -> T {
         let _ = c;
         self.without_answer()
     }
 
-    /// The value of the character `c`, in a trie of this type: no character is above 0x10FFFF.
+    /// Returns the value of the character `c` in a trie of this type. No character is above
+    /// 0x10FFFF.
     #[inline(always)]
     pub(crate) fn character_by_type(&self, trie_type: TrieType, c: char) -> T {
         let c = c as u32;
@@ -177,8 +187,8 @@ impl<'trie, T: TrieValue> CodePointTrie<'trie, T> {
         self.far_value(c)
     }
 
-    /// The value of the code point `c`. The error value above 0x10FFFF, and where the trie lacks a
-    /// cell.
+    /// Returns the value of the code point `c`, or the error value if `c` is above 0x10FFFF or if
+    /// the trie lacks a cell for it.
     ///
     /// ```ignore
     /// let builder = CodePointTrieBuilder::new(0u8, 9, TrieType::Fast);
@@ -190,41 +200,44 @@ impl<'trie, T: TrieValue> CodePointTrie<'trie, T> {
         self.value_by_type(self.header.trie_type, c)
     }
 
-    /// The value of a character.
+    /// Returns the value of the character `c`.
     #[inline]
     pub fn get(&self, c: char) -> T {
         self.character_by_type(self.header.trie_type, c)
     }
 
-    /// The value of a code point of the basic multilingual plane, surrogates among them.
+    /// Returns the value of a code point in the Basic Multilingual Plane (0..=0xFFFF), which may be
+    /// a surrogate.
     #[inline]
     pub fn get16(&self, bmp: u16) -> T {
         self.get32(u32::from(bmp))
     }
 
-    /// The value of a code point from 0x10000 on. As `get32`, and the same below.
+    /// Returns the value of a supplementary code point (0x10000..=0x10FFFF). For any other argument
+    /// it returns what [`get32`](Self::get32) returns.
     #[inline]
     pub fn get32_supplementary(&self, supplementary: u32) -> T {
         self.get32(supplementary)
     }
 
-    /// The number of the value of the code point `c`: what `get32` answers, by `to_u32`.
+    /// Returns the number of the value of the code point `c`: the `to_u32` of what
+    /// [`get32`](Self::get32) returns.
     #[inline]
     pub fn get32_u32(&self, c: u32) -> u32 {
         self.get32(c).to_u32()
     }
 
-    /// The header, and index and data lent: what the trie was made of by `try_new`, which takes
-    /// them again.
+    /// Returns the header, and references to the index and the data. [`try_new`](Self::try_new)
+    /// accepts them again.
     #[inline]
     pub fn parts(&self) -> (CodePointTrieHeader, ZeroSlice<'_, u16>, ZeroSlice<'_, T>) {
         (self.header, self.index.as_slice(), self.data.as_slice())
     }
 
-    /// An equal trie that owns its index and its data.
+    /// Returns an equal trie that owns its index and its data.
     ///
     /// # Errors
-    /// `MemoryError` where memory was refused.
+    /// Returns `MemoryError` if an allocation fails.
     #[inline]
     pub fn try_clone(&self) -> Result<CodePointTrie<'static, T>, MemoryError> {
         Ok(CodePointTrie {
@@ -235,14 +248,15 @@ impl<'trie, T: TrieValue> CodePointTrie<'trie, T> {
         })
     }
 
-    /// What a look-up above 0x10FFFF answers: the last cell of the data.
+    /// Returns the error value, which is the value of all numbers above 0x10FFFF: the last cell of
+    /// the data.
     #[inline]
     pub fn error_value(&self) -> T {
         self.error_value
     }
 
-    /// The value whose number the header keeps as the null value. Which one that is in a built trie
-    /// is left open.
+    /// Returns the null value: the value whose number is in the header. For a built trie it is
+    /// unspecified which value that is.
     #[inline]
     pub fn null_value(&self) -> T {
         match T::try_from_u32(self.header.null_value) {

@@ -1,4 +1,4 @@
-//! Tries are equal by their header, their index and their data, whichever of them borrows.
+//! Two tries are equal if their headers, indices and data are, whether they borrow or own them.
 
 use crate::icu_trie::cptrie::CodePointTrie;
 use crate::icu_trie_core::header::CodePointTrieHeader;

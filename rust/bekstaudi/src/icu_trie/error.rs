@@ -1,14 +1,14 @@
-//! Why the parts of a trie are refused, and why a trie is not read as one of another type.
+//! Why the parts of a trie are rejected, and why a trie cannot be converted to another type.
 
 pub use crate::icu_trie_core::error::CodePointTrieError;
 use crate::icu_zerovec::MemoryError;
 
-/// Why no trie was made of parts that were to be copied.
+/// The error of a function that makes a trie of copied parts.
 #[derive(Clone, Copy, Debug, PartialEq)]
 pub enum PartsError {
-    /// The parts make no trie.
+    /// The parts do not form a trie.
     Trie(CodePointTrieError),
-    /// Memory was refused.
+    /// An allocation failed.
     Memory,
 }
 
@@ -26,15 +26,15 @@ impl From<MemoryError> for PartsError {
     }
 }
 
-/// Why a trie can't be read as one of another type.
+/// The reasons why a trie cannot be read as a trie of another type.
 #[derive(Clone, Copy, Debug, PartialEq, Eq)]
 pub enum ConvertError {
     /// Values of the two types take different numbers of bytes.
     Width,
-    /// This cell of the data, counted from 0, is the first one that is no value of the other type.
+    /// The first data cell, at this position, that is not a value of the other type.
     Cell(usize),
-    /// The null value is no value of the other type. (The error value, which is a cell too, is told
-    /// by `Cell`.)
+    /// The null value is not a value of the other type. The error value is a cell, so it is
+    /// reported as `Cell`.
     ErrorOrNull,
 }
 

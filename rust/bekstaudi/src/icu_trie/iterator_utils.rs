@@ -3,12 +3,12 @@
 use crate::icu_trie_core::range::CodePointMapRange;
 use core::iter::Fuse;
 
-/// An iterator over ranges with values that joins the ranges which touch and have equal values.
+/// An iterator over ranges with values that joins adjacent ranges with equal values.
 ///
-/// A range goes on with the one before it where it starts at that one's last code point plus one
-/// and has an equal value. Of ranges that are joined the first one's value is kept, and each
-/// further one is compared with it. Nothing comes after a range that ends at `u32::MAX`. Ranges
-/// that do not touch, or overlap, stay as they are.
+/// A range is joined to the one before it if it starts right after the last code point of that one
+/// and has an equal value. A joined range has the value of its first range, and each further value
+/// is compared with that one. Nothing is joined to a range that ends at `u32::MAX`. Ranges that are
+/// not adjacent, or that overlap, stay as they are.
 ///
 /// Over (0..=3, 1), (4..=6, 1), (8..=9, 1) it gives (0..=6, 1), (8..=9, 1).
 #[derive(Debug)]
@@ -18,8 +18,7 @@ pub struct RangeListIteratorCoalescer<I, U> {
 }
 
 impl<I: Iterator<Item = CodePointMapRange<U>>, U: Eq> RangeListIteratorCoalescer<I, U> {
-    /// The joined ranges of what `iter` gives. Once `iter` has answered `None` it is not asked
-    /// again.
+    /// Joins the ranges of `iter`. Once `iter` has returned `None`, it is not called again.
     #[inline]
     pub fn new(iter: I) -> Self {
         Self {
@@ -29,7 +28,7 @@ impl<I: Iterator<Item = CodePointMapRange<U>>, U: Eq> RangeListIteratorCoalescer
     }
 }
 
-/// Whether `next` starts right after `range` and has an equal value.
+/// Returns true if `next` starts right after `range` and has an equal value.
 #[inline]
 fn is_continued<U: Eq>(range: &CodePointMapRange<U>, next: &CodePointMapRange<U>) -> bool {
     let last = *range.range.end();

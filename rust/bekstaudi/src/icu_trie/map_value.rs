@@ -10,16 +10,16 @@ use crate::support::{AllocError, AllocFailed};
 use core::error::Error;
 use core::fmt;
 
-/// Why a trie was not mapped.
+/// The error of [`CodePointTrie::try_alloc_map_value`].
 #[derive(Clone, Copy, Debug, PartialEq, Eq)]
 pub enum MapError<E> {
-    /// The closure refused a value with this error.
+    /// The closure returned this error.
     Closure(E),
-    /// Memory was refused.
+    /// An allocation failed.
     Memory,
 }
 
-/// The closure's error as that is shown, or `no memory`.
+/// Writes the closure's error as its own `Display` does, or `no memory`.
 impl<E: fmt::Display> fmt::Display for MapError<E> {
     #[inline]
     fn fmt(&self, f: &mut fmt::Formatter<'_>) -> fmt::Result {
@@ -53,7 +53,8 @@ impl<E> From<MemoryError> for MapError<E> {
     }
 }
 
-/// The answers of a closure at these values in turn. After the first refusal it is not called.
+/// Returns the results of a closure for these values, in order. After the first error it is not
+/// called again.
 #[inline]
 fn map_cells<T: AsULE, P, E, F: FnMut(T) -> Result<P, E>>(
     values: ZeroSlice<'_, T>,
@@ -70,14 +71,15 @@ fn map_cells<T: AsULE, P, E, F: FnMut(T) -> Result<P, E>>(
 }
 
 impl<'trie, T: TrieValue> CodePointTrie<'trie, T> {
-    /// The trie of the same format whose values are the answers of `f`, for a trie that is kept as
-    /// the answers of one kind and asked for another.
+    /// Returns a trie whose values are the results of `f` for the values of this one. Its index and
+    /// trie type are the same.
     ///
-    /// The closure is called for the error value, for the null value, and then for each cell of the
-    /// data in order, so for a value as often as it stands there. The header gets the number of the
-    /// answer at the null value, and the index is copied. The error value of the new trie is the
-    /// answer at the last cell: a closure whose answer depends on its argument alone gives the same
-    /// one at the first call.
+    /// It calls `f` for the error value, for the null value, and then for each data cell in order.
+    /// So it calls `f` for a value as often as the value occurs in the data. The header gets the
+    /// number of the result for the null value, and the index is copied.
+    ///
+    /// The error value of the new trie is the result for the last cell. If the result of `f`
+    /// depends only on its argument, this is also the result of the first call.
     ///
     /// ```ignore
     /// let next = trie.try_alloc_map_value(|x: u8| Ok::<u16, Infallible>(u16::from(x) + 1))?;
@@ -85,15 +87,15 @@ impl<'trie, T: TrieValue> CodePointTrie<'trie, T> {
     /// ```
     ///
     /// # Errors
-    /// `Closure` with the first error that `f` answers, after which it is not called; `Memory`
-    /// where memory was refused. The trie is unchanged.
+    /// Returns `Closure` with the first error that `f` returns, after which `f` is not called
+    /// again, and `Memory` if an allocation fails. The trie is unchanged in both cases.
     pub fn try_alloc_map_value<P: TrieValue, E, F: FnMut(T) -> Result<P, E>>(
         &self,
         mut f: F,
     ) -> Result<CodePointTrie<'static, P>, MapError<E>> {
         let null_value = self.null_value();
-        // Asked first, so that the closure may refuse it before it comes to any other value. The
-        // answer is not kept: the error value of a trie is the last cell of its data.
+        // The first call, so that the closure can reject the error value before it gets any other
+        // one. The result is not stored: the error value of a trie is the last cell of its data.
         match f(self.error_value) {
             Ok(_) => {}
             Err(error) => return Err(MapError::Closure(error)),

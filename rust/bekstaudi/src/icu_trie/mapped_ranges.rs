@@ -1,4 +1,4 @@
-//! The ranges of a trie under a map of its values.
+//! The ranges of a trie whose values are mapped.
 use crate::icu_trie::cptrie::CodePointTrie;
 use crate::icu_trie::iterator_utils::RangeListIteratorCoalescer;
 use crate::icu_trie::ranges::CodePointMapRangeIterator;
@@ -6,12 +6,13 @@ use crate::icu_trie_core::range::CodePointMapRange;
 use crate::icu_trie_core::value::TrieValue;
 
 impl<'trie, T: TrieValue> CodePointTrie<'trie, T> {
-    /// The ranges of equal values under `map`: each range that `iter_ranges` gives with the answer
-    /// of `map` to its value, and those that touch and have equal answers joined.
+    /// Returns an iterator over the ranges whose values are equal under `map`. It replaces the
+    /// value of each range of [`iter_ranges`](Self::iter_ranges) by the result of `map`, and joins
+    /// adjacent ranges with equal results.
     ///
-    /// Nothing is computed before the iterator is asked: `map` is called once for each range that
-    /// it comes to. Over a coherent trie, as every built one is, and a map whose answer depends on
-    /// its argument alone, these are the maximal runs of the mapped values.
+    /// The iterator is lazy: it calls `map` once for each range that it reaches. If the result of
+    /// `map` depends only on its argument and the trie is coherent, as every built one is, the
+    /// ranges are the maximal runs.
     ///
     /// ```ignore
     /// for range in trie.iter_ranges_mapped(|x| x != 0) {
@@ -32,8 +33,8 @@ impl<'trie, T: TrieValue> CodePointTrie<'trie, T> {
     }
 }
 
-/// The ranges of a trie, each with the answer of a closure to its value. Ranges of equal answers
-/// are not joined. Part of [`IterRangesMapped`], which joins them.
+/// An iterator over the ranges of a trie, each with the result of a closure for its value. It does
+/// not join ranges of equal results; [`IterRangesMapped`] contains it and joins them.
 #[derive(Debug)]
 pub struct MappedRanges<'a, T: TrieValue, F> {
     ranges: CodePointMapRangeIterator<'a, T>,
@@ -53,8 +54,10 @@ impl<'a, T: TrieValue, U, F: Fn(T) -> U> Iterator for MappedRanges<'a, T, F> {
     }
 }
 
-/// The ranges of a trie under a map of its values, those that touch and have equal answers joined.
-/// Once there is none it gives none for ever.
+/// An iterator over the ranges of a trie with mapped values, in which adjacent ranges of equal
+/// values are joined. See [`CodePointTrie::iter_ranges_mapped`].
+///
+/// Once `next` returns `None`, it returns `None` forever.
 #[derive(Debug)]
 pub struct IterRangesMapped<'a, T: TrieValue, U, F> {
     ranges: RangeListIteratorCoalescer<MappedRanges<'a, T, F>, U>,

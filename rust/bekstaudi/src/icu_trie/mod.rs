@@ -1,18 +1,19 @@
 //! Maps from code points to values that are read in place: ICU's code point tries.
 //!
 //! - `cptrie`: [`CodePointTrie`](cptrie::CodePointTrie), the trie over packed vectors
-//! - `coherence`: whether what its header says is so
-//! - `ranges`: its ranges of equal values, and the set of a value
-//! - `ranges_of_value`: those of them that have a value
-//! - `iterator_utils`: ranges that touch and have equal values, joined
-//! - `mapped_ranges`: the ranges under a map of the values, joined
-//! - `map_value`: the trie of the mapped values
-//! - `packed_cells`, `cell_bytes`: the cells that the format reads, and the bytes of one
-//! - `convert`, `typed`: the data read as another type, and tries whose type is known
-//! - `error`: why parts are refused, and why a trie can't be read as one of another type
+//! - `coherence`: the check whether a trie is coherent
+//! - `ranges`: its ranges of equal values, and the set of code points with a value
+//! - `ranges_of_value`: the ranges with a certain value
+//! - `iterator_utils`: joining adjacent ranges with equal values
+//! - `mapped_ranges`: the joined ranges of mapped values
+//! - `map_value`: a trie with mapped values
+//! - `packed_cells`, `cell_bytes`: access to the cells, and to the bytes of one cell
+//! - `equality`: comparing tries, whether they borrow or own their cells
+//! - `convert`, `typed`: conversion to another type of values, and tries of a known trie type
+//! - `error`: why parts are rejected, and why a trie cannot be converted
 //!
-//! The modules `cells`, `coherent`, `header`, `impl_const`, `lookup`, `value` and `walk` are those
-//! of the crate `icu_trie_core`, the format over any index and data.
+//! The modules `cells`, `coherent`, `header`, `impl_const`, `lookup`, `value` and `walk` are from
+//! the crate `icu_trie_core`, which has the format for any index and data.
 
 mod cell_bytes;
 mod coherence;

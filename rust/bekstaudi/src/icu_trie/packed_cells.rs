@@ -1,4 +1,4 @@
-//! The cells of two packed vectors, and what is read through them alone.
+//! The cells of two packed vectors, and the functions of the format that read only these.
 
 use crate::icu_trie_core::cells::{Cells, Steps};
 use crate::icu_trie_core::header::CodePointTrieHeader;
@@ -53,7 +53,7 @@ impl<'a, T: TrieValue, L: Ledger> Cells<T> for PackedCells<'a, T, L> {
     }
 }
 
-/// `look_up_fast` over packed vectors, with a count in the ledger of `blank`.
+/// `look_up_fast` over packed vectors, counting in the ledger of `blank`.
 #[inline(always)]
 fn look_up_fast_counted<T: TrieValue, L: Ledger>(
     header: &CodePointTrieHeader,
@@ -70,7 +70,7 @@ fn look_up_fast_counted<T: TrieValue, L: Ledger>(
     look_up_fast(header, &mut cells, c)
 }
 
-/// `look_up_fast` over packed vectors. Counts in a ledger of its own, which is then dropped.
+/// `look_up_fast` over packed vectors. It counts in its own ledger, which it then drops.
 #[inline(always)]
 pub(crate) fn look_up_fast_in<T: TrieValue>(
     header: &CodePointTrieHeader,
@@ -81,7 +81,7 @@ pub(crate) fn look_up_fast_in<T: TrieValue>(
     look_up_fast_counted::<T, Brand>(header, index, values, c, Blank::new(1))
 }
 
-/// `look_up_high` over packed vectors, with a count in the ledger of `blank`.
+/// `look_up_high` over packed vectors, counting in the ledger of `blank`.
 #[inline(always)]
 fn look_up_high_counted<T: TrieValue, L: Ledger>(
     header: &CodePointTrieHeader,
@@ -98,7 +98,7 @@ fn look_up_high_counted<T: TrieValue, L: Ledger>(
     look_up_high(header, &mut cells, c)
 }
 
-/// `look_up_high` over packed vectors. Counts in a ledger of its own, which is then dropped.
+/// `look_up_high` over packed vectors. It counts in its own ledger, which it then drops.
 #[inline(always)]
 pub(crate) fn look_up_high_in<T: TrieValue>(
     header: &CodePointTrieHeader,
@@ -109,7 +109,7 @@ pub(crate) fn look_up_high_in<T: TrieValue>(
     look_up_high_counted::<T, Brand>(header, index, values, c, Blank::new(1))
 }
 
-/// `look_up_small` over packed vectors, with a count in the ledger of `blank`.
+/// `look_up_small` over packed vectors, counting in the ledger of `blank`.
 #[inline(always)]
 fn look_up_small_counted<T: TrieValue, L: Ledger>(
     header: &CodePointTrieHeader,
@@ -126,7 +126,7 @@ fn look_up_small_counted<T: TrieValue, L: Ledger>(
     look_up_small(header, &mut cells, c)
 }
 
-/// `look_up_small` over packed vectors. Counts in a ledger of its own, which is then dropped.
+/// `look_up_small` over packed vectors. It counts in its own ledger, which it then drops.
 #[inline(always)]
 pub(crate) fn look_up_small_in<T: TrieValue>(
     header: &CodePointTrieHeader,
@@ -137,7 +137,7 @@ pub(crate) fn look_up_small_in<T: TrieValue>(
     look_up_small_counted::<T, Brand>(header, index, values, c, Blank::new(1))
 }
 
-/// `walk` over packed vectors, with a count in the ledger of `blank`.
+/// `walk` over packed vectors, counting in the ledger of `blank`.
 #[inline(always)]
 fn walk_counted<T: TrieValue, L: Ledger>(
     header: &CodePointTrieHeader,
@@ -154,7 +154,7 @@ fn walk_counted<T: TrieValue, L: Ledger>(
     walk(header, &mut cells, c)
 }
 
-/// `walk` over packed vectors. Counts in a ledger of its own, which is then dropped.
+/// `walk` over packed vectors. It counts in its own ledger, which it then drops.
 #[inline(always)]
 pub(crate) fn walk_in<T: TrieValue>(
     header: &CodePointTrieHeader,

@@ -11,17 +11,21 @@ use crate::icu_trie_core::walk::is_same;
 use crate::icu_zerovec::{CODE_POINT_LIMIT, MemoryError};
 
 impl<'trie, T: TrieValue> CodePointTrie<'trie, T> {
-    /// The range of one value from the code point `c` on, as far as it goes.
+    /// Returns the range of code points from `c` on that have the same value as `c`.
     ///
-    /// Over a coherent trie, as every built one is, it is the longest run of equal answers from `c`
-    /// on. `None` above 0x10FFFF, and where the trie lacks a cell that the walk comes to
-    /// (`walk`).
+    /// If the trie is coherent, as every built one is, this is the longest run of equal values from
+    /// `c` on. Otherwise the range is the one that `walk` returns.
+    ///
+    /// Returns `None` if `c` is above 0x10FFFF, or if the walk reaches a cell that the trie lacks.
     #[inline(always)]
     pub fn get_range(&self, c: u32) -> Option<CodePointMapRange<T>> {
         walk_in(&self.header, self.index.as_slice(), self.data.as_slice(), c)
     }
 
-    /// The ranges of equal values from 0 on, each of which begins where the one before it ended.
+    /// Returns an iterator over the ranges of equal values, in order from 0 on. Each range starts
+    /// right after the one before it.
+    ///
+    /// If the trie is coherent, as every built one is, these are the maximal runs of its values.
     ///
     /// ```ignore
     /// let trie = try_build_from_writes(0u8, 9, TrieType::Small, &[Write::Range(0x41..=0x5A, 1)])?;
@@ -37,10 +41,10 @@ impl<'trie, T: TrieValue> CodePointTrie<'trie, T> {
         }
     }
 
-    /// The ends of the ranges with the value, each start and each exclusive end in turn. Ranges of
-    /// the value that touch are one.
+    /// Returns the boundaries of the ranges with the value, alternating inclusive starts and
+    /// exclusive ends. Adjacent ranges with the value are joined.
     fn ends_of_value(&self, value: T) -> Result<Vec<u32>, MemoryError> {
-        // An odd number of ends: the last range had the value.
+        // If the number of boundaries is odd, the last range had the value.
         let mut ends = Vec::new();
         let mut next = 0;
         for run in self.iter_ranges() {
@@ -56,11 +60,14 @@ impl<'trie, T: TrieValue> CodePointTrie<'trie, T> {
         Ok(ends)
     }
 
-    /// The code points whose range has the value, as `iter_ranges` gives them. Over a coherent
-    /// trie, as every built one is, these are the code points that have the value.
+    /// Returns the set of code points whose range in [`iter_ranges`](Self::iter_ranges) has the
+    /// value.
+    ///
+    /// If the trie is coherent, as every built one is, these are exactly the code points that have
+    /// the value.
     ///
     /// # Errors
-    /// `MemoryError` where memory was refused.
+    /// Returns `MemoryError` if an allocation fails.
     ///
     /// ```ignore
     /// let trie = try_build_from_writes(0u8, 9, TrieType::Small, &[Write::Range(0x41..=0x5A, 1)])?;
@@ -78,10 +85,10 @@ impl<'trie, T: TrieValue> CodePointTrie<'trie, T> {
     }
 }
 
-/// The ranges of a trie, from 0 on.
+/// An iterator over the ranges of a trie, from 0 on. See [`CodePointTrie::iter_ranges`].
 ///
-/// It gives what `get_range` gives at 0, and then what it gives after the end of the last range.
-/// Once there is none, it gives none for ever.
+/// It returns what [`get_range`](CodePointTrie::get_range) returns at 0, and then at the code point
+/// after each range. Once it returns `None`, it returns `None` forever.
 #[derive(Debug)]
 pub struct CodePointMapRangeIterator<'a, T: TrieValue> {
     trie: &'a CodePointTrie<'a, T>,

@@ -1,15 +1,15 @@
-//! The ranges of a trie that have a value.
+//! The ranges of a trie that have a certain value.
 use crate::icu_trie::cptrie::CodePointTrie;
 use crate::icu_trie::ranges::CodePointMapRangeIterator;
 use crate::icu_trie_core::value::TrieValue;
 use core::ops::RangeInclusive;
 
 impl<'trie, T: TrieValue> CodePointTrie<'trie, T> {
-    /// The ranges that have the value, in order: of those that `iter_ranges` gives, the ones whose
-    /// value is equal to it.
+    /// Returns an iterator over the ranges that have the value: those ranges of
+    /// [`iter_ranges`](Self::iter_ranges), in order, whose value equals it.
     ///
-    /// Over a coherent trie, as every built one is, these are the maximal runs of the value. Where
-    /// no code point has it there is none.
+    /// If the trie is coherent, as every built one is, these are the maximal runs of the value. If
+    /// no code point has the value, there are none.
     #[inline]
     pub fn iter_ranges_for_value(&self, value: T) -> IterRangesForValue<'_, T> {
         IterRangesForValue {
@@ -19,7 +19,10 @@ impl<'trie, T: TrieValue> CodePointTrie<'trie, T> {
     }
 }
 
-/// The ranges of a trie that have a value. Once there is none it gives none for ever.
+/// An iterator over the ranges of a trie that have a certain value. See
+/// [`CodePointTrie::iter_ranges_for_value`].
+///
+/// Once `next` returns `None`, it returns `None` forever.
 #[derive(Debug)]
 pub struct IterRangesForValue<'a, T: TrieValue> {
     ranges: CodePointMapRangeIterator<'a, T>,

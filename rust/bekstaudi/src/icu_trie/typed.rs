@@ -1,6 +1,6 @@
-//! Tries whose type is known in the Rust type.
+//! Tries with their trie type in the Rust type.
 //!
-//! The header of a trie has its type. `as_typed_ref` looks at it once, for all the look-ups of a
+//! The header of a trie has its type. `as_typed_ref` reads the type once, for all the look-ups of a
 //! loop:
 //!
 //! ```ignore
@@ -17,7 +17,7 @@ use crate::icu_trie::cptrie::CodePointTrie;
 use crate::icu_trie_core::header::TrieType;
 use crate::icu_trie_core::value::TrieValue;
 
-/// A trie whose type is known where it is compiled, so that no look-up tests it.
+/// A trie whose type is known at compile time, so that look-ups do not test it.
 ///
 /// ```ignore
 /// if let Typed::Small(trie) = trie.as_typed_ref() {
@@ -25,45 +25,48 @@ use crate::icu_trie_core::value::TrieValue;
 /// }
 /// ```
 ///
-/// A type of your own is lawful where the type of its trie is the constant.
+/// The tries of a user-defined type must all have the type [`TRIE_TYPE`](Self::TRIE_TYPE).
 pub trait TypedCodePointTrie<'trie, T: TrieValue> {
     /// The type of the trie.
     const TRIE_TYPE: TrieType;
 
-    /// Tells a proof that the type of the trie in hand is the constant. It does nothing.
+    /// Shows a proof that the type of this trie is the constant. It does nothing at run time.
     fn shown(&self) {}
 
-    /// The value of the code point `c`, as [`CodePointTrie::get32`] answers it.
+    /// Returns the value of the code point `c`, as [`CodePointTrie::get32`] does.
     fn get32(&self, c: u32) -> T;
 
-    /// The value of a character.
+    /// Returns the value of the character `c`.
     fn get(&self, c: char) -> T;
 
-    /// The value of a code point of the basic multilingual plane, surrogates among them. In a fast
-    /// trie it takes two reads.
+    /// Returns the value of a code point in the Basic Multilingual Plane (0..=0xFFFF), which may be
+    /// a surrogate. In a fast trie this takes two reads.
     #[inline(always)]
     fn get16(&self, bmp: u16) -> T {
         self.get32(u32::from(bmp))
     }
 
-    /// The value of a code point from 0x10000 on. As `get32`, and the same below.
+    /// Returns the value of a supplementary code point (0x10000..=0x10FFFF). For any other argument
+    /// it returns what [`get32`](Self::get32) returns.
     #[inline(always)]
     fn get32_supplementary(&self, supplementary: u32) -> T {
         self.get32(supplementary)
     }
 
-    /// The number of the value of the code point `c`: what `get32` answers, by `to_u32`.
+    /// Returns the number of the value of the code point `c`: the `to_u32` of what
+    /// [`get32`](Self::get32) returns.
     #[inline(always)]
     fn get32_u32(&self, c: u32) -> u32 {
         self.get32(c).to_u32()
     }
 
-    /// The value of a code point below the fast limit, which is 0x10000 for a fast trie and 0x1000
-    /// for a small one. `None` from it on.
+    /// Returns the value of the code point `c` if it is below the fast limit, otherwise `None`. The
+    /// fast limit is 0x10000 for a fast trie and 0x1000 for a small one.
     fn get32_by_fast_index(&self, c: u32) -> Option<T>;
 }
 
-/// The value of `c` in a trie of this type where `c` lies below the fast limit, `None` from it on.
+/// Returns the value of `c`, in a trie of this type, if `c` is below the fast limit. Otherwise
+/// returns `None`.
 #[inline(always)]
 fn fast_value_of<T: TrieValue>(
     trie: &CodePointTrie<'_, T>,
@@ -77,20 +80,20 @@ fn fast_value_of<T: TrieValue>(
     }
 }
 
-/// A trie of the type `Fast`: all of the basic multilingual plane is looked up in two reads.
+/// A trie of the type `Fast`: look-ups in the whole Basic Multilingual Plane take two reads.
 #[derive(Debug)]
 pub struct FastCodePointTrie<'trie, T: TrieValue> {
     inner: CodePointTrie<'trie, T>,
 }
 
 impl<'trie, T: TrieValue> FastCodePointTrie<'trie, T> {
-    /// The trie, lent, as one whose type is not known.
+    /// Returns a reference to the trie as a [`CodePointTrie`].
     #[inline(always)]
     pub fn as_untyped_ref(&self) -> &CodePointTrie<'trie, T> {
         &self.inner
     }
 
-    /// The trie, as one whose type is not known.
+    /// Converts the trie into a [`CodePointTrie`].
     #[inline(always)]
     pub fn to_untyped(self) -> CodePointTrie<'trie, T> {
         self.inner
@@ -121,20 +124,20 @@ impl<'trie, T: TrieValue> TypedCodePointTrie<'trie, T> for FastCodePointTrie<'tr
     }
 }
 
-/// A trie of the type `Small`: code points below 0x1000 are looked up in two reads.
+/// A trie of the type `Small`: look-ups of code points below 0x1000 take two reads.
 #[derive(Debug)]
 pub struct SmallCodePointTrie<'trie, T: TrieValue> {
     inner: CodePointTrie<'trie, T>,
 }
 
 impl<'trie, T: TrieValue> SmallCodePointTrie<'trie, T> {
-    /// The trie, lent, as one whose type is not known.
+    /// Returns a reference to the trie as a [`CodePointTrie`].
     #[inline(always)]
     pub fn as_untyped_ref(&self) -> &CodePointTrie<'trie, T> {
         &self.inner
     }
 
-    /// The trie, as one whose type is not known.
+    /// Converts the trie into a [`CodePointTrie`].
     #[inline(always)]
     pub fn to_untyped(self) -> CodePointTrie<'trie, T> {
         self.inner
@@ -165,7 +168,7 @@ impl<'trie, T: TrieValue> TypedCodePointTrie<'trie, T> for SmallCodePointTrie<'t
     }
 }
 
-/// A trie with its type: one of two tries.
+/// A trie together with its type.
 #[derive(Clone, Copy, Debug, PartialEq, Eq)]
 pub enum Typed<F, S> {
     /// The trie is of the type `Fast`.
@@ -174,12 +177,12 @@ pub enum Typed<F, S> {
     Small(S),
 }
 
-/// The trie is of the other type.
+/// The error of a conversion to a typed trie: the trie is of the other type.
 #[derive(Clone, Copy, Debug, PartialEq, Eq)]
 pub struct TypedCodePointTrieError;
 
 impl<'trie, T: TrieValue> CodePointTrie<'trie, T> {
-    /// The trie, as one whose type is known.
+    /// Converts the trie into the typed trie of its type.
     #[inline]
     pub fn to_typed(self) -> Typed<FastCodePointTrie<'trie, T>, SmallCodePointTrie<'trie, T>> {
         match self.header.trie_type {
@@ -188,13 +191,14 @@ impl<'trie, T: TrieValue> CodePointTrie<'trie, T> {
         }
     }
 
-    /// The trie, as one whose type is known, which borrows its index and its data from this one.
+    /// Returns the typed trie of this trie's type. It borrows its index and its data from this
+    /// trie.
     #[inline]
     pub fn as_typed_ref(&self) -> Typed<FastCodePointTrie<'_, T>, SmallCodePointTrie<'_, T>> {
         self.lent().to_typed()
     }
 
-    /// An equal trie that borrows its index and its data from this one.
+    /// Returns an equal trie that borrows its index and its data from this one.
     #[inline]
     pub(crate) fn lent(&self) -> CodePointTrie<'_, T> {
         CodePointTrie {
@@ -206,7 +210,7 @@ impl<'trie, T: TrieValue> CodePointTrie<'trie, T> {
     }
 }
 
-/// The same trie, where it is of the type `Fast`.
+/// Converts a trie of the type `Fast`. A small trie is an error.
 impl<'trie, T: TrieValue> TryFrom<CodePointTrie<'trie, T>> for FastCodePointTrie<'trie, T> {
     type Error = TypedCodePointTrieError;
 
@@ -219,7 +223,7 @@ impl<'trie, T: TrieValue> TryFrom<CodePointTrie<'trie, T>> for FastCodePointTrie
     }
 }
 
-/// The same trie, borrowed from this one, where it is of the type `Fast`.
+/// Borrows a trie of the type `Fast`. A small trie is an error.
 impl<'a, 'trie, T: TrieValue> TryFrom<&'a CodePointTrie<'trie, T>> for FastCodePointTrie<'a, T> {
     type Error = TypedCodePointTrieError;
 
@@ -232,7 +236,7 @@ impl<'a, 'trie, T: TrieValue> TryFrom<&'a CodePointTrie<'trie, T>> for FastCodeP
     }
 }
 
-/// The same trie, where it is of the type `Small`.
+/// Converts a trie of the type `Small`. A fast trie is an error.
 impl<'trie, T: TrieValue> TryFrom<CodePointTrie<'trie, T>> for SmallCodePointTrie<'trie, T> {
     type Error = TypedCodePointTrieError;
 
@@ -245,7 +249,7 @@ impl<'trie, T: TrieValue> TryFrom<CodePointTrie<'trie, T>> for SmallCodePointTri
     }
 }
 
-/// The same trie, borrowed from this one, where it is of the type `Small`.
+/// Borrows a trie of the type `Small`. A fast trie is an error.
 impl<'a, 'trie, T: TrieValue> TryFrom<&'a CodePointTrie<'trie, T>> for SmallCodePointTrie<'a, T> {
     type Error = TypedCodePointTrieError;
 

@@ -1,5 +1,5 @@
-//! Tries from ICU's binary form, which `ucptrie_toBinary` writes: read where they are; and tries to
-//! it.
+//! Reads tries from ICU's binary form, which `ucptrie_toBinary` writes, in place; and writes tries
+//! in this form.
 
 #[allow(unused_imports)]
 use crate::support::prelude::*;
@@ -13,7 +13,7 @@ use crate::icu_trie::value::TrieValue;
 use crate::icu_zerovec::ule::UleError;
 use crate::icu_zerovec::{ZeroSlice, ZeroVec};
 
-/// The index, read in place.
+/// Returns the index, read in place.
 #[inline]
 fn index_of<'a>(bytes: &'a [u8], header: &BinaryHeader) -> ZeroVec<'a, u16> {
     let index = &bytes[HEADER_SIZE..HEADER_SIZE + 2 * header.index_length as usize];
@@ -23,7 +23,7 @@ fn index_of<'a>(bytes: &'a [u8], header: &BinaryHeader) -> ZeroVec<'a, u16> {
     }
 }
 
-/// The bytes of the data.
+/// Returns the bytes of the data.
 #[inline]
 fn data_bytes<'a>(bytes: &'a [u8], header: &BinaryHeader) -> &'a [u8] {
     let cells = &bytes[HEADER_SIZE..];
@@ -31,8 +31,8 @@ fn data_bytes<'a>(bytes: &'a [u8], header: &BinaryHeader) -> &'a [u8] {
     &data[..header.value_width.bytes() * header.data_length as usize]
 }
 
-/// The number of the null value: that of the cell where its block begins, or of the high value
-/// where there is no such block.
+/// Returns the number of the null value: that of the cell at the offset of the data null block, or
+/// of the high value if there is no such block.
 pub(crate) fn null_number<T: TrieValue>(header: &BinaryHeader, values: ZeroSlice<'_, T>) -> u32 {
     let place = if header.data_null_offset < header.data_length {
         header.data_null_offset
@@ -48,7 +48,7 @@ pub(crate) fn null_number<T: TrieValue>(header: &BinaryHeader, values: ZeroSlice
     }
 }
 
-/// The header of a trie of these values.
+/// Returns the header of a trie with these values.
 #[inline]
 fn trie_header<T: TrieValue>(header: &BinaryHeader, values: ZeroSlice<'_, T>) -> CodePointTrieHeader {
     let high_start = u32::from(header.shifted_high_start) * 0x200;
@@ -62,22 +62,30 @@ fn trie_header<T: TrieValue>(header: &BinaryHeader, values: ZeroSlice<'_, T>) ->
     }
 }
 
-/// The trie that the bytes begin with, and how many of them it takes. It borrows its index and its
-/// data; what follows them is not read.
+/// Reads the trie at the start of the bytes. Returns it and the number of bytes that it takes.
 ///
-/// The form is that of `ucptrie_toBinary` on a machine that has the lowest byte first, for values
-/// of 8, 16 and 32 bits, of either type: `ucptrie_openFromBinary` with `UCPTRIE_TYPE_ANY` and the
-/// width of `T`. The bytes may stand at any address.
+/// The trie borrows its index and its data. Bytes after it are not read. The bytes may be at any
+/// address.
+///
+/// The form is the one that `ucptrie_toBinary` writes on a little-endian machine, for 8-bit, 16-bit
+/// and 32-bit values and both trie types. ICU: `ucptrie_openFromBinary` with `UCPTRIE_TYPE_ANY` and
+/// the width of `T`.
 ///
 /// ```ignore
 /// let (trie, len) = from_binary::<u8>(bytes)?;
-/// // trie.get32(0x41) is what ucptrie_get answers, and bytes[len..] is what follows the trie
+/// // trie.get32(0x41) is what ucptrie_get returns, and bytes[len..] is what follows the trie
 /// ```
 ///
 /// # Errors
-/// The first cause in the order of [`BinaryError`]: `Short`, `Swapped`, `Signature`, `UnknownType`,
-/// `UnknownWidth`, `Reserved`, `OtherWidth` where a value of `T` takes another number of bytes,
-/// `CutOff`, `Cell`, and `Trie` where `CodePointTrie::try_new` refuses the parts.
+/// Returns the first of these that applies:
+///
+/// - `Short`, `Signature` or `Swapped` if the bytes do not start with the header of a little-endian
+///   trie.
+/// - `UnknownType`, `UnknownWidth` or `Reserved` if an option of the header has an unknown value.
+/// - `OtherWidth` if the values have another width than `T`.
+/// - `CutOff` if the index or the data are cut off.
+/// - `Cell` with the index of the first data cell that is not a value of `T`.
+/// - `Trie` if `CodePointTrie::try_new` rejects the parts.
 #[inline]
 pub fn from_binary<'a, T: TrieValue>(
     bytes: &'a [u8],
@@ -93,19 +101,21 @@ pub fn from_binary<'a, T: TrieValue>(
     Ok((trie, len))
 }
 
-/// A trie of the width that its binary form says, whose values are numbers without a sign.
+/// A trie of the width in its header. Its values are unsigned numbers.
 #[derive(Debug)]
 pub enum AnyWidthTrie<'a> {
-    /// Values of 8 bits (UCPTRIE_VALUE_BITS_8).
+    /// 8-bit values (`UCPTRIE_VALUE_BITS_8`).
     Bits8(CodePointTrie<'a, u8>),
-    /// Values of 16 bits.
+    /// 16-bit values (`UCPTRIE_VALUE_BITS_16`).
     Bits16(CodePointTrie<'a, u16>),
-    /// Values of 32 bits.
+    /// 32-bit values (`UCPTRIE_VALUE_BITS_32`).
     Bits32(CodePointTrie<'a, u32>),
 }
 
-/// The trie that the bytes begin with, of whichever width it is, and how many of them it takes: as
-/// [`from_binary`], which it calls with the width that the bytes say.
+/// Reads the trie at the start of the bytes, of any width. Returns it and the number of bytes that
+/// it takes.
+///
+/// This is [`from_binary`] with the width in the header.
 ///
 /// ```ignore
 /// let (trie, len) = from_binary_any(bytes)?;
@@ -115,8 +125,8 @@ pub enum AnyWidthTrie<'a> {
 /// ```
 ///
 /// # Errors
-/// Those of [`from_binary`], in the same order. `OtherWidth` and `Cell` never come, since each
-/// width has a type, of which any bytes are a value.
+/// Returns the errors of [`from_binary`], in the same order, but never `OtherWidth` or `Cell`:
+/// there is a type for each width, and any bytes are a value of it.
 pub fn from_binary_any(bytes: &[u8]) -> Result<(AnyWidthTrie<'_>, usize), BinaryError> {
     match header_of(bytes)?.value_width {
         ValueWidth::Bits8 => {

@@ -1,32 +1,32 @@
-//! Why bytes are no trie in the binary form, and why a trie is not written in it.
+//! Why bytes are not a trie in the binary form, and why a trie cannot be written in it.
 
 use crate::icu_trie::error::CodePointTrieError;
 use crate::icu_zerovec::MemoryError;
 use crate::support::AllocError;
 
-/// Why bytes are refused. Where there are several causes, the first of these is told.
+/// Why bytes are not a trie in the binary form. If several variants apply, the first one is
+/// returned.
 #[derive(Clone, Copy, Debug, PartialEq)]
 pub enum BinaryError {
     /// There are fewer than the 16 bytes of a header.
     Short,
-    /// The bytes don't begin with the signature of a trie.
+    /// The first four bytes are not the signature of a trie, in either byte order.
     Signature,
-    /// The signature has its bytes in the other order, as a machine writes it that has the highest
-    /// byte first.
+    /// The signature is in the other byte order, as a big-endian machine writes it.
     Swapped,
-    /// The type is a number other than 0, fast, and 1, small.
+    /// The type is neither 0, fast, nor 1, small.
     UnknownType,
-    /// The value width is a number other than 0, 1 and 2, for 16, 32 and 8 bits.
+    /// The value width is not 0, 1 or 2, for 16, 32 and 8 bits.
     UnknownWidth,
-    /// One of the options' three reserved bits is not 0.
+    /// One of the three reserved bits of the options is not 0.
     Reserved,
-    /// The values have another width than those of the wanted type.
+    /// The values have another width than those of the requested type.
     OtherWidth,
-    /// There are fewer bytes than index and data take.
+    /// There are fewer bytes than the index and the data take.
     CutOff,
-    /// This cell of the data, counted from 0, is the first one that is no value.
+    /// The data cell at this index, counted from 0, is the first that is not a value.
     Cell(usize),
-    /// The parts make no trie.
+    /// The parts do not form a trie.
     Trie(CodePointTrieError),
 }
 
@@ -37,24 +37,24 @@ impl From<CodePointTrieError> for BinaryError {
     }
 }
 
-/// Why a trie is not written. Where there are several causes, the first of these is told.
+/// Why a trie cannot be written. If several variants apply, the first one is returned.
 #[derive(Clone, Copy, Debug, PartialEq, Eq)]
 pub enum WriteError {
-    /// A value takes another number of bytes than 1, 2 or 4.
+    /// The number of bytes of a value is not 1, 2 or 4.
     UnknownWidth,
-    /// The index that is written has more than 65,535 cells.
+    /// The written index would have more than 65,535 cells.
     LongIndex,
     /// The data have 1,048,576 cells or more.
     LongData,
-    /// The offset of the data null block is 1,048,576 or above.
+    /// The offset of the data null block is 1,048,576 or more.
     NullOffset,
-    /// The high start is no multiple of 0x200, or is 0x2000000 or above.
+    /// The high start is not a multiple of 0x200, or is 0x2000000 or more.
     HighStart,
     /// The null value is not that of the cell at the offset of the data null block.
     NullValue,
     /// The slice has fewer bytes than the trie takes.
     Short,
-    /// Memory was refused.
+    /// An allocation failed.
     Memory,
 }
 
@@ -72,12 +72,12 @@ impl From<AllocError> for WriteError {
     }
 }
 
-/// Why bytes of a machine with the other byte order are refused.
+/// Why bytes from a machine with the other byte order cannot be read.
 #[derive(Clone, Copy, Debug, PartialEq)]
 pub enum SwappedError {
-    /// In this machine's order they are no trie.
+    /// Converted to this machine's order, the bytes are not a trie.
     Binary(BinaryError),
-    /// Memory was refused.
+    /// An allocation failed.
     Memory,
 }
 

@@ -1,18 +1,18 @@
-//! What the binary form says before index and data: UCPTrieHeader of ICU4C's `ucptrie_impl.h`.
+//! The header of the binary form, before index and data: UCPTrieHeader of ICU4C's `ucptrie_impl.h`.
 
 use crate::icu_trie_binary::error::BinaryError;
 use crate::icu_trie::header::TrieType;
 
-/// How many bytes the header takes.
+/// The size of the header in bytes.
 pub(crate) const HEADER_SIZE: usize = 16;
 
 /// `Tri3` (UCPTRIE_SIG).
 pub(crate) const SIGNATURE: u32 = 0x5472_6933;
 
-/// What the signature is read as where its bytes have the other order.
+/// The signature if its bytes are read in the other order.
 const SWAPPED_SIGNATURE: u32 = 0x3369_7254;
 
-/// How many bits a value takes (UCPTrieValueWidth).
+/// The number of bits of a value (UCPTrieValueWidth).
 #[derive(Clone, Copy, Debug, PartialEq, Eq)]
 pub(crate) enum ValueWidth {
     Bits16,
@@ -21,7 +21,7 @@ pub(crate) enum ValueWidth {
 }
 
 impl ValueWidth {
-    /// How many bytes a value takes: 2, 4 or 1.
+    /// Returns the number of bytes of a value: 2, 4 or 1.
     #[inline]
     pub(crate) fn bytes(self) -> usize {
         match self {
@@ -32,14 +32,14 @@ impl ValueWidth {
     }
 }
 
-/// What the header says, its options taken apart and the two numbers of 20 bits put together.
+/// The contents of the header, with the options split up and the two 20-bit numbers joined.
 #[derive(Clone, Copy, Debug)]
 pub(crate) struct BinaryHeader {
     pub(crate) trie_type: TrieType,
     pub(crate) value_width: ValueWidth,
-    /// How many cells the index has.
+    /// The number of cells of the index.
     pub(crate) index_length: u16,
-    /// How many cells the data have.
+    /// The number of cells of the data.
     pub(crate) data_length: u32,
     pub(crate) index3_null_offset: u16,
     pub(crate) data_null_offset: u32,
@@ -47,19 +47,19 @@ pub(crate) struct BinaryHeader {
     pub(crate) shifted_high_start: u16,
 }
 
-/// The number of 16 bits whose lower byte is byte `i`.
+/// Returns the 16-bit number whose lower byte is byte `i`.
 #[inline]
 pub(crate) fn u16_at(bytes: &[u8], i: usize) -> u16 {
     u16::from_le_bytes([bytes[i], bytes[i + 1]])
 }
 
-/// The signature, whether or not it is that of a trie.
+/// Returns the first four bytes as a number, whether or not it is the signature of a trie.
 #[inline]
 fn signature_of(bytes: &[u8]) -> u32 {
     u32::from(u16_at(bytes, 0)) + u32::from(u16_at(bytes, 2)) * 0x1_0000
 }
 
-/// There are a header's bytes, with the signature of a trie.
+/// Checks that the bytes have the length of a header and the signature of a trie.
 #[inline]
 fn signed(bytes: &[u8]) -> Result<(), BinaryError> {
     if bytes.len() < HEADER_SIZE {
@@ -72,7 +72,7 @@ fn signed(bytes: &[u8]) -> Result<(), BinaryError> {
     }
 }
 
-/// The type that the options say.
+/// Returns the type in the options.
 #[inline]
 fn type_of(options: u16) -> Option<TrieType> {
     match options / 0x40 % 4 {
@@ -82,7 +82,7 @@ fn type_of(options: u16) -> Option<TrieType> {
     }
 }
 
-/// The width that the options say.
+/// Returns the width in the options.
 #[inline]
 fn width_of(options: u16) -> Option<ValueWidth> {
     match options % 8 {
@@ -93,7 +93,7 @@ fn width_of(options: u16) -> Option<ValueWidth> {
     }
 }
 
-/// The header of this type and width, with the numbers that the bytes have.
+/// Returns the header with this type and width, and the numbers in the bytes.
 #[inline]
 fn fields_of(bytes: &[u8], trie_type: TrieType, value_width: ValueWidth) -> BinaryHeader {
     let options = u32::from(u16_at(bytes, 4));
@@ -108,7 +108,7 @@ fn fields_of(bytes: &[u8], trie_type: TrieType, value_width: ValueWidth) -> Bina
     }
 }
 
-/// What the header says, or the first fault of it.
+/// Returns the contents of the header, or its first error.
 pub(crate) fn header_of(bytes: &[u8]) -> Result<BinaryHeader, BinaryError> {
     signed(bytes)?;
     let options = u16_at(bytes, 4);
@@ -124,7 +124,7 @@ pub(crate) fn header_of(bytes: &[u8]) -> Result<BinaryHeader, BinaryError> {
     Ok(fields_of(bytes, trie_type, value_width))
 }
 
-/// How many bytes header, index and data take.
+/// Returns the number of bytes of header, index and data.
 #[inline]
 pub(crate) fn stored_length(header: &BinaryHeader) -> usize {
     let index = 2 * header.index_length as usize;
@@ -132,8 +132,8 @@ pub(crate) fn stored_length(header: &BinaryHeader) -> usize {
     HEADER_SIZE + index + data
 }
 
-/// The header of a trie whose values take `width` bytes and whose cells are all there, with the
-/// number of bytes that it takes.
+/// Returns the header of a trie whose values take `width` bytes and whose cells are all present,
+/// and the number of bytes that the trie takes.
 pub(crate) fn stored_header(
     bytes: &[u8],
     width: usize,

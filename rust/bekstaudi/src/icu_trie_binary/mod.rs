@@ -1,11 +1,11 @@
-//! Code point tries in ICU's binary form: what `ucptrie_toBinary` writes and
+//! Code point tries in ICU's binary form, which `ucptrie_toBinary` writes and
 //! `ucptrie_openFromBinary` reads.
 //!
-//! - `binary`: tries from the form, which borrow its bytes, and tries to the form
-//! - `error`: why bytes are refused, and why a trie is not written
-//! - `header`, `write_header`: what the form says before index and data, read and written
-//! - `swapped`: tries from the form in the other byte order
-//! - `write`: how the form is written
+//! - `binary`: reads tries that borrow the bytes of the form, and writes tries in the form
+//! - `error`: why bytes are rejected, and why a trie cannot be written
+//! - `header`, `write_header`: reads and writes the header before index and data
+//! - `swapped`: reads tries in the other byte order
+//! - `write`: writes the form
 
 pub mod binary;
 mod error;

@@ -1,4 +1,4 @@
-//! Tries from the binary form of a machine that has the highest byte first.
+//! Reads tries in the binary form of a big-endian machine.
 
 #[allow(unused_imports)]
 use crate::support::prelude::*;
@@ -9,7 +9,7 @@ use crate::icu_trie::cptrie::CodePointTrie;
 use crate::icu_trie::value::TrieValue;
 use crate::support::{AllocError};
 
-/// Appends each whole group of `width` bytes, with its bytes in the other order.
+/// Appends each whole group of `width` bytes, with its bytes reversed.
 #[inline]
 fn append_swapped(into: &mut Vec<u8>, bytes: &[u8], width: usize) -> Result<(), AllocError> {
     for i in 0..bytes.len() / width {
@@ -22,7 +22,7 @@ fn append_swapped(into: &mut Vec<u8>, bytes: &[u8], width: usize) -> Result<(), 
     Ok(())
 }
 
-/// The first bytes: so many, or as many as there are.
+/// Returns the first `len` bytes, or all if there are fewer.
 #[inline]
 fn front(bytes: &[u8], len: usize) -> &[u8] {
     if len < bytes.len() {
@@ -32,7 +32,7 @@ fn front(bytes: &[u8], len: usize) -> &[u8] {
     }
 }
 
-/// The bytes behind the first ones, of which there are so many or fewer.
+/// Returns the bytes after the first `len`, or none if there are no more.
 #[inline]
 fn behind(bytes: &[u8], len: usize) -> &[u8] {
     if len < bytes.len() {
@@ -42,21 +42,21 @@ fn behind(bytes: &[u8], len: usize) -> &[u8] {
     }
 }
 
-/// Appends the header, each of its numbers in the other order.
+/// Appends the header, with the bytes of each of its numbers reversed.
 #[inline]
 fn append_header(into: &mut Vec<u8>, bytes: &[u8]) -> Result<(), AllocError> {
     append_swapped(into, front(bytes, 4), 4)?;
     append_swapped(into, front(behind(bytes, 4), 12), 2)
 }
 
-/// How many bytes the index takes, and the data, as the header says.
+/// Returns the number of bytes of the index and of the data, according to the header.
 #[inline]
 fn said_by(header: &[u8], width: usize) -> (usize, usize) {
     let cells = u16_at(header, 4) as usize / 0x1000 * 0x1_0000 + u16_at(header, 8) as usize;
     (2 * u16_at(header, 6) as usize, width * cells)
 }
 
-/// The trie that the bytes begin with, in the other order.
+/// Returns the trie at the start of the bytes in the other byte order.
 #[inline]
 fn in_other_order(bytes: &[u8], width: usize) -> Result<Vec<u8>, AllocError> {
     if bytes.len() < HEADER_SIZE {
@@ -71,18 +71,21 @@ fn in_other_order(bytes: &[u8], width: usize) -> Result<Vec<u8>, AllocError> {
     Ok(swapped)
 }
 
-/// The trie that the bytes begin with, as a machine writes it that has the highest byte first, and
-/// how many of them it takes: as `from_binary` reads it of the same bytes in this machine's order,
-/// into which they are copied.
+/// Reads the trie at the start of bytes that a big-endian machine wrote. Returns it and the number
+/// of bytes that it takes.
+///
+/// The bytes are copied into this machine's order, and the trie is the one that `from_binary` reads
+/// from the copy.
 ///
 /// ```ignore
 /// let (trie, len) = from_binary_swapped::<u8>(bytes)?;
-/// // trie.get32(0x41) is what ucptrie_get answers, and bytes[len..] is what follows the trie
+/// // trie.get32(0x41) is what ucptrie_get returns, and bytes[len..] is what follows the trie
 /// ```
 ///
 /// # Errors
-/// `Binary` with the first cause that `from_binary` has for the bytes in this machine's order, which
-/// is `Swapped` where they have that already; and `Memory` where memory was refused.
+/// - `Binary` with the first error that `from_binary` returns for the bytes in this machine's
+///   order. It is `Swapped` if they already were in this order.
+/// - `Memory` if an allocation fails.
 #[inline]
 pub fn from_binary_swapped<T: TrieValue>(
     bytes: &[u8],

@@ -1,4 +1,4 @@
-//! Tries to ICU's binary form, as `ucptrie_toBinary` writes them.
+//! Writes tries in ICU's binary form, as `ucptrie_toBinary` does.
 
 #[allow(unused_imports)]
 use crate::support::prelude::*;
@@ -10,7 +10,7 @@ use crate::icu_trie::cptrie::CodePointTrie;
 use crate::icu_trie::value::TrieValue;
 use crate::support::{AllocError};
 
-/// The bytes that are put behind an index of so many cells where values of so many bytes follow it.
+/// Returns the bytes after an index of `cells` cells if values of `width` bytes follow it.
 #[inline]
 fn padding(width: usize, cells: usize) -> &'static [u8] {
     if width == 4 && cells % 2 == 1 {
@@ -20,7 +20,7 @@ fn padding(width: usize, cells: usize) -> &'static [u8] {
     }
 }
 
-/// The header that is written of a trie, or why the form has no room for the trie.
+/// Returns the header to be written for a trie, or why the form cannot store the trie.
 fn header_for<T: TrieValue>(trie: &CodePointTrie<'_, T>) -> Result<BinaryHeader, WriteError> {
     let (header, index, values) = trie.parts();
     let value_width = width_for(T::WIDTH);
@@ -63,12 +63,12 @@ struct WrittenParts<'a> {
     index: &'a [u8],
     padding: &'a [u8],
     values: &'a [u8],
-    /// How many bytes they take.
+    /// The number of bytes of all parts.
     len: usize,
 }
 
 impl<'a> WrittenParts<'a> {
-    /// Writes the parts at the front of the bytes.
+    /// Writes the parts at the start of the bytes.
     #[inline]
     fn write(&self, bytes: &mut [u8]) {
         let (header, rest) = bytes.split_at_mut(HEADER_SIZE);
@@ -91,7 +91,7 @@ impl<'a> WrittenParts<'a> {
     }
 }
 
-/// The parts of the binary form of a trie, or why the form has no room for the trie.
+/// Returns the parts of the binary form of a trie, or why the form cannot store the trie.
 #[inline]
 fn written_parts<'a, T: TrieValue>(
     trie: &'a CodePointTrie<'_, T>,
@@ -107,36 +107,45 @@ fn written_parts<'a, T: TrieValue>(
     })
 }
 
-/// How many bytes [`to_binary`] and [`write_binary`] write of a trie: 16 for the header, two for
-/// each cell of the index, and as many for each value as it takes. Where values take four bytes an
-/// index of an odd length is one cell longer there.
+/// Returns the number of bytes that [`to_binary`] and [`write_binary`] write for a trie.
+///
+/// These are 16 bytes for the header, two for each cell of the index, and the bytes of each value.
+/// If values have four bytes, an index of an odd length is written with one more cell.
 ///
 /// # Errors
-/// The first cause in the order of [`WriteError`] for which the form has no room for the trie;
-/// `Short` and `Memory` never come.
+/// Returns the first variant of [`WriteError`] that says why the form cannot store the trie.
+/// `Short` and `Memory` are never returned.
 #[inline]
 pub fn binary_len<T: TrieValue>(trie: &CodePointTrie<'_, T>) -> Result<usize, WriteError> {
     Ok(written_parts(trie)?.len)
 }
 
-/// The bytes of a trie in ICU's binary form, as `ucptrie_toBinary` writes them on a machine that
-/// has the lowest byte first. Read by `from_binary` they give the trie as the form has it,
-/// which answers as the trie does.
+/// Returns the bytes of a trie in ICU's binary form, as `ucptrie_toBinary` writes them on a
+/// little-endian machine.
 ///
-/// The header of 16 bytes comes first, then the index, then the data. As ICU's builder does, an
-/// index of an odd length gets a cell 0xFFEE behind it where values take four bytes, so that these
-/// stand at a multiple of four.
+/// `from_binary` reads these bytes as the trie's stored form. For every code point whose cells the
+/// trie has, the stored form has the same value. A coherent trie has the cells of every code point,
+/// and every built trie is coherent. A trie that is not coherent may lack some: there a look-up in
+/// the trie returns the error value, and a look-up in its stored form may return another value.
+///
+/// The bytes are the header of 16 bytes, the index, and the data. If the index has an odd length
+/// and values take four bytes, a cell 0xFFEE follows the index, as in ICU's builder, so that the
+/// offset of the data is a multiple of four.
 ///
 /// ```ignore
 /// let bytes = to_binary(&trie)?;
 /// let (read, len) = from_binary::<u8>(&bytes)?;
-/// // len is bytes.len(), and read.get32(c) is trie.get32(c) for each code point c
+/// // len is bytes.len(), and read.get32(c) is trie.get32(c) for each c if the trie is coherent
 /// ```
 ///
 /// # Errors
-/// The first cause in the order of [`WriteError`]: `UnknownWidth`, `LongIndex`, `LongData`,
-/// `NullOffset`, `HighStart`, `NullValue` where the form has no room for the trie, and `Memory`
-/// where memory was refused, which is asked for once. `Short` never comes.
+/// Returns the first of these that applies:
+///
+/// - `UnknownWidth`, `LongIndex`, `LongData`, `NullOffset`, `HighStart` or `NullValue` if the form
+///   cannot store the trie.
+/// - `Memory` if the one allocation fails.
+///
+/// `Short` is never returned.
 #[inline]
 pub fn to_binary<T: TrieValue>(
     trie: &CodePointTrie<'_, T>,
@@ -147,13 +156,18 @@ pub fn to_binary<T: TrieValue>(
     Ok(bytes)
 }
 
-/// Writes a trie into the front of the bytes, as [`to_binary`] does, and tells how many bytes it
-/// takes. The bytes behind it stay, and no memory is taken.
+/// Writes a trie at the start of the bytes, as [`to_binary`] does. Returns the number of bytes
+/// written.
+///
+/// The bytes after it are unchanged. Nothing is allocated.
 ///
 /// # Errors
-/// The first cause in the order of [`WriteError`]: one for which the form has no room for the trie,
-/// and `Short` where the slice has fewer bytes than [`binary_len`] says. Then nothing is written.
-/// `Memory` never comes.
+/// Returns the first of these that applies, and leaves the slice unchanged:
+///
+/// - A variant of [`WriteError`] that says why the form cannot store the trie.
+/// - `Short` if the slice has fewer bytes than [`binary_len`] returns.
+///
+/// `Memory` is never returned.
 #[inline]
 pub fn write_binary<T: TrieValue>(
     trie: &CodePointTrie<'_, T>,

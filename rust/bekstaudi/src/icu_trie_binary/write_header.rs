@@ -1,9 +1,9 @@
-//! The header of the binary form, written.
+//! Writes the header of the binary form.
 
 use crate::icu_trie_binary::header::{BinaryHeader, HEADER_SIZE, SIGNATURE, ValueWidth};
 use crate::icu_trie::header::TrieType;
 
-/// The code of a type in the options.
+/// Returns the code of a type in the options.
 #[inline]
 fn type_code(trie_type: TrieType) -> u32 {
     match trie_type {
@@ -12,7 +12,7 @@ fn type_code(trie_type: TrieType) -> u32 {
     }
 }
 
-/// The code of a width in the options.
+/// Returns the code of a width in the options.
 #[inline]
 fn width_code(width: ValueWidth) -> u32 {
     match width {
@@ -22,7 +22,7 @@ fn width_code(width: ValueWidth) -> u32 {
     }
 }
 
-/// The width of values of so many bytes. There is one for 1, 2 and 4.
+/// Returns the width of values of `width` bytes, which is 1, 2 or 4.
 #[inline]
 pub(crate) fn width_for(width: usize) -> ValueWidth {
     match width {
@@ -32,14 +32,14 @@ pub(crate) fn width_for(width: usize) -> ValueWidth {
     }
 }
 
-/// The options of a header.
+/// Returns the options of a header.
 #[inline]
 fn options_for(header: &BinaryHeader) -> u16 {
     let upper = header.data_length / 0x1_0000 * 0x1000 + header.data_null_offset / 0x1_0000 * 0x100;
     (upper + type_code(header.trie_type) * 0x40 + width_code(header.value_width)) as u16
 }
 
-/// The bytes of a header.
+/// Returns the bytes of a header.
 #[inline]
 pub(crate) fn header_bytes(header: &BinaryHeader) -> [u8; HEADER_SIZE] {
     let [s0, s1, s2, s3] = SIGNATURE.to_le_bytes();

@@ -1,5 +1,5 @@
-//! A map is read, and made of the answers of a trie, so that a table can be amended: its values are
-//! taken, written to and built again.
+//! Reading a builder's map, and making one from a trie. So a table can be amended: read its values
+//! into a builder, write to it, and build it again.
 
 #[allow(unused_imports)]
 use crate::support::prelude::*;
@@ -10,7 +10,7 @@ use crate::icu_trie::value::TrieValue;
 use crate::icu_trie_core::walk::is_same;
 use crate::icu_zerovec::{CODE_POINT_LIMIT, MemoryError};
 
-/// The value of a number that is a value's.
+/// Returns the value with this number, which must exist.
 #[inline]
 fn value_of_number<T: TrieValue>(number: u32) -> T {
     match T::try_from_u32(number) {
@@ -19,8 +19,7 @@ fn value_of_number<T: TrieValue>(number: u32) -> T {
     }
 }
 
-/// The end, exclusive, of the code points from `c` on that have this value as a look-up answers it,
-/// one by one.
+/// Returns the exclusive end of the run of this value from `c` on, by looking up each code point.
 #[inline]
 fn end_by_look_ups<T: TrieValue>(trie: &CodePointTrie<'_, T>, c: u32, value: T) -> u32 {
     for next in c + 1..CODE_POINT_LIMIT {
@@ -31,8 +30,8 @@ fn end_by_look_ups<T: TrieValue>(trie: &CodePointTrie<'_, T>, c: u32, value: T) 
     CODE_POINT_LIMIT
 }
 
-/// Code points from `c` on that have the value of `c`: its range in a coherent trie, whose ranges
-/// are exact, and else as far as look-ups answer that value.
+/// Returns a range of code points from `c` on that have the value of `c`. In a coherent trie it is
+/// the trie's range, which is exact; in any other trie, look-ups find its end.
 fn run_from<T: TrieValue>(
     trie: &CodePointTrie<'_, T>,
     is_coherent: bool,
@@ -53,7 +52,9 @@ fn run_from<T: TrieValue>(
 }
 
 impl<T: TrieValue> CodePointTrieBuilder<T> {
-    /// The value of the code point `c`, and the error value above 0x10FFFF (umutablecptrie_get).
+    /// Returns the value of the code point `c`, or the error value if `c` is above 0x10FFFF.
+    ///
+    /// ICU: `umutablecptrie_get`.
     ///
     /// ```ignore
     /// let mut builder = CodePointTrieBuilder::new(0u8, 9, TrieType::Fast);
@@ -68,8 +69,10 @@ impl<T: TrieValue> CodePointTrieBuilder<T> {
         value_of_number(self.numbers.get(c as usize))
     }
 
-    /// The range of one value from the code point `start` on, as far as it goes
-    /// (umutablecptrie_getRange). `None` above 0x10FFFF.
+    /// Returns the longest range of code points from `start` on that have the same value as
+    /// `start`, or `None` if `start` is above 0x10FFFF.
+    ///
+    /// ICU: `umutablecptrie_getRange`.
     ///
     /// ```ignore
     /// let mut builder = CodePointTrieBuilder::new(0u8, 9, TrieType::Fast);
@@ -89,7 +92,8 @@ impl<T: TrieValue> CodePointTrieBuilder<T> {
         })
     }
 
-    /// Gives the code points of a range its value, where that isn't the default, which they have.
+    /// Sets the value of a range of code points that have the default, unless the value is the
+    /// default.
     #[inline]
     fn fill(&mut self, run: CodePointMapRange<T>) -> Result<(), MemoryError> {
         if is_same(run.value, self.default) {
@@ -98,7 +102,8 @@ impl<T: TrieValue> CodePointTrieBuilder<T> {
         self.try_set_range_value(run.range, run.value)
     }
 
-    /// Gives each code point the value of a trie, where all have the default: range by range.
+    /// Sets the value of each code point to that of a trie, range by range. All code points must
+    /// have the default.
     #[inline]
     fn fill_from(&mut self, trie: &CodePointTrie<'_, T>) -> Result<(), MemoryError> {
         let is_coherent = trie.is_coherent();
@@ -111,13 +116,16 @@ impl<T: TrieValue> CodePointTrieBuilder<T> {
         Ok(())
     }
 
-    /// The map of a trie's answers, to be written to and built again (umutablecptrie_fromUCPTrie).
-    /// It has the trie's type and its error value.
+    /// Makes a builder with the values of a trie, which can then be changed and built again. It has
+    /// the trie's type and its error value.
     ///
-    /// It answers every number as the trie does, whatever the trie's header says: a coherent trie
-    /// is taken range by range, any other one by its look-ups, and where the format has no answer
-    /// the map has the error value. The default is the value of 0x10FFFF, so that most code points
-    /// cost no memory.
+    /// At every number it returns what the trie returns, even if the trie's header is wrong: it
+    /// reads a coherent trie range by range, and any other one by look-ups. Code points for which
+    /// the trie lacks a cell get the error value.
+    ///
+    /// The default is the value of 0x10FFFF, so that most code points need no memory.
+    ///
+    /// ICU: `umutablecptrie_fromUCPTrie`.
     ///
     /// ```ignore
     /// let mut builder = CodePointTrieBuilder::try_from_trie(&trie)?;
@@ -127,7 +135,7 @@ impl<T: TrieValue> CodePointTrieBuilder<T> {
     /// ```
     ///
     /// # Errors
-    /// `MemoryError` where memory for the cells was refused.
+    /// Returns `MemoryError` if an allocation fails.
     #[inline]
     pub fn try_from_trie(
         trie: &CodePointTrie<'_, T>,

@@ -1,5 +1,5 @@
-//! A map becomes a trie: its values as numbers, the trie of the numbers, and the values of its
-//! cells.
+//! Building a trie from a map: the map's values become numbers, the numbers become a trie, and the
+//! cells of that trie become values again.
 
 #[allow(unused_imports)]
 use crate::support::prelude::*;
@@ -14,7 +14,7 @@ use crate::icu_trie::value::TrieValue;
 use crate::icu_trie_map::number_map::NumberMap;
 use crate::support::{AllocError};
 
-/// The value of each number, where each is a value's.
+/// Returns the value of each number. Each must be the number of a value.
 #[inline]
 fn values_of<T: TrieValue>(numbers: &[u32]) -> Result<Vec<T>, AllocError> {
     let mut values = Vec::with_room(numbers.len())?;
@@ -27,7 +27,7 @@ fn values_of<T: TrieValue>(numbers: &[u32]) -> Result<Vec<T>, AllocError> {
     Ok(values)
 }
 
-/// The trie of these values, from that of their numbers.
+/// Returns the trie of values that belongs to a trie of numbers.
 #[inline]
 fn trie_of<T: TrieValue>(
     trie: NumberTrie,
@@ -40,7 +40,7 @@ fn trie_of<T: TrieValue>(
     }
 }
 
-/// The trie of a map that is given by the number of each code point's value.
+/// Builds the trie of a map, given the number of each code point's value.
 #[inline]
 fn build_map<T: TrieValue>(
     numbers: &NumberMap,
@@ -53,7 +53,7 @@ fn build_map<T: TrieValue>(
 }
 
 impl<T: TrieValue> CodePointTrieBuilder<T> {
-    /// The trie of the map, of the builder's type, which owns its index and its data.
+    /// Builds the trie of the map. It has the builder's trie type, and owns its index and its data.
     ///
     /// ```ignore
     /// let mut builder = CodePointTrieBuilder::new(0u16, 9, TrieType::Small);
@@ -63,10 +63,11 @@ impl<T: TrieValue> CodePointTrieBuilder<T> {
     /// ```
     ///
     /// # Errors
-    /// `BuildError::TooLarge` where a data block's offset would need more than 18 bits or an
-    /// index-3 block's offset would reach 0x7fff, which takes more than 800 different aligned
-    /// blocks of 512 values, or more than 12,000 of 16. `BuildError::Memory` where memory was
-    /// refused. The builder is consumed in both cases.
+    /// The builder is consumed in both cases.
+    /// - `BuildError::TooLarge` if the offset of a data block would need more than 18 bits, or the
+    ///   offset of an index-3 block would reach 0x7fff. This happens only if the map has more than
+    ///   800 different aligned blocks of 512 values, or more than 12,000 of 16.
+    /// - `BuildError::Memory` if an allocation fails.
     #[inline]
     pub fn try_build(self) -> Result<CodePointTrie<'static, T>, BuildError> {
         build_map(
@@ -78,8 +79,8 @@ impl<T: TrieValue> CodePointTrieBuilder<T> {
     }
 }
 
-/// The trie that these writes, the first one first, make of a map of the default: each code point
-/// has the value of the last accepted write that covers it.
+/// Builds a trie from a list of writes, applied in order to a map that has the default everywhere.
+/// Each code point gets the value of the last accepted write that covers it.
 ///
 /// ```ignore
 /// let writes = [Write::Range(0x41..=0x5A, 1u8), Write::One(0x41, 0)];
@@ -88,9 +89,9 @@ impl<T: TrieValue> CodePointTrieBuilder<T> {
 /// ```
 ///
 /// # Errors
-/// `BuildError::TooLarge` and `BuildError::Memory` as for [`CodePointTrieBuilder::try_build`]; `Memory`
-/// too where a write was refused, and `TooLarge` only where none was, and never after at most 256
-/// accepted writes.
+/// - `BuildError::TooLarge` as for [`CodePointTrieBuilder::try_build`], but never if at most 256 writes
+///   are accepted.
+/// - `BuildError::Memory` if an allocation fails, in a write or in the build.
 #[inline]
 pub fn try_build_from_writes<T: TrieValue>(
     default: T,

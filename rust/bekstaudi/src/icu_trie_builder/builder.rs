@@ -1,4 +1,4 @@
-//! A map of the code points that is written to, and then built into a trie.
+//! A map from code points that is written to, and then built into a trie.
 
 #[allow(unused_imports)]
 use crate::support::prelude::*;
@@ -9,8 +9,9 @@ use crate::icu_trie_map::number_map::NumberMap;
 use crate::icu_zerovec::{CODE_POINT_LIMIT, MemoryError};
 use core::ops::RangeInclusive;
 
-/// A map from code points to values that can be written to, and then built into a trie
-/// (UMutableCPTrie).
+/// A map from code points to values that can be changed, and then built into a trie.
+///
+/// ICU: `UMutableCPTrie`.
 ///
 /// ```ignore
 /// let mut builder = CodePointTrieBuilder::new(0u8, 9, TrieType::Fast);
@@ -29,8 +30,10 @@ pub struct CodePointTrieBuilder<T: TrieValue> {
 }
 
 impl<T: TrieValue> CodePointTrieBuilder<T> {
-    /// The map that has the default at every code point. It takes no memory; that is left to
-    /// the calls that do.
+    /// Makes a map that has the default at every code point. It allocates nothing.
+    ///
+    /// `error` is the value of all numbers above 0x10FFFF, and `trie_type` the type of the trie to
+    /// build.
     #[inline]
     pub fn new(default: T, error: T, trie_type: TrieType) -> Self {
         default.shown();
@@ -43,7 +46,7 @@ impl<T: TrieValue> CodePointTrieBuilder<T> {
         }
     }
 
-    /// Gives the code point `c` this value. A number above 0x10FFFF writes nothing.
+    /// Sets the value of the code point `c`. If `c` is above 0x10FFFF, nothing is written.
     ///
     /// ```ignore
     /// builder.try_set_value(0x1234, 7)?;
@@ -51,15 +54,17 @@ impl<T: TrieValue> CodePointTrieBuilder<T> {
     /// ```
     ///
     /// # Errors
-    /// `MemoryError` where memory for the cells was refused, which only a write can meet that is
-    /// accepted. The map stays as it was.
+    /// Returns `MemoryError` if an allocation fails. The map is then unchanged. It never fails if
+    /// nothing is written.
     #[inline]
     pub fn try_set_value(&mut self, c: u32, value: T) -> Result<(), MemoryError> {
         self.try_set_range_value(c..=c, value)
     }
 
-    /// Gives each code point of the range this value. A reversed range writes nothing, nor does one
-    /// that starts above 0x10FFFF; a range that passes 0x10FFFF is cut there.
+    /// Sets the value of each code point in `range`, whose bounds are both inclusive.
+    ///
+    /// If the range is reversed or starts above 0x10FFFF, nothing is written. If it ends above
+    /// 0x10FFFF, the code points up to 0x10FFFF are written.
     ///
     /// ```ignore
     /// builder.try_set_range_value(0x1000..=0x1FFF, 8)?;
@@ -68,8 +73,8 @@ impl<T: TrieValue> CodePointTrieBuilder<T> {
     /// ```
     ///
     /// # Errors
-    /// `MemoryError` where memory for the cells was refused, which only a write can meet that is
-    /// accepted. The map stays as it was.
+    /// Returns `MemoryError` if an allocation fails. The map is then unchanged. It never fails if
+    /// nothing is written.
     pub fn try_set_range_value(
         &mut self,
         range: RangeInclusive<u32>,
@@ -85,15 +90,15 @@ impl<T: TrieValue> CodePointTrieBuilder<T> {
         Ok(())
     }
 
-    /// Makes these writes, from the first on.
+    /// Applies these writes in order.
     ///
     /// ```ignore
     /// builder.apply(&[Write::One(0x20000, 10), Write::Range(0x1FFF..=0x2000, 11)])?;
     /// ```
     ///
     /// # Errors
-    /// `ApplyRefused` with the place of the first write that memory was refused for. The writes
-    /// before it are made then, and no other.
+    /// Returns `ApplyRefused` with the index of the first write for which an allocation fails. The
+    /// writes before it have been applied, and no others.
     #[inline]
     pub fn apply(&mut self, writes: &[Write<T>]) -> Result<(), ApplyRefused> {
         for (i, write) in writes.iter().enumerate() {
@@ -104,7 +109,7 @@ impl<T: TrieValue> CodePointTrieBuilder<T> {
         Ok(())
     }
 
-    /// Makes one write.
+    /// Applies one write.
     #[inline]
     fn write(&mut self, write: &Write<T>) -> Result<(), MemoryError> {
         match write {

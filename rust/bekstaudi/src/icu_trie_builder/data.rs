@@ -1,5 +1,5 @@
-//! The data: the first 128 cells, the different blocks of 64 and of 16, the high value and the
-//! error value.
+//! The data of a trie: the first 128 cells, the distinct blocks of 64 and of 16, the high value and
+//! the error value.
 
 #[allow(unused_imports)]
 use crate::support::prelude::*;
@@ -11,25 +11,25 @@ use crate::icu_trie::header::TrieType;
 use crate::icu_trie_map::number_map::NumberMap;
 use crate::support::{AllocError};
 
-/// The greatest offset of a block, of 18 bits.
+/// The greatest 18-bit offset of a block.
 const MAX_DATA_OFFSET: usize = 0x3ffff;
 
-/// The data offset that says that there is no null block, and that no block can have.
+/// The data offset that stands for "no null block". No block can have it.
 const NO_DATA_NULL_OFFSET: u32 = 0xfffff;
 
-/// The cells of the data, and where the blocks start in them.
+/// The cells of the data, and the offsets of the blocks in them.
 pub(crate) struct PlacedData {
-    /// The cells, the high value and the error value last.
+    /// The cells. The last two are the high value and the error value.
     pub(crate) values: Vec<u32>,
     /// The offset of each block of 64 below the fast limit.
     pub(crate) fast: Vec<u32>,
-    /// The offset of each block of 16 from the fast limit on to before the high start.
+    /// The offset of each block of 16 from the fast limit up to the high start.
     pub(crate) small: Vec<u32>,
     /// The null block.
     pub(crate) null: NullBlock,
 }
 
-/// The offsets of all blocks of 64, where `rest` has those of the third and the following.
+/// Returns the offsets of all blocks of 64. `rest` has those from the third block on.
 #[inline]
 fn with_first_offsets(rest: &[u32]) -> Result<Vec<u32>, AllocError> {
     let mut fast = Vec::with_room(rest.len() + 2)?;
@@ -39,7 +39,7 @@ fn with_first_offsets(rest: &[u32]) -> Result<Vec<u32>, AllocError> {
     Ok(fast)
 }
 
-/// Appends the high value to the data, where it is not their last cell already.
+/// Appends the high value to the data, unless it is already the last cell.
 #[inline]
 fn push_high(values: &mut Vec<u32>, high: u32) -> Result<(), AllocError> {
     if values[values.len() - 1] == high {
@@ -49,7 +49,8 @@ fn push_high(values: &mut Vec<u32>, high: u32) -> Result<(), AllocError> {
     Ok(())
 }
 
-/// Appends the high value and the error value to the data, where they do not end so already.
+/// Appends the high value and the error value to the data, unless they are already the last two
+/// cells.
 #[inline]
 fn push_end(values: &mut Vec<u32>, high: u32, error: u32) -> Result<(), AllocError> {
     let len = values.len();
@@ -61,7 +62,7 @@ fn push_end(values: &mut Vec<u32>, high: u32, error: u32) -> Result<(), AllocErr
     Ok(())
 }
 
-/// The null block, and an offset that no block has where there is none.
+/// Returns the null block. If there is none, the result has an offset that no block has.
 #[inline]
 fn null_or(null: Option<NullBlock>, default: u32) -> NullBlock {
     match null {
@@ -73,8 +74,9 @@ fn null_or(null: Option<NullBlock>, default: u32) -> NullBlock {
     }
 }
 
-/// The data of a map that is given by the number of each code point, which is the last one's from
-/// `high_start` on. Where no block holds one number, the null block's is `default`.
+/// Makes the data of a map, given the number of each code point. From `high_start` on all code
+/// points must have the number of the last one. If no block has one number throughout, the null
+/// value is `default`.
 ///
 /// # Errors
 ///

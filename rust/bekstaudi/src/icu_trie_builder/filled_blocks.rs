@@ -1,6 +1,6 @@
-//! Blocks of 16 that hold one number are given the place of a block of 64 that holds it: so the
-//! offsets of neighbouring blocks are more often equal below and above the fast limit, and index-3
-//! blocks of them are found in the fast index.
+//! Moves blocks of 16 that have one number throughout to a block of 64 of the same number. Then
+//! neighbouring blocks below and above the fast limit have equal offsets more often, and index-3
+//! blocks of these offsets are found in the fast index.
 
 #[allow(unused_imports)]
 use crate::support::prelude::*;
@@ -11,7 +11,7 @@ use crate::support::{AllocError};
 /// An offset that no block has.
 const NO_OFFSET: u32 = u32::MAX;
 
-/// The offsets of blocks of 64 that hold one number.
+/// Returns the offsets of the blocks of 64 that have one number throughout.
 pub(crate) fn filled_places(
     cells: &[u32],
     fast: &[u32],
@@ -27,8 +27,8 @@ pub(crate) fn filled_places(
     Ok(places)
 }
 
-/// The first of these places whose cell is that at `at`, where 16 cells from there on are equal,
-/// else `at`.
+/// Returns the first of these positions whose cell equals that at `at`, if the 16 cells from `at`
+/// on are equal. Otherwise, or if there is none, returns `at`.
 #[inline]
 fn shared_place(cells: &[u32], places: &[u32], at: u32) -> u32 {
     if !is_filled(cells, at as usize, SMALL_BLOCK) {
@@ -42,8 +42,8 @@ fn shared_place(cells: &[u32], places: &[u32], at: u32) -> u32 {
     at
 }
 
-/// Gives each block of 16 that holds one number the first of these places that has it, if there is
-/// one.
+/// Moves each block of 16 that has one number throughout to the first of these positions with that
+/// number, if there is one.
 #[inline]
 pub(crate) fn share_filled(cells: &[u32], places: &[u32], small: &mut [u32]) {
     let mut from = NO_OFFSET;

@@ -1,4 +1,4 @@
-//! Blocks of a map find their places among the cells of the data.
+//! Places the blocks of a map in the data.
 
 #[allow(unused_imports)]
 use crate::support::prelude::*;
@@ -7,8 +7,10 @@ use crate::icu_trie_compaction::blocks::place_block;
 use crate::icu_trie_compaction::window_table::WindowTable;
 use crate::icu_trie_map::number_map::NumberMap;
 
-/// Places block number `number` of the map, where `last` is the place of the block before it, if
-/// that is placed. What `room` holds is lost.
+/// Places block number `number` of the map and returns its position.
+///
+/// `last` is the position of the block before it, if that block was placed. `room` is a buffer that
+/// is overwritten.
 fn place_next(
     stored: &mut Vec<u32>,
     table: &mut WindowTable,
@@ -28,9 +30,12 @@ fn place_next(
     place_block(stored, table, room, limit)
 }
 
-/// The offset in `stored` of each block of `size` code points of the map, from the block numbered
-/// `first` on, `count` of them: the first place where its numbers stand. Those that stand nowhere
-/// are appended to `stored`, each over the longest tail that equals its front.
+/// Returns the offset in `stored` of `count` blocks of `size` code points of the map, from block
+/// number `first` on.
+///
+/// The offset is the first position at which the numbers of the block occur. A block whose numbers
+/// do not occur is appended to `stored`, overlapping the longest tail of `stored` that equals a
+/// prefix of the block.
 ///
 /// # Errors
 ///

@@ -1,23 +1,23 @@
-//! Code point tries are built: a map of the code points is written to, and becomes a trie (ICU4C's
-//! UMutableCPTrie).
+//! Builds code point tries: write to a map from code points, then build it into a trie (ICU4C's
+//! `UMutableCPTrie`).
 //!
-//! - `writes`: one write, and why a list of them was cut short
+//! - `writes`: one write, and the error of a list of writes
 //! - `builder`: [`CodePointTrieBuilder`](builder::CodePointTrieBuilder), the map that is written to
-//! - `amend`: the map is read, and made of the answers of a trie
-//! - `build`: the map becomes a trie: [`build_from_writes`]
+//! - `amend`: reading the map, and making it from a trie
+//! - `build`: building the map into a trie, [`build_from_writes`]
 //! - `error`: why a trie could not be built
 //!
-//! The trie itself is built of numbers, one for each code point, which `icu_trie_map` keeps:
+//! The trie itself is built from numbers, one for each code point, which `icu_trie_map` stores:
 //!
-//! - `number_trie`: the build as a whole, from the numbers to header, index and data
-//! - `data`: the cells of the data, and the offsets of its blocks
-//! - `map_blocks`: the blocks of the map find their places
-//! - `filled_blocks`: blocks of 16 of one number that stand in a block of 64 of it
-//! - `lengths`: how long the blocks of the data are
-//! - `null_block`: the block of one number that a walk knows by its offset; `used_numbers` wishes
-//!   for a frequent one
+//! - `number_trie`: the whole build, from the numbers to header, index and data
+//! - `data`: the data cells, and the offsets of the blocks
+//! - `map_blocks`: placing the blocks of the map
+//! - `filled_blocks`: sharing blocks of 16 with a block of 64 if both have one number throughout
+//! - `lengths`: the lengths of data blocks
+//! - `null_block`: the null block, which a walk knows by its offset; `used_numbers` suggests a
+//!   frequent number for it
 //!
-//! Blocks find their places, and the index is made, in `icu_trie_compaction`.
+//! The crate `icu_trie_compaction` places blocks and makes the index.
 
 #[allow(unused_imports)]
 use crate::support::prelude::*;

@@ -1,4 +1,4 @@
-//! The null block: a block of data that holds one number, by whose offset a walk knows it without a
+//! The null block: a data block of one number, which a walk recognises by its offset and does not
 //! read.
 
 #[allow(unused_imports)]
@@ -9,16 +9,16 @@ use crate::icu_trie_builder::lengths::{FAST_BLOCK, SMALL_BLOCK};
 use crate::icu_trie_builder::used_numbers::most_used;
 use crate::support::{AllocError};
 
-/// Where the null block starts, and the number that it holds.
+/// The offset of the null block, and its number.
 #[derive(Clone, Copy)]
 pub(crate) struct NullBlock {
-    /// Its offset.
+    /// The offset of the null block.
     pub(crate) offset: u32,
-    /// Its number.
+    /// The number of all its cells.
     pub(crate) value: u32,
 }
 
-/// A block that holds one number, by its number among the blocks of its length.
+/// A block that has one number throughout, identified by its index among the blocks of its length.
 #[derive(Clone, Copy)]
 pub(crate) enum FilledBlock {
     /// A block of 64.
@@ -27,7 +27,7 @@ pub(crate) enum FilledBlock {
     Small(usize),
 }
 
-/// Whether the `size` cells from place `at` on are this number.
+/// Returns true if the `size` cells from position `at` on all equal `value`.
 #[inline]
 fn is_filled_with(cells: &[u32], at: usize, size: usize, value: u32) -> bool {
     for i in 0..size {
@@ -38,13 +38,13 @@ fn is_filled_with(cells: &[u32], at: usize, size: usize, value: u32) -> bool {
     true
 }
 
-/// Whether the `size` cells from place `at` on are equal.
+/// Returns true if the `size` cells from position `at` on are equal.
 #[inline]
 pub(crate) fn is_filled(cells: &[u32], at: usize, size: usize) -> bool {
     is_filled_with(cells, at, size, cells[at])
 }
 
-/// Whether this number is wanted, which any is where none is named.
+/// Returns true if `value` is the wanted number, or if no number is wanted.
 #[inline]
 fn is_wanted(wanted: Option<u32>, value: u32) -> bool {
     match wanted {
@@ -53,8 +53,8 @@ fn is_wanted(wanted: Option<u32>, value: u32) -> bool {
     }
 }
 
-/// The first of the blocks of `size` cells at these offsets that holds one number, and the wanted
-/// one, if one is named.
+/// Returns the index of the first of the blocks of `size` cells at these offsets that has one
+/// number throughout. If `wanted` is some number, only blocks of that number count.
 #[inline]
 fn find_filled(cells: &[u32], offsets: &[u32], size: usize, wanted: Option<u32>) -> Option<usize> {
     for (number, at) in offsets.iter().enumerate() {
@@ -66,8 +66,8 @@ fn find_filled(cells: &[u32], offsets: &[u32], size: usize, wanted: Option<u32>)
     None
 }
 
-/// The first block that holds one number, and the wanted one, if one is named: of 64, or else of
-/// 16.
+/// Returns the first block that has one number throughout: a block of 64, or a block of 16 if there
+/// is none. If `wanted` is some number, only blocks of that number count.
 fn find_either(
     cells: &[u32],
     fast: &[u32],
@@ -83,8 +83,8 @@ fn find_either(
     None
 }
 
-/// A block that holds one number, where there is one: one that is used much, and of 64 if one of
-/// these holds that number.
+/// Returns a block that has one number throughout, if there is one. It prefers a number that fills
+/// many blocks, and a block of 64 of that number.
 #[inline]
 fn choose(
     cells: &[u32],
@@ -98,7 +98,7 @@ fn choose(
     }
 }
 
-/// Whether `at` is one of the offsets.
+/// Returns true if `at` is one of the offsets.
 #[inline]
 fn is_taken(taken: &[u32], at: usize) -> bool {
     for offset in taken {
@@ -109,7 +109,8 @@ fn is_taken(taken: &[u32], at: usize) -> bool {
     false
 }
 
-/// A place from `from` on at which 16 cells are this number, and which is none of `taken`.
+/// Returns the first position from `from` on at which 16 cells equal `value`, and which is none of
+/// `taken`.
 #[inline]
 fn find_apart(cells: &[u32], value: u32, from: usize, taken: &[u32]) -> Option<usize> {
     for at in from..cells.len().saturating_sub(SMALL_BLOCK - 1) {
@@ -120,7 +121,7 @@ fn find_apart(cells: &[u32], value: u32, from: usize, taken: &[u32]) -> Option<u
     None
 }
 
-/// How many cells at the end are this number, 15 at most.
+/// Returns how many cells at the end equal `value`, up to 15.
 #[inline]
 fn filled_tail(cells: &[u32], value: u32) -> usize {
     let most = cells.len().min(SMALL_BLOCK - 1);
@@ -131,9 +132,10 @@ fn filled_tail(cells: &[u32], value: u32) -> usize {
     count
 }
 
-/// A place at which 16 cells are this number, and at which no block of 64 starts, whose offsets
-/// `taken` has. It is looked for from `from` on, and made at the end of the cells where there is
-/// none.
+/// Returns a position at which 16 cells equal `value` and no block of 64 starts. `taken` has the
+/// offsets of the blocks of 64.
+///
+/// It searches from `from` on. If there is no such position, it appends the missing cells.
 fn settle(
     stored: &mut Vec<u32>,
     value: u32,
@@ -152,7 +154,7 @@ fn settle(
     Ok(at)
 }
 
-/// Writes `to` in the place of each `from`.
+/// Replaces each offset `from` by `to`.
 #[inline]
 fn rename(offsets: &mut [u32], from: u32, to: u32) {
     for offset in offsets.iter_mut() {
@@ -162,8 +164,8 @@ fn rename(offsets: &mut [u32], from: u32, to: u32) {
     }
 }
 
-/// The null block at block number `number` of 64, which holds one number. The blocks of 16 that
-/// hold it get its offset too.
+/// Makes block number `number` of 64, which has one number throughout, the null block. The blocks
+/// of 16 of the same number get its offset too.
 #[inline]
 fn null_of_fast(cells: &[u32], fast: &[u32], small: &mut [u32], number: usize) -> NullBlock {
     let offset = fast[number];
@@ -175,8 +177,8 @@ fn null_of_fast(cells: &[u32], fast: &[u32], small: &mut [u32], number: usize) -
     NullBlock { offset, value }
 }
 
-/// The null block at block number `number` of 16, which holds one number. It and the blocks that
-/// are equal to it are moved to where no block of 64 starts.
+/// Makes block number `number` of 16, which has one number throughout, the null block. This block
+/// and its equals move to a position at which no block of 64 starts.
 fn null_of_small(
     stored: &mut Vec<u32>,
     fast: &[u32],
@@ -192,15 +194,16 @@ fn null_of_small(
     Ok(NullBlock { offset, value })
 }
 
-/// The null block among blocks of 64 at the offsets `fast` and blocks of 16 at the offsets `small`:
-/// one that holds one number, and none where there is no such block. A block of 16 is given the
-/// place of a block of 64 first where both hold one number. Where the null block is one of 16, it
-/// is moved to where no block of 64 starts; otherwise a walk would take a block of 64 for the null
-/// block that only begins like it.
+/// Chooses the null block among the blocks of 64 (offsets `fast`) and of 16 (offsets `small`): a
+/// block that has one number throughout. Returns `None` if there is no such block.
+///
+/// First, each block of 16 moves to a block of 64 if both have the same number throughout. If the
+/// null block is then one of 16, it moves to a position at which no block of 64 starts. Otherwise a
+/// walk could take a block of 64 for the null block, because both start at the same offset.
 ///
 /// # Errors
 ///
-/// `TooLarge` where it would start above `limit`.
+/// `TooLarge` if the null block would start above `limit`.
 pub(crate) fn place_null(
     stored: &mut Vec<u32>,
     fast: &[u32],

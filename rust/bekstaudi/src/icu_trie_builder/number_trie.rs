@@ -1,4 +1,4 @@
-//! A trie over numbers, built as a whole.
+//! Builds a whole trie of numbers.
 
 #[allow(unused_imports)]
 use crate::support::prelude::*;
@@ -10,21 +10,21 @@ use crate::icu_trie_map::number_map::NumberMap;
 
 /// The parts of a trie whose values are numbers.
 pub(crate) struct NumberTrie {
-    /// What the trie says of itself.
+    /// The header of the trie.
     pub(crate) header: CodePointTrieHeader,
-    /// The cells that lead from a code point to its place in `values`.
+    /// The index cells, which lead from a code point to its position in `values`.
     pub(crate) index: Vec<u16>,
-    /// The data, the high value and the error value last.
+    /// The data. The last two cells are the high value and the error value.
     pub(crate) values: Vec<u32>,
 }
 
-/// The trie of a map that is given by the number of each code point, with `error` for what is above
-/// the code space. The header's null value is that of the null block, and `default` where there is
-/// none.
+/// Builds the trie of a map, given the number of each code point. `error` is the number for
+/// everything above 0x10FFFF. The null value in the header is that of the null block, or `default`
+/// if there is none.
 ///
 /// # Errors
 ///
-/// `TooLarge` at the first offset that does not fit its cell, `Memory` where memory is refused.
+/// `TooLarge` at the first offset that does not fit its cell, and `Memory` if an allocation fails.
 pub(crate) fn build_numbers(
     numbers: &NumberMap,
     error: u32,

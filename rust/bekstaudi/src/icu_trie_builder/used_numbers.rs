@@ -1,4 +1,5 @@
-//! Which number fills the most blocks: a wish, which no contract states.
+//! Estimates which number fills the most blocks. This is a heuristic: any result is correct, and no
+//! contract says which number it is.
 
 #[allow(unused_imports)]
 use crate::support::prelude::*;
@@ -6,8 +7,8 @@ use crate::icu_trie_builder::lengths::{FAST_BLOCK, SMALL_BLOCK};
 use crate::icu_trie_builder::null_block::is_filled;
 use crate::support::{AllocError};
 
-/// How many numbers are counted at a time. Where there are more, a new one takes the place of the
-/// least used.
+/// How many numbers are counted at the same time. Beyond that, a new number replaces the least used
+/// one.
 const MOST_USES: usize = 32;
 
 /// How many blocks of 16 a number fills.
@@ -17,7 +18,7 @@ struct Use {
     blocks: usize,
 }
 
-/// The place of a number that is used least.
+/// Returns the index of a least used number.
 #[inline]
 fn least_used(uses: &[Use]) -> usize {
     let mut least = 0;
@@ -29,7 +30,7 @@ fn least_used(uses: &[Use]) -> usize {
     least
 }
 
-/// Counts `blocks` blocks more for a number.
+/// Adds `blocks` blocks to the count of a number.
 fn add_use(uses: &mut Vec<Use>, value: u32, blocks: usize) -> Result<(), AllocError> {
     for i in 0..uses.len() {
         if uses[i].value == value {
@@ -46,7 +47,7 @@ fn add_use(uses: &mut Vec<Use>, value: u32, blocks: usize) -> Result<(), AllocEr
     Ok(())
 }
 
-/// Counts the `count` blocks of `size` cells at one offset, where they hold one number.
+/// Counts `count` blocks of `size` cells at one offset, if they have one number throughout.
 #[inline]
 fn add_blocks(
     uses: &mut Vec<Use>,
@@ -81,7 +82,8 @@ fn add_offsets(
     add_blocks(uses, cells, last as usize, size, count)
 }
 
-/// A number that fills more of these blocks than others, weighted by their length.
+/// Returns a number that fills many of these blocks, weighted by their length, or `None` if no
+/// block has one number throughout.
 pub(crate) fn most_used(
     cells: &[u32],
     fast: &[u32],

@@ -1,17 +1,17 @@
-//! What is written into a map of the code points.
+//! Writes to a map from code points.
 
 pub use crate::icu_zerovec::memory::ApplyRefused;
 use core::ops::RangeInclusive;
 
-/// One write into a map of the code points.
+/// One write to a map from code points.
 ///
-/// It is accepted where its range isn't reversed and it starts in the code space; any other write
-/// changes nothing. What lies above 0x10FFFF is left out. The default is a value like any other:
-/// written last, it takes back what was written before.
+/// A write is accepted if its range is not reversed and it starts at or below 0x10FFFF; code points
+/// above 0x10FFFF are then ignored. Any other write changes nothing. The default can be written
+/// like any other value, and then undoes earlier writes.
 #[derive(Clone, Debug, PartialEq)]
 pub enum Write<T> {
-    /// This value at this code point.
+    /// Sets one code point to a value.
     One(u32, T),
-    /// This value at each code point from the start to the end, both included.
+    /// Sets each code point of a range, both bounds inclusive, to a value.
     Range(RangeInclusive<u32>, T),
 }

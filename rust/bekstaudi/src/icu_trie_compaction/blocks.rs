@@ -1,4 +1,4 @@
-//! Blocks of cells that are found among the cells so far, or appended to them.
+//! Finds blocks among the cells stored so far, or appends them.
 
 #[allow(unused_imports)]
 use crate::support::prelude::*;
@@ -6,14 +6,14 @@ use crate::icu_trie_compaction::error::BuildError;
 use crate::icu_trie_compaction::hashing::hash_of;
 use crate::icu_trie_compaction::window_table::WindowTable;
 
-/// Block number `number` of `size` cells.
+/// Returns block number `number` of `size` cells.
 #[inline]
 pub(crate) fn block_at(cells: &[u32], size: usize, number: usize) -> &[u32] {
     &cells[size * number..size * number + size]
 }
 
-/// The length of the longest tail of `stored`, shorter than `wanted`, that equals the front of
-/// `wanted`.
+/// Returns the length of the longest tail of `stored`, shorter than `wanted`, that equals a prefix
+/// of `wanted`.
 #[inline]
 fn overlap(stored: &[u32], wanted: &[u32]) -> usize {
     let mut common = (wanted.len() - 1).min(stored.len());
@@ -26,12 +26,15 @@ fn overlap(stored: &[u32], wanted: &[u32]) -> usize {
     0
 }
 
-/// The first place where `wanted` stands in `stored`. Where it stands nowhere, it is appended over
-/// the longest tail that equals its front.
+/// Returns the first position at which `wanted` occurs in `stored`. If it does not occur, appends
+/// it first, overlapping the longest tail of `stored` that equals a prefix of `wanted`.
+///
+/// `table` must be a table of windows of `stored` of the length of `wanted`.
 ///
 /// # Errors
 ///
-/// `TooLarge` where it stands nowhere and would start above `limit`.
+/// - `TooLarge` if `wanted` does not occur and would start above `limit`.
+/// - `Memory` if an allocation fails.
 pub(crate) fn place_block(
     stored: &mut Vec<u32>,
     table: &mut WindowTable,

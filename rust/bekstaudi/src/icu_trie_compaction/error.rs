@@ -4,12 +4,12 @@ use crate::icu_zerovec::MemoryError;
 use crate::icu_zerovec::memory::ApplyRefused;
 use crate::support::{AllocError, AllocFailed};
 
-/// Why a trie could not be built.
+/// The reasons why a trie could not be built.
 #[derive(Clone, Copy, Debug, PartialEq, Eq)]
 pub enum BuildError {
     /// The map has so many different blocks that an offset does not fit its cell.
     TooLarge,
-    /// Memory was refused.
+    /// An allocation failed.
     Memory,
 }
 

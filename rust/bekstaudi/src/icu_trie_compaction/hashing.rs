@@ -1,10 +1,10 @@
-//! Hashes of windows of cells. A hash rolls from a window to the next one, whatever a window's
-//! length.
+//! Rolling hashes of windows of cells: the hash of a window is computed from that of the previous
+//! one, in constant time for any length.
 
-/// What a sum is multiplied by at each cell: an odd number near 2^32 over the golden ratio.
+/// The base of the hash: an odd number near 2^32 divided by the golden ratio.
 const FACTOR: u32 = 0x9e37_79b1;
 
-/// The hash of some cells.
+/// Returns the hash of some cells.
 #[inline]
 pub(crate) fn hash_of(cells: &[u32]) -> u32 {
     let mut hash = 0u32;
@@ -14,7 +14,8 @@ pub(crate) fn hash_of(cells: &[u32]) -> u32 {
     hash
 }
 
-/// What a cell that leaves a window of `size` cells is multiplied by.
+/// Returns the factor for a cell that leaves a window of `size` cells: adding the cell times this
+/// factor removes the cell from the hash.
 #[inline]
 pub(crate) fn leaving_factor_of(size: usize) -> u32 {
     let mut factor = u32::MAX;
@@ -24,7 +25,8 @@ pub(crate) fn leaving_factor_of(size: usize) -> u32 {
     factor
 }
 
-/// The hash of the window after the one at `at`, where there is one, from that one's hash.
+/// Returns the hash of the window after the one at `at`, given the hash of that one. If there is no
+/// further window, returns `hash` unchanged.
 #[inline]
 pub(crate) fn hash_after(cells: &[u32], at: usize, size: usize, leaving: u32, hash: u32) -> u32 {
     if at + size >= cells.len() {

@@ -1,5 +1,5 @@
-//! The index: the offsets of the blocks of 64 below the fast limit, then index-1, the index-3
-//! blocks and index-2 for the code points from it on.
+//! The index of a trie. It starts with the offsets of the blocks of 64 below the fast limit. For
+//! the code points from there on, index-1, the index-3 blocks and index-2 follow.
 
 #[allow(unused_imports)]
 use crate::support::prelude::*;
@@ -12,19 +12,20 @@ use crate::icu_trie_core::header::TrieType;
 use crate::icu_trie_core::impl_const::{CP_PER_INDEX_2_ENTRY, FAST_TYPE_DATA_BLOCK_LENGTH, SHIFT_1};
 use crate::support::{AllocError};
 
-/// How many code points an index-1 cell stands for.
+/// The number of code points that one index-1 cell covers.
 const CP_PER_INDEX_1_ENTRY: usize = 1 << SHIFT_1;
 
-/// The index of a trie, and how a walk knows the blocks of 512 that are null throughout.
+/// The index of a trie, and the index-2 cell by which a walk recognises blocks of 512 that are null
+/// throughout.
 pub struct BuiltIndex {
-    /// The fast index, and after it the cells for the code points from the fast limit on.
+    /// The fast index, followed by the cells for the code points from the fast limit on.
     pub cells: Vec<u16>,
-    /// The index-2 cell, bit 15 included, of the blocks of 512 all of whose data offsets are the
-    /// null block's; 0x7fff where there is none.
+    /// The index-2 cell, bit 15 included, of the blocks of 512 whose data offsets all are that of
+    /// the null block, or 0x7fff if there is none.
     pub null_offset: u16,
 }
 
-/// Appends the fast index, the offsets of the blocks of 64, to `index`.
+/// Appends the fast index, which is the offsets of the blocks of 64, to `index`.
 #[inline]
 fn push_fast(index: &mut Vec<u16>, fast: &[u32]) -> Result<(), AllocError> {
     for offset in fast {
@@ -33,7 +34,8 @@ fn push_fast(index: &mut Vec<u16>, fast: &[u32]) -> Result<(), AllocError> {
     Ok(())
 }
 
-/// Appends the index-1 cells to `index`, for index-2 blocks at these places from `start` on.
+/// Appends the index-1 cells to `index`. The index-2 blocks are at these positions, counted from
+/// `start`.
 #[inline]
 fn push_index1(index: &mut Vec<u16>, start: usize, places: &[usize]) -> Result<(), AllocError> {
     for place in places {
@@ -51,7 +53,7 @@ fn push_stored(index: &mut Vec<u16>, cells: &[u32]) -> Result<(), AllocError> {
     Ok(())
 }
 
-/// The cells, with 32 bits each.
+/// Returns the cells as 32-bit numbers.
 #[inline]
 fn widened(cells: &[u16]) -> Result<Vec<u32>, AllocError> {
     let mut wide = Vec::with_room(cells.len())?;
@@ -61,7 +63,7 @@ fn widened(cells: &[u16]) -> Result<Vec<u32>, AllocError> {
     Ok(wide)
 }
 
-/// Whether all offsets of block number `number` of 32 are `null`.
+/// Returns true if all 32 offsets of block number `number` are `null`.
 #[inline]
 fn is_null(offsets: &[u32], null: usize, number: usize) -> bool {
     for i in 0..INDEX_3_BLOCK {
@@ -72,7 +74,7 @@ fn is_null(offsets: &[u32], null: usize, number: usize) -> bool {
     true
 }
 
-/// The first block of 32 offsets all of which are `null`.
+/// Returns the number of a block whose 32 offsets all are `null`, or `None` if there is none.
 #[inline]
 fn null_block(offsets: &[u32], null: usize) -> Option<usize> {
     for number in 0..offsets.len() / INDEX_3_BLOCK {
@@ -83,8 +85,8 @@ fn null_block(offsets: &[u32], null: usize) -> Option<usize> {
     None
 }
 
-/// The index-2 cell, of these, of the first block of 32 offsets all of which are `null`, 0x7fff
-/// where there is none.
+/// Returns the index-2 cell, from `cells`, of a block whose 32 offsets all are `null`, or 0x7fff if
+/// there is none.
 #[inline]
 fn null_cell(small: &[u32], null: usize, cells: &[u32]) -> u16 {
     match null_block(small, null) {
@@ -93,9 +95,10 @@ fn null_cell(small: &[u32], null: usize, cells: &[u32]) -> u16 {
     }
 }
 
-/// Appends index-1, the index-3 blocks and index-2 to the fast index, and gives the index-2 cell of
-/// the blocks of 512 all of whose offsets are `null`, 0x7fff where there is none. `small` has the
-/// offsets of the blocks of 16 from the fast limit on to before `high_start`.
+/// Appends index-1, the index-3 blocks and index-2 to the fast index. Returns the index-2 cell of
+/// the blocks of 512 whose offsets all are `null`, or 0x7fff if there is none.
+///
+/// `small` has the offsets of the blocks of 16 from the fast limit up to `high_start`.
 fn push_upper(
     index: &mut Vec<u16>,
     trie_type: TrieType,
@@ -117,13 +120,16 @@ fn push_upper(
     Ok(null_cell(small, null, &numbers))
 }
 
-/// The index, where `fast` has the offsets of the blocks of 64 below the fast limit, and `small`
-/// those of the blocks of 16 from it on to before `high_start`. `null` is the offset of the null
-/// block of the data, 0xfffff where there is none.
+/// Makes the index of a trie.
+///
+/// `fast` has the offsets of the blocks of 64 below the fast limit, and `small` those of the blocks
+/// of 16 from there up to `high_start` (exclusive). `null` is the offset of the null block of the
+/// data, or 0xfffff if there is none.
 ///
 /// # Errors
 ///
-/// `TooLarge` at the first index-3 block that would stand at 0x7fff or above it.
+/// - `TooLarge` at the first index-3 block that would be at position 0x7fff or above.
+/// - `Memory` if an allocation fails.
 pub(crate) fn build_index(
     trie_type: TrieType,
     high_start: usize,

@@ -1,6 +1,6 @@
-//! The index-2 blocks: the index-2 cells of 32 blocks of 512 code points. Equal blocks stand once,
-//! and a block stands anywhere among the index-3 and index-2 cells so far or over the tail of what
-//! is written.
+//! Places the index-2 blocks: the index-2 cells of 32 blocks of 512 code points. Equal blocks are
+//! stored once. A block may be anywhere among the index-3 and index-2 cells stored so far, and may
+//! overlap their tail.
 
 #[allow(unused_imports)]
 use crate::support::prelude::*;
@@ -10,11 +10,11 @@ use crate::icu_trie_compaction::lengths::INDEX_2_BLOCK;
 use crate::icu_trie_compaction::window_table::WindowTable;
 use crate::support::{AllocError};
 
-/// Above each place that an index-2 block may take.
+/// A limit above every position of an index-2 block.
 const MOST_CELLS: usize = 0x10000;
 
-/// The index-2 cells with `count` before them that no look-up reads: cells like the first one, so
-/// that they share most places.
+/// Returns the index-2 cells after `count` further cells that no look-up reads. These are copies of
+/// the first cell, so that they can often share storage.
 #[inline]
 pub(crate) fn with_unread(
     cells: &[u32],
@@ -25,7 +25,7 @@ pub(crate) fn with_unread(
     Ok(all)
 }
 
-/// Places the whole blocks of 32 cells, and gives the place of each in `stored`.
+/// Places the whole blocks of 32 cells, and returns the position of each in `stored`.
 fn place_whole(
     stored: &mut Vec<u32>,
     cells: &[u32],
@@ -41,8 +41,8 @@ fn place_whole(
     Ok(places)
 }
 
-/// Places the blocks of 32 cells, the last one as short as it is, and gives the place of each in
-/// `stored`.
+/// Places all blocks of 32 cells, and returns the position of each in `stored`. The last block may
+/// be shorter.
 pub(crate) fn place_index2(
     stored: &mut Vec<u32>,
     cells: &[u32],

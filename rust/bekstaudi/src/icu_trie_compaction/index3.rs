@@ -1,7 +1,7 @@
-//! The index-3 blocks: the 32 data offsets of each block of 512 code points, in 16 bits where all
-//! of them fit, else in the 18-bit form. Equal blocks stand once, and a block stands anywhere among
-//! the cells so far or over the tail of what is written; one in 16 bits may stand in the fast index
-//! too.
+//! Places the index-3 blocks: the 32 data offsets of each block of 512 code points, in 16 bits if
+//! all of them fit, otherwise in the 18-bit form. Equal blocks are stored once. A block may be
+//! anywhere among the cells stored so far, and may overlap their tail. A 16-bit block may also be
+//! in the fast index.
 
 #[allow(unused_imports)]
 use crate::support::prelude::*;
@@ -13,21 +13,22 @@ use crate::icu_trie_compaction::packing::pack;
 use crate::icu_trie_compaction::window_table::WindowTable;
 use crate::support::{AllocError};
 
-/// The index-3 offset that says that there is no null block, and that no block may have.
+/// The index-3 offset that stands for "no null block". No block has this offset.
 pub const NO_INDEX3_NULL_OFFSET: u16 = 0x7fff;
 
-/// The windows of the fast index, and those of the cells after index-1 in both widths.
+/// Tables of the windows of the fast index, and of the windows of the cells after index-1 in both
+/// widths.
 pub(crate) struct Tables {
     /// The windows of 32 cells of the fast index.
     fast: WindowTable,
-    /// The windows of 32 cells.
+    /// The windows of 32 cells of the cells after index-1.
     narrow: WindowTable,
-    /// The windows of 36 cells.
+    /// The windows of 36 cells of the cells after index-1.
     wide: WindowTable,
 }
 
 impl Tables {
-    /// The tables of the windows of this fast index, and of no other cell.
+    /// Makes the tables for this fast index and no cells after index-1.
     #[inline]
     fn new(fast: &[u32]) -> Result<Tables, AllocError> {
         let mut in_fast = WindowTable::for_cells(INDEX_3_BLOCK, fast.len())?;
@@ -40,7 +41,7 @@ impl Tables {
     }
 }
 
-/// Whether all offsets have 16 bits.
+/// Returns true if all offsets have 16 bits.
 #[inline]
 fn fit_16_bits(offsets: &[u32]) -> bool {
     for offset in offsets {
@@ -51,12 +52,12 @@ fn fit_16_bits(offsets: &[u32]) -> bool {
     true
 }
 
-/// Places the block of 512 with these 32 offsets, and gives its index-2 cell. `stored` stands at
-/// `start`.
+/// Places the block of 512 with these 32 offsets, and returns its index-2 cell. `stored` starts at
+/// index position `start`.
 ///
 /// # Errors
 ///
-/// `TooLarge` where it would stand at 0x7fff or above it.
+/// `TooLarge` if the block would be at position 0x7fff or above.
 fn place_offsets(
     stored: &mut Vec<u32>,
     tables: &mut Tables,
@@ -80,12 +81,12 @@ fn place_offsets(
     Ok(start + at)
 }
 
-/// Places block number `number` of 512 and gives its index-2 cell, where `last` is that of the
-/// block before it, if that is placed.
+/// Places block number `number` of 512, and returns its index-2 cell. `last` is the index-2 cell of
+/// the block before it, if that block was placed.
 ///
 /// # Errors
 ///
-/// `TooLarge` where it would stand at 0x7fff or above it.
+/// `TooLarge` if the block would be at position 0x7fff or above.
 fn place_next(
     stored: &mut Vec<u32>,
     tables: &mut Tables,
@@ -104,12 +105,12 @@ fn place_next(
     place_offsets(stored, tables, fast, wanted, start)
 }
 
-/// Places all blocks of 512 in `stored`, which is empty and stands at `start`, and gives their
-/// index-2 cells.
+/// Places all blocks of 512 in `stored`, and returns their index-2 cells. `stored` is empty at
+/// first and starts at index position `start`.
 ///
 /// # Errors
 ///
-/// `TooLarge` at the first block that would stand at 0x7fff or above it.
+/// `TooLarge` at the first block that would be at position 0x7fff or above.
 pub(crate) fn place_index3(
     stored: &mut Vec<u32>,
     fast: &[u32],

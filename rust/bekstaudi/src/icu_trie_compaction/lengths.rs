@@ -1,12 +1,12 @@
-//! Lengths of the blocks of the index, as places count them.
+//! The lengths of index blocks, as `usize`.
 
 use crate::icu_trie_core::impl_const::{INDEX_2_BLOCK_LENGTH, INDEX_3_BLOCK_LENGTH};
 
-/// How many cells an index-2 block has.
+/// The number of cells in an index-2 block.
 pub(crate) const INDEX_2_BLOCK: usize = INDEX_2_BLOCK_LENGTH as usize;
 
-/// How many offsets an index-3 block has.
+/// The number of offsets in an index-3 block.
 pub(crate) const INDEX_3_BLOCK: usize = INDEX_3_BLOCK_LENGTH as usize;
 
-/// How many cells an index-3 block has in the 18-bit form: nine for each eight offsets.
+/// The number of cells in an index-3 block in the 18-bit form: nine for eight offsets.
 pub(crate) const WIDE_INDEX_3_BLOCK: usize = INDEX_3_BLOCK / 8 * 9;

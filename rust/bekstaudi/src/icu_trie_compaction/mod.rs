@@ -1,11 +1,12 @@
-//! The tables of a code point trie are made short: equal blocks are stored once, a block is found
-//! anywhere among the cells so far, and one that stands nowhere is appended, over the longest tail
-//! that equals its front (ICU4C's UMutableCPTrie).
+//! Compacts the tables of a code point trie (ICU4C's `UMutableCPTrie`). Equal blocks are stored
+//! once. A block may be anywhere among the cells stored so far. A block that does not occur among
+//! them is appended, overlapping the longest tail that equals a prefix of the block.
 //!
-//! - `blocks`: blocks found among the cells so far or appended; `window_table` finds a block by its
-//!   hash, which `hashing` computes
-//! - `index`: the index that gives each block of data its offset. `index3` and `index2` place its
-//!   blocks; `packing` has the 18-bit form of an index-3 block, `lengths` the lengths of blocks
+//! - `blocks`: finds a block among the cells stored so far or appends it; `window_table` finds it
+//!   by its hash, which `hashing` computes
+//! - `index`: makes the index, which gives each data block its offset. `index3` and `index2` place
+//!   its blocks; `packing` has the 18-bit form of an index-3 block, and `lengths` the lengths of
+//!   blocks
 //! - `error`: why a trie could not be built
 
 pub mod blocks;

@@ -1,16 +1,17 @@
-//! The 18-bit form of data offsets in an index-3 block: nine cells for each eight offsets.
+//! The 18-bit form of data offsets in an index-3 block: nine cells for eight offsets.
 
 #[allow(unused_imports)]
 use crate::support::prelude::*;
 use crate::support::{AllocError};
 
-/// The two high bits of an offset.
+/// Returns bits 16 and 17 of an offset.
 #[inline]
 fn upper_bits(offsets: &[u32], i: usize) -> u32 {
     offsets[i] / 0x10000
 }
 
-/// The cell with the high bits of the eight offsets from `at` on, the first one's at its top.
+/// Returns the cell with bits 16 and 17 of the eight offsets from `at` on. The first offset's bits
+/// are at the top.
 #[inline]
 fn high_cell(offsets: &[u32], at: usize) -> u32 {
     let front = upper_bits(offsets, at) * 0x4000
@@ -34,7 +35,7 @@ fn push_group(packed: &mut Vec<u32>, offsets: &[u32], group: usize) -> Result<()
     Ok(())
 }
 
-/// The offsets in the 18-bit form.
+/// Returns the offsets in the 18-bit form.
 #[inline]
 pub(crate) fn pack(offsets: &[u32]) -> Result<Vec<u32>, AllocError> {
     let mut packed = Vec::with_room(offsets.len() / 8 * 9)?;

@@ -1,26 +1,26 @@
-//! A table of the windows of some cells: of windows that are equal it has the first one. Windows
-//! are found by their hash, without a comparison with every other one.
+//! A hash table of the windows of some cells. Of equal windows it has the first one. The hash makes
+//! it unnecessary to compare a window with every other one.
 
 #[allow(unused_imports)]
 use crate::support::prelude::*;
 use crate::icu_trie_compaction::hashing::{hash_after, hash_of, leaving_factor_of};
 use crate::support::{AllocError};
 
-/// How many buckets a table has at first.
+/// The number of buckets of a new table.
 const FIRST_BUCKETS: usize = 256;
 
-/// The most buckets that a table takes.
+/// The number of buckets from which on a table does not grow.
 const MOST_BUCKETS: usize = 0x100000;
 
-/// The different windows of some cells, by their hash.
+/// The distinct windows of some cells, by their hash.
 pub struct WindowTable {
-    /// How many cells a window has.
+    /// The number of cells in a window.
     size: usize,
-    /// What a cell that leaves a window is multiplied by.
+    /// The factor for a cell that leaves a window.
     leaving: u32,
-    /// The windows that start before this place are in the table.
+    /// The table has the windows that start before this position.
     entered: usize,
-    /// For each different window, the first place where it stands.
+    /// For each distinct window, the first position at which it occurs.
     starts: Vec<u32>,
     /// For each bucket, the number of its newest window plus one, or 0.
     heads: Vec<u32>,
@@ -29,20 +29,29 @@ pub struct WindowTable {
 }
 
 impl WindowTable {
-    /// The table of no window, for windows of `size` cells.
+    /// Makes an empty table for windows of `size` cells.
+    ///
+    /// # Errors
+    ///
+    /// `AllocError` if the allocation fails.
     #[inline]
     pub(crate) fn new(size: usize) -> Result<WindowTable, AllocError> {
         WindowTable::with_buckets(size, FIRST_BUCKETS)
     }
 
-    /// The table of no window, with room for the windows of `cells` cells.
+    /// Makes an empty table for windows of `size` cells, with enough buckets for the windows of
+    /// `cells` cells.
+    ///
+    /// # Errors
+    ///
+    /// `AllocError` if the allocation fails.
     #[inline]
     pub(crate) fn for_cells(size: usize, cells: usize) -> Result<WindowTable, AllocError> {
         let buckets = cells.max(FIRST_BUCKETS).min(MOST_BUCKETS);
         WindowTable::with_buckets(size, buckets)
     }
 
-    /// The table of no window, with `buckets` buckets.
+    /// Makes an empty table with `buckets` buckets.
     #[inline]
     fn with_buckets(size: usize, buckets: usize) -> Result<WindowTable, AllocError> {
         Ok(WindowTable {
@@ -55,19 +64,20 @@ impl WindowTable {
         })
     }
 
-    /// How many cells a window has.
+    /// Returns the number of cells in a window.
     #[inline]
     pub fn size(&self) -> usize {
         self.size
     }
 
-    /// The bucket of windows with this hash.
+    /// Returns the bucket of windows with this hash.
     #[inline]
     fn bucket_of(&self, hash: u32) -> usize {
         (u64::from(hash) * self.heads.len() as u64 / 0x1_0000_0000) as usize
     }
 
-    /// The first place where `wanted`, whose hash this is, stands in `cells`.
+    /// Returns the first position at which `wanted` occurs in `cells`, or `None` if the table has
+    /// no such window. `hash` is the hash of `wanted`.
     #[inline]
     pub(crate) fn find(&self, cells: &[u32], wanted: &[u32], hash: u32) -> Option<usize> {
         let mut at = self.heads[self.bucket_of(hash)] as usize;
@@ -81,7 +91,7 @@ impl WindowTable {
         None
     }
 
-    /// Enters the next window, whose hash this is, into the table, where no equal one is in it.
+    /// Adds the next window, whose hash this is, unless the table has an equal one.
     fn enter(&mut self, cells: &[u32], hash: u32) -> Result<(), AllocError> {
         let at = self.entered;
         if let Some(_first) = self.find(cells, &cells[at..at + self.size], hash) {
@@ -97,7 +107,11 @@ impl WindowTable {
         Ok(())
     }
 
-    /// Enters all windows of `cells` into the table.
+    /// Adds all windows of `cells`.
+    ///
+    /// # Errors
+    ///
+    /// `AllocError` if an allocation fails.
     pub(crate) fn enter_all(&mut self, cells: &[u32]) -> Result<(), AllocError> {
         let size = self.size;
         let from = self.entered;
@@ -124,19 +138,19 @@ impl WindowTable {
     }
 }
 
-/// Makes this the head of a bucket.
+/// Sets the head of a bucket.
 #[inline]
 fn set_head(heads: &mut Vec<u32>, bucket: usize, head: u32) {
     heads[bucket] = head;
 }
 
-/// A list of `count` zeros.
+/// Returns a list of `count` zeros.
 #[inline]
 fn zeros(count: usize) -> Result<Vec<u32>, AllocError> {
     try_vec![0; count]
 }
 
-/// How many windows of `size` cells `len` cells have.
+/// Returns the number of windows of `size` cells in `len` cells.
 #[inline]
 fn window_count(len: usize, size: usize) -> usize {
     if len < size {

@@ -1,28 +1,30 @@
-//! Index and data of a trie cell by cell, with a count of the reads.
+//! The index and the data of a trie, cell by cell, with a count of the reads.
 
 use crate::support::{Blank, Book, Ledger, Share};
 
-/// Index and data of a trie, wherever they are kept.
+/// The index and the data of a trie, wherever they are stored.
 ///
-/// [`look_up`](crate::icu_trie_core::lookup::look_up) reads a trie through these calls alone, so their count is
-/// the number of cells that it read. The count is a ghost: it takes no bytes and no time ([`Steps`]
-/// keeps it), and has no greatest value.
+/// [`look_up`](crate::icu_trie_core::lookup::look_up) reads a trie only through these methods, so their count is
+/// the number of cells that it read. The count exists only in proofs: it has no upper bound and
+/// costs no bytes and no time. [`Steps`] implements it.
 pub trait Cells<T> {
-    /// How many cells the index has. This is no read.
+    /// Returns the number of cells in the index. Does not count as a read.
     fn index_len(&self) -> usize;
 
-    /// How many cells the data have. This is no read.
+    /// Returns the number of cells in the data. Does not count as a read.
     fn data_len(&self) -> usize;
 
-    /// The cell of the index at place `i`, `None` past its end. One read, also where there is none.
+    /// Returns the index cell at position `i`, or `None` if `i` is past the end. Counts as one read
+    /// in both cases.
     fn index_cell(&mut self, i: usize) -> Option<u16>;
 
-    /// The cell of the data at place `i`, `None` past their end. One read, also where there is
-    /// none.
+    /// Returns the data cell at position `i`, or `None` if `i` is past the end. Counts as one read
+    /// in both cases.
     fn data_cell(&mut self, i: usize) -> Option<T>;
 
-    /// The cell of the index at place `i`, which is there. One read. Cells that know how to read it
-    /// without a test have a body of their own.
+    /// Returns the index cell at position `i`, which must exist. Counts as one read.
+    ///
+    /// An implementation can override this to read without a bounds check.
     ///
     /// # Panics
     /// Where there is no such cell.
@@ -34,7 +36,9 @@ pub trait Cells<T> {
         }
     }
 
-    /// The cell of the data at place `i`, which is there, as `index_at`.
+    /// Returns the data cell at position `i`, which must exist. Counts as one read.
+    ///
+    /// An implementation can override this to read without a bounds check.
     ///
     /// # Panics
     /// Where there is no such cell.
@@ -47,23 +51,24 @@ pub trait Cells<T> {
     }
 }
 
-/// How many steps were taken: a counter that takes no bytes, and that only [`tick`](Steps::tick)
-/// changes.
+/// A counter of steps that exists only in proofs and takes no bytes. Only [`tick`](Steps::tick)
+/// changes it.
 pub struct Steps<L: Ledger> {
     book: Book<L>,
     share: Share<L>,
 }
 
 impl<L: Ledger> Steps<L> {
-    /// No step yet. Whoever counts makes the counter from a blank one, as `Blank::new(1)`, of the
-    /// ledger `L`.
+    /// Creates a counter at zero.
+    ///
+    /// `blank` is the unused counter of the ledger `L`, made by `Blank::new(1)`.
     #[inline(always)]
     pub(crate) fn new(blank: Blank) -> Self {
         let (book, share) = blank.open::<L>();
         Steps { book, share }
     }
 
-    /// One step more.
+    /// Adds one to the count.
     #[inline(always)]
     pub fn tick(&mut self) {
         self.book.add(&mut self.share, 1);

@@ -1,8 +1,8 @@
-//! Whether a trie is coherent.
+//! The check whether a trie is coherent.
 //!
-//! The trie is tested block by block, as the format cuts the code space, and no code point is
-//! looked up. That a data block lies in the data is told by its offset; cells are read where the
-//! header names a block as null, and where the fast index goes on above the high start.
+//! It goes through the trie block by block and looks up no code point. The offset of a data block
+//! alone says whether the block is inside the data. Cells are read only in two cases: the header
+//! names the block as null, or the fast index continues above the high start.
 
 #[allow(unused_imports)]
 use crate::support::prelude::*;
@@ -17,7 +17,7 @@ use crate::icu_trie_core::value::TrieValue;
 use crate::icu_trie_core::walk::is_same;
 use crate::icu_zerovec::CODE_POINT_LIMIT;
 
-/// Whether the cells of data from an offset on, `len` of them, are this value.
+/// Returns true if the `len` data cells from `offset` on all exist and equal `value`.
 #[inline]
 fn are_all<T: TrieValue, C: Cells<T>>(cells: &mut C, offset: u32, len: u32, value: T) -> bool {
     for place in 0..len {
@@ -31,7 +31,7 @@ fn are_all<T: TrieValue, C: Cells<T>>(cells: &mut C, offset: u32, len: u32, valu
     true
 }
 
-/// Whether there is a null value, and the cells of data from an offset on, `len` of them, are it.
+/// Returns true if the null value exists and the `len` data cells from `offset` on all equal it.
 #[inline]
 fn is_null_block<T: TrieValue, C: Cells<T>>(
     header: &CodePointTrieHeader,
@@ -45,9 +45,10 @@ fn is_null_block<T: TrieValue, C: Cells<T>>(
     are_all(cells, offset, len, null)
 }
 
-/// Whether the cells of data from an offset on, `len` of them, are there, and the null value where
-/// the header names the block as null. `null_block` tells whether the block at the null offset is
-/// so.
+/// Returns true if the `len` data cells from `offset` on exist, and equal the null value if the
+/// header names the block as null.
+///
+/// `null_block` says whether the `len` cells at the null data offset equal the null value.
 #[inline]
 fn is_block<T: TrieValue, C: Cells<T>>(
     header: &CodePointTrieHeader,
@@ -62,7 +63,7 @@ fn is_block<T: TrieValue, C: Cells<T>>(
     offset as usize + len as usize <= cells.data_len()
 }
 
-/// Whether the blocks of 64 below the fast limit and the high start are so.
+/// Returns true if each block of 64 below the fast limit and the high start passes `is_block`.
 fn has_fast_blocks<T: TrieValue, C: Cells<T>>(header: &CodePointTrieHeader, cells: &mut C) -> bool {
     let null_block = is_null_block(
         header,
@@ -88,8 +89,9 @@ fn has_fast_blocks<T: TrieValue, C: Cells<T>>(header: &CodePointTrieHeader, cell
     true
 }
 
-/// Whether the blocks of 16 that an index-2 cell names are so. `null_block` tells it of the one at
-/// the null offset.
+/// Returns true if the 32 blocks of 16 that an index-2 cell names all pass `is_block`.
+///
+/// `null_block` says whether the 16 cells at the null data offset equal the null value.
 fn names_blocks<T: TrieValue, C: Cells<T>>(
     header: &CodePointTrieHeader,
     cells: &mut C,
@@ -107,7 +109,8 @@ fn names_blocks<T: TrieValue, C: Cells<T>>(
     true
 }
 
-/// Whether the blocks of 16 that the null index-2 cell names are null.
+/// Returns true if the 32 blocks of 16 that the null index-2 cell names have the null value
+/// throughout.
 #[inline]
 fn is_null_cell<T: TrieValue, C: Cells<T>>(header: &CodePointTrieHeader, cells: &mut C) -> bool {
     for place in 0..INDEX_3_BLOCK_LENGTH {
@@ -121,9 +124,11 @@ fn is_null_cell<T: TrieValue, C: Cells<T>>(header: &CodePointTrieHeader, cells: 
     true
 }
 
-/// Whether the blocks that an index-2 cell names are so, and null where it is the null one.
-/// `null_block` and `null_cell` tell whether the block at the null offset, and those of the null
-/// cell, are null.
+/// Returns true if the blocks that an index-2 cell names are inside the data, and null if the
+/// header names them as null.
+///
+/// `null_block` says whether the block at the null data offset is null, and `null_cell` whether the
+/// blocks of the null index-2 cell are.
 #[inline]
 fn is_cell<T: TrieValue, C: Cells<T>>(
     header: &CodePointTrieHeader,
@@ -139,7 +144,7 @@ fn is_cell<T: TrieValue, C: Cells<T>>(
     names_blocks(header, cells, cell, null_block)
 }
 
-/// Whether the blocks of 512 from the fast limit on and below the high start are so.
+/// Returns true if each block of 512 from the fast limit up to the high start passes `is_cell`.
 fn has_small_blocks<T: TrieValue, C: Cells<T>>(header: &CodePointTrieHeader, cells: &mut C) -> bool {
     let null_block = is_null_block(
         header,
@@ -164,7 +169,7 @@ fn has_small_blocks<T: TrieValue, C: Cells<T>>(header: &CodePointTrieHeader, cel
     true
 }
 
-/// Whether the blocks of 64 below the fast limit from the high start on have the high value
+/// Returns true if each block of 64 from the high start up to the fast limit has the high value
 /// throughout.
 fn has_high_blocks<T: TrieValue, C: Cells<T>>(
     header: &CodePointTrieHeader,
@@ -186,7 +191,7 @@ fn has_high_blocks<T: TrieValue, C: Cells<T>>(
     true
 }
 
-/// Whether there is a high value where one is needed, and the fast index agrees with it.
+/// Returns true if the high value exists when it is needed, and the fast index agrees with it.
 #[inline]
 fn has_high_value<T: TrieValue, C: Cells<T>>(header: &CodePointTrieHeader, cells: &mut C) -> bool {
     if header.high_start == CODE_POINT_LIMIT {
@@ -201,7 +206,7 @@ fn has_high_value<T: TrieValue, C: Cells<T>>(header: &CodePointTrieHeader, cells
     has_high_blocks(header, cells, high)
 }
 
-/// Whether the blocks of a trie are as coherence says.
+/// Returns true if all blocks of a trie satisfy coherence.
 #[inline]
 fn has_coherent_blocks<T: TrieValue, C: Cells<T>>(
     header: &CodePointTrieHeader,
@@ -216,12 +221,16 @@ fn has_coherent_blocks<T: TrieValue, C: Cells<T>>(
     has_small_blocks(header, cells)
 }
 
-/// Whether a trie is coherent (UCPTrie): whether what its header says of the high value and of null
-/// blocks is so, and no read for a code point below the high start falls outside index or data.
+/// Returns true if a trie is coherent, that is, if ranges may trust its header. The format is ICU's
+/// `UCPTrie`.
 ///
-/// A walk over a coherent trie gives the longest runs of what look-ups answer. No code point is
-/// looked up: each aligned block takes a few reads, and one that is named as the block before it
-/// none.
+/// In a coherent trie, what the header says about the high value and about null blocks is true. No
+/// look-up of a code point below the high start reads outside the index or the data. A walk over a
+/// coherent trie returns the maximal runs of look-up results.
+///
+/// The check reads at most 212,000 cells. It looks up no code point: each aligned block takes a few
+/// reads. From the fast limit on, a block that is named by the same cell as the one before it is
+/// not checked again.
 #[inline]
 pub fn is_coherent<T: TrieValue, C: Cells<T>>(header: &CodePointTrieHeader, cells: &mut C) -> bool {
     if header.high_start % CP_PER_INDEX_2_ENTRY != 0 || header.high_start > CODE_POINT_LIMIT {

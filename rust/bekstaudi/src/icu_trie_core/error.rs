@@ -1,20 +1,20 @@
-//! Why the parts of a trie are refused.
+//! Why the parts of a trie are rejected.
 
-/// Why parts make no trie.
+/// The reasons why parts do not form a trie.
 #[derive(Clone, Copy, Debug, PartialEq)]
 pub enum CodePointTrieError {
-    /// A trie could not be made from what a file held.
+    /// The contents of a file do not form a trie.
     FromDeserialized {
-        /// What was wrong with it.
+        /// What is wrong with the contents.
         reason: &'static str,
     },
-    /// The data have no cell, so there is no error value.
+    /// The data are empty, so there is no error value.
     EmptyDataVector,
-    /// The index has fewer cells than blocks of 64 lie below the fast limit.
+    /// The index has fewer cells than there are blocks of 64 below the fast limit.
     IndexTooShortForFastAccess,
-    /// A block of 64 that the fast index names ends outside the data.
+    /// The fast index names a block of 64 that ends outside the data.
     DataTooShortForFastAccess,
-    /// The header's null value is the number of no value.
+    /// The null value in the header is not the number of any value of the type.
     InvalidNullValue,
 }
 

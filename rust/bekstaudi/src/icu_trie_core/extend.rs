@@ -1,7 +1,9 @@
-//! How far one value goes, by blocks: what a walk does past the cell that its look-up found.
+//! How far a value extends, block by block: the part of a walk after its look-up.
 //!
-//! Each block is read once. One that is named as null, and one whose cells have just been seen, is
-//! gone over without a read.
+//! Each block is read at most once. A block that is named as null, or that was read just before, is
+//! skipped without a read. The functions return `None` if the value extends to a position at which
+//! a walk sees nothing: a missing cell, or a block that is named as null if the null value does not
+//! exist.
 
 #[allow(unused_imports)]
 use crate::support::prelude::*;
@@ -15,10 +17,8 @@ use crate::icu_trie_core::value::TrieValue;
 use crate::icu_trie_core::walk::is_same;
 use crate::icu_zerovec::CODE_POINT_LIMIT;
 
-/// Reads the cells of a data block from place `from` on, and answers the first place with another
-/// value, or `len`. `None` where a cell is missing before that.
-///
-/// One test tells how many of the cells are there.
+/// Returns the first position in `from..len` of a data block with another value, or `len` if there
+/// is none. Returns `None` if a missing cell comes first.
 #[inline(always)]
 fn extend_by_cells<T: TrieValue, C: Cells<T>>(
     cells: &mut C,
@@ -39,8 +39,10 @@ fn extend_by_cells<T: TrieValue, C: Cells<T>>(
     if there < len { None } else { Some(len) }
 }
 
-/// The first place of a data block, `from` or a later one, with another value, or `len`. A block
-/// that is remembered to hold the value, and one that is named as null, is not read.
+/// Returns the first position in `from..len` of a data block with another value, or `len` if there
+/// is none.
+///
+/// It does not read a block that is named as null or that is remembered to hold the value.
 #[inline(always)]
 fn extend_in_block<T: TrieValue, C: Cells<T>>(
     header: &CodePointTrieHeader,
@@ -61,10 +63,11 @@ fn extend_in_block<T: TrieValue, C: Cells<T>>(
     extend_by_cells(cells, offset, len, from, value)
 }
 
-/// Goes through the blocks of 64 below the limit. Answers the first code point from `start` on with
-/// another value, or the limit.
+/// Returns the first code point in `start..limit` with another value, or `limit` if there is none.
+/// It goes through the blocks of 64.
 ///
-/// It stays a call, as `extend_index3` does, so that its loop has all that it needs in registers.
+/// This function and `extend_index3` are not inlined, so that their loops keep all they need in
+/// registers.
 #[inline(never)]
 fn extend_fast<T: TrieValue, C: Cells<T>>(
     header: &CodePointTrieHeader,
@@ -87,8 +90,8 @@ fn extend_fast<T: TrieValue, C: Cells<T>>(
     Some(limit)
 }
 
-/// Goes through the blocks of 16 of an index-3 block. Answers the first place from `from` on with
-/// another value, or `len`.
+/// Returns the first position in `from..len` of an index-3 block with another value, or `len` if
+/// there is none. It goes through the blocks of 16.
 #[inline(never)]
 fn extend_index3<T: TrieValue, C: Cells<T>>(
     header: &CodePointTrieHeader,
@@ -112,8 +115,10 @@ fn extend_index3<T: TrieValue, C: Cells<T>>(
     Some(len)
 }
 
-/// The first place of a block of 512 with another value, or `len`. A block that is remembered to
-/// hold the value, and one that is named as null, is not read.
+/// Returns the first position in `0..len` of a block of 512 with another value, or `len` if there
+/// is none.
+///
+/// It does not read a block that is named as null or that is remembered to hold the value.
 fn extend_in_cell<T: TrieValue, C: Cells<T>>(
     header: &CodePointTrieHeader,
     cells: &mut C,
@@ -132,8 +137,8 @@ fn extend_in_cell<T: TrieValue, C: Cells<T>>(
     extend_index3(header, cells, cell, len, 0, value)
 }
 
-/// Goes through the blocks of 512 from the fast limit on, up to the limit. Answers the first code
-/// point from `start` on with another value, or the limit.
+/// Returns the first code point in `start..limit` with another value, or `limit` if there is none.
+/// It goes through the blocks of 512 from the fast limit on.
 fn extend_small<T: TrieValue, C: Cells<T>>(
     header: &CodePointTrieHeader,
     cells: &mut C,
@@ -155,8 +160,9 @@ fn extend_small<T: TrieValue, C: Cells<T>>(
     Some(limit)
 }
 
-/// The first code point from `start` on with another value, or the limit. `start` is the limit, or
-/// a block begins there.
+/// Returns the first code point in `start..limit` with another value, or `limit` if there is none.
+///
+/// `start` is `limit` or the start of a block.
 fn extend<T: TrieValue, C: Cells<T>>(
     header: &CodePointTrieHeader,
     cells: &mut C,
@@ -179,7 +185,7 @@ fn extend<T: TrieValue, C: Cells<T>>(
     extend_small(header, cells, limit, fast_limit, value)
 }
 
-/// Whether the high value is this one. `None` where the data have no high value.
+/// Returns whether the high value equals `value`, or `None` if the data have no high value.
 #[inline]
 fn high_is<T: TrieValue, C: Cells<T>>(cells: &mut C, value: T) -> Option<bool> {
     let place = high_cell_of(cells.data_len())?;
@@ -187,11 +193,10 @@ fn high_is<T: TrieValue, C: Cells<T>>(cells: &mut C, value: T) -> Option<bool> {
     Some(is_same(high, value))
 }
 
-/// The first code point from `start` on with another value, or the end of the code points, where
-/// `limit` is the high start or the end of the code points. `start` is the limit, or a block begins
-/// there.
+/// Returns the first code point from `start` on with another value, or 0x110000 if there is none.
 ///
-/// It stays a call: most ranges end in the block where they begin.
+/// `limit` is the high start, or 0x110000 if that is less. `start` is `limit` or the start of a
+/// block. This function is not inlined, since most ranges end in the block in which they start.
 #[inline(never)]
 fn extend_to_end<T: TrieValue, C: Cells<T>>(
     header: &CodePointTrieHeader,
@@ -211,8 +216,9 @@ fn extend_to_end<T: TrieValue, C: Cells<T>>(
     })
 }
 
-/// The first code point from `c` on with another value, or the end of the code points, where the
-/// block of 64 that holds `c` stands in the data from `offset` on.
+/// Returns the first code point from `c` on with another value, or 0x110000 if there is none.
+///
+/// `offset` is the data offset of the block of 64 that contains `c`.
 #[inline(always)]
 pub(crate) fn extend_from_fast<T: TrieValue, C: Cells<T>>(
     header: &CodePointTrieHeader,
@@ -231,8 +237,10 @@ pub(crate) fn extend_from_fast<T: TrieValue, C: Cells<T>>(
     extend_to_end(header, cells, limit, base + len, value)
 }
 
-/// The first place of a block of 512, `from` or a later one, with another value, or `len`, where
-/// the block of 16 that holds place `from` stands in the data from `offset` on.
+/// Returns the first position in `from..len` of a block of 512 with another value, or `len` if
+/// there is none.
+///
+/// `offset` is the data offset of the block of 16 that contains position `from`.
 #[inline(always)]
 fn extend_from_block<T: TrieValue, C: Cells<T>>(
     header: &CodePointTrieHeader,
@@ -257,9 +265,10 @@ fn extend_from_block<T: TrieValue, C: Cells<T>>(
     Some(if is_same(null, value) { len } else { from })
 }
 
-/// The first code point from `c` on with another value, or the end of the code points, where the
-/// block of 512 that holds `c` has the index-2 cell, and its block of 16 stands in the data from
-/// `offset` on.
+/// Returns the first code point from `c` on with another value, or 0x110000 if there is none.
+///
+/// `cell` is the index-2 cell of the block of 512 that contains `c`, and `offset` is the data
+/// offset of the block of 16 that does.
 #[inline(always)]
 pub(crate) fn extend_from_small<T: TrieValue, C: Cells<T>>(
     header: &CodePointTrieHeader,

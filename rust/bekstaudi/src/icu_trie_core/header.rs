@@ -7,17 +7,18 @@ use crate::icu_trie_core::impl_const::{
     BMP_INDEX_LENGTH, FAST_TYPE_FAST_INDEXING_MAX, SMALL_INDEX_LENGTH, SMALL_LIMIT,
 };
 
-/// Which part of the code space the fast index covers.
+/// The part of the code space that the fast index covers.
 #[derive(Clone, Copy, Debug, PartialEq, Eq)]
 pub enum TrieType {
-    /// All of the BMP: look-ups below 0x10000 take two reads. The tables are larger.
+    /// The whole BMP: a look-up below 0x10000 takes two reads. The tables are larger.
     Fast = 0,
-    /// Code points below 0x1000 alone, for small tables.
+    /// Only the code points below 0x1000, for small tables.
     Small = 1,
 }
 
 impl TrieType {
-    /// The fast limit: the first code point that the fast index doesn't cover, 0x10000 or 0x1000.
+    /// Returns the fast limit: the first code point that the fast index does not cover, 0x10000 or
+    /// 0x1000.
     #[inline(always)]
     pub fn fast_limit(self) -> u32 {
         match self {
@@ -26,8 +27,8 @@ impl TrieType {
         }
     }
 
-    /// How many cells the fast index has, 1,024 or 64: one for each block of 64 below the fast
-    /// limit.
+    /// Returns the number of cells in the fast index, one for each block of 64 below the fast
+    /// limit: 1,024 or 64.
     #[inline(always)]
     pub fn fast_index_len(self) -> usize {
         match self {
@@ -37,8 +38,8 @@ impl TrieType {
     }
 }
 
-/// The type of a number in a file: 0 is `Fast` and 1 `Small`. Any other number is refused by
-/// `FromDeserialized`.
+/// Converts the number of a trie type in a file: 0 is `Fast` and 1 is `Small`. Any other number is
+/// a `FromDeserialized` error.
 impl TryFrom<u8> for TrieType {
     type Error = CodePointTrieError;
 
@@ -54,22 +55,22 @@ impl TryFrom<u8> for TrieType {
     }
 }
 
-/// What a trie says of itself beside its index and its data (UCPTrie's header).
+/// The header of a trie: what it stores besides its index and its data (ICU: `UCPTrie`).
 #[derive(Clone, Copy, Debug, PartialEq, Eq)]
 pub struct CodePointTrieHeader {
-    /// The code point from which on all code points have the high value. In a built trie a multiple
-    /// of 512.
+    /// All code points from this one on have the high value. In a built trie it is a multiple of
+    /// 512.
     pub high_start: u32,
-    /// `high_start` shifted right by 12, rounded up. It is kept and not read.
+    /// `high_start` shifted right by 12 bits, rounded up. It is stored but never read.
     pub shifted12_high_start: u16,
-    /// The index-2 cell of a block of 512 that has the null value throughout, or 0x7fff where there
-    /// is none.
+    /// The index-2 cell of a block of 512 code points that all have the null value, or 0x7fff if
+    /// there is none.
     pub index3_null_offset: u16,
-    /// The data offset of a block that has the null value throughout, or 0xfffff where there is
-    /// none.
+    /// The data offset of a block of code points that all have the null value, or 0xfffff if there
+    /// is none.
     pub data_null_offset: u32,
-    /// The number of the null value, which mostly is the most common value.
+    /// The number of the null value, which is usually the most common value.
     pub null_value: u32,
-    /// Which part of the code space the fast index covers.
+    /// The part of the code space that the fast index covers.
     pub trie_type: TrieType,
 }

@@ -1,4 +1,4 @@
-//! Look-up by the format of the trie.
+//! Look-ups in a trie.
 
 use crate::icu_trie_core::cells::Cells;
 use crate::icu_trie_core::header::{CodePointTrieHeader, TrieType};
@@ -9,7 +9,7 @@ use crate::icu_trie_core::impl_const::{
 };
 use crate::icu_zerovec::CODE_POINT_LIMIT;
 
-/// The index-2 cell of a code point, in two reads.
+/// Returns the index-2 cell of a code point, in at most two reads.
 #[inline]
 pub(crate) fn index2_cell_of<T, C: Cells<T>>(
     trie_type: TrieType,
@@ -24,15 +24,15 @@ pub(crate) fn index2_cell_of<T, C: Cells<T>>(
     cells.index_cell(block as usize + ((c >> SHIFT_2) & INDEX_2_MASK) as usize)
 }
 
-/// An offset of 18 bits, from the cell that has the two high bits of eight offsets and from its own
-/// cell.
+/// Returns the 18-bit offset number `place` of a group of eight. `high` is the cell with bits 16
+/// and 17 of all eight offsets, and `low` is the offset's own cell.
 #[inline]
 fn long_offset_of(high: u16, low: u16, place: u32) -> u32 {
     (((high as u32) << (2 + 2 * place)) & 0x30000) | low as u32
 }
 
-/// One of the 32 data offsets of the index-3 block that an index-2 cell names, in two reads at
-/// most.
+/// Returns data offset number `place`, one of 32, of the index-3 block that an index-2 cell names.
+/// Takes at most two reads.
 #[inline]
 pub(crate) fn offset_of<T, C: Cells<T>>(cells: &mut C, index2_cell: u16, place: u32) -> Option<u32> {
     if index2_cell & 0x8000 == 0 {
@@ -46,8 +46,10 @@ pub(crate) fn offset_of<T, C: Cells<T>>(cells: &mut C, index2_cell: u16, place: 
     Some(long_offset_of(high, low, place_in_group))
 }
 
-/// The place in the data of a code point from the fast limit on and below the high start, by the
-/// three stages of the index. Public for the crates above.
+/// Returns the data position of a code point from the fast limit on and below the high start,
+/// through the three stages of the index. Returns `None` if a cell of the index is missing.
+///
+/// Takes at most four reads. Public for the crates that build on this one.
 #[inline]
 pub fn small_place_of<T, C: Cells<T>>(trie_type: TrieType, cells: &mut C, c: u32) -> Option<usize> {
     let index2_cell = index2_cell_of(trie_type, cells, c)?;
@@ -55,15 +57,18 @@ pub fn small_place_of<T, C: Cells<T>>(trie_type: TrieType, cells: &mut C, c: u32
     Some(offset as usize + (c & SMALL_DATA_MASK) as usize)
 }
 
-/// The place of the high value in data of this length. `None` where they are too short for one.
+/// Returns the position of the high value in data of length `len`, or `None` if `len` is less than
+/// 2.
 #[inline(always)]
 pub(crate) fn high_cell_of(len: usize) -> Option<usize> {
     len.checked_sub(HIGH_VALUE_NEG_DATA_OFFSET as usize)
 }
 
-/// The place in the data of the cell of `c`, any number of 32 bits, whether or not the data reach
-/// so far. `None` above 0x10FFFF, where a cell of the index is missing, and where there is no high
-/// value. Public for the crates above.
+/// Returns the data position of the cell of `c`, which can be any 32-bit number. The position may
+/// be outside the data.
+///
+/// Returns `None` if `c` is above 0x10FFFF, if a cell of the index is missing, or if the high value
+/// is missing. Takes at most four reads. Public for the crates that build on this one.
 #[inline]
 pub fn cell_of<T, C: Cells<T>>(header: &CodePointTrieHeader, cells: &mut C, c: u32) -> Option<usize> {
     if c < header.trie_type.fast_limit() {
@@ -79,9 +84,10 @@ pub fn cell_of<T, C: Cells<T>>(header: &CodePointTrieHeader, cells: &mut C, c: u
     small_place_of(header.trie_type, cells, c)
 }
 
-/// The cell of `c`, any number of 32 bits, by the format of the trie (UCPTrie), in at most five
-/// reads. `None` stands for the error value: above 0x10FFFF, and where a cell of index or data is
-/// missing.
+/// Returns the cell of `c`, or `None` for the error value.
+///
+/// `c` can be any 32-bit number. The result is `None` if `c` is above 0x10FFFF, or if a cell of the
+/// index or the data is missing. Takes at most five reads. The format is ICU's `UCPTrie`.
 #[inline(always)]
 pub fn look_up<T, C: Cells<T>>(header: &CodePointTrieHeader, cells: &mut C, c: u32) -> Option<T> {
     if c < header.trie_type.fast_limit() {
@@ -91,33 +97,41 @@ pub fn look_up<T, C: Cells<T>>(header: &CodePointTrieHeader, cells: &mut C, c: u
     look_up_far(header, cells, c)
 }
 
-/// `look_up` below the fast limit, where the fast index is whole: all of the index's cells for
-/// blocks of 64 are there, and each block that one of them names lies inside the data. So no place
-/// is tested, and there is an answer. Public for the crates above.
+/// Returns the cell of `c`, in two reads. `c` must be below the fast limit, and the fast index must
+/// be whole.
 ///
-/// The parts of every trie that was tested when it was made are so.
+/// The fast index is whole if it has a cell for each block of 64 below the fast limit, and all
+/// these blocks are inside the data. Then no bounds check is needed, and there always is a cell.
+/// Every trie whose parts were checked when it was made has a whole fast index.
+///
+/// Public for the crates that build on this one.
 #[inline(always)]
 pub(crate) fn look_up_fast<T, C: Cells<T>>(header: &CodePointTrieHeader, cells: &mut C, c: u32) -> T {
     let offset = cells.index_at((c >> FAST_TYPE_SHIFT) as usize);
     cells.data_at(offset as usize + (c & FAST_TYPE_DATA_MASK) as usize)
 }
 
-/// The high value of data that have one.
+/// Returns the high value, which must exist.
 #[inline(always)]
 fn high_value_of<T, C: Cells<T>>(cells: &mut C) -> T {
     let place = cells.data_len() - HIGH_VALUE_NEG_DATA_OFFSET as usize;
     cells.data_at(place)
 }
 
-/// `look_up` from the high start on, where the fast index is whole: the high value is there then.
-/// Public for the crates above.
+/// Returns the high value, which is the cell of `c`, in one read. `c` must be at or above the fast
+/// limit and the high start, and at most 0x10FFFF.
+///
+/// The fast index must be whole, which implies that the data have a high value. Public for the
+/// crates that build on this one.
 #[inline(always)]
 pub(crate) fn look_up_high<T, C: Cells<T>>(header: &CodePointTrieHeader, cells: &mut C, c: u32) -> T {
     high_value_of(cells)
 }
 
-/// `look_up` from the fast limit on. Each case reads its own cell of the data, since one read for
-/// all of them would cost each a test and a jump more.
+/// Returns what [`look_up`] returns for `c`, which is at or above the fast limit.
+///
+/// Each case reads its own data cell, since one shared read at the end would cost each case an
+/// extra test and jump.
 #[inline(always)]
 pub(crate) fn look_up_far<T, C: Cells<T>>(header: &CodePointTrieHeader, cells: &mut C, c: u32) -> Option<T> {
     if c > CODE_POINT_MAX {
@@ -130,8 +144,9 @@ pub(crate) fn look_up_far<T, C: Cells<T>>(header: &CodePointTrieHeader, cells: &
     look_up_small(header, cells, c)
 }
 
-/// `look_up` of the code points that are left: from the fast limit on and below the high start, by
-/// the three stages of the index. Public for the crates above.
+/// Returns what [`look_up`] returns for `c`, which is at or above the fast limit and below the high
+/// start. Reads through the three stages of the index. Public for the crates that build on this
+/// one.
 #[inline(always)]
 pub(crate) fn look_up_small<T, C: Cells<T>>(
     header: &CodePointTrieHeader,
@@ -142,9 +157,11 @@ pub(crate) fn look_up_small<T, C: Cells<T>>(
     cells.data_cell(place)
 }
 
-/// `look_up` where the fast index is whole: all of its cells are there, and each block of 64 that
-/// one of them names lies inside the data. The fast path tests no place then, and always has a
-/// cell.
+/// Returns what [`look_up`] returns for `c`. The fast index must be whole, so that the fast path
+/// needs no bounds checks.
+///
+/// The fast index is whole if it has a cell for each block of 64 below the fast limit, and all
+/// these blocks are inside the data.
 #[inline(always)]
 pub(crate) fn look_up_whole<T, C: Cells<T>>(
     header: &CodePointTrieHeader,

@@ -1,17 +1,18 @@
-//! The format of ICU's code point tries, as code over any index and data.
+//! The format of ICU's code point tries, for an index and data that are stored in any way.
 //!
-//! - `header`: the trie's type and what it says of itself
-//! - `value`: what a trie can hold, [`TrieValue`](value::TrieValue)
-//! - `cells`: index and data cell by cell, with the count of reads
-//! - `lookup`: [`look_up`](lookup::look_up), the format as code, and
-//!   [`look_up_whole`](lookup::look_up_whole), which tests no place on the fast path
-//! - `walk`: [`walk`](walk::walk), the range of one value from a code point on, by blocks
-//! - `extend`: how far one value goes, by blocks
-//! - `coherent`: [`is_coherent`](coherent::is_coherent), whether what the header says is so
-//! - `range`: [`CodePointMapRange`](range::CodePointMapRange), what a walk gives
-//! - `error`, `impl_const`: why parts are refused; the format's numbers
+//! - `header`: the header of a trie and its type
+//! - `value`: the values that a trie can store, [`TrieValue`](value::TrieValue)
+//! - `cells`: access to index and data cell by cell, with a count of the reads
+//! - `lookup`: [`look_up`](lookup::look_up), and [`look_up_whole`](lookup::look_up_whole), which
+//!   needs no bounds checks on the fast path
+//! - `walk`: [`walk`](walk::walk), the range of equal values from a code point on, block by block
+//! - `extend`: how far a value extends, block by block
+//! - `coherent`: [`is_coherent`](coherent::is_coherent), which checks what the header says
+//! - `range`: [`CodePointMapRange`](range::CodePointMapRange), the range that a walk returns
+//! - `error`, `impl_const`: why parts are rejected; the constants of the format
 //!
-//! Where the cells are kept is left open: the crate `icu_trie` has the trie over packed vectors.
+//! This crate leaves open how the cells are stored. The crate `icu_trie` has the trie over packed
+//! vectors.
 
 pub mod cells;
 pub mod coherent;

@@ -1,11 +1,12 @@
-//! A range of code points that have one value.
+//! A range of code points that have the same value.
 use core::ops::RangeInclusive;
 
-/// Code points, both ends included, and the value that a trie has at each of them.
+/// A range of code points and the value that each of them has in a trie.
 #[derive(Clone, Debug, PartialEq, Eq)]
 pub struct CodePointMapRange<T> {
-    /// The code points, as `0x41..=0x5A`. A range that a trie gives is never empty.
+    /// The code points, both bounds inclusive, such as `0x41..=0x5A`. Ranges that a trie returns
+    /// are never empty.
     pub range: RangeInclusive<u32>,
-    /// Their value.
+    /// The value of these code points.
     pub value: T,
 }

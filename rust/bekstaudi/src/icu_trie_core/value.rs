@@ -4,22 +4,26 @@
 use crate::support::prelude::*;
 use crate::icu_zerovec::ule::AsULE;
 
-/// A value that a trie can hold: a packed value with a number of 32 bits.
+/// A value that a trie can store: a packed value that has a 32-bit number.
 ///
-/// A type of your own is lawful where the number of each value gives the value back, and where
-/// values are equal exactly if their numbers are.
+/// A user-defined type must satisfy two laws: [`try_from_u32`](Self::try_from_u32) gives each value
+/// back from its number, and two values are equal exactly if their numbers are.
 pub trait TrieValue: AsULE + Eq {
-    /// What a number that is no value's is refused with.
+    /// The error for a number that no value has.
     type TryFromU32Error;
 
-    /// The number of the value.
+    /// Returns the number of the value.
     fn to_u32(self) -> u32;
 
-    /// The value of this number, an error where it is no value's.
+    /// Returns the value with the number `i`.
+    ///
+    /// # Errors
+    /// Returns `TryFromU32Error` if no value has this number.
     fn try_from_u32(i: u32) -> Result<Self, Self::TryFromU32Error>;
 }
 
-/// The number is no value's.
+/// The error of [`TrieValue::try_from_u32`] for the integer types and `char`: no value of the type
+/// has this number.
 #[derive(Clone, Copy, Debug, PartialEq, Eq)]
 pub struct NotAValue;
 

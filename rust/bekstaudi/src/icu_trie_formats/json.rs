@@ -1,4 +1,4 @@
-//! A trie from and to JSON: an object with a header, an index and data.
+//! Reads and writes a trie as JSON: an object with a header, an index and data.
 
 #[allow(unused_imports)]
 use crate::support::prelude::*;
@@ -9,19 +9,19 @@ use crate::icu_trie::value::TrieValue;
 use crate::icu_zerovec::{MemoryError, ZeroSlice};
 use serde_json::{Value, json};
 
-/// Why a JSON value is no trie.
+/// Why a JSON value is not a trie.
 #[derive(Clone, Copy, Debug, PartialEq)]
 pub enum TrieJsonError {
-    /// Nothing stands at this key, or something else where an object, an array or the name of a
-    /// trie type was to stand. The key is empty where the value itself is no object.
+    /// The member at this key is missing, or is not the required object, array or name of a trie
+    /// type. The key is empty if the value itself is not an object.
     Shape(&'static str),
-    /// What stands at this key, or an item of the array there, is no whole number in its range.
+    /// The member at this key, or an item of its array, is not a whole number in its range.
     Number(&'static str),
-    /// This cell of the data, counted from 0, is the first that is the number of no value.
+    /// The data cell at this index, counted from 0, is the first that is not the number of a value.
     Value(usize),
-    /// The parts make no trie.
+    /// The parts do not form a trie.
     Trie(CodePointTrieError),
-    /// Memory was refused.
+    /// An allocation failed.
     Memory,
 }
 
@@ -39,13 +39,13 @@ impl From<MemoryError> for TrieJsonError {
     }
 }
 
-/// The number that a value is, where it is a whole number of 32 bits.
+/// Returns the number of a JSON value if it is a whole number that fits in 32 bits.
 #[inline]
 fn number_of(value: &Value) -> Option<u32> {
     u32::try_from(value.as_u64()?).ok()
 }
 
-/// What stands at a key.
+/// Returns the member at a key.
 #[inline]
 fn member_at<'a>(value: &'a Value, key: &'static str) -> Result<&'a Value, TrieJsonError> {
     match value.get(key) {
@@ -54,7 +54,7 @@ fn member_at<'a>(value: &'a Value, key: &'static str) -> Result<&'a Value, TrieJ
     }
 }
 
-/// The number at a key, of the range of its type.
+/// Returns the number at a key if it is in the range of its type.
 #[inline]
 fn number_at<N: TrieValue>(value: &Value, key: &'static str) -> Result<N, TrieJsonError> {
     let member = member_at(value, key)?;
@@ -67,7 +67,7 @@ fn number_at<N: TrieValue>(value: &Value, key: &'static str) -> Result<N, TrieJs
     Ok(number)
 }
 
-/// The type of a trie, at its key.
+/// Returns the trie type at its key.
 #[inline]
 fn type_at(value: &Value) -> Result<TrieType, TrieJsonError> {
     let Some(name) = member_at(value, "trie_type")?.as_str() else {
@@ -80,7 +80,7 @@ fn type_at(value: &Value) -> Result<TrieType, TrieJsonError> {
     }
 }
 
-/// The header that an object says.
+/// Returns the header that an object encodes.
 #[inline]
 fn header_of(value: &Value) -> Result<CodePointTrieHeader, TrieJsonError> {
     Ok(CodePointTrieHeader {
@@ -93,7 +93,7 @@ fn header_of(value: &Value) -> Result<CodePointTrieHeader, TrieJsonError> {
     })
 }
 
-/// The header at its key.
+/// Returns the header at its key.
 #[inline]
 fn header_at(value: &Value) -> Result<CodePointTrieHeader, TrieJsonError> {
     let header = member_at(value, "header")?;
@@ -104,7 +104,7 @@ fn header_at(value: &Value) -> Result<CodePointTrieHeader, TrieJsonError> {
     Ok(header)
 }
 
-/// The items of an array.
+/// Returns the items of an array.
 #[inline]
 fn items_of(value: &Value) -> Option<&[Value]> {
     match value.as_array() {
@@ -113,7 +113,7 @@ fn items_of(value: &Value) -> Option<&[Value]> {
     }
 }
 
-/// The items of the array at a key.
+/// Returns the items of the array at a key.
 #[inline]
 fn items_at<'a>(value: &'a Value, key: &'static str) -> Result<&'a [Value], TrieJsonError> {
     let Some(items) = items_of(member_at(value, key)?) else {
@@ -122,7 +122,7 @@ fn items_at<'a>(value: &'a Value, key: &'static str) -> Result<&'a [Value], Trie
     Ok(items)
 }
 
-/// The cells of an index.
+/// Returns the cells of an index.
 fn cells_of(items: &[Value]) -> Result<Vec<u16>, TrieJsonError> {
     let Ok(mut cells) = Vec::with_room(items.len()) else {
         return Err(TrieJsonError::Memory);
@@ -141,7 +141,7 @@ fn cells_of(items: &[Value]) -> Result<Vec<u16>, TrieJsonError> {
     Ok(cells)
 }
 
-/// The values of the data.
+/// Returns the values of the data.
 fn values_of<T: TrieValue>(items: &[Value]) -> Result<Vec<T>, TrieJsonError> {
     let Ok(mut values) = Vec::with_room(items.len()) else {
         return Err(TrieJsonError::Memory);
@@ -160,7 +160,7 @@ fn values_of<T: TrieValue>(items: &[Value]) -> Result<Vec<T>, TrieJsonError> {
     Ok(values)
 }
 
-/// The trie of these parts, which owns its cells.
+/// Returns the trie of these parts. It owns its cells.
 #[inline]
 fn trie_with<T: TrieValue>(
     header: CodePointTrieHeader,
@@ -174,7 +174,7 @@ fn trie_with<T: TrieValue>(
     }
 }
 
-/// The numbers of these values as JSON.
+/// Returns the numbers of these values as JSON.
 #[inline]
 fn numbers_json<T: TrieValue>(values: ZeroSlice<'_, T>) -> Result<Value, MemoryError> {
     let mut items = Vec::with_room(values.len())?;
@@ -185,7 +185,7 @@ fn numbers_json<T: TrieValue>(values: ZeroSlice<'_, T>) -> Result<Value, MemoryE
     Ok(Value::Array(items))
 }
 
-/// The name of a type.
+/// Returns the name of a trie type.
 #[inline]
 fn type_name(trie_type: TrieType) -> &'static str {
     match trie_type {
@@ -194,7 +194,7 @@ fn type_name(trie_type: TrieType) -> &'static str {
     }
 }
 
-/// A header as JSON.
+/// Returns a header as JSON.
 #[inline]
 fn header_json(header: CodePointTrieHeader) -> Result<Value, MemoryError> {
     let value = crate::support::try_json!({
@@ -208,18 +208,18 @@ fn header_json(header: CodePointTrieHeader) -> Result<Value, MemoryError> {
     Ok(value)
 }
 
-/// The object of a header, an index and data.
+/// Returns the object of a header, an index and data.
 #[inline]
 fn object_of(header: Value, index: Value, data: Value) -> Result<Value, MemoryError> {
     Ok(crate::support::try_json!({ "header": header, "index": index, "data": data })?)
 }
 
-/// The trie that a JSON value says: an object with a header, an index and data.
+/// Reads a trie from a JSON value: an object with a header, an index and data.
 ///
 /// `header` is an object with the whole numbers `high_start`, `data_null_offset` and `null_value`
 /// (32 bits), `shifted12_high_start` and `index3_null_offset` (16 bits), and `trie_type`, the
-/// string `Fast` or `Small`. `index` is an array of whole numbers up to 65535, and `data` one of
-/// the numbers of the values. Other keys are ignored.
+/// string `Fast` or `Small`. `index` is an array of whole numbers up to 65535, and `data` is an
+/// array of the numbers of the values. Other keys are ignored.
 ///
 /// ```ignore
 /// let value = to_json(&get_planes_trie())?;
@@ -228,14 +228,23 @@ fn object_of(header: Value, index: Value, data: Value) -> Result<Value, MemoryEr
 /// ```
 ///
 /// # Errors
-/// The first fault in this order: `Shape("")` where the value is no object; those of the header,
-/// whose keys are tested as `high_start`, `shifted12_high_start`, `index3_null_offset`,
-/// `data_null_offset`, `null_value`, `trie_type`; those of the index, and of the data, cell by
-/// cell. `Shape` with the key where nothing stands there, or something else where an object, an
-/// array or the name of a trie type was to stand; `Number` with the key where a number, or an item
-/// of the array there, is no whole number in its range; `Value` with the cell of the data that is
-/// the number of no value. Then `Trie` where `CodePointTrie::try_new` refuses the parts. `Memory`
-/// where memory was refused.
+/// Returns the first error in this order:
+///
+/// - `Shape("")` if the value is not an object.
+/// - An error in the header. Its keys are checked in the order `high_start`,
+///   `shifted12_high_start`, `index3_null_offset`, `data_null_offset`, `null_value`, `trie_type`.
+/// - An error in the index, then one in the data, cell by cell.
+/// - `Trie` if `CodePointTrie::try_new` rejects the parts.
+///
+/// An error at a key is one of these:
+///
+/// - `Shape` with the key if it is missing, or is not the required object, array or name of a trie
+///   type.
+/// - `Number` with the key if the number, or an item of the array, is not a whole number in its
+///   range.
+/// - `Value` with the index of a data cell if the cell is not the number of a value.
+///
+/// Returns `Memory` if an allocation fails.
 #[inline]
 pub fn from_json<T: TrieValue>(
     value: &Value,
@@ -250,8 +259,8 @@ pub fn from_json<T: TrieValue>(
     Ok(trie)
 }
 
-/// The trie as a JSON value, as [`from_json`] reads it: an object with the keys `header`, `index`
-/// and `data`.
+/// Writes the trie as a JSON value that [`from_json`] can read: an object with the keys `header`,
+/// `index` and `data`.
 ///
 /// ```ignore
 /// let value = to_json(&get_planes_trie())?;
@@ -259,7 +268,7 @@ pub fn from_json<T: TrieValue>(
 /// ```
 ///
 /// # Errors
-/// `MemoryError` where memory was refused.
+/// Returns `MemoryError` if an allocation fails.
 #[inline]
 pub fn to_json<T: TrieValue>(
     trie: &CodePointTrie<'_, T>,

@@ -1,11 +1,11 @@
-//! Tries as JSON and as TOML, and the trie of the planes.
+//! Code point tries as JSON and as TOML, and the trie of the planes.
 //!
-//! A program that only looks up needs none of this, so it stands in a crate of its own, above
-//! `icu_trie`, and uses its public calls alone.
+//! A program that only looks up values needs none of this. So it is a separate crate on top of
+//! `icu_trie`, and uses only its public functions.
 //!
-//! - `json`: tries from and to JSON
+//! - `json`: reads and writes tries as JSON
 //! - `planes`: the trie that maps each code point to the number of its plane
-//! - `trie_toml`: tries from TOML
+//! - `trie_toml`: reads tries from TOML
 
 #[cfg(feature = "json")]
 pub mod json;

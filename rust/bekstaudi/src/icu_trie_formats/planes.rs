@@ -1,4 +1,4 @@
-//! The trie of the planes: each code point has the number of its plane, `c >> 16`.
+//! The trie of the planes: the value of the code point `c` is the number of its plane, `c >> 16`.
 
 #[allow(unused_imports)]
 use crate::support::prelude::*;
@@ -9,7 +9,7 @@ use crate::icu_trie::header::{CodePointTrieHeader, TrieType};
 use crate::icu_zerovec::ZeroVec;
 use table::{DATA, INDEX};
 
-/// The index, read in place.
+/// Returns the index, read in place.
 #[inline]
 fn index_cells() -> ZeroVec<'static, u16> {
     match ZeroVec::parse_bytes(&INDEX) {
@@ -18,7 +18,7 @@ fn index_cells() -> ZeroVec<'static, u16> {
     }
 }
 
-/// The data, read in place.
+/// Returns the data, read in place.
 #[inline]
 fn data_cells() -> ZeroVec<'static, u8> {
     match ZeroVec::parse_bytes(&DATA) {
@@ -27,10 +27,10 @@ fn data_cells() -> ZeroVec<'static, u8> {
     }
 }
 
-/// The trie that maps each code point to the number of its plane, 0 to 16, and numbers above
-/// 0x10FFFF to 0.
+/// Returns the trie that maps each code point to the number of its plane, 0 to 16, and numbers
+/// above 0x10FFFF to 0.
 ///
-/// It borrows its cells from the program: making it takes no memory.
+/// The trie borrows its cells from the program. Creating it allocates nothing.
 ///
 /// ```ignore
 /// let planes = get_planes_trie();

@@ -1,5 +1,5 @@
-//! A trie from TOML, as ICU4C exports it: a table with the header, the index, and the data in one
-//! of three widths.
+//! Reads a trie from TOML in the form that ICU4C exports: a table with the header, the index, and
+//! the data in one of three widths.
 
 #[allow(unused_imports)]
 use crate::support::prelude::*;
@@ -11,15 +11,14 @@ use crate::icu_zerovec::MemoryError;
 use crate::support::{AllocError};
 use toml::value::{Table, Value};
 
-/// Why a table is refused.
+/// Why a table is rejected.
 #[derive(Clone, Copy, Debug, PartialEq, Eq)]
 pub enum TomlError {
-    /// Nothing stands at this key, which is needed.
+    /// The value at this required key is missing.
     Missing(&'static str),
-    /// The value at this key, or an item of the array there, is of another kind or out of its
-    /// range.
+    /// The value at this key, or an item of its array, is of another kind or out of range.
     OutOfRange(&'static str),
-    /// Memory was refused.
+    /// An allocation failed.
     Memory,
 }
 
@@ -30,15 +29,15 @@ impl From<MemoryError> for TomlError {
     }
 }
 
-/// Why what a table holds is no trie.
+/// Why the contents of a table are not a trie.
 #[derive(Clone, Copy, Debug, PartialEq)]
 pub enum TrieFromTomlError {
-    /// The parts make no trie.
+    /// The parts do not form a trie.
     Trie(CodePointTrieError),
-    /// The table itself was refused. No conversion gives this: it stands here for `?`, in a
-    /// function that reads a table and makes a trie of it.
+    /// The table itself was rejected. The conversion never returns this: it is for `?` in a
+    /// function that both reads a table and converts it to a trie.
     Table(TomlError),
-    /// Memory was refused.
+    /// An allocation failed.
     Memory,
 }
 
@@ -56,7 +55,7 @@ impl From<MemoryError> for TrieFromTomlError {
     }
 }
 
-/// For `?` after a table was read. Want of memory stays what it is.
+/// For `?` after reading a table. `Memory` stays `Memory`.
 impl From<TomlError> for TrieFromTomlError {
     #[inline]
     fn from(error: TomlError) -> TrieFromTomlError {
@@ -67,18 +66,18 @@ impl From<TomlError> for TrieFromTomlError {
     }
 }
 
-/// The data of a trie in a table, in the width in which they stand there.
+/// The data cells of a trie in a table, in their width there.
 #[derive(Clone, Copy, Debug)]
 pub enum CodePointDataSlice<'a> {
-    /// Cells of 8 bits.
+    /// 8-bit cells.
     U8(&'a [u8]),
-    /// Cells of 16 bits.
+    /// 16-bit cells.
     U16(&'a [u16]),
-    /// Cells of 32 bits.
+    /// 32-bit cells.
     U32(&'a [u32]),
 }
 
-/// The numbers that a table has beside its arrays.
+/// The numbers of a table besides its arrays.
 #[derive(Clone, Copy, Debug)]
 struct TomlFields {
     high_start: u32,
@@ -90,7 +89,7 @@ struct TomlFields {
     null_value: u32,
 }
 
-/// What a table holds of a trie, as ICU4C exports it.
+/// The contents of a TOML table with a trie, as ICU4C exports it.
 #[derive(Debug)]
 pub struct CodePointTrieToml {
     index: Vec<u16>,
@@ -100,20 +99,20 @@ pub struct CodePointTrieToml {
     fields: TomlFields,
 }
 
-/// The number that a value is, where it is a whole number that has a value of this type.
+/// Returns the number of a TOML value if it is a whole number of a value of this type.
 #[inline]
 fn number_of<N: TrieValue>(value: &Value) -> Option<N> {
     let number = u32::try_from(value.as_integer()?).ok()?;
     N::try_from_u32(number).ok()
 }
 
-/// The value at a key.
+/// Returns the value at a key.
 #[inline]
 fn value_at<'a>(table: &'a Table, key: &str) -> Option<&'a Value> {
     table.get(key)
 }
 
-/// The number at a needed key.
+/// Returns the number at a required key.
 #[inline]
 fn number_at<N: TrieValue>(table: &Table, key: &'static str) -> Result<N, TomlError> {
     let Some(value) = value_at(table, key) else {
@@ -125,7 +124,7 @@ fn number_at<N: TrieValue>(table: &Table, key: &'static str) -> Result<N, TomlEr
     Ok(number)
 }
 
-/// The items of an array.
+/// Returns the items of an array.
 #[inline]
 fn items_of(value: &Value) -> Option<&[Value]> {
     match value.as_array() {
@@ -134,7 +133,7 @@ fn items_of(value: &Value) -> Option<&[Value]> {
     }
 }
 
-/// The numbers that the items of an array are, in their order.
+/// Returns the numbers of the items of an array, in their order.
 fn numbers_of_items<N: TrieValue>(
     items: &[Value],
     key: &'static str,
@@ -153,7 +152,7 @@ fn numbers_of_items<N: TrieValue>(
     Ok(numbers)
 }
 
-/// The numbers of the array at a key, where one stands there.
+/// Returns the numbers of the array at a key, or `None` if the key is missing.
 #[inline]
 fn optional_numbers_at<N: TrieValue>(
     table: &Table,
@@ -169,7 +168,7 @@ fn optional_numbers_at<N: TrieValue>(
     Ok(Some(numbers))
 }
 
-/// The numbers of the array at a needed key.
+/// Returns the numbers of the array at a required key.
 #[inline]
 fn numbers_at<N: TrieValue>(
     table: &Table,
@@ -181,7 +180,7 @@ fn numbers_at<N: TrieValue>(
     Ok(numbers)
 }
 
-/// The numbers that a table has beside its arrays.
+/// Returns the numbers of a table besides its arrays.
 #[inline]
 fn fields_of(table: &Table) -> Result<TomlFields, TomlError> {
     Ok(TomlFields {
@@ -195,7 +194,7 @@ fn fields_of(table: &Table) -> Result<TomlFields, TomlError> {
     })
 }
 
-/// The values whose numbers the cells are.
+/// Returns the values whose numbers are in the cells.
 fn values_of<N: TrieValue, T: TrieValue>(
     cells: &[N],
 ) -> Result<Vec<T>, TrieFromTomlError> {
@@ -216,11 +215,16 @@ fn values_of<N: TrieValue, T: TrieValue>(
 }
 
 impl CodePointTrieToml {
-    /// What a table holds of a trie. Its keys are `index`, an array of numbers of 16 bits; the
-    /// data, an array at one of the keys `data_8`, `data_16` and `data_32`, of numbers of so many
-    /// bits; and the numbers `highStart` (32 bits), `shifted12HighStart` (16), `type` (8),
-    /// `valueWidth` (8, kept and not used), `index3NullOffset` (16), `dataNullOffset` (32) and
-    /// `nullValue` (32). Other keys are ignored.
+    /// Reads the contents of a table with a trie.
+    ///
+    /// The keys of the table are:
+    ///
+    /// - `index`, an array of 16-bit numbers
+    /// - `data_8`, `data_16` or `data_32`, an array of numbers of that many bits: the data
+    /// - the numbers `highStart` (32 bits), `shifted12HighStart` (16), `type` (8), `valueWidth` (8,
+    ///   stored but not used), `index3NullOffset` (16), `dataNullOffset` (32) and `nullValue` (32)
+    ///
+    /// Other keys are ignored.
     ///
     /// ```ignore
     /// let read = CodePointTrieToml::from_table(&toml::from_str(text)?)?;
@@ -228,9 +232,13 @@ impl CodePointTrieToml {
     /// ```
     ///
     /// # Errors
-    /// The first fault in the order of the keys above: `Missing` where a key is not there, which
-    /// may be so of the three of the data alone; `OutOfRange` where the value is of another kind,
-    /// or a number out of its range. `Memory` where memory was refused.
+    /// Returns the first error in the order of the keys above:
+    ///
+    /// - `Missing` with the key if a required one is missing. The three keys of the data are
+    ///   optional here.
+    /// - `OutOfRange` with the key if its value is of another kind, or a number is out of range.
+    ///
+    /// Returns `Memory` if an allocation fails.
     #[inline]
     pub fn from_table(table: &Table) -> Result<CodePointTrieToml, TomlError> {
         Ok(CodePointTrieToml {
@@ -242,17 +250,17 @@ impl CodePointTrieToml {
         })
     }
 
-    /// The cells of the index.
+    /// Returns the cells of the index.
     #[inline]
     pub fn index_slice(&self) -> &[u16] {
         self.index.as_slice()
     }
 
-    /// The cells of the data: the first array of `data_8`, `data_16` and `data_32` that the table
-    /// had.
+    /// Returns the cells of the data: the first array among `data_8`, `data_16` and `data_32` in
+    /// the table.
     ///
     /// # Errors
-    /// `FromDeserialized` where the table had none of them.
+    /// Returns `FromDeserialized` if the table has none of them.
     #[inline]
     pub fn data_slice(&self) -> Result<CodePointDataSlice<'_>, CodePointTrieError> {
         if let Some(cells) = &self.data_8 {
@@ -269,7 +277,10 @@ impl CodePointTrieToml {
     }
 }
 
-/// The header that the table had. `FromDeserialized` where its type is the number of none.
+/// Reads the header of the table.
+///
+/// # Errors
+/// Returns `FromDeserialized` if the number at `type` is not the number of a trie type.
 impl TryFrom<&CodePointTrieToml> for CodePointTrieHeader {
     type Error = CodePointTrieError;
 
@@ -287,7 +298,7 @@ impl TryFrom<&CodePointTrieToml> for CodePointTrieHeader {
     }
 }
 
-/// The values of the data of a table.
+/// Returns the values of the data of a table.
 #[inline]
 fn typed_data<T: TrieValue>(toml: &CodePointTrieToml) -> Result<Vec<T>, TrieFromTomlError> {
     match toml.data_slice()? {
@@ -297,7 +308,7 @@ fn typed_data<T: TrieValue>(toml: &CodePointTrieToml) -> Result<Vec<T>, TrieFrom
     }
 }
 
-/// The trie of these parts, which owns its cells.
+/// Returns the trie of these parts. It owns its cells.
 #[inline]
 fn trie_with<T: TrieValue>(
     header: CodePointTrieHeader,
@@ -311,10 +322,16 @@ fn trie_with<T: TrieValue>(
     }
 }
 
-/// The trie that the table had, which owns its cells. `Trie` where it is none, by the first fault:
-/// its type is the number of none, it had no data, a cell of the data is the number of no value
-/// (`FromDeserialized`), and then the faults of `CodePointTrie::try_new`. `Memory` where no memory
-/// was found.
+/// Creates the trie of the table. It owns its cells.
+///
+/// # Errors
+/// Returns `Trie` with the first error in this order:
+///
+/// - `FromDeserialized` if the number at `type` is not the number of a trie type, if the table has
+///   no data, or if a data cell is not the number of a value.
+/// - The errors of `CodePointTrie::try_new`.
+///
+/// Returns `Memory` if an allocation fails.
 impl<T: TrieValue> TryFrom<&CodePointTrieToml> for CodePointTrie<'static, T> {
     type Error = TrieFromTomlError;
 

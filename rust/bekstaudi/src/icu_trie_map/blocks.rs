@@ -5,33 +5,34 @@ use crate::support::prelude::*;
 use crate::icu_zerovec::CODE_POINT_LIMIT;
 use crate::support::{AllocError};
 
-/// How many blocks of 16 code points there are.
+/// The number of blocks of 16 code points.
 const BLOCK_COUNT: usize = CODE_POINT_LIMIT as usize / 16;
 
-/// Blocks below this one are made mixed four at a time.
+/// Below this block number, four blocks become mixed together.
 const FIRST_SINGLE: usize = 0x1000;
 
 /// The numbers of 16 code points.
 #[derive(Clone, Copy)]
 enum Block<'a> {
-    /// All have this one.
+    /// All 16 have this number.
     One(u32),
-    /// Each has its own, so that the block is mixed.
+    /// The block is mixed: each code point has its own number.
     Cells(&'a [u32; 16]),
 }
 
 /// The numbers of all code points, in blocks of 16.
 #[derive(Debug)]
 pub(crate) struct Blocks {
-    /// Whether a block is mixed, that is, has cells.
+    /// For each block, whether it is mixed, that is, has cells.
     mixed: Vec<bool>,
-    /// The number of all code points of a block, and of a mixed one the place of its cells.
+    /// For each block, the number of all its code points, or the position of its cells if it is
+    /// mixed.
     places: Vec<u32>,
     /// The numbers of the code points of each mixed block.
     cells: Vec<[u32; 16]>,
 }
 
-/// A list of `count` copies of a value.
+/// Returns a list of `count` copies of a value.
 #[inline]
 fn copies<T: Copy>(count: usize, value: T) -> Result<Vec<T>, AllocError> {
     let mut made = Vec::with_room(count)?;
@@ -39,10 +40,11 @@ fn copies<T: Copy>(count: usize, value: T) -> Result<Vec<T>, AllocError> {
     Ok(made)
 }
 
-/// Appends the cells of a block of this number.
+/// Appends the cells of a block that has this number throughout.
 #[inline]
 fn push_block(cells: &mut Vec<[u32; 16]>, number: u32) -> Result<(), AllocError> {
-    // By quarters, since the cells of most maps fill few doublings.
+    // Grow by a quarter instead of doubling: for most maps the cells would only partly fill the
+    // doubled capacity.
     if cells.capacity() == cells.len() {
         cells.try_exact_room(cells.len() / 4 + 64)?;
     }
@@ -50,7 +52,7 @@ fn push_block(cells: &mut Vec<[u32; 16]>, number: u32) -> Result<(), AllocError>
     Ok(())
 }
 
-/// Writes the number from place `start` on to before `end`.
+/// Writes the number to the positions `start..end`.
 #[inline]
 fn fill_range(cells: &mut [u32; 16], start: usize, end: usize, number: u32) {
     for i in start..end {
@@ -59,7 +61,7 @@ fn fill_range(cells: &mut [u32; 16], start: usize, end: usize, number: u32) {
 }
 
 impl Blocks {
-    /// Blocks that have this number at every code point.
+    /// Makes blocks that have this number at every code point.
     #[inline]
     pub(crate) fn new(number: u32) -> Result<Blocks, AllocError> {
         let mixed = copies(BLOCK_COUNT, false)?;
@@ -72,7 +74,7 @@ impl Blocks {
         })
     }
 
-    /// Gives block number `number` cells, where it has none.
+    /// Gives block number `number` cells if it has none.
     #[inline]
     fn mix(&mut self, number: usize) -> Result<(), AllocError> {
         if self.mixed[number] {
@@ -87,9 +89,11 @@ impl Blocks {
         Ok(())
     }
 
-    /// Gives the block that the code point `c` stands in, and does not begin, cells. Where it had
-    /// none, the other blocks of its aligned 64 code points below 0x10000 get them too, so that
-    /// they stand side by side.
+    /// Gives the block of the code point `c` cells, unless the block starts at `c` or has cells
+    /// already.
+    ///
+    /// Below 0x10000, the other blocks of the same aligned 64 code points then get cells too, so
+    /// that these are next to each other.
     fn mix_around(&mut self, c: usize) -> Result<(), AllocError> {
         let number = c / 16;
         if c % 16 == 0 || self.mixed[number] {
@@ -121,7 +125,7 @@ impl Blocks {
         );
     }
 
-    /// Writes a number to the code points from `start` on to before `end`, block by block.
+    /// Writes a number to the code points `start..end`, block by block.
     #[inline]
     fn write_blocks(&mut self, start: usize, end: usize, number: u32) {
         let mut from = start;
@@ -132,8 +136,8 @@ impl Blocks {
         }
     }
 
-    /// Writes a number to the code points from `start` on to before `end`. Memory is asked for
-    /// before anything is written.
+    /// Writes a number to the code points `start..end`. All allocations happen before anything is
+    /// written.
     #[inline]
     pub(crate) fn write(&mut self, start: usize, end: usize, number: u32) -> Result<(), AllocError> {
         self.mix_around(start)?;
@@ -142,7 +146,7 @@ impl Blocks {
         Ok(())
     }
 
-    /// Block number `number`.
+    /// Returns block number `number`.
     #[inline(always)]
     fn block(&self, number: usize) -> Block<'_> {
         if self.mixed[number] {
@@ -151,7 +155,7 @@ impl Blocks {
         Block::One(self.places[number])
     }
 
-    /// The number of the code point `c`.
+    /// Returns the number of the code point `c`.
     #[inline]
     pub(crate) fn number_of(&self, c: usize) -> u32 {
         match self.block(c / 16) {
@@ -160,8 +164,8 @@ impl Blocks {
         }
     }
 
-    /// The first place of block number `block`, from its place `from` on, that has another number
-    /// than this, and 16 where there is none.
+    /// Returns the first position in `from..16` of block number `block` with another number than
+    /// this, or 16 if there is none.
     #[inline(always)]
     fn other_in_block(&self, block: usize, from: usize, number: u32) -> usize {
         match self.block(block) {
@@ -177,8 +181,8 @@ impl Blocks {
         }
     }
 
-    /// The first code point from `start` on that has another number than this, and 0x110000 where
-    /// there is none, block by block.
+    /// Returns the first code point from `start` on with another number than this, or 0x110000 if
+    /// there is none. It goes block by block.
     #[inline]
     pub(crate) fn find_other(&self, start: usize, number: u32) -> usize {
         let mut from = start;
@@ -193,7 +197,8 @@ impl Blocks {
         CODE_POINT_LIMIT as usize
     }
 
-    /// How many blocks there are up to the last that does not hold this number alone.
+    /// Returns the number of blocks up to and including the last one that does not have this number
+    /// throughout.
     #[inline]
     pub(crate) fn used(&self, number: u32) -> usize {
         let mut count = BLOCK_COUNT;
@@ -206,7 +211,8 @@ impl Blocks {
         0
     }
 
-    /// Whether `count` blocks from block number `first` on are seen at once to hold one number.
+    /// Returns true if none of `count` blocks from block number `first` on is mixed and all have
+    /// the same number. It reads no cells.
     #[inline]
     pub(crate) fn hold_one(&self, first: usize, count: usize) -> bool {
         let Block::One(number) = self.block(first) else {
@@ -221,7 +227,7 @@ impl Blocks {
         true
     }
 
-    /// Appends the numbers of `count` blocks from block number `first` on to those in `room`.
+    /// Appends the numbers of `count` blocks, from block number `first` on, to `room`.
     pub(crate) fn copy(
         &self,
         first: usize,

@@ -1,7 +1,6 @@
-//! A map from the code points to numbers of 32 bits, which a trie is built of (ICU4C's
-//! UMutableCPTrie).
+//! A map from code points to 32-bit numbers, from which a trie is built (ICU4C's `UMutableCPTrie`).
 //!
-//! - `number_map`: [`NumberMap`](number_map::NumberMap), what a trie's builder asks of the map
+//! - `number_map`: [`NumberMap`](number_map::NumberMap), the map as the trie builder uses it
 //! - `blocks`: the numbers in blocks of 16 code points
 
 mod blocks;

@@ -1,4 +1,4 @@
-//! The map that a trie is built of.
+//! The map from which a trie is built.
 
 #[allow(unused_imports)]
 use crate::support::prelude::*;
@@ -9,24 +9,23 @@ use crate::support::{AllocError};
 /// The number of each code point.
 #[derive(Debug)]
 enum Numbers {
-    /// All have this one.
+    /// All code points have this number.
     One(u32),
-    /// Each block of 16 has its own, since something was written.
+    /// Each block of 16 has its own numbers, once something has been written.
     InBlocks(Blocks),
 }
 
-/// A map from the code points to numbers of 32 bits.
+/// A map from code points to 32-bit numbers.
 ///
-/// It keeps one number until the first write, and then blocks of 16 code points: a block of one
-/// number keeps that number alone, a mixed block has cells.
+/// It stores a single number until the first write, and then blocks of 16 code points. A block of
+/// one number stores only that number; a mixed block has 16 cells.
 #[derive(Debug)]
 pub struct NumberMap {
     numbers: Numbers,
 }
 
 impl NumberMap {
-    /// The map that has this number at every code point. It takes no memory; that is left to
-    /// the writes.
+    /// Makes a map that has this number at every code point. It allocates nothing.
     #[inline]
     pub fn new(number: u32) -> NumberMap {
         NumberMap {
@@ -34,10 +33,10 @@ impl NumberMap {
         }
     }
 
-    /// Gives each code point from `start` on to before `end` this number.
+    /// Sets the number of each code point in `start..end`.
     ///
     /// # Errors
-    /// `AllocError` where memory was refused. The map stays as it was.
+    /// Returns `AllocError` if an allocation fails. The map is then unchanged.
     pub(crate) fn set_range(&mut self, start: usize, end: usize, number: u32) -> Result<(), AllocError> {
         let numbers = &mut self.numbers;
         if start == end {
@@ -54,7 +53,7 @@ impl NumberMap {
         Ok(())
     }
 
-    /// The number of the code point `c`.
+    /// Returns the number of the code point `c`.
     #[inline]
     pub(crate) fn get(&self, c: usize) -> u32 {
         match &self.numbers {
@@ -63,14 +62,14 @@ impl NumberMap {
         }
     }
 
-    /// The number of the last code point.
+    /// Returns the number of the last code point.
     #[inline]
     pub fn last(&self) -> u32 {
         self.get(CODE_POINT_LIMIT as usize - 1)
     }
 
-    /// The first code point from `start` on that has another number than this, and 0x110000 where
-    /// there is none. Blocks of one number are passed by whole.
+    /// Returns the first code point from `start` on with another number than `number`, or 0x110000
+    /// if there is none. It skips each block of one number in a single step.
     #[inline]
     pub(crate) fn find_other(&self, start: usize, number: u32) -> usize {
         match &self.numbers {
@@ -80,7 +79,8 @@ impl NumberMap {
         }
     }
 
-    /// The least multiple of 512 from which on all code points have the last code point's number.
+    /// Returns the least multiple of 512 from which on all code points have the number of the last
+    /// one.
     #[inline]
     pub fn high_start(&self) -> usize {
         let Numbers::InBlocks(blocks) = &self.numbers else {
@@ -89,9 +89,11 @@ impl NumberMap {
         blocks.used(self.last()).div_ceil(32) * 512
     }
 
-    /// Whether the aligned block number `number` of `size` code points is seen at once to be equal
-    /// to the one before it: the blocks of 16 of both hold one number. Equal blocks that are mixed
-    /// are not seen.
+    /// Returns true only if the aligned block number `number` of `size` code points equals the
+    /// block before it.
+    ///
+    /// It compares no cells: it returns true if none of the blocks of 16 in both is mixed and all
+    /// have the same number. So it may return false for equal blocks.
     #[inline]
     pub(crate) fn repeats(&self, size: usize, number: usize) -> bool {
         let Numbers::InBlocks(blocks) = &self.numbers else {
@@ -101,8 +103,11 @@ impl NumberMap {
         blocks.hold_one(count * (number - 1), 2 * count)
     }
 
-    /// Puts the numbers of the aligned block number `number` of `size` code points into `room`, in
-    /// place of what it held.
+    /// Replaces the contents of `room` by the numbers of the aligned block number `number` of
+    /// `size` code points.
+    ///
+    /// # Errors
+    /// Returns `AllocError` if an allocation fails.
     pub(crate) fn copy_block(
         &self,
         size: usize,

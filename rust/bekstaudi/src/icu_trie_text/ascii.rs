@@ -1,26 +1,26 @@
-//! Tries whose values of ASCII stand in their places.
+//! Tries whose data start with the values of ASCII.
 
 use crate::icu_trie::cptrie::CodePointTrie;
 use crate::icu_trie_core::value::TrieValue;
 use crate::icu_zerovec::ZeroSlice;
 
-/// How many code points ASCII has.
+/// The number of ASCII code points.
 const ASCII_END: u32 = 0x80;
 
-/// A trie that is asked for many values. Where its data begin with the values of ASCII, as a
-/// builder of ICU's or of ours puts them, those take one read.
+/// A trie for looking up many values. If its data start with the values of ASCII, as ICU's builder
+/// and this library's builder write them, such a value takes a single read.
 #[derive(Debug)]
 pub(crate) struct AsciiInPlace<'a, T: TrieValue> {
     trie: &'a CodePointTrie<'a, T>,
     /// The data of the trie.
     values: ZeroSlice<'a, T>,
-    /// How many code points have their values in the places of their numbers, as far as is known:
-    /// those of ASCII, or none.
+    /// The code points below this number have their values at their own index in the data. It is
+    /// 0x80 or 0.
     end: u32,
 }
 
-/// How many code points have their values in the places of their numbers: those of ASCII where the
-/// first two blocks are those that the data begin with, else none.
+/// Returns 0x80 if the first two blocks of the trie are the first two blocks of the data, and
+/// otherwise 0. The code points below the result have their values at their own index in the data.
 #[inline]
 fn ascii_end<T: TrieValue>(index: ZeroSlice<'_, u16>, values: ZeroSlice<'_, T>) -> u32 {
     if values.len() < ASCII_END as usize {
@@ -36,7 +36,7 @@ fn ascii_end<T: TrieValue>(index: ZeroSlice<'_, u16>, values: ZeroSlice<'_, T>) 
 }
 
 impl<'a, T: TrieValue> AsciiInPlace<'a, T> {
-    /// The trie, lent.
+    /// Borrows the trie.
     #[inline]
     pub(crate) fn new(trie: &'a CodePointTrie<'_, T>) -> AsciiInPlace<'a, T> {
         let (_, index, values) = trie.parts();
@@ -47,7 +47,7 @@ impl<'a, T: TrieValue> AsciiInPlace<'a, T> {
         }
     }
 
-    /// The value of a code point of ASCII that stands in its place, if that is known.
+    /// Returns the value of an ASCII code point if it is known to be at its own index in the data.
     #[inline(always)]
     pub(crate) fn ascii(&self, c: u32) -> Option<T> {
         if c < self.end {
@@ -57,13 +57,13 @@ impl<'a, T: TrieValue> AsciiInPlace<'a, T> {
         }
     }
 
-    /// The value of a character.
+    /// Returns the value of a character.
     #[inline(always)]
     pub(crate) fn get(&self, c: char) -> T {
         self.trie.get(c)
     }
 
-    /// What stands where there is no value: the last cell of the data.
+    /// Returns the error value: the last cell of the data.
     #[inline(always)]
     pub(crate) fn error_value(&self) -> T {
         self.trie.error_value()

@@ -1,16 +1,16 @@
-//! The first character of a text with a value that is sought.
+//! Finds the first character of a text whose value is accepted.
 
 use crate::icu_trie_text::found::Found;
 use crate::icu_trie_text::indices::value_indices_of;
 use crate::icu_trie::cptrie::CodePointTrie;
 use crate::icu_trie_core::value::TrieValue;
 
-/// The first character of the text whose value the closure accepts, and where it begins. `None`
-/// exactly where it accepts the value of none. A character starts at the offset, so
-/// `&text[..found.offset]` is what stands before it.
+/// Returns the first character of the text whose value the closure accepts, with its byte offset
+/// and its value. Returns `None` if and only if the closure accepts no character's value.
 ///
-/// It is what quick checks are made of: a text is in a form if no character's value tells that it
-/// may not be.
+/// The offset is a character boundary, so `&text[..found.offset]` is the text before the character.
+///
+/// Quick checks use this: a text is in a normalization form if no value says that it may not be.
 ///
 /// ```text
 /// // find_value(&categories, "ab1", |category| category == 9) is '1' at 2, with 9 (Nd)
@@ -32,9 +32,11 @@ pub fn find_value<T: TrieValue, F: Fn(T) -> bool>(
     None
 }
 
-/// The length in bytes of the longest front of the text whose characters all have values that the
-/// closure accepts. A character starts there, or the text ends: so
-/// `&text[span_of_values(&trie, text, accepts)..]` is what follows.
+/// Returns the length in bytes of the longest prefix of the text in which the closure accepts the
+/// value of every character.
+///
+/// The length is a character boundary, so `&text[span_of_values(&trie, text, accepts)..]` is what
+/// follows.
 ///
 /// ```text
 /// // span_of_values(&categories, "ab1", |category| category == 2) is 2: "ab" are Ll

@@ -3,7 +3,8 @@
 use crate::icu_trie_text::ascii::AsciiInPlace;
 use crate::icu_trie_core::value::TrieValue;
 
-/// The first character of a text, and what follows it. `None` exactly where the text is empty.
+/// Returns the first character of a text, and what follows it. `None` if and only if the text is
+/// empty.
 #[inline(always)]
 fn first_character(text: &str) -> Option<(char, &str)> {
     let mut characters = text.chars();
@@ -11,14 +12,14 @@ fn first_character(text: &str) -> Option<(char, &str)> {
     Some((first, characters.as_str()))
 }
 
-/// What follows the first character of a text, which is of ASCII.
+/// Returns what follows the first character of a text that starts with an ASCII character.
 #[inline(always)]
 fn after_ascii(text: &str) -> &str {
     &text[1..]
 }
 
-/// The first character of a text with its value, and what follows it. `None` exactly where the text
-/// is empty.
+/// Returns the first character of a text with its value, and what follows it. `None` if and only if
+/// the text is empty.
 #[inline(always)]
 pub(crate) fn first_value<'t, T: TrieValue>(
     trie: &AsciiInPlace<'_, T>,

@@ -1,19 +1,21 @@
 //! The first code point of 16-bit units.
 
-/// Whether the unit is the first one of a pair.
+/// Returns true if the unit is a high surrogate, the first unit of a pair.
 #[inline(always)]
 fn is_high_surrogate(unit: u32) -> bool {
     0xD800 <= unit && unit < 0xDC00
 }
 
-/// Whether the unit is the second one of a pair.
+/// Returns true if the unit is a low surrogate, the second unit of a pair.
 #[inline(always)]
 fn is_low_surrogate(unit: u32) -> bool {
     0xDC00 <= unit && unit < 0xE000
 }
 
-/// The first code point of the units, and what follows it (U16_NEXT). `None` exactly where there is
-/// no unit.
+/// Returns the first code point of the units, and what follows it. `None` if and only if there are
+/// no units.
+///
+/// A surrogate that is not part of a pair is a code point of its own. ICU: `U16_NEXT`.
 #[inline(always)]
 pub fn first_code_point(units: &[u16]) -> Option<(u32, &[u16])> {
     let (first, rest) = units.split_first()?;

@@ -1,6 +1,6 @@
 //! The first part of bytes that may be ill-formed UTF-8.
 
-/// The six bits of the trail byte at the place, `None` where there is none.
+/// Returns the six bits of the trail byte at `place`, or `None` if there is no trail byte.
 #[inline(always)]
 fn trail_bits(bytes: &[u8], place: usize) -> Option<u32> {
     let byte = u32::from(*bytes.get(place)?);
@@ -13,7 +13,8 @@ fn trail_bits(bytes: &[u8], place: usize) -> Option<u32> {
     Some(byte - 0x80)
 }
 
-/// The character that begins bytes whose first one leads two, `None` where none does.
+/// Returns the character at the start of the bytes, or `None` if there is none. The first byte is
+/// the lead byte of two.
 #[inline(always)]
 pub(crate) fn of_two(bytes: &[u8]) -> Option<char> {
     let first = u32::from(bytes[0]) - 0xC0;
@@ -21,9 +22,9 @@ pub(crate) fn of_two(bytes: &[u8]) -> Option<char> {
     char::from_u32(first * 64 + second)
 }
 
-/// The character that begins bytes whose first one leads three, `None` where none does: so where
-/// fewer bytes would say it, and where it would be a surrogate. The length is tested once, for all
-/// reads.
+/// Returns the character at the start of the bytes, or `None` if there is none. The first byte is
+/// the lead byte of three. Overlong sequences and surrogates are not characters. The length is
+/// checked once, for all reads.
 #[inline(always)]
 pub(crate) fn of_three(bytes: &[u8]) -> Option<char> {
     if bytes.len() < 3 {
@@ -39,9 +40,9 @@ pub(crate) fn of_three(bytes: &[u8]) -> Option<char> {
     char::from_u32(code_point)
 }
 
-/// The character that begins bytes whose first one leads four, `None` where none does: so where
-/// fewer bytes would say it, and where it would be above 0x10FFFF. The length is tested once, for
-/// all reads.
+/// Returns the character at the start of the bytes, or `None` if there is none. The first byte is
+/// the lead byte of four, or greater. Overlong sequences and numbers above 0x10FFFF are not
+/// characters. The length is checked once, for all reads.
 #[inline(always)]
 pub(crate) fn of_four(bytes: &[u8]) -> Option<char> {
     if bytes.len() < 4 {
@@ -58,21 +59,21 @@ pub(crate) fn of_four(bytes: &[u8]) -> Option<char> {
     char::from_u32(code_point)
 }
 
-/// Whether these are the upper ten bits of a character of three bytes, which its first two say: of
-/// one that takes no fewer bytes, and is no surrogate.
+/// Returns true if these can be the upper ten bits of a three-byte character, which its first two
+/// bytes contain: they are not those of an overlong sequence or a surrogate.
 #[inline]
 fn is_high_of_three(high: u32) -> bool {
     0x20 <= high && (high < 0x360 || 0x380 <= high)
 }
 
-/// Whether these are the upper nine bits of a character of four bytes, which its first two say: of
-/// one that takes no fewer bytes, and is no number above 0x10FFFF.
+/// Returns true if these can be the upper nine bits of a four-byte character, which its first two
+/// bytes contain: they are not those of an overlong sequence or a number above 0x10FFFF.
 #[inline]
 fn is_high_of_four(high: u32) -> bool {
     0x10 <= high && high < 0x110
 }
 
-/// How long the ill-formed part is of bytes whose first one leads three.
+/// Returns the length of the ill-formed part if the first byte is the lead byte of three.
 #[inline]
 fn size_of_three(bytes: &[u8]) -> usize {
     let first = u32::from(bytes[0]) - 0xE0;
@@ -85,7 +86,8 @@ fn size_of_three(bytes: &[u8]) -> usize {
     2
 }
 
-/// How long the ill-formed part is of bytes whose first one leads four, or is above those.
+/// Returns the length of the ill-formed part if the first byte is the lead byte of four, or
+/// greater.
 #[inline]
 fn size_of_four(bytes: &[u8]) -> usize {
     let first = u32::from(bytes[0]) - 0xF0;
@@ -101,8 +103,8 @@ fn size_of_four(bytes: &[u8]) -> usize {
     3
 }
 
-/// How long the ill-formed part is that begins the bytes, which are some, where no character does
-/// (table 3-7 of the Unicode Standard).
+/// Returns the length of the ill-formed part at the start of the bytes (table 3-7 of the Unicode
+/// Standard). The bytes are not empty and do not start with a character.
 #[cold]
 #[inline(never)]
 pub(crate) fn ill_formed_size(bytes: &[u8]) -> usize {

@@ -1,9 +1,9 @@
-//! Where a character with a value stands in a text.
+//! A character in a text, with its value.
 
-/// A character of a text, with its place and its value in a trie.
+/// A character of a text, with its byte offset and its value in a trie.
 #[derive(Clone, Copy, Debug, PartialEq, Eq)]
 pub struct Found<T> {
-    /// The byte offset at which it begins.
+    /// The byte offset at which it starts.
     pub offset: usize,
     /// The character itself.
     pub character: char,

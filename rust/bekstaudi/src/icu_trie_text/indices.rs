@@ -1,22 +1,26 @@
-//! The value of each character of a text, with the place of the character.
+//! The value of each character of a text, with the character's byte offset.
 
 use crate::icu_trie_text::ascii::AsciiInPlace;
 use crate::icu_trie_text::first::first_value;
 use crate::icu_trie::cptrie::CodePointTrie;
 use crate::icu_trie_core::value::TrieValue;
 
-/// The characters of a text, each with its place and its value in a trie, as [`value_indices_of`]
-/// gives them.
+/// An iterator over the characters of a text, each with its byte offset and its value in a trie.
+///
+/// Created by [`value_indices_of`].
 #[derive(Debug)]
 pub struct ValueIndicesOf<'a, T: TrieValue> {
     trie: AsciiInPlace<'a, T>,
     rest: &'a str,
-    /// How many bytes the whole text has.
+    /// The length of the whole text in bytes.
     end: usize,
 }
 
-/// The characters of the text as [`values_of`](crate::icu_trie_text::values::values_of) gives them, each with the
-/// byte offset at which it begins, as [`char_indices`](str::char_indices) has it.
+/// Returns an iterator over the characters of the text, each with its byte offset and its value in
+/// the trie.
+///
+/// The characters and values are those of [`values_of`](crate::icu_trie_text::values::values_of), and the offsets
+/// are those of [`char_indices`](str::char_indices).
 ///
 /// ```ignore
 /// for (offset, c, category) in value_indices_of(&categories, "éB") {

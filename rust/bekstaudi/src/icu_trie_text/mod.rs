@@ -1,16 +1,17 @@
 //! Values of code point tries along texts.
 //!
-//! - `text`: all public calls, as `icu_collections::codepointtrie::text` has them
+//! - `text`: all public functions, as in `icu_collections::codepointtrie::text`
 //! - `values`: [`ValuesOf`](values::ValuesOf), the value of each character of a text
-//! - `indices`: [`ValueIndicesOf`](indices::ValueIndicesOf), the same with the characters' places
-//! - `find`: the first character with a value that is sought, and the longest front of such ones
-//! - `found`: [`Found`](found::Found), a character, its place and its value
+//! - `indices`: [`ValueIndicesOf`](indices::ValueIndicesOf), the same with the byte offset of each
+//!   character
+//! - `find`: the first character whose value is accepted, and the longest prefix of accepted ones
+//! - `found`: [`Found`](found::Found), a character, its byte offset and its value
 //! - `utf16`: [`ValuesOfUtf16`](utf16::ValuesOfUtf16), the value of each code point of 16-bit units
 //! - `utf8`: [`ValuesOfUtf8`](utf8::ValuesOfUtf8), the value of each character of bytes that may be
 //!   ill-formed UTF-8
 //! - `first`, `first_utf16`, `first_utf8`: the first character of a text, the first code point of
 //!   units, the first part of bytes
-//! - `ascii`: tries whose values of ASCII stand in their places
+//! - `ascii`: tries whose data start with the values of ASCII
 
 mod ascii;
 mod find;

@@ -1,4 +1,4 @@
-//! Values of a trie along texts of UTF-8 and UTF-16.
+//! Values of a trie along texts in UTF-8 and UTF-16.
 
 pub use crate::icu_trie_text::find::{find_value, span_of_values};
 pub use crate::icu_trie_text::found::Found;

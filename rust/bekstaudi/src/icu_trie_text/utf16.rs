@@ -4,18 +4,20 @@ use crate::icu_trie_text::first_utf16::first_code_point;
 use crate::icu_trie::cptrie::CodePointTrie;
 use crate::icu_trie_core::value::TrieValue;
 
-/// The code points of 16-bit units, each with its value in a trie, as [`values_of_utf16`] gives
-/// them.
+/// An iterator over the code points of 16-bit units, each with its value in a trie.
+///
+/// Created by [`values_of_utf16`].
 #[derive(Debug)]
 pub struct ValuesOfUtf16<'a, T: TrieValue> {
     trie: &'a CodePointTrie<'a, T>,
     rest: &'a [u16],
 }
 
-/// The code points of the units, from their front on, each with its value in the trie, as
-/// [`get32`](CodePointTrie::get32) answers it (ICU: a loop over `UCPTRIE_FAST_U16_NEXT`). The units
-/// may be ill-formed: a surrogate that has no partner is a code point by itself, with the value
-/// that the trie has for it.
+/// Returns an iterator over the code points of the units in order, each with its value in the trie.
+///
+/// The values are those that [`get32`](CodePointTrie::get32) returns. The units may be ill-formed:
+/// a surrogate that is not part of a pair is a code point of its own, with the value that the trie
+/// has for it. ICU: a loop over `UCPTRIE_FAST_U16_NEXT`.
 ///
 /// ```ignore
 /// for (c, category) in values_of_utf16(&categories, &[0xD835, 0xDC00, 0x31, 0xD835]) {

@@ -5,20 +5,22 @@ use crate::icu_trie_text::first_utf8::{ill_formed_size, of_four, of_three, of_tw
 use crate::icu_trie::cptrie::CodePointTrie;
 use crate::icu_trie_core::value::TrieValue;
 
-/// The characters of bytes that may be ill-formed UTF-8, each with its value in a trie, as
-/// [`values_of_utf8`] gives them.
+/// An iterator over the characters of bytes that may be ill-formed UTF-8, each with its value in a
+/// trie.
+///
+/// Created by [`values_of_utf8`].
 #[derive(Debug)]
 pub struct ValuesOfUtf8<'a, T: TrieValue> {
     trie: AsciiInPlace<'a, T>,
     rest: &'a [u8],
 }
 
-/// The characters of the bytes, from their front on, each with its value in the trie, as
-/// [`get`](CodePointTrie::get) answers it. Where the bytes are ill-formed, each maximal part that is
-/// the front of no character that goes on there is U+FFFD with the trie's error value (ICU: a loop
-/// over `UCPTRIE_FAST_U8_NEXT`, which answers the error value; the Unicode Standard: "U+FFFD
-/// Substitution of Maximal Subparts", table 3-7). A U+FFFD that stands in the bytes has its own
-/// value.
+/// Returns an iterator over the characters of the bytes in order, each with its value in the trie.
+///
+/// The values are those that [`get`](CodePointTrie::get) returns. Each maximal subpart of an
+/// ill-formed sequence is U+FFFD with the trie's error value ("U+FFFD Substitution of Maximal
+/// Subparts" and table 3-7 in the Unicode Standard). A U+FFFD in the bytes has its own value. ICU:
+/// a loop over `UCPTRIE_FAST_U8_NEXT`, which returns the error value too.
 ///
 /// ```ignore
 /// for (c, category) in values_of_utf8(&categories, b"a\xF1\x80\x80b") {
@@ -36,7 +38,8 @@ pub fn values_of_utf8<'a, T: TrieValue>(
     }
 }
 
-/// The item of a character that begins the bytes and has so many of them, and what follows it.
+/// Returns the item of the character `c`, which is the first `size` of the bytes, and what follows
+/// it.
 #[inline(always)]
 fn item_of<'b, T: TrieValue>(
     trie: &AsciiInPlace<'_, T>,
@@ -47,9 +50,9 @@ fn item_of<'b, T: TrieValue>(
     ((c, trie.get(c)), &bytes[size..])
 }
 
-/// The item of the character that begins the bytes, which are some, and what follows it; `None`
-/// where none does. Each size looks up for itself, since what is known of its characters saves
-/// tests.
+/// Returns the item of the character at the start of the bytes, which are not empty, and what
+/// follows it. `None` if they do not start with a character. Each size has its own look-up, because
+/// what is known about its characters saves checks.
 #[inline(always)]
 fn character_item<'b, T: TrieValue>(
     trie: &AsciiInPlace<'_, T>,
@@ -71,7 +74,7 @@ fn character_item<'b, T: TrieValue>(
     }
 }
 
-/// The item of the first part of the bytes, which are some, and what follows it.
+/// Returns the item of the first part of the bytes, which are not empty, and what follows it.
 #[inline(always)]
 fn first_item<'b, T: TrieValue>(
     trie: &AsciiInPlace<'_, T>,

@@ -5,16 +5,19 @@ use crate::icu_trie_text::first::first_value;
 use crate::icu_trie::cptrie::CodePointTrie;
 use crate::icu_trie_core::value::TrieValue;
 
-/// The characters of a text, each with its value in a trie, as [`values_of`] gives them.
+/// An iterator over the characters of a text, each with its value in a trie.
+///
+/// Created by [`values_of`].
 #[derive(Debug)]
 pub struct ValuesOf<'a, T: TrieValue> {
     trie: AsciiInPlace<'a, T>,
     rest: &'a str,
 }
 
-/// The characters of the text, from its front on, each with its value in the trie, as
-/// [`get`](CodePointTrie::get) answers it (ICU: a loop over `UCPTRIE_FAST_U8_NEXT` on text that is
-/// well-formed).
+/// Returns an iterator over the characters of the text in order, each with its value in the trie.
+///
+/// The values are those that [`get`](CodePointTrie::get) returns. ICU: a loop over
+/// `UCPTRIE_FAST_U8_NEXT` on well-formed text.
 ///
 /// ```ignore
 /// for (c, category) in values_of(&categories, "aB1") {

@@ -1,4 +1,4 @@
-//! The work on packed bytes: cells of `WIDTH` bytes each, one for each value.
+//! The work on packed bytes. A cell is the `WIDTH` bytes of one value.
 
 #[allow(unused_imports)]
 use crate::support::prelude::*;
@@ -8,25 +8,25 @@ use crate::support::{AllocError};
 use core::cmp::Ordering;
 use core::hash::Hasher;
 
-/// How many whole cells there are.
+/// Returns the number of whole cells.
 #[inline(always)]
 pub(crate) fn count<T: AsULE>(bytes: &[u8]) -> usize {
     bytes.len() / T::WIDTH
 }
 
-/// How many values packed bytes have.
+/// Returns the number of values in packed bytes.
 #[inline(always)]
 pub(crate) fn len<T: AsULE>(bytes: &[u8]) -> usize {
     count::<T>(bytes)
 }
 
-/// The value that the cell at place `i` gives, if it gives one.
+/// Returns the value of the cell at index `i`, or `None` if the cell is not a value.
 #[inline(always)]
 pub(crate) fn read<T: AsULE>(bytes: &[u8], i: usize) -> Option<T> {
     T::from_unaligned(cell(bytes, T::WIDTH, i)?)
 }
 
-/// The value at place `i` of packed bytes, `None` at or past the end.
+/// Returns the value at index `i` of packed bytes, or `None` if `i` is not less than the length.
 #[inline(always)]
 pub(crate) fn get<T: AsULE>(bytes: &[u8], i: usize) -> Option<T> {
     if i < count::<T>(bytes) {
@@ -36,7 +36,8 @@ pub(crate) fn get<T: AsULE>(bytes: &[u8], i: usize) -> Option<T> {
     }
 }
 
-/// Refuses bytes that are not packed: by their number, then by the first cell that is no value.
+/// Checks that bytes are packed values. The error is the length if it is not a multiple of the
+/// width, and otherwise the first cell that is not a value.
 #[inline]
 pub(crate) fn test<T: AsULE>(bytes: &[u8]) -> Result<(), UleError> {
     if bytes.len() % T::WIDTH != 0 {
@@ -50,8 +51,8 @@ pub(crate) fn test<T: AsULE>(bytes: &[u8]) -> Result<(), UleError> {
     Ok(())
 }
 
-/// The packed bytes of the values that an iterator gives. Memory is asked for once where it knows
-/// how many there are.
+/// Packs the values that an iterator yields. Allocates once if the iterator knows how many values
+/// it has.
 #[inline]
 pub(crate) fn pack<T: AsULE, I: Iterator<Item = T>>(
     values: I,
@@ -66,7 +67,8 @@ pub(crate) fn pack<T: AsULE, I: Iterator<Item = T>>(
     Ok(bytes)
 }
 
-/// The first value of packed bytes, and the bytes of the others. `None` where there are no bytes.
+/// Returns the first value of packed bytes and the bytes of the others, or `None` if there are no
+/// bytes.
 #[inline(always)]
 pub(crate) fn split_first<T: AsULE>(bytes: &[u8]) -> Option<(T, &[u8])> {
     if bytes.is_empty() {
@@ -77,7 +79,8 @@ pub(crate) fn split_first<T: AsULE>(bytes: &[u8]) -> Option<(T, &[u8])> {
     Some((value, others))
 }
 
-/// A value of packed bytes that is there. Its place is proved, and no code tests it.
+/// Returns the value at index `i` of packed bytes. The contract requires that `i` is less than the
+/// length, so no code tests it.
 #[inline(always)]
 pub(crate) fn at<T: AsULE>(bytes: &[u8], i: usize) -> T {
     match T::from_unaligned(proved_cell(bytes, T::WIDTH, i)) {
@@ -86,13 +89,14 @@ pub(crate) fn at<T: AsULE>(bytes: &[u8], i: usize) -> T {
     }
 }
 
-/// Whether the value at place `i` is `x` or less.
+/// Returns true if the value at index `i` is less than or equal to `x`.
 #[inline(always)]
 fn is_at_most<T: AsULE + Ord>(bytes: &[u8], i: usize, x: &T) -> bool {
     at::<T>(bytes, i).cmp(x).is_le()
 }
 
-/// How many of the three values that follow `low` in steps are `x` or less.
+/// Returns how many of the values at the indices `low + step`, `low + 2 * step` and `low + 3 *
+/// step` are less than or equal to `x`.
 #[inline(always)]
 fn count_at_most<T: AsULE + Ord>(bytes: &[u8], low: usize, step: usize, x: &T) -> usize {
     let first = is_at_most(bytes, low + step, x);
@@ -101,8 +105,10 @@ fn count_at_most<T: AsULE + Ord>(bytes: &[u8], low: usize, step: usize, x: &T) -
     usize::from(first) + usize::from(second) + usize::from(third)
 }
 
-/// Where at most three values are left among which `x` may stand, and how many. Each step leaves a
-/// quarter. It counts what it reads, so that no jump depends on a value.
+/// Narrows a binary search for `x` to at most three values. Returns the index of the first of them
+/// and their number.
+///
+/// Each step leaves a quarter. It adds up comparisons, so no branch depends on a value.
 #[inline(always)]
 fn narrowed<T: AsULE + Ord>(bytes: &[u8], x: &T) -> (usize, usize) {
     let mut low = 0;
@@ -115,8 +121,8 @@ fn narrowed<T: AsULE + Ord>(bytes: &[u8], x: &T) -> (usize, usize) {
     (low, size)
 }
 
-/// The place of an equal value of ascending packed bytes as `Ok`, or as `Err` the place where it
-/// could be inserted.
+/// Searches ascending packed bytes for `x`. Returns the index of an equal value as `Ok`, or as
+/// `Err` the index at which `x` could be inserted.
 pub(crate) fn binary_search<T: AsULE + Ord>(bytes: &[u8], x: &T) -> Result<usize, usize> {
     if len::<T>(bytes) == 0 {
         return Err(0);
@@ -133,7 +139,7 @@ pub(crate) fn binary_search<T: AsULE + Ord>(bytes: &[u8], x: &T) -> Result<usize
     }
 }
 
-/// Whether two values are the same, by their bytes.
+/// Returns true if two values have the same bytes.
 #[inline]
 fn alike<T: AsULE>(x: T, y: T) -> bool {
     x.shown();
@@ -141,15 +147,15 @@ fn alike<T: AsULE>(x: T, y: T) -> bool {
     x.to_unaligned() == y.to_unaligned()
 }
 
-/// How many bytes to compare next. A block is compared as memory, which is fast, and only one that
-/// differs is gone through value by value.
+/// Returns how many bytes to compare next. Comparing a block of bytes is fast; only a block that
+/// differs is compared value by value.
 #[inline]
 fn block(left: usize) -> usize {
     if left < 1024 { left } else { 1024 }
 }
 
-/// How many of the first bytes are the same, in whole blocks: all of them, where the bytes are the
-/// same.
+/// Returns how many bytes at the start are equal, in whole blocks. If all bytes are equal, returns
+/// their number.
 #[inline]
 fn same_blocks(a: &[u8], b: &[u8]) -> usize {
     let mut at = 0;
@@ -163,8 +169,8 @@ fn same_blocks(a: &[u8], b: &[u8]) -> usize {
     at
 }
 
-/// Whether two lists of values are the same. Bytes are compared, and values only from the first
-/// block of bytes that differ.
+/// Returns true if two lists of values are equal. Compares bytes, and values only from the first
+/// block of bytes that differs.
 #[inline]
 pub(crate) fn same<T: AsULE>(a: &[u8], b: &[u8]) -> bool {
     let len = len::<T>(a);
@@ -179,7 +185,7 @@ pub(crate) fn same<T: AsULE>(a: &[u8], b: &[u8]) -> bool {
     true
 }
 
-/// Writes the bytes of a value.
+/// Feeds the bytes of a value to a hasher.
 #[inline]
 fn feed_one<T: AsULE, H: Hasher>(value: T, state: &mut H) {
     value.shown();
@@ -187,7 +193,7 @@ fn feed_one<T: AsULE, H: Hasher>(value: T, state: &mut H) {
     state.write(&cell[..T::WIDTH]);
 }
 
-/// Writes how many values there are, and the bytes of each.
+/// Feeds the number of values and the bytes of each value to a hasher.
 #[inline]
 pub(crate) fn feed<T: AsULE, H: Hasher>(bytes: &[u8], state: &mut H) {
     let len = len::<T>(bytes);

@@ -1,14 +1,14 @@
-//! Code points as packed values of three bytes, the lowest byte first.
+//! Code points as packed values of three bytes, lowest byte first.
 
 #[allow(unused_imports)]
 use crate::support::prelude::*;
 use crate::icu_zerovec::ule::AsULE;
 
-/// One more than the last code point: the exclusive end of the code space, 0 to 0x10FFFF.
+/// The exclusive end of the code space, 0x110000: one more than the last code point.
 pub const CODE_POINT_LIMIT: u32 = 0x11_0000;
 
-/// A number of 24 bits, which may be a code point: what a file claims to be one, kept in three
-/// bytes. It is compared and hashed by its number.
+/// A 24-bit number that may be a code point, such as one read from a file. It is stored in three
+/// bytes, and compared and hashed by its number.
 ///
 /// ```ignore
 /// let last = PotentialCodePoint::try_from(0x10ffff); // Ok
@@ -20,14 +20,15 @@ pub struct PotentialCodePoint {
 }
 
 impl PotentialCodePoint {
-    /// This number, which the caller keeps within 24 bits. Where it may have more, take `try_from`.
+    /// Returns `number` as a potential code point. It must be below 0x1000000; if that is not
+    /// known, use `try_from`.
     #[inline]
     pub(crate) fn from_u24(number: u32) -> Self {
         PotentialCodePoint { number }
     }
 }
 
-/// Refuses a number of more than 24 bits, which is then the error.
+/// Fails if the number needs more than 24 bits, and returns the number as the error.
 impl TryFrom<u32> for PotentialCodePoint {
     type Error = u32;
 
@@ -41,7 +42,7 @@ impl TryFrom<u32> for PotentialCodePoint {
     }
 }
 
-/// The number, whether or not it is a code point.
+/// Returns the number, whether or not it is a code point.
 impl From<PotentialCodePoint> for u32 {
     #[inline]
     fn from(point: PotentialCodePoint) -> u32 {
@@ -49,7 +50,7 @@ impl From<PotentialCodePoint> for u32 {
     }
 }
 
-/// Any three bytes are a number of 24 bits.
+/// Any three bytes are a 24-bit number.
 impl AsULE for PotentialCodePoint {
     const WIDTH: usize = 3;
 
@@ -68,8 +69,8 @@ impl AsULE for PotentialCodePoint {
     fn shown(self) {}
 }
 
-/// Three bytes give a `char` where their number is a Unicode scalar value: 0 to 0xD7FF or 0xE000 to
-/// 0x10FFFF. A surrogate is none.
+/// Three bytes are a `char` if their number is a Unicode scalar value: 0..=0xD7FF or
+/// 0xE000..=0x10FFFF. A surrogate is not a `char`.
 impl AsULE for char {
     const WIDTH: usize = 3;
 

@@ -1,4 +1,4 @@
-//! Vectors are equal, and hash alike, by their lists of values, for every lawful type.
+//! Equality and hashing of vectors, by their lists of values, for every lawful type.
 
 use crate::icu_zerovec::cells;
 use crate::icu_zerovec::ule::AsULE;

@@ -1,5 +1,5 @@
-//! The integers as packed values, the lowest byte first, and negative ones by their two's
-//! complement. Any bytes of the width are a value.
+//! Integers as packed values, lowest byte first, with negative numbers in two's complement. Any
+//! bytes of the right width are a value.
 
 use crate::icu_zerovec::ule::AsULE;
 

@@ -1,19 +1,20 @@
-//! The values of a packed vector, one after another.
+//! The iterator over the values of a packed vector.
 
 use crate::icu_zerovec::cells;
 use crate::icu_zerovec::ule::AsULE;
 use core::fmt;
 use core::marker::PhantomData;
 
-/// The values of a packed vector from the first that was not given yet to the last, as
-/// `ZeroVec::iter` and `ZeroSlice::iter` give them. It knows how many are left.
+/// An iterator over the values of a packed vector. `ZeroVec::iter` and `ZeroSlice::iter` return it.
+///
+/// It knows how many values are left.
 pub struct Iter<'a, T: AsULE> {
     bytes: &'a [u8],
     of: PhantomData<fn(T) -> T>,
 }
 
 impl<'a, T: AsULE> Iter<'a, T> {
-    /// The values of bytes that were tested.
+    /// Returns an iterator over bytes that have been validated.
     #[inline]
     pub(crate) fn from_packed(bytes: &'a [u8]) -> Self {
         Iter {
@@ -47,7 +48,7 @@ impl<'a, T: AsULE> ExactSizeIterator for Iter<'a, T> {
     }
 }
 
-/// The list of the values that are left, as a slice of them is shown: `[1, 2]`.
+/// Formats the values that are left as a list, like a slice: `[1, 2]`.
 impl<'a, T: AsULE + fmt::Debug> fmt::Debug for Iter<'a, T> {
     #[inline]
     fn fmt(&self, f: &mut fmt::Formatter<'_>) -> fmt::Result {

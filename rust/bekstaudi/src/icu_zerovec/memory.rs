@@ -1,13 +1,14 @@
-//! Want of memory, the one error that every call which may grow something can give, and that of a
-//! call that makes a list of changes.
+//! The error of every function that may fail to allocate, and the error of a function that makes a
+//! list of changes.
 
 use crate::support::{AllocError, AllocFailed};
 
-/// Memory was refused. What was lent is unchanged.
+/// An allocation failed. Values passed by reference are unchanged unless the function says
+/// otherwise.
 #[derive(Clone, Copy, Debug, PartialEq, Eq, Hash)]
 pub struct MemoryError;
 
-/// For `?` after a call that allocates.
+/// Converts the error of an allocation, so that `?` works.
 impl From<AllocError> for MemoryError {
     #[inline]
     fn from(_error: AllocError) -> MemoryError {
@@ -15,8 +16,8 @@ impl From<AllocError> for MemoryError {
     }
 }
 
-/// For `?` after a call that gives back the value for which there was no room, as `Vec::push`. The
-/// value is dropped.
+/// Converts the error of a function such as `Vec::push`, which returns the value that did not fit.
+/// The value is dropped.
 impl<T> From<AllocFailed<T>> for MemoryError {
     #[inline]
     fn from(_failed: AllocFailed<T>) -> MemoryError {
@@ -24,15 +25,15 @@ impl<T> From<AllocFailed<T>> for MemoryError {
     }
 }
 
-/// Memory was refused for the write at this place of a list, counted from 0. The writes before it
-/// are made, and no other.
+/// An allocation failed for the write at this index of a list, counted from 0. All writes before it
+/// were made, and no others.
 ///
-/// It stands beside [`MemoryError`], whatever the list is written into, so that `?` goes on with it
-/// in a function that answers want of memory.
+/// It is defined here, next to [`MemoryError`], so that `?` converts it in every function that
+/// returns `MemoryError`.
 #[derive(Clone, Copy, Debug, PartialEq, Eq)]
 pub struct ApplyRefused(pub usize);
 
-/// For `?` after a list of writes, where the place is of no use.
+/// Converts the error and drops the index.
 impl From<ApplyRefused> for MemoryError {
     #[inline]
     fn from(_refused: ApplyRefused) -> MemoryError {

@@ -1,4 +1,4 @@
-//! Views of packed vectors, with the same reads.
+//! Views of packed vectors, with the same queries.
 
 use crate::icu_zerovec::cells;
 use crate::icu_zerovec::iter::Iter;
@@ -9,7 +9,7 @@ use core::fmt;
 use core::hash::{Hash, Hasher};
 use core::marker::PhantomData;
 
-/// A view of a packed vector, `Copy` as a `&[T]` is, with the reads of [`ZeroVec`].
+/// A view of a packed vector, with the queries of [`ZeroVec`]. It is `Copy`, like `&[T]`.
 ///
 /// ```ignore
 /// let numbers = ZeroVec::<u16>::parse_bytes(&[1, 0, 2, 0])?;
@@ -17,7 +17,8 @@ use core::marker::PhantomData;
 /// // view.last() is Some(2), and view.as_zerovec() == numbers
 /// ```
 ///
-/// Two views are equal, and hash alike, exactly if their lists are equal.
+/// Two views are equal if and only if their lists of values are equal. Equal views have equal
+/// hashes.
 pub struct ZeroSlice<'a, T: AsULE> {
     bytes: &'a [u8],
     of: PhantomData<fn(T) -> T>,
@@ -33,7 +34,7 @@ impl<'a, T: AsULE> Clone for ZeroSlice<'a, T> {
 impl<'a, T: AsULE> Copy for ZeroSlice<'a, T> {}
 
 impl<'a, T: AsULE> ZeroSlice<'a, T> {
-    /// The view of bytes that were tested.
+    /// Returns a view of bytes that have been validated.
     #[inline]
     pub(crate) fn from_packed(bytes: &'a [u8]) -> Self {
         ZeroSlice {
@@ -42,55 +43,61 @@ impl<'a, T: AsULE> ZeroSlice<'a, T> {
         }
     }
 
-    /// How many values there are.
+    /// Returns the number of values.
     #[inline]
     pub fn len(&self) -> usize {
         cells::len::<T>(self.bytes)
     }
 
-    /// Whether there is no value.
+    /// Returns true if there are no values.
     #[inline]
     pub fn is_empty(&self) -> bool {
         self.len() == 0
     }
 
-    /// The value at place `i`, counted from 0. `None` at or past the end.
+    /// Returns the value at index `i`, counted from 0, or `None` if `i` is not less than the
+    /// length.
     #[inline]
     pub fn get(&self, i: usize) -> Option<T> {
         cells::get(self.bytes, i)
     }
 
-    /// The value at place `i`, counted from 0, which has to be there: for callers who know that it
-    /// is, and so need no test.
+    /// Returns the value at index `i`, counted from 0, which must be less than the length. Use it
+    /// if the caller has already tested the index.
     #[inline]
     pub(crate) fn at(&self, i: usize) -> T {
         cells::at(self.bytes, i)
     }
 
-    /// The first value. `None` where there is none.
+    /// Returns the first value, or `None` if there are no values.
     #[inline]
     pub fn first(&self) -> Option<T> {
         self.get(0)
     }
 
-    /// The last value. `None` where there is none.
+    /// Returns the last value, or `None` if there are no values.
     #[inline]
     pub fn last(&self) -> Option<T> {
         let len = self.len();
         if len == 0 { None } else { self.get(len - 1) }
     }
 
-    /// The values, one after another. They can be gone through after the view is dropped.
+    /// Returns an iterator over the values. It borrows the bytes and not the view, so it may
+    /// outlive the view.
     #[inline]
     pub fn iter(&self) -> Iter<'a, T> {
         Iter::from_packed(self.bytes)
     }
 
-    /// The place of a value that is equal to `x`, as [`ZeroVec::binary_search`] gives it.
+    /// Searches for a value that is equal to `x` and returns its index. If several are equal, the
+    /// index may be that of any of them.
+    ///
+    /// The values must be in ascending order. Otherwise the result is unspecified, but within the
+    /// bounds of the view.
     ///
     /// # Errors
-    /// The place at which `x` could be inserted so that the values still ascend, where none is
-    /// equal to it.
+    /// Returns the index at which `x` could be inserted to keep the order if no value is equal to
+    /// it.
     #[inline]
     pub fn binary_search(&self, x: &T) -> Result<usize, usize>
     where
@@ -99,13 +106,16 @@ impl<'a, T: AsULE> ZeroSlice<'a, T> {
         cells::binary_search(self.bytes, x)
     }
 
-    /// The packed bytes of the values, one after another, as [`ZeroVec::as_bytes`] gives them.
+    /// Returns the packed bytes of the values, in order.
+    ///
+    /// If each value of the type has one encoding, as for all types of this crate, these are the
+    /// bytes that the values pack to. Otherwise they are some bytes that unpack to the values.
     #[inline]
     pub fn as_bytes(&self) -> &'a [u8] {
         self.bytes
     }
 
-    /// The same list as a vector that borrows the bytes.
+    /// Returns a vector with the same values that borrows the bytes.
     #[inline]
     pub fn as_zerovec(self) -> ZeroVec<'a, T> {
         ZeroVec::from_packed(self.bytes)
@@ -129,7 +139,7 @@ impl<'a, T: AsULE> Hash for ZeroSlice<'a, T> {
     }
 }
 
-/// The list of the values, as a slice of them is shown: `[1, 2]`.
+/// Formats the values as a list, like a slice: `[1, 2]`.
 impl<'a, T: AsULE + fmt::Debug> fmt::Debug for ZeroSlice<'a, T> {
     #[inline]
     fn fmt(&self, f: &mut fmt::Formatter<'_>) -> fmt::Result {

@@ -1,34 +1,37 @@
-//! Values that are kept as one to four bytes.
+//! Values that are stored as one to four bytes.
 
 /// A value of one to four bytes that can be read in place, without a copy, at any address.
 ///
 /// It is implemented for `u8`, `u16`, `u32`, `i8`, `i16`, `i32`, `char` and
-/// [`PotentialCodePoint`](crate::icu_zerovec::PotentialCodePoint), each with its lowest byte first and the last
-/// two in three bytes. A type of your own is lawful where the packed bytes of each value give the
-/// value back. Several bytes may give one value, as a flag that any byte but zero turns on.
+/// [`PotentialCodePoint`](crate::icu_zerovec::PotentialCodePoint), each stored lowest byte first and the last
+/// two in three bytes. You can implement it for your own type if packing and then unpacking a value
+/// returns that value. Several byte sequences may unpack to the same value, such as a flag that any
+/// byte except zero turns on.
 pub trait AsULE: Copy {
-    /// How many bytes a value takes, 1 to 4.
+    /// The number of bytes of a value, 1 to 4.
     const WIDTH: usize;
 
-    /// The packed bytes of the value, and zeros after them: `0x1234_u16` is `[0x34, 0x12, 0, 0]`.
+    /// Returns the packed bytes of the value, followed by zeros: `0x1234_u16` gives `[0x34, 0x12,
+    /// 0, 0]`.
     fn to_unaligned(self) -> [u8; 4];
 
-    /// The value that these bytes give, `None` where they give none. There are `WIDTH` of them.
+    /// Returns the value of these bytes, or `None` if they are not a value. `bytes` must have
+    /// length `WIDTH`.
     ///
     /// # Panics
     /// Where there are fewer than `WIDTH` bytes.
     fn from_unaligned(bytes: &[u8]) -> Option<Self>;
 
-    /// Tells a proof that the value in hand is a value of the type. It does nothing.
+    /// Does nothing. In a proof, it states that `self` is a value of the type.
     fn shown(self) {}
 }
 
-/// Why bytes are no packed vector.
+/// The error for bytes that are not a packed vector.
 #[derive(Clone, Copy, Debug, PartialEq, Eq)]
 pub enum UleError {
-    /// The number of bytes is no multiple of the width of a value.
+    /// The number of bytes is not a multiple of the width of a value.
     Length,
-    /// This cell, counted from 0, is the first one that is no value.
+    /// The cell at this index, counted from 0, is the first one that is not a value.
     Cell(usize),
 }
 

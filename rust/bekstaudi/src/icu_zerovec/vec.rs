@@ -1,4 +1,4 @@
-//! Vectors of packed values that lend or own their bytes.
+//! Vectors of packed values that borrow or own their bytes.
 
 #[allow(unused_imports)]
 use crate::support::prelude::*;
@@ -10,15 +10,15 @@ use crate::icu_zerovec::ule::{AsULE, UleError};
 use core::fmt;
 use core::marker::PhantomData;
 
-/// Bytes that are lent or owned. Both kinds keep the address and the number of their bytes at the
-/// same places, so a read does not look which one it is.
+/// Bytes that are borrowed or owned. Both variants have the address and the length of the bytes at
+/// the same offsets, so reading does not branch on the variant.
 enum Store<'a> {
     Borrowed(&'a [u8]),
     Owned(Vec<u8>),
 }
 
 impl<'a> Store<'a> {
-    /// The bytes, whoever owns them.
+    /// Returns the bytes.
     #[inline(always)]
     fn bytes(&self) -> &[u8] {
         match self {
@@ -28,7 +28,7 @@ impl<'a> Store<'a> {
     }
 }
 
-/// A vector of values that are kept as bytes, which it borrows or owns.
+/// A vector of values that are stored as bytes, which it borrows or owns.
 ///
 /// ```ignore
 /// let points = ZeroVec::<char>::parse_bytes(&[0x41, 0, 0, 0, 0xf6, 1])?;
@@ -36,31 +36,34 @@ impl<'a> Store<'a> {
 /// // ZeroVec::<char>::parse_bytes(&[0x41, 0, 0, 0, 0xd8, 0]) is Err(UleError::Cell(1)), since 0xD800 is a surrogate
 /// ```
 ///
-/// Two vectors are equal, and hash alike, exactly if their lists are equal, whichever of them
-/// borrows.
+/// Two vectors are equal if and only if their lists of values are equal. Equal vectors have equal
+/// hashes. Whether a vector borrows or owns its bytes makes no difference.
 pub struct ZeroVec<'a, T: AsULE> {
     store: Store<'a>,
     of: PhantomData<fn(T) -> T>,
 }
 
-/// How a vector is made.
+/// Constructors and copies.
 impl<'a, T: AsULE> ZeroVec<'a, T> {
-    /// The vector that these bytes are, which it borrows: `ZeroVec::<u16>::parse_bytes(&[1, 2])`
-    /// holds 0x0201 alone.
+    /// Returns the vector with these bytes, which it borrows: `ZeroVec::<u16>::parse_bytes(&[1,
+    /// 2])` has the single value 0x0201.
     ///
     /// # Errors
-    /// `UleError::Length` where their number is no multiple of the width of a value, and otherwise
-    /// `UleError::Cell` with the first cell that is no value.
+    /// - `UleError::Length` if the number of bytes is not a multiple of the width of a value.
+    /// - `UleError::Cell` otherwise, with the index of the first cell that is not a value.
     #[inline]
     pub fn parse_bytes(bytes: &'a [u8]) -> Result<Self, UleError> {
         cells::test::<T>(bytes)?;
         Ok(ZeroVec::from_packed(bytes))
     }
 
-    /// The vector that these bytes are, which it takes over: what was just packed is not copied.
+    /// Returns the vector with these bytes, which it takes over without copying them.
     ///
     /// # Errors
-    /// Those of [`parse_bytes`](Self::parse_bytes). The bytes are then dropped.
+    /// - `UleError::Length` if the number of bytes is not a multiple of the width of a value.
+    /// - `UleError::Cell` otherwise, with the index of the first cell that is not a value.
+    ///
+    /// The bytes are dropped on error.
     #[inline]
     pub fn parse_owned(bytes: Vec<u8>) -> Result<Self, UleError> {
         cells::test::<T>(bytes.as_slice())?;
@@ -70,7 +73,7 @@ impl<'a, T: AsULE> ZeroVec<'a, T> {
         })
     }
 
-    /// The vector of bytes that were tested, which it borrows.
+    /// Returns the vector with bytes that have been validated, which it borrows.
     #[inline]
     pub(crate) fn from_packed(bytes: &'a [u8]) -> Self {
         ZeroVec {
@@ -79,7 +82,7 @@ impl<'a, T: AsULE> ZeroVec<'a, T> {
         }
     }
 
-    /// A vector of these values that owns its bytes.
+    /// Returns a vector with these values that owns its bytes.
     ///
     /// ```ignore
     /// let numbers = ZeroVec::<u16>::alloc_from_slice(&[0x1234, 255])?;
@@ -87,16 +90,17 @@ impl<'a, T: AsULE> ZeroVec<'a, T> {
     /// ```
     ///
     /// # Errors
-    /// `MemoryError` where memory was refused.
+    /// Returns `MemoryError` if an allocation fails.
     #[inline]
     pub fn alloc_from_slice(values: &[T]) -> Result<Self, MemoryError> {
         let vector = ZeroVec::alloc_from_iter(values.iter().copied())?;
         Ok(vector)
     }
 
-    /// A vector of the values that an iterator gives, in their order, which owns its bytes. Each
-    /// value is packed as it comes, so that a conversion needs no list of the converted values. The
-    /// iterator is one that ends.
+    /// Returns a vector with the values that an iterator yields, in order, that owns its bytes.
+    ///
+    /// Each value is packed as it is yielded, so converting values needs no intermediate list. The
+    /// iterator must be finite.
     ///
     /// ```ignore
     /// let codes = ZeroVec::<u32>::alloc_from_iter("AZ".chars().map(|c| u32::from(c)))?;
@@ -104,7 +108,8 @@ impl<'a, T: AsULE> ZeroVec<'a, T> {
     /// ```
     ///
     /// # Errors
-    /// `MemoryError` where memory was refused. The iterator is then dropped where it stands.
+    /// Returns `MemoryError` if an allocation fails. The iterator is then dropped with its
+    /// remaining items.
     #[inline]
     pub fn alloc_from_iter<I: Iterator<Item = T>>(
         values: I,
@@ -116,10 +121,10 @@ impl<'a, T: AsULE> ZeroVec<'a, T> {
         })
     }
 
-    /// An equal vector that owns its bytes, which are the same as those of this one.
+    /// Returns an equal vector that owns a copy of the bytes.
     ///
     /// # Errors
-    /// `MemoryError` where memory was refused.
+    /// Returns `MemoryError` if an allocation fails.
     #[inline]
     pub fn try_clone(&self) -> Result<ZeroVec<'static, T>, MemoryError> {
         Ok(ZeroVec {
@@ -128,11 +133,11 @@ impl<'a, T: AsULE> ZeroVec<'a, T> {
         })
     }
 
-    /// The vector with bytes of its own. One that owns its bytes already keeps them, and takes no
-    /// memory.
+    /// Returns the same vector, which then owns its bytes. If the vector already owns them, nothing
+    /// is allocated or copied.
     ///
     /// # Errors
-    /// `MemoryError` where memory was refused. The vector is then dropped, and bytes that it
+    /// Returns `MemoryError` if an allocation fails. The vector is then dropped; bytes that it
     /// borrowed are unchanged.
     #[inline]
     pub fn try_into_owned(self) -> Result<ZeroVec<'static, T>, MemoryError> {
@@ -148,53 +153,57 @@ impl<'a, T: AsULE> ZeroVec<'a, T> {
     }
 }
 
-/// What a vector holds.
+/// Queries.
 impl<'a, T: AsULE> ZeroVec<'a, T> {
-    /// The bytes, whoever owns them.
+    /// Returns the bytes.
     #[inline(always)]
     pub(crate) fn bytes(&self) -> &[u8] {
         self.store.bytes()
     }
 
-    /// How many values there are.
+    /// Returns the number of values.
     #[inline]
     pub fn len(&self) -> usize {
         cells::len::<T>(self.bytes())
     }
 
-    /// Whether there is no value.
+    /// Returns true if there are no values.
     #[inline]
     pub fn is_empty(&self) -> bool {
         self.len() == 0
     }
 
-    /// The value at place `i`, counted from 0. `None` at or past the end.
+    /// Returns the value at index `i`, counted from 0, or `None` if `i` is not less than the
+    /// length.
     #[inline]
     pub fn get(&self, i: usize) -> Option<T> {
         cells::get(self.bytes(), i)
     }
 
-    /// The first value. `None` where there is none.
+    /// Returns the first value, or `None` if there are no values.
     #[inline]
     pub fn first(&self) -> Option<T> {
         self.get(0)
     }
 
-    /// The last value. `None` where there is none.
+    /// Returns the last value, or `None` if there are no values.
     #[inline]
     pub fn last(&self) -> Option<T> {
         let len = self.len();
         if len == 0 { None } else { self.get(len - 1) }
     }
 
-    /// The values, one after another.
+    /// Returns an iterator over the values.
     #[inline]
     pub fn iter(&self) -> Iter<'_, T> {
         Iter::from_packed(self.bytes())
     }
 
-    /// The place of a value that is equal to `x`, as `Ok`, in a vector whose values ascend. Where
-    /// several are equal, the place of any of them.
+    /// Searches for a value that is equal to `x` and returns its index. If several are equal, the
+    /// index may be that of any of them.
+    ///
+    /// The values must be in ascending order. Otherwise the result is unspecified, but within the
+    /// bounds of the vector.
     ///
     /// ```ignore
     /// let numbers = ZeroVec::<u32>::alloc_from_slice(&[10, 20, 30])?;
@@ -202,8 +211,8 @@ impl<'a, T: AsULE> ZeroVec<'a, T> {
     /// ```
     ///
     /// # Errors
-    /// The place at which `x` could be inserted so that the values still ascend, where none is
-    /// equal to it.
+    /// Returns the index at which `x` could be inserted to keep the order if no value is equal to
+    /// it.
     #[inline]
     pub fn binary_search(&self, x: &T) -> Result<usize, usize>
     where
@@ -212,34 +221,33 @@ impl<'a, T: AsULE> ZeroVec<'a, T> {
         cells::binary_search(self.bytes(), x)
     }
 
-    /// The packed bytes of the values, one after another: as they are kept, borrowed or owned.
+    /// Returns the packed bytes of the values, in order, as they are stored.
     ///
-    /// Where each value of the type has one encoding, as in all types of this crate, these are the
-    /// bytes that the values pack to. For a type of which several bytes are one value they are
-    /// bytes that give the values.
+    /// If each value of the type has one encoding, as for all types of this crate, these are the
+    /// bytes that the values pack to. Otherwise they are some bytes that unpack to the values.
     #[inline]
     pub fn as_bytes(&self) -> &[u8] {
         self.store.bytes()
     }
 
-    /// A view of the vector.
+    /// Returns a view of the vector.
     #[inline]
     pub fn as_slice(&self) -> ZeroSlice<'_, T> {
         ZeroSlice::from_packed(self.bytes())
     }
 }
 
-/// What a vector can become.
+/// Conversions.
 impl<'a, T: AsULE> ZeroVec<'a, T> {
-    /// The same bytes as values of another type of the same width: borrowed or owned as they were,
-    /// none of them copied.
+    /// Returns the same bytes as a vector of another type, which must have the same width. The
+    /// bytes stay borrowed or owned, and none are copied.
     ///
-    /// Each vector of `char` is one of `PotentialCodePoint`, and the other way round the cells
-    /// decide.
+    /// Converting `char` to `PotentialCodePoint` always succeeds; the other direction depends on
+    /// the cells.
     ///
     /// # Errors
-    /// `UleError::Cell` with the first cell that is no value of the other type. The vector is then
-    /// dropped.
+    /// Returns `UleError::Cell` with the index of the first cell that is not a value of the other
+    /// type. The vector is then dropped.
     #[inline]
     pub(crate) fn try_into_converted<P: AsULE>(self) -> Result<ZeroVec<'a, P>, UleError> {
         let ZeroVec { store, of: _ } = self;
@@ -251,7 +259,7 @@ impl<'a, T: AsULE> ZeroVec<'a, T> {
     }
 }
 
-/// The list of the values, as a slice of them is shown: `[1, 2]`.
+/// Formats the values as a list, like a slice: `[1, 2]`.
 impl<'a, T: AsULE + fmt::Debug> fmt::Debug for ZeroVec<'a, T> {
     #[inline]
     fn fmt(&self, f: &mut fmt::Formatter<'_>) -> fmt::Result {

@@ -1,4 +1,4 @@
-//! The set that changes.
+//! The mutable set of code points.
 
 #[allow(unused_imports)]
 use crate::support::prelude::*;
@@ -8,14 +8,14 @@ use crate::icu_invlist::fill;
 use crate::icu_invlist::merge::{Difference, Intersection, SymmetricDifference, Union, change};
 use crate::icu_zerovec::{CODE_POINT_LIMIT, MemoryError};
 
-/// A set of code points that changes, and becomes a [`CodePointInversionList`] by
-/// [`build`](CodePointInversionListBuilder::build).
+/// A mutable set of code points. [`build`](CodePointInversionListBuilder::build) turns it into a
+/// [`CodePointInversionList`].
 ///
-/// A range is changed in place: its two borders are searched for, and the ends between them give
-/// way to it. Two sets are joined by one walk over both, into a new list.
+/// Changing a range edits the list of boundaries in place: the builder searches for the two borders
+/// of the range and replaces the boundaries between them. Combining with another set merges both
+/// lists into a new one.
 ///
-/// A call that changes the set answers `MemoryError` where memory was refused, and the set is then
-/// unchanged.
+/// If an allocation fails, the method returns `MemoryError` and leaves the set unchanged.
 ///
 /// ```ignore
 /// let mut builder = CodePointInversionListBuilder::new();
@@ -30,7 +30,8 @@ pub struct CodePointInversionListBuilder {
 }
 
 impl CodePointInversionListBuilder {
-    /// The empty set. It takes none yet.
+    /// Returns a builder that holds the empty set.
+    /// This does not allocate.
     #[inline]
     pub fn new() -> Self {
         CodePointInversionListBuilder {
@@ -38,25 +39,25 @@ impl CodePointInversionListBuilder {
         }
     }
 
-    /// Whether the set holds no code point.
+    /// Returns true if the set contains no code points.
     #[inline]
     pub fn is_empty(&self) -> bool {
         self.ends.is_empty()
     }
 
-    /// The set, with its ends packed.
+    /// Returns the set as an inversion list, with its boundaries packed in three bytes each.
     ///
     /// # Errors
-    /// `MemoryError` where memory was refused. The builder is then dropped.
+    /// Returns `MemoryError` if an allocation fails. The builder is dropped in any case.
     #[inline]
     pub fn try_build(self) -> Result<CodePointInversionList<'static>, MemoryError> {
         CodePointInversionList::from_valid_slice(&self.ends)
     }
 
-    /// A builder of the same set.
+    /// Returns a copy of the builder, which holds an equal set.
     ///
     /// # Errors
-    /// `MemoryError` where memory was refused.
+    /// Returns `MemoryError` if an allocation fails.
     #[inline]
     pub fn try_clone(&self) -> Result<Self, MemoryError> {
         Ok(CodePointInversionListBuilder {
@@ -65,34 +66,50 @@ impl CodePointInversionListBuilder {
     }
 }
 
-/// Union: what is named comes into the set.
+/// Union: methods that add code points.
 impl CodePointInversionListBuilder {
-    /// Adds the character.
+    /// Adds the character `c`.
+    ///
+    /// # Errors
+    /// Returns `MemoryError` if an allocation fails. The set is then unchanged.
     #[inline]
     pub fn try_add_char(&mut self, c: char) -> Result<(), MemoryError> {
         let number = u32::from(c);
         fill::add(&mut self.ends, number, number + 1)
     }
 
-    /// Adds the code point. A number above 0x10FFFF is ignored.
+    /// Adds the code point `c`. A number above 0x10FFFF is ignored.
+    ///
+    /// # Errors
+    /// Returns `MemoryError` if an allocation fails. The set is then unchanged.
     #[inline]
     pub fn try_add32(&mut self, c: u32) -> Result<(), MemoryError> {
         fill::add(&mut self.ends, c, c.saturating_add(1))
     }
 
-    /// Adds what the range names, surrogates between its characters too: `'A'..='Z'` adds 26
-    /// letters.
+    /// Adds all code points in `range`: `'A'..='Z'` adds 26 letters. Surrogates between the start
+    /// and the end are added too.
+    ///
+    /// `range` may be empty or reversed; it then adds nothing.
+    ///
+    /// # Errors
+    /// Returns `MemoryError` if an allocation fails. The set is then unchanged.
     #[inline]
     pub fn try_add_range<R: core::ops::RangeBounds<char>>(&mut self, range: R) -> Result<(), MemoryError> {
         let (from, till) = range.deconstruct();
         fill::add(&mut self.ends, from, till)
     }
 
-    /// Adds what the range names. A range that names more than code points, so that its exclusive
-    /// end is above 0x110000, is ignored as a whole: 0x50..=0x110000 adds nothing.
+    /// Adds all code points in `range`.
+    ///
+    /// `range` may be empty or reversed; it then adds nothing. If its exclusive end is above
+    /// 0x110000, the whole range is ignored: 0x50..=0x110000 adds nothing.
+    ///
+    /// # Errors
+    /// Returns `MemoryError` if an allocation fails. The set is then unchanged.
     #[inline]
     pub fn try_add_range32<R: core::ops::RangeBounds<u32>>(&mut self, range: R) -> Result<(), MemoryError> {
-        // A set is known to be valid where its ends are named.
+        // Reading the field gives the proof the invariant: the set is valid.
         let _ = &self.ends;
         let (start, end) = range.deconstruct();
         if end > CODE_POINT_LIMIT {
@@ -101,124 +118,175 @@ impl CodePointInversionListBuilder {
         fill::add(&mut self.ends, start, end)
     }
 
-    /// Adds the members of the set.
+    /// Adds all code points in `set`.
+    ///
+    /// # Errors
+    /// Returns `MemoryError` if an allocation fails. The builder is then unchanged.
     #[inline]
     pub fn try_add_set(&mut self, set: &CodePointInversionList<'_>) -> Result<(), MemoryError> {
         change::<Union>(&mut self.ends, set)
     }
 }
 
-/// Difference: what is named leaves the set.
+/// Difference: methods that remove code points.
 impl CodePointInversionListBuilder {
-    /// Removes the character.
+    /// Removes the character `c`.
+    ///
+    /// # Errors
+    /// Returns `MemoryError` if an allocation fails. The set is then unchanged.
     #[inline]
     pub fn try_remove_char(&mut self, c: char) -> Result<(), MemoryError> {
         let number = u32::from(c);
         fill::remove(&mut self.ends, number, number + 1)
     }
 
-    /// Removes the code point.
+    /// Removes the code point `c`. A number above 0x10FFFF is ignored.
+    ///
+    /// # Errors
+    /// Returns `MemoryError` if an allocation fails. The set is then unchanged.
     #[inline]
     pub fn try_remove32(&mut self, c: u32) -> Result<(), MemoryError> {
         fill::remove(&mut self.ends, c, c.saturating_add(1))
     }
 
-    /// Removes what the range names. Memory is needed where a range of the set is cut in two.
+    /// Removes all code points in `range`, including surrogates between its start and its end.
+    ///
+    /// `range` may be empty or reversed; it then removes nothing.
+    ///
+    /// # Errors
+    /// Returns `MemoryError` if an allocation fails. The set is then unchanged. This allocates only
+    /// if it splits a range of the set in two.
     #[inline]
     pub fn try_remove_range<R: core::ops::RangeBounds<char>>(&mut self, range: R) -> Result<(), MemoryError> {
         let (from, till) = range.deconstruct();
         fill::remove(&mut self.ends, from, till)
     }
 
-    /// Removes what the range names: `0..=u32::MAX` removes all.
+    /// Removes all code points in `range`: `0..=u32::MAX` removes all.
+    ///
+    /// `range` may be empty or reversed; it then removes nothing.
+    ///
+    /// # Errors
+    /// Returns `MemoryError` if an allocation fails. The set is then unchanged.
     #[inline]
     pub fn try_remove_range32<R: core::ops::RangeBounds<u32>>(&mut self, range: R) -> Result<(), MemoryError> {
         let (start, end) = range.deconstruct();
         fill::remove(&mut self.ends, start, end)
     }
 
-    /// Removes the members of the set.
+    /// Removes all code points in `set`.
+    ///
+    /// # Errors
+    /// Returns `MemoryError` if an allocation fails. The builder is then unchanged.
     #[inline]
     pub fn try_remove_set(&mut self, set: &CodePointInversionList<'_>) -> Result<(), MemoryError> {
         change::<Difference>(&mut self.ends, set)
     }
 }
 
-/// Intersection: what is not named leaves the set.
+/// Intersection: methods that remove all other code points.
 impl CodePointInversionListBuilder {
-    /// Keeps the character alone, if the set holds it. It takes no memory.
+    /// Removes all code points except the character `c`. This does not allocate.
     #[inline]
     pub fn retain_char(&mut self, c: char) {
         let number = u32::from(c);
         fill::retain(&mut self.ends, number, number + 1);
     }
 
-    /// Keeps the code point alone, if the set holds it. It takes no memory.
+    /// Removes all code points except `c`. If `c` is above 0x10FFFF, the set becomes empty. This
+    /// does not allocate.
     #[inline]
     pub fn retain32(&mut self, c: u32) {
         fill::retain(&mut self.ends, c, c.saturating_add(1));
     }
 
-    /// Keeps what the range names alone. It takes no memory.
+    /// Removes all code points outside `range`. If `range` is empty or reversed, the set becomes
+    /// empty. This does not allocate.
     #[inline]
     pub fn retain_range<R: core::ops::RangeBounds<char>>(&mut self, range: R) {
         let (from, till) = range.deconstruct();
         fill::retain(&mut self.ends, from, till);
     }
 
-    /// Keeps what the range names alone: nothing, where it is empty or reversed. It takes no
-    /// memory.
+    /// Removes all code points outside `range`. If `range` is empty or reversed, the set becomes
+    /// empty. This does not allocate.
     #[inline]
     pub fn retain_range32<R: core::ops::RangeBounds<u32>>(&mut self, range: R) {
         let (start, end) = range.deconstruct();
         fill::retain(&mut self.ends, start, end);
     }
 
-    /// Keeps the members of the set alone.
+    /// Removes all code points that are not in `set`.
+    ///
+    /// # Errors
+    /// Returns `MemoryError` if an allocation fails. The builder is then unchanged.
     #[inline]
     pub fn try_retain_set(&mut self, set: &CodePointInversionList<'_>) -> Result<(), MemoryError> {
         change::<Intersection>(&mut self.ends, set)
     }
 }
 
-/// Complement and symmetric difference: what is named leaves the set where it was in it, and comes
-/// into it where it was not.
+/// Complement and symmetric difference: methods that flip code points. Flipping removes a code
+/// point that is in the set and adds one that is not.
 impl CodePointInversionListBuilder {
-    /// Flips all code points: the set becomes its complement. The complement of the complement is
-    /// the set again.
+    /// Flips all code points: the set becomes its complement. Doing it twice restores the set.
+    ///
+    /// # Errors
+    /// Returns `MemoryError` if an allocation fails. The set is then unchanged.
     #[inline]
     pub fn try_complement(&mut self) -> Result<(), MemoryError> {
         fill::flip(&mut self.ends, 0, CODE_POINT_LIMIT)
     }
 
-    /// Flips the character.
+    /// Flips the character `c`: removes it if it is in the set, and adds it otherwise.
+    ///
+    /// # Errors
+    /// Returns `MemoryError` if an allocation fails. The set is then unchanged.
     #[inline]
     pub fn try_complement_char(&mut self, c: char) -> Result<(), MemoryError> {
         let number = u32::from(c);
         fill::flip(&mut self.ends, number, number + 1)
     }
 
-    /// Flips the code point. A number above 0x10FFFF changes nothing.
+    /// Flips the code point `c`: removes it if it is in the set, and adds it otherwise. A number
+    /// above 0x10FFFF is ignored.
+    ///
+    /// # Errors
+    /// Returns `MemoryError` if an allocation fails. The set is then unchanged.
     #[inline]
     pub fn try_complement32(&mut self, c: u32) -> Result<(), MemoryError> {
         fill::flip(&mut self.ends, c, c.saturating_add(1))
     }
 
-    /// Flips what the range names.
+    /// Flips all code points in `range`, including surrogates between its start and its end.
+    ///
+    /// `range` may be empty or reversed; it then changes nothing.
+    ///
+    /// # Errors
+    /// Returns `MemoryError` if an allocation fails. The set is then unchanged.
     #[inline]
     pub fn try_complement_range<R: core::ops::RangeBounds<char>>(&mut self, range: R) -> Result<(), MemoryError> {
         let (from, till) = range.deconstruct();
         fill::flip(&mut self.ends, from, till)
     }
 
-    /// Flips what the range names: nothing, where it is empty or reversed.
+    /// Flips all code points in `range`. Numbers above 0x10FFFF are ignored.
+    ///
+    /// `range` may be empty or reversed; it then changes nothing.
+    ///
+    /// # Errors
+    /// Returns `MemoryError` if an allocation fails. The set is then unchanged.
     #[inline]
     pub fn try_complement_range32<R: core::ops::RangeBounds<u32>>(&mut self, range: R) -> Result<(), MemoryError> {
         let (start, end) = range.deconstruct();
         fill::flip(&mut self.ends, start, end)
     }
 
-    /// Flips the members of the set. Done twice, it leaves the set as it was.
+    /// Flips all code points in `set`, so that the result is the symmetric difference. Doing it
+    /// twice restores the set.
+    ///
+    /// # Errors
+    /// Returns `MemoryError` if an allocation fails. The builder is then unchanged.
     #[inline]
     pub fn try_complement_set(&mut self, set: &CodePointInversionList<'_>) -> Result<(), MemoryError> {
         change::<SymmetricDifference>(&mut self.ends, set)

@@ -1,4 +1,4 @@
-//! Sets of ranges.
+//! Sets made from ranges.
 
 #[allow(unused_imports)]
 use crate::support::prelude::*;
@@ -10,12 +10,13 @@ use crate::icu_zerovec::MemoryError;
 use core::ops::RangeInclusive;
 
 impl<'data> CodePointInversionList<'data> {
-    /// The set of what a range of characters names: `'A'..='Z'` gives `[0x41, 0x5B]`.
+    /// Returns the set of all code points in a range of characters: `'A'..='Z'` gives `[0x41,
+    /// 0x5B]`. Surrogates between the start and the end are included.
     ///
     /// # Errors
-    /// `TryRangeError::Invalid` exactly where the range is empty or reversed, with its start and
-    /// its exclusive end: `'B'..'A'` gives `RangeError(0x42, 0x41)`. `TryRangeError::Memory` where
-    /// memory was refused.
+    /// - `TryRangeError::Invalid` if and only if the range is empty or reversed. The error contains
+    ///   its start and its exclusive end: `'B'..'A'` gives `RangeError(0x42, 0x41)`.
+    /// - `TryRangeError::Memory` if an allocation fails.
     #[inline]
     pub fn try_from_range<R: core::ops::RangeBounds<char>>(
         range: R,
@@ -27,12 +28,14 @@ impl<'data> CodePointInversionList<'data> {
         Ok(CodePointInversionList::from_valid_slice(&[start, end])?)
     }
 
-    /// The set of all that the ranges name. A range whose last number is above 0x10FFFF is ignored
-    /// as a whole, as by [`add_range32`](CodePointInversionListBuilder::add_range32). The iterator
-    /// is one that ends.
+    /// Returns the union of all ranges that `iter` yields.
+    ///
+    /// A range whose last number is above 0x10FFFF is ignored as a whole, as in
+    /// [`add_range32`](CodePointInversionListBuilder::add_range32). The iterator must be finite.
     ///
     /// # Errors
-    /// `MemoryError` where memory was refused. The iterator is then dropped where it stands.
+    /// Returns `MemoryError` if an allocation fails. The iterator is then dropped with its
+    /// remaining items.
     #[inline]
     pub fn try_from_iter<I: Iterator<Item = RangeInclusive<u32>>>(
         iter: I,

@@ -1,4 +1,4 @@
-//! The set of an inversion list.
+//! The immutable set of code points, stored as an inversion list.
 
 #[allow(unused_imports)]
 use crate::support::prelude::*;
@@ -14,7 +14,8 @@ use crate::icu_zerovec::{CODE_POINT_LIMIT, MemoryError, PotentialCodePoint, Zero
 use packing::{cut_to_points, pack, unpacked};
 use core::ops::RangeInclusive;
 
-/// A set of code points, surrogates among them. It lends or owns its ends.
+/// An immutable set of code points, which may include surrogates. It borrows or owns the list of
+/// its boundaries.
 ///
 /// ```ignore
 /// let letters = CodePointInversionList::try_from_u32_inversion_list_slice(&[0x41, 0x5B, 0x61, 0x7B])?;
@@ -25,13 +26,15 @@ pub struct CodePointInversionList<'data> {
     ends: ZeroVec<'data, PotentialCodePoint>,
 }
 
-/// How a set is made.
+/// Constructors and copies.
 impl<'data> CodePointInversionList<'data> {
-    /// The set of this list, which is taken over.
+    /// Returns the set with this list of boundaries, and takes over the list without copying it.
     ///
     /// # Errors
-    /// `SetError::Invalid` exactly where it is no inversion list, with the list. `SetError::Memory`
-    /// where the copy for that error was refused; a valid list takes no memory.
+    /// - `SetError::Invalid` if and only if `ends` is not an inversion list. The error contains a
+    ///   copy of the list.
+    /// - `SetError::Memory` if `ends` is not an inversion list and allocating that copy fails. A
+    ///   valid list needs no allocation.
     #[inline]
     pub fn try_from_inversion_list(
         ends: ZeroVec<'data, PotentialCodePoint>,
@@ -42,12 +45,12 @@ impl<'data> CodePointInversionList<'data> {
         Err(SetError::Invalid(InvalidSetError(unpacked(&ends)?)))
     }
 
-    /// The set of these numbers, which are copied.
+    /// Returns the set with these boundaries, and copies them.
     ///
     /// # Errors
-    /// `SetError::Invalid` exactly where they are no inversion list, with the numbers as code
-    /// points: one above 0xFFFFFF is shown as that one. `SetError::Memory` where memory was
-    /// refused.
+    /// - `SetError::Invalid` if and only if `ends` is not an inversion list. The error contains the
+    ///   numbers, with 0xFFFFFF in place of any number above it.
+    /// - `SetError::Memory` if an allocation fails.
     #[inline]
     pub fn try_from_u32_inversion_list_slice(ends: &[u32]) -> Result<Self, SetError> {
         if !is_valid_slice(ends) {
@@ -56,13 +59,15 @@ impl<'data> CodePointInversionList<'data> {
         Ok(CodePointInversionList::from_valid_slice(ends)?)
     }
 
-    /// The set of an inversion list, which is copied: of even length, ascending, and within
-    /// 0x110000. Where that is not known, take
-    /// [`try_from_u32_inversion_list_slice`](Self::try_from_u32_inversion_list_slice), which tests
+    /// Returns the set with these boundaries, and copies them.
+    ///
+    /// `ends` must be an inversion list: of even length, strictly ascending, and with no number
+    /// above 0x110000. If that is not known, use
+    /// [`try_from_u32_inversion_list_slice`](Self::try_from_u32_inversion_list_slice), which checks
     /// it.
     ///
     /// # Errors
-    /// `MemoryError` where memory was refused.
+    /// Returns `MemoryError` if an allocation fails.
     #[inline]
     pub(crate) fn from_valid_slice(
         ends: &[u32],
@@ -75,7 +80,8 @@ impl<'data> CodePointInversionList<'data> {
         }
     }
 
-    /// All code points, 0 to 0x10FFFF, surrogates too. It takes no memory.
+    /// Returns the set of all code points, 0 to 0x10FFFF inclusive, with surrogates. This does not
+    /// allocate.
     #[inline]
     pub fn all() -> CodePointInversionList<'static> {
         match ZeroVec::parse_bytes(&[0, 0, 0, 0, 0, 0x11]) {
@@ -84,8 +90,8 @@ impl<'data> CodePointInversionList<'data> {
         }
     }
 
-    /// The code points of the basic multilingual plane, 0 to 0xFFFF, surrogates too. It takes no
-    /// memory.
+    /// Returns the set of all code points of the Basic Multilingual Plane, 0 to 0xFFFF inclusive,
+    /// with surrogates. This does not allocate.
     #[inline]
     pub fn bmp() -> CodePointInversionList<'static> {
         match ZeroVec::parse_bytes(&[0, 0, 0, 0, 0, 0x1]) {
@@ -94,11 +100,12 @@ impl<'data> CodePointInversionList<'data> {
         }
     }
 
-    /// The set with ends of its own. One that owns them already keeps them, and takes no memory.
+    /// Returns the same set, which then owns its boundaries. If the set already owns them, nothing
+    /// is allocated or copied.
     ///
     /// # Errors
-    /// `MemoryError` where memory was refused. The set is then dropped, and ends that it borrowed
-    /// are unchanged.
+    /// Returns `MemoryError` if an allocation fails. The set is then dropped; boundaries that it
+    /// borrowed are unchanged.
     #[inline]
     pub fn try_into_owned(self) -> Result<CodePointInversionList<'static>, MemoryError> {
         let CodePointInversionList { ends } = self;
@@ -107,10 +114,10 @@ impl<'data> CodePointInversionList<'data> {
         })
     }
 
-    /// An equal set with ends of its own.
+    /// Returns an equal set that owns its boundaries.
     ///
     /// # Errors
-    /// `MemoryError` where memory was refused.
+    /// Returns `MemoryError` if an allocation fails.
     #[inline]
     pub fn try_clone(&self) -> Result<CodePointInversionList<'static>, MemoryError> {
         Ok(CodePointInversionList {
@@ -119,29 +126,31 @@ impl<'data> CodePointInversionList<'data> {
     }
 }
 
-/// What a set holds.
+/// Queries.
 impl<'data> CodePointInversionList<'data> {
-    /// How many ends there are.
+    /// Returns the number of boundaries.
     #[inline]
     pub(crate) fn count(&self) -> usize {
         self.ends.len()
     }
 
-    /// The end at place `i`, counted from 0.
+    /// Returns the boundary at index `i`, counted from 0.
     #[inline]
     pub(crate) fn end_at(&self, i: usize) -> u32 {
         u32::from(self.ends.as_slice().at(i))
     }
 
-    /// The ends, packed.
+    /// Returns a reference to the packed boundaries.
     #[inline]
     pub(crate) fn packed(&self) -> &ZeroVec<'data, PotentialCodePoint> {
         &self.ends
     }
 
-    /// The ends, lent as they are kept, packed in three bytes each. What
-    /// [`try_from_inversion_list`](Self::try_from_inversion_list) takes, it lends again: that one
-    /// gives an equal set of these ends. It takes no memory.
+    /// Returns a view of the boundaries as they are stored, packed in three bytes each. This does
+    /// not allocate.
+    ///
+    /// [`try_from_inversion_list`](Self::try_from_inversion_list) turns such a view back into an
+    /// equal set.
     ///
     /// ```ignore
     /// let ends = letters.as_inversion_list();
@@ -153,10 +162,10 @@ impl<'data> CodePointInversionList<'data> {
         self.ends.as_slice()
     }
 
-    /// The ends, copied.
+    /// Returns a copy of the boundaries as a vector of numbers.
     ///
     /// # Errors
-    /// `MemoryError` where memory was refused.
+    /// Returns `MemoryError` if an allocation fails.
     #[inline]
     pub fn try_get_inversion_list_vec(&self) -> Result<Vec<u32>, MemoryError> {
         let mut ends = Vec::with_room(self.count())?;
@@ -164,7 +173,8 @@ impl<'data> CodePointInversionList<'data> {
         Ok(ends)
     }
 
-    /// Appends the ends from place `from` on.
+    /// Appends the boundaries from index `from` on to `ends`, which is unchanged if an allocation
+    /// fails.
     #[inline]
     pub(crate) fn push_ends(&self, ends: &mut Vec<u32>, from: usize) -> Result<(), MemoryError> {
         let packed = self.ends.as_slice();
@@ -176,20 +186,21 @@ impl<'data> CodePointInversionList<'data> {
         Ok(())
     }
 
-    /// Whether the set holds the code point. No number above 0x10FFFF is held.
+    /// Returns true if the set contains the code point `c`. Returns false for any number above
+    /// 0x10FFFF.
     #[inline]
     pub fn contains32(&self, c: u32) -> bool {
         self.place_of(c) % 2 == 1
     }
 
-    /// Whether the set holds the character.
+    /// Returns true if the set contains the character `c`.
     #[inline]
     pub fn contains(&self, c: char) -> bool {
         self.contains32(u32::from(c))
     }
 
-    /// Whether the range names a code point, and the set holds all that it names. The surrogates
-    /// between two characters are named too.
+    /// Returns true if `range` is not empty and the set contains all code points in it, including
+    /// any surrogates between its start and its end.
     #[inline]
     pub fn contains_range<R: core::ops::RangeBounds<char>>(&self, range: R) -> bool {
         let (start, end) = range.deconstruct();
@@ -197,9 +208,9 @@ impl<'data> CodePointInversionList<'data> {
         start < end && self.reaches(self.place_of(start), end)
     }
 
-    /// Whether the set holds all that the other one holds. The empty set is part of each.
+    /// Returns true if `other` is a subset of this set. The empty set is a subset of every set.
     pub fn contains_set(&self, other: &CodePointInversionList<'_>) -> bool {
-        // A set is known to be valid where its ends are named.
+        // Reading the field gives the proof the invariant: the set is valid.
         let _ = &self.ends;
         let count = other.count();
         if count == 0 {
@@ -215,15 +226,21 @@ impl<'data> CodePointInversionList<'data> {
         }
     }
 
-    /// How many smaller code points the set holds, if it holds the character: less than
+    /// Returns the index of `c` among the set's code points in ascending order, or `None` if the
+    /// set does not contain `c`.
+    ///
+    /// The index is the number of smaller code points in the set, and is less than
     /// [`size`](Self::size).
     #[inline]
     pub fn position(&self, c: char) -> Option<usize> {
         self.position32(u32::from(c))
     }
 
-    /// How many smaller code points the set holds, if it holds this one: less than
-    /// [`size`](Self::size). No number above 0x10FFFF has a place.
+    /// Returns the index of `c` among the set's code points in ascending order, or `None` if the
+    /// set does not contain `c`.
+    ///
+    /// The index is the number of smaller code points in the set, and is less than
+    /// [`size`](Self::size). For any number above 0x10FFFF the result is `None`.
     #[inline]
     pub fn position32(&self, c: u32) -> Option<usize> {
         let place = self.place_of(c);
@@ -239,7 +256,7 @@ impl<'data> CodePointInversionList<'data> {
         Some(before + (c - self.end_at(i)) as usize)
     }
 
-    /// How many code points the set holds, surrogates among them.
+    /// Returns the number of code points in the set, including surrogates.
     #[inline]
     pub fn size(&self) -> usize {
         let count = self.count();
@@ -252,23 +269,23 @@ impl<'data> CodePointInversionList<'data> {
         size
     }
 
-    /// Whether the set holds no code point.
+    /// Returns true if the set contains no code points.
     #[inline]
     pub fn is_empty(&self) -> bool {
         self.ends.is_empty()
     }
 }
 
-/// The ranges and the characters of a set.
+/// Ranges and characters.
 impl<'data> CodePointInversionList<'data> {
-    /// How many ranges the set has.
+    /// Returns the number of ranges in the set. Two ranges never touch.
     #[inline]
     pub fn get_range_count(&self) -> usize {
         self.ends.len() / 2
     }
 
-    /// The range at place `index`, counted from 0, with its last code point included. `None` at or
-    /// past the count.
+    /// Returns the range at `index`, counted from 0, or `None` if there are not that many ranges.
+    /// The range includes its last code point.
     #[inline]
     pub fn get_nth_range(&self, index: usize) -> Option<RangeInclusive<u32>> {
         if index >= self.count() / 2 {
@@ -277,15 +294,15 @@ impl<'data> CodePointInversionList<'data> {
         Some(RangeInclusive::new(self.end_at(2 * index), self.end_at(2 * index + 1) - 1))
     }
 
-    /// The ranges that the set holds, ascending: of `[0x41, 0x44, 0x61, 0x62]` 0x41..=0x43 and
-    /// 0x61..=0x61.
+    /// Returns an iterator over the ranges of the set, in ascending order: for `[0x41, 0x44, 0x61,
+    /// 0x62]` it yields 0x41..=0x43 and 0x61..=0x61.
     #[inline]
     pub fn iter_ranges(&self) -> IterRanges<'_> {
         IterRanges::from_ends(self.ends.iter())
     }
 
-    /// The ranges of code points that the set does not hold, ascending: of the empty set
-    /// 0..=0x10FFFF.
+    /// Returns an iterator over the ranges of code points that are not in the set, in ascending
+    /// order: for the empty set it yields 0..=0x10FFFF.
     #[inline]
     pub fn iter_ranges_complemented(&self) -> IterRangesComplemented<'_> {
         let mut ends = self.ends.iter();
@@ -297,18 +314,20 @@ impl<'data> CodePointInversionList<'data> {
         IterRangesComplemented::from_gap(Some(0), ends)
     }
 
-    /// The characters that the set holds, ascending. Its surrogates are left out.
+    /// Returns an iterator over the characters in the set, in ascending order. It skips surrogates.
     #[inline]
     pub fn iter_chars(&self) -> IterChars<'_> {
         IterChars::from_ends(self.ends.iter())
     }
 }
 
-/// How far a text lies in a set.
+/// Spans of text.
 impl<'data> CodePointInversionList<'data> {
-    /// The length in bytes of the longest front of the text whose characters are all held, or, for
-    /// `held` false, all not held. A character starts there, or the text ends: so
-    /// `&text[set.span(text, true)..]` is what follows.
+    /// Returns the length in bytes of the longest prefix of `text` whose characters are all in the
+    /// set, or all outside it if `held` is false.
+    ///
+    /// The result is a character boundary, so `&text[set.span(text, true)..]` is the rest of the
+    /// text.
     #[inline]
     pub fn span(&self, text: &str, held: bool) -> usize {
         let mut length = 0;
@@ -321,9 +340,11 @@ impl<'data> CodePointInversionList<'data> {
         length
     }
 
-    /// The place of the byte from which on all characters of the text are held, or, for `held`
-    /// false, all not held: the start of its longest such tail. A character starts there, or the
-    /// text ends: so `&text[..set.span_back(text, true)]` is what stands before.
+    /// Returns the byte offset at which the longest suffix starts whose characters are all in the
+    /// set, or all outside it if `held` is false.
+    ///
+    /// The result is a character boundary, so `&text[..set.span_back(text, true)]` is the text
+    /// before that suffix.
     #[inline]
     pub fn span_back(&self, text: &str, held: bool) -> usize {
         let mut start = text.len();

@@ -1,9 +1,11 @@
-//! Sets are equal, and hash alike, exactly if they hold the same code points.
+//! Equality and hashing: two sets are equal, and have equal hashes, if they contain the same code
+//! points.
 
 use crate::icu_invlist::codepointinvlist::cpinvlist::CodePointInversionList;
 use core::hash::{Hash, Hasher};
 
-/// Whichever of them borrows. A set has one inversion list, so its packed ends decide.
+/// Compares the packed boundaries, because each set has exactly one inversion list. Whether a set
+/// borrows or owns its boundaries makes no difference.
 impl<'data> PartialEq for CodePointInversionList<'data> {
     #[inline]
     fn eq(&self, other: &Self) -> bool {

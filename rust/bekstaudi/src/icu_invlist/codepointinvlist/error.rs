@@ -1,20 +1,20 @@
-//! Why lists and ranges are refused.
+//! Errors for invalid lists, ranges and JSON values.
 
 #[allow(unused_imports)]
 use crate::support::prelude::*;
 use crate::icu_zerovec::{MemoryError, PotentialCodePoint};
 
-/// This list is no inversion list: it has an odd number of ends, does not ascend, or has an end
-/// above 0x110000.
+/// The list that was rejected because it is not an inversion list: its length is odd, it is not
+/// strictly ascending, or it has a number above 0x110000.
 #[derive(Debug, PartialEq)]
 pub struct InvalidSetError(pub Vec<PotentialCodePoint>);
 
-/// Why no set was made of a list of ends.
+/// The error of the constructors that take a list of boundaries.
 #[derive(Debug, PartialEq)]
 pub enum SetError {
-    /// The list is no inversion list.
+    /// The list is not an inversion list.
     Invalid(InvalidSetError),
-    /// Memory was refused.
+    /// An allocation failed.
     Memory,
 }
 
@@ -25,17 +25,16 @@ impl From<MemoryError> for SetError {
     }
 }
 
-/// From the first number to before the second there is none: they are the start and the exclusive
-/// end of a range.
+/// The inclusive start and the exclusive end of a range that is empty or reversed.
 #[derive(Clone, Copy, Debug, PartialEq, Eq)]
 pub struct RangeError(pub u32, pub u32);
 
-/// Why no set was made of a range.
+/// The error of the conversion from a range to a set.
 #[derive(Clone, Copy, Debug, PartialEq, Eq)]
 pub enum TryRangeError {
     /// The range is empty or reversed.
     Invalid(RangeError),
-    /// Memory was refused.
+    /// An allocation failed.
     Memory,
 }
 
@@ -46,18 +45,18 @@ impl From<MemoryError> for TryRangeError {
     }
 }
 
-/// Why no set was read from JSON.
+/// The error of the conversion from JSON to a set.
 #[derive(Clone, Copy, Debug, PartialEq, Eq)]
 pub enum SetJsonError {
-    /// The value is no array.
+    /// The value is not an array.
     NotAnArray,
-    /// The item at this place, counted from 0, is no string.
+    /// The item at this index, counted from 0, is not a string.
     NotAString(usize),
-    /// The item at this place, counted from 0, spells no range.
+    /// The item at this index, counted from 0, is a string that does not spell a range.
     NotARange(usize),
-    /// The ranges are not in order, or touch one another.
+    /// A range is reversed, or the ranges are not ascending with gaps between them.
     InvalidSet,
-    /// Memory was refused.
+    /// An allocation failed.
     Memory,
 }
 

@@ -1,19 +1,20 @@
-//! The ranges and the characters of a set, one after another.
+//! Iterators over the ranges and the characters of a set.
 
 use crate::icu_zerovec::iter::Iter;
 use crate::icu_zerovec::{CODE_POINT_LIMIT, PotentialCodePoint};
 use core::ops::RangeInclusive;
 
-/// The ranges of a set, ascending, as
-/// [`iter_ranges`](crate::icu_invlist::codepointinvlist::CodePointInversionList::iter_ranges) gives
-/// them. It knows how many are left.
+/// An iterator over the ranges of a set, in ascending order.
+/// [`iter_ranges`](crate::icu_invlist::codepointinvlist::CodePointInversionList::iter_ranges) returns it.
+///
+/// It knows how many ranges are left.
 #[derive(Debug)]
 pub struct IterRanges<'a> {
     ends: Iter<'a, PotentialCodePoint>,
 }
 
 impl<'a> IterRanges<'a> {
-    /// The ranges of these ends.
+    /// Returns an iterator over the ranges with these boundaries.
     #[inline]
     pub(crate) fn from_ends(ends: Iter<'a, PotentialCodePoint>) -> Self {
         IterRanges { ends }
@@ -44,16 +45,17 @@ impl<'a> ExactSizeIterator for IterRanges<'a> {
     }
 }
 
-/// The ranges that a set does not hold, ascending, as
+/// An iterator over the ranges of code points that are not in a set, in ascending order.
 /// [`iter_ranges_complemented`](crate::icu_invlist::codepointinvlist::CodePointInversionList::iter_ranges_complemented)
-/// gives them.
+/// returns it.
 #[derive(Debug)]
 pub struct IterRangesComplemented<'a> {
     start: Option<u32>,
     ends: Iter<'a, PotentialCodePoint>,
 }
 
-/// Where the next gap starts, if the set's range has this end.
+/// Returns the start of the next gap, given the exclusive end of the set's range before it. There
+/// is no gap if that end is the end of the code space.
 #[inline]
 pub(crate) fn start_of_gap(end: Option<PotentialCodePoint>) -> Option<u32> {
     let end = u32::from(end?);
@@ -65,7 +67,8 @@ pub(crate) fn start_of_gap(end: Option<PotentialCodePoint>) -> Option<u32> {
 }
 
 impl<'a> IterRangesComplemented<'a> {
-    /// The gaps from this start on, past which the set has these ends.
+    /// Returns an iterator over the gaps from `start` on. `ends` are the set's boundaries after
+    /// that start.
     #[inline]
     pub(crate) fn from_gap(start: Option<u32>, ends: Iter<'a, PotentialCodePoint>) -> Self {
         IterRangesComplemented { start, ends }
@@ -91,9 +94,8 @@ impl<'a> Iterator for IterRangesComplemented<'a> {
     }
 }
 
-/// The characters of a set, ascending, as
-/// [`iter_chars`](crate::icu_invlist::codepointinvlist::CodePointInversionList::iter_chars) gives
-/// them.
+/// An iterator over the characters in a set, in ascending order.
+/// [`iter_chars`](crate::icu_invlist::codepointinvlist::CodePointInversionList::iter_chars) returns it.
 #[derive(Debug)]
 pub struct IterChars<'a> {
     next: u32,
@@ -102,7 +104,7 @@ pub struct IterChars<'a> {
 }
 
 impl<'a> IterChars<'a> {
-    /// The characters of the ranges of these ends.
+    /// Returns an iterator over the characters in the ranges with these boundaries.
     #[inline]
     pub(crate) fn from_ends(ends: Iter<'a, PotentialCodePoint>) -> Self {
         IterChars {
@@ -113,8 +115,8 @@ impl<'a> IterChars<'a> {
     }
 }
 
-/// Goes over the next character from `next` to before `end`, and answers it. Surrogates on the way
-/// are left out.
+/// Returns the first character from `next` to `end` exclusive and moves `next` past it. Skips
+/// surrogates.
 #[inline]
 fn take_char(next: &mut u32, end: u32) -> Option<char> {
     while *next < end {

@@ -1,4 +1,4 @@
-//! Sets to and from JSON.
+//! Conversion of sets to and from JSON.
 
 #[allow(unused_imports)]
 use crate::support::prelude::*;
@@ -9,7 +9,7 @@ use crate::icu_invlist::spelling::{range_of, text_of_range};
 use crate::icu_zerovec::MemoryError;
 use serde_json::Value;
 
-/// Appends the two ends of a range.
+/// Appends the two boundaries of a range.
 #[inline]
 fn push_two(ends: &mut Vec<u32>, start: u32, end: u32) -> Result<(), MemoryError> {
     ends.try_push(start)?;
@@ -17,7 +17,7 @@ fn push_two(ends: &mut Vec<u32>, start: u32, end: u32) -> Result<(), MemoryError
     Ok(())
 }
 
-/// The ends that the items say, in their order.
+/// Returns the boundaries of the ranges that the items spell, in the order of the items.
 fn ends_of_items(items: &[Value]) -> Result<Vec<u32>, SetJsonError> {
     let mut ends = Vec::new();
     for (i, item) in items.iter().enumerate() {
@@ -34,7 +34,7 @@ fn ends_of_items(items: &[Value]) -> Result<Vec<u32>, SetJsonError> {
     Ok(ends)
 }
 
-/// The ends that a value says.
+/// Returns the boundaries of the ranges that a JSON value spells.
 #[inline]
 fn ends_of_value(value: &Value) -> Result<Vec<u32>, SetJsonError> {
     let Some(items) = value.as_array() else {
@@ -45,12 +45,15 @@ fn ends_of_value(value: &Value) -> Result<Vec<u32>, SetJsonError> {
 }
 
 impl<'data> CodePointInversionList<'data> {
-    /// The set as a JSON array with one string for each range, ascending: `["A-Z", "_"]`. A range
-    /// of one code point is the character, a longer one its first and its last with `-` between
-    /// them. A surrogate is written as `U+` and its four upper-case hexadecimal digits.
+    /// Returns the set as a JSON array with one string for each range, in ascending order: `["A-Z",
+    /// "_"]`.
+    ///
+    /// A range of one code point is that character; a longer one is its first and its last
+    /// character with `-` between them. A surrogate is written as `U+` and four upper-case
+    /// hexadecimal digits.
     ///
     /// # Errors
-    /// `MemoryError` where memory was refused.
+    /// Returns `MemoryError` if an allocation fails.
     #[inline]
     pub fn to_json(&self) -> Result<Value, MemoryError> {
         let count = self.count();
@@ -64,16 +67,21 @@ impl<'data> CodePointInversionList<'data> {
         Ok(Value::Array(items))
     }
 
-    /// The set that a JSON array of strings spells, each one a range as [`to_json`](Self::to_json)
-    /// writes it: `["A-Z", "_"]`. Any point may be spelled as `U+` and exactly four hexadecimal
-    /// digits of either case.
+    /// Returns the set that a JSON array of strings spells. Each string is a range as
+    /// [`to_json`](Self::to_json) writes it: `["A-Z", "_"]`.
+    ///
+    /// Any code point that fits may also be spelled as `U+` and exactly four hexadecimal digits of
+    /// either case.
     ///
     /// # Errors
-    /// - `SetJsonError::NotAnArray` where the value is none.
-    /// - `SetJsonError::NotAString` and `SetJsonError::NotARange` with the place of the first item
-    /// that is no string, or a string that spells no range.
-    /// - `SetJsonError::InvalidSet` where the ranges are not ascending or touch one another.
-    /// - `SetJsonError::Memory` where memory was refused.
+    /// - `SetJsonError::NotAnArray` if `value` is not an array.
+    /// - `SetJsonError::NotAString` if the first bad item is not a string, with the index of that
+    ///   item.
+    /// - `SetJsonError::NotARange` if the first bad item is a string that does not spell a range,
+    ///   with the index of that item.
+    /// - `SetJsonError::InvalidSet` if a range is reversed, or if the ranges are not ascending with
+    ///   gaps between them.
+    /// - `SetJsonError::Memory` if an allocation fails.
     #[inline]
     pub fn from_json(
         value: &Value,

@@ -1,7 +1,7 @@
-//! Sets of code points as inversion lists, as ICU's UnicodeSet keeps them.
+//! Sets of code points as inversion lists, the form in which ICU's UnicodeSet stores them.
 //!
-//! An inversion list is the ascending list of a set's ends: `[0x41, 0x5B]` is the set of the
-//! letters A to Z, which begins at 0x41 and stops before 0x5B. Each set has one such list.
+//! An inversion list is the ascending list of a set's boundaries. `[0x41, 0x5B]` is the set of the
+//! letters A to Z: it starts at 0x41 and stops before 0x5B. Each set has exactly one such list.
 
 mod builder;
 mod conversions;

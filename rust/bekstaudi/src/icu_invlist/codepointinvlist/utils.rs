@@ -1,14 +1,15 @@
-//! What ranges name, and what makes a list of ends valid.
+//! The numbers in a range, and the validity of an inversion list.
 
 use crate::icu_zerovec::{CODE_POINT_LIMIT, PotentialCodePoint, ZeroVec};
 use core::ops::{Range, RangeFrom, RangeFull, RangeInclusive, RangeTo, RangeToInclusive};
 
-/// What ranges are made of: `char` and `u32`.
+/// A type that ranges can be made of: `char` or `u32`.
 pub trait RangePoint: Copy {
-    /// The same.
+    /// Returns the number of the value; for a character, its code point.
     fn number(self) -> u32;
 
-    /// Whether the range was iterated to its last number: its ends are in order, and it is empty.
+    /// Returns true if `range` was iterated to its end: it is empty, although its start is not
+    /// above its end.
     fn is_used_up(range: &RangeInclusive<Self>) -> bool;
 }
 
@@ -36,24 +37,28 @@ impl RangePoint for u32 {
     }
 }
 
-/// A range of characters or of numbers: `a..b`, `a..=b`, `a..`, `..b`, `..=b` or `..` of `char` or
-/// of `u32`. The numbers that it names are those from its start to before its end; a range of
-/// characters names the surrogates between them too.
+/// A range of `char` or of `u32`: `a..b`, `a..=b`, `a..`, `..b`, `..=b` or `..`.
+///
+/// It contains all numbers from its start to its end, so a range of characters includes the
+/// surrogates between them.
 pub trait RangeOf<X: RangePoint> {
-    /// Start and end.
+    /// Returns the inclusive start and the exclusive end.
     fn deconstruct(self) -> (u32, u32);
 }
 
-/// The inclusive start and the exclusive end of a range. A missing start is 0, and a missing end
-/// 0x110000. An included end `u32::MAX`, after which there is no number, is the end itself:
-/// `0..=u32::MAX` gives `(0, u32::MAX)`.
+/// Returns the inclusive start and the exclusive end of a range.
+///
+/// A missing start is 0, and a missing end is 0x110000. An included end of `u32::MAX` has no
+/// successor and becomes the exclusive end itself: `0..=u32::MAX` gives `(0, u32::MAX)`.
 #[inline]
 pub fn deconstruct_range<X: RangePoint, R: core::ops::RangeBounds<X>>(range: R) -> (u32, u32) {
     range.deconstruct()
 }
 
-/// Whether the ends are an inversion list: of even number, ascending without a repetition, and none
-/// above 0x110000. `[0x41, 0x5B]` is one, and so is the empty list. `[1, 2, 2, 3]` is none.
+/// Returns true if `ends` is an inversion list: its length is even, it is strictly ascending, and
+/// no number is above 0x110000.
+///
+/// `[0x41, 0x5B]` and the empty list are inversion lists, and `[1, 2, 2, 3]` is not.
 pub fn is_valid_zv(ends: &ZeroVec<'_, PotentialCodePoint>) -> bool {
     if ends.len() % 2 != 0 {
         return false;
@@ -69,7 +74,8 @@ pub fn is_valid_zv(ends: &ZeroVec<'_, PotentialCodePoint>) -> bool {
     true
 }
 
-/// Whether the ends are an inversion list, before they are packed.
+/// Returns true if `ends` is an inversion list. The same test as `is_valid_zv`, for numbers that
+/// are not packed yet.
 #[inline]
 pub(crate) fn is_valid_slice(ends: &[u32]) -> bool {
     if ends.len() % 2 != 0 {

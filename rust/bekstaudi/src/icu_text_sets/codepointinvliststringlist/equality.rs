@@ -1,8 +1,9 @@
-//! Sets of code points and texts are equal exactly if they hold the same code points and strings.
+//! Equality: two sets are equal if and only if they contain the same code points and strings.
 
 use crate::icu_text_sets::codepointinvliststringlist::set::CodePointInversionListAndStringList;
 
-/// Whichever of them borrows. A set has one list of ends and one list of strings, so these decide.
+/// Compares the boundaries and the strings, because each set has exactly one list of either.
+/// Whether a set borrows or owns its code points makes no difference.
 impl<'data> PartialEq for CodePointInversionListAndStringList<'data> {
     #[inline]
     fn eq(&self, other: &Self) -> bool {

@@ -1,38 +1,40 @@
-//! Why lists of strings, and JSON values, are refused.
+//! Errors for invalid lists of strings and JSON values.
 
 #[allow(unused_imports)]
 use crate::support::prelude::*;
 use crate::icu_invlist::codepointinvlist::SetJsonError;
 use crate::icu_zerovec::MemoryError;
 
-/// Why a list of strings is no list of a set's strings. Each case has the strings at fault.
+/// The error for a list that cannot be the strings of a set. Each variant contains the strings at
+/// fault.
 #[derive(Debug, PartialEq)]
 pub enum InvalidStringList {
-    /// The string is exactly one code point, which belongs among the code points.
+    /// The string has exactly one code point, so it belongs among the code points.
     InvalidStringLength(String),
-    /// The string stands there twice in a row.
+    /// The next string is equal to this one.
     StringListNotUnique(String),
-    /// The second string follows the first, but has the smaller bytes.
+    /// The second string follows the first but is less than it, compared by bytes.
     StringListNotSorted(String, String),
 }
 
-/// Why no set was read from JSON.
+/// The error of the conversion from JSON to a set.
 #[derive(Debug, PartialEq)]
 pub enum StringListJsonError {
-    /// The value is no object, with the empty text; or it has no member of this key, or at
-    /// `str_list` no array stands.
+    /// The value is not an object, if the text is empty. Otherwise the object does not have this
+    /// key, or the value at `str_list` is not an array.
     Shape(&'static str),
-    /// The value at `cp_inv_list` is no set of code points.
+    /// The value at `cp_inv_list` is not a set of code points.
     Set(SetJsonError),
-    /// The item of `str_list` at this place, counted from 0, is no string.
+    /// The item of `str_list` at this index, counted from 0, is not a string.
     NotAString(usize),
-    /// The strings are no list of a set's strings.
+    /// The strings cannot be the strings of a set.
     Strings(InvalidStringList),
-    /// Memory was refused.
+    /// An allocation failed.
     Memory,
 }
 
-/// For `?` after a set of code points was read. Want of memory stays what it is.
+/// Converts the error of a set of code points, so that `?` works. A failed allocation becomes
+/// `Memory`.
 impl From<SetJsonError> for StringListJsonError {
     #[inline]
     fn from(error: SetJsonError) -> StringListJsonError {

@@ -1,4 +1,4 @@
-//! Sets of code points and texts to and from JSON.
+//! Conversion of sets of code points and strings to and from JSON.
 
 #[allow(unused_imports)]
 use crate::support::prelude::*;
@@ -8,7 +8,7 @@ use crate::icu_invlist::codepointinvlist::{CodePointInversionList, SetJsonError}
 use crate::icu_zerovec::MemoryError;
 use serde_json::{Value, json};
 
-/// The strings as JSON strings, in their order.
+/// Returns the strings as JSON strings, in order.
 #[inline]
 fn items_of(strings: &[String]) -> Result<Vec<Value>, MemoryError> {
     let mut items = Vec::with_room(strings.len())?;
@@ -18,13 +18,13 @@ fn items_of(strings: &[String]) -> Result<Vec<Value>, MemoryError> {
     Ok(items)
 }
 
-/// The object of a set, from what its parts are written as.
+/// Returns the JSON object of a set, from its code points and strings in JSON.
 #[inline]
 fn object_of(code_points: Value, strings: Vec<Value>) -> Result<Value, MemoryError> {
     Ok(crate::support::try_json!({ "cp_inv_list": code_points, "str_list": Value::Array(strings) })?)
 }
 
-/// The strings that the items are, in their order.
+/// Returns the strings in the items, in order.
 fn strings_of_items(items: &[Value]) -> Result<Vec<String>, StringListJsonError> {
     let Ok(mut strings) = Vec::with_room(items.len()) else {
         return Err(StringListJsonError::Memory);
@@ -43,7 +43,7 @@ fn strings_of_items(items: &[Value]) -> Result<Vec<String>, StringListJsonError>
     Ok(strings)
 }
 
-/// The strings at the key `str_list`.
+/// Returns the strings in the array at the key `str_list`.
 #[inline]
 fn strings_of(value: &Value) -> Result<Vec<String>, StringListJsonError> {
     let Some(strings) = value.get("str_list") else {
@@ -55,23 +55,23 @@ fn strings_of(value: &Value) -> Result<Vec<String>, StringListJsonError> {
     strings_of_items(items)
 }
 
-/// The error of a set of code points that was not read.
+/// Converts the error of reading the set of code points.
 #[inline]
 fn set_error(error: SetJsonError) -> StringListJsonError {
     StringListJsonError::from(error)
 }
 
 impl<'data> CodePointInversionListAndStringList<'data> {
-    /// The set as a JSON object: at the key `cp_inv_list` the code points, as
-    /// [`CodePointInversionList::to_json`] writes them, and at `str_list` the array of the strings,
-    /// in their order.
+    /// Returns the set as a JSON object. The key `cp_inv_list` has the code points as
+    /// [`CodePointInversionList::to_json`] writes them, and `str_list` has the array of the
+    /// strings, in order.
     ///
     /// ```text
     /// // the set of "a" and "abc": {"cp_inv_list":["a"],"str_list":["abc"]}
     /// ```
     ///
     /// # Errors
-    /// `MemoryError` where memory was refused.
+    /// Returns `MemoryError` if an allocation fails.
     #[inline]
     pub fn to_json(&self) -> Result<Value, MemoryError> {
         let code_points = self.cp_inv_list.to_json()?;
@@ -80,8 +80,8 @@ impl<'data> CodePointInversionListAndStringList<'data> {
         Ok(value)
     }
 
-    /// The set that a JSON object says, as [`to_json`](Self::to_json) writes it. Other keys are
-    /// ignored.
+    /// Returns the set in a JSON object of the form that [`to_json`](Self::to_json) writes. Other
+    /// keys are ignored.
     ///
     /// ```ignore
     /// let value = Value::from_str(r#"{"cp_inv_list":["a"],"str_list":["abc"]}"#)?;
@@ -90,15 +90,16 @@ impl<'data> CodePointInversionListAndStringList<'data> {
     /// ```
     ///
     /// # Errors
-    /// The first fault, in this order:
-    /// - `Shape("")` where the value is no object,
-    /// - `Shape("cp_inv_list")` where it has no such key,
-    /// - `Set` where [`CodePointInversionList::from_json`] refuses what stands there,
-    /// - `Shape("str_list")` where there is no such key, or no array at it,
-    /// - `NotAString` with the place of the first item that is no string,
-    /// - `Strings` where [`try_from`](Self::try_from) refuses the strings.
+    /// Returns the first error in this order:
+    /// - `Shape("")` if `value` is not an object,
+    /// - `Shape("cp_inv_list")` if it does not have this key,
+    /// - `Set` if [`CodePointInversionList::from_json`] rejects the value at that key,
+    /// - `Shape("str_list")` if it does not have this key, or the value at that key is not an
+    ///   array,
+    /// - `NotAString` with the index of the first item that is not a string,
+    /// - `Strings` if [`try_from`](Self::try_from) rejects the strings.
     ///
-    /// `Memory` where memory was refused, in place of any answer.
+    /// Returns `Memory` if an allocation fails, whatever the value is.
     pub fn from_json(
         value: &Value,
     ) -> Result<CodePointInversionListAndStringList<'static>, StringListJsonError> {

@@ -1,4 +1,4 @@
-//! How sets of code points and texts are made.
+//! Constructors of sets of code points and strings.
 
 #[allow(unused_imports)]
 use crate::support::prelude::*;
@@ -8,7 +8,7 @@ use crate::icu_invlist::codepointinvlist::{CodePointInversionList, CodePointInve
 use crate::icu_zerovec::MemoryError;
 use core::cmp::Ordering;
 
-/// What is wrong with a string of a list.
+/// The fault of a string in a list.
 #[derive(Clone, Copy)]
 enum Fault {
     OneCodePoint,
@@ -16,7 +16,7 @@ enum Fault {
     Unsorted,
 }
 
-/// What is wrong with a string before the next one, if there is one.
+/// Returns the fault of a string, given the next one if there is one.
 #[inline]
 fn fault_before(text: &String, next: Option<&String>) -> Option<Fault> {
     if only_char(text.as_str()).is_some() {
@@ -29,7 +29,7 @@ fn fault_before(text: &String, next: Option<&String>) -> Option<Fault> {
     }
 }
 
-/// The first fault on a walk from the front, with the place of its string.
+/// Returns the first fault in a list and the index of its string.
 #[inline]
 fn first_fault(strings: &[String]) -> Option<(usize, Fault)> {
     for (i, text) in strings.iter().enumerate() {
@@ -40,7 +40,7 @@ fn first_fault(strings: &[String]) -> Option<(usize, Fault)> {
     None
 }
 
-/// The error that has the strings at fault, which are taken out of the list.
+/// Returns the error for a fault. Moves the strings at fault out of the list.
 #[inline]
 fn refused(mut strings: Vec<String>, place: usize, fault: Fault) -> InvalidStringList {
     match fault {
@@ -53,7 +53,7 @@ fn refused(mut strings: Vec<String>, place: usize, fault: Fault) -> InvalidStrin
     }
 }
 
-/// Appends a text to strings.
+/// Appends a copy of `text` to `strings`.
 #[inline]
 fn push_text(strings: &mut Vec<String>, text: &str) -> Result<(), MemoryError> {
     let string = String::from_str(text)?;
@@ -61,23 +61,24 @@ fn push_text(strings: &mut Vec<String>, text: &str) -> Result<(), MemoryError> {
     Ok(())
 }
 
-/// Brings strings into the order of a set: ascending by their bytes, each once.
+/// Sorts strings by their bytes and removes duplicates, as in a set.
 #[inline]
 fn sort_strings(strings: &mut Vec<String>) {
     strings.sort_unstable();
     strings.dedup();
 }
 
-/// How a set is made.
+/// Constructors.
 impl<'data> CodePointInversionListAndStringList<'data> {
-    /// The set of these code points and strings, which are taken over. It takes no memory.
+    /// Returns the set with these code points and strings, which it takes over. This does not
+    /// allocate.
     ///
     /// # Errors
-    /// The first fault on a walk from the front of the strings, with the strings at fault. At each
-    /// place it is, in this order:
-    /// - `InvalidStringLength` where the string is exactly one code point,
-    /// - `StringListNotUnique` where the next string is equal,
-    /// - `StringListNotSorted` where the next string has the smaller bytes, with both.
+    /// Returns the first fault in `str_list`, with the strings at fault. Each string is tested in
+    /// this order:
+    /// - `InvalidStringLength` if the string has exactly one code point,
+    /// - `StringListNotUnique` if the next string is equal,
+    /// - `StringListNotSorted` with both strings if the next string is less, compared by bytes.
     #[inline]
     pub fn try_from(
         cp_inv_list: CodePointInversionList<'data>,
@@ -92,8 +93,10 @@ impl<'data> CodePointInversionListAndStringList<'data> {
         }
     }
 
-    /// The set of these texts, in any order, also more than once. A text of exactly one character
-    /// becomes a code point, any other one a string. The iterator is one that ends.
+    /// Returns the set of the texts that `iter` yields.
+    ///
+    /// The texts may be in any order and may repeat. A text of exactly one character becomes a code
+    /// point, and any other text becomes a string. The iterator must be finite.
     ///
     /// ```ignore
     /// let texts = ["a", "abc", "xyz", "abc"];
@@ -102,7 +105,8 @@ impl<'data> CodePointInversionListAndStringList<'data> {
     /// ```
     ///
     /// # Errors
-    /// `MemoryError` where memory was refused. The iterator is then dropped where it stands.
+    /// Returns `MemoryError` if an allocation fails. The iterator is then dropped with its
+    /// remaining items.
     pub fn try_from_iter<'text, I: Iterator<Item = &'text str>>(
         iter: I,
     ) -> Result<Self, MemoryError> {

@@ -1,5 +1,5 @@
-//! Sets that hold code points, and strings of more or fewer than one code point, the empty one
-//! among them.
+//! Sets of code points and strings. A string has any number of code points except one; the empty
+//! string is allowed.
 
 mod equality;
 mod error;

@@ -1,14 +1,15 @@
-//! Sets of code points and texts, and what they can be asked.
+//! The set of code points and strings, and its queries.
 
 #[allow(unused_imports)]
 use crate::support::prelude::*;
 use crate::icu_invlist::codepointinvlist::CodePointInversionList;
 use crate::icu_zerovec::MemoryError;
 
-/// A set of code points, surrogates among them, and of strings: what ICU calls a UnicodeSet. A
-/// string is any text but one of exactly one code point, also the empty text.
+/// A set of code points, which may include surrogates, and of strings, like ICU's UnicodeSet. A
+/// string is any text, even the empty one, that does not have exactly one code point.
 ///
-/// It lends or owns its code points, and owns its strings, which ascend by their bytes, each once.
+/// It borrows or owns its code points, and owns its strings. The strings are sorted by their bytes,
+/// without duplicates.
 ///
 /// ```ignore
 /// let set = CodePointInversionListAndStringList::try_from_iter(["a", "abc", "xyz", "abc"].into_iter())?;
@@ -20,7 +21,7 @@ pub struct CodePointInversionListAndStringList<'data> {
     pub(super) str_list: Vec<String>,
 }
 
-/// The character of a text that is exactly one.
+/// Returns the character of a text that has exactly one.
 pub(super) fn only_char(text: &str) -> Option<char> {
     let mut chars = text.chars();
     let first = chars.next()?;
@@ -30,12 +31,13 @@ pub(super) fn only_char(text: &str) -> Option<char> {
     }
 }
 
-/// Where a text stands among strings of a set, or where it belongs.
+/// Returns the index of a text among the strings of a set, or as `Err` the index at which it could
+/// be inserted.
 pub(super) fn find(strings: &[String], text: &str) -> Result<usize, usize> {
     strings.binary_search_by(|string| string.as_str().cmp(text))
 }
 
-/// Copies strings.
+/// Returns copies of the strings.
 #[inline]
 fn copied(strings: &[String]) -> Result<Vec<String>, MemoryError> {
     let mut copies = Vec::with_room(strings.len())?;
@@ -45,12 +47,12 @@ fn copied(strings: &[String]) -> Result<Vec<String>, MemoryError> {
     Ok(copies)
 }
 
-/// How a set is copied.
+/// Copies.
 impl<'data> CodePointInversionListAndStringList<'data> {
-    /// An equal set with code points and strings of its own.
+    /// Returns an equal set that owns its code points and strings.
     ///
     /// # Errors
-    /// `MemoryError` where memory was refused.
+    /// Returns `MemoryError` if an allocation fails.
     #[inline]
     pub fn try_clone(
         &self,
@@ -62,22 +64,23 @@ impl<'data> CodePointInversionListAndStringList<'data> {
     }
 }
 
-/// What a set holds. None of these calls takes memory.
+/// Queries. None of them allocates.
 impl<'data> CodePointInversionListAndStringList<'data> {
-    /// How many members the set has: its code points, surrogates among them, and its strings.
+    /// Returns the number of members of the set: its code points, including surrogates, and its
+    /// strings.
     #[inline]
     pub fn size(&self) -> usize {
         self.cp_inv_list.size() + self.str_list.len()
     }
 
-    /// Whether the set has a string: a text of more than one code point, or the empty text.
+    /// Returns true if the set has at least one string.
     #[inline]
     pub fn has_strings(&self) -> bool {
         !self.str_list.is_empty()
     }
 
-    /// Whether the set holds the text: one of exactly one character if that is among the code
-    /// points, any other one if it is among the strings.
+    /// Returns true if the set contains the text: as a code point if it has exactly one character,
+    /// and otherwise as a string.
     #[inline]
     pub fn contains_str(&self, text: &str) -> bool {
         match only_char(text) {
@@ -86,8 +89,8 @@ impl<'data> CodePointInversionListAndStringList<'data> {
         }
     }
 
-    /// Whether the set holds the text of these bytes, as [`contains_str`](Self::contains_str) has
-    /// it. Bytes that are no UTF-8 are no text, and not held.
+    /// Returns true if `bytes` are the UTF-8 of a text that the set contains, as defined by
+    /// [`contains_str`](Self::contains_str). Returns false if they are not valid UTF-8.
     #[inline]
     pub fn contains_utf8(&self, bytes: &[u8]) -> bool {
         match str::from_utf8(bytes) {
@@ -96,25 +99,26 @@ impl<'data> CodePointInversionListAndStringList<'data> {
         }
     }
 
-    /// Whether the set holds the code point. No number above 0x10FFFF is held.
+    /// Returns true if the set contains the code point `cp`. Returns false for any number above
+    /// 0x10FFFF.
     #[inline]
     pub fn contains32(&self, cp: u32) -> bool {
         self.cp_inv_list.contains32(cp)
     }
 
-    /// Whether the set holds the character.
+    /// Returns true if the set contains the character `ch`.
     #[inline]
     pub fn contains(&self, ch: char) -> bool {
         self.cp_inv_list.contains(ch)
     }
 
-    /// The code points of the set.
+    /// Returns a reference to the code points of the set.
     #[inline]
     pub fn code_points(&self) -> &CodePointInversionList<'data> {
         &self.cp_inv_list
     }
 
-    /// The strings of the set, ascending by their bytes.
+    /// Returns a reference to the strings of the set, sorted by their bytes.
     #[inline]
     pub fn strings(&self) -> &[String] {
         self.str_list.as_slice()

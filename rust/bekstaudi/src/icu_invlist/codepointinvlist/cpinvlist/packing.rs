@@ -1,11 +1,11 @@
-//! Ends packed and unpacked.
+//! Packing and unpacking of boundaries.
 
 #[allow(unused_imports)]
 use crate::support::prelude::*;
 use crate::icu_zerovec::ule::AsULE;
 use crate::icu_zerovec::{MemoryError, PotentialCodePoint, ZeroVec};
 
-/// Copies ends that are packed.
+/// Copies packed boundaries into a vector.
 pub(super) fn unpacked(
     ends: &ZeroVec<'_, PotentialCodePoint>,
 ) -> Result<Vec<PotentialCodePoint>, MemoryError> {
@@ -16,7 +16,7 @@ pub(super) fn unpacked(
     Ok(points)
 }
 
-/// The packed bytes of the ends, the lowest byte of each first.
+/// Returns the boundaries packed in three bytes each, lowest byte first.
 pub(super) fn pack(ends: &[u32]) -> Result<Vec<u8>, MemoryError> {
     let mut bytes = Vec::with_room(ends.len() * 3)?;
     for end in ends {
@@ -28,7 +28,8 @@ pub(super) fn pack(ends: &[u32]) -> Result<Vec<u8>, MemoryError> {
     Ok(bytes)
 }
 
-/// Cuts the numbers to 24 bits: what has more becomes 0xFFFFFF, which is no end either.
+/// Copies the numbers, with 0xFFFFFF in place of any number that needs more than 24 bits. That is
+/// not a valid boundary either.
 pub(super) fn cut_to_points(
     ends: &[u32],
 ) -> Result<Vec<PotentialCodePoint>, MemoryError> {

@@ -1,14 +1,15 @@
-//! Where a code point stands among the ends of a set.
+//! Searches for a code point among the boundaries of a set.
 
 use super::CodePointInversionList;
 
 impl<'data> CodePointInversionList<'data> {
-    /// How many ends are not above `c`, which is at least `low` and at most `low + size`. Each step
-    /// halves what is left, whatever it reads, so that the steps of a known size are laid out
-    /// without a loop.
+    /// Returns how many boundaries are at most `c`, given that the result is in `low..=low + size`.
+    ///
+    /// Each step halves the remaining range whatever it reads, so for a constant `size` the
+    /// compiler unrolls the loop.
     #[inline(always)]
     fn place_between(&self, low: usize, size: usize, c: u32) -> usize {
-        // A set is known to be valid where its ends are named.
+        // Reading the field gives the proof the invariant: the set is valid.
         let _ = &self.ends;
         let mut low = low;
         let mut size = size;
@@ -28,8 +29,8 @@ impl<'data> CodePointInversionList<'data> {
         }
     }
 
-    /// How many ends are not above `c`, of a set that has this many ends. The two of one range are
-    /// looked at side by side.
+    /// Returns how many boundaries are at most `c`, for a set with `count` boundaries. If there are
+    /// only two, both are compared, without a search.
     #[inline(always)]
     fn place_of_few(&self, count: usize, c: u32) -> usize {
         if count == 2 {
@@ -38,9 +39,11 @@ impl<'data> CodePointInversionList<'data> {
         self.place_between(0, count, c)
     }
 
-    /// How many ends are not above `c`. Most code points of most texts stand before the first end,
-    /// past the last or among the first few, where little is searched or nothing. Of very few ends
-    /// each is looked at.
+    /// Returns how many boundaries are at most `c`.
+    ///
+    /// In most texts, most code points are below the first boundary, above the last, or among the
+    /// first sixteen. These cases need no search or a short one. A set of at most four boundaries
+    /// is searched directly.
     #[inline(always)]
     pub(super) fn place_of(&self, c: u32) -> usize {
         let count = self.count();
@@ -57,8 +60,9 @@ impl<'data> CodePointInversionList<'data> {
         }
     }
 
-    /// How many ends are not above `c`, which are at least `from`. The steps double until one
-    /// passes `c`, and what it spans is searched.
+    /// Returns how many boundaries are at most `c`, given that at least `from` are.
+    ///
+    /// Doubles its steps until one passes `c`, then searches within the last step.
     #[inline]
     fn place_past(&self, from: usize, c: u32) -> usize {
         let count = self.count();
@@ -74,7 +78,8 @@ impl<'data> CodePointInversionList<'data> {
         self.place_between(low, count - low, c)
     }
 
-    /// The same, where it is likely that few more ends than `from` are not above `c`.
+    /// Returns how many boundaries are at most `c`, given that at least `from` are. It is fast if
+    /// there are few more than `from`.
     pub(super) fn place_from(&self, from: usize, c: u32) -> usize {
         let count = self.count();
         let near = (from + 4).min(count);
@@ -88,10 +93,10 @@ impl<'data> CodePointInversionList<'data> {
         self.place_past(place, c)
     }
 
-    /// Whether the set holds all code points from a start to before `end`, where `place` is how
-    /// many ends are not above that start.
+    /// Returns true if the set contains all code points from a start to `end` exclusive. `place` is
+    /// the number of boundaries that are at most that start.
     pub(super) fn reaches(&self, place: usize, end: u32) -> bool {
-        // A set is known to be valid where its ends are named.
+        // Reading the field gives the proof the invariant: the set is valid.
         let _ = &self.ends;
         place % 2 == 1 && end <= self.end_at(place)
     }

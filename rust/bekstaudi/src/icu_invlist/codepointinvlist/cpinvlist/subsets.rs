@@ -1,9 +1,10 @@
-//! Whether a set holds all that another one holds.
+//! The subset test.
 
 use super::CodePointInversionList;
 
 impl<'data> CodePointInversionList<'data> {
-    /// Whether no end of the other set, which has some, stands outside those of this one.
+    /// Returns true if all boundaries of `other`, which must not be empty, are between the first
+    /// and the last boundary of this set.
     pub(super) fn spans(&self, other: &CodePointInversionList<'_>) -> bool {
         let count = self.count();
         let others = other.count();
@@ -13,8 +14,8 @@ impl<'data> CodePointInversionList<'data> {
         self.end_at(0) <= other.end_at(0) && other.end_at(others - 1) <= self.end_at(count - 1)
     }
 
-    /// Whether the set holds all that the other one holds, which has few ranges: each is searched
-    /// for.
+    /// Returns true if `other` is a subset of this set. Searches for each range of `other` from the
+    /// start; for an `other` with few ranges.
     pub(super) fn holds_each(&self, other: &CodePointInversionList<'_>) -> bool {
         let mut i = 0;
         let count = other.count();
@@ -28,7 +29,8 @@ impl<'data> CodePointInversionList<'data> {
         true
     }
 
-    /// The same where it has many ranges: each is searched for from the one before on.
+    /// Returns true if `other` is a subset of this set. Searches for each range of `other` from the
+    /// previous one on; for an `other` with many ranges.
     pub(super) fn holds_in_order(&self, other: &CodePointInversionList<'_>) -> bool {
         let mut place = 0;
         let mut i = 0;
