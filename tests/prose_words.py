@@ -6,12 +6,13 @@ import re
 # A noun phrase begins with one of these.
 THE = r"(?:the|a|an|each|every|this|that|these|those|all|any|no|one|two|its|their|both|some|which|whose|other|own)"
 # The same without words before which "ends" is a verb.
-NOUN = r"(?:the|a|an|each|every|this|these|those|all|any|no|two|its|their|both|some|whose|other|own)"
+NOUN = r"(?:the|a|an|each|every|this|these|those|all|any|no|two|its|their|some|whose|other|own)"
 IN_PLACE = r"(?<!takes )(?<!take )(?<!took )(?<!taken )(?<!taking )(?<!into )"
 SET = r"(?:a |the |this |that |its |two |their |sorted )?(?:set|list|inversion|builder)"
 
 ROWS = [
-    ("answers", r"\banswers\b(?! to (?:statements|goals|holes))(?<!the answers)(?<!of answers)(?<!and answers)|\banswer(?:ed|ing)\b", "returns"),
+    ("answers", r"(?<!the )(?<!of )(?<!and )(?<!its )(?<!their )(?<!these )(?<!all )(?<!'s )\banswers\b(?! to (?:statements|goals|holes))"
+     r"|\banswer(?:ed|ing)\b", "returns"),
     ("answers", r"\b(?:to|may|must|can|will|not|that|which) answer\b", "return"),
     ("memory", r"\bwants? of memory\b|\bwant(?:s|ed|ing)? memory\b", "out of memory"),
     ("memory", r"\bmemory(?: that)?(?: is| was| were| be| may be| has been)? (?:refused|found)\b", "allocation fails / succeeds"),
