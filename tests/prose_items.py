@@ -90,7 +90,8 @@ def panics_faults():
 
 def print_lacking():
     """Prints each fault, and returns whether there is one."""
-    paths = [it for pattern in SOURCES for it in sorted(glob.glob(pattern, recursive=True)) if not LEFT_OUT.search(it)]
+    paths = [it for pattern in SOURCES for it in sorted(glob.glob(pattern, recursive=True))]
+    paths = [it for it in paths if not LEFT_OUT.search(it)]
     found = [line for it in paths for line in faults_of(it, open(it, encoding="utf-8").read())]
     found += panics_faults()
     print(*found, sep="\n", end="\n" if found else "")
