@@ -74,7 +74,7 @@ ROWS = [
     ),
     (
         "where",
-        r"(?:[,;:(]|\b(?:and|or|but|only|except|also|else|even|save)) where\b(?! to\b)"
+        r"(?:[,;:(]|\b(?:and|or|but|only|except|also|else|even|save)) where\b(?! to\b|,)"
         r"(?! (?:[a-zA-Z]|·) )",
         WHERE,
     ),
