@@ -56,7 +56,7 @@ ROWS = [
     ("by itself", r"\bby (?:itself|themselves)\b", "on its own"),
     ("by tests alone", r"\bby tests? alone\b|\btests alone\b", "covered by tests only"),
     ("lends", r"\b(?:lends?|lent|lending)\b", "borrows, returns a reference to"),
-    ("kept", r"\bkept\b", "stored, cached, unchanged"),
+    ("kept", r"(?<!--)\bkept\b", "stored, cached, unchanged"),
     (
         "call",
         r"\b(?:public|exported|getter|inline|all|other|these|those|same|such|its|no|every|C) calls\b",

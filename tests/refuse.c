@@ -1,8 +1,8 @@
-/* Loaded before the C library (LD_PRELOAD): the request for memory number REFUSE (from 1) is
-   refused, as by malloc that gives NULL. Where it is, the byte `x` and a newline are written to
-   standard output, so that it stands between what the program prints before and after. A read gives
-   up to MOST bytes, and read number FAILING_READ fails, and so does write number FAILING_WRITE, of
-   those that are not to standard error. What is not set changes nothing. Needs no header and no other library than
+/* Loaded before the C library (LD_PRELOAD): allocation number REFUSE (counted from 1) fails, as if
+   malloc returned NULL. An `x` and a newline are then written to standard output, so that they
+   appear between what the program prints before and after. A read returns at most MOST bytes. Read
+   number FAILING_READ fails, and so does write number FAILING_WRITE, counting all writes except those
+   to standard error. A variable that is not set changes nothing. Needs no header, no library but
    glibc, and Linux on x86-64. */
 typedef unsigned long size;
 extern void *__libc_malloc(size), *__libc_realloc(void *, size);
