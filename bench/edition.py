@@ -1,7 +1,7 @@
-"""Writes the edition in Rust and what the driver calls of it, and builds both: edition.py FOLDER
+"""Writes the Rust edition and the loops that the driver calls, and builds both: edition.py FOLDER
 
-FOLDER then has `safe.a` and `proved-reads.a`: the loops of bench_ours, erased, over the public names
-of rust/bekstaudi without and with that feature, each with the peer beside them.
+FOLDER then has `safe.a` and `proved-reads.a`: the loops of bench_ours, converted to Rust, over the
+public names of rust/bekstaudi without and with that feature. Each library also has the peer.
 """
 import importlib.machinery
 import importlib.util
@@ -14,7 +14,7 @@ import sys
 sys.dont_write_bytecode = True
 TOP = os.path.dirname(os.path.dirname(os.path.realpath(__file__)))
 sys.path.insert(0, f"{TOP}/rust")
-# The names of the crates, by the modules that show them.
+# The paths of the crates' items, and the modules of the Rust edition that have them.
 SHOWN = {
     "icu_zerovec": "zerovec",
     "icu_invlist::codepointinvlist": "codepointinvlist",
@@ -36,7 +36,7 @@ FLAGS = "--edition 2024 -O -C target-cpu=x86-64-v2 -C panic=abort --cap-lints al
 
 
 def called_from_c(found):
-    """A call of which each slice is a pointer and a length."""
+    """Returns the function with each slice argument as a pointer and a length."""
     head, arguments, tail = found.groups()
     for name, mutable, of in SLICE.findall(arguments):
         kind = "_mut" if mutable else ""
@@ -46,7 +46,7 @@ def called_from_c(found):
 
 
 def maker():
-    """rust/make as a module."""
+    """Returns rust/make as a module."""
     loader = importlib.machinery.SourceFileLoader("make", f"{TOP}/rust/make")
     made = importlib.util.module_from_spec(importlib.util.spec_from_loader("make", loader))
     loader.exec_module(made)

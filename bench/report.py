@@ -1,19 +1,19 @@
-"""Prints what the program bench measured, in markdown: report.py MEASURED..
+"""Prints what the program bench measured, in Markdown: report.py MEASURED..
 
-Each file is one run of the program. A time is the least of all runs: they differ in where the code
-stands in memory, which costs short loops up to a half more or less on some processors.
+Each file is one run of the program. A time is the least of all runs: they differ in the address of
+the code, which changes the time of short loops by up to a half on some processors.
 """
 import collections
 import math
 import sys
 
 LIBRARIES = ["ours", "rust", "icu"]
-# Ns below which a compiler has left the loop out: such a row tells nothing.
+# In ns. A row with a lower time is left out, because the compiler removed the loop.
 NOTHING = 0.1
 
 
 def read(files):
-    """The least times, as kernel -> row -> library -> ns, and the lines of cells and of units."""
+    """Returns the least times, as kernel -> row -> library -> ns, and the lines of cells and units."""
     times = collections.defaultdict(dict)
     others = {"cells": {}, "units": {}}
     for file in files:
@@ -42,7 +42,7 @@ def table(head, lines):
 
 
 def ratio(least, library):
-    """Our time by a library's, if it has one."""
+    """Returns our time divided by a library's, if it has one."""
     return least["ours"] / least[library] if library in least else None
 
 
@@ -51,13 +51,13 @@ def shown(number):
 
 
 def mean(ratios):
-    """The geometric mean of those that are there."""
+    """Returns the geometric mean of the ratios that are not None."""
     there = [each for each in ratios if each is not None]
     return math.exp(sum(map(math.log, there)) / len(there)) if there else None
 
 
 def by_better(least):
-    """Our time by that of the better library."""
+    """Returns our time divided by that of the better library."""
     return max(each for each in (ratio(least, "rust"), ratio(least, "icu")) if each is not None)
 
 

@@ -1,10 +1,11 @@
 #!/bin/sh
-# Measures this repository beside ICU4C and plain Rust, over the same data in one run, and prints
-# markdown: the rows of each kernel, and a summary. README.md says what is measured and how to read
-# it.
-# Usage: bench/run.sh [KERNEL..]       a kernel's name or the front of it; none: all
-# TABLES=FOLDER adds the tables NAME.txt of a folder to those of tests/data. CODE=FOLDER keeps the
-# machine code there. OURS=LIBRARY measures what rust.sh has made of the edition in Rust.
+# Measures this repository, ICU4C and plain Rust over the same data in one run, and prints Markdown:
+# the rows of each kernel, and a summary. README.md says what is measured and how to read it.
+#
+# Usage: bench/run.sh [KERNEL..]     a kernel's name or a prefix of it; all kernels if none is given
+#
+# TABLES=FOLDER adds the tables NAME.txt of a folder to those of tests/data. CODE=FOLDER writes the
+# machine code there. OURS=LIBRARY measures the Rust edition that rust.sh built.
 set -eu
 here=$(dirname -- "$(readlink -f -- "$0")")
 root=$here/..
@@ -20,7 +21,7 @@ work=$(mktemp -d)
 trap 'rm -rf "$work"' EXIT
 trap 'exit 130' INT TERM
 
-# What the driver calls of this repository is the crate bench_ours, a static library.
+# The driver calls this repository through the crate bench_ours, a static library.
 if [ -n "${OURS:-}" ]; then
     ours=$OURS rust= libc= c= without=-DWITHOUT_C
 else
@@ -45,8 +46,8 @@ if [ -n "${CODE:-}" ]; then
     objdump -dC --no-show-raw-insn "$work"/*.o >"$CODE/icu.s"
 fi
 
-# Where a loop stands in memory may cost it a half more on some processors, so all code is measured
-# at four places.
+# On some processors a loop takes half as long again at some code addresses, so all code is measured
+# at four offsets.
 set -- -- "$@"
 for table in "$root"/tests/data/*.runs.txt ${TABLES:+"$TABLES"/*.runs.txt}; do
     set -- "${table%.runs.txt}.txt" "$@"

@@ -1,6 +1,7 @@
 #!/bin/sh
-# Measures the edition in Rust beside plain Rust and ICU as run.sh does: as it is, and with its
-# feature proved-reads. It prints both summaries; the word `rows` before KERNEL.. asks for all rows.
+# Measures the Rust edition, plain Rust and ICU as run.sh does: as it is, and with its feature
+# proved-reads. Prints both summaries, and with the word `rows` also all rows.
+#
 # Usage: bench/rust.sh [rows] [KERNEL..]
 set -eu
 here=$(dirname -- "$(readlink -f -- "$0")")

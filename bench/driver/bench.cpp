@@ -1,5 +1,5 @@
 // The program: bench TABLE.. -- [KERNEL..]. It prints lines of tab-separated words, which report.py
-// reads: time KERNEL DATA OURS RUST ICU, and what builds have in cells and units.
+// reads: `time KERNEL DATA OURS RUST ICU`, and the cells and units that builds have.
 #include "bench.hpp"
 #include "data.hpp"
 #include <algorithm>
@@ -28,7 +28,7 @@ static const char *const kernels[] = {"get_u8",              "get_u16",        "
                                       "c_setfor_u8",         "c_build_u8",     "range_u8"};
 
 enum { LEAST_ROUNDS = 5, MOST_ROUNDS = 400 };
-// A row takes about so many seconds.
+// A row takes about this many seconds.
 static const double ROW_SECONDS = 0.05;
 
 static vector<string> words;
@@ -43,7 +43,7 @@ bool wanted(const string &kernel) {
     return words.empty() || std::any_of(words.begin(), words.end(), named);
 }
 
-// The time of this process on its processor, so that others on the machine count less.
+// Processor time of this process, so that other processes on the machine matter less.
 static double seconds() {
     timespec t;
     clock_gettime(CLOCK_PROCESS_CPUTIME_ID, &t);
@@ -57,8 +57,7 @@ void row(const string &kernel, const string &data, double each, const Call &ours
     double best[] = {1e9, 1e9, 1e9};
     const uint64_t answer = ours();
     const double begun = seconds();
-    // The libraries take turns in each round, so that what disturbs the machine disturbs all of
-    // them.
+    // The libraries take turns in each round, so that a disturbance affects all of them alike.
     for (int round = 0;
          round < MOST_ROUNDS && (round < LEAST_ROUNDS || seconds() - begun < ROW_SECONDS);
          round++) {

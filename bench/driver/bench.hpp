@@ -1,23 +1,23 @@
-// What the subjects share: which kernels are wanted, rows of times, and numbers at random.
+// What the subjects share: which kernels are wanted, rows of times, and random numbers.
 #pragma once
 #include <cstdint>
 #include <functional>
 #include <string>
 #include <vector>
 
-// One library's part of a row: it does the work and answers what the others have to answer too.
+// One library's part of a row: does the work and returns what the others must return too.
 typedef std::function<uint64_t()> Call;
 
-// For the calls of a library in Rust, which take a slice as a pointer and a length.
+// For the functions of a library in Rust, which take a slice as a pointer and a length.
 #define PARTS(v) (v).data(), (v).size()
 
 [[noreturn]] void fail(const std::string &what);
 
-// Whether the command line names this kernel, by its name or the front of it, or names none at all.
+// Whether the command line names no kernel at all, or this one by its name or a prefix of it.
 bool wanted(const std::string &kernel);
 
-// Compares the answers, times the calls by turns, and prints the least time of each library, in ns
-// for one of `each`. A call that is empty has no time.
+// Compares the results, times the calls in turns, and prints the least time of each library, in ns
+// per one of `each`. An empty call has no time.
 void row(const std::string &kernel, const std::string &data, double each, const Call &ours,
          const Call &rust, const Call &icu);
 
@@ -28,7 +28,7 @@ template <typename T> void shuffle(std::vector<T> &all) {
     for (size_t i = all.size(); i > 1; i--) std::swap(all[i - 1], all[random_number(i)]);
 }
 
-// The most bytes of the heap that were held at once during the call, by whichever library.
+// The peak of heap bytes in use during the call, by any library.
 size_t most_of_heap(const std::function<void()> &call);
 
 // The subjects.
@@ -41,5 +41,5 @@ void frozen_sets();
 void set_blends();
 void unit_tries();
 void packed();
-// What C calls; not where the edition in Rust is measured, which has no such calls.
+// The C functions; left out when the Rust edition is measured, which has none.
 void c_calls();

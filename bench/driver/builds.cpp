@@ -1,4 +1,4 @@
-// Tries built of the rows of a table, beside ICU's builder: times, cells, and the most of the heap.
+// Tries built from the rows of a table, compared with ICU's builder: times, cells, and peak heap.
 #include "icu_trie.hpp"
 #include <cstdio>
 
@@ -32,7 +32,7 @@ static void build(const Width &width, const Table &table, bool is_fast) {
 }
 
 void builds() {
-    // A map with no rows shows what a build costs at least.
+    // A map with no rows shows the minimum cost of a build.
     const Table empty = {"empty", {}, 0};
     for (const Width &width : widths) {
         if (!wanted(width.kernel)) continue;

@@ -1,5 +1,5 @@
-// What C calls of this repository, beside ICU: look-ups in line, the values of a text at once, the
-// ranges of a trie, the set of a value, and a build into a buffer.
+// This repository's C functions compared with ICU: inline look-ups, the values of a text at once,
+// the ranges of a trie, the set of a value, and a build into a buffer.
 #include "../../c/bekstaudi.h"
 #include "icu_trie.hpp"
 #include <algorithm>
@@ -11,7 +11,7 @@ using std::vector;
 
 enum { POINTS = 4096, TURNS = 12, CHARACTERS = 4096, RANGES = 256, ROOM = 1 << 20 };
 
-// A trie that ICU built, in its binary form, and opened for C.
+// A trie that ICU built, in its binary form, and opened by the C library.
 struct Opened {
     vector<uint32_t> bytes;
     bks_trie trie;
@@ -73,8 +73,8 @@ static void text(const string &name, const Opened &ours, const UCPTrie *icu, con
         nullptr, [&] { return icu_values(icu, one.bytes, values); });
 }
 
-// Each range is mixed by itself: in a chain each would wait for the one before, which is seen only
-// where ranges come from a buffer.
+// Each range is mixed on its own. In a chain each would wait for the one before, and that only
+// shows if the ranges come from a buffer.
 static uint64_t icu_ranges(const UCPTrie *trie) {
     uint64_t sum = 0;
     uint32_t value;
@@ -103,7 +103,7 @@ static uint64_t ranges_by_many(const bks_trie &trie) {
     return sum;
 }
 
-// All ranges of a trie: one a call, or many.
+// All ranges of a trie: one per call, or many.
 static void ranges(const string &kernel, const string &name, const Opened &ours, const UCPTrie *icu,
                    uint64_t (*all)(const bks_trie &)) {
     uint32_t count = 0;
@@ -114,7 +114,7 @@ static void ranges(const string &kernel, const string &name, const Opened &ours,
         [&] { return icu_ranges(icu); });
 }
 
-// The set of a value, by how many ends it has.
+// The number of boundaries of the set of a value.
 static void set_of(const string &name, const Opened &ours, const UCPTrie *icu, uint32_t wanted) {
     vector<uint32_t> ends(1 << 13);
     row(

@@ -1,4 +1,5 @@
-// The calls of ours/*.rt.txt (ours_) and of peer/*.rs (rust_). A slice is a pointer and a length.
+// The functions of crates/bench_ours (ours_) and of bench/peer (rust_). A slice is a pointer and a
+// length.
 #pragma once
 #include <cstddef>
 #include <cstdint>
@@ -16,7 +17,7 @@ struct TrieParts {
     bool is_fast;
 };
 
-// The code points from `start` to `end`, both included, have this value.
+// The code points from `start` to `end`, both inclusive, have this value.
 struct Row {
     uint32_t start, end, value;
 };
@@ -84,7 +85,7 @@ size_t ours_c16_build(const uint16_t *keys, size_t, const uint32_t *ends, size_t
                       const int32_t *values, size_t, uint16_t *units, size_t);
 }
 
-// A number after one more, as ours and the peer mix them.
+// Mixes one more number into `sum`, as ours and the peer do.
 static inline uint64_t mixed(uint64_t sum, uint32_t number) {
     return (sum ^ number) * 0x100000001B3u;
 }

@@ -46,7 +46,7 @@ const vector<uint8_t> &categories() {
     return all;
 }
 
-// A character of a text of this kind; `word` is the number of the word that it stands in.
+// Returns a character for a text of this kind; `word` is the number of the word that contains it.
 static uint32_t character(const string &kind, uint32_t word) {
     static const struct {
         uint32_t first, count;

@@ -1,4 +1,4 @@
-// The tables of the command line, and texts that are made.
+// The tables of the command line, and generated texts.
 #pragma once
 #include "calls.hpp"
 #include <string>
@@ -10,7 +10,7 @@ struct Table {
     uint32_t greatest;
 };
 
-// Reads a file of rows HEX..HEX;N and HEX;N, unless one of the same name was read.
+// Reads a file of rows HEX..HEX;N and HEX;N, unless a file of the same name was read before.
 void read_table(const char *file);
 
 const std::vector<Table> &tables();
@@ -31,5 +31,5 @@ struct Text {
     size_t characters;
 };
 
-// A text of each kind with so many characters.
+// One text of each kind, with this many characters.
 std::vector<Text> texts(size_t characters);

@@ -1,4 +1,4 @@
-// What is asked of sets of code points that were frozen, and how long freezing takes.
+// Queries of frozen sets of code points, and the time that freezing takes.
 #include "icu_set.hpp"
 #include <unicode/uchar.h>
 
@@ -6,14 +6,14 @@ using icu::UnicodeSet;
 using std::string;
 using std::vector;
 
-// The code points that have a property, by the ICU that is here.
+// The code points that have a property, as the installed ICU says.
 static Set set_of_property(const string &name, UProperty property) {
     vector<bool> held(0x110000);
     for (uint32_t c = 0; c < 0x110000; c++) held[c] = u_hasBinaryProperty(UChar32(c), property);
     return set_of(name, held);
 }
 
-// All sets, and more that parsers ask.
+// All sets, and the sets that parsers often query.
 static const vector<Set> &sets_to_freeze() {
     static vector<Set> sets;
     if (!sets.empty()) return sets;

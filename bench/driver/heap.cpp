@@ -1,4 +1,4 @@
-// What is held of the heap while a call is watched. All three libraries take theirs by malloc.
+// Tracks how much of the heap is in use during a call. All three libraries allocate by malloc.
 #include "bench.hpp"
 #include <algorithm>
 #include <cstdlib>

@@ -1,4 +1,4 @@
-// Tries that ICU builds of a table, and their parts as the other libraries read them.
+// Tries that ICU builds from a table, and their parts as the other libraries read them.
 #pragma once
 #include "bench.hpp"
 #include "data.hpp"
@@ -6,7 +6,7 @@
 #include <unicode/ucptrie.h>
 #include <unicode/umutablecptrie.h>
 
-// What code points above 0x10FFFF have.
+// The value of numbers above 0x10FFFF.
 enum { ERROR_VALUE = 9 };
 
 struct CloseTrie {
@@ -36,7 +36,7 @@ inline TrieParts parts_of(const IcuTrie &trie, size_t value_bytes, bool is_fast)
             is_fast};
 }
 
-// The name of a row: the table's and the trie's type.
+// The name of a row: the table's name and the trie's type.
 inline std::string name_of(const Table &table, bool is_fast) {
     return table.name + (is_fast ? "-fast" : "-small");
 }

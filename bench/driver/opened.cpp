@@ -1,4 +1,4 @@
-// Tries that are opened and asked once: from ICU's binary form, and from their parts.
+// Tries that are opened and queried once: from ICU's binary form, and from their parts.
 #include "icu_trie.hpp"
 
 using std::string;
@@ -6,7 +6,7 @@ using std::vector;
 
 enum { TURNS = 64 };
 
-// The trie in the binary form, and one byte more.
+// The trie in binary form, and one extra byte.
 static vector<uint8_t> binary_of(const UCPTrie *trie) {
     UErrorCode error = U_ZERO_ERROR;
     const int32_t size = ucptrie_toBinary(trie, nullptr, 0, &error);

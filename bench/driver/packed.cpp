@@ -1,4 +1,4 @@
-// Packed vectors beside loops over slices in plain Rust. ICU has none.
+// Packed vectors compared with loops over slices in plain Rust. ICU has no packed vectors.
 #include "bench.hpp"
 #include "calls.hpp"
 #include <algorithm>
@@ -53,7 +53,8 @@ static void reads() {
         [&] { return rust_equal_16(PARTS(many), PARTS(same)); }, nullptr);
 }
 
-// Ascending numbers, each `step` past the last, and wanted ones of which some are there.
+// Ascending numbers, each `step` above the last, and numbers to search for, of which some are
+// there.
 template <typename T, typename Of>
 static void search(const string &data, size_t count, uint32_t step, Of *ours, Of *rust) {
     vector<T> numbers(count), wanted_numbers(PLACES);

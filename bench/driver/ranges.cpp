@@ -7,7 +7,7 @@ using icu::UnicodeSet;
 
 enum { TURNS = 5 };
 
-// What `sum` becomes when all ranges are mixed into it.
+// Mixes all ranges into `sum`.
 static uint64_t icu_ranges(const UCPTrie *trie, uint64_t sum) {
     uint32_t value;
     for (UChar32 start = 0, end; (end = ucptrie_getRange(trie, start, UCPMAP_RANGE_NORMAL, 0,
@@ -36,7 +36,7 @@ template <typename Turn> static uint64_t over_turns(const Turn &turn) {
     return sum;
 }
 
-// How many ranges there are.
+// The number of ranges.
 static double count(const UCPTrie *trie) {
     double ranges = 0;
     for (UChar32 start = 0; start <= 0x10FFFF; ranges++)

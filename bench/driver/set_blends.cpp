@@ -1,5 +1,5 @@
-// Sets of code points put together: of two sets by each operation, and of ranges one by one. And
-// whether one set holds another.
+// Combining sets of code points: two sets by each operation, and ranges one by one. Also whether
+// one set contains another.
 #include "icu_set.hpp"
 #include <algorithm>
 
@@ -14,7 +14,8 @@ static uint64_t mixed_set(const UnicodeSet &set) {
     return sum;
 }
 
-// The mixed ranges of the first of so many sets that are built alike, and how many ranges all have.
+// Builds the same set in each turn. Mixes the ranges of the first, and adds the number of ranges of
+// each.
 template <typename Turn> static uint64_t built(size_t turns, const Turn &turn) {
     uint64_t sum = 0;
     for (size_t i = 0; i < turns; i++) {
@@ -77,7 +78,7 @@ static void of_ranges(const string &name, const vector<uint32_t> &starts,
         [&] { return rust_set_ranges(PARTS(starts), PARTS(ends), turns); }, icu);
 }
 
-// The ranges of a set in order and in no order.
+// The ranges of a set, in order and in no order.
 static void in_both_orders(const string &name, const vector<uint32_t> &starts,
                            const vector<uint32_t> &ends) {
     of_ranges(name + "-ascending", starts, ends);

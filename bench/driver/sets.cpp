@@ -1,4 +1,4 @@
-// What is asked of sets of code points, which are not frozen.
+// Queries of sets of code points that are not frozen.
 #include "icu_set.hpp"
 #include <algorithm>
 #include <unicode/utf8.h>
@@ -46,7 +46,7 @@ const vector<Set> &all_sets() {
 
 Set empty_set() { return set_of("none", vector<bool>(0x110000)); }
 
-// Each group of 64 code points has the same number of members in all libraries.
+// Checks that all libraries have the same number of members in each group of 64 code points.
 static void compare(const Set &s) {
     vector<uint32_t> points(64);
     for (uint32_t c = 0; c < 0x110000; c += 64) {
@@ -81,8 +81,8 @@ static void contains() {
     }
 }
 
-// The sum with how many of the characters of a text are in the set. It stays a call, as the loops
-// of the other two libraries.
+// Adds to `sum` the number of characters of a text that are in the set. It is not inlined, like the
+// loops of the other two libraries.
 __attribute__((noinline)) uint64_t add_held(const UnicodeSet &set, const string &text,
                                             uint64_t sum) {
     const uint8_t *bytes = reinterpret_cast<const uint8_t *>(text.data());

@@ -1,5 +1,5 @@
-// Look-ups in code point tries: get32, the same by a trie whose type is known, and get over texts.
-// ICU's part are its macros, which know the type too.
+// Look-ups in code point tries: get32, get32 of a trie whose type is known, and get over texts.
+// ICU's part is its macros, which know the type too.
 #include "icu_trie.hpp"
 #include <algorithm>
 #include <unicode/utf8.h>
@@ -12,7 +12,7 @@ enum { POINTS = 4096, TURNS = 12, SHORT_TEXT = 256, LONG_TEXT = 16 * SHORT_TEXT 
 typedef uint64_t Adder(const UCPTrie *, const vector<uint32_t> &points, uint64_t sum);
 typedef uint64_t TextAdder(const UCPTrie *, const string &text, uint64_t sum);
 
-// The sum goes on from turn to turn, so that no turn is left out.
+// The sum continues from turn to turn, so that the compiler removes no turn.
 #define ADDER(name, GET, bits)                                                                     \
     __attribute__((noinline)) static uint64_t name(const UCPTrie *trie,                            \
                                                    const vector<uint32_t> &points, uint64_t sum) { \
@@ -39,8 +39,8 @@ ADDER(small_32, UCPTRIE_SMALL_GET, 32)
 TEXT_ADDER(fast_text, UCPTRIE_FAST_GET)
 TEXT_ADDER(small_text, UCPTRIE_SMALL_GET)
 
-// The macro for texts that may be ill-formed, which makes no code point where it needs none. There
-// is one for fast tries alone.
+// The macro for texts that may be ill-formed, which computes no code point if it needs none. It
+// exists only for fast tries.
 __attribute__((noinline)) static uint64_t fast_values(const UCPTrie *trie, const string &text,
                                                       uint64_t sum) {
     const uint8_t *at = reinterpret_cast<const uint8_t *>(text.data());
@@ -101,7 +101,7 @@ static const vector<Points> &kinds() {
     return all;
 }
 
-// All code points and some numbers above have the same value in all three.
+// Checks that all code points, and some numbers above them, have the same value in all three.
 static void compare(const Width &width, const IcuTrie &trie, const TrieParts &parts) {
     vector<uint32_t> points(0x110010), ours(points.size()), rust(points.size());
     for (uint32_t c = 0; c < points.size(); c++) points[c] = c;

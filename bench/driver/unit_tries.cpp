@@ -1,5 +1,5 @@
-// Unit tries over lists of keys that are made: listed, looked up and built. ICU's fast form is what
-// all read.
+// Unit tries over generated lists of keys: listed, looked up and built. All libraries read ICU's
+// fast form.
 #include "bench.hpp"
 #include "calls.hpp"
 #include <algorithm>
@@ -16,12 +16,12 @@ using std::vector;
 
 enum { UNITS_ROOM = 1 << 21, KEYS_ROOM = 1 << 22 };
 
-// Keys at random, which differ, and their values.
+// Random keys without duplicates, and their values.
 struct List {
     string name;
     vector<UnicodeString> keys;
     vector<int32_t> values;
-    // The keys one after another, and where each ends.
+    // The keys one after another, and the position after each.
     vector<uint16_t> joined;
     vector<uint32_t> ends;
 };
@@ -58,7 +58,7 @@ static UnicodeString locale() {
     return key;
 }
 
-// One to four pictures, joined or of a colour.
+// One to four pictures, joined or coloured.
 static UnicodeString emoji() {
     UnicodeString key;
     for (uint32_t n = 1 + random_number(4); n > 0; n--) {
@@ -76,7 +76,7 @@ static UnicodeString han() {
     return key;
 }
 
-// A list of about so many keys, with values that all differ, or with four by turns.
+// A list of about `count` keys. All values differ, or with `few_values` four of them alternate.
 static List list_of(const string &name, size_t count, UnicodeString (*key)(),
                     bool few_values = false) {
     List list = {name, {}, {}, {}, {}};
@@ -99,7 +99,7 @@ static UnicodeString icu_units(const List &list, UStringTrieBuildOption option) 
     UnicodeString built;
     builder.buildUnicodeString(option, built, error);
     if (U_FAILURE(error)) fail(u_errorName(error));
-    // What was built is only lent by the builder.
+    // The builder still owns the buffer, so return a copy.
     return UnicodeString(built.getBuffer(), built.length());
 }
 
@@ -123,7 +123,7 @@ static int32_t value_after(const UCharsTrie &trie, UStringTrieResult result) {
     return USTRINGTRIE_HAS_VALUE(result) ? trie.getValue() : 7;
 }
 
-// The values of all keys, or with `along` of all their prefixes.
+// Sums the values of all keys, or with `along` of all their prefixes.
 static uint64_t icu_look(const UnicodeString &units, const List &list, bool along) {
     UCharsTrie trie(units.getBuffer());
     uint64_t sum = 0;
@@ -143,8 +143,7 @@ static uint64_t icu_look(const UnicodeString &units, const List &list, bool alon
     return sum;
 }
 
-// The longest key that begins at each place of a text: its length and its value, 0 and 7 where no key
-// does.
+// The longest key at each position of a text: its length and its value, 0 and 7 if there is none.
 static uint64_t icu_longest(const UnicodeString &units, const vector<uint16_t> &text) {
     UCharsTrie trie(units.getBuffer());
     uint64_t sum = 0;
@@ -177,7 +176,7 @@ static vector<uint8_t> bytes_of(const UnicodeString &units) {
     return vector<uint8_t>(bytes, bytes + 2 * units.length());
 }
 
-// All three list the same keys.
+// Checks that all three list the same keys.
 static void compare_keys(const List &list, const UnicodeString &units,
                          const vector<uint8_t> &bytes) {
     string ours(KEYS_ROOM, ' '), rust(KEYS_ROOM, ' ');
@@ -225,7 +224,7 @@ static void read(const List &list) {
             [&] { return icu_look(units, list, along); });
 }
 
-// ICU's reader finds each value in the units that we build.
+// Measures building. First checks that ICU's reader finds each value in the units that we build.
 static void build(const List &list) {
     static vector<uint16_t> units(UNITS_ROOM);
     auto ours = [&] {
@@ -261,7 +260,7 @@ void unit_tries() {
                                  list_of("han" + values, 20000, han, few)})
             build(list);
     }
-    // Ten keys, the key k being 20,000 units k.
+    // Ten keys; key k is 20,000 times the unit k.
     List tall = {"long10", {}, {}, {}, {}};
     for (char16_t k = 1; k <= 10; k++) {
         tall.keys.push_back(UnicodeString(20000, k, 20000));

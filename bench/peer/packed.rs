@@ -26,7 +26,7 @@ fn character(cell: &[u8]) -> Option<char> {
     char::from_u32(u32::from_le_bytes([cell[0], cell[1], cell[2], 0]))
 }
 
-/// All cells are tested first, as when a vector is made of bytes.
+/// Tests all cells first, as when a vector is made from bytes.
 #[unsafe(no_mangle)]
 unsafe extern "C" fn rust_read_characters(bytes: *const u8, len: usize) -> u64 {
     let bytes = unsafe { slice(bytes, len) };
@@ -57,7 +57,7 @@ unsafe extern "C" fn rust_equal_16(a: *const u8, a_len: usize, b: *const u8, b_l
     (a == b) as u64
 }
 
-/// The search of a slice of numbers, which are not packed.
+/// Searches a slice of numbers that are not packed.
 fn places_of<T: Ord + Copy>(numbers: &[T], wanted: &[T]) -> u64 {
     sum_of(wanted.iter().map(|x| numbers.binary_search(x).unwrap_or_else(|place| place) as u32))
 }

@@ -3,7 +3,7 @@ use crate::mixed;
 use crate::set_builder::Builder;
 use crate::tries::{LAST, Parts, Trie, Value, over};
 
-/// The code points from `first` to `last`, both of them, with their value.
+/// The code points from `first` to `last`, both inclusive, with their value.
 #[derive(Clone)]
 struct Range<T> {
     first: u32,
@@ -11,12 +11,12 @@ struct Range<T> {
     value: T,
 }
 
-/// No block and no table stands here.
+/// The offset of no block and no table.
 const NOWHERE: u32 = u32::MAX;
 
 impl<T: Value> Trie<'_, T> {
-    /// The range that begins at `first`: as far as the value does not change. Blocks and tables
-    /// that come again are passed whole, and so are those of the null value.
+    /// Returns the range that starts at `first` and ends before the value changes. Repeated blocks
+    /// and tables are skipped whole, and so are those of the null value.
     fn range_from(&self, first: u32) -> Option<Range<T>> {
         if first > LAST {
             return None;

@@ -1,9 +1,9 @@
-//! The builder of sets of code points: a list of ends that grows and shrinks in place.
+//! The builder of sets of code points: a list of boundaries that grows and shrinks in place.
 use crate::sets::{Cell, Set, number, set};
 use crate::slice;
 use std::cmp::Ordering;
 
-/// One more than the last code point.
+/// One above the last code point.
 const LIMIT: u32 = 0x11_0000;
 
 #[derive(Default)]
@@ -12,7 +12,7 @@ pub struct Builder {
 }
 
 impl Builder {
-    /// Adds the range, or removes it, by a search for each of its ends.
+    /// Adds or removes the range, by a search for each of its two boundaries.
     fn change(&mut self, start: u32, end: u32, add: bool) {
         if start >= end || end > LIMIT {
             return;
@@ -83,7 +83,7 @@ impl Builder {
         self.remove_range(before, LIMIT);
     }
 
-    /// The ends that exactly one of the two lists has.
+    /// Makes the list of the boundaries that are in exactly one of the two lists.
     fn complement_set(&mut self, set: &Set<&[Cell]>) {
         let (ours, theirs) = (&self.ends, set.ends());
         let mut ends = vec![];
@@ -104,7 +104,7 @@ impl Builder {
         self.ends = ends;
     }
 
-    /// The set, with its ends packed.
+    /// Returns the set, with its boundaries packed.
     pub fn build(self) -> Set<Vec<Cell>> {
         Set::of_cells(
             self.ends
@@ -115,8 +115,8 @@ impl Builder {
     }
 }
 
-/// The mixed ranges of the first of so many sets that are built alike, and how many ranges all
-/// have.
+/// Builds the same set in each turn. Mixes the ranges of the first, and adds the number of ranges
+/// of each.
 fn built(turns: usize, turn: impl Fn() -> Set<Vec<Cell>>) -> u64 {
     let mut sum = 0;
     for nth in 0..turns {
@@ -129,7 +129,7 @@ fn built(turns: usize, turn: impl Fn() -> Set<Vec<Cell>>) -> u64 {
     sum
 }
 
-/// The first set with the second added (0), removed (1), kept (2) or complemented (3).
+/// The first set after adding (0), removing (1), retaining (2) or complementing (3) the second.
 #[unsafe(no_mangle)]
 unsafe extern "C" fn rust_blend(
     a: *const u8,

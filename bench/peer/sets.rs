@@ -1,22 +1,22 @@
-//! Sets of code points: inversion lists of packed ends.
+//! Sets of code points: inversion lists of packed boundaries.
 use crate::tries::over;
 use crate::{mixed, slice};
 
-/// An end as three bytes, lowest first.
+/// A boundary in three bytes, lowest first.
 pub type Cell = [u8; 3];
 
 pub fn number(cell: &Cell) -> u32 {
     u32::from_le_bytes([cell[0], cell[1], cell[2], 0])
 }
 
-/// A set over cells that it owns or borrows, with the number of its members.
+/// A set over owned or borrowed cells, with the number of its members.
 pub struct Set<C: AsRef<[Cell]>> {
     cells: C,
     size: u32,
 }
 
 impl<C: AsRef<[Cell]>> Set<C> {
-    /// The set of these ends, which have to ascend and to be an even number.
+    /// Makes the set from these boundaries, which must ascend and be even in number.
     pub fn of_cells(cells: C) -> Self {
         let ends = cells.as_ref();
         assert!(
@@ -30,12 +30,12 @@ impl<C: AsRef<[Cell]>> Set<C> {
         self.cells.as_ref()
     }
 
-    /// The ranges, each with its first member and the code point past its last.
+    /// The ranges, each as its first member and the code point after its last.
     pub fn ranges(&self) -> impl ExactSizeIterator<Item = (u32, u32)> + '_ {
         self.ends().chunks(2).map(|pair| (number(&pair[0]), number(&pair[1])))
     }
 
-    /// Where the range begins in the list that holds `c`.
+    /// Returns the position in the list of the start of the range that contains `c`.
     fn range_of(&self, c: u32) -> Option<usize> {
         if c > 0xFF_FFFF {
             return None;
@@ -54,7 +54,7 @@ impl<C: AsRef<[Cell]>> Set<C> {
         self.range_of(c as u32).is_some()
     }
 
-    /// How many members are below `c`, if it is one.
+    /// Returns how many members are below `c`, if `c` is a member.
     #[inline]
     fn position32(&self, c: u32) -> Option<usize> {
         let mut below = 0;
@@ -70,8 +70,8 @@ impl<C: AsRef<[Cell]>> Set<C> {
         None
     }
 
-    /// As in the crate, but for the last code point of a range, which the crate lets lie one past
-    /// the range.
+    /// Like the crate's, but the crate also accepts a range whose last code point is one past the
+    /// range that should contain it.
     fn contains_set(&self, other: &Self) -> bool {
         if other.size > self.size {
             return false;
@@ -92,7 +92,7 @@ impl<C: AsRef<[Cell]>> Set<C> {
         wanted.is_none()
     }
 
-    /// All ranges as one number.
+    /// Mixes all ranges into one number.
     pub fn mixed(&self) -> u64 {
         self.ranges().fold(0, |sum, (start, end)| mixed(mixed(sum, start), end - 1))
     }
@@ -104,7 +104,7 @@ pub unsafe fn set<'a>(bytes: *const u8, len: usize) -> Set<&'a [Cell]> {
     Set::of_cells(unsafe { slice(bytes as *const Cell, len / 3) })
 }
 
-/// The sum with how many of the characters of a text are in the set.
+/// Adds to `sum` the number of characters of a text that are in the set.
 #[inline(never)]
 fn add_held<C: AsRef<[Cell]>>(set: &Set<C>, text: &str, sum: u64) -> u64 {
     text.chars().fold(sum, |sum, c| sum + set.contains(c) as u64)

@@ -1,7 +1,7 @@
 //! Look-ups in code point tries.
 use crate::slice;
 
-/// What a trie maps to: a number that is kept as bytes, lowest first.
+/// A trie's value: a number that is stored as bytes, lowest first.
 pub trait Value: Copy + PartialEq {
     type Cell: Copy;
     fn of_cell(cell: Self::Cell) -> Self;
@@ -36,7 +36,7 @@ value!(u8, 1);
 value!(u16, 2);
 value!(u32, 4);
 
-/// The parts of a trie as the driver hands them over.
+/// The parts of a trie as the driver passes them.
 #[repr(C)]
 #[derive(Clone, Copy)]
 pub struct Parts {
@@ -51,7 +51,7 @@ pub struct Parts {
     is_fast: bool,
 }
 
-/// A trie over cells that it borrows. Its fast path finds all its cells: `of_parts` has seen to it.
+/// A trie over borrowed cells. `of_parts` asserts that its fast path stays inside the data.
 pub struct Trie<'a, T: Value> {
     index: &'a [[u8; 2]],
     data: &'a [T::Cell],
@@ -90,7 +90,7 @@ impl<T: Value> Trie<'_, T> {
         }
     }
 
-    /// The last code point that the fast path answers.
+    /// Returns the last code point of the fast path.
     #[inline(always)]
     fn last_near(&self) -> u32 {
         if self.is_fast { 0xFFFF } else { 0xFFF }
@@ -106,12 +106,12 @@ impl<T: Value> Trie<'_, T> {
         self.data.get(place as usize).map(|cell| T::of_cell(*cell))
     }
 
-    /// The value from the high start on.
+    /// Returns the value of the code points from the high start on.
     pub fn high_value(&self) -> Option<T> {
         self.value_at((self.data.len() as u32).wrapping_sub(2))
     }
 
-    /// The value by two reads, with no test of a place.
+    /// Returns the value by two reads without a bounds test.
     ///
     /// # Safety
     /// `c` is at most `last_near`.
@@ -123,16 +123,16 @@ impl<T: Value> Trie<'_, T> {
         }
     }
 
-    /// The first two stages of index: where the table of the blocks of 512 code points stands.
+    /// Reads the first two index stages: the offset of the table of the block of 512 code points.
     #[inline]
     pub fn table_of(&self, c: u32) -> Option<u32> {
         let first = (c >> 14) + if self.is_fast { 0x400 - 4 } else { 0x40 };
         self.index_at(self.index_at(first)?.wrapping_add(c >> 9 & 31))
     }
 
-    /// The third stage: where the block of 16 values stands that is entry `nth` of a table. The
-    /// high bit of a table says that its entries have 18 bits, in groups of eight with their high
-    /// bits in a cell in front.
+    /// Reads the third index stage: the offset of the block of 16 values that is entry `nth` of a
+    /// table. If bit 15 of `table` is set, the entries have 18 bits: in groups of eight, with their
+    /// high bits in the cell before them.
     #[inline]
     pub fn block_of(&self, table: u32, nth: u32) -> Option<u32> {
         if table & 0x8000 == 0 {
@@ -157,7 +157,7 @@ impl<T: Value> Trie<'_, T> {
         self.far_place(c).and_then(|place| self.value_at(place)).unwrap_or(self.error)
     }
 
-    /// The call of the long way, which the compiler is to take for rare.
+    /// Calls the slow path, which `#[cold]` marks as rare.
     #[cold]
     #[inline(always)]
     fn rare_value(&self, c: u32) -> T {
@@ -182,7 +182,7 @@ impl<T: Value> Trie<'_, T> {
     }
 }
 
-/// A trie whose type is known when the program is compiled.
+/// A trie whose type is known at compile time.
 struct Typed<'a, T: Value, const FAST: bool>(&'a Trie<'a, T>);
 
 impl<T: Value, const FAST: bool> Typed<'_, T, FAST> {
@@ -213,7 +213,8 @@ fn add_text<T: Value>(trie: &Trie<T>, text: &str, sum: u64) -> u64 {
     text.chars().fold(sum, |sum, c| sum + trie.get(c).number() as u64)
 }
 
-/// What so many turns make of 0, each of which takes the sum of the last: so none is left out.
+/// Runs this many turns, starting from 0. Each takes the sum of the last, so that the compiler
+/// removes none.
 pub fn over(turns: usize, turn: impl Fn(u64) -> u64) -> u64 {
     (0..turns).fold(0, |sum, _| turn(sum))
 }
@@ -276,7 +277,7 @@ unsafe extern "C" fn rust_text_8(parts: &Parts, text: *const u8, len: usize, tur
     std::str::from_utf8(text).map_or(u64::MAX, |text| over(turns, |sum| add_text(&trie, text, sum)))
 }
 
-/// The value of `A` in the trie of these parts.
+/// Returns the value of `A` in the trie of these parts.
 #[inline(never)]
 fn made(parts: &Parts) -> u64 {
     unsafe { Trie::<u8>::of_parts(parts) }.get32(0x41).number() as u64

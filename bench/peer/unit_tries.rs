@@ -1,27 +1,27 @@
 //! Unit tries: a cursor that reads a key unit by unit, and the entries in unit order.
 use crate::{mixed, slice};
 
-// A lead unit below 0x30 is a branch, below 0x40 a run of units, and from 0x40 on it has a value:
-// one that ends the key where bit 15 is set, and else one in bits 6 to 14, with the node's kind
-// below.
+// A lead unit below 0x30 is a branch, one below 0x40 a run of units (linear match). From 0x40 on it
+// has a value: if bit 15 is set, the value ends the key; otherwise it is in bits 6 to 14, and the
+// node's kind in the bits below.
 const RUN: u16 = 0x30;
 const VALUE: u16 = 0x40;
 const KIND: u16 = 0x3F;
 const FINAL: u16 = 0x8000;
 
-// What is at most this many entries of a branch is a list, and more a choice between two halves.
+// A branch of at most this many entries is a list, and a larger one a choice between two halves.
 const LIST: usize = 5;
 
 #[derive(Clone)]
 struct Cursor<'a> {
     units: &'a [[u8; 2]],
-    /// Where the next unit stands that is to be read, if one can match.
+    /// The position of the next unit to read, if one can match.
     place: Option<usize>,
-    /// How many units of a run are left, less one.
+    /// The number of units left in a run, minus one.
     left: Option<u8>,
 }
 
-/// Where what comes after a number stands, by the number's lead unit.
+/// Returns the position after a number, by the number's lead unit.
 fn past(place: usize, lead: u16, two: u16, three: u16) -> usize {
     place + (lead >= two) as usize + (lead >= three) as usize
 }
@@ -36,7 +36,7 @@ impl<'a> Cursor<'a> {
         self.units.get(place).map(|unit| u16::from_le_bytes(*unit))
     }
 
-    /// The number that two units make.
+    /// Returns the number in two units.
     #[inline(always)]
     fn pair(&self, place: usize) -> Option<usize> {
         Some((self.unit(place)? as usize) << 16 | self.unit(place + 1)? as usize)
@@ -60,7 +60,7 @@ impl<'a> Cursor<'a> {
         })
     }
 
-    /// Where the lower half of a branch stands.
+    /// Returns the position of the lower half of a branch.
     #[inline(always)]
     fn lower_half(&self, place: usize) -> Option<usize> {
         Some(match self.unit(place)? {
@@ -70,8 +70,8 @@ impl<'a> Cursor<'a> {
         })
     }
 
-    /// Where an entry of a list goes on, whose number stands here: a value stays, a distance is
-    /// jumped over.
+    /// Returns where an entry of a list goes on, by the number at `place`: at `place` itself if the
+    /// number is a value, otherwise at the target of the jump.
     #[inline(always)]
     fn jumped(&self, place: usize) -> Option<usize> {
         Some(match self.unit(place)? {
@@ -174,7 +174,7 @@ impl<'a> Cursor<'a> {
         })
     }
 
-    /// Goes on by the unit number `nth` of those that can come next, and tells it.
+    /// Steps by unit number `nth` of the units that can come next, and returns that unit.
     fn step_nth(&mut self, nth: usize) -> Option<u16> {
         let mut place = self.place?;
         if let Some(left) = self.left {
