@@ -158,12 +158,19 @@ const COMMANDS: [(&str, &str, &[Argument]); 5] = [
     ),
 ];
 
-/// The argument's values: how many, what they are called, and what stands for none.
-fn with_values<'a>(argument: Arg<'a>, row: &Argument) -> Arg<'a> {
-    argument
-        .value_names(row.value_name)
-        .value_parser(row.values)
-        .default_values(row.default)
+/// Sets what help calls the argument's value.
+fn with_value_name<'a>(argument: Arg<'a>, row: &Argument) -> Arg<'a> {
+    argument.value_names(row.value_name)
+}
+
+/// Sets what the argument's value has to be.
+fn with_value_parser<'a>(argument: Arg<'a>, row: &Argument) -> Arg<'a> {
+    argument.value_parser(row.values)
+}
+
+/// Sets the value that the argument has if it is left out.
+fn with_default<'a>(argument: Arg<'a>, row: &Argument) -> Arg<'a> {
+    argument.default_values(row.default)
 }
 
 /// The argument by its place among the words.
@@ -180,7 +187,9 @@ fn arg_of<'a>(alloc: Global, row: &Argument) -> Arg<'a> {
     let argument = Arg::new(alloc, row.id)
         .required(row.required)
         .help(row.help);
-    placed(with_values(argument, row), row)
+    let named = with_value_name(argument, row);
+    let tested = with_value_parser(named, row);
+    placed(with_default(tested, row), row)
 }
 
 /// A command that takes these arguments.

@@ -1,5 +1,5 @@
 -- A trie that has the numbers of another one: by the closure that maps it, and over numbers the trie itself.
-use Rattle.std.proofs.Common.{◌≡◌, ℕ, ◌^◌, ◌<◌, List, [], ◌∷◌, map, length, Option, Some, None, Result, Ok, Err, refl, sym, ap, ◌∙◌, arith}
+use Rattle.std.proofs.Common.{◌≡◌, ℕ, ◌^◌, ◌<◌, List, [], ◌∷◌, map, length, is_none, true, false, Option, Some, None, Result, Ok, Err, refl, sym, ap, ◌∙◌, arith}
 use Rattle.std.specs.Prelude.{IfErr, IfOk}
 use Rattle.std.specs.Option.{ok_or}
 use Rattle.icu_trie_core.specs.ValueNumbers.{fitting}
@@ -8,7 +8,7 @@ use Rattle.icu_trie.specs.Conversion.{with_null_value}
 use Rattle.icu_trie.specs.MappedTrie.{CallsInTurn, IsMapOfTrie, MapsInTurn}
 use Rattle.icu_trie.specs.declared.map_value.MapError.{MapError}
 use Rattle.icu_trie.specs.declared.map_value.MapError.TheVariants.{Closure, Memory}
-use Rattle.ucptrie_tables.specs.Inside.Numbers.{HasNumbersOf}
+use Rattle.ucptrie_tables.specs.Inside.Numbers.{HasNumbersOf, IsWhyNoNumbers, first_without}
 
 module _ {F A B : Type 0} (step : F → A → Result B ℕ → F → Type 0) (number : A → ℕ) (of_number : ℕ → Option B)
     (same : (s : F) (x : A) (r : Result B ℕ) (t : F) → step s x r t → r ≡ ok_or (of_number (number x)) (number x))
@@ -33,6 +33,19 @@ module _ {F A B : Type 0} (step : F → A → Result B ℕ → F → Type 0) (nu
       let here = of_step f x y calls.0 calls.1 in
       let rest = values-in_turn calls.0 xs ys g calls.2 (omega (arith, len)) in
       λ i. sym here i ∷ rest i
+
+  first-in_turn : (f : F) (xs : List A) (ys : List B) (n : ℕ) (g : F) → CallsInTurn step f xs ys (Some n) g
+      → first_without number of_number xs ≡ Some n
+  first-in_turn f [] [] n g calls = absurd calls
+  first-in_turn f [] (y ∷ ys) n g calls = absurd calls
+  first-in_turn f (x ∷ xs) [] n g calls =
+      let why = refused (of_number (number x)) (number x) n (same f x (Err n) g calls) in
+      let none : is_none (of_number (number x)) ≡ true = rw why.0 refl in
+      rw none (ap Some why.1)
+  first-in_turn f (x ∷ xs) (y ∷ ys) n g calls =
+      let here = of_step f x y calls.0 calls.1 in
+      let some : is_none (of_number (number x)) ≡ false = rw here refl in
+      rw some (first-in_turn calls.0 xs ys n g calls.2)
 
   refused-in_turn : (f : F) (xs : List A) (ys : List B) (n : ℕ) (g : F) → CallsInTurn step f xs ys (Some n) g
       → (n < 2 ^ 32) × (of_number n ≡ None)
@@ -79,6 +92,22 @@ module _ {F A B : Type 0} (step : F → A → Result B ℕ → F → Type 0) (nu
         let same_number : k ≡ n = cc in
         from_refusal n _ m.answers m.refusal m.last m.calls (m.gives ∙ ap Some same_number)
 
+    first-refusal : (n : ℕ) (xs : List A) (answers : List B) (refusal : Option ℕ) (last : F) → CallsInTurn step f xs answers refusal last
+        → refusal ≡ Some n → first_without number of_number xs ≡ Some n
+    first-refusal n xs answers refusal last calls is = first-in_turn f xs answers n last (rw (sym is) calls)
+
+    pub numbers-if_first : (r : Result (Parts B) (MapError ℕ)) → MapsInTurn step f old_of_number new_number p r
+        → IfErr r (IsWhyNoNumbers number old_of_number of_number p)
+    numbers-if_first (Ok t) m = tt
+    numbers-if_first (Err Memory) m = tt
+    numbers-if_first (Err (Closure n)) m = record {
+      error = m.error;
+      error_is = m.error_is;
+      null = m.null;
+      null_is = m.null_is;
+      first = first-refusal n (m.error ∷ m.null ∷ p.values) m.answers m.refusal m.last m.calls m.gives;
+    }
+
     pub numbers-if_ok : (r : Result (Parts B) (MapError ℕ)) → MapsInTurn step f old_of_number new_number p r
         → IfOk r (HasNumbersOf number old_of_number new_number of_number p)
     numbers-if_ok (Ok t) m = numbers-mapped t m
@@ -90,10 +119,10 @@ module _ {F A B : Type 0} (step : F → A → Result B ℕ → F → Type 0) (nu
     numbers-if_err (Err e) m = λ n is. numbers-refused e n is m
 
 -- over numbers
-fitted : (limit n m : ℕ) → fitting limit n ≡ Some m → m ≡ n
+pub fitted : (limit n m : ℕ) → fitting limit n ≡ Some m → m ≡ n
 fitted limit n m e = grind (arith, e)
 
-same_list : (limit : ℕ) (xs ys : List ℕ) → map Some ys ≡ map (fitting limit) xs → ys ≡ xs
+pub same_list : (limit : ℕ) (xs ys : List ℕ) → map Some ys ≡ map (fitting limit) xs → ys ≡ xs
 same_list limit [] [] e = refl
 same_list limit (x ∷ xs) [] e = absurd (cc)
 same_list limit [] (y ∷ ys) e = absurd (cc)

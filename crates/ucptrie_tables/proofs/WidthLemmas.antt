@@ -35,9 +35,11 @@ module _ (w : ValueWidth) (a b : ℕ) where
   IsSwappedOf-widened file trie len stored (Ok t) numbers width = (len, rw (width, HasNumbersOf-same a b trie t.trie numbers) stored)
   IsSwappedOf-widened file trie len stored (Err e) numbers width = tt
 
-  pub binary_bytes-narrowed : {V E : Type 0} (items : V → List ℕ) (table : Table) → table.width ≡ w → (r : Result V E)
-      → IfOk r (λ v. (t : Parts ℕ) × HasNumbersOf (λ n. n) (fitting a) (λ n. n) (fitting b) table.trie t
-      × (items v ≡ binary_of (bytes_of w) (λ n. n) (low_bytes (bytes_of w)) t))
+  pub binary_bytes-narrowed : {V E Canonical : Type 0} (Room : Parts ℕ → Type 0) (items : V → List ℕ) (table : Table) → table.width ≡ w
+      → (r : Result V E) → Canonical
+      → IfOk r (λ v. (t : Parts ℕ) × HasNumbersOf (λ n. n) (fitting a) (λ n. n) (fitting b) table.trie t × Room t
+      × (Canonical → items v ≡ binary_of (bytes_of w) (λ n. n) (low_bytes (bytes_of w)) t))
       → IfOk r (λ v. items v ≡ binary_bytes table)
-  binary_bytes-narrowed items table width (Ok v) over = rw (width, sym (HasNumbersOf-same a b table.trie over.0 over.1)) over.2
-  binary_bytes-narrowed items table width (Err e) over = tt
+  binary_bytes-narrowed Room items table width (Ok v) canonical over =
+      rw (width, sym (HasNumbersOf-same a b table.trie over.0 over.1)) (over.3 canonical)
+  binary_bytes-narrowed Room items table width (Err e) canonical over = tt

@@ -1,40 +1,108 @@
--- The table that rows make, and the bytes of a table in ICU's binary form.
-use Rattle.std.specs.Prelude.{◌≡◌, ℕ, ◌^◌, ◌<◌, List, All, ⊤}
+-- The table that rows make, the bytes of a table in ICU's binary form, and each error of these two.
+use Rattle.std.specs.Prelude.{◌≡◌, ◌⊎◌, ℕ, ◌^◌, ◌<◌, List, ◌∷◌, ◌++◌, Option, Some, None, All, ⊤}
+use Rattle.std.specs.Option.{option_to_list}
 use Rattle.icu_zerovec.specs.PackedBytes.{low_bytes}
 use Rattle.icu_trie_core.specs.ValueNumbers.{fitting}
-use Rattle.icu_trie_binary.specs.WrittenTrie.{binary_of}
+use Rattle.icu_trie.specs.Parts.{Parts, last_cell}
+use Rattle.icu_trie_binary.specs.WrittenTrie.{binary_of, why_not_written}
+use Rattle.icu_trie_binary.specs.declared.error.WriteError.{WriteError}
+use Rattle.icu_trie_binary.specs.declared.error.WriteError.TheVariants.{Memory as WriteMemory}
 use Rattle.icu_trie_builder.specs.Built.{IsWellBuilt}
 use Rattle.icu_trie_builder.specs.MapAnswers.{AnswersMap}
 use Rattle.icu_trie_builder.specs.Writes.{value_after}
 use Rattle.icu_trie_builder.specs.declared.writes.Write.{Write}
-use Rattle.ucptab_table.specs.TableText.{AreRows}
-use Rattle.ucptab_table.specs.declared.fault.TableError.TheVariants.{Memory}
-use Rattle.ucptrie_tables.specs.ValueWidth.{bits_of, bytes_of}
+use Rattle.ucptab_table.specs.TableText.{AreRows, IsFirstFault, IsTooLargeInput}
+use Rattle.ucptab_table.specs.declared.fault.TableError.TheVariants.{Row, TooLarge, Memory}
+use Rattle.ucptrie_tables.specs.ValueWidth.{bits_of, bytes_of, first_wider}
 use Rattle.ucptrie_tables.specs.declared.fault.BuildFault.{BuildFault}
 use Rattle.ucptrie_tables.specs.declared.fault.BuildFault.TheVariants.{Table as TableFault, Width, Binary}
 use Rattle.ucptrie_tables.specs.declared.table.Table.{Table}
 use Rattle.ucptrie_tables.specs.declared.table.TableOptions.{TableOptions}
+use Rattle.ucptrie_tables.specs.declared.width.ValueWidth.{ValueWidth}
+use Rattle.ucptrie_tables.specs.declared.width.ValueWidth.TheVariants.{Bits8, Bits16, Bits32}
+use Rattle.ucptrie_tables.specs.declared.written.Form.{Form}
+use Rattle.ucptrie_tables.specs.declared.written.Form.TheVariants.{Icu}
 
--- no line of the input has a fault, and the table is what its rows and the options ask for: it
+-- ---- The table of rows
+
+-- no line of the input has a fault, and the trie is what its rows and the options ask for: it
 -- answers each code point by the last row that covers it and else by the default, and a number
--- above the code space by the error value, its trie is of the asked type and well built, and each
--- of its values has no more bits than are asked for
-pub record IsTableOf (input : List ℕ) (options : TableOptions) (t : Table) : Type 0 where
+-- above the code space by the error value, and it is of the asked type and well built
+pub record IsTrieOfRows (input : List ℕ) (options : TableOptions) (trie : Parts ℕ) : Type 0 where
   pub writes : List (Write ℕ)
   pub rows : AreRows input writes
-  pub answers : AnswersMap (value_after writes options.default) options.error t.trie
-  pub built : IsWellBuilt (fitting (2 ^ 32)) (value_after writes options.default) t.trie
-  pub trie_type : t.trie.header.trie_type ≡ options.trie_type
+  pub answers : AnswersMap (value_after writes options.default) options.error trie
+  pub built : IsWellBuilt (fitting (2 ^ 32)) (value_after writes options.default) trie
+  pub trie_type : trie.header.trie_type ≡ options.trie_type
+
+-- the table's trie is what the input's rows and the options ask for, its width is the asked one,
+-- and none of its values has more bits than that
+pub record IsTableOf (input : List ℕ) (options : TableOptions) (t : Table) : Type 0 where
+  pub trie : IsTrieOfRows input options t.trie
   pub width : t.width ≡ options.width
   pub fits : All (λ v. v < 2 ^ bits_of t.width) t.trie.values
+
+-- the width is the asked one, and in the data of a trie of the rows this value is the first that
+-- has more bits
+pub record IsTooWide (input : List ℕ) (options : TableOptions) (value : ℕ) (width : ValueWidth)
+    : Type 0 where
+  pub trie : Parts ℕ
+  pub of_rows : IsTrieOfRows input options trie
+  pub asked : width ≡ options.width
+  pub first : first_wider width trie.values ≡ Some value
+
+-- why an input makes no table: a line has a fault, and no line before it has one; the rows are too
+-- many different blocks for a trie; or a value has more bits than are asked for. No clause can say
+-- when an allocation fails
+abbrev pub IsWhyNoTable : List ℕ → TableOptions → BuildFault → Type 0
+IsWhyNoTable input options (TableFault (Row k f)) = IsFirstFault input k f
+IsWhyNoTable input options (TableFault TooLarge) = IsTooLargeInput options.default input
+IsWhyNoTable input options (TableFault Memory) = ⊤
+IsWhyNoTable input options (TableFault _) = ⊥
+IsWhyNoTable input options (Width value width) = IsTooWide input options value width
+IsWhyNoTable input options (Binary why) = ⊥
+
+-- ---- The binary form of a table
 
 -- the bytes of a table in ICU's binary form, with values of its width
 abbrev pub binary_bytes : Table → List ℕ
 binary_bytes t = binary_of (bytes_of t.width) (λ n. n) (low_bytes (bytes_of t.width)) t.trie
 
--- a fault of the writing of a table, and not of its rows
-abbrev pub IsWriteFault : BuildFault → Type 0
-IsWriteFault (TableFault Memory) = ⊤
-IsWriteFault (TableFault _) = ⊥
-IsWriteFault (Width value width) = ⊤
-IsWriteFault (Binary why) = ⊤
+-- the values of a trie in the order in which they are narrowed: the error value, the null value,
+-- and each cell of the data
+abbrev pub values_in_turn : Parts ℕ → List ℕ
+values_in_turn t = option_to_list (last_cell t.values) ++ (t.header.null_value ∷ t.values)
+
+-- the first of these that has more bits than the width, if one has. Every value has 32 bits or less
+abbrev pub first_unfit : ValueWidth → Parts ℕ → Option ℕ
+first_unfit Bits8 t = first_wider Bits8 (values_in_turn t)
+first_unfit Bits16 t = first_wider Bits16 (values_in_turn t)
+first_unfit Bits32 t = None
+
+-- no value has more bits than the table's width, and the binary form has room for the trie
+pub record HasBinaryForm (t : Table) : Type 0 where
+  pub fits : first_unfit t.width t.trie ≡ None
+  pub room : why_not_written (bytes_of t.width) (λ n. n) t.trie ≡ None
+
+-- why a table is not written: in the binary form alone, its first value that has more bits than its
+-- width, or, where none has, why the form has no room for the trie. No clause can say when an
+-- allocation fails
+abbrev pub IsWhyNotWritten : Form → Table → BuildFault → Type 0
+IsWhyNotWritten form t (TableFault Memory) = ⊤
+IsWhyNotWritten form t (TableFault _) = ⊥
+IsWhyNotWritten form t (Width value width) =
+    (form ≡ Icu) × (width ≡ t.width) × (first_unfit t.width t.trie ≡ Some value)
+IsWhyNotWritten form t (Binary why) =
+    (form ≡ Icu) × (first_unfit t.width t.trie ≡ None)
+    × (why_not_written (bytes_of t.width) (λ n. n) t.trie ≡ Some why)
+
+-- how an error of the writing is passed on: an allocation that failed is `Memory`
+abbrev pub refusal_of_write : WriteError → BuildFault
+refusal_of_write WriteMemory = TableFault Memory
+refusal_of_write why = Binary why
+
+-- why nothing is written of rows: why they make no table, or why a table of them is not written
+abbrev pub IsWhyNotBuilt : List ℕ → TableOptions → Form → BuildFault → Type 0
+IsWhyNotBuilt input options form fault =
+    IsWhyNoTable input options fault
+    ⊎ ((t : Table) × (IsTableOf input options t × IsWhyNotWritten form t fault))

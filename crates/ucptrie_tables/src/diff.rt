@@ -1,6 +1,7 @@
 //! The ranges in which two tables differ.
-ghost use Rattle.std.specs.Prelude.{◌≡◌, ◌≢◌, ℕ, ◌<◌, ◌≤◌, Some, IfOk};
-ghost use Rattle.ucptrie_tables.specs.Differences.{both_values, AreDifferencesFrom};
+ghost use Rattle.std.specs.Prelude.{◌≡◌, ◌≢◌, ℕ, ◌<◌, ◌≤◌, [], ◌∷◌, ◌++◌, Some, IfOk, string_bytes};
+ghost use Rattle.ucptab_table.specs.TableText.{hex_text};
+ghost use Rattle.ucptrie_tables.specs.Differences.{both_values, difference_line, error_line, values_text, AreDifferencesFrom, IsDifferenceText};
 
 use icu_trie::cptrie::CodePointTrie;
 use icu_trie_core::range::CodePointMapRange;
@@ -66,33 +67,71 @@ pub fn differences(
     Ok(found)
 }
 
-/// Appends the line of a range, `HEX..HEX;N;M`, or `HEX;N;M` where it is one code point.
+/// Appends a number in at least four hexadecimal digits, and two dots.
+#[tactic(auto, using(crate::proofs::Printed::hex_written))]
+fn push_dotted(text: &mut String, n: u32) -> Result<(), AllocError>
+    ensures { IfOk result (λ _. string_bytes text.new
+        ≡ string_bytes text.old ++ (hex_text n ++ (46 ∷ (46 ∷ [])))) }
+{
+    write!(text, "{n:04X}..")
+}
+
+/// Appends the end of a line: a number in at least four hexadecimal digits, and two values.
+#[tactic(auto, using(crate::proofs::Printed::hex_written))]
+fn push_values(text: &mut String, n: u32, values: (u32, u32)) -> Result<(), AllocError>
+    ensures { IfOk result (λ _. string_bytes text.new
+        ≡ string_bytes text.old ++ (hex_text n ++ values_text values)) }
+{
+    let (first, second) = values;
+    writeln!(text, "{n:04X};{first};{second}")
+}
+
+/// Appends the line of a range, `HEX..HEX;A;B`, or `HEX;A;B` if it is one code point.
 fn push_difference(
     text: &mut String,
     difference: &CodePointMapRange<(u32, u32)>,
-) -> Result<(), AllocError> {
+) -> Result<(), AllocError>
+    ensures { IfOk result (λ _. string_bytes text.new
+        ≡ string_bytes text.old ++ difference_line difference.now) }
+{
     let (start, end) = (*difference.range.start(), *difference.range.end());
-    let (first, second) = difference.value;
     if start < end {
-        write!(text, "{start:04X}..")?;
+        push_dotted(text, start)?;
+        push_values(text, end, difference.value)
+    } else {
+        push_values(text, end, difference.value)
     }
-    writeln!(text, "{end:04X};{first};{second}")
 }
 
-/// The lines of the ranges in which two tries differ, in order; and behind them, as a comment, the
-/// two error values where they differ.
+/// Appends the line of the two error values if they differ: a comment, as in `ucptab`'s form.
+#[tactic(auto, unfolding(crate::specs::Differences::error_line))]
+fn push_errors(text: &mut String, first: u32, second: u32) -> Result<(), AllocError>
+    ensures { IfOk result (λ _. string_bytes text.new
+        ≡ string_bytes text.old ++ error_line first second) }
+{
+    if first != second {
+        writeln!(text, "# above 10FFFF;{first};{second}")?;
+    }
+    Ok(())
+}
+
+/// Returns the lines of the ranges in which two tries differ, in order, and then, as a comment, the
+/// two error values if they differ.
+///
+/// # Errors
+/// Returns [`AllocError`] if an allocation fails.
 pub fn differences_text(
     alloc: Global,
     first: &CodePointTrie<'_, u32>,
     second: &CodePointTrie<'_, u32>,
-) -> Result<String, AllocError> {
+) -> Result<String, AllocError>
+    ensures { IfOk result (λ text. IsDifferenceText first.now second.now (string_bytes text)) }
+{
     let mut text = String::new(alloc);
-    for difference in &differences(alloc, first, second)? {
+    let found = differences(alloc, first, second)?;
+    for difference in &found {
         push_difference(&mut text, difference)?;
     }
-    let (first, second) = (first.error_value(), second.error_value());
-    if first != second {
-        writeln!(text, "# above 10FFFF;{first};{second}")?;
-    }
+    push_errors(&mut text, first.error_value(), second.error_value())?;
     Ok(text)
 }

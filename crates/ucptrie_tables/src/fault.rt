@@ -50,9 +50,9 @@ impl From<BuildError> for BuildFault {
 }
 
 impl From<WriteError> for BuildFault {
-    ghost use Rattle.ucptrie_tables.specs.Tables.{IsWriteFault};
+    ghost use Rattle.ucptrie_tables.specs.Tables.{refusal_of_write};
 
-    ghost from_gives = { λ _ e. IsWriteFault e };
+    ghost from_gives = { λ x e. e ≡ refusal_of_write x };
 
     fn from(error: WriteError) -> BuildFault {
         match error {
@@ -148,6 +148,10 @@ impl From<BinaryError> for ReadFault {
 }
 
 impl From<SwappedError> for ReadFault {
+    ghost use Rattle.ucptrie_tables.specs.Files.{refusal_of_swapped};
+
+    ghost from_gives = { λ x e. e ≡ refusal_of_swapped x };
+
     fn from(error: SwappedError) -> ReadFault {
         match error {
             SwappedError::Binary(error) => ReadFault::Binary(error),
@@ -157,6 +161,11 @@ impl From<SwappedError> for ReadFault {
 }
 
 impl From<serde_json::Error> for ReadFault {
+    ghost use Rattle.serde_json.specs.Errors.{IsMemory};
+    ghost use Rattle.ucptrie_tables.specs.declared.fault.ReadFault.TheVariants.{Json, Memory};
+
+    ghost from_gives = { λ x e. (e ≡ Memory) ⊎ ((e ≡ Json x) × ¬ IsMemory x) };
+
     fn from(error: serde_json::Error) -> ReadFault {
         if error.is_memory() {
             return ReadFault::Memory;
@@ -166,6 +175,10 @@ impl From<serde_json::Error> for ReadFault {
 }
 
 impl From<TrieJsonError> for ReadFault {
+    ghost use Rattle.ucptrie_tables.specs.Files.{refusal_of_json};
+
+    ghost from_gives = { λ x e. e ≡ refusal_of_json x };
+
     fn from(error: TrieJsonError) -> ReadFault {
         match error {
             TrieJsonError::Memory => ReadFault::Memory,
@@ -175,12 +188,21 @@ impl From<TrieJsonError> for ReadFault {
 }
 
 impl From<TomlError> for ReadFault {
+    ghost use Rattle.icu_trie_formats.specs.TrieToml.{table_refusal};
+    ghost use Rattle.ucptrie_tables.specs.Files.{refusal_of_toml};
+
+    ghost from_gives = { λ x e. e ≡ refusal_of_toml (table_refusal x) };
+
     fn from(error: TomlError) -> ReadFault {
         ReadFault::from(TrieFromTomlError::from(error))
     }
 }
 
 impl From<TrieFromTomlError> for ReadFault {
+    ghost use Rattle.ucptrie_tables.specs.Files.{refusal_of_toml};
+
+    ghost from_gives = { λ x e. e ≡ refusal_of_toml x };
+
     fn from(error: TrieFromTomlError) -> ReadFault {
         match error {
             TrieFromTomlError::Memory => ReadFault::Memory,

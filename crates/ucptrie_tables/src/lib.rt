@@ -10,13 +10,13 @@
 //! - `fault`: why a table can't be made, written or read
 #![tactic(auto)]
 
-ghost use Rattle.std.specs.Prelude.{◌≡◌, ◌++◌, ℕ, [], ◌∷◌, Err, IfOk};
+ghost use Rattle.std.specs.Prelude.{◌≡◌, ◌++◌, ℕ, [], ◌∷◌, Err, IfErr, IfOk};
 ghost use Rattle.serde_json.specs.Written.{compact_text};
 ghost use Rattle.icu_trie_formats.specs.TrieJson.{json_of};
 ghost use Rattle.ucptab_table.specs.TableText.{IsFirstFault, IsTableText, IsTooLargeInput};
 ghost use Rattle.ucptab_table.specs.declared.fault.RowFault.{RowFault};
 ghost use Rattle.ucptab_table.specs.declared.fault.TableError.TheVariants.{Row, TooLarge};
-ghost use Rattle.ucptrie_tables.specs.Tables.{binary_bytes, IsTableOf};
+ghost use Rattle.ucptrie_tables.specs.Tables.{binary_bytes, IsTableOf, IsWhyNotBuilt};
 ghost use Rattle.ucptrie_tables.specs.declared.fault.BuildFault.TheVariants.{Table as TableFault};
 ghost use Rattle.ucptrie_tables.specs.declared.table.Table.{Table};
 
@@ -61,6 +61,7 @@ pub fn built(
     ensures json { form.entry ≡ Form.Json → IfOk result
         (λ bytes. (t : Table) × (IsTableOf rows.now options t
         × (bytes.items ≡ compact_text (json_of (λ n. n) t.trie) ++ 10 ∷ []))) }
+    ensures err { IfErr result (IsWhyNotBuilt rows.now options form.entry) }
     ensures row { (k : ℕ) (f : RowFault) → result ≡ Err (TableFault (Row k f))
         → IsFirstFault rows.now k f }
     ensures too_large { result ≡ Err (TableFault TooLarge)

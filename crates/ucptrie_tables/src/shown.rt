@@ -1,11 +1,11 @@
 //! What a table is, in lines.
-ghost use Rattle.std.specs.Prelude.{◌≡◌, ◌++◌, ◌^◌, ◌<◌, ℕ, List, Some, IfOk, string_bytes};
+ghost use Rattle.std.specs.Prelude.{◌≡◌, ◌∷◌, ◌++◌, ◌^◌, ◌<◌, ℕ, Some, IfOk, string_bytes};
 ghost use Rattle.icu_zerovec.specs.CodePoints.{code_point_limit};
-ghost use Rattle.icu_trie_core.specs.Runs.{Run, AreMaximalRuns};
 ghost use Rattle.icu_trie_core.specs.ValueNumbers.{fitting};
 ghost use Rattle.icu_trie.specs.Parts.{trie_value};
 ghost use Rattle.icu_trie.specs.Ranges.{answers, IsCoherentTrie};
-ghost use Rattle.ucptab_table.specs.TableText.{answers_text, runs_text};
+ghost use Rattle.ucptab_table.specs.TableText.{answers_text};
+ghost use Rattle.ucptrie_tables.specs.Shown.{comment_line, AddsComments, IsShown};
 
 use crate::pattern::Number::{Decimal, Hexadecimal};
 use crate::pattern::push_pattern;
@@ -17,14 +17,14 @@ use ucptab_table::text::{answers_text, ranges_text};
 
 /// What the header says.
 const HEADER: &str = "\
-# type: @
-# value width: % bits
-# high start: %
-# shifted12 high start: %
-# index3 null offset: %
-# data null offset: %
-# null value: %
-# error value: %
+type: @
+value width: % bits
+high start: %
+shifted12 high start: %
+index3 null offset: %
+data null offset: %
+null value: %
+error value: %
 ";
 
 /// Appends what the header says.
@@ -44,9 +44,9 @@ fn push_header(text: &mut String, table: &Table) -> Result<(), AllocError> {
 
 /// How many cells there are, and whether the header can be trusted.
 const CELLS: &str = "\
-# index cells: %, bound %
-# data cells: %, bound %
-# coherent: @
+index cells: %, bound %
+data cells: %, bound %
+coherent: @
 ";
 
 /// Appends how many cells the table has, each count with the bound on it, and whether the header
@@ -68,6 +68,34 @@ fn push_cells(alloc: Global, text: &mut String, table: &Table) -> Result<(), All
     push_pattern(text, CELLS, coherent, &numbers)
 }
 
+/// What a table is, in lines.
+fn about(alloc: Global, table: &Table) -> Result<String, AllocError> {
+    let mut about = String::new(alloc);
+    push_header(&mut about, table)?;
+    push_cells(alloc, &mut about, table)?;
+    Ok(about)
+}
+
+/// Appends a comment: `# `, the text and a line feed.
+fn push_comment(text: &mut String, comment: &str) -> Result<(), AllocError>
+    ensures { IfOk result (λ _. string_bytes text.new
+        ≡ string_bytes text.old ++ comment_line (32 ∷ comment.now)) }
+{
+    writeln!(text, "# {comment}")
+}
+
+/// Appends each line that ends with a line feed as a comment.
+fn push_comments(text: &mut String, lines: &str) -> Result<(), AllocError>
+    ensures { IfOk result (λ _. AddsComments (string_bytes text.old) (string_bytes text.new)) }
+{
+    let mut rest = lines;
+    while let Some((line, others)) = rest.split_once('\n') {
+        push_comment(text, line)?;
+        rest = others;
+    }
+    Ok(())
+}
+
 /// What the table is: the fields of its header, how many cells it has beside the bounds that a
 /// built trie of its values keeps, and whether its header can be trusted, each in a comment of
 /// `ucptab`'s form; and then its ranges, in rows of that form. So the whole text is a table again.
@@ -77,12 +105,11 @@ fn push_cells(alloc: Global, text: &mut String, table: &Table) -> Result<(), All
 pub fn shown(alloc: Global, table: &Table) -> Result<String, AllocError>
     ensures { IsCoherentTrie (fitting (2 ^ 32)) table.now.trie → (value : ℕ → ℕ)
         → ((u : ℕ) → u < code_point_limit → answers table.now.trie u ≡ Some (value u))
-        → IfOk result (λ text. (comments : List ℕ) × ((runs : List (Run ℕ))
-        × (AreMaximalRuns value runs × (string_bytes text ≡ comments ++ runs_text runs)))) }
+        → IfOk result (λ text. IsShown value (string_bytes text)) }
 {
+    let about = about(alloc, table)?;
     let mut text = String::new(alloc);
-    push_header(&mut text, table)?;
-    push_cells(alloc, &mut text, table)?;
+    push_comments(&mut text, &about)?;
     let ranges = ranges_text(alloc, &table.trie)?;
     text.push_str(&ranges)?;
     Ok(text)

@@ -1,10 +1,10 @@
 //! A trie with the width of its values, and the one that rows make.
-ghost use Rattle.std.specs.Prelude.{◌≡◌, ◌^◌, ◌<◌, ℕ, All, Contains, Err, IfOk, IfErr, IfNone, IfSome, ◌≤◌};
+ghost use Rattle.std.specs.Prelude.{◌≡◌, ◌^◌, ◌<◌, ℕ, All, Err, IfOk, IfErr, IfNone};
 ghost use Rattle.ucptab_table.specs.TableText.{IsFirstFault, IsTooLargeInput};
 ghost use Rattle.ucptab_table.specs.declared.fault.RowFault.{RowFault};
 ghost use Rattle.ucptab_table.specs.declared.fault.TableError.TheVariants.{Row, TooLarge};
-ghost use Rattle.ucptrie_tables.specs.Tables.{IsTableOf};
-ghost use Rattle.ucptrie_tables.specs.ValueWidth.{bits_of};
+ghost use Rattle.ucptrie_tables.specs.Tables.{IsTableOf, IsWhyNoTable};
+ghost use Rattle.ucptrie_tables.specs.ValueWidth.{bits_of, first_wider};
 ghost use Rattle.ucptrie_tables.specs.declared.fault.BuildFault.TheVariants.{Table as TableFault};
 
 use crate::fault::BuildFault;
@@ -38,8 +38,7 @@ pub struct TableOptions {
 /// The first value in the trie's data that has more bits.
 fn first_wider(trie: &CodePointTrie<'_, u32>, width: ValueWidth) -> Option<u32>
     ensures none { IfNone result (All (λ v. v < 2 ^ bits_of width) trie.now.values) }
-    ensures some { IfSome result
-        (λ v. Contains trie.now.values v × (2 ^ bits_of width ≤ v)) }
+    ensures first { result ≡ first_wider width trie.now.values }
 {
     let (_, _, values) = trie.parts();
     values.iter().find(|value| !width.fits(*value))
@@ -53,6 +52,7 @@ fn first_wider(trie: &CodePointTrie<'_, u32>, width: ValueWidth) -> Option<u32>
 /// asked for.
 pub fn table_of_rows(alloc: Global, rows: &[u8], options: TableOptions) -> Result<Table, BuildFault>
     ensures ok { IfOk result (IsTableOf rows.now options) }
+    ensures err { IfErr result (IsWhyNoTable rows.now options) }
     ensures row { (k : ℕ) (f : RowFault) → result ≡ Err (TableFault (Row k f))
         → IsFirstFault rows.now k f }
     ensures too_large { result ≡ Err (TableFault TooLarge)

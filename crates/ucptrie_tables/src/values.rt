@@ -2,7 +2,7 @@
 ghost use Rattle.std.specs.Prelude.{◌≡◌, ◌^◌, ◌<◌, ℕ, Option, None, IfOk, IfErr};
 ghost use Rattle.std.specs.Option.{ok_or};
 ghost use Rattle.icu_trie.specs.declared.map_value.MapError.TheVariants.{Closure};
-ghost use Rattle.ucptrie_tables.specs.Inside.Numbers.{HasNumbersOf};
+ghost use Rattle.ucptrie_tables.specs.Inside.Numbers.{HasNumbersOf, IsWhyNoNumbers};
 
 use icu_trie::cptrie::CodePointTrie;
 use icu_trie::map_value::MapError;
@@ -30,6 +30,8 @@ pub(crate) fn with_values_of<P: TrieValue, T: TrieValue>(
     ensures ok { IfOk result (HasNumbersOf T.number T.of_number P.number P.of_number trie.now) }
     ensures err { IfErr result
         (λ e. (n : ℕ) → e ≡ Closure n → (n < 2 ^ 32) × (P.of_number n ≡ None)) }
+    ensures first { IfErr result
+        (IsWhyNoNumbers T.number T.of_number P.of_number trie.now) }
 {
     trie.try_alloc_map_value(alloc, |value: T| same_number::<T, P>(value))
 }

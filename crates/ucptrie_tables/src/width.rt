@@ -1,5 +1,5 @@
 //! How many bits a value takes where a trie is stored.
-ghost use Rattle.std.specs.Prelude.{◌≡◌, ◌^◌, ◌<◌, ◌≤◌, ◌↔◌, IsTrue};
+ghost use Rattle.std.specs.Prelude.{◌≡◌, ◌^◌, nat_lt};
 ghost use Rattle.ucptrie_tables.specs.ValueWidth.{bits_of, bytes_of};
 
 use std::fmt;
@@ -46,7 +46,7 @@ impl ValueWidth {
 
     /// Whether a value has no more bits.
     pub fn fits(self, value: u32) -> bool
-        ensures { IsTrue result ↔ (value < 2 ^ bits_of self) }
+        ensures { result ≡ nat_lt value (2 ^ bits_of self) }
     {
         match self {
             ValueWidth::Bits8 => value <= 0xff,

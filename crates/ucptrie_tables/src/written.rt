@@ -1,5 +1,5 @@
 //! A table as the bytes of a file.
-ghost use Rattle.std.specs.Prelude.{◌≡◌, ◌^◌, ◌<◌, ◌++◌, ℕ, List, [], ◌∷◌, Some, IfErr, IfOk, string_bytes};
+ghost use Rattle.std.specs.Prelude.{◌≡◌, ◌^◌, ◌<◌, ◌++◌, ℕ, List, [], ◌∷◌, None, Some, IfErr, IfOk, OnOk, string_bytes};
 ghost use Rattle.serde_json.specs.Written.{compact_text};
 ghost use Rattle.icu_zerovec.specs.CodePoints.{code_point_limit};
 ghost use Rattle.icu_zerovec.specs.Canonical.{IsCanonical};
@@ -7,11 +7,11 @@ ghost use Rattle.icu_trie_core.specs.Runs.{Run, AreMaximalRuns};
 ghost use Rattle.icu_trie_core.specs.ValueNumbers.{fitting};
 ghost use Rattle.icu_trie.specs.Parts.{Parts};
 ghost use Rattle.icu_trie.specs.Ranges.{answers, IsCoherentTrie};
-ghost use Rattle.icu_trie_binary.specs.WrittenTrie.{binary_of};
+ghost use Rattle.icu_trie_binary.specs.WrittenTrie.{binary_of, why_not_written};
 ghost use Rattle.icu_trie_formats.specs.TrieJson.{json_of};
 ghost use Rattle.ucptab_table.specs.TableText.{runs_text};
-ghost use Rattle.ucptrie_tables.specs.Inside.Numbers.{HasNumbersOf};
-ghost use Rattle.ucptrie_tables.specs.Tables.{binary_bytes, IsWriteFault};
+ghost use Rattle.ucptrie_tables.specs.Inside.Numbers.{HasNumbersOf, IsWhyNotNarrowed};
+ghost use Rattle.ucptrie_tables.specs.Tables.{binary_bytes, HasBinaryForm, IsWhyNotWritten};
 
 use crate::c_source::c_text;
 use crate::fault::BuildFault;
@@ -49,10 +49,12 @@ pub enum Form<'a> {
 
 /// The bytes of the table's trie, over values of another type, in ICU's binary form.
 fn binary_over<P: TrieValue>(alloc: Global, table: &Table) -> Result<Vec<u8>, BuildFault>
-    ensures ok { IsCanonical P.pack P.unpack P.WIDTH → IfOk result (λ bytes. (t : Parts _)
+    ensures ok { IfOk result (λ bytes. (t : Parts _)
         × HasNumbersOf (λ n. n) (fitting (2 ^ 32)) P.number P.of_number table.now.trie t
-        × (bytes.items ≡ binary_of P.WIDTH P.number P.pack t)) }
-    ensures err { IfErr result IsWriteFault }
+        × (why_not_written P.WIDTH P.number t ≡ None)
+        × (IsCanonical P.pack P.unpack P.WIDTH
+        → bytes.items ≡ binary_of P.WIDTH P.number P.pack t)) }
+    ensures err { IfErr result (IsWhyNotNarrowed P.WIDTH P.number P.of_number table.now) }
 {
     let narrowed: CodePointTrie<'static, P> = match with_values_of(alloc, &table.trie) {
         Ok(narrowed) => narrowed,
@@ -65,7 +67,8 @@ fn binary_over<P: TrieValue>(alloc: Global, table: &Table) -> Result<Vec<u8>, Bu
 /// The table in ICU's binary form, with values of its width.
 fn binary(alloc: Global, table: &Table) -> Result<Vec<u8>, BuildFault>
     ensures ok { IfOk result (λ bytes. bytes.items ≡ binary_bytes table.now) }
-    ensures err { IfErr result IsWriteFault }
+    ensures room { OnOk result (HasBinaryForm table.now) }
+    ensures err { IfErr result (IsWhyNotWritten Form.Icu table.now) }
 {
     match table.width {
         ValueWidth::Bits8 => binary_over::<u8>(alloc, table),
@@ -99,7 +102,8 @@ pub fn written(alloc: Global, table: &Table, form: Form<'_>) -> Result<Vec<u8>, 
         → ((u : ℕ) → u < code_point_limit → answers table.now.trie u ≡ Some (value u))
         → IfOk result (λ bytes. (runs : List (Run ℕ)) × (AreMaximalRuns value runs
         × (bytes.items ≡ runs_text runs))) }
-    ensures err { IfErr result IsWriteFault }
+    ensures room { form.entry ≡ Form.Icu → OnOk result (HasBinaryForm table.now) }
+    ensures err { IfErr result (IsWhyNotWritten form.entry table.now) }
 {
     let text = match form {
         Form::Icu => return binary(alloc, table),

@@ -7,7 +7,7 @@ use Rattle.ucptrie_tables.proofs.read.table_of_binary.Goals as goal
 pub returns-in_err-read-clause-err : goal.returns-in_err-read-clause-err
 returns-in_err-read-clause-err c =
     let given : c.from_residual.result ≡ Err (Binary c.in_err-read.field-0.0) = search rules in
-    rw given (λ x is. let same : x ≡ c.in_err-read.field-0.0 = cc in rw same c.in_err-read.ensures.err)
+    rw given c.in_err-read.ensures.err
 
 pub returns-in-Bits8-clause-ok : goal.returns-in-Bits8-clause-ok
 returns-in-Bits8-clause-ok c =
