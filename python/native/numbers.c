@@ -1,0 +1,178 @@
+/* Code points from texts, arrays and other iterables, and arrays of values. */
+#include "shared.h"
+#include <string.h>
+
+/* Returns an int attribute of a memoryview, or -1 with an exception set. */
+static Py_ssize_t view_number(PyObject *view, const char *name) {
+    PyObject *value = PyObject_GetAttrString(view, name);
+    Py_ssize_t number = value ? PyNumber_AsSsize_t(value, PyExc_OverflowError) : -1;
+    Py_XDECREF(value);
+    return number;
+}
+
+/* Returns 'u' if a memoryview has one dimension of unsigned integers in this machine's byte order,
+ * 's' if they are signed, 'x' if it has anything else, and 0 with an exception set. */
+static int view_kind(PyObject *view) {
+    Py_ssize_t dimensions = view_number(view, "ndim");
+    PyObject *format = dimensions < 0 ? NULL : PyObject_GetAttrString(view, "format");
+    PyObject *ascii = format ? PyUnicode_AsASCIIString(format) : NULL;
+    Py_XDECREF(format);
+    if (!ascii) return 0;
+    const char *code = PyBytes_AsString(ascii);
+    if (*code == '@' || *code == '=' || *code == '<') code++;
+    int known = dimensions == 1 && *code && !code[1];
+    int kind = known && strchr("BHILQN", *code) ? 'u' : known && strchr("bhilqn", *code) ? 's' : 'x';
+    Py_DECREF(ascii);
+    return kind;
+}
+
+static int text_numbers(PyObject *text, numbers *found) {
+    found->count = PyUnicode_GetLength(text);
+    found->copy = PyMem_Malloc(((size_t)found->count + 1) * sizeof(uint32_t));
+    if (!found->copy) return PyErr_NoMemory(), -1;
+    found->items = found->copy;
+    return PyUnicode_AsUCS4(text, found->copy, found->count + 1, 0) ? 0 : -1;
+}
+
+/* Reads integers in place, or from a copy if they are not contiguous. Returns 1 if the object has no
+ * buffer of integers, 0 if it was read, -1 with an exception set. */
+static int buffer_numbers(PyObject *given, numbers *found) {
+    PyObject *view = PyMemoryView_FromObject(given);
+    if (!view) {
+        if (!PyErr_ExceptionMatches(PyExc_TypeError)) return -1;
+        PyErr_Clear();
+        return 1;
+    }
+    found->owner = view;
+    int kind = view_kind(view);
+    Py_ssize_t contiguous = kind > 'a' && kind != 'x' ? view_number(view, "c_contiguous") : 1;
+    if (!kind || contiguous < 0) return -1;
+    if (kind == 'x') {
+        Py_CLEAR(found->owner);
+        return 1;
+    }
+    found->is_signed = kind == 's';
+    found->width = view_number(view, "itemsize");
+    if (found->width < 0) return -1;
+    if (!contiguous) {
+        found->owner = PyObject_CallMethod(view, "tobytes", NULL);
+        Py_DECREF(view);
+        if (!found->owner) return -1;
+    }
+    const void *items;
+    Py_ssize_t size;
+    if (bytes_of(found->owner, &items, &size)) return -1;
+    found->items = items;
+    found->count = size / found->width;
+    return 0;
+}
+
+static int iterable_numbers(PyObject *given, numbers *found) {
+    PyObject *items = PySequence_Tuple(given);
+    if (!items) return -1;
+    found->owner = items;
+    found->count = PyTuple_Size(items);
+    uint32_t *points = found->copy = PyMem_Malloc(((size_t)found->count + 1) * sizeof *points);
+    if (!points) return PyErr_NoMemory(), -1;
+    found->items = found->copy;
+    for (Py_ssize_t i = 0; i < found->count; i++) {
+        int64_t point = checked_code_point(PyTuple_GetItem(items, i));
+        if (point < 0) return -1;
+        points[i] = (uint32_t)point;
+    }
+    return 0;
+}
+
+int numbers_of(PyObject *given, numbers *found) {
+    *found = (numbers){.width = 4};
+    int status = PyUnicode_Check(given) ? text_numbers(given, found)
+                 : PyList_Check(given) || PyTuple_Check(given) ? 1
+                                                               : buffer_numbers(given, found);
+    if (status > 0) {
+        *found = (numbers){.width = 4};
+        status = iterable_numbers(given, found);
+    }
+    if (status) numbers_free(found);
+    return status;
+}
+
+void numbers_free(numbers *found) {
+    PyMem_Free(found->copy);
+    Py_CLEAR(found->owner);
+    found->copy = NULL;
+}
+
+/* Item `index`, as its bits: a negative number is above INT64_MAX. */
+static uint64_t item(const numbers *given, Py_ssize_t index) {
+    const uint8_t *at = given->items + index * given->width;
+    if (given->width == 1) return given->is_signed ? (uint64_t)(int8_t)*at : *at;
+    if (given->width == 2) {
+        uint16_t number;
+        memcpy(&number, at, sizeof number);
+        return given->is_signed ? (uint64_t)(int16_t)number : number;
+    }
+    if (given->width == 4) {
+        uint32_t number;
+        memcpy(&number, at, sizeof number);
+        return given->is_signed ? (uint64_t)(int32_t)number : number;
+    }
+    uint64_t number;
+    memcpy(&number, at, sizeof number);
+    return number;
+}
+
+Py_ssize_t numbers_copy(const numbers *given, Py_ssize_t from, Py_ssize_t count, uint32_t *points) {
+    if (given->width == 4 && !given->is_signed) {
+        memcpy(points, given->items + 4 * from, 4 * (size_t)count);
+        return count;
+    }
+    for (Py_ssize_t i = 0; i < count; i++) {
+        uint64_t number = item(given, from + i);
+        if (number > UINT32_MAX) return i;
+        points[i] = (uint32_t)number;
+    }
+    return count;
+}
+
+void *raise_outside(const numbers *given, Py_ssize_t index) {
+    uint64_t bits = item(given, index);
+    PyObject *number = given->is_signed ? PyLong_FromLongLong((int64_t)bits)
+                                        : PyLong_FromUnsignedLongLong(bits);
+    if (number) checked_code_point(number);
+    Py_XDECREF(number);
+    return NULL;
+}
+
+PyObject *output_view(PyObject *out, Py_ssize_t count, Py_ssize_t width, void **address) {
+    PyObject *view = PyMemoryView_FromObject(out), *part = NULL;
+    int kind = view ? view_kind(view) : 0;
+    Py_ssize_t size, item_size = kind ? view_number(view, "itemsize") : -1;
+    Py_ssize_t contiguous = item_size < 0 ? -1 : view_number(view, "c_contiguous");
+    if (contiguous < 0) goto done;
+    if (kind != 'u' || item_size != width || !contiguous) {
+        PyErr_Format(PyExc_ValueError, "out: expected a contiguous buffer of unsigned integers of %d bits",
+                     8 * (int)width);
+        goto done;
+    }
+    if (writable_bytes_of(view, address, &size)) goto done;
+    if (size / width < count) {
+        PyErr_Format(PyExc_ValueError, "out: expected room for %zd values, found %zd", count, size / width);
+        goto done;
+    }
+    part = PySequence_GetSlice(view, 0, count);
+done:
+    Py_XDECREF(view);
+    return part;
+}
+
+PyObject *new_view(Py_ssize_t count, Py_ssize_t width, void **address) {
+    PyObject *bytes = PyBytes_FromStringAndSize(NULL, count * width);
+    PyObject *view = bytes ? PyMemoryView_FromObject(bytes) : NULL;
+    if (view) *address = PyBytes_AsString(bytes);
+    Py_XDECREF(bytes);
+    /* memoryview.cast rejects an empty view. */
+    if (!view || width == 1 || count == 0) return view;
+    PyObject *cast = PyObject_CallMethod(view, "cast", "s", width == 2 ? "H" : "I");
+    Py_DECREF(view);
+    return cast;
+}

@@ -1,0 +1,149 @@
+/* Errors, code points, and bytes that belong to other objects. */
+#include "shared.h"
+#include <string.h>
+
+/* PyObject_GetBuffer is in the limited API only from 3.11 on. These two are in that of 3.9, and stay
+ * in the stable ABI, but headers mark them as deprecated or leave them out: they do not lock the
+ * buffer. Here a memoryview always does. */
+PyAPI_FUNC(int) PyObject_AsReadBuffer(PyObject *object, const void **buffer, Py_ssize_t *size);
+PyAPI_FUNC(int) PyObject_AsWriteBuffer(PyObject *object, void **buffer, Py_ssize_t *size);
+#pragma GCC diagnostic ignored "-Wdeprecated-declarations"
+
+int bytes_of(PyObject *owner, const void **bytes, Py_ssize_t *size) {
+    return PyObject_AsReadBuffer(owner, bytes, size);
+}
+
+int writable_bytes_of(PyObject *view, void **bytes, Py_ssize_t *size) {
+    return PyObject_AsWriteBuffer(view, bytes, size);
+}
+
+void *raise_error(const char *name, PyObject *argument) {
+    PyObject *errors = PyImport_ImportModule("bekstaudi._errors");
+    PyObject *type = errors ? PyObject_GetAttrString(errors, name) : NULL;
+    PyObject *made = type ? PyObject_CallFunctionObjArgs(type, argument, NULL) : NULL;
+    if (made) PyErr_SetObject(type, made);
+    Py_XDECREF(made);
+    Py_XDECREF(type);
+    Py_XDECREF(errors);
+    return NULL;
+}
+
+void *raise_refusal(int64_t refusal, const char *minus_two) {
+    switch (refusal) {
+        case BKS_NO_MEMORY: return raise_error("NoMemory", NULL);
+        case BKS_NO_SET: return raise_error(minus_two, NULL);
+        case BKS_NO_FORM: return raise_error("NoForm", NULL);
+        case BKS_WIDE_VALUE: return raise_error("WideValue", NULL);
+        case BKS_TOO_LARGE: return raise_error("TooLarge", NULL);
+        case BKS_LONG_KEY: return raise_error("LongKey", NULL);
+        case BKS_SAME_KEY: return raise_error("SameKey", NULL);
+        default: return PyErr_Format(PyExc_SystemError, "unexpected status %d", (int)refusal);
+    }
+}
+
+int64_t code_point(PyObject *given) {
+    if (PyUnicode_Check(given)) {
+        Py_ssize_t length = PyUnicode_GetLength(given);
+        if (length == 1) return PyUnicode_ReadChar(given, 0);
+        PyErr_Format(PyExc_TypeError, "expected one character, found a str of length %zd", length);
+        return POINT_ERROR;
+    }
+    PyObject *index = PyNumber_Index(given);
+    if (!index) return POINT_ERROR;
+    int overflow;
+    long long number = PyLong_AsLongLongAndOverflow(index, &overflow);
+    Py_DECREF(index);
+    return overflow || number < 0 || number > UINT32_MAX ? POINT_OUTSIDE : number;
+}
+
+int64_t checked_code_point(PyObject *given) {
+    int64_t found = code_point(given);
+    if (found == POINT_OUTSIDE)
+        PyErr_Format(PyExc_ValueError, "the code point %S is outside 0..=0xFFFFFFFF", given);
+    return found;
+}
+
+Py_ssize_t start_index(PyObject *start, Py_ssize_t length) {
+    Py_ssize_t index = start ? PyNumber_AsSsize_t(start, NULL) : 0;
+    if (index == -1 && PyErr_Occurred()) return -1;
+    if (index < 0) index += length;
+    return index < 0 ? 0 : index > length ? length : index;
+}
+
+/* Whether an attribute of a memoryview is true; -1 with an exception set. */
+static int view_flag(PyObject *view, const char *name) {
+    PyObject *value = PyObject_GetAttrString(view, name);
+    int flag = value ? PyObject_IsTrue(value) : -1;
+    Py_XDECREF(value);
+    return flag;
+}
+
+/* Returns the object to read: `data` itself if it is bytes, else a memoryview of it if its bytes are
+ * read-only, else a copy as bytes. A memoryview locks its buffer: a mapped file cannot be closed and
+ * an array cannot be resized while it exists. */
+static PyObject *readable(PyObject *data) {
+    if (PyBytes_CheckExact(data)) return Py_INCREF(data), data;
+    PyObject *view = PyMemoryView_FromObject(data);
+    int read_only = view ? view_flag(view, "readonly") : -1;
+    int contiguous = read_only > 0 ? view_flag(view, "c_contiguous") : read_only;
+    if (contiguous > 0) return view;
+    PyObject *copy = contiguous == 0 ? PyObject_CallMethod(view, "tobytes", NULL) : NULL;
+    Py_XDECREF(view);
+    return copy;
+}
+
+over_bytes *over_bytes_new(PyTypeObject *type, PyObject *data) {
+    PyObject *owner = readable(data);
+    const void *bytes;
+    Py_ssize_t size;
+    if (!owner || bytes_of(owner, &bytes, &size)) {
+        Py_XDECREF(owner);
+        return NULL;
+    }
+    over_bytes *self = (over_bytes *)PyType_GenericAlloc(type, 0);
+    if (!self) {
+        Py_DECREF(owner);
+        return NULL;
+    }
+    /* The pointer of an empty buffer may be NULL, which the library does not take. */
+    static const uint8_t nothing[1];
+    self->owner = owner;
+    self->bytes = size ? bytes : nothing;
+    self->size = (size_t)size;
+    self->hash = -1;
+    return self;
+}
+
+void over_bytes_free(over_bytes *self) {
+    PyTypeObject *type = Py_TYPE(self);
+    Py_XDECREF(self->owner);
+    ((freefunc)PyType_GetSlot(type, Py_tp_free))(self);
+    Py_DECREF(type);
+}
+
+PyObject *leading_bytes(over_bytes *self, size_t size) {
+    if (PyBytes_CheckExact(self->owner) && self->size == size) {
+        Py_INCREF(self->owner);
+        return self->owner;
+    }
+    return PyBytes_FromStringAndSize((const char *)self->bytes, (Py_ssize_t)size);
+}
+
+Py_hash_t leading_hash(over_bytes *self, size_t size) {
+    if (self->hash != -1) return self->hash;
+    PyObject *bytes = leading_bytes(self, size);
+    self->hash = bytes ? PyObject_Hash(bytes) : -1;
+    Py_XDECREF(bytes);
+    return self->hash;
+}
+
+/* A subclass that Python code defines has another slot, so this goes up to the extension type. Only
+ * types that were made at run time are asked: CPython 3.9 has no slots of the others. */
+int is_freed_by(PyObject *object, void *release) {
+    PyTypeObject *type = Py_TYPE(object);
+    while (type && PyType_GetFlags(type) & Py_TPFLAGS_HEAPTYPE) {
+        if (PyType_GetSlot(type, Py_tp_dealloc) == release) return 1;
+        type = PyType_GetSlot(type, Py_tp_base);
+    }
+    return 0;
+}

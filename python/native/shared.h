@@ -1,0 +1,117 @@
+/* What the files of the extension module `bekstaudi._native` share.
+ *
+ * The module uses only the limited API of CPython 3.9, so one binary works from 3.9 on. It has no
+ * global or module state: exceptions are looked up when they are raised, and `is_set` recognises a
+ * set by its type's slots. It therefore works in subinterpreters. */
+#ifndef BEKSTAUDI_SHARED_H
+#define BEKSTAUDI_SHARED_H
+
+#define PY_SSIZE_T_CLEAN
+#define Py_LIMITED_API 0x03090000
+#include <Python.h>
+#include <bekstaudi.h>
+
+/* How many numbers a call handles before it is worth releasing the GIL: some ten microseconds. */
+#define LONG_CALL 8192
+
+/* ---- Errors ---- */
+
+/* Raises the exception `name` of bekstaudi._errors with one argument, or with none if it is NULL. */
+void *raise_error(const char *name, PyObject *argument);
+
+/* Raises the exception for an `enum bks_refusal`. BKS_NO_SET and BKS_NO_TRIE are one number, so the
+ * caller names the exception for it. */
+void *raise_refusal(int64_t refusal, const char *minus_two);
+
+/* ---- Code points and positions ---- */
+
+/* What `code_point` returns besides a number of 32 bits. */
+enum { POINT_ERROR = -1, POINT_OUTSIDE = -2 };
+
+/* Returns the code point that an int or a str of one character is; POINT_ERROR with an exception set
+ * if it is neither; POINT_OUTSIDE, without an exception, if it is an int outside 0..=0xFFFFFFFF. */
+int64_t code_point(PyObject *given);
+
+/* As `code_point`, but raises ValueError for an int outside 0..=0xFFFFFFFF. */
+int64_t checked_code_point(PyObject *given);
+
+/* Returns the index at which `text[start:]` starts, or -1 with an exception set. */
+Py_ssize_t start_index(PyObject *start, Py_ssize_t length);
+
+/* ---- Borrowed bytes ---- */
+
+/* The address and size of the bytes of a bytes object or of a contiguous memoryview, which the caller
+ * keeps alive while it uses them. Return 0, or -1 with an exception set. */
+int bytes_of(PyObject *owner, const void **bytes, Py_ssize_t *size);
+int writable_bytes_of(PyObject *view, void **bytes, Py_ssize_t *size);
+
+/* An object over bytes: a Trie, or a UnitTrie, which leaves `trie` unused. */
+typedef struct {
+    PyObject_HEAD
+    PyObject *owner;        /* a bytes object, or a memoryview that locks the buffer */
+    const uint8_t *bytes;
+    size_t size;
+    Py_hash_t hash;         /* -1 if not computed yet */
+    bks_trie trie;
+} over_bytes;
+
+/* Returns a new object of `type` over the bytes of `data`, without a copy if they are read-only. */
+over_bytes *over_bytes_new(PyTypeObject *type, PyObject *data);
+void over_bytes_free(over_bytes *self);
+
+/* Returns the first `size` bytes as a bytes object. */
+PyObject *leading_bytes(over_bytes *self, size_t size);
+
+/* Returns the hash of the first `size` bytes; it is computed once. */
+Py_hash_t leading_hash(over_bytes *self, size_t size);
+
+/* Whether `object` is an instance of the extension type that frees its objects by `release`. */
+int is_freed_by(PyObject *object, void *release);
+
+/* ---- Numbers in buffers ---- */
+
+/* Code points in memory. `owner` keeps them alive, or `copy` is memory to free. */
+typedef struct {
+    PyObject *owner;
+    void *copy;
+    const uint8_t *items;
+    Py_ssize_t count;
+    Py_ssize_t width;       /* bytes per item: 1, 2, 4 or 8 */
+    int is_signed;
+} numbers;
+
+/* Reads a str, a one-dimensional buffer of integers, or any iterable of code points. */
+int numbers_of(PyObject *given, numbers *found);
+void numbers_free(numbers *found);
+
+/* Copies items `from..from + count` as 32-bit numbers. Returns how many it copied: it stops before
+ * the first that is outside 0..=0xFFFFFFFF. */
+Py_ssize_t numbers_copy(const numbers *given, Py_ssize_t from, Py_ssize_t count, uint32_t *points);
+
+/* Raises ValueError for an item at which `numbers_copy` stopped. */
+void *raise_outside(const numbers *given, Py_ssize_t index);
+
+/* Returns a memoryview of the first `count` items of a writable buffer of unsigned integers of
+ * `width` bytes, and their address. */
+PyObject *output_view(PyObject *out, Py_ssize_t count, Py_ssize_t width, void **address);
+
+/* Returns a memoryview of `count` new items of `width` bytes, and their address. */
+PyObject *new_view(Py_ssize_t count, Py_ssize_t width, void **address);
+
+/* ---- Sets ---- */
+
+/* Returns a new set of the given type that owns `ends`, memory from PyMem_Malloc, in every case. */
+PyObject *set_owning(PyTypeObject *type, uint32_t *ends, size_t count);
+
+/* Whether `object` is a set of this module or of a subclass. */
+int is_set(PyObject *object);
+
+/* ---- Types ---- */
+
+extern PyType_Spec trie_spec, set_spec, units_spec;
+PyObject *build_trie(PyObject *module, PyObject *args);
+PyObject *build_units(PyObject *module, PyObject *args);
+
+#define METHOD(function) ((PyCFunction)(void (*)(void))(function))
+
+#endif

@@ -1,0 +1,220 @@
+/* The type bekstaudi._native.Trie.
+ *
+ * Look-ups call the library and do not use the inline functions of bekstaudi.h: the library checks
+ * each index, so nothing is read out of bounds even if the bytes change after the trie was opened. */
+#include "shared.h"
+#include <string.h>
+
+#define LAST_POINT 0x10FFFF
+
+static PyObject *trie_new(PyTypeObject *type, PyObject *args, PyObject *keywords) {
+    static char *names[] = {"data", NULL};
+    PyObject *data;
+    if (!PyArg_ParseTupleAndKeywords(args, keywords, "O", names, &data)) return NULL;
+    over_bytes *self = over_bytes_new(type, data);
+    if (!self) return NULL;
+    uint32_t status = bks_open(&self->trie, self->bytes, self->size);
+    if (status == BKS_OK) return (PyObject *)self;
+    Py_DECREF(self);
+    PyObject *number = PyLong_FromUnsignedLong(status);
+    if (number) raise_error("TrieRefused", number);
+    Py_XDECREF(number);
+    return NULL;
+}
+
+static size_t get_many(const bks_trie *trie, const uint32_t *points, size_t count, void *values) {
+    return trie->width == 1   ? bks_trie8_get_many(trie, points, count, values, count)
+           : trie->width == 2 ? bks_trie16_get_many(trie, points, count, values, count)
+                              : bks_trie32_get_many(trie, points, count, values, count);
+}
+
+/* Writes the value of each code point. Returns the index of the first that is no number of 32 bits,
+ * or the count. Other people's memory is copied first, some of it at a time, so that the library
+ * reads numbers that nobody changes meanwhile. */
+static Py_ssize_t write_values(const bks_trie *trie, const numbers *points, void *values) {
+    uint32_t part[1024];
+    if (points->copy) return (Py_ssize_t)get_many(trie, points->copy, (size_t)points->count, values);
+    for (Py_ssize_t from = 0; from < points->count; from += 1024) {
+        Py_ssize_t wanted = points->count - from < 1024 ? points->count - from : 1024;
+        Py_ssize_t copied = numbers_copy(points, from, wanted, part);
+        get_many(trie, part, (size_t)copied, (uint8_t *)values + from * (Py_ssize_t)trie->width);
+        if (copied < wanted) return from + copied;
+    }
+    return points->count;
+}
+
+static PyObject *values_of(over_bytes *self, const numbers *points, PyObject *out) {
+    void *values;
+    Py_ssize_t width = (Py_ssize_t)self->trie.width, written;
+    PyObject *view = out ? output_view(out, points->count, width, &values)
+                         : new_view(points->count, width, &values);
+    if (!view || points->count == 0) return view;
+    if (points->count > LONG_CALL) {
+        Py_BEGIN_ALLOW_THREADS
+        written = write_values(&self->trie, points, values);
+        Py_END_ALLOW_THREADS
+    } else {
+        written = write_values(&self->trie, points, values);
+    }
+    if (written == points->count) return view;
+    Py_DECREF(view);
+    return raise_outside(points, written);
+}
+
+PyDoc_STRVAR(trie_values_text,
+    "values($self, /, code_points, out=None)\n--\n\n"
+    "Return the values of many code points, as a memoryview of unsigned integers.\n\n"
+    "`code_points` is a str, a one-dimensional buffer of integers such as a numpy array, which is\n"
+    "read in place, or any iterable of code points.\n\n"
+    "The values are written to the start of `out`, if it is given: a contiguous writable buffer of\n"
+    "unsigned integers of `value_bits` bits. ValueError if it has other items or is too short.");
+
+static PyObject *trie_values(over_bytes *self, PyObject *args, PyObject *keywords) {
+    static char *names[] = {"code_points", "out", NULL};
+    PyObject *given, *out = Py_None;
+    numbers points;
+    if (!PyArg_ParseTupleAndKeywords(args, keywords, "O|O", names, &given, &out)) return NULL;
+    if (numbers_of(given, &points)) return NULL;
+    PyObject *view = values_of(self, &points, out == Py_None ? NULL : out);
+    numbers_free(&points);
+    return view;
+}
+
+/* The values of a slice of all code points. */
+static PyObject *trie_slice(over_bytes *self, PyObject *slice) {
+    Py_ssize_t start, stop, step;
+    if (PySlice_Unpack(slice, &start, &stop, &step)) return NULL;
+    Py_ssize_t count = PySlice_AdjustIndices(LAST_POINT + 1, &start, &stop, step);
+    uint32_t *points = PyMem_Malloc(((size_t)count + 1) * sizeof *points);
+    if (!points) return PyErr_NoMemory();
+    for (Py_ssize_t i = 0; i < count; i++) points[i] = (uint32_t)(start + i * step);
+    numbers given = {.copy = points, .items = (uint8_t *)points, .count = count, .width = 4};
+    PyObject *view = values_of(self, &given, NULL);
+    numbers_free(&given);
+    return view;
+}
+
+static PyObject *trie_item(over_bytes *self, PyObject *key) {
+    if (PySlice_Check(key)) return trie_slice(self, key);
+    int64_t c = checked_code_point(key);
+    if (c < 0) return NULL;
+    const bks_trie *trie = &self->trie;
+    return PyLong_FromUnsignedLong(trie->width == 1   ? bks_trie8_get(trie, (uint32_t)c)
+                                   : trie->width == 2 ? bks_trie16_get(trie, (uint32_t)c)
+                                                      : bks_trie32_get(trie, (uint32_t)c));
+}
+
+/* The next ranges from a code point on, at most 256: a list of first, last and value. */
+static PyObject *trie_ranges_from(over_bytes *self, PyObject *start) {
+    bks_range ranges[256];
+    int64_t c = checked_code_point(start);
+    if (c < 0) return NULL;
+    size_t count = bks_trie_ranges(&self->trie, (uint32_t)c, ranges, 256);
+    PyObject *list = PyList_New((Py_ssize_t)count);
+    for (size_t i = 0; list && i < count; i++) {
+        PyObject *it = Py_BuildValue("III", ranges[i].first, ranges[i].last, ranges[i].value);
+        if (!it || PyList_SetItem(list, (Py_ssize_t)i, it)) Py_CLEAR(list);
+    }
+    return list;
+}
+
+/* The boundaries of the set of a value, packed as uint32_t. */
+static PyObject *trie_set_of(over_bytes *self, PyObject *given) {
+    uint32_t value = (uint32_t)PyLong_AsUnsignedLong(given), nothing[1];
+    if (PyErr_Occurred()) return NULL;
+    int64_t count;
+    Py_BEGIN_ALLOW_THREADS
+    count = bks_trie_set(&self->trie, value, nothing, 0);
+    Py_END_ALLOW_THREADS
+    if (count < 0) return raise_refusal(count, "NoTrie");
+    uint32_t *ends = PyMem_Malloc(((size_t)count + 1) * sizeof *ends);
+    int64_t written = ends ? bks_trie_set(&self->trie, value, ends, (size_t)count) : BKS_NO_MEMORY;
+    /* Bytes that somebody changed between the two calls may make another set. */
+    if (written > count) written = count;
+    PyObject *packed = written < 0 ? raise_refusal(written, "NoTrie")
+                                   : PyBytes_FromStringAndSize((char *)ends, written * (Py_ssize_t)sizeof *ends);
+    PyMem_Free(ends);
+    return packed;
+}
+
+static PyObject *trie_is_coherent(over_bytes *self, PyObject *none) {
+    (void)none;
+    return PyBool_FromLong(bks_trie_is_coherent(&self->trie));
+}
+
+static PyObject *trie_data(over_bytes *self, void *none) {
+    (void)none;
+    return leading_bytes(self, self->trie.size);
+}
+
+static PyObject *trie_size(over_bytes *self, void *none) {
+    (void)none;
+    return PyLong_FromSize_t(self->trie.size);
+}
+
+static PyObject *trie_value_bits(over_bytes *self, void *none) {
+    (void)none;
+    return PyLong_FromLong(8 * (long)self->trie.width);
+}
+
+static PyObject *trie_is_fast(over_bytes *self, void *none) {
+    (void)none;
+    return PyBool_FromLong(self->trie.fast_limit == 0x10000);
+}
+
+static Py_hash_t trie_hash(over_bytes *self) { return leading_hash(self, self->trie.size); }
+
+static PyObject *trie_compare(over_bytes *self, PyObject *other, int how) {
+    if ((how != Py_EQ && how != Py_NE) || !is_freed_by(other, over_bytes_free)
+        || ((over_bytes *)other)->trie.size == 0) {
+        Py_INCREF(Py_NotImplemented);
+        return Py_NotImplemented;
+    }
+    const over_bytes *second = (over_bytes *)other;
+    int same = self->trie.size == second->trie.size && !memcmp(self->bytes, second->bytes, self->trie.size);
+    return PyBool_FromLong(same == (how == Py_EQ));
+}
+
+PyObject *build_trie(PyObject *module, PyObject *args) {
+    (void)module;
+    PyObject *packed, *built = NULL;
+    unsigned missing, error, type, width;
+    int64_t size = BKS_NO_MEMORY;
+    if (!PyArg_ParseTuple(args, "SIIII", &packed, &missing, &error, &type, &width)) return NULL;
+    size_t count = (size_t)PyBytes_Size(packed) / sizeof(bks_row), room = bks_trie_bound(count, type, width);
+    const bks_row *rows = (const bks_row *)(void *)PyBytes_AsString(packed);
+    uint8_t *bytes = PyMem_Malloc(room + 1);
+    if (bytes) {
+        Py_BEGIN_ALLOW_THREADS
+        size = bks_trie_build(rows, count, missing, error, type, width, bytes, room);
+        Py_END_ALLOW_THREADS
+    }
+    built = size < 0 ? raise_refusal(size, "NoTrie") : PyBytes_FromStringAndSize((char *)bytes, size);
+    PyMem_Free(bytes);
+    return built;
+}
+
+static PyMethodDef methods[] = {
+    {"values", METHOD(trie_values), METH_VARARGS | METH_KEYWORDS, trie_values_text},
+    {"_ranges", METHOD(trie_ranges_from), METH_O, NULL},
+    {"_set_of", METHOD(trie_set_of), METH_O, NULL},
+    {"is_coherent", METHOD(trie_is_coherent), METH_NOARGS,
+     "is_coherent($self, /)\n--\n\n"
+     "Return whether `ranges` are the longest runs of equal values, as in every trie that ICU built."},
+    {NULL, NULL, 0, NULL}};
+
+static PyGetSetDef fields[] = {
+    {"data", (getter)trie_data, NULL, "The bytes of the trie, in ICU's binary form.", NULL},
+    {"size", (getter)trie_size, NULL, "The size of the trie in bytes.", NULL},
+    {"value_bits", (getter)trie_value_bits, NULL, "The number of bits of a value: 8, 16 or 32.", NULL},
+    {"is_fast", (getter)trie_is_fast, NULL,
+     "Whether look-ups take two reads for all code points below 0x10000, not only below 0x1000.", NULL},
+    {NULL, NULL, NULL, NULL, NULL}};
+
+static PyType_Slot slots[] = {
+    {Py_tp_new, trie_new}, {Py_tp_dealloc, over_bytes_free}, {Py_tp_hash, trie_hash},
+    {Py_tp_richcompare, trie_compare}, {Py_mp_subscript, trie_item}, {Py_tp_methods, methods},
+    {Py_tp_getset, fields}, {0, NULL}};
+
+PyType_Spec trie_spec = {"bekstaudi._native.Trie", sizeof(over_bytes), 0,
+                         Py_TPFLAGS_DEFAULT | Py_TPFLAGS_BASETYPE, slots};

@@ -1,0 +1,248 @@
+"""Values of code points, sets of code points, and dictionaries of words.
+
+    >>> from bekstaudi import CodePointSet, Trie, UnitTrie
+    >>> trie = Trie.build([("A", "Z", 1), ("a", "z", 2)])
+    >>> trie["A"], trie["!"], list(trie.values("Hi!"))
+    (1, 0, [1, 2, 0])
+    >>> CodePointSet([0x41, 0x5B]) | CodePointSet.from_ranges([("a", "z")])
+    CodePointSet([0x41, 0x5b, 0x61, 0x7b])
+    >>> UnitTrie.build({"cat": 3, "car": 2}).longest("category")
+    ('cat', 3)
+
+A code point is an int, or a str of one character; anything else is a TypeError. Objects never
+change. They read bytes-like objects in place if these are read-only, such as bytes and
+`mmap.mmap(file.fileno(), 0, access=mmap.ACCESS_READ)`, and copy all others. The bytes of a mapped
+file must not change while an object reads them: answers are then unspecified, but memory-safe.
+"""
+import collections.abc
+import itertools
+import operator
+from array import array
+
+from . import _native
+from ._errors import (
+    BekstaudiError,
+    LongKey,
+    NoForm,
+    NoMemory,
+    NoSet,
+    NoTrie,
+    SameKey,
+    TooLarge,
+    TrieRefused,
+    WideValue,
+)
+
+__all__ = ["BekstaudiError", "CodePointSet", "LongKey", "NoForm", "NoMemory", "NoSet", "NoTrie"]
+__all__ += ["SameKey", "TooLarge", "Trie", "TrieRefused", "UnitTrie", "WideValue"]
+__version__ = _native.version
+
+
+def _as_int(code_point):
+    """Return a code point as an int of any size."""
+    return ord(code_point) if isinstance(code_point, str) else operator.index(code_point)
+
+
+def _wide_value(rows, default, error, bits):
+    """Return the WideValue that names the first value with more bits than these."""
+    for name, value in (("default", default), ("error", error)):
+        if not 0 <= value < 1 << bits:
+            return WideValue(f"{name}: {value} is not an unsigned number of {bits} bits")
+    index = next(i for i, row in enumerate(rows) if not 0 <= row[2] < 1 << bits)
+    first, last, value = rows[index]
+    return WideValue(
+        f"rows[{index}], {first:#x}..={last:#x}: {value} is not an unsigned number of {bits} bits"
+    )
+
+
+def _units(key):
+    """Return the units of a key, two bytes each: a str in UTF-16, or the items of a list."""
+    if isinstance(key, str):
+        return key.encode("utf-16-le", "surrogatepass")
+    return array("H", key).tobytes()
+
+
+def _shown(units):
+    """Return a key as a message shows it, from the bytes of its units: at most 40 units."""
+    start = units[:80].decode("utf-16-le", "surrogatepass")
+    return repr(start) + ("..." if len(units) > 80 else "")
+
+
+class Trie(_native.Trie):
+    """A map from code points to unsigned numbers, in the bytes that ICU's `ucptrie_toBinary` writes.
+
+    `Trie(data)` opens the trie at the start of a bytes-like object and ignores what follows it;
+    `size` says where it ends. It raises TrieRefused if there is none.
+
+    `trie[c]` is the value of a code point. It is the trie's error value above 0x10FFFF, and raises
+    ValueError for an int outside 0..=0xFFFFFFFF. `trie[start:stop]` are the values of a range of
+    code points, as `values` returns them.
+
+    Every code point has a value, so `in` and iteration raise TypeError: use `ranges`. Two tries are
+    equal if their bytes are the same.
+    """
+
+    __slots__ = ("__weakref__",)
+    __contains__ = None
+    __iter__ = None
+
+    @classmethod
+    def build(cls, rows, default=0, error=0, width=None, small=False):
+        """Build a trie from rows: a first and a last code point, both inclusive, and a value each.
+
+        A later row overrides an earlier one. A code point in no row has the value `default`, and
+        numbers above 0x10FFFF have the value `error`. `width` is the number of bytes per value: 1,
+        2 or 4; None means the smallest that all values fit in. A small trie needs less memory, and
+        more time per look-up from 0x1000 on.
+
+        Raises WideValue if a value does not fit, NoForm if there is no such width, TooLarge if the
+        trie would be too large, and NoMemory.
+        """
+        rows = [(_native.point(it), _native.point(last), value) for it, last, value in rows]
+        numbers = [operator.index(it) for it in (default, error, *(row[2] for row in rows))]
+        if min(numbers) < 0 or max(numbers) >= 1 << 32:
+            raise _wide_value(rows, default, error, 32)
+        if width is None:
+            width = next(it for it in (1, 2, 4) if max(numbers) >> 8 * it == 0)
+        if operator.index(width) not in (1, 2, 4):
+            raise NoForm(f"width: expected 1, 2 or 4 bytes, found {width!r}")
+        packed = array("I", itertools.chain.from_iterable(rows)).tobytes()
+        try:
+            return cls(_native.build_trie(packed, default, error, bool(small), width))
+        except WideValue:
+            raise _wide_value(rows, default, error, 8 * width) from None
+
+    def ranges(self):
+        """Yield the ranges of equal values in order: first and last code point, and value."""
+        start = 0
+        while found := self._ranges(start):
+            yield from found
+            start = found[-1][1] + 1
+
+    def set_of(self, value):
+        """Return the set of the code points with this value."""
+        if not 0 <= operator.index(value) < 1 << 32:
+            return CodePointSet()
+        return CodePointSet._from_bytes(self._set_of(operator.index(value)))
+
+    def __reduce__(self):
+        return type(self), (self.data,)
+
+    def __repr__(self):
+        kind = "fast" if self.is_fast else "small"
+        return f"<{type(self).__name__}: {kind}, values of {self.value_bits} bits, {self.size} bytes>"
+
+
+class CodePointSet(_native.CodePointSet):
+    """A set of code points, from its ascending boundaries.
+
+    The set starts at the first boundary, stops before the second, starts again at the third, and so
+    on: `CodePointSet([0x41, 0x5B])` is A to Z. Use `from_ranges` and `from_chars` to make a set of
+    ranges and of characters. Raises NoSet if the numbers are not the boundaries of a set.
+
+    `in` asks for a code point: no other number is in a set. `len` counts the code points, and
+    iteration yields them as ints. `|`, `&`, `-`, `^` and `~` make new sets; `<=`, `<`, `>=` and `>`
+    compare as those of Python's sets do. Two sets are equal if they have the same code points.
+    """
+
+    __slots__ = ("__weakref__",)
+
+    @classmethod
+    def from_ranges(cls, pairs):
+        """Make the set of ranges: pairs of a first and a last code point, both inclusive.
+
+        They may be in any order and may overlap. Raises NoSet if a first code point is above its
+        last one, or if one is above 0x10FFFF.
+        """
+        ends = []
+        for first, last in sorted((_as_int(first), _as_int(last)) for first, last in pairs):
+            if first > last:
+                raise NoSet(f"the range {first:#x}..={last:#x} ends before it starts")
+            if ends and first <= ends[-1]:
+                ends[-1] = max(ends[-1], last + 1)
+            else:
+                ends += [first, last + 1]
+        return cls(ends)
+
+    @classmethod
+    def from_chars(cls, text):
+        """Make the set of the characters of a text, or of any iterable of code points."""
+        return cls.from_ranges((it, it) for it in set(text))
+
+    def ranges(self):
+        """Return the ranges of code points in order: a list of first and last ones, inclusive."""
+        ends = self.ends
+        return [(first, stop - 1) for first, stop in zip(ends[::2], ends[1::2])]
+
+    def __iter__(self):
+        ends = self.ends
+        return itertools.chain.from_iterable(map(range, ends[::2], ends[1::2]))
+
+    def __reduce__(self):
+        return type(self), (self.ends,)
+
+    def __repr__(self):
+        return f"{type(self).__name__}([{', '.join(map(hex, self.ends))}])"
+
+
+class UnitTrie(_native.UnitTrie):
+    """A map from words to signed numbers, in the units that ICU's `UCharsTrieBuilder` writes.
+
+    `UnitTrie(units)` reads a bytes-like object, two bytes a unit, the lowest first; an odd last byte
+    is ignored. The units are not validated: look-ups in any bytes are memory-safe.
+
+    `trie[key]` is the value of a key and raises KeyError if there is none; `key in trie` asks
+    whether there is one. A key is a str, which stands for its units in UTF-16, or a list of units.
+    Iteration yields the keys as str, in the order of their units, with U+FFFD for a lone surrogate:
+    such a str is not a key, or is another one. `len` is the number of entries; it raises NoTrie if
+    the units are not a trie, as `bool` and `list` do. Two tries are equal if their units are the
+    same.
+    """
+
+    __slots__ = ("__weakref__",)
+
+    @classmethod
+    def build(cls, entries):
+        """Build a trie from a dict, or from pairs of a key and a value, in any order.
+
+        A value is a signed number of 32 bits. Raises WideValue if one is not, LongKey if a key has
+        more than 65,535 units, SameKey if two entries have the same key, TooLarge if the trie would
+        be too large, and NoMemory.
+        """
+        pairs = entries.items() if hasattr(entries, "items") else entries
+        pairs = [(_units(key), operator.index(value)) for key, value in pairs]
+        for units, value in pairs:
+            if not -(1 << 31) <= value < 1 << 31:
+                raise WideValue(f"key {_shown(units)}: {value} is not a signed number of 32 bits")
+        sizes = array("Q", [len(units) // 2 for units, _ in pairs]).tobytes()
+        values = array("i", [value for _, value in pairs]).tobytes()
+        try:
+            return cls(_native.build_units(b"".join(units for units, _ in pairs), sizes, values))
+        except LongKey:
+            units = next(units for units, _ in pairs if len(units) // 2 > 0xFFFF)
+            text = f"key {_shown(units)}: {len(units) // 2} units are more than 65,535"
+            raise LongKey(text) from None
+        except SameKey:
+            counts = collections.Counter(units for units, _ in pairs)
+            units = next(units for units, count in counts.items() if count > 1)
+            raise SameKey(f"key {_shown(units)}: {counts[units]} entries have it") from None
+
+    def keys(self):
+        """Return the keys as `items` shows them, in the order of their units: a list."""
+        return [key for key, _ in self.items()]
+
+    def values(self):
+        """Return the values in the order of the keys' units: a list."""
+        return [value for _, value in self.items()]
+
+    def __iter__(self):
+        return iter(self.keys())
+
+    def __reduce__(self):
+        return type(self), (self.data,)
+
+    def __repr__(self):
+        return f"<{type(self).__name__}: {len(self.data) // 2} units>"
+
+
+collections.abc.Mapping.register(UnitTrie)

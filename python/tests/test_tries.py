@@ -1,0 +1,176 @@
+"""Tries: look-ups, ranges, sets of a value, and building."""
+import unittest
+
+from bekstaudi import CodePointSet, NoForm, TooLarge, Trie, TrieRefused, WideValue
+from samples import NAMES, copies, read, runs_of
+
+
+class Tries(unittest.TestCase):
+    def setUp(self):
+        self.assertTrue(NAMES)
+
+    def test_ranges_are_the_runs(self):
+        for name in NAMES:
+            self.assertEqual(list(Trie(read(name)).ranges()), list(runs_of(name)))
+
+    def test_values_of_ends(self):
+        for name in NAMES:
+            trie, runs = Trie(read(name)), list(runs_of(name))
+            firsts = [it[0] for it in runs]
+            self.assertEqual([trie[it] for it in firsts], [it[2] for it in runs])
+            self.assertEqual(list(trie.values(firsts)), [it[2] for it in runs])
+            self.assertEqual([trie[it[1]] for it in runs], [it[2] for it in runs])
+
+    def test_text_and_list_alike(self):
+        trie = Trie(read(NAMES[0]))
+        text = "aZ9 \u4e16\U0001f600\ud800\0"
+        self.assertEqual(list(trie.values(text)), [trie[it] for it in text])
+        self.assertEqual(list(trie.values([ord(it) for it in text])), [trie[it] for it in text])
+        self.assertEqual((len(trie.values("")), len(trie.values([]))), (0, 0))
+
+    def test_error_value(self):
+        trie = Trie(read(NAMES[0]))
+        self.assertEqual(trie[0x110000], trie[0xFFFFFFFF])
+        for far in (-1, 1 << 32):
+            with self.assertRaises(ValueError):
+                trie[far]
+
+    def test_what_is_no_code_point(self):
+        trie = Trie(read(NAMES[0]))
+        for wrong in (97.0, "ab", "", b"a", None):
+            with self.assertRaises(TypeError):
+                trie[wrong]
+            with self.assertRaises(TypeError):
+                trie.values([wrong])
+
+    def test_neither_in_nor_iteration(self):
+        trie = Trie(read(NAMES[0]))
+        with self.assertRaises(TypeError):
+            iter(trie)
+        with self.assertRaises(TypeError):
+            65 in trie
+
+    def test_copies(self):
+        for name in NAMES:
+            trie = Trie(read(name) + b"more")
+            for it in copies(trie):
+                self.assertEqual((it, hash(it), it.data), (trie, hash(trie), read(name)))
+                self.assertEqual(list(it.ranges()), list(trie.ranges()))
+        self.assertEqual(len({Trie(read(it)) for it in NAMES}), len({read(it) for it in NAMES}))
+        self.assertNotEqual(trie, trie.data)
+
+    def test_slices_are_values_of_ranges(self):
+        for name in NAMES:
+            trie = Trie(read(name))
+            values = trie.values(range(0x110000))
+            self.assertEqual(trie[:], values)
+            for part in (slice(0x41, 0x5B), slice(0x10FFF0, None), slice(None, None, -7), slice(9, 3)):
+                self.assertEqual(list(trie[part]), list(values[part]))
+            with self.assertRaises(TypeError):
+                trie["A":"Z"]
+
+    def test_repr(self):
+        self.assertRegex(repr(Trie.build([], width=2)), r"^<Trie: fast, values of 16 bits, \d+ bytes>$")
+        self.assertRegex(repr(Trie.build([], small=True)), r"^<Trie: small, values of 8 bits, \d+ bytes>$")
+
+    def test_no_numbers(self):
+        for wrong in ({"default": 1.0}, {"error": "1"}, {"width": 1.0}):
+            with self.assertRaises(TypeError):
+                Trie.build([(0, 1, 2)], **wrong)
+        with self.assertRaises(TypeError):
+            Trie.build([(0, 1, 2.0)])
+        with self.assertRaises(TypeError):
+            Trie(read(NAMES[0])).set_of(1.0)
+
+    def test_no_bytes(self):
+        for wrong in (5, True, "abc", None, [1, 2], object()):
+            with self.assertRaises(TypeError):
+                Trie(wrong)
+
+    def test_what_a_trie_says_of_itself(self):
+        for name in NAMES:
+            data = read(name)
+            trie = Trie(data + b"more")
+            self.assertEqual(trie.size, len(data))
+            self.assertIn(trie.value_bits, (8, 16, 32))
+            self.assertTrue(trie.is_coherent())
+
+    def test_set_of_a_value(self):
+        for name in NAMES:
+            trie, runs = Trie(read(name)), list(runs_of(name))
+            value = runs[0][2]
+            wanted = [it[:2] for it in runs if it[2] == value]
+            self.assertEqual(trie.set_of(value).ranges(), wanted)
+            self.assertNotIn(77777777, [it[2] for it in runs])
+            for absent in (77777777, -1, (1 << 32) + value):
+                self.assertEqual(trie.set_of(absent), CodePointSet())
+
+    def test_faults_by_name(self):
+        data = bytearray(read(NAMES[0]))
+        faults = {"SHORT": data[:15], "CUT_OFF": data[:-1], "SIGNATURE": b"x" + data[1:]}
+        faults["SWAPPED"] = data[3::-1] + data[4:]
+        faults["RESERVED"] = data[:4] + bytes([data[4] | 8]) + data[5:]
+        faults["UNKNOWN_WIDTH"] = data[:4] + bytes([data[4] | 7]) + data[5:]
+        faults["UNKNOWN_TYPE"] = data[:4] + bytes([data[4] | 0xC0]) + data[5:]
+        faults["SHORT_INDEX"] = data[:6] + b"\1\0" + data[8:]
+        faults["EMPTY_DATA"] = data[:8] + b"\0\0" + data[10:]
+        faults["SHORT_DATA"] = data[:8] + b"\x40\0" + data[10:]
+        for name, fault in faults.items():
+            with self.assertRaises(TrieRefused) as told:
+                Trie(bytes(fault))
+            self.assertEqual(told.exception.status, name)
+            self.assertEqual({it.status for it in copies(told.exception)}, {name})
+        with self.assertRaises(TrieRefused):
+            Trie(b"")
+
+
+class Building(unittest.TestCase):
+    def test_built_of_runs(self):
+        for name in NAMES:
+            runs = list(runs_of(name))
+            for small in (False, True):
+                trie = Trie.build(runs, error=255, small=small)
+                self.assertEqual(list(trie.ranges()), runs)
+                self.assertEqual((trie.is_fast, trie[0x110000]), (not small, 255))
+                self.assertEqual(list(Trie(trie.data + b"more").ranges()), runs)
+                self.assertTrue(trie.is_coherent())
+
+    def test_later_rows_cover_earlier_ones(self):
+        trie = Trie.build([("A", "Z", 1), ("C", "D", 2), (9, 8, 3), (0x10FFFF, 1 << 31, 4)], 5, 6)
+        self.assertEqual([trie[it] for it in "@ABCDEZ["], [5, 1, 1, 2, 2, 1, 1, 5])
+        self.assertEqual([trie[it] for it in (8, 9, 0x10FFFF, 0x110000)], [5, 5, 4, 6])
+
+    def test_width(self):
+        for largest, bits in ((0, 8), (255, 8), (256, 16), (65535, 16), (65536, 32)):
+            self.assertEqual(Trie.build([(0, 0, largest)]).value_bits, bits)
+            self.assertEqual(Trie.build([], default=largest).value_bits, bits)
+        self.assertEqual(Trie.build([], width=2).value_bits, 16)
+
+    def test_refusals(self):
+        for rows, default, error in (([(0, 1, 256)], 0, 0), ([], 256, 0), ([], 0, 256)):
+            with self.assertRaises(WideValue):
+                Trie.build(rows, default, error, width=1)
+        for value in (-1, 1 << 32):
+            with self.assertRaises(WideValue):
+                Trie.build([(0, 1, value)])
+        for width in (0, 3, (1 << 32) + 1):
+            with self.assertRaises(NoForm):
+                Trie.build([], width=width)
+        with self.assertRaisesRegex(TooLarge, "too large"):
+            Trie.build([(it, it, it) for it in range(0x110000)])
+
+    def test_what_is_said_of_refusals(self):
+        rows = [(0, 1, 5), ("A", "Z", 300), ("a", "z", 1 << 32)]
+        for given, said in (
+            ({"rows": rows[:2]}, r"^rows\[1\], 0x41..=0x5a: 300 is not an unsigned number of 8 bits$"),
+            ({"rows": rows}, r"^rows\[2\], 0x61..=0x7a: 4294967296 is not an unsigned number of 32 bits$"),
+            ({"rows": [], "default": -1}, "^default: -1 is not an unsigned number of 32 bits$"),
+            ({"rows": [], "error": 256}, "^error: 256 is not an unsigned number of 8 bits$"),
+        ):
+            with self.assertRaisesRegex(WideValue, said):
+                Trie.build(**given, width=1)
+        with self.assertRaisesRegex(NoForm, "1, 2 or 4 bytes, found 3"):
+            Trie.build([], width=3)
+
+if __name__ == "__main__":
+    unittest.main()

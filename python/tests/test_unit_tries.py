@@ -1,0 +1,177 @@
+"""Unit tries."""
+import collections.abc
+import os
+import unittest
+
+from bekstaudi import LongKey, NoTrie, SameKey, UnitTrie, WideValue
+from samples import FOLDER, copies
+
+
+class UnitTries(unittest.TestCase):
+    worked = UnitTrie(bytes.fromhex("30006100B00062006480"))
+    pair = UnitTrie(bytes.fromhex("30003DD8B00000DE0280"))
+
+    def test_keys(self):
+        self.assertEqual((self.worked["a"], self.worked["ab"]), (1, 100))
+        self.assertEqual([it in self.worked for it in ("", "a", "b", "ab", "abc")], [0, 1, 0, 1, 0])
+        self.assertEqual((self.worked.get("b"), self.worked.get("b", 7)), (None, 7))
+        with self.assertRaises(KeyError):
+            self.worked["abc"]
+
+    def test_surrogates(self):
+        self.assertEqual((self.pair["\U0001f600"], self.pair["\ud83d"]), (2, 1))
+        self.assertEqual(self.pair[[0xD83D, 0xDE00]], 2)
+        self.assertEqual(self.pair.longest("\U0001f600!"), ("\U0001f600", 2))
+        self.assertIsNone(self.pair.longest("\U0001f601"))
+
+    def test_longest(self):
+        self.assertEqual(self.worked.longest("abba"), ("ab", 100))
+        self.assertEqual(self.worked.longest("acb"), ("a", 1))
+        self.assertIsNone(self.worked.longest("ba"))
+        self.assertIsNone(self.worked.longest(""))
+        self.assertEqual(UnitTrie(b"\x07\x80").longest(""), ("", 7))
+
+    def test_longest_from_a_start(self):
+        words = {"a": 1, 2000 * "a": 2, "\u4e16": 3, 1100 * "\u4e16": 4}
+        words.update({"\ud83d": 5, "\U0001f600!": 6})
+        trie = UnitTrie.build(words)
+        for text in ("a", "\u4e16", "\U0001f600!", "\U0001f601", "z"):
+            for count in (1, 1023, 1024, 1025, 1099, 1100, 1999, 2000, 2001, 9000):
+                shown = "-" + count * text + "\u00e9"
+                found = [it for it in words if shown.startswith(it, 1)]
+                wanted = (max(found, key=len), words[max(found, key=len)]) if found else None
+                self.assertEqual(trie.longest(shown, 1), wanted)
+                self.assertEqual(trie.longest(shown[1:]), wanted)
+        for start in range(-3, 4):
+            self.assertEqual(trie.longest("ba", start), trie.longest("ba"[start:]))
+        self.assertEqual(trie.longest("a" + 3000 * " " + "\ud800"), ("a", 1))
+        for wrong in (b"a", 5, None):
+            with self.assertRaises(TypeError):
+                trie.longest(wrong)
+
+    def test_longest_with_lone_surrogates(self):
+        trie = UnitTrie.build({"a": 1, "\ud83d": 2, "\ud83db": 3, "\U0001f600": 4, "\ude00": 5})
+        self.assertEqual(trie.longest("a\ud800"), ("a", 1))
+        self.assertEqual(trie.longest("\ud83d"), ("\ud83d", 2))
+        self.assertEqual(trie.longest("\ud83db"), ("\ud83db", 3))
+        self.assertEqual(trie.longest("\ude00\ud83d"), ("\ude00", 5))
+        self.assertEqual(trie.longest("\U0001f600"), ("\U0001f600", 4))
+        # The units of this character start with those of a key, which ends within it.
+        self.assertIsNone(trie.longest("\U0001f601"))
+        self.assertIsNone(trie.longest("\ud83c"))
+
+    def test_prefixes(self):
+        words = {"": 9, "a": 1, "ab": 2, "abcd": 3, "abce": 4, "b": 5, "\ud83d": 6, "\U0001f600x": 7}
+        trie = UnitTrie.build(words)
+        for text in ("", "abcdef", "abc", "b", "zabce", "\U0001f600xy", "\ud83d", "\U0001f601"):
+            for start in (0, 1, -2):
+                rest = text[start:]
+                wanted = sorted((it for it in words if rest.startswith(it)), key=len)
+                self.assertEqual(trie.prefixes(text, start), [(it, words[it]) for it in wanted])
+                self.assertEqual(trie.longest(text, start), trie.prefixes(text, start)[-1])
+        self.assertEqual(UnitTrie(b"").prefixes("abc"), [])
+
+    def test_damaged_units(self):
+        words = [f"{it:x}" for it in range(1, 4000, 7)] + ["\U0001f600\U0001f601", "\u4e16\ud83d"]
+        whole = UnitTrie.build({it: len(it) for it in words})
+        damaged = bytes(it ^ (place % 97 == 5) for place, it in enumerate(whole.data))
+        for units in (whole.data, damaged, whole.data[:99], whole.data[:98]):
+            trie = UnitTrie(units)
+            for text in (*words, "\u4e16\U0001f601", "\U0001f600\U0001f602", "ff.ff", "", "f"):
+                found = [(it, trie[it]) for it in map(text.__getitem__, map(slice, range(len(text) + 1))) if it in trie]
+                self.assertEqual(trie.prefixes(text), found)
+                self.assertEqual(trie.longest(text), found[-1] if found else None)
+
+    def test_as_a_mapping(self):
+        words = {"car": 2, "cat": 3, "": -1}
+        trie = UnitTrie.build(words)
+        self.assertEqual((len(trie), trie.keys()), (3, ["", "car", "cat"]))
+        self.assertEqual(trie.values(), [-1, 2, 3])
+        self.assertEqual((dict(trie), {**trie}, list(trie)), (words, words, sorted(words)))
+        self.assertEqual([bool(it) for it in (trie, UnitTrie(b""))], [True, False])
+        for asks in (len, bool, list):
+            with self.assertRaisesRegex(NoTrie, "units are not a trie"):
+                asks(UnitTrie(b"\x30\0"))
+
+    def test_shown_keys_that_are_none(self):
+        trie = UnitTrie.build({"\ud83d": 6, "\ufffd": 9})
+        self.assertEqual((len(trie), trie.items()), (2, [("\ufffd", 6), ("\ufffd", 9)]))
+        self.assertEqual((trie["\ud83d"], dict(trie)), (6, {"\ufffd": 9}))
+        with self.assertRaises(KeyError):
+            dict(UnitTrie.build({"\ud83d": 6}))
+
+    def test_copies(self):
+        for trie in (self.worked, self.pair, UnitTrie(b"")):
+            for it in copies(trie):
+                self.assertEqual((it, hash(it), it.items()), (trie, hash(trie), trie.items()))
+        self.assertEqual(UnitTrie(self.worked.data + b"x"), self.worked)
+        self.assertNotEqual(self.worked, self.pair)
+        self.assertNotEqual(self.worked, self.worked.data)
+
+    def test_no_bytes(self):
+        for wrong in (5, True, "abc", None, [1, 2]):
+            with self.assertRaises(TypeError):
+                UnitTrie(wrong)
+
+    def test_no_keys(self):
+        for wrong in (5, None, {0x61}, ["a"], [1.0]):
+            for asks in (self.worked.__getitem__, self.worked.__contains__, self.worked.get):
+                with self.assertRaises(TypeError):
+                    asks(wrong)
+        for wrong in ([-1], [0x10000], [1 << 70]):
+            with self.assertRaises(OverflowError):
+                self.worked.get(wrong)
+            with self.assertRaises(OverflowError):
+                UnitTrie.build([(wrong, 1)])
+        with self.assertRaises(TypeError):
+            UnitTrie.build({"a": 1.0})
+        self.assertEqual(self.worked.get("b", default=7), 7)
+        self.assertNotIn(300 * "\U0001f600", self.worked)
+
+    def test_repr(self):
+        self.assertEqual((repr(self.worked), repr(UnitTrie(b"x"))), ("<UnitTrie: 5 units>", "<UnitTrie: 0 units>"))
+
+    def test_is_a_mapping(self):
+        self.assertIsInstance(self.worked, collections.abc.Mapping)
+
+    def test_no_units(self):
+        for units in (b"", b"\x30", b"\x30\0"):
+            self.assertNotIn("0", UnitTrie(units))
+            self.assertIsNone(UnitTrie(units).longest("0"))
+
+    def test_built(self):
+        words = {"ab": 2, "a": 1, "": -7, "\ud83d": 3, "\U0001f600": -(1 << 31)}
+        trie = UnitTrie.build(words)
+        self.assertEqual({it: trie[it] for it in words}, words)
+        shown = [("", -7), ("a", 1), ("ab", 2), ("\ufffd", 3), ("\U0001f600", -(1 << 31))]
+        self.assertEqual(trie.items(), shown)
+        self.assertEqual(list(trie), [key for key, _ in shown])
+        self.assertEqual((trie.count(), UnitTrie(b"").count(), UnitTrie(b"\x30\0").count()), (5, 0, None))
+        self.assertEqual(UnitTrie.build([([0x61], 1), ("ab", 2)]).data.hex(), "30006100b00062000280")
+        self.assertEqual((UnitTrie.build({}).data, UnitTrie.build({}).items()), (b"", []))
+        many = {f"{it:x}": it for it in range(5000)}
+        self.assertEqual(UnitTrie.build(many).items(), sorted(many.items()))
+
+    def test_entries_refused(self):
+        for entries, why, said in (
+            ([("b", 0), ("a", 1), ([0x61], 2)], SameKey, "^key 'a': 2 entries have it$"),
+            ({"b": 0, "a" * 65536: 1}, LongKey, r"^key 'a{40}'\.\.\.: 65536 units are more"),
+            ({"b": 0, "a": 1 << 31}, WideValue, "^key 'a': 2147483648 is not a signed number"),
+            ({"\ud83d": -(1 << 31) - 1}, WideValue, r"^key '\\ud83d': -2147483649 is not"),
+        ):
+            with self.assertRaisesRegex(why, said):
+                UnitTrie.build(entries)
+
+    def test_names(self):
+        if not os.path.exists(f"{FOLDER}/names.units"):
+            self.skipTest("no ICU")
+        with open(f"{FOLDER}/names.units", "rb") as file:
+            trie = UnitTrie(file.read())
+        with open(f"{FOLDER}/names.keys.txt", encoding="ascii") as file:
+            for line in file:
+                key, _, value = line.strip().partition(";")
+                self.assertEqual(trie[key], int(value))
+                self.assertEqual(trie.longest(f"{key};"), (key, int(value)))
+
+if __name__ == "__main__":
+    unittest.main()
