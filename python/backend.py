@@ -9,6 +9,7 @@ import base64
 import hashlib
 import os
 import pathlib
+import shlex
 import subprocess
 import sysconfig
 import tempfile
@@ -38,7 +39,7 @@ def _compiled(folder):
     if not os.path.exists(f"{headers}/Python.h"):
         raise SystemExit(f"bekstaudi: no Python.h in {headers}: install Python's headers (python3-dev)")
     module = folder / "_native.abi3.so"
-    words = [os.environ.get("CC", "cc"), "-std=c11", "-O2", "-fPIC", "-Wall", "-Wextra", "-fvisibility=hidden"]
+    words = [*shlex.split(os.environ.get("CC", "cc")), "-std=c11", "-O2", "-fPIC", "-Wall", "-Wextra", "-fvisibility=hidden"]
     words += [f'-DBEKSTAUDI_VERSION="{_version()}"', f"-I{headers}", f"-I{C}", "-I.", "-shared", "-s"]
     words += ["-Wl,--exclude-libs,ALL", "-Wl,--gc-sections", "-o", module]
     words += sorted(it.name for it in (HERE / "native").glob("*.c"))

@@ -1,5 +1,7 @@
-"""Prints each character of a text with its general category, from a table of ICU's (make_table.c).
-python3 categories.py general_category.bin 'Grüße, 世界!'
+"""Prints each character of a text with its general category, from a table that make_table.c wrote.
+
+    pip install ../../python
+    python3 categories.py general_category.bin 'Grüße, 世界!'
 """
 import sys
 

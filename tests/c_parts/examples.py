@@ -1,17 +1,9 @@
-"""The Python module and the examples, as tests/c runs them."""
+"""The examples in C and C++, as tests/c runs them."""
 import os
 import shutil
 import subprocess
-import sys
 
-from running import BUILD, CC, CXX, OUT, PARTS, STRICT, TOP, passes, prints
-
-
-def in_python(room):
-    """The rows of the Python module."""
-    paths = {"PYTHONPATH": f"{TOP}/c/python", "BEKSTAUDI_LIBRARY": f"{OUT}/libbekstaudi.so", "TRIES": f"{room}/tries"}
-    words = [sys.executable, "-B", f"{PARTS}/test_bekstaudi.py", "-q"]
-    yield passes("the Python module", words, env={**os.environ, **paths})
+from running import BUILD, CC, CXX, STRICT, TOP, passes, prints
 
 
 def examples(room):
@@ -23,17 +15,13 @@ def examples(room):
     with open(f"{room}/gc.bin", "wb") as table:
         yield subprocess.run([f"{room}/make_table"], stdout=table).returncode == 0
     shown = "".join(f"{it} {kind}\n" for it, kind in zip(text, "Lu Ll Nd Zs Lo So Mn".split()))
-    lib = f"{room}/usr/lib"
-    paths = {"PYTHONPATH": f"{lib}/python3/dist-packages", "BEKSTAUDI_LIBRARY": f"{lib}/libbekstaudi.so"}
     programs = {"categories.c": (CC, "c99", shown), "letters.cpp": (CXX, "c++17", "A\u00df\n\u4e16\n")}
     programs["kept.cpp"] = (CXX, "c++17", "A\u00df7 \u4e16\n")
     for source, (compiler, standard, wanted) in programs.items():
         if shutil.which(compiler):
             words = [compiler, f"-std={standard}", *STRICT, "-o", f"{room}/shown", f"{code}/{source}"]
             yield passes(source, [*words, *flags])
-            yield prints(source, [f"{room}/shown", f"{room}/gc.bin", text], wanted, {**os.environ, **paths})
+            yield prints(source, [f"{room}/shown", f"{room}/gc.bin", text], wanted, os.environ)
     if shutil.which(CXX):
         lines = f"{text}\n\n" * 9000
-        yield prints("kept.cpp", [f"{room}/shown", f"{room}/gc.bin"], "A\u00df7 \u4e16\n\n" * 9000, {**os.environ, **paths}, lines)
-    words = [sys.executable, "-B", f"{code}/categories.py", f"{room}/gc.bin", text]
-    yield prints("categories.py", words, shown, {**os.environ, **paths})
+        yield prints("kept.cpp", [f"{room}/shown", f"{room}/gc.bin"], "A\u00df7 \u4e16\n\n" * 9000, os.environ, lines)
