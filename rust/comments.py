@@ -1,10 +1,10 @@
-"""The comments of the edition: its own names, and nothing of clauses."""
+"""The comments of the Rust edition, which have its own names and do not mention clauses."""
 import re
 import textwrap
 
 from rules import TRIED
 
-# What docs say of clauses, which nobody sees here.
+# What docs say about clauses, which the Rust edition does not have.
 CLAUSES = [
     r"(?:^| )(?:A clause|The clauses) .*?\.(?= |$)( That they .*? is in no clause\.)?",
     r",? and a clause .*?(?=\.(?: |$))",
@@ -18,7 +18,7 @@ DOC_RULES = [
     (r", whose changes take their memory from `alloc`", ""),
     (r": `alloc` is kept for", "; that is left to"),
     (r"\[(`walk`)\]\(icu_trie_core::walk::walk\)", r"\1"),
-    # What answers a `Result` here, and what is inside.
+    # Functions that return a `Result` here, and private ones.
     (r"\bbuild_from_writes(?=\(.*\)\?)", "try_build_from_writes"),
     (r"(?<=\[`CodePointTrieBuilder::)build(?=`\])", "try_build"),
     (r"\btoml::table_from_str\(", "toml::from_str("),
@@ -27,7 +27,7 @@ DOC_RULES = [
 
 
 def doc(crate, text):
-    """A comment, in which names are those of this edition."""
+    """Returns a comment with the names of this edition."""
     if not text.startswith("//"):
         return text
     for pattern, put in DOC_RULES:
@@ -38,7 +38,7 @@ def doc(crate, text):
 
 
 def fences(text):
-    """Examples of the proved crates are told, not run: those of rust/face are run."""
+    """Marks the examples of the proved crates `ignore`: rustdoc runs only those of rust/face."""
     is_open = False
 
     def mark(found):
@@ -51,7 +51,7 @@ def fences(text):
 
 
 def without_clauses(code):
-    """Takes out of docs what they say of clauses, and fills the lines anew."""
+    """Removes from docs what they say about clauses, and fills the lines again."""
 
     def told(found):
         words = found[0].replace("///", " ")

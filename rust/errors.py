@@ -1,9 +1,9 @@
-"""The errors of the edition: what `derive(Error)` stands for."""
+"""The errors of the Rust edition: what `derive(Error)` expands to."""
 import re
 
 
 def shown(name, text, fields):
-    """The arm that shows an error: its pattern, and what is written."""
+    """Returns the match arm that formats an error: its pattern, and what is written."""
     if fields.startswith("("):
         name += f"({', '.join(f'_{i}' for i in range(len(re.findall('[^,() ][^,]*', fields))))})"
     elif fields:
@@ -35,7 +35,7 @@ impl From<%s> for %s {
 
 
 def errors(code, held):
-    """Writes out what `derive(Error)` gives: Display, Error, and From where `from` asks for it."""
+    """Expands `derive(Error)`: Display, Error, and From for fields that are marked `from`."""
     made = ""
     said = r"#\[error\((?:(transparent)|\x02(\d+)\x03)\)\]\s*"
     item = rf"Error\)\]\s*(?:{said})?pub (?:struct|enum) (\w+)(\([^;]*)?(.*?)(?:;|^\}})"

@@ -1,4 +1,4 @@
-"""What rust/erase.py knows of Rattle source: tokens, words, and what proofs begin with."""
+"""What rust/erase.py knows about Rattle source: tokens, words, and how proofs start."""
 import re
 
 TOKEN = re.compile(
@@ -16,8 +16,8 @@ KEYWORDS = set(
 BEFORE_NAMES = KEYWORDS - set("break continue crate loop self Self super true false".split())
 ATTRIBUTES = set("derive error from inline cold test cfg tactic repr".split())
 MACROS = set("anyhow assert assert_eq eprintln format json matches panic println unreachable vec write writeln".split())
-# What is proof, by the word that it begins with: whether its docs go too, and its form. Braces of
-# the proof language follow where the form asks for one by `(?={)`.
+# The proofs: the word that each starts with, whether its docs are removed too, and its form. If the
+# form ends with `(?={)`, braces of the proof language follow.
 PROOFS = [
     (r"requires|ensures", False, r"(?:requires|ensures)(?:\s+[a-z_]\w*)?\s*(?={)"),
     (r"ghost(?=\s+use\b)", False, r"ghost\s+use\b[^;{]*(?:\{[^{}]*\})?\s*;"),
@@ -27,5 +27,5 @@ PROOFS = [
     (r"#!?\[tactic\b", False, r"#!?\[tactic\((?:[^()]|\((?:[^()]|\([^()]*\))*\))*\)\]"),
 ]
 BY = re.compile(r"\s*(?:by|=)\s*(?={)")
-# What keeps the place of a comment or of a literal while rules go over the code.
+# The mark for a comment or a literal while rules are applied to the code.
 HELD = re.compile("[\x01\x02](\\d+)\x03")

@@ -1,9 +1,9 @@
-"""How the edition's sources are laid out."""
+"""The layout of the generated sources."""
 import re
 
 
 def laid_out(code):
-    """Takes out the blank lines that dropped items leave."""
+    """Removes the blank lines that removed items leave."""
     code = re.sub(r"[ \t]+\n", "\n", code)
     code = re.sub(r"\n{3,}", "\n\n", code)
     code = re.sub(r"\{\n\n", "{\n", code)
@@ -12,13 +12,13 @@ def laid_out(code):
 
 
 def inlined(code):
-    """Marks short functions: rustc sees one crate, where Rattle's compiler sees the program."""
+    """Marks short functions `#[inline]`: rustc sees one crate at a time, Rattle's compiler all."""
     head = r"(?m)(?<![\]])\n( *)(?=(?:pub(?:\(crate\))? )?fn \w+)(?=(?:.+\n){1,12}?\1\})"
     return re.sub(head, r"\n\1#[inline]\n\1", code)
 
 
 def with_prelude(code):
-    """Imports what Rust's prelude lacks without std, and the calls that answer want of memory."""
+    """Imports what Rust's prelude lacks without std, and the functions that report failed allocations."""
     if not re.search(r"\b(Vec|String|try_\w+|with_room|try_vec)\b", re.sub("//.*", "", code)):
         return code
     line = "#[allow(unused_imports)]\nuse crate::support::prelude::*;\n"

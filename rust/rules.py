@@ -1,6 +1,6 @@
-"""The rules of rust/make: what differs from Rust's own, and what takes its place."""
+"""The rules of rust/make: what Rust has in another form, and what replaces it."""
 
-# Modules that stand on another crate, and so on a feature of its name.
+# Modules that need another crate, and so a feature of its name.
 FEATURES = {
     "icu_invlist/codepointinvlist/json": "json",
     "icu_invlist/spelling": "json",
@@ -9,16 +9,16 @@ FEATURES = {
     "icu_trie_formats/json": "json",
     "icu_trie_formats/trie_toml": "toml",
 }
-# Modules that stay behind.
+# Modules that are left out.
 LEFT_OUT = []
-# Calls that may want memory, of which rust/face has others that answer plainly, under these names.
+# Functions that allocate. rust/face has functions with these names that panic if that fails.
 TRIED = (
     "add_char add32 add_range add_range32 add_set remove_char remove32 remove_range remove_range32"
     " remove_set retain_set complement complement_char complement32 complement_range"
     " complement_range32 complement_set build set_value set_range_value get_set_for_value"
     " into_owned get_inversion_list_vec from_iter from_trie freeze iter2 is_trie count_entries"
     " next_units unique_value advance"
-    # Those of vectors and texts, in rust/support.
+    # Those of vectors and strings, in rust/support.
     " push push_str insert extend_from_slice resize"
 ).split()
 RENAMED = {
@@ -32,7 +32,7 @@ RENAMED = {
     r"\bjson!\(in alloc; ": "crate::support::try_json!(",
     r"\buse toml::": "use toml::value::",
 }
-# What asks of its callers what only a proof can know. It is kept inside;
+# Functions with a `requires` that only a proof can check. They are private.
 INSIDE = (
     "PotentialCodePoint::from_u24 ZeroSlice::at ZeroVec::try_into_converted"
     " CodePointInversionList::from_valid_slice Steps::new look_up_far look_up_fast look_up_high"
@@ -40,20 +40,20 @@ INSIDE = (
     " NumberMap::get NumberMap::find_other place_block build_index WindowTable::enter_all"
     " WindowTable::for_cells WindowTable::new"
 ).split()
-# or nothing is wrong where it doesn't hold: an iterator without an end goes on until memory is
-# refused, and a closure that gives no answer gives none here;
+# Functions whose `requires` need not hold: an iterator without an end runs until an allocation
+# fails, and a closure that does not return does not return here either.
 HARMLESS = (
     "ZeroVec::alloc_from_iter CodePointInversionList::from_iter CodePointTrie::iter_ranges_mapped"
     " CodePointInversionListAndStringList::from_iter CodePointTrie::try_alloc_map_value"
     " find_value span_of_values"
 ).split()
-# or it panics, as these words say in its docs.
+# Functions that panic if their `requires` does not hold, and the docs of that panic.
 PANICS = {
-    "trait AsULE::from_unaligned": "Where there are fewer than `WIDTH` bytes.",
-    "trait Cells::data_at": "Where there is no such cell.",
-    "trait Cells::index_at": "Where there is no such cell.",
+    "trait AsULE::from_unaligned": "Panics if there are fewer than `WIDTH` bytes.",
+    "trait Cells::data_at": "Panics if there is no such cell.",
+    "trait Cells::index_at": "Panics if there is no such cell.",
 }
-# Rattle's std, by the modules of it that are Rust's own.
+# The modules of Rattle's std that Rust's core has under the same names.
 OWN = "cmp error fmt hash iter marker ops"
 RULES = [
     (r"use thiserror::Error;\n", ""),
@@ -65,37 +65,37 @@ RULES = [
     (r"\bstd::(alloc|collections|sync::ledger)::", "crate::support::"),
     (r"\bstd::marker::Brand\b", "crate::support::Brand"),
     (rf"\bstd::({'|'.join(OWN.split())})\b", r"core::\1"),
-    # Drop is a marker of Rattle's, that a value may be dropped.
+    # In Rattle, Drop is a marker: a value may be dropped.
     (r"#\[derive\(Drop\)\]\n\s*", ""),
     (r"(#\[derive\([^)]*), Drop\b", r"\1"),
     (r" \+ Drop\b", ""),
     (r": Drop \+ ", ": "),
     (r": Drop\b", ""),
-    # A clone of a view answers plainly, and a text is shown by Rust's own formatter.
+    # The clone of a view is no Result, and Rust has one type of formatter.
     (r"(fn clone\(&self\) -> )Result<([^{]*), AllocError>( \{\s*)Ok\(\*self\)", r"\1\2\3*self"),
     (r"fn fmt<W: fmt::Write>(\(&self, f: &mut fmt::Formatter)<W>", r"fn fmt\1<'_>"),
     (r"\bfinal (?=fn\b)", ""),
     (r"\bR: RangeOf<", "R: core::ops::RangeBounds<"),
-    # The allocator goes: as a parameter, as an argument and as a field.
+    # The allocator is removed: as a parameter, as an argument and as a field.
     (r"\balloc: (?:self\.alloc|_),\s*", ""),
     (r"(?:\n +\x01\d+\x03)*\n +(?:pub\(crate\) )?_?(?:\w+\.)*alloc(?:\(\)|: Global)?,(?=\n)", ""),
     (r"\b(?:pub\(crate\) )?_?alloc: Global(,\s*|(?=\s*[)}]))", ""),
     (r"([(,{]\s*)(?:\w+\.)*alloc(?:\(\))?,\s*", r"\1"),
     (r"(\(|,)\s*(?:\w+\.)*alloc(?:\(\))?\s*(?=\))", lambda found: found[1].strip(",")),
     (r"(\(&?self), \)", r"\1)"),
-    # What tells a proof something has a body already, which does nothing.
+    # A function that only a proof uses has a body that does nothing.
     (r"fn shown\((&?self)\);", r"fn shown(\1) {}"),
-    # No clause stands before the body, nor what was said of one.
+    # The blank lines and comments that clauses leave before the body.
     (r"(?<=[^,;{}\s\x03])(?:\n *\x01\d+\x03|\n)*\n *\{\n", " {\n"),
 ]
-# What no rule may leave: it is Rattle's alone, or something else in Rust.
+# What no rule may leave: Rust does not have it, or it means something else there.
 NOT_IN_RUST = (
     r"\bGlobal\b", r"\b(?<!crate::)alloc\b", r"\bstd::\w+", r"\bthiserror\b", r"\bModel\b",
     r"\bcore::[^;(]*\b(?:Brand|Drop)\b", r"\bstd::\{"
 )
-# What one source has in another form here, and how often.
+# Changes to one source: pattern, replacement, and how often the pattern occurs.
 EDITS = {
-    # Reads of cells, in the forms of rust/support/cells.
+    # Reads of cells, by the functions of rust/support/cells.
     "icu_zerovec/cells": [
         (r"let start = i \* T::WIDTH;\n.*", "T::from_unaligned(cell(bytes, T::WIDTH, i)?)", 1),
         (r"match read\(bytes, i\) \{", "match T::from_unaligned(proved_cell(bytes, T::WIDTH, i)) {", 1),
@@ -112,24 +112,24 @@ EDITS = {
         ),
         (r"(?=use icu_trie_core::cells)", "use crate::support::cells::{cell, proved_cell};\n", 1),
     ],
-    # Of two types of which Rust takes one for the other each may have a width of its own: so no
-    # vector of the one is taken for one of the other.
+    # Two types that differ in lifetimes only may have different widths, so a vector of one must not
+    # be accepted as a vector of the other.
     **dict.fromkeys(
         ["icu_zerovec/vec", "icu_zerovec/slice", "icu_zerovec/iter"],
         [(r"\bof: PhantomData<T>", "of: PhantomData<fn(T) -> T>", 1)],
     ),
-    # 2 to the power of 63 is no place either where places are numbers of 32 bits.
+    # The bound on positions, also if they are numbers of 32 bits.
     "icu_char16trie/place": [(r"position >= 1 << 63", "position > isize::MAX as usize", 1)],
-    # That there are as many cells as before is proved of lawful types alone, and asked of all.
+    # That there are as many cells as before is proved only for lawful types, so it is asserted.
     "icu_trie/map_value": [
         (r"(\n +)(?=let index = self\.index)", r"\1assert_eq!(data.len(), self.data.len());\1", 1),
     ],
-    # So is that ends are even in number, of the values of a type that says what is equal.
+    # So is that the number of boundaries is even, for types with their own `Eq`.
     "icu_invlist/codepointinvlist/cpinvlist": [
         (r"(\n +)(?=let bytes = pack)", r"\1assert_eq!(ends.len() % 2, 0);\1", 1)
     ],
-    # TryFrom answers without want of memory, in rust/face.
+    # rust/face has a TryFrom whose error is no failed allocation.
     "icu_invlist/codepointinvlist/conversions": [(r"fn try_from(?=<R)", "fn try_from_range", 1)],
-    # All that is a range for Rust is one: rust/face/src/codepointinvlist.rs says what it names.
+    # Every RangeBounds is a range: rust/face/src/codepointinvlist.rs says which numbers it contains.
     "icu_invlist/codepointinvlist/utils": [(r"(?ms)^impl<X: RangePoint> RangeOf.*?^\}\n", "", 6)],
 }

@@ -1,6 +1,6 @@
-//! Cells of packed bytes, read in forms that rustc sees through.
+//! Reads of cells in packed bytes, in forms that rustc optimizes well.
 
-/// The cell at place `i` of cells of so many bytes, where it is there: one test, of the place.
+/// Returns cell `i` of cells of `width` bytes, or `None` if there is none. Checks only the index.
 #[inline(always)]
 pub(crate) fn cell(bytes: &[u8], width: usize, i: usize) -> Option<&[u8]> {
     match width {
@@ -12,10 +12,10 @@ pub(crate) fn cell(bytes: &[u8], width: usize, i: usize) -> Option<&[u8]> {
     }
 }
 
-/// The cell at a place that is proved to be there.
+/// Returns a cell whose index is proved to be in bounds.
 ///
 /// # Panics
-/// Where it is not there all the same, but with the feature `proved-reads`.
+/// Panics if the index is out of bounds nevertheless, without the feature `proved-reads`.
 #[cfg(not(feature = "proved-reads"))]
 #[inline(always)]
 pub(crate) fn proved_cell(bytes: &[u8], width: usize, i: usize) -> &[u8] {
@@ -25,9 +25,10 @@ pub(crate) fn proved_cell(bytes: &[u8], width: usize, i: usize) -> &[u8] {
     }
 }
 
-/// The cell at a place that is proved to be there, for which no code tests it.
+/// Returns a cell whose index is proved to be in bounds, without checking it.
 ///
-/// How many cells there are hangs on a type's width, so no vector is taken for one of another type:
+/// The number of cells depends on a type's width, so a vector of one type is never accepted as one
+/// of another type:
 ///
 /// ```compile_fail
 /// # use bekstaudi::zerovec::{ZeroVec, ule::AsULE};
@@ -50,7 +51,7 @@ pub(crate) fn proved_cell(bytes: &[u8], width: usize, i: usize) -> &[u8] {
 #[inline(always)]
 pub(crate) fn proved_cell(bytes: &[u8], width: usize, i: usize) -> &[u8] {
     debug_assert!(cell(bytes, width, i).is_some());
-    // SAFETY: the callers are those that the README lists, each with the reason why the cell is
-    // there whatever a type of a user's own answers.
+    // SAFETY: the callers are those that rust/README.md lists, each with the reason why the index is
+    // in bounds whatever a user-defined type returns.
     unsafe { bytes.get_unchecked(i * width..(i + 1) * width) }
 }

@@ -1,4 +1,5 @@
-//! What Rattle's std has and Rust's has not: vectors, texts and maps that answer want of memory.
+//! What Rattle's std has and Rust's has not: vectors, strings and maps that report failed
+//! allocations.
 
 pub(crate) mod cells;
 mod ledger;
@@ -9,8 +10,7 @@ pub(crate) use ledger::{Blank, Book, Brand, Ledger, Share};
 pub use maps::{BTreeMap, HashMap};
 pub use memory::{AllocError, AllocFailed};
 
-/// A JSON value. For its objects serde_json asks for memory, and ends the program where it is
-/// refused.
+/// A JSON value. `serde_json` allocates for its objects, and ends the program if that fails.
 #[cfg(feature = "json")]
 macro_rules! try_json {
     ($($part:tt)*) => { Ok::<serde_json::Value, crate::support::AllocError>(serde_json::json!($($part)*)) };
@@ -18,7 +18,7 @@ macro_rules! try_json {
 #[cfg(feature = "json")]
 pub(crate) use try_json;
 
-/// What each module of the proved source sees.
+/// What each module of the proved source imports.
 pub(crate) mod prelude {
     pub(crate) use super::memory::{TryString, TryVec, try_vec};
     pub(crate) use alloc::string::String;

@@ -26,7 +26,7 @@ static const char *const names[] = {
     CALLS
 #undef X
 };
-static long calls[FUNCTIONS];
+static long calls[FUNCTIONS], answers;
 static uint8_t logs[2][1 << 23], *out; /* all that a turn gave, of each library */
 
 static void load(library *l, const char *path) {
@@ -50,7 +50,7 @@ static void put(const void *bytes, size_t size) { memcpy(out, bytes, size), out 
 #define PUT(value)                                                                       \
     ({                                                                                   \
         __typeof__(value) put_ = (value);                                                \
-        put(&put_, sizeof put_);                                                         \
+        answers++, put(&put_, sizeof put_);                                              \
     })
 #define ASK(name, ...) (calls[NUMBER_##name]++, l->name(__VA_ARGS__))
 #define FILLED(buffer) memset(buffer, 0x55, sizeof buffer)
@@ -297,17 +297,15 @@ int main(int argc, char **argv) {
         CHECK(sizes[count++] <= MOST);
     }
     CHECK(0 < tries_count && tries_count < count);
-    long turns = atol(argv[3]), different = 0, asked = 0;
+    long turns = atol(argv[3]), different = 0;
     for (long i = 1; i <= turns && different < 20; i++) {
         int kind;
         if (turn(libraries, 0x9E3779B97F4A7C15u * (uint64_t)i, &kind)) continue;
         printf("turn %ld, %s: different\n", i, kinds[kind]);
         different++;
     }
-    for (int i = 0; i < FUNCTIONS; i++) {
+    for (int i = 0; i < FUNCTIONS; i++)
         if (calls[i] == 0) printf("%s is not called\n", names[i]), different++;
-        asked += calls[i] / 2;
-    }
-    printf("%ld turns, %d functions, %ld answers of each, %ld different\n", turns, FUNCTIONS, asked, different);
+    printf("%ld turns, %d functions, %ld answers of each, %ld different\n", turns, FUNCTIONS, answers / 2, different);
     return different != 0;
 }

@@ -1,8 +1,8 @@
 //! Maps from keys of 16-bit units to numbers that are read in place (ICU's unit tries).
 //!
-//! [`Char16TrieBuilder`] makes a trie, [`Char16Trie::cursor`] and [`Char16Trie::iter`] look up in
-//! it unit by unit, [`Char16Trie::longest_match`] and [`Char16Trie::matches`] find the keys that
-//! begin a text, and [`Char16Trie::iter2`] and [`Char16Trie::entries`] list its entries.
+//! [`Char16TrieBuilder`] builds a trie. [`Char16Trie::cursor`] and [`Char16Trie::iter`] look keys up
+//! unit by unit. [`Char16Trie::longest_match`] and [`Char16Trie::matches`] find the keys that are
+//! prefixes of a text. [`Char16Trie::iter2`] and [`Char16Trie::entries`] list the entries.
 //!
 //! ```
 //! use bekstaudi::char16trie::{Char16TrieBuilder, Char16TrieCursor};
@@ -46,61 +46,58 @@ plain_clone! {
 }
 
 impl Char16Trie<'_> {
-    /// The entries in unit order, each with its key decoded lossily. [`try_iter2`](Self::try_iter2)
-    /// answers want of memory.
+    /// Returns the entries in unit order, each with its key decoded lossily.
     ///
     /// # Panics
-    /// The iterator panics where memory was refused.
+    /// The iterator panics if an allocation fails; that of [`try_iter2`](Self::try_iter2) returns an
+    /// error then.
     pub fn iter2(&self) -> impl Iterator<Item = (String, i32)> + '_ {
         self.try_iter2().map(plain)
     }
 
-    /// Whether the units are a trie of some map, as [`try_is_trie`](Self::try_is_trie) tells, which
-    /// answers want of memory.
+    /// Returns whether the units are a trie of some map.
     ///
     /// # Panics
-    /// Where memory was refused.
+    /// Panics if an allocation fails; [`try_is_trie`](Self::try_is_trie) returns an error then.
     pub fn is_trie(&self) -> bool {
         plain(self.try_is_trie())
     }
 
-    /// How many entries there are, `u64::MAX` where they are more, and `None` where the units are
-    /// no trie. [`try_count_entries`](Self::try_count_entries) answers want of memory.
+    /// Returns the number of entries, at most `u64::MAX`, or `None` if the units are no trie.
     ///
     /// # Panics
-    /// Where memory was refused.
+    /// Panics if an allocation fails; [`try_count_entries`](Self::try_count_entries) returns an error
+    /// then.
     pub fn count_entries(&self) -> Option<u64> {
         plain(self.try_count_entries())
     }
 }
 
 impl Char16TrieCursor<'_> {
-    /// The units with which some key goes on from here, ascending.
-    /// [`try_next_units`](Self::try_next_units) answers want of memory.
+    /// Returns the units with which some key continues from here, ascending.
     ///
     /// # Panics
-    /// Where memory was refused.
+    /// Panics if an allocation fails; [`try_next_units`](Self::try_next_units) returns an error then.
     pub fn next_units(&self) -> Vec<u16> {
         plain(self.try_next_units())
     }
 
-    /// The value that all keys going on from here have, the units so far among them where they are
-    /// a key. `None` where they have different values, and where no key goes on.
-    /// [`try_unique_value`](Self::try_unique_value) answers want of memory.
+    /// Returns the value that all keys have which start with the units so far, that key itself
+    /// included. Returns `None` if their values differ, or if there is no such key.
     ///
     /// # Panics
-    /// Where memory was refused.
+    /// Panics if an allocation fails; [`try_unique_value`](Self::try_unique_value) returns an error
+    /// then.
     pub fn unique_value(&self) -> Option<i32> {
         plain(self.try_unique_value())
     }
 }
 
 impl Entries<'_> {
-    /// Goes to the next entry: whether there is one. [`try_advance`](Self::try_advance) answers
-    /// want of memory.
+    /// Advances to the next entry, and returns whether there is one.
     ///
     /// # Panics
-    /// Where memory was refused.
+    /// Panics if an allocation fails; [`try_advance`](Self::try_advance) returns an error then.
     pub fn advance(&mut self) -> bool {
         plain(self.try_advance())
     }

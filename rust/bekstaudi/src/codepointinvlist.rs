@@ -1,9 +1,9 @@
-//! Sets of code points as inversion lists, as ICU's UnicodeSet keeps them.
+//! Sets of code points as inversion lists, as in ICU's UnicodeSet.
 //!
-//! [`CodePointInversionListBuilder`] makes a [`CodePointInversionList`];
+//! [`CodePointInversionListBuilder`] builds a [`CodePointInversionList`].
 //! [`FrozenCodePointSet::freeze`] adds a bit for each code point, for many look-ups, and
-//! [`FrozenCodePointSet::spans`] cuts a text into what is held and what is not. [`serialized`] has
-//! sets in ICU's serialized form, written and read.
+//! [`FrozenCodePointSet::spans`] splits a text into spans in the set and not in it. [`serialized`]
+//! reads and writes sets in ICU's serialized form.
 //!
 //! ```
 //! use bekstaudi::codepointinvlist::{CodePointInversionList, FrozenCodePointSet, serialized};
@@ -50,36 +50,52 @@ plain_clone! {
 
 impl CodePointInversionListBuilder {
     plain_calls! {
+        "Adds `c` to the set."
         add_char = try_add_char(c: char);
+        "Adds the code point `c` to the set, if it is at most 0x10FFFF."
         add32 = try_add32(c: u32);
+        "Adds each character in `range` to the set."
         add_range = try_add_range(range: impl RangeBounds<char>);
+        "Adds each code point in `range` to the set. A range with numbers above 0x10FFFF adds nothing."
         add_range32 = try_add_range32(range: impl RangeBounds<u32>);
+        "Adds each code point of `set` to the set."
         add_set = try_add_set(set: &CodePointInversionList<'_>);
+        "Removes `c` from the set."
         remove_char = try_remove_char(c: char);
+        "Removes the code point `c` from the set."
         remove32 = try_remove32(c: u32);
+        "Removes each character in `range` from the set."
         remove_range = try_remove_range(range: impl RangeBounds<char>);
+        "Removes each code point in `range` from the set."
         remove_range32 = try_remove_range32(range: impl RangeBounds<u32>);
+        "Removes each code point of `set` from the set."
         remove_set = try_remove_set(set: &CodePointInversionList<'_>);
+        "Removes each code point that is not in `set`."
         retain_set = try_retain_set(set: &CodePointInversionList<'_>);
+        "Adds `c` if the set does not contain it, and else removes it."
         complement_char = try_complement_char(c: char);
+        "Adds the code point `c` if the set does not contain it, and else removes it. Ignores numbers above 0x10FFFF."
         complement32 = try_complement32(c: u32);
+        "Adds each character in `range` that the set does not contain, and removes the others in it."
         complement_range = try_complement_range(range: impl RangeBounds<char>);
+        "Adds each code point in `range` that the set does not contain, and removes the others in it."
         complement_range32 = try_complement_range32(range: impl RangeBounds<u32>);
+        "Adds each code point of `set` that the set does not contain, and removes the others of it."
         complement_set = try_complement_set(set: &CodePointInversionList<'_>);
     }
 
-    /// [`try_complement`](Self::try_complement), plainly.
+    /// Complements the set: it then contains exactly the code points that it did not.
     ///
     /// # Panics
-    /// Where memory was refused.
+    /// Panics if an allocation fails; [`try_complement`](Self::try_complement) returns an error then.
     pub fn complement(&mut self) {
         plain(self.try_complement());
     }
 
-    /// [`try_build`](Self::try_build), plainly.
+    /// Returns the set.
     ///
     /// # Panics
-    /// Where memory was refused.
+    /// Panics if an allocation fails; [`try_build`](Self::try_build) returns an error then.
     pub fn build(self) -> CodePointInversionList<'static> {
         plain(self.try_build())
     }
@@ -92,24 +108,24 @@ impl Default for CodePointInversionListBuilder {
 }
 
 impl CodePointInversionList<'_> {
-    /// [`try_get_inversion_list_vec`](Self::try_get_inversion_list_vec), plainly.
+    /// Returns the boundaries of the set, ascending.
     ///
     /// # Panics
-    /// Where memory was refused.
+    /// Panics if an allocation fails; [`try_get_inversion_list_vec`](Self::try_get_inversion_list_vec) returns an error then.
     pub fn get_inversion_list_vec(&self) -> Vec<u32> {
         plain(self.try_get_inversion_list_vec())
     }
 
-    /// [`try_into_owned`](Self::try_into_owned), plainly.
+    /// Returns the set with boundaries of its own, which it borrows no longer.
     ///
     /// # Panics
-    /// Where memory was refused.
+    /// Panics if an allocation fails; [`try_into_owned`](Self::try_into_owned) returns an error then.
     pub fn into_owned(self) -> CodePointInversionList<'static> {
         plain(self.try_into_owned())
     }
 }
 
-/// The empty set, which takes no memory.
+/// Returns the empty set. Does not allocate.
 impl Default for CodePointInversionList<'_> {
     fn default() -> Self {
         plain(CodePointInversionList::from_valid_slice(&[]))
@@ -117,7 +133,7 @@ impl Default for CodePointInversionList<'_> {
 }
 
 /// # Panics
-/// Where memory was refused; [`CodePointInversionList::try_from_iter`] answers it.
+/// Panics if an allocation fails; [`CodePointInversionList::try_from_iter`] returns an error then.
 impl FromIterator<RangeInclusive<u32>> for CodePointInversionList<'_> {
     fn from_iter<I: IntoIterator<Item = RangeInclusive<u32>>>(ranges: I) -> Self {
         plain(CodePointInversionList::try_from_iter(ranges.into_iter()))
@@ -125,7 +141,7 @@ impl FromIterator<RangeInclusive<u32>> for CodePointInversionList<'_> {
 }
 
 /// # Panics
-/// Where memory was refused.
+/// Panics if an allocation fails.
 impl FromIterator<char> for CodePointInversionList<'_> {
     fn from_iter<I: IntoIterator<Item = char>>(characters: I) -> Self {
         let mut builder = CodePointInversionListBuilder::new();
@@ -140,7 +156,8 @@ macro_rules! from_ranges {
     ($($range:ty)*) => {
         $(
             /// # Panics
-            /// Where memory was refused; [`CodePointInversionList::try_from_range`] answers it.
+            /// Panics if an allocation fails; [`CodePointInversionList::try_from_range`] returns an
+            /// error then.
             impl TryFrom<$range> for CodePointInversionList<'_> {
                 type Error = RangeError;
 
@@ -160,27 +177,27 @@ from_ranges! {
 }
 
 impl FrozenCodePointSet {
-    /// [`try_freeze`](Self::try_freeze), plainly.
+    /// Returns a copy of the set with a bit for each code point, for many look-ups.
     ///
     /// # Panics
-    /// Where memory was refused.
+    /// Panics if an allocation fails; [`try_freeze`](Self::try_freeze) returns an error then.
     pub fn freeze(set: &CodePointInversionList<'_>) -> FrozenCodePointSet {
         plain(FrozenCodePointSet::try_freeze(set))
     }
 }
 
 impl FrozenCodePointSetAndStrings {
-    /// [`try_freeze`](Self::try_freeze), plainly.
+    /// Returns a copy of the set with tables for many look-ups and spans.
     ///
     /// # Panics
-    /// Where memory was refused.
+    /// Panics if an allocation fails; [`try_freeze`](Self::try_freeze) returns an error then.
     pub fn freeze(set: &CodePointInversionListAndStringList<'_>) -> FrozenCodePointSetAndStrings {
         plain(FrozenCodePointSetAndStrings::try_freeze(set))
     }
 }
 
-/// All that is a range for Rust names numbers, as its ends say: an included end `u32::MAX`, after
-/// which there is no number, is the end itself.
+/// Every `RangeBounds` is a range. It contains the numbers between its bounds, except that
+/// `u32::MAX` as an included upper bound counts as an excluded one, since no number follows it.
 impl<X: RangePoint, R: RangeBounds<X>> RangeOf<X> for R {
     fn deconstruct(self) -> (u32, u32) {
         let start = match self.start_bound() {

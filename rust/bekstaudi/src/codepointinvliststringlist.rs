@@ -1,4 +1,4 @@
-//! Sets of code points and of longer texts.
+//! Sets of code points and of longer strings.
 //!
 //! ```
 //! use bekstaudi::codepointinvliststringlist::CodePointInversionListAndStringList;
@@ -21,7 +21,8 @@ plain_clone! {
 }
 
 /// # Panics
-/// Where memory was refused; [`CodePointInversionListAndStringList::try_from_iter`] answers it.
+/// Panics if an allocation fails; [`CodePointInversionListAndStringList::try_from_iter`] returns an
+/// error then.
 impl<'text> FromIterator<&'text str> for CodePointInversionListAndStringList<'_> {
     fn from_iter<I: IntoIterator<Item = &'text str>>(texts: I) -> Self {
         plain(CodePointInversionListAndStringList::try_from_iter(texts.into_iter()))

@@ -1,10 +1,9 @@
 //! Maps from code points to values that are read in place (ICU's code point tries).
 //!
-//! [`CodePointTrieBuilder`] makes a trie, [`CodePointTrie::get32`] asks it, and
-//! [`CodePointTrieBuilder::from_trie`] takes one to be written to and built again. A trie that ICU
-//! wrote is read where it is by [`binary::from_binary`]; one of another file is made of its parts by
-//! [`CodePointTrie::try_new`], which borrows them. The values along a text are those of
-//! [`text::values_of`].
+//! [`CodePointTrieBuilder`] builds a trie, [`CodePointTrie::get32`] looks a code point up, and
+//! [`CodePointTrieBuilder::from_trie`] changes a trie and builds it again. [`binary::from_binary`]
+//! reads a trie that ICU wrote where it is. [`CodePointTrie::try_new`] makes a trie of its parts, as
+//! other files have them, and borrows them. [`text::values_of`] returns the values in a text.
 //!
 //! ```
 //! use bekstaudi::codepointtrie::{CodePointTrieBuilder, TrieType};
@@ -68,53 +67,56 @@ plain_clone! {
 }
 
 impl<T: TrieValue> CodePointTrie<'_, T> {
-    /// [`try_get_set_for_value`](Self::try_get_set_for_value), plainly.
+    /// Returns the set of the code points that have this value.
     ///
     /// # Panics
-    /// Where memory was refused.
+    /// Panics if an allocation fails; [`try_get_set_for_value`](Self::try_get_set_for_value) returns an error then.
     pub fn get_set_for_value(&self, value: T) -> CodePointInversionList<'static> {
         plain(self.try_get_set_for_value(value))
     }
 }
 
 impl<T: TrieValue> CodePointTrieBuilder<T> {
-    /// [`try_from_trie`](Self::try_from_trie), plainly.
+    /// Returns a builder with the values of a trie, to be changed and built again.
     ///
     /// # Panics
-    /// Where memory was refused.
+    /// Panics if an allocation fails; [`try_from_trie`](Self::try_from_trie) returns an error then.
     pub fn from_trie(trie: &CodePointTrie<'_, T>) -> CodePointTrieBuilder<T> {
         plain(CodePointTrieBuilder::try_from_trie(trie))
     }
 
-    /// [`try_set_value`](Self::try_set_value), plainly.
+    /// Sets the value of the code point `c`. Does nothing above 0x10FFFF.
     ///
     /// # Panics
-    /// Where memory was refused.
+    /// Panics if an allocation fails; [`try_set_value`](Self::try_set_value) returns an error then.
     pub fn set_value(&mut self, c: u32, value: T) {
         plain(self.try_set_value(c, value));
     }
 
-    /// [`try_set_range_value`](Self::try_set_range_value), plainly.
+    /// Sets the value of each code point in `range`, both bounds included. Ignores numbers above
+    /// 0x10FFFF.
     ///
     /// # Panics
-    /// Where memory was refused.
+    /// Panics if an allocation fails; [`try_set_range_value`](Self::try_set_range_value) returns an error then.
     pub fn set_range_value(&mut self, range: RangeInclusive<u32>, value: T) {
         plain(self.try_set_range_value(range, value));
     }
 
-    /// [`try_build`](Self::try_build), plainly.
+    /// Returns the trie.
     ///
     /// # Panics
-    /// Where memory was refused, or the map has too many different blocks.
+    /// Panics if an allocation fails, or if the map has too many different blocks;
+    /// [`try_build`](Self::try_build) returns an error then.
     pub fn build(self) -> CodePointTrie<'static, T> {
         plain(self.try_build())
     }
 }
 
-/// The trie of a list of writes, of which the last one that covers a code point counts.
+/// Builds a trie of a list of writes. The last one that contains a code point sets its value.
 ///
 /// # Panics
-/// Where memory was refused, or the map has too many different blocks.
+/// Panics if an allocation fails, or if the map has too many different blocks;
+/// [`try_build_from_writes`] returns an error then.
 pub fn build_from_writes<T: TrieValue>(
     default: T,
     error: T,

@@ -1,7 +1,7 @@
 //! Collections for Unicode data, generated from proved sources: the names and calls of the crate
 //! `icu_collections`.
 //!
-//! | What you have | What keeps it |
+//! | To store | Use |
 //! |---|---|
 //! | a value for each code point, as a property of characters | [`codepointtrie`] |
 //! | a set of code points | [`codepointinvlist`] |
@@ -9,9 +9,9 @@
 //! | a number for each word of a list | [`char16trie`] |
 //! | a list of numbers or characters, packed and read in place | [`zerovec`] |
 //!
-//! Calls that may want memory come in two forms. `add_char` answers plainly and panics where memory
-//! is refused; `try_add_char` is the proved call below it, which answers a `Result` and leaves what
-//! it was about to change as it was.
+//! Methods that allocate have two forms. `add_char` panics if an allocation fails. `try_add_char` is
+//! the proved method that it calls: it returns a `Result`, and on an error leaves what it was about
+//! to change unchanged.
 //!
 //! # Values
 //!
@@ -59,18 +59,18 @@
 //!
 //! # Features
 //!
-//! None is on by default.
+//! All are off by default.
 //!
 //! - `json`: sets, tries and unit tries to and from the values of `serde_json`
 //! - `toml`: tries from the tables of `toml`; it needs `std`
-//! - `proved-reads`: reads at places that are proved to be there test no place
+//! - `proved-reads`: reads whose index is proved to be in bounds are not checked again
 #![no_std]
 #![cfg_attr(not(feature = "proved-reads"), forbid(unsafe_code))]
 
 extern crate alloc;
 
 #[cfg(all(feature = "proved-reads", not(target_pointer_width = "64")))]
-compile_error!("places are proved to be numbers of 64 bits, so `proved-reads` is for these alone");
+compile_error!("`proved-reads` needs a target with pointers of 64 bits: the proofs assume them");
 
 mod plain;
 mod support;
@@ -83,8 +83,8 @@ pub mod zerovec;
 
 pub use plain::iterator_utils;
 
-// Written by rust/make. Clauses name what code does not, and what only other crates call is public
-// in its own: so names may be unused here.
+// rust/make writes the list. Names may be unused: some are used by proofs only, and some are public
+// in their crate but not here.
 macro_rules! generated {
     ($($name:ident)*) => {
         $(#[allow(dead_code, unused_imports, unused_variables)]

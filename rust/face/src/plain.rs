@@ -1,9 +1,9 @@
-//! Calls that answer plainly over those that answer want of memory.
+//! Functions that panic if an allocation fails, over those that return an error.
 
 pub use crate::icu_trie::iterator_utils;
 
-/// The answer of a call that nothing but memory can refuse. As in Rust's own collections, want of
-/// memory is the end.
+/// Returns the value of a result. Panics on an error, which is a failed allocation, as Rust's own
+/// collections do.
 #[inline]
 pub(crate) fn plain<T, E: core::fmt::Display>(answer: Result<T, E>) -> T {
     match answer {
@@ -17,14 +17,15 @@ fn refused(error: &dyn core::fmt::Display) -> ! {
     panic!("bekstaudi: {error}")
 }
 
-/// Methods without an answer, each over its `try_` form.
+/// Methods that return nothing, each over its `try_` form.
 macro_rules! plain_calls {
-    ($($name:ident = $tried:ident($argument:ident: $of:ty);)*) => {
+    ($($text:literal $name:ident = $tried:ident($argument:ident: $of:ty);)*) => {
         $(
-            #[doc = concat!("[`", stringify!($tried), "`](Self::", stringify!($tried), "), plainly.")]
+            #[doc = $text]
             ///
             /// # Panics
-            /// Where memory was refused.
+            #[doc = concat!("Panics if an allocation fails; [`", stringify!($tried), "`](Self::",
+                stringify!($tried), ") returns an error then.")]
             #[inline]
             pub fn $name(&mut self, $argument: $of) {
                 crate::plain::plain(self.$tried($argument));
@@ -34,12 +35,12 @@ macro_rules! plain_calls {
 }
 pub(crate) use plain_calls;
 
-/// A clone over `try_clone`, which panics where memory was refused.
+/// A clone over `try_clone`, which panics if an allocation fails.
 macro_rules! plain_clone {
     ($(impl<$($life:lifetime $(, $of:ident: $bound:path)?)?> Clone for $name:ty;)*) => {
         $(
             /// # Panics
-            /// Where memory was refused; `try_clone` answers it.
+            /// Panics if an allocation fails; `try_clone` returns an error then.
             impl<$($life $(, $of: $bound)?)?> Clone for $name {
                 fn clone(&self) -> Self {
                     crate::plain::plain(self.try_clone())

@@ -1,4 +1,4 @@
-//! Vectors of small values that are kept as bytes and read in place.
+//! Vectors of small values that are stored as bytes and read in place.
 //!
 //! ```
 //! use bekstaudi::zerovec::ZeroVec;
@@ -23,10 +23,10 @@ plain_clone! {
 }
 
 impl<T: AsULE> ZeroVec<'_, T> {
-    /// [`try_into_owned`](Self::try_into_owned), plainly.
+    /// Returns a vector that owns its bytes, and borrows them no longer.
     ///
     /// # Panics
-    /// Where memory was refused.
+    /// Panics if an allocation fails; [`try_into_owned`](Self::try_into_owned) returns an error then.
     pub fn into_owned(self) -> ZeroVec<'static, T> {
         plain(self.try_into_owned())
     }
@@ -39,7 +39,7 @@ impl<T: AsULE> Default for ZeroVec<'_, T> {
 }
 
 /// # Panics
-/// Where memory was refused; [`ZeroVec::alloc_from_iter`] answers it.
+/// Panics if an allocation fails; [`ZeroVec::alloc_from_iter`] returns an error then.
 impl<T: AsULE> FromIterator<T> for ZeroVec<'_, T> {
     fn from_iter<I: IntoIterator<Item = T>>(values: I) -> Self {
         plain(ZeroVec::alloc_from_iter(values.into_iter()))

@@ -27,7 +27,7 @@ pub trait Cells<T> {
     /// An implementation can override this to read without a bounds check.
     ///
     /// # Panics
-    /// Where there is no such cell.
+    /// Panics if there is no such cell.
     #[inline]
     fn index_at(&mut self, i: usize) -> u16 {
         match self.index_cell(i) {
@@ -41,7 +41,7 @@ pub trait Cells<T> {
     /// An implementation can override this to read without a bounds check.
     ///
     /// # Panics
-    /// Where there is no such cell.
+    /// Panics if there is no such cell.
     #[inline]
     fn data_at(&mut self, i: usize) -> T {
         match self.data_cell(i) {

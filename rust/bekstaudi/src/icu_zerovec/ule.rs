@@ -19,7 +19,7 @@ pub trait AsULE: Copy {
     /// length `WIDTH`.
     ///
     /// # Panics
-    /// Where there are fewer than `WIDTH` bytes.
+    /// Panics if there are fewer than `WIDTH` bytes.
     fn from_unaligned(bytes: &[u8]) -> Option<Self>;
 
     /// Does nothing. In a proof, it states that `self` is a value of the type.

@@ -1,9 +1,9 @@
-//! Vectors and texts that answer want of memory, by Rust's own `try_reserve`.
+//! Vectors and strings that report failed allocations, by Rust's own `try_reserve`.
 
 use alloc::string::String;
 use alloc::vec::Vec;
 
-/// Memory was refused.
+/// An allocation failed.
 #[derive(Clone, Copy, Debug, PartialEq, Eq, Hash)]
 pub struct AllocError;
 
@@ -15,7 +15,7 @@ impl core::fmt::Display for AllocError {
 
 impl core::error::Error for AllocError {}
 
-/// Memory was refused for a value, which is given back.
+/// An allocation for a value failed. The value is given back.
 #[derive(Debug)]
 pub struct AllocFailed<T>(pub T);
 
@@ -33,39 +33,39 @@ impl<T> From<AllocFailed<T>> for AllocError {
     }
 }
 
-/// What may make a vector grow.
+/// The methods of a vector that allocate.
 pub(crate) trait TryVec<T>: Sized {
-    /// A vector with room for so many values.
+    /// Returns a vector with capacity for `count` values.
     fn with_room(count: usize) -> Result<Self, AllocError>;
 
-    /// A vector of copies of these values.
+    /// Returns a vector of copies of these values.
     fn from_slice(values: &[T]) -> Result<Self, AllocError>
     where
         T: Clone;
 
-    /// A vector of so many copies of a value.
+    /// Returns a vector of `count` copies of a value.
     fn from_elem(value: T, count: usize) -> Result<Self, AllocError>
     where
         T: Clone;
 
-    /// Room for so many values more.
+    /// Reserves capacity for `more` values.
     fn try_room(&mut self, more: usize) -> Result<(), AllocError>;
 
-    /// Room for so many values more, and for no others.
+    /// Reserves capacity for exactly `more` values.
     fn try_exact_room(&mut self, more: usize) -> Result<(), AllocError>;
 
-    /// Adds a value, which is given back where there is no room.
+    /// Appends a value, or gives it back.
     fn try_push(&mut self, value: T) -> Result<(), AllocFailed<T>>;
 
-    /// Puts a value in at a place, or gives it back.
+    /// Inserts a value at a position, or gives it back.
     fn try_insert(&mut self, place: usize, value: T) -> Result<(), AllocFailed<T>>;
 
-    /// Adds copies of these values.
+    /// Appends copies of these values.
     fn try_extend_from_slice(&mut self, values: &[T]) -> Result<(), AllocError>
     where
         T: Clone;
 
-    /// Cuts the vector to so many values, or adds copies of one.
+    /// Truncates the vector to `count` values, or appends copies of one.
     fn try_resize(&mut self, count: usize, value: T) -> Result<(), AllocError>
     where
         T: Clone;
@@ -148,18 +148,18 @@ impl<T> TryVec<T> for Vec<T> {
     }
 }
 
-/// What may make a text grow.
+/// The methods of a string that allocate.
 pub(crate) trait TryString: Sized {
-    /// A copy of the text.
+    /// Returns a copy of the text.
     fn from_str(text: &str) -> Result<Self, AllocError>;
 
-    /// A text with room for so many bytes.
+    /// Returns a string with capacity for so many bytes.
     fn with_room(bytes: usize) -> Result<Self, AllocError>;
 
-    /// Adds a character.
+    /// Appends a character.
     fn try_push(&mut self, c: char) -> Result<(), AllocError>;
 
-    /// Adds a text.
+    /// Appends a text.
     fn try_push_str(&mut self, text: &str) -> Result<(), AllocError>;
 }
 
@@ -189,7 +189,7 @@ impl TryString for String {
     }
 }
 
-/// A vector of so many copies of a value, or of these values.
+/// A vector of copies of one value, or of these values.
 macro_rules! try_vec {
     ($value:expr; $count:expr) => {
         <Vec<_> as $crate::support::memory::TryVec<_>>::from_elem($value, $count)

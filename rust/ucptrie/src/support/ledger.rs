@@ -1,11 +1,11 @@
-//! Ledgers count steps in proofs alone. Here they are empty types, and nothing is counted.
+//! Ledgers count steps in proofs. Here they are empty types, and nothing is counted.
 
 use core::marker::PhantomData;
 
-/// What a count belongs to.
+/// The identity of a count.
 pub trait Ledger {}
 
-/// The ledger of a count that nobody asks for.
+/// The ledger of a count that nobody reads.
 pub struct Brand;
 
 impl Ledger for Brand {}
@@ -20,13 +20,13 @@ pub struct Book<L>(PhantomData<L>);
 pub struct Share<L>(PhantomData<L>);
 
 impl Blank {
-    /// A blank book. Its number of shares is of proofs alone.
+    /// Returns a blank book. Only proofs use the number of shares.
     #[inline(always)]
     pub fn new(_shares: usize) -> Blank {
         Blank
     }
 
-    /// The book, and its share.
+    /// Returns the book and its share.
     #[inline(always)]
     pub fn open<L: Ledger>(self) -> (Book<L>, Share<L>) {
         (Book(PhantomData), Share(PhantomData))

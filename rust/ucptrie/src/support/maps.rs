@@ -1,13 +1,13 @@
-//! Maps that answer want of memory, and stay as they were where it is refused.
+//! Maps that report failed allocations, and are then unchanged.
 
 use super::memory::{AllocError, TryVec};
 use alloc::vec::Vec;
 use core::borrow::Borrow;
 
-/// How many entries a part of a sorted map has at most.
+/// The largest number of entries in a part of a sorted map.
 const PART: usize = 128;
 
-/// A map in the order of its keys: sorted parts of few entries, one after another. No part is
+/// A map that is sorted by its keys: sorted parts of few entries, one after another. No part is
 /// empty.
 #[derive(Debug)]
 pub struct BTreeMap<K, V> {
@@ -16,7 +16,7 @@ pub struct BTreeMap<K, V> {
 }
 
 impl<K: Ord, V> BTreeMap<K, V> {
-    /// A map without entries. It takes no memory.
+    /// Returns an empty map. Does not allocate.
     pub fn new() -> Self {
         BTreeMap {
             parts: Vec::new(),
@@ -24,7 +24,7 @@ impl<K: Ord, V> BTreeMap<K, V> {
         }
     }
 
-    /// The part in which the key stands, or would stand.
+    /// Returns the part that contains the key, or would.
     fn part_of<Q: Ord + ?Sized>(&self, key: &Q) -> usize
     where
         K: Borrow<Q>,
@@ -36,7 +36,7 @@ impl<K: Ord, V> BTreeMap<K, V> {
         above.saturating_sub(1)
     }
 
-    /// The part and the place of a key, as `Err` where it would be put in.
+    /// Returns the part and the position of a key, or as `Err` those where it would be inserted.
     fn place_of<Q: Ord + ?Sized>(&self, key: &Q) -> Result<(usize, usize), (usize, usize)>
     where
         K: Borrow<Q>,
@@ -51,7 +51,7 @@ impl<K: Ord, V> BTreeMap<K, V> {
         }
     }
 
-    /// Whether the key is there.
+    /// Returns whether the map contains the key.
     pub fn contains_key<Q: Ord + ?Sized>(&self, key: &Q) -> bool
     where
         K: Borrow<Q>,
@@ -59,7 +59,7 @@ impl<K: Ord, V> BTreeMap<K, V> {
         self.place_of(key).is_ok()
     }
 
-    /// The value of a key.
+    /// Returns the value of a key.
     pub fn get<Q: Ord + ?Sized>(&self, key: &Q) -> Option<&V>
     where
         K: Borrow<Q>,
@@ -68,7 +68,7 @@ impl<K: Ord, V> BTreeMap<K, V> {
         Some(&self.parts[part][place].1)
     }
 
-    /// Halves a part that is full, or makes the first one.
+    /// Splits a full part into halves, or makes the first part.
     fn split(&mut self, part: usize) -> Result<(), AllocError> {
         self.parts.try_room(1)?;
         let mut upper = Vec::with_room(PART)?;
@@ -81,7 +81,7 @@ impl<K: Ord, V> BTreeMap<K, V> {
         Ok(())
     }
 
-    /// Puts an entry in, and answers the value that stood there.
+    /// Inserts an entry, and returns the value that the key had.
     pub fn try_insert(&mut self, key: K, value: V) -> Result<Option<V>, AllocError> {
         let (mut part, mut place) = match self.place_of(&key) {
             Ok((part, place)) => {
@@ -97,23 +97,23 @@ impl<K: Ord, V> BTreeMap<K, V> {
                 place -= PART / 2;
             }
         }
-        // Each part has room for PART entries since it was made.
+        // Each part was made with a capacity of PART entries.
         self.parts[part].insert(place, (key, value));
         self.count += 1;
         Ok(None)
     }
 
-    /// How many entries there are.
+    /// Returns the number of entries.
     pub fn len(&self) -> usize {
         self.count
     }
 
-    /// Whether there is no entry.
+    /// Returns whether the map is empty.
     pub fn is_empty(&self) -> bool {
         self.count == 0
     }
 
-    /// The entries, by ascending keys.
+    /// Returns the entries, by ascending keys.
     pub fn iter(&self) -> impl Iterator<Item = (&K, &V)> {
         self.parts.iter().flatten().map(|(key, value)| (key, value))
     }
@@ -144,7 +144,7 @@ impl<'a, K, V> Iterator for Entries<'a, K, V> {
     }
 }
 
-/// A map whose keys are hashes already: open places, at most half of them taken.
+/// A map whose keys are hashes already: open addressing, at most half full.
 #[derive(Debug)]
 pub struct HashMap<K, V> {
     places: Vec<Option<(K, V)>>,
@@ -152,7 +152,7 @@ pub struct HashMap<K, V> {
 }
 
 impl<K: Copy + Eq + Into<u64>, V> HashMap<K, V> {
-    /// A map without entries. It takes no memory.
+    /// Returns an empty map. Does not allocate.
     pub fn new() -> Self {
         HashMap {
             places: Vec::new(),
@@ -160,7 +160,7 @@ impl<K: Copy + Eq + Into<u64>, V> HashMap<K, V> {
         }
     }
 
-    /// The place of a key, or the open one where it would stand. There are places, and open ones.
+    /// Returns the position of a key, or the free one where it would be. At least one is free.
     fn place_of(places: &[Option<(K, V)>], key: K) -> usize {
         let mixed = key.into().wrapping_mul(0x9E37_79B9_7F4A_7C15) >> 32;
         let mut place = mixed as usize & (places.len() - 1);
@@ -170,7 +170,7 @@ impl<K: Copy + Eq + Into<u64>, V> HashMap<K, V> {
         place
     }
 
-    /// The value of a key.
+    /// Returns the value of a key.
     pub fn get(&self, key: &K) -> Option<&V> {
         if self.places.is_empty() {
             return None;
@@ -179,7 +179,7 @@ impl<K: Copy + Eq + Into<u64>, V> HashMap<K, V> {
         Some(&self.places[place].as_ref()?.1)
     }
 
-    /// Twice as many places, 16 at least.
+    /// Doubles the capacity, to at least 16.
     fn grow(&mut self) -> Result<(), AllocError> {
         let count = (self.places.len() * 2).max(16);
         let mut wider = Vec::with_room(count)?;
@@ -192,7 +192,7 @@ impl<K: Copy + Eq + Into<u64>, V> HashMap<K, V> {
         Ok(())
     }
 
-    /// Puts an entry in, in the place of another one of its key.
+    /// Inserts an entry, or replaces that of its key.
     pub fn try_insert(&mut self, key: K, value: V) -> Result<(), AllocError> {
         if self.count * 2 >= self.places.len() {
             self.grow()?;
