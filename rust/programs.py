@@ -59,7 +59,7 @@ EDITS = {
         (r"(name|about): &'a str", r"\1: &'static str", 2),
         (r"(\.arg\(arg_of\(row\)\))\?", r"\1", 1),
         (r"(\.subcommand\(command_of\(.*\)\?\))\?", r"\1", 1),
-        (r"(fn \w+)<'a>", r"\1", 5),
+        (r"(fn \w+)<'a>", r"\1", 7),
     ],
     "ucptrie_tables/fault": [
         (r"(?s)        if error\.is_memory\(\) \{.*?\n        \}\n", "", 1),

@@ -162,12 +162,19 @@ const COMMANDS: [(&str, &str, &[Argument]); 5] = [
     ),
 ];
 
-/// The argument's values: how many, what they are called, and what stands for none.
-fn with_values(argument: Arg, row: &Argument) -> Arg {
-    argument
-        .value_names(row.value_name)
-        .value_parser(row.values)
-        .default_values(row.default)
+/// Sets what help calls the argument's value.
+fn with_value_name(argument: Arg, row: &Argument) -> Arg {
+    argument.value_names(row.value_name)
+}
+
+/// Sets what the argument's value has to be.
+fn with_value_parser(argument: Arg, row: &Argument) -> Arg {
+    argument.value_parser(row.values)
+}
+
+/// Sets the value that the argument has if it is left out.
+fn with_default(argument: Arg, row: &Argument) -> Arg {
+    argument.default_values(row.default)
 }
 
 /// The argument by its place among the words.
@@ -184,7 +191,9 @@ fn arg_of(row: &Argument) -> Arg {
     let argument = Arg::new(row.id)
         .required(row.required)
         .help(row.help);
-    placed(with_values(argument, row), row)
+    let named = with_value_name(argument, row);
+    let tested = with_value_parser(named, row);
+    placed(with_default(tested, row), row)
 }
 
 /// A command that takes these arguments.

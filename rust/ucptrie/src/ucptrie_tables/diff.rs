@@ -54,32 +54,53 @@ pub fn differences(
     Ok(found)
 }
 
-/// Appends the line of a range, `HEX..HEX;N;M`, or `HEX;N;M` where it is one code point.
+/// Appends a number in at least four hexadecimal digits, and two dots.
+fn push_dotted(text: &mut String, n: u32) -> Result<(), AllocError> {
+    write!(text, "{n:04X}..")
+}
+
+/// Appends the end of a line: a number in at least four hexadecimal digits, and two values.
+fn push_values(text: &mut String, n: u32, values: (u32, u32)) -> Result<(), AllocError> {
+    let (first, second) = values;
+    writeln!(text, "{n:04X};{first};{second}")
+}
+
+/// Appends the line of a range, `HEX..HEX;A;B`, or `HEX;A;B` if it is one code point.
 fn push_difference(
     text: &mut String,
     difference: &CodePointMapRange<(u32, u32)>,
 ) -> Result<(), AllocError> {
     let (start, end) = (*difference.range.start(), *difference.range.end());
-    let (first, second) = difference.value;
     if start < end {
-        write!(text, "{start:04X}..")?;
+        push_dotted(text, start)?;
+        push_values(text, end, difference.value)
+    } else {
+        push_values(text, end, difference.value)
     }
-    writeln!(text, "{end:04X};{first};{second}")
 }
 
-/// The lines of the ranges in which two tries differ, in order; and behind them, as a comment, the
-/// two error values where they differ.
+/// Appends the line of the two error values if they differ: a comment, as in `ucptab`'s form.
+fn push_errors(text: &mut String, first: u32, second: u32) -> Result<(), AllocError> {
+    if first != second {
+        writeln!(text, "# above 10FFFF;{first};{second}")?;
+    }
+    Ok(())
+}
+
+/// Returns the lines of the ranges in which two tries differ, in order, and then, as a comment, the
+/// two error values if they differ.
+///
+/// # Errors
+/// Returns [`AllocError`] if an allocation fails.
 pub fn differences_text(
     first: &CodePointTrie<'_, u32>,
     second: &CodePointTrie<'_, u32>,
 ) -> Result<String, AllocError> {
     let mut text = String::new();
-    for difference in &differences(first, second)? {
+    let found = differences(first, second)?;
+    for difference in &found {
         push_difference(&mut text, difference)?;
     }
-    let (first, second) = (first.error_value(), second.error_value());
-    if first != second {
-        writeln!(text, "# above 10FFFF;{first};{second}")?;
-    }
+    push_errors(&mut text, first.error_value(), second.error_value())?;
     Ok(text)
 }

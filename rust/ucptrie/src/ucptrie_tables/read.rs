@@ -69,28 +69,52 @@ fn table_of_json(text: &str) -> Result<Table, ReadFault> {
     })
 }
 
-/// The TOML table of the trie that a property in a file of ICU's icuexportdata has, or that stands
-/// there itself, as in what it writes for normalization.
-fn property_trie(property: &toml::Value) -> Option<&toml::value::Table> {
-    let property = match property.as_array() {
-        Some(properties) => properties.first()?,
-        None => property,
-    };
-    let table = property.as_table()?;
-    match table.get("code_point_trie") {
-        Some(trie) => trie.as_table(),
-        None => table.get("index").map(|_index| table),
+/// The value at a key.
+fn value_at<'a>(table: &'a toml::value::Table, key: &str) -> Option<&'a toml::Value> {
+    table.get(key)
+}
+
+/// The first of the properties at a key: icuexportdata writes an array of them.
+fn first_property(property: &toml::Value) -> Option<&toml::Value> {
+    match property.as_array() {
+        Some(properties) => properties.first(),
+        None => Some(property),
     }
+}
+
+/// The TOML table of the trie that a property's table has, or that it is itself, as in what
+/// icuexportdata writes for normalization.
+fn trie_of_table(property: &toml::value::Table) -> Option<&toml::value::Table> {
+    match value_at(property, "code_point_trie") {
+        Some(trie) => trie.as_table(),
+        None => value_at(property, "index").map(|_index| property),
+    }
+}
+
+/// The TOML table of the trie that the properties at a key of icuexportdata's file have.
+fn trie_of_property(property: &toml::Value) -> Option<&toml::value::Table> {
+    let first = first_property(property)?;
+    let table = first.as_table()?;
+    trie_of_table(table)
 }
 
 /// The TOML table of a trie: that of the first property which has one, and else the whole file.
 fn trie_table(file: &toml::value::Table) -> &toml::value::Table {
     for property in file.values() {
-        if let Some(table) = property_trie(property) {
+        if let Some(table) = trie_of_property(property) {
             return table;
         }
     }
     file
+}
+
+/// The width of the first array of data that a TOML table has.
+fn width_of(read: &CodePointTrieToml) -> ValueWidth {
+    match read.data_slice() {
+        Ok(CodePointDataSlice::U8(_)) => ValueWidth::Bits8,
+        Ok(CodePointDataSlice::U16(_)) => ValueWidth::Bits16,
+        Ok(CodePointDataSlice::U32(_)) | Err(_) => ValueWidth::Bits32,
+    }
 }
 
 /// The table in TOML.
@@ -101,12 +125,17 @@ fn table_of_toml(text: &str) -> Result<Table, ReadFault> {
     };
     let read = CodePointTrieToml::from_table(trie_table(&file))?;
     let trie = CodePointTrie::try_from(&read)?;
-    let width = match read.data_slice() {
-        Ok(CodePointDataSlice::U8(_)) => ValueWidth::Bits8,
-        Ok(CodePointDataSlice::U16(_)) => ValueWidth::Bits16,
-        Ok(CodePointDataSlice::U32(_)) | Err(_) => ValueWidth::Bits32,
-    };
+    let width = width_of(&read);
     Ok(Table { trie, width })
+}
+
+/// The table in JSON or in TOML.
+fn table_of_text(text: &str) -> Result<Table, ReadFault> {
+    if text.trim_start().starts_with('{') {
+        table_of_json(text)
+    } else {
+        table_of_toml(text)
+    }
 }
 
 /// The table that a file has, whose form is told by its first bytes: ICU's binary form, in either
@@ -126,9 +155,5 @@ pub fn read_table(file: &[u8]) -> Result<Table, ReadFault> {
     let Ok(text) = str::from_utf8(file) else {
         return Err(ReadFault::Text);
     };
-    if text.trim_start().starts_with('{') {
-        table_of_json(text)
-    } else {
-        table_of_toml(text)
-    }
+    table_of_text(text)
 }

@@ -14,14 +14,14 @@ use crate::ucptab_table::text::{answers_text, ranges_text};
 
 /// What the header says.
 const HEADER: &str = "\
-# type: @
-# value width: % bits
-# high start: %
-# shifted12 high start: %
-# index3 null offset: %
-# data null offset: %
-# null value: %
-# error value: %
+type: @
+value width: % bits
+high start: %
+shifted12 high start: %
+index3 null offset: %
+data null offset: %
+null value: %
+error value: %
 ";
 
 /// Appends what the header says.
@@ -41,9 +41,9 @@ fn push_header(text: &mut String, table: &Table) -> Result<(), AllocError> {
 
 /// How many cells there are, and whether the header can be trusted.
 const CELLS: &str = "\
-# index cells: %, bound %
-# data cells: %, bound %
-# coherent: @
+index cells: %, bound %
+data cells: %, bound %
+coherent: @
 ";
 
 /// Appends how many cells the table has, each count with the bound on it, and whether the header
@@ -65,6 +65,29 @@ fn push_cells(text: &mut String, table: &Table) -> Result<(), AllocError> {
     push_pattern(text, CELLS, coherent, &numbers)
 }
 
+/// What a table is, in lines.
+fn about(table: &Table) -> Result<String, AllocError> {
+    let mut about = String::new();
+    push_header(&mut about, table)?;
+    push_cells(&mut about, table)?;
+    Ok(about)
+}
+
+/// Appends a comment: `# `, the text and a line feed.
+fn push_comment(text: &mut String, comment: &str) -> Result<(), AllocError> {
+    writeln!(text, "# {comment}")
+}
+
+/// Appends each line that ends with a line feed as a comment.
+fn push_comments(text: &mut String, lines: &str) -> Result<(), AllocError> {
+    let mut rest = lines;
+    while let Some((line, others)) = rest.split_once('\n') {
+        push_comment(text, line)?;
+        rest = others;
+    }
+    Ok(())
+}
+
 /// What the table is: the fields of its header, how many cells it has beside the bounds that a
 /// built trie of its values keeps, and whether its header can be trusted, each in a comment of
 /// `ucptab`'s form; and then its ranges, in rows of that form. So the whole text is a table again.
@@ -72,9 +95,9 @@ fn push_cells(text: &mut String, table: &Table) -> Result<(), AllocError> {
 /// # Errors
 /// `AllocError` where memory was refused.
 pub fn shown(table: &Table) -> Result<String, AllocError> {
+    let about = about(table)?;
     let mut text = String::new();
-    push_header(&mut text, table)?;
-    push_cells(&mut text, table)?;
+    push_comments(&mut text, &about)?;
     let ranges = ranges_text(&table.trie)?;
     text.try_push_str(&ranges)?;
     Ok(text)
