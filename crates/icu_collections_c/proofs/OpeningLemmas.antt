@@ -1,4 +1,4 @@
--- Where index and data stand of a trie that bytes begin with, and what is kept of it.
+-- Where the index and the data of a trie are in bytes, and what the fields of the trie are.
 use Rattle.std.proofs.Common.{◌≡◌, ◌∙◌, refl, sym, ap, subst, ℕ, ◌+◌, ◌-◌, ◌*◌, ◌/◌, ◌%◌, ◌≤◌, Bool, true, false, List, length, take, drop, Option, Some, arith}
 use Rattle.std.specs.Prelude.{Result, Ok, Err, nat_eq, nat_lt, if◌then◌else◌}
 use Rattle.std.proofs.lemmas.Bool.{eqb-true, ltb-false}
@@ -20,7 +20,7 @@ use Rattle.icu_collections_c.specs.BytesTrie.{IsSoundOf, cells_of, parts_of, typ
 use Rattle.icu_collections_c.specs.Opening.{IsOpened}
 use Rattle.icu_collections_c.proofs.CellLemmas.{length-values_of}
 
--- a header h that was read, whose trie takes n of the bytes
+-- A header h that was read, whose trie takes n of the bytes.
 record Reads {H : Type 0} (width_of stored : H → ℕ) (w : ℕ) (b : List ℕ) (h : H) (n : ℕ) : Type 0 where
   width : width_of h ≡ w
   within : stored h ≤ length b
@@ -35,7 +35,7 @@ module _ {H : Type 0} where
   second_of (Ok p) n = p.1
   second_of (Err e) n = n
 
-  -- what is answered by two tests
+  -- The result of two tests.
   abbrev tests : Bool → Bool → H × ℕ → Result (H × ℕ) BinaryError
   tests x y p = if x then (if y then Err CutOff else Ok p) else Err OtherWidth
 
@@ -57,7 +57,7 @@ module _ {H : Type 0} where
   reads_of (Err x) width_of stored w n b h e = cc
   reads_of (Ok g) width_of stored w n b h e = tested width_of stored _ _ g h n w b refl refl e
 
--- the index and the values in n bytes, by how many cells the index has
+-- The index and the values in n bytes, by how many cells the index has.
 pub record Places {T : Type 0} (unpack : List ℕ → Option T) (w : ℕ) (b index : List ℕ) (values : List T) (n : ℕ) : Type 0 where
   pub within : 16 + 2 * length index ≤ n
   pub fits : n ≤ length b
@@ -93,19 +93,25 @@ module _ {T : Type 0} (unpack : List ℕ → Option T) (w : ℕ) (number : T →
         values_read = rw (left, far) (ap (λ d. values_of unpack w (take (data_size h) d)) (sym past) ∙ sym has);
       }
 
--- what is kept is the trie that was found
+-- The trie that C gets is the one that was found.
 pub opened-kept : (width : ℕ) (b : List ℕ) (kept : Trie) (t : Parts ℕ) (n : ℕ) → value_width width ≡ width → IsUnsignedStored width b t n
-    → parts_of width kept ≡ t → IsSoundOf width kept → kept.width ≡ width → kept.size ≡ n → IsOpened b kept
-opened-kept width b kept t n one stored parts sound is many =
+    → parts_of width kept ≡ t → IsSoundOf width kept → kept.fast_limit ≡ fast_limit t.header.trie_type
+    → kept.width ≡ width → kept.size ≡ n → IsOpened b kept
+opened-kept width b kept t n one stored parts sound limit is many =
     let P : ℕ → Type 0 = λ k. IsSoundOf k kept in
-    record { width = rw is one; stored = rw (is, parts, many) stored; sound = subst P (sym is) sound }
+    record {
+      width = rw is one;
+      limit = limit ∙ ap (λ (p : Parts ℕ). fast_limit p.header.trie_type) (sym parts);
+      stored = rw (is, parts, many) stored;
+      sound = subst P (sym is) sound;
+    }
 
--- the type of a trie is told by its fast limit
+-- The fast limit determines the type of a trie.
 pub type-of_limit : (kind : TrieType) → type_of (fast_limit kind) ≡ kind
 type-of_limit Fast = refl
 type-of_limit Small = refl
 
--- a trie is told by its parts
+-- Its parts determine a trie.
 pub parts-told : {T : Type 0} (unpack : List ℕ → Option T) (w : ℕ) (header : CodePointTrieHeader) (index values : List ℕ) (t : Parts T)
     → header ≡ t.header → cells_of 2 index ≡ t.index
     → values_of unpack w values ≡ t.values

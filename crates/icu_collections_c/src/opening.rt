@@ -1,5 +1,6 @@
-//! Tries from ICU's binary form.
+//! Opening tries in ICU's binary form.
 ghost use Rattle.std.specs.Prelude.{◌≡◌, ◌≢◌, ◌-◌, ◌≤◌, IfOk, IfErr, drop, length, take};
+ghost use Rattle.icu_trie_core.specs.Format.{fast_limit};
 ghost use Rattle.icu_trie_binary.specs.BinaryTrie.{IsStored, IsWhyNoneStored};
 ghost use Rattle.icu_collections_c.specs.BytesTrie.{IsNoTrie, IsSound, parts_in};
 ghost use Rattle.icu_collections_c.specs.Opening.{IsOpened, IsRefused, parts_status, status_of};
@@ -10,7 +11,7 @@ use icu_trie::cptrie::CodePointTrie;
 use icu_trie_binary::binary::{AnyWidthTrie, BinaryError, from_binary_any};
 use icu_trie_core::error::CodePointTrieError;
 
-/// The number of a fault of a trie's parts.
+/// Returns the status number of a fault in the parts of a trie.
 fn parts_status(error: CodePointTrieError) -> u32
     ensures { result ≡ parts_status error }
 {
@@ -23,7 +24,7 @@ fn parts_status(error: CodePointTrieError) -> u32
     }
 }
 
-/// The number of a fault of bytes.
+/// Returns the status number of a fault in the bytes.
 fn status_of(error: BinaryError) -> u32
     ensures { result ≡ status_of error }
 {
@@ -41,7 +42,7 @@ fn status_of(error: BinaryError) -> u32
     }
 }
 
-/// No trie: all its values are 0.
+/// Returns a trie without cells, whose numbers are all 0. Each of its values is 0.
 fn no_trie<'a>(bytes: &'a [u8]) -> Trie<'a>
     ensures { IsNoTrie result }
 {
@@ -59,7 +60,7 @@ fn no_trie<'a>(bytes: &'a [u8]) -> Trie<'a>
     }
 }
 
-/// The bytes from behind a header to `start`, and those from there to `end`.
+/// Splits the bytes after a header into those before `start` and those from there to `end`.
 #[inline(always)]
 fn parts_between(bytes: &[u8], start: usize, end: usize) -> (&[u8], &[u8])
     requires from { 16 ≤ start }
@@ -71,7 +72,7 @@ fn parts_between(bytes: &[u8], start: usize, end: usize) -> (&[u8], &[u8])
     (&bytes[16..start], &bytes[start..end])
 }
 
-/// The trie that was found at the front of the bytes, as C keeps it.
+/// Returns the trie that was found at the start of the bytes, as C sees it.
 fn kept<'a, T: UnsignedValue>(
     bytes: &'a [u8],
     trie: &CodePointTrie<'_, T>,
@@ -81,6 +82,7 @@ fn kept<'a, T: UnsignedValue>(
     requires { IsStored T.unpack T.WIDTH T.number T.of_number bytes.now trie.now size }
     ensures parts { parts_in T.unpack T.WIDTH result ≡ trie.now }
     ensures sound { IsSound T.of_number T.unpack T.WIDTH result }
+    ensures limit { result.fast_limit ≡ fast_limit trie.now.header.trie_type }
     ensures width { result.width ≡ width }
     ensures size { result.size ≡ size }
 {
@@ -100,7 +102,7 @@ fn kept<'a, T: UnsignedValue>(
     }
 }
 
-/// The trie that the bytes begin with.
+/// Opens the trie at the start of the bytes.
 fn opened(bytes: &[u8]) -> Result<Trie<'_>, BinaryError>
     ensures ok { IfOk result (IsOpened bytes.now) }
     ensures err { IfErr result (IsWhyNoneStored bytes.now) }
@@ -113,8 +115,11 @@ fn opened(bytes: &[u8]) -> Result<Trie<'_>, BinaryError>
     })
 }
 
-/// Opens the trie that the bytes begin with (`ucptrie_openFromBinary`, with either type and any
-/// width): 0, and `trie` is it; or the number of the first fault, and `trie` is no trie.
+/// Opens the trie at the start of the bytes, of either type and any width. Returns 0 and stores the
+/// trie in `trie`. If there is none, returns the number of the first fault and stores a trie
+/// without cells.
+///
+/// ICU: `ucptrie_openFromBinary`.
 #[unsafe(no_mangle)]
 pub extern "C" fn bks_trie_open<'a>(bytes: &'a [u8], trie: &mut Trie<'a>) -> u32
     ensures ok { result ≡ 0 → IsOpened bytes.now trie.new }

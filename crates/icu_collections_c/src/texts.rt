@@ -1,5 +1,5 @@
-//! Tries over bytes: the values of a text's characters, and of the code points of 16-bit units.
-ghost use Rattle.std.specs.Prelude.{◌≡◌, ◌<◌, ◌≤◌, length, map, slice_set, unwrap_or};
+//! The values of the characters of a UTF-8 text, and of the code points of 16-bit units.
+ghost use Rattle.std.specs.Prelude.{◌≡◌, ℕ, pos, ◌<◌, ◌≤◌, length, map, slice_set, unwrap_or};
 ghost use Rattle.std.specs.Str.{IsUtf8, chars};
 ghost use Rattle.icu_trie.specs.Parts.{trie_value};
 ghost use Rattle.icu_trie_text.specs.Utf16.{code_points_of};
@@ -11,7 +11,7 @@ use crate::cells::UnsignedValue;
 use crate::tries::{Trie, header_of, value_of};
 use icu_trie_text::first_utf16::first_code_point;
 
-/// Writes the value at place `i`, if there is one.
+/// Writes the value at index `i` if the slice has that index.
 #[inline(always)]
 fn put<T: UnsignedValue>(values: &mut [T], i: usize, value: T)
     ensures within { i < length values.old → values.new ≡ slice_set values.old i value }
@@ -22,8 +22,8 @@ fn put<T: UnsignedValue>(values: &mut [T], i: usize, value: T)
     }
 }
 
-/// Writes the values of a text's characters into the front of a buffer, as many as it has room for,
-/// and `none` where the trie has no cell; answers how many characters there are.
+/// Writes the values of the characters of a text to the start of a buffer, as many as fit, and
+/// returns how many characters there are. The value is `none` if the trie has no cell at all.
 #[inline(always)]
 fn write_text<T: UnsignedValue>(trie: &Trie<'_>, text: &str, values: &mut [T], none: T) -> usize
     ensures count { result ≡ length (chars text.now) }
@@ -43,8 +43,8 @@ fn write_text<T: UnsignedValue>(trie: &Trie<'_>, text: &str, values: &mut [T], n
     count
 }
 
-/// Writes the values of the code points of 16-bit units into the front of a buffer, as many as it
-/// has room for, and `none` where the trie has no cell; answers how many code points there are.
+/// Writes the values of the code points of 16-bit units to the start of a buffer, as many as fit,
+/// and returns how many code points there are. The value is `none` if the trie has no cell at all.
 #[inline(always)]
 fn write_units<T: UnsignedValue>(trie: &Trie<'_>, units: &[u16], values: &mut [T], none: T) -> usize
     ensures count { result ≡ length (code_points_of units.now) }
@@ -66,15 +66,17 @@ fn write_units<T: UnsignedValue>(trie: &Trie<'_>, units: &[u16], values: &mut [T
     count
 }
 
-/// The values of the characters of a UTF-8 text in a trie of 8 bits, in order: how many characters
-/// there are, and as many values in the buffer as there is room for.
+/// Writes the values of the characters of a UTF-8 text, in a trie of 8-bit values, to the start of
+/// a buffer, as many as fit. Returns how many characters there are, which is never above the size
+/// of the text in bytes.
 ///
 /// # Errors
-/// -3 where the text is no UTF-8. The buffer is then unchanged.
+/// Returns -3 if the text is not UTF-8. The buffer is then unchanged.
 #[unsafe(no_mangle)]
 pub extern "C" fn bks_trie8_get_utf8(trie: &Trie<'_>, text: &[u8], values: &mut [u8]) -> i64
-    ensures { AnswersText (IsUtf8 text.now) (map (value_at 1 trie.now) (chars text.now))
+    ensures values { AnswersText (IsUtf8 text.now) (map (value_at 1 trie.now) (chars text.now))
         values.old values.new result }
+    ensures bound { (n : ℕ) → result ≡ pos n → n ≤ length text.now }
 {
     match str::from_utf8(text) {
         Ok(text) => write_text(trie, text, values, 0) as i64,
@@ -82,11 +84,17 @@ pub extern "C" fn bks_trie8_get_utf8(trie: &Trie<'_>, text: &[u8], values: &mut 
     }
 }
 
-/// The same of 16 bits.
+/// Writes the values of the characters of a UTF-8 text, in a trie of 16-bit values, to the start of
+/// a buffer, as many as fit. Returns how many characters there are, which is never above the size
+/// of the text in bytes.
+///
+/// # Errors
+/// Returns -3 if the text is not UTF-8. The buffer is then unchanged.
 #[unsafe(no_mangle)]
 pub extern "C" fn bks_trie16_get_utf8(trie: &Trie<'_>, text: &[u8], values: &mut [u16]) -> i64
-    ensures { AnswersText (IsUtf8 text.now) (map (value_at 2 trie.now) (chars text.now))
+    ensures values { AnswersText (IsUtf8 text.now) (map (value_at 2 trie.now) (chars text.now))
         values.old values.new result }
+    ensures bound { (n : ℕ) → result ≡ pos n → n ≤ length text.now }
 {
     match str::from_utf8(text) {
         Ok(text) => write_text(trie, text, values, 0) as i64,
@@ -94,11 +102,17 @@ pub extern "C" fn bks_trie16_get_utf8(trie: &Trie<'_>, text: &[u8], values: &mut
     }
 }
 
-/// The same of 32 bits.
+/// Writes the values of the characters of a UTF-8 text, in a trie of 32-bit values, to the start of
+/// a buffer, as many as fit. Returns how many characters there are, which is never above the size
+/// of the text in bytes.
+///
+/// # Errors
+/// Returns -3 if the text is not UTF-8. The buffer is then unchanged.
 #[unsafe(no_mangle)]
 pub extern "C" fn bks_trie32_get_utf8(trie: &Trie<'_>, text: &[u8], values: &mut [u32]) -> i64
-    ensures { AnswersText (IsUtf8 text.now) (map (value_at 4 trie.now) (chars text.now))
+    ensures values { AnswersText (IsUtf8 text.now) (map (value_at 4 trie.now) (chars text.now))
         values.old values.new result }
+    ensures bound { (n : ℕ) → result ≡ pos n → n ≤ length text.now }
 {
     match str::from_utf8(text) {
         Ok(text) => write_text(trie, text, values, 0) as i64,
@@ -106,10 +120,14 @@ pub extern "C" fn bks_trie32_get_utf8(trie: &Trie<'_>, text: &[u8], values: &mut
     }
 }
 
-/// The values of the code points of 16-bit units in a trie of 8 bits, in order (U16_NEXT): how many
-/// code points there are, and as many values in the buffer as there is room for. A high surrogate
-/// and the low surrogate after it are one code point, and each other unit is one by itself, a
-/// surrogate without a partner too.
+/// Writes the values of the code points of 16-bit units, in a trie of 8-bit values, to the start of
+/// a buffer, as many as fit. Returns how many code points there are, which is never above the
+/// number of units.
+///
+/// A high surrogate and the low surrogate after it are one code point. Each other unit is a code
+/// point of its own, even an unpaired surrogate.
+///
+/// ICU: `U16_NEXT` and `ucptrie_get` in a loop.
 #[unsafe(no_mangle)]
 pub extern "C" fn bks_trie8_get_utf16(trie: &Trie<'_>, text: &[u16], values: &mut [u8]) -> usize
     ensures count { result ≡ length (code_points_of text.now) }
@@ -120,7 +138,14 @@ pub extern "C" fn bks_trie8_get_utf16(trie: &Trie<'_>, text: &[u16], values: &mu
     write_units(trie, text, values, 0)
 }
 
-/// The same of 16 bits.
+/// Writes the values of the code points of 16-bit units, in a trie of 16-bit values, to the start
+/// of a buffer, as many as fit. Returns how many code points there are, which is never above the
+/// number of units.
+///
+/// A high surrogate and the low surrogate after it are one code point. Each other unit is a code
+/// point of its own, even an unpaired surrogate.
+///
+/// ICU: `U16_NEXT` and `ucptrie_get` in a loop.
 #[unsafe(no_mangle)]
 pub extern "C" fn bks_trie16_get_utf16(trie: &Trie<'_>, text: &[u16], values: &mut [u16]) -> usize
     ensures count { result ≡ length (code_points_of text.now) }
@@ -131,7 +156,14 @@ pub extern "C" fn bks_trie16_get_utf16(trie: &Trie<'_>, text: &[u16], values: &m
     write_units(trie, text, values, 0)
 }
 
-/// The same of 32 bits.
+/// Writes the values of the code points of 16-bit units, in a trie of 32-bit values, to the start
+/// of a buffer, as many as fit. Returns how many code points there are, which is never above the
+/// number of units.
+///
+/// A high surrogate and the low surrogate after it are one code point. Each other unit is a code
+/// point of its own, even an unpaired surrogate.
+///
+/// ICU: `U16_NEXT` and `ucptrie_get` in a loop.
 #[unsafe(no_mangle)]
 pub extern "C" fn bks_trie32_get_utf16(trie: &Trie<'_>, text: &[u16], values: &mut [u32]) -> usize
     ensures count { result ≡ length (code_points_of text.now) }

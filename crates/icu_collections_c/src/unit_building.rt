@@ -1,4 +1,4 @@
-//! Unit tries that are built of entries.
+//! Building unit tries from entries.
 ghost use Rattle.std.specs.Prelude.{◌≡◌, ◌↔◌, ◌≤◌, IsTrue, IfOk, IfErr, OnOk, All, [], length, sum};
 ghost use Rattle.icu_char16trie.specs.Grammar.{IsTrieOf};
 ghost use Rattle.icu_char16trie_builder.specs.Entries.{most_units};
@@ -16,15 +16,15 @@ const LONGEST_KEY: usize = 65_535;
 /// Why no unit trie is built.
 #[derive(Clone, Copy)]
 pub(crate) enum Refusal {
-    /// There is another number of values than of keys, or the keys have more units than there are.
+    /// The number of values is not the number of keys, or there are fewer units than the keys need.
     Entries,
     /// A key has too many units.
     LongKey,
-    /// Two entries have one key.
+    /// Two entries have the same key.
     SameKey,
-    /// The entries may take too many units.
+    /// The entries might take too many units.
     TooLarge,
-    /// Memory was refused.
+    /// An allocation failed.
     Memory,
 }
 
@@ -56,7 +56,7 @@ impl From<BuildError> for Refusal {
     }
 }
 
-/// Whether so many units are enough for keys of these lengths.
+/// Returns whether `count` units are enough for keys of these lengths.
 #[tactic(auto, using(crate::proofs::UnitBuildingLemmas::sum_drop_more))]
 fn has_units(count: usize, lengths: &[usize]) -> bool
     ensures { IsTrue result ↔ (sum lengths.now ≤ count) }
@@ -71,14 +71,14 @@ fn has_units(count: usize, lengths: &[usize]) -> bool
     true
 }
 
-/// Whether no key is too long.
+/// Returns whether no key is too long.
 fn are_short(lengths: &[usize]) -> bool
     ensures { IsTrue result ↔ All (λ n. n ≤ 65535) lengths.now }
 {
     lengths.iter().all(|length| *length <= LONGEST_KEY)
 }
 
-/// Adds the entries, the first one first: the next so many units are the key of each.
+/// Adds the entries in their order. The key of each entry is the next `length` units of `keys`.
 fn add_entries(
     builder: &mut Char16TrieBuilder,
     keys: &[u16],
@@ -103,7 +103,7 @@ fn add_entries(
     Ok(())
 }
 
-/// A trie of the entries.
+/// Builds a unit trie from the entries.
 fn built(
     alloc: Global,
     keys: &[u16],
@@ -117,6 +117,8 @@ fn built(
         (λ trie. IsTrieOf trie (map_of (entries_of keys.now lengths.now values.now))) }
     ensures bound { IfOk result
         (λ trie. length trie ≤ most_units (map_of (entries_of keys.now lengths.now values.now))) }
+    ensures fits { OnOk result
+        (most_units (map_of (entries_of keys.now lengths.now values.now)) ≤ 0x7FFF_FFFF) }
     ensures room { IfOk result (λ trie. length trie ≤ 0x7FFF_FFFF) }
     ensures err { IfErr result (IsWhyNotBuilt keys.now lengths.now values.now) }
 {
@@ -131,17 +133,25 @@ fn built(
     Ok(builder.build()?)
 }
 
-/// Builds a unit trie of entries, in any order (UCharsTrieBuilder: add and buildUnicodeString): how
-/// many bytes its units take, two a unit, and these bytes in the buffer where there is room for all
-/// of them. Entry `i` has the next `lengths[i]` units of `keys` as its key, which may be none, and
-/// `values[i]`. With U units in the keys of E entries it takes at most 4 U + 32 E bytes, and none
-/// where there is no entry.
+/// Builds a unit trie from entries, in any order, and returns how many bytes its units take, two
+/// for each unit. The bytes are in the buffer if all of them fit; otherwise the buffer is
+/// unchanged.
+///
+/// The key of entry `i` is the next `lengths[i]` units of `keys`, which may be none, and its value
+/// is `values[i]`. If the keys of E entries have U units, the unit trie takes at most 4 U + 32 E
+/// bytes, and none if there is no entry.
+///
+/// ICU: `UCharsTrieBuilder::add` and `buildUnicodeString`.
 ///
 /// # Errors
-/// -8 where there is another number of values than of lengths, or the keys have more units than
-/// there are in `keys`; else -9 where a key has more than 65,535 units; else -10 where two entries
-/// have one key; else -7 where 2 U + 16 E is above 0x7FFFFFFF; -1 where memory was refused, which
-/// may come before -10 and -7. The buffer is then unchanged.
+/// Returns the first of these that applies, and leaves the buffer unchanged:
+///
+/// - -8 if `values` and `lengths` have different lengths, or the keys need more units than `keys`
+///   has
+/// - -9 if a key has more than 65,535 units
+/// - -10 if two entries have the same key
+/// - -7 if 2 U + 16 E is above 0x7FFFFFFF
+/// - -1 if an allocation fails, which may come before -10 and -7
 #[unsafe(no_mangle)]
 pub extern "C" fn bks_units_build(
     alloc: Global,

@@ -1,6 +1,8 @@
--- Index and data are where the header says.
+-- The index and the data are where the header says.
 use Rattle.std.proofs.Common.{◌≡◌, ◌∙◌, ◌+◌, ◌-◌, ◌*◌, ◌%◌, ap, arith, length, take, drop}
 use Rattle.icu_zerovec.specs.Cells.{values_of}
+use Rattle.icu_trie_core.specs.Format.{fast_limit}
+use Rattle.icu_trie_core.specs.declared.header.CodePointTrieHeader.{CodePointTrieHeader}
 use Rattle.icu_trie.specs.Parts.{Parts, parts_fault}
 use Rattle.icu_collections_c.specs.BytesTrie.{cells_of}
 use Rattle.icu_collections_c.proofs.OpeningLemmas.{parts-told, places-stored, type-of_limit}
@@ -30,6 +32,10 @@ returns-clause-parts g c =
     (ap (cells_of 2) c.parts_between.ensures.index ∙ ap (λ n. cells_of 2 (take (16 + 2 * n - 16) (drop 16 bytes))) count ∙ at.index_read)
     (ap (values_of read width) c.parts_between.ensures.values
     ∙ ap (λ n. values_of read width (take (c.args.size - (16 + 2 * n)) (drop (16 + 2 * n) bytes))) count ∙ at.values_read)
+
+pub returns-clause-limit : goal.returns-clause-limit
+returns-clause-limit g c =
+    c.fast_limit.ensures.limit ∙ ap (λ (h : CodePointTrieHeader). fast_limit h.trie_type) c.parts.ensures.header
 
 pub returns-clause-sound : goal.returns-clause-sound
 returns-clause-sound g c =
