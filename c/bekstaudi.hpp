@@ -1,9 +1,9 @@
-// bekstaudi.hpp: bekstaudi.h in C++17, as classes by value.
+// bekstaudi.hpp: bekstaudi.h in C++17, as classes that are passed by value.
 //
-// Tries are views: what they read stays in the bytes that they were made over. A set owns its ends.
-// What C answers by a number below 0 is thrown here: std::bad_alloc, or one of the errors below. But
-// that no key begins a text, or that units are no trie, is an empty optional.
-// Link with -lbekstaudi.
+// Tries and unit tries are views: what they read stays in the bytes that they were made over. A set
+// owns its boundaries. If a function of bekstaudi.h returns a negative number, the class throws
+// std::bad_alloc or one of the errors below. If no key is a prefix of a text, or units are not a
+// trie, the result is an empty optional. Link with -lbekstaudi.
 #ifndef BEKSTAUDI_HPP
 #define BEKSTAUDI_HPP
 
@@ -27,7 +27,7 @@
 
 namespace bekstaudi {
 
-// The bytes are no trie of the wanted width: status() is the first fault.
+// Thrown if the bytes are not a trie of the wanted width. status() is the first fault.
 class trie_refused : public std::invalid_argument {
 public:
     explicit trie_refused(bks_status status)
@@ -38,14 +38,15 @@ private:
     bks_status status_;
 };
 
-// The ends are those of no set, or the bytes of a text, as far as they are read, are no UTF-8.
+// Thrown if the numbers are not the boundaries of a set, or if the bytes of a text, as far as they
+// are read, are not UTF-8.
 class set_refused : public std::invalid_argument {
 public:
     using std::invalid_argument::invalid_argument;
 };
 
-// Items that lie one after another, of a container or an array: std::span<const T> of C++20, as far
-// as it is needed here.
+// Consecutive items of a container or an array, like std::span<const T> of C++20, with only what is
+// needed here.
 template <class T>
 class view {
 public:
@@ -58,7 +59,7 @@ public:
     constexpr std::size_t size() const noexcept { return size_; }
 
 private:
-    // C wants a pointer that is not NULL, also beside a size of 0.
+    // The functions of bekstaudi.h take no NULL pointer, not even with a size of 0.
     static constexpr T none{};
     const T *data_;
     std::size_t size_;
@@ -66,8 +67,8 @@ private:
 
 namespace detail {
 
-// Whether what an object shows stays where it is when the object is gone, as it does for a view and
-// not for a container: so tries are made over temporaries of views alone.
+// Whether the items of an object stay in place after the object is gone. They do for a view, and
+// not for a container. So only temporaries of views may be opened as tries.
 #ifdef __cpp_lib_ranges
 template <class C>
 inline constexpr bool outlived = std::ranges::enable_borrowed_range<C>;
@@ -80,20 +81,20 @@ inline constexpr bool outlived<std::basic_string_view<Unit, Traits>> = true;
 template <class T>
 inline constexpr bool outlived<view<T>> = true;
 
-// A temporary container.
+// Enabled for a temporary container.
 template <class C>
 using if_temporary =
     std::enable_if_t<!outlived<C>, decltype(std::data(std::declval<const C &>()))>;
 
-// What a call answers, or the error that it tells.
+// Returns the count that a function returned, or throws the error that it reports.
 inline std::size_t answered(std::int64_t answer, const char *refused) {
     if (answer == BKS_NO_MEMORY) throw std::bad_alloc();
     if (answer < 0) throw set_refused(refused);
     return static_cast<std::size_t>(answer);
 }
 
-// A front of the text that ends where a character does, if the text is UTF-8: of so many bytes, or of
-// up to three fewer.
+// Returns a prefix of the text that ends at a character boundary, if the text is UTF-8. It has
+// `size` bytes or up to three fewer.
 inline std::string_view front_of(std::string_view text, std::size_t size) {
     if (size >= text.size()) return text;
     std::size_t end = size;
@@ -101,8 +102,9 @@ inline std::string_view front_of(std::string_view text, std::size_t size) {
     return text.substr(0, end);
 }
 
-// The longest front of a text that a call finds. Since a call tests all bytes that it is given, it
-// is given a short front of the text first, and one of twice as many bytes while that is all found.
+// Returns the longest prefix of a text that a call finds. Since a call validates all bytes that it
+// gets, it gets a short prefix of the text first, and one of twice as many bytes as long as all of
+// it is found.
 template <class Call>
 std::string_view span_of(std::string_view text, Call call) {
     for (std::size_t size = 64;; size *= 2) {
@@ -112,8 +114,8 @@ std::string_view span_of(std::string_view text, Call call) {
     }
 }
 
-// The ends that a call writes, which is asked again with more room where there are more than
-// `room`.
+// Returns the boundaries that a call writes. The call is made again with a larger buffer if there
+// are more than `room`.
 template <class Call>
 std::vector<std::uint32_t> ends_of(std::size_t room, const char *refused, Call call) {
     std::vector<std::uint32_t> ends(room ? room : 1);
@@ -128,13 +130,14 @@ std::vector<std::uint32_t> ends_of(std::size_t room, const char *refused, Call c
 
 }  // namespace detail
 
-// A set of code points, by the list of its ends (ICU: UnicodeSet).
+// A set of code points, stored as the list of its boundaries (ICU: UnicodeSet).
 class code_point_set {
 public:
-    // The empty set.
+    // Makes the empty set.
     code_point_set() = default;
 
-    // The set with these ends: {0x41, 0x5B} is A to Z. Throws set_refused where they are no set's.
+    // Makes the set with these boundaries: {0x41, 0x5B} is A to Z. Throws set_refused if they are
+    // not the boundaries of a set.
     explicit code_point_set(view<std::uint32_t> ends)
         : ends_(ends.data(), ends.data() + ends.size()) {
         if (!bks_set_test(ends.data(), ends.size()))
@@ -150,14 +153,14 @@ public:
         return bks_set_contains(of().data(), ends_.size(), c);
     }
 
-    // How many code points it holds, surrogates among them.
+    // Returns how many code points the set contains, surrogates included.
     std::size_t size() const {
         return detail::answered(bks_set_size(of().data(), ends_.size()), "bekstaudi: no set");
     }
 
-    // The longest front of a UTF-8 text whose characters the set holds, or, where `held` is false,
-    // doesn't hold. No more of the text is read than 64 bytes, or four times the front. Throws
-    // set_refused where that is no UTF-8.
+    // Returns the longest prefix of a UTF-8 text whose characters are all in the set or, if `held`
+    // is false, all not in it. It reads no more of the text than 64 bytes, or four times the
+    // prefix. Throws set_refused if that part is not UTF-8.
     std::string_view span(std::string_view text, bool held = true) const {
         return detail::span_of(text, [&](view<char> bytes) {
             return bks_set_span(of().data(), ends_.size(), bytes.data(), bytes.size(), held);
@@ -204,13 +207,14 @@ private:
     std::vector<std::uint32_t> ends_;
 };
 
-// A set of code points for many look-ups, of two reads each (ICU: a frozen UnicodeSet). A move copies
-// its words too, so no set is ever without them.
+// A set of code points for many look-ups, of two reads each (ICU: a frozen UnicodeSet). A move
+// copies its words too, so no frozen set is ever without words.
 class frozen_set {
 public:
     explicit frozen_set(const code_point_set &set) {
         view<std::uint32_t> ends(set.ends());
-        // An end lies in one block, which has four words of its own then; and eight are shared.
+        // A boundary is in one block, which then has four words of its own. Eight more words are
+        // shared.
         std::size_t needed = 1088 + 8 + 4 * ends.size();
         if (needed > BKS_FROZEN_MOST) needed = BKS_FROZEN_MOST;
         do {
@@ -224,12 +228,13 @@ public:
     frozen_set(const frozen_set &) = default;
     frozen_set &operator=(const frozen_set &) = default;
 
-    // The words, as bks_set_freeze has them: to be stored, or asked from C.
+    // Returns the words, in the layout of bks_set_freeze: store them, or pass them to C.
     const std::vector<std::uint64_t> &words() const noexcept { return words_; }
 
     bool contains(std::uint32_t c) const noexcept { return bks_frozen_has(words_.data(), c); }
 
-    // As that of code_point_set, without memory.
+    // Returns the longest prefix of a UTF-8 text whose characters are all in the set or, if `held`
+    // is false, all not in it. Like code_point_set::span, but it allocates nothing.
     std::string_view span(std::string_view text, bool held = true) const {
         return detail::span_of(text, [&](view<char> bytes) {
             return bks_frozen_span(words_.data(), words_.size(), bytes.data(), bytes.size(), held);
@@ -249,7 +254,7 @@ class trie {
                   "the values of a trie have 8, 16 or 32 bits");
 
 public:
-    // Opens the trie that the bytes begin with. Throws trie_refused where there is none, or one of
+    // Opens the trie at the start of the bytes. Throws trie_refused if there is none, or one of
     // another width (BKS_OTHER_WIDTH).
     trie(const void *bytes, std::size_t size) {
         auto status = static_cast<bks_status>(bks_open(&trie_, bytes ? bytes : "", size));
@@ -263,11 +268,12 @@ public:
     template <class C, class = detail::if_temporary<C>>
     explicit trie(const C &&bytes) = delete;
 
-    // The trie as C has it, and how many of the bytes it takes.
+    // Return the trie as C sees it, and how many of the bytes it takes.
     const bks_trie &as_c() const noexcept { return trie_; }
     std::size_t size_bytes() const noexcept { return trie_.size; }
 
-    // The value of c; above 0x10FFFF the error value.
+    // Returns the value of c, and the error value if c is above 0x10FFFF. Inline, as bks_get8,
+    // bks_get16 or bks_get32 (ICU: ucptrie_get).
     Value operator[](std::uint32_t c) const noexcept {
         if constexpr (sizeof(Value) == 1)
             return bks_get8(&trie_, c);
@@ -277,17 +283,18 @@ public:
             return bks_get32(&trie_, c);
     }
 
-    // Whether ranges are the longest runs of equal values, as in every trie that ICU or this
-    // library built.
+    // Returns whether the ranges are the longest runs of equal values, as in every trie that ICU or
+    // this library built.
     bool is_coherent() const noexcept { return bks_trie_is_coherent(&trie_); }
 
-    // The range of one value from c on; none above 0x10FFFF, and where the trie lacks a cell.
+    // Returns the range of one value that starts at c (ICU: ucptrie_getRange). There is none above
+    // 0x10FFFF, or if the trie lacks a cell.
     std::optional<bks_range> range(std::uint32_t c) const noexcept {
         bks_range found = bks_trie_range(&trie_, c);
         return found.found ? std::optional<bks_range>(found) : std::nullopt;
     }
 
-    // All ranges, in order: for (const bks_range &range : trie) ..
+    // Iterates over all ranges, in order: for (const bks_range &range : trie) ..
     class iterator {
     public:
         using iterator_category = std::input_iterator_tag;
@@ -309,7 +316,7 @@ public:
             ++*this;
             return before;
         }
-        // Two that are at their end are equal, and others where they stand at the same range.
+        // Two iterators at the end are equal. Others are equal if they are at the same range.
         friend bool operator==(const iterator &a, const iterator &b) noexcept {
             if (a.is_at_end() || b.is_at_end()) return a.is_at_end() == b.is_at_end();
             return a->first == b->first;
@@ -317,7 +324,7 @@ public:
         friend bool operator!=(const iterator &a, const iterator &b) noexcept { return !(a == b); }
 
     private:
-        // How many ranges are asked for at once.
+        // How many ranges are fetched at once.
         static constexpr std::size_t room = 32;
 
         void ask(std::uint32_t c) noexcept {
@@ -333,7 +340,7 @@ public:
     iterator begin() const noexcept { return iterator(trie_); }
     iterator end() const noexcept { return iterator(); }
 
-    // The code points in ranges of this value.
+    // Returns the set of the code points in ranges of this value.
     code_point_set set_of(Value value) const {
         code_point_set set;
         auto call = [&](std::uint32_t *ends, std::size_t room) {
@@ -347,19 +354,20 @@ private:
     bks_trie trie_;
 };
 
-// The bytes of a trie of the rows in ICU's binary form, as bks_trie_build has them. Throws
-// row_refused.
+// Thrown by build if no trie can be built from the rows.
 class row_refused : public std::invalid_argument {
 public:
     explicit row_refused(bks_refusal refusal)
         : std::invalid_argument("bekstaudi: no trie of these rows"), refusal_(refusal) {}
-    // BKS_WIDE_VALUE: a value has more bits than the trie's; BKS_TOO_LARGE.
+    // Returns BKS_WIDE_VALUE if a value has more bits than the trie's, or BKS_TOO_LARGE.
     bks_refusal refusal() const noexcept { return refusal_; }
 
 private:
     bks_refusal refusal_;
 };
 
+// Returns the bytes of a trie built from the rows in ICU's binary form, as bks_trie_build writes
+// them. Throws row_refused.
 template <class Value>
 std::vector<std::uint8_t> build(view<bks_row> rows, std::uint32_t default_value = 0,
                                 std::uint32_t error_value = 0, bks_type type = BKS_FAST) {
@@ -375,13 +383,13 @@ std::vector<std::uint8_t> build(view<bks_row> rows, std::uint32_t default_value 
     }
 }
 
-// The entries make no unit trie.
+// Thrown if no unit trie can be built from the entries.
 class entries_refused : public std::invalid_argument {
 public:
     explicit entries_refused(bks_refusal refusal)
         : std::invalid_argument("bekstaudi: no unit trie of these entries"), refusal_(refusal) {}
-    // BKS_LONG_KEY; BKS_SAME_KEY: two entries have one key; BKS_WIDE_VALUE: a value is no number of
-    // 32 bits with a sign; BKS_TOO_LARGE.
+    // Returns BKS_LONG_KEY; BKS_SAME_KEY if two entries have the same key; BKS_WIDE_VALUE if a
+    // value is not a signed 32-bit number; or BKS_TOO_LARGE.
     bks_refusal refusal() const noexcept { return refusal_; }
 
 private:
@@ -389,10 +397,11 @@ private:
 };
 
 // A map from keys of 16-bit units to numbers (ICU: UCharsTrie). The units, two bytes each, have to
-// stay where they are, unchanged, while it or a copy of it is used. Any bytes are answered.
+// stay where they are, unchanged, while it or a copy of it is used. Any bytes are accepted.
 class unit_trie {
 public:
-    // The front of a text that is a key: its size in the items of the text, and its value.
+    // A prefix of a text that is a key: its size in the items of the text (units or bytes), and its
+    // value.
     struct match {
         std::size_t size;
         std::int32_t value;
@@ -407,8 +416,9 @@ public:
     template <class C, class = detail::if_temporary<C>>
     explicit unit_trie(const C &&units) = delete;
 
-    // The units of a trie of entries in any order, as bks_units_build has them: of a map, or of any
-    // other range of pairs of a key, in UTF-16, and a whole number. Throws entries_refused.
+    // Returns the units of a trie built from entries in any order, as bks_units_build writes them.
+    // The entries are a map, or any other range of pairs of a key, in UTF-16, and an integer.
+    // Throws entries_refused.
     template <class Entries>
     static std::vector<std::uint8_t> build(const Entries &entries) {
         std::u16string keys;
@@ -433,7 +443,7 @@ public:
         return bytes;
     }
 
-    // How many entries there are, at most 2^63 - 1; none where the units are no trie.
+    // Returns how many entries there are, at most 2^63 - 1, or nothing if the units are not a trie.
     std::optional<std::uint64_t> count() const {
         std::int64_t answer = bks_units_count(units_.data(), units_.size());
         if (answer == BKS_NO_MEMORY) throw std::bad_alloc();
@@ -441,9 +451,9 @@ public:
                           : std::optional<std::uint64_t>(static_cast<std::uint64_t>(answer));
     }
 
-    // All entries in unit order, each key as UTF-8, with a lone surrogate as U+FFFD. Few units of a
-    // stranger can have very many entries: ask count() first. Throws std::length_error where that is
-    // more than any memory holds.
+    // Returns all entries in unit order, each key as UTF-8, with each lone surrogate as U+FFFD. A
+    // few untrusted units can have very many entries: call count() first. Throws std::length_error
+    // if there are more than any memory can hold.
     std::vector<std::pair<std::string, std::int32_t>> entries() const {
         std::vector<bks_word> words(1);
         std::string texts(1, '\0');
@@ -469,7 +479,8 @@ public:
         return all;
     }
 
-    // The value of a key; none where it is not there.
+    // Returns the value of a key, or nothing if it is not there (ICU: UCharsTrie::reset, next and
+    // getValue).
     std::optional<std::int32_t> operator[](std::u16string_view key) const noexcept {
         std::int32_t value = 0;
         view<std::uint16_t> units = units_of(key);
@@ -478,7 +489,7 @@ public:
         return found ? std::optional<std::int32_t>(value) : std::nullopt;
     }
 
-    // The longest key that begins a text of UTF-16; none where no key does.
+    // Returns the longest key that is a prefix of a UTF-16 text, or nothing if no key is.
     std::optional<match> longest(std::u16string_view text) const noexcept {
         std::int32_t value = 0;
         view<std::uint16_t> units = units_of(text);
@@ -488,8 +499,9 @@ public:
         return match{static_cast<std::size_t>(size), value};
     }
 
-    // The same of UTF-8. All of the text is tested first, so that it takes time for all of it: give
-    // no more of a long one than the longest key has. Throws set_refused where it is no UTF-8.
+    // Returns the longest key that is a prefix of a UTF-8 text, or nothing if no key is. All of the
+    // text is validated first, which takes time for all of it: of a long text, pass no more than
+    // the longest key takes. Throws set_refused if the text is not UTF-8.
     std::optional<match> longest(std::string_view text) const {
         std::int32_t value = 0;
         view<char> bytes(text);
@@ -500,7 +512,7 @@ public:
         return match{static_cast<std::size_t>(size), value};
     }
 
-    // Goes unit by unit from the root (UCharsTrie::next, getValue).
+    // Moves unit by unit from the root (ICU: UCharsTrie::next, getValue).
     class cursor {
     public:
         explicit cursor(const unit_trie &trie) noexcept : units_(trie.units_) {}
@@ -520,7 +532,7 @@ public:
     };
 
 private:
-    // Whether a whole number is one of 32 bits with a sign.
+    // Returns whether an integer is a signed 32-bit number.
     template <class Number>
     static constexpr bool is_of_32_bits(Number number) noexcept {
         static_assert(std::is_integral_v<Number>, "the values of a unit trie are whole numbers");

@@ -1,4 +1,4 @@
--- What is answered of a set, by what is answered of its ends.
+-- The return value for a set, from the return value for its boundaries.
 use Rattle.std.proofs.Common.{◌≡◌, sym, subst, ℕ, zero, suc, List}
 use Rattle.std.specs.Prelude.{ℤ, pos, negsuc}
 use Rattle.icu_collections_c.specs.Answers.{AnswersEnds}

@@ -1,4 +1,4 @@
--- How many bytes a trie of so many rows takes at most.
+-- The most bytes that a trie of so many rows takes.
 use Rattle.std.proofs.Common.{◌≡◌, ap, subst, sym, ◌∙◌, ℕ, ◌+◌, ◌*◌, ◌%◌, ◌<◌, ◌≤◌, Bool, true, false, cond, ◌&&◌, List, [], ◌∷◌, length, arith, min, Option, length-append}
 use Rattle.std.specs.Prelude.{nat_eq}
 use Rattle.std.proofs.Math.Nat.{mul-le-mul_left}
@@ -40,7 +40,7 @@ padding-one : (width cells : ℕ) → length (padding width cells) ≤ 1
 padding-one width cells = one_cell 0xffee (nat_eq width 4 && nat_eq (cells % 2) 1)
 
 module _ {T : Type 0} (number : T → ℕ) (d : T) (ws : List (Write T)) where
-  -- so many writes leave few different ones of so many blocks
+  -- So many writes leave few different blocks among so many.
   few-blocks : (n k first blocks : ℕ) → length ws ≤ n → 0 < k
       → count_different (block_of k (λ c. number (value_after ws d c))) first blocks ≤ most_blocks n blocks
   few-blocks n k first blocks l pos =
@@ -58,7 +58,7 @@ module _ {T : Type 0} (number : T → ℕ) (d : T) (ws : List (Write T)) where
   few-index Fast n cells l h = index-below cells _ _ h (few-blocks n 512 128 2048 l (omega arith))
   few-index Small n cells l h = index-below cells _ _ h (few-blocks n 512 8 2168 l (omega arith))
 
-  -- a trie that is well built of the writes of rows takes no more bytes than those rows may
+  -- A trie that is well built from the writes of rows takes no more bytes than those rows may.
   pub size-of_rows : (rows : List Row) → AreWritesOf number rows ws → (of_number : ℕ → Option T) (t : Parts T) (kind : TrieType)
       → t.header.trie_type ≡ kind
       → IsWellBuilt of_number (λ c. number (value_after ws d c)) t

@@ -1,4 +1,4 @@
--- A buffer that is filled from its front.
+-- A buffer that is filled from its start.
 use Rattle.std.proofs.Common.{◌≡◌, refl, ap, ℕ, zero, suc, ◌+◌, ◌<◌, ◌≤◌, ◌∙◌, min, List, [], ◌∷◌, ◌++◌, length, take, drop, get_or, add-one, arith, inl, inr}
 use Rattle.std.specs.Prelude.{map}
 use Rattle.std.proofs.Math.ListN.{set}
@@ -14,12 +14,12 @@ module _ {A B : Type 0} (f : A → B) where
   fill_suc (x ∷ xs) (y ∷ ys) zero d l m = refl
   fill_suc (x ∷ xs) (y ∷ ys) (suc i) d l m = ap (λ zs. f x ∷ zs) (fill_suc xs ys i d (omega arith) (omega arith))
 
-  -- one more item is written
+  -- One more item is written.
   pub filled_more : (xs : List A) (ys : List B) (i : ℕ) (d : A) → i < length xs → i < length ys
       → set (map f (take i xs) ++ drop i ys) i (f (get_or xs i d)) ≡ map f (take (i + 1) xs) ++ drop (i + 1) ys
   filled_more xs ys i d l m = rw add-one (fill_suc xs ys i d l m)
 
-  -- all are written for which there is room
+  -- All items that fit are written.
   pub filled_all : (xs : List A) (ys : List B) (n : ℕ) → n ≡ min (length xs) (length ys)
       → map f (take n xs) ++ drop n ys ≡ written (map f xs) ys
   filled_all xs ys n e = elim (cases_lt (length ys) (length xs)) [
@@ -32,7 +32,7 @@ module _ {A B : Type 0} (f : A → B) where
         rw (many, take_all (length xs) xs (omega arith), length-map xs f, take_all (length ys) (map f xs) (rw (length-map xs f) h)) refl
   ]
 
-  -- one more item is written, if there is room for it
+  -- One more item is written if it fits.
   pub filled_next : (xs : List A) (ys vs new : List B) (n : ℕ) (d : A) → n < length xs → length vs ≡ length ys
       → vs ≡ map f (take (min n (length ys)) xs) ++ drop (min n (length ys)) ys
       → (n < length vs → new ≡ set vs n (f (get_or xs n d))) → (length vs ≤ n → new ≡ vs)

@@ -1,4 +1,4 @@
--- Rows and the writes that they stand for, and the trie that a builder makes of these in the form that is stored.
+-- Rows and their writes, and the stored form of the trie that a builder makes from them.
 use Rattle.std.proofs.Common.{◌≡◌, ◌∙◌, refl, sym, ap, subst, ℕ, ◌^◌, ◌*◌, ◌<◌, ◌≤◌, Bool, true, false, cond, ◌&&◌, nat_le, List, [], ◌∷◌, length, map, Option, Some, None, Result, Ok, Err, arith, inl, inr, ◌⊎◌}
 use Rattle.std.specs.Prelude.{nat_lt, slice_get, option_map, unwrap_or, All, IfErr, IfOk, IsSome}
 use Rattle.std.specs.List.{count_by}
@@ -82,7 +82,7 @@ value-stored width number f e t of u = by (nat_le u 0x10FFFF) refl
         let l : 0x10FFFF < u = grind (arith, nat_tests) in
         ap (λ o. option_or o (last_cell t.values)) (answer-above _ _ _ u l) ∙ error-of-map f e t of
 
--- ---- what is built of the writes, by the rows
+-- ---- what is built from the writes, by the rows
 module _ {T : Type 0} (number : T → ℕ) (rows : List Row) (ws : List (Write T)) (is : AreWritesOf number rows ws)
     (d e : T) (default error : ℕ) (d-is : number d ≡ default) (e-is : number e ≡ error) where
   row_value-of : (c : ℕ) → row_value rows default c ≡ number (value_after ws d c)
@@ -107,14 +107,14 @@ module _ {T : Type 0} (number : T → ℕ) (rows : List Row) (ws : List (Write T
       answers = λ u. ap (option_map number) (value-stored width number (value_after ws d) e t of u) ∙ row_answer-of u;
     }
 
-  -- a trie that is well built of the writes' map is so of the rows'
+  -- A trie that is well built from the writes' map is well built from the rows' map.
   pub well-of_rows : (of_number : ℕ → Option T) (t : Parts T) → IsWellBuilt of_number (λ c. number (value_after ws d c)) t
       → IsWellBuilt of_number (row_value rows default) t
   well-of_rows of_number t well =
       let same : (λ c. number (value_after ws d c)) ≡ row_value rows default = λ i c. sym (row_value-of c) i in
       subst (λ f. IsWellBuilt of_number f t) same well
 
-  -- a map that is refused for its size is that of the rows, which are many
+  -- A map that is rejected for its size is the map of the rows, of which there are many.
   pub too_large-of_rows : IsTooLarge (λ c. number (value_after ws d c)) → (count_by (is_accepted) ws ≤ 256 → ⊥)
       → (256 < length rows) × IsTooLarge (row_value rows default)
   too_large-of_rows large many =

@@ -7,7 +7,7 @@ use Rattle.std.proofs.lemmas.List.{drop-drop}
 use Rattle.std.proofs.lemmas.Option.{slice_get_past}
 use Rattle.icu_zerovec.specs.Cells.{cell, values_from, values_of}
 
--- ---- a value in front of others
+-- ---- a value before others
 front-get : {T : Type 0} (o : Option T) (xs : List T) → IsSome o → slice_get (option_to_list o ++ xs) zero ≡ o
 front-get None xs h = cc
 front-get (Some x) xs h = refl
@@ -32,16 +32,16 @@ module _ {T : Type 0} (f : List ℕ → Option T) (w : ℕ) (every : (c : List �
       front-later _ _ i (every (take w b)) ∙ get-values_from (drop w b) n i (omega arith)
       ∙ ap (λ c. f (take w c)) (drop-drop (i * w) w b ∙ ap (λ k. drop k b) (omega (arith, suc-mul i w)))
 
-  -- there are as many values as whole cells
+  -- There are as many values as whole cells.
   pub length-values_of : (b : List ℕ) → length (values_of f w b) ≡ length b / w
   unfolding values_of
   length-values_of b = length-values_from b (length b / w)
 
-  -- value i is that of cell i
+  -- Value i is the value of cell i.
   pub get-values_of : (b : List ℕ) (i : ℕ) → i < length b / w → slice_get (values_of f w b) i ≡ f (cell w b i)
   unfolding values_of
   get-values_of b i l = get-values_from b (length b / w) i l
 
-  -- past the cells is nothing
+  -- There is nothing past the cells.
   pub get_past-values_of : (b : List ℕ) (i : ℕ) → length b / w ≤ i → slice_get (values_of f w b) i ≡ None
   get_past-values_of b i l = slice_get_past _ i (rw (length-values_of b) l)

@@ -1,4 +1,4 @@
--- The form that a built trie is stored in is coherent.
+-- The stored form of a built trie is coherent.
 use Rattle.std.proofs.Common.{◌≡◌, ◌∙◌, refl, sym, ap, ℕ, zero, suc, ◌+◌, ◌*◌, ◌/◌, ◌%◌, ◌<◌, ◌≤◌, inl, inr, List, [], ◌∷◌, ◌++◌, length, slice_get, Option, Some, None, arith}
 use Rattle.std.specs.Option.{option_and_then}
 use Rattle.std.proofs.lemmas.Bool.{cases_lt, lt-ltb, le-ltb}
@@ -24,7 +24,7 @@ keeps_cell [] behind i x e = absurd (cc)
 keeps_cell (c ∷ index) behind zero x e = e
 keeps_cell (c ∷ index) behind (suc i) x e = keeps_cell index behind i x e
 
--- the cell that a cell leads to stays too
+-- The cell that a cell leads to stays too.
 keeps_second : (index behind : List ℕ) (i j x : ℕ) → option_and_then (λ block. slice_get index (block + j)) (slice_get index i) ≡ Some x
     → option_and_then (λ block. slice_get (index ++ behind) (block + j)) (slice_get (index ++ behind) i) ≡ Some x
 keeps_second index behind i j x e = by (slice_get index i) refl e
@@ -38,7 +38,7 @@ keeps_index2 : (kind : TrieType) (index behind : List ℕ) (u x : ℕ) → index
     → index2_cell kind (index ++ behind) u ≡ Some x
 keeps_index2 kind index behind u x e = keeps_second index behind (u / 0x4000 + index1_start kind) (u / 0x200 % 32) x e
 
--- no cell stands behind the data
+-- There is no cell after the data.
 outside : {T : Type 0} (values : List T) (offset r : ℕ) (x : T) → length values ≤ offset → slice_get values (offset + r) ≡ Some x → ⊥
 outside values offset r x far e =
     let none : slice_get values (offset + r) ≡ None = slice_get_past values (offset + r) (omega (arith, far)) in
@@ -63,7 +63,7 @@ module _ {T : Type 0} (h : CodePointTrieHeader) (index : List ℕ) (values : Lis
   unfolding small_offset
   no_offset is = rw is refl
 
-  -- where there is an answer, there is an index-2 cell
+  -- If there is an answer, there is an index-2 cell.
   has_index2 : (x : T) → u < 0x110000 → fast_limit h.trie_type ≤ u → u < h.high_start → answer h (contents_of index values) u ≡ Some x
       → (n : ℕ) × (index2_cell h.trie_type index u ≡ Some n)
   has_index2 x within from below e = by (index2_cell h.trie_type index u) refl
@@ -84,7 +84,7 @@ module _ {T : Type 0} (of_number : ℕ → Option T) (number : T → ℕ) (width
   in_stored : (u : ℕ) → u < 0x110000 → answers stored u ≡ Some (f u)
   in_stored u l = answers-stored width number t u (f u) (in_trie u l)
 
-  -- no block of the data stands at an offset outside them
+  -- No block of the data is at an offset outside the data.
   module _ (p : Parts T) (in_parts : (u : ℕ) → u < 0x110000 → answers p u ≡ Some (f u))
       (far : length p.values ≤ p.header.data_null_offset) where
     no_fast : (u : ℕ) → u < fast_limit p.header.trie_type → fast_offset p.index u ≡ Some p.header.data_null_offset → ⊥
@@ -105,7 +105,7 @@ module _ {T : Type 0} (of_number : ℕ → Option T) (number : T → ℕ) (width
   same_values : {x y : T} → Some x ≡ Some y → x ≡ y
   same_values e = cc
 
-  -- where the header names no block of the data, no block of 512 is said to be null
+  -- If the header names no block of the data, it says of no block of 512 that it is null.
   no_512 : length t.values ≤ t.header.data_null_offset → (b : ℕ) → fast_limit t.header.trie_type ≤ b * 512 → b * 512 < t.header.high_start
       → index2_cell t.header.trie_type t.index (b * 512) ≡ Some t.header.index3_null_offset → ⊥
   no_512 far b from under is =

@@ -1,4 +1,4 @@
--- What is left of a list behind those that were gone through.
+-- What is left of a list after the items that were visited.
 use Rattle.std.proofs.Common.{◌≡◌, ap, ℕ, zero, suc, ◌+◌, ◌<◌, ◌≤◌, drop, get_or, add-one, List, [], ◌∷◌, length, arith}
 
 next_of : (pts : List ℕ) (n c : ℕ) (after : List ℕ) → drop n pts ≡ c ∷ after → (n < length pts) × ((d : ℕ) → get_or pts n d ≡ c)
@@ -8,12 +8,12 @@ next_of [] (suc n) c after e = absurd (cc)
 next_of (x ∷ pts) zero c after e = (omega arith, λ d. cc, cc)
 next_of (x ∷ pts) (suc n) c after e = let more = next_of pts n c after e in (omega (arith, more.0), more.1, more.2)
 
--- the next one of them
+-- The next one of them.
 pub next-drop : (pts : List ℕ) (n c : ℕ) (after : List ℕ) → drop n pts ≡ c ∷ after → (n < length pts) × ((d : ℕ) → get_or pts n d ≡ c)
     × (drop (n + 1) pts ≡ after)
 next-drop pts n c after e = rw add-one (next_of pts n c after e)
 
--- where nothing is left, all were gone through
+-- If nothing is left, all were visited.
 pub all-drop : (pts : List ℕ) (n : ℕ) → n ≤ length pts → drop n pts ≡ [] → n ≡ length pts
 all-drop [] n l e = omega arith
 all-drop (x ∷ pts) zero l e = absurd (cc)

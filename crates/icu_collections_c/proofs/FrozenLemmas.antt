@@ -1,4 +1,4 @@
--- Places packed four a word, and what is read of them.
+-- Block offsets packed four in a word, and what is read from them.
 use Rattle.std.proofs.Common.{◌≡◌, ◌∙◌, refl, ap, sym, subst, ℕ, zero, suc, ◌+◌, ◌-◌, ◌*◌, ◌/◌, ◌%◌, ◌^◌, ◌<◌, ◌≤◌, Bool, true, false, List, [], ◌∷◌, ◌++◌, length, drop, get_or, append_assoc, add-zero, arith, inl, inr, to_z, w64}
 use Rattle.std.specs.Int.{bit_at}
 use Rattle.std.specs.Prelude.{nat_eq, nat_le, ◌&&◌, if◌then◌else◌}
@@ -14,7 +14,7 @@ use Rattle.icu_collections_c.specs.Building.{written_whole}
 use Rattle.icu_collections_c.specs.Frozen.{AnswersFrozen, IsFrozenOf, bit_in, is_held, place_in}
 use Rattle.icu_collections_c.specs.Inside.PackedPlaces.{packed, word_at}
 
--- ---- words of four places
+-- ---- words of four offsets
 pub length-packed : (n : ℕ) (numbers : List ℕ) → length (packed n numbers) ≡ n
 unfolding packed
 length-packed zero numbers = refl
@@ -39,7 +39,7 @@ packed-at (suc n) numbers (suc k) l =
     let next : 4 + 4 * k ≡ 4 * suc k = omega arith in
     packed-at n (drop 4 numbers) k (omega arith) ∙ (word_at-drop numbers (4 * k) ∙ ap (word_at numbers) next)
 
--- one more word is written
+-- One more word is written.
 pub packed-more : (words index : List ℕ) (i w : ℕ) → i < length words → w ≡ word_at index (4 * i)
     → ((k : ℕ) → k < i → get_or words k 0 ≡ word_at index (4 * k))
     → (k : ℕ) → k < i + 1 → get_or (set words i w) k 0 ≡ word_at index (4 * k)
@@ -48,7 +48,7 @@ packed-more words index i w l e before k m = elim (cases_eq k i) [
   | inr n ↦ get_or-set_other words i k w 0 n ∙ before k (omega arith)
 ]
 
--- all words are written
+-- All words are written.
 pub packed-all : (words index : List ℕ) (n : ℕ) → length words ≡ n
     → ((k : ℕ) → k < n → get_or words k 0 ≡ word_at index (4 * k)) → words ≡ packed n index
 unfolding packed
@@ -62,7 +62,7 @@ packed-all (x ∷ xs) index (suc n) l h =
     h (suc k) (omega arith) ∙ (ap (word_at index) next ∙ sym (word_at-drop index (4 * k)))) in
     λ i. first i ∷ rest i
 
--- ---- the places in such a word
+-- ---- the offsets in such a word
 abbrev four : ℕ → ℕ → ℕ → ℕ → ℕ
 four a b c d = a + 0x10000 * (b + 0x10000 * (c + 0x10000 * d))
 
@@ -97,7 +97,7 @@ digit xs i (suc (suc (suc zero))) l small =
     rw (past_three _ _ _ _ a (small 1 (omega arith)) (small 2 (omega arith))) d
 digit xs i (suc (suc (suc (suc r)))) l small = absurd (omega arith)
 
--- ---- two parts in front of a buffer
+-- ---- two parts at the start of a buffer
 pub parts_written : (a b buffer front copied back : List ℕ) → length a + length b ≤ length buffer
     → front ≡ a → copied ≡ b → back ≡ drop (length a) buffer
     → front ++ (copied ++ drop (length b) back) ≡ written_whole (a ++ b) buffer
@@ -140,7 +140,7 @@ module _ (index words : List ℕ) (all : length index ≡ 4352) (small : (b : �
       ap (λ (k : ℕ). nat_eq (bit_at (get_or (packed 1088 index ++ words) (1088 + k + c / 64 % 4) 0) (c % 64)) 1) place
       ∙ ap (λ (w : ℕ). nat_eq (bit_at w (c % 64)) 1) word
 
--- tables that are written so are a frozen set
+-- Tables that are written so are a frozen set.
 pub frozen_packed : (ends index words : List ℕ) → IsValid ends → AreTablesOf ends (record { index = index; words = words })
     → IsFrozenOf ends (packed 1088 index ++ words)
 frozen_packed ends index words valid t =
@@ -176,7 +176,7 @@ answers_frozen ends set index words old new n e valid t count buffer =
       },
     )
 
--- ---- what is asked of them
+-- ---- look-ups in them
 module _ (ends words rest : List ℕ) (f : IsFrozenOf ends words) where
   same_place : (b : ℕ) → b < 4352 → place_in (words ++ rest) b ≡ place_in words b
   same_place b l =
@@ -196,6 +196,6 @@ module _ (ends words rest : List ℕ) (f : IsFrozenOf ends words) where
     | inr l ↦ and_left _ _ (le-ltb c code_point_limit l) ∙ sym (not_past_limit ends c f.valid l)
   ]
 
-  -- a front that the words choose is the one that the set chooses
+  -- The prefix that the words choose is the one that the set chooses.
   pub front_of_set : (P : (ℕ → Bool) → Type 0) → P (is_held (words ++ rest)) → P (holds ends)
   front_of_set P = subst P (λ i. λ (c : ℕ). held_of c i)

@@ -1,4 +1,4 @@
--- Entries that are gone through one after another, and those for which there is room.
+-- Entries that are visited one after another, and those that fit.
 use Rattle.std.proofs.Common.{◌≡◌, ◌∙◌, refl, sym, ap, ℕ, ℤ, suc, ◌+◌, ◌-◌, ◌^◌, ◌<◌, ◌≤◌, min, ◌⊎◌, inl, inr, Bool, true, false, cond, ◌&&◌, nat_le, List, [], ◌∷◌, ◌++◌, length, arith}
 use Rattle.std.specs.Prelude.{nat_lt}
 use Rattle.std.proofs.lemmas.Bool.{cases_lt}
@@ -13,7 +13,7 @@ use Rattle.icu_collections_c.specs.declared.listing.Word.{Word}
 abbrev Item : Type 0
 Item = List ℕ × ℤ
 
--- there is room for one more behind these
+-- One more item fits after these.
 abbrev has_room : ℕ → ℕ → List Item → Item → Bool
 has_room words bytes es e = nat_lt (length es) words && nat_le (length (texts_of es) + length e.0) bytes
 
@@ -42,7 +42,7 @@ tests_false words bytes n t (inr h) = grind (arith, nat_tests)
 long_texts : (x : Item) (es : List Item) (e : ℕ) → length (texts_of (x ∷ es)) + e ≡ length x.0 + length (texts_of es) + e
 long_texts x es e = omega (arith, length-append x.0 (texts_of es))
 
--- one more item fits, or none does any more
+-- One more item fits, or no more item does.
 fitting-push : (words bytes : ℕ) (es : List Item) (e : Item)
     → fitting words bytes (es ++ e ∷ []) ≡ fitting words bytes es ++ cond (has_room words bytes es e) (e ∷ []) []
 fitting-push words bytes [] e = ap (λ b. cond b (e ∷ []) []) (room-first words bytes e)
@@ -66,7 +66,7 @@ fitting-push words bytes (x ∷ es) e = by (nat_lt 0 words && nat_le (length x.0
         ∙ tests_none words bytes (length x.0) (length es) (length (texts_of es)) (length e.0) h in
         ap (λ b. cond b (e ∷ []) []) (sym none)
 
--- where there is room for all, all fit
+-- If there is enough room, all items fit.
 fitting-all : (words bytes : ℕ) (es : List Item) → length es ≤ words → length (texts_of es) ≤ bytes → fitting words bytes es ≡ es
 fitting-all words bytes [] l m = refl
 fitting-all words bytes (x ∷ es) l m =
@@ -112,7 +112,7 @@ module _ (words bytes : ℕ) (es : List Item) (e : Item) where
     pub texts-fit : texts_of (fitting words bytes (es ++ e ∷ [])) ≡ texts_of (fitting words bytes es) ++ e.0
     texts-fit = ap texts_of fits_more ∙ texts-push es e ∙ ap (λ zs. texts_of zs ++ e.0) (sym fits_before)
 
-  -- where there is no room, what fits is as it was
+  -- If there is no room, what fits is unchanged.
   pub fitting-full : (words ≤ length es) ⊎ (bytes < length (texts_of es) + length e.0)
       → fitting words bytes (es ++ e ∷ []) ≡ fitting words bytes es
   fitting-full h =

@@ -13,14 +13,14 @@ use Rattle.icu_trie.specs.Ranges.{IsCoherentTrie, answers}
 use Rattle.icu_collections_c.specs.Ranges.{AreRangesTo, range_of}
 use Rattle.icu_collections_c.specs.declared.ranges.Range.{Range}
 
--- a range as it is written, and what it is in a coherent trie
+-- A range as it is written, and what it is in a coherent trie.
 abbrev pub shown : {A : Type 0} → (A → ℕ) → CodePointMapRange A → Range
 shown number r = range_of number (Some r)
 
 abbrev pub IsLongest : {A : Type 0} → Parts A → CodePointMapRange A → Type 0
 IsLongest t r = LongestRun (answers t) (first_of r) (last_of r) (Some r.value)
 
--- so many ranges from c on are written, and the next would be asked from `next` on
+-- So many ranges from c on are written, and the next one would start at `next`.
 pub record HasWritten {A : Type 0} (of_number : ℕ → Option A) (number : A → ℕ) (t : Parts A) (c : ℕ)
     (before buffer : List Range) (next count : ℕ) : Type 0 where
   pub ranges : List (CodePointMapRange A)
@@ -30,7 +30,7 @@ pub record HasWritten {A : Type 0} (of_number : ℕ → Option A) (number : A �
   pub fits : count ≤ length before
   pub buffer_is : buffer ≡ map (shown number) ranges ++ drop count before
 
--- an item is put behind those that are written
+-- An item is put after those that are written.
 put_suc : {B : Type 0} (xs ys : List B) (v : B) (n : ℕ) → n ≡ length xs → n < length ys
     → set (xs ++ drop n ys) n v ≡ (xs ++ v ∷ []) ++ drop (suc n) ys
 put_suc [] [] v n e l = absurd (omega arith)
@@ -50,7 +50,7 @@ module _ {A : Type 0} (of_number : ℕ → Option A) (number : A → ℕ) (t : P
   given_more c [] next r e w = (subst (λ n. GivesWalk of_number t.header (contents_of t.index t.values) n (Some r)) (sym e) w, refl)
   given_more c (x ∷ xs) next r h w = (h.0, given_more (last_of x + 1) xs next r h.1 w)
 
-  -- none yet
+  -- No range yet.
   pub written_none : (c : ℕ) (before : List Range) → HasWritten of_number number t c before before c 0
   written_none c before = record {
     ranges = [];
@@ -62,7 +62,7 @@ module _ {A : Type 0} (of_number : ℕ → Option A) (number : A → ℕ) (t : P
   }
 
   module _ (c : ℕ) (before buffer : List Range) (next count : ℕ) where
-    -- one more
+    -- One more range.
     pub written_more : (r : CodePointMapRange A) (new : List Range) (after : ℕ) → HasWritten of_number number t c before buffer next count
         → count < length before → GivesWalk of_number t.header (contents_of t.index t.values) next (Some r)
         → (IsCoherentTrie of_number t → LongestRun (answers t) next (last_of r) (Some r.value))

@@ -1,4 +1,4 @@
--- The items that an iterator over the entries of a trie gave, none of them a want of memory.
+-- The items that an iterator over the entries of a trie gave, none of them a failed allocation.
 use Rattle.std.proofs.Common.{◌≡◌, ◌∙◌, sym, ap, subst, ℕ, ℤ, List, [], ◌∷◌, ◌++◌, Ok, Result, String, map}
 use Rattle.std.specs.Prelude.{All, string_bytes}
 use Rattle.std.specs.Global.{Global}
@@ -11,13 +11,13 @@ use Rattle.icu_char16trie_builder.proofs.CallerLemmas.{shown}
 use Rattle.icu_collections_c.specs.Inside.Listed.{IsListingOf}
 use Rattle.icu_collections_c.specs.declared.listing.Listing.{Listing}
 
--- the items are these texts and values, and they were gone through
+-- The items are these texts and values, and they were visited.
 pub record HasGone (items : List (Result (String Global × ℤ) MemoryError)) (most_words most_bytes : ℕ) (l : Listing) : Type 0 where
   pub entries : List (String Global × ℤ)
   pub items_are : items ≡ map Ok entries
   pub kept : IsListingOf (map shown entries) most_words most_bytes l
 
--- one more
+-- One more item.
 module _ (items : List (Result (String Global × ℤ) MemoryError)) (W B : ℕ) (l m : Listing) (text : String Global) (v : ℤ)
     (was : HasGone items W B l)
     (t : List ℕ) (n : ℤ) (t-is : t ≡ string_bytes text) (n-is : n ≡ v)
@@ -37,7 +37,7 @@ module _ (items : List (Result (String Global × ℤ) MemoryError)) (W B : ℕ) 
     kept = subst (λ es. IsListingOf es W B m) (sym (map-append shown was.entries ((text, v) ∷ []))) kept_more;
   }
 
--- what is shown are texts
+-- The keys that are listed are texts.
 pub texts-shown : (ys : List (String Global × ℤ)) → All (λ e. IsUtf8 e.0) (map shown ys)
 texts-shown [] = All-nil (λ e. IsUtf8 e.0)
 texts-shown (y ∷ ys) = All-cons (λ e. IsUtf8 e.0) (shown y) (map shown ys) (IsUtf8-string_bytes y.0) (texts-shown ys)

@@ -1,4 +1,4 @@
--- Ends that are tested one after another, and how many of them are not above a number.
+-- Boundaries that are tested one after another, and how many of them are not above a number.
 use Rattle.std.proofs.Common.{◌≡◌, ◌∙◌, ℕ, zero, suc, ◌+◌, ◌-◌, ◌<◌, ◌≤◌, min, Bool, true, false, List, length, take, get_or, add-zero, arith, inl, inr}
 use Rattle.std.specs.List.{AllWithin, count_by}
 use Rattle.std.specs.List.Sorted.{IsStrictlyIncreasing, IsNonDecreasingBy}
@@ -10,14 +10,14 @@ use Rattle.std.specs.Prelude.{if◌then◌else◌, Result, Ok, Err, IfOk}
 use Rattle.icu_zerovec.specs.CodePoints.{code_point_limit}
 use Rattle.icu_invlist.specs.InversionList.{Acts, holds, members_below}
 
--- the ends below place i ascend within the code points, and `next` follows the last of them
+-- The boundaries below index i ascend within the code points, and `next` is after the last of them.
 pub record Ascend (ends : List ℕ) (i next : ℕ) : Type 0 where
   pub within : (k : ℕ) → k < i → get_or ends k 0 ≤ code_point_limit
   pub ascending : (k : ℕ) → k + 1 < i → get_or ends k 0 < get_or ends (k + 1) 0
   pub none : i ≡ 0 → next ≡ 0
   pub last : 0 < i → get_or ends (i - 1) 0 + 1 ≡ next
 
--- ends that rise do not fall
+-- Boundaries that rise do not fall.
 rises : (xs : List ℕ) (i n : ℕ) → IsStrictlyIncreasing xs → i + n < length xs → get_or xs i 0 ≤ get_or xs (i + n) 0
 rises xs i zero up l = rw add-zero (omega arith)
 rises xs i (suc n) up l =
@@ -31,7 +31,7 @@ IsNonDecreasingBy-strictly xs up i j d l m =
     let h : get_or xs i 0 ≤ get_or xs j 0 = rw e at (rises xs i (j - i) up (omega arith)) in
     rw (get_or_default_zero xs i d (omega arith), get_or_default_zero xs j d m) h
 
--- where the test holds of each element below i and of none from there on, i elements pass it
+-- If each element below i passes the test and none from i on does, i elements pass it.
 count_front : (p : ℕ → Bool) (xs : List ℕ) (i n : ℕ) → AllWithin (λ y. p y ≡ true) xs 0 i → AllWithin (λ y. p y ≡ false) xs i (length xs)
     → n ≤ length xs → count_by p (take n xs) ≡ min n i
 count_front p xs i zero passed failed l = omega arith
@@ -50,7 +50,7 @@ count-at p xs i passed failed l =
     let least : min (length xs) i ≡ i = omega arith in
     (rw take-length at whole) ∙ least
 
--- there are no more members below n than numbers
+-- A set has no more members below n than there are numbers.
 pub members_below-le : (ends : List ℕ) (n : ℕ) → members_below ends n ≤ n
 unfolding members_below
 members_below-le ends zero = omega arith
@@ -60,7 +60,7 @@ members_below-le ends (suc n) = let before = members_below-le ends n in one_more
     one_more true k n h = omega arith
     one_more false k n h = omega arith
 
--- a set that is answered, if one is, is one that the operation gave
+-- The set that is returned, if there is one, is the result of the operation.
 pub acts_answered : {E : Type 0} (op : Bool → Bool → Bool) (old : List ℕ) (named : ℕ → Bool) (new : List ℕ) (r : Result (List ℕ) E)
     → Acts op old named new → IfOk r (λ s. s ≡ new) → IfOk r (Acts op old named)
 acts_answered op old named new (Ok s) acts is = rw is acts

@@ -7,7 +7,7 @@ use Rattle.std.proofs.lemmas.List.{length-append, nil_from_length}
 use Rattle.std.proofs.lemmas.List.Sums.{take_while-cons}
 use Rattle.std.proofs.lemmas.Str.{chars_past_char, IsUtf8-past_char, chars_from_encodes, IsUtf8-nil, IsCharBoundary-from_drop, drop_past_char, length-encode}
 
--- how long the front is that passes
+-- The length of the prefix that passes.
 abbrev pub front : (ℕ → Bool) → List ℕ → ℕ
 front p text = length (encode_utf8_all (take_while p (chars text)))
 
@@ -56,6 +56,6 @@ span_ends p text rest n s e =
     let f : front p rest ≡ 0 = ap (front p) r ∙ ap (λ (cs : List ℕ). length (encode_utf8_all (take_while p cs))) (sym k) in
     let b = s.so_far in omega arith
 
--- a character starts where the walk stands, or the text ends
+-- The walk is at the start of a character, or at the end of the text.
 pub span_boundary : (p : ℕ → Bool) (text rest : List ℕ) (n : ℕ) → Spanned p text rest n → IsCharBoundary text n
 span_boundary p text rest n s = IsCharBoundary-from_drop text n (let a = s.all in omega arith) (rw s.left s.utf8)

@@ -22,7 +22,7 @@ module _ {T : Type 0} (f : List ℕ → Option T) where
       let rest : drop 2 (take (2 + n * 2) b) ≡ take (n * 2) (drop 2 b) = drop-take 2 (n * 2) b in
       rw (two, front, rest) (ap (λ xs. option_to_list (f (take 2 b)) ++ xs) (values_from-take n (drop 2 b)))
 
-  -- an odd last byte is in no cell
+  -- An odd last byte is in no cell.
   pub even-values_of : (b : List ℕ) → values_of f 2 (take (length b / 2 * 2) b) ≡ values_of f 2 b
   unfolding values_of
   even-values_of b =
@@ -30,7 +30,7 @@ module _ {T : Type 0} (f : List ℕ → Option T) where
       let cells : length (take (length b / 2 * 2) b) / 2 ≡ length b / 2 = omega arith in
       ap (values_from f 2 (take (length b / 2 * 2) b)) cells ∙ values_from-take (length b / 2) b
 
--- whole units
+-- Whole units.
 pub whole_units : (b : List ℕ) → length b % 2 ≡ 0 → length b ≡ 2 * length (units_of b)
 whole_units b even = let cells = length-values_of (λ cell. Some (number_of 2 cell)) 2 (λ _. refl) b in omega (arith, cells, even)
 
@@ -41,7 +41,7 @@ pub along_push : (units : List ℕ) (from mid to : Place) (w : List ℕ) (u : �
 along_push units from mid to [] u h k = (to, subst (λ z. StepsTo units z u to) h k, refl)
 along_push units from mid to (x ∷ w) u h k = (h.0, h.1, along_push units h.0 mid to w u h.2 k)
 
--- the root of a trie stands for its map
+-- The root of a trie is the position of its whole map.
 pub root_stands : (units : List ℕ) (m : UnitMap) → IsTrieOf units m → Stands units (Node 0) (after_all [] m)
 unfolding after_all
 root_stands units m (node h) = inl h

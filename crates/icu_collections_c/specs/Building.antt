@@ -1,4 +1,4 @@
--- Tries that are built of rows, and the bytes that they are written as.
+-- Tries that are built from rows, and the bytes that they are written as.
 use Rattle.std.specs.Prelude.{◌≡◌, ℕ, zero, suc, ◌+◌, ◌-◌, ◌*◌, ◌/◌, ℤ, pos, negsuc, ◌<◌, ◌≤◌, min, ◌⊎◌, ◌&&◌, nat_eq, nat_le, Bool, List, [], ◌∷◌, ◌++◌, length, drop, All, Option, Some, None, IsSome, unwrap_or, if◌then◌else◌}
 use Rattle.std.specs.Option.{option_or}
 use Rattle.icu_trie.specs.Parts.{Parts, trie_value}
@@ -15,30 +15,33 @@ use Rattle.icu_collections_c.specs.declared.building.Refusal.{Refusal}
 use Rattle.icu_collections_c.specs.declared.building.Refusal.TheVariants.{Form, Value, TooLarge, Memory}
 
 -- ---- what rows say
--- whether a row covers c: it begins in the code space, and c lies from its first to its last
+-- Whether a row covers c: its first code point is at most 0x10FFFF, and c is between its first and
+-- its last code point, both included.
 abbrev pub covers : Row → ℕ → Bool
 covers row c = nat_le row.first 0x10FFFF && (nat_le row.first c && nat_le c row.last)
 
--- the value of the last of the rows that cover c, if any does
+-- The value of the last row that covers c. None if no row does.
 abbrev pub last_row : List Row → ℕ → Option ℕ
 last_row [] c = None
 last_row (row ∷ rows) c =
     option_or (last_row rows c) (if covers row c then Some row.value else None)
 
--- the value that the rows ask for at a code point: the last row's, or else the default
+-- The value that the rows give the code point c: that of the last row that covers it, or else the
+-- default.
 abbrev pub row_value : List Row → ℕ → ℕ → ℕ
 row_value rows default c = unwrap_or (last_row rows c) default
 
--- the same at any number, which is the error value above the code space
+-- The same for any number u: above 0x10FFFF it is the error value.
 abbrev pub row_answer : List Row → ℕ → ℕ → ℕ → ℕ
 row_answer rows default error u = if nat_le u 0x10FFFF then row_value rows default u else error
 
--- ---- what is asked for
--- a type of this number, and values of so many bytes
+-- ---- what the caller asks for
+-- The type exists (0 is fast, 1 is small), and so does the width (1, 2 or 4 bytes).
 abbrev pub IsForm : ℕ → ℕ → Type 0
 IsForm kind width = (kind < 2) × (value_width width ≡ width)
 
--- each number that is given is that of a value
+-- Each number that is given is the number of a value: those of the rows, the default and the error
+-- value.
 pub record AreFitting {T : Type 0} (of_number : ℕ → Option T) (rows : List Row)
     (default error : ℕ) : Type 0 where
   pub of_rows : All (λ row. IsSome (of_number row.value)) rows
@@ -46,40 +49,41 @@ pub record AreFitting {T : Type 0} (of_number : ℕ → Option T) (rows : List R
   pub of_error : IsSome (of_number error)
 
 -- ---- how large a trie of rows gets
--- how many different ones there can be among so many aligned blocks: a row leaves one of its value
--- alone, and one at each of its two ends; and one has the default alone
+-- How many different blocks there can be among so many aligned blocks: each row leaves at most one
+-- block of its value alone and one at each of its two ends, and one more block has the default
+-- alone.
 abbrev pub most_blocks : ℕ → ℕ → ℕ
 most_blocks count blocks = min (3 * count + 1) blocks
 
--- the fast limit of a type, by its number
+-- The fast limit of a type, by the number of the type.
 abbrev pub fast_end : ℕ → ℕ
 fast_end kind = if nat_eq kind 0 then 0x10000 else 0x1000
 
--- the most cells of data that so many rows take: the different blocks of 64 below the fast limit,
--- those of 16 from there on, and what each trie has
+-- The most cells of data that so many rows take: the different blocks of 64 below the fast limit,
+-- the different blocks of 16 from there on, and 160 cells that every trie has.
 abbrev pub most_data : ℕ → ℕ → ℕ
 most_data count limit =
     64 * most_blocks count (limit / 64) + 16 * most_blocks count ((0x110000 - limit) / 16) + 160
 
--- the most cells of index, by the different blocks of 512 from the fast limit on
+-- The most cells of index, by the different blocks of 512 from the fast limit on.
 abbrev pub most_index : ℕ → ℕ → ℕ
 most_index count limit = 36 * most_blocks count ((0x110000 - limit) / 512) + 3200
 
--- the most bytes in ICU's binary form: those of the header, two for each cell of the index, of
--- which one more may stand in front of the data, and `width` for each cell of the data
+-- The most bytes in ICU's binary form: 16 for the header, two for each cell of the index, two more
+-- for a cell that may pad the index, and `width` for each cell of the data.
 abbrev pub most_bytes : ℕ → ℕ → ℕ → ℕ
 most_bytes count kind width =
     16 + 2 * (most_index count (fast_end kind) + 1) + width * most_data count (fast_end kind)
 
--- ---- what is answered
--- the trie is of the type, and answers every number as the rows ask
+-- ---- what is returned
+-- The trie has the type, and its value at every number is the one that the rows give.
 pub record IsTrieOf (rows : List Row) (default error kind : ℕ) (t : Parts ℕ) : Type 0 where
   pub of_kind : type_number t.header.trie_type ≡ kind
   pub answers : (u : ℕ) → trie_value t u ≡ Some (row_answer rows default error u)
 
--- the bytes are, whole, such a trie in ICU's binary form, with values of so many bytes, and a
--- coherent one, so that its ranges are the longest runs; and they are no more than the number of
--- rows lets expect
+-- All the bytes together are such a trie in ICU's binary form, with values of `width` bytes. The
+-- trie is coherent, so its ranges are the longest runs. There are no more bytes than `most_bytes`
+-- allows for the number of rows.
 pub record IsBuilt (rows : List Row) (default error kind width : ℕ) (bytes : List ℕ)
     : Type 0 where
   pub trie : Parts ℕ
@@ -88,8 +92,8 @@ pub record IsBuilt (rows : List Row) (default error kind width : ℕ) (bytes : L
   pub coherent : IsCoherentTrie (fitting_in width) trie
   pub size : length bytes ≤ most_bytes (length rows) kind width
 
--- the rows make a map that a builder may refuse for its size, which at most 256 rows never do; or
--- the binary form has no room for such a trie, though it is well built
+-- The builder may reject the rows' map for its size, which never happens for 256 rows or fewer. Or
+-- the binary form cannot hold a trie that is well built from the map.
 abbrev pub IsTooLargeFor : List Row → ℕ → ℕ → ℕ → ℕ → Type 0
 IsTooLargeFor rows default error kind width =
     ((256 < length rows) × IsTooLarge (row_value rows default))
@@ -97,28 +101,28 @@ IsTooLargeFor rows default error kind width =
     × IsWellBuilt (fitting_in width) (row_value rows default) t
     × (why : WriteError) × (why_not_written width (λ n. n) t ≡ Some why))
 
--- the bytes are in front of the buffer where it has room for all of them, and else it stays
+-- The buffer starts with the bytes if all of them fit. Otherwise the buffer is unchanged.
 abbrev pub written_whole : List ℕ → List ℕ → List ℕ
 written_whole bytes old =
     if nat_le (length bytes) (length old) then bytes ++ drop (length bytes) old else old
 
--- n is how many bytes with this property there are, and the buffer has them if it has the room
+-- n is the number of bytes with property P, and the buffer holds them if all of them fit.
 pub record HasBytes (P : List ℕ → Type 0) (old new : List ℕ) (n : ℕ) : Type 0 where
   pub bytes : List ℕ
   pub good : P bytes
   pub count : n ≡ length bytes
   pub buffer : new ≡ written_whole bytes old
 
--- why there are no bytes
+-- Why there are no bytes. The reasons are listed in the order in which they are reported.
 abbrev pub IsWhyNotBuilt : Type 0 → Type 0 → Type 0 → Refusal → Type 0
 IsWhyNotBuilt form fitting large Form = ¬ form
 IsWhyNotBuilt form fitting large Value = form × ¬ fitting
 IsWhyNotBuilt form fitting large TooLarge = form × fitting × large
 IsWhyNotBuilt form fitting large Memory = form × fitting
 
--- how many bytes there are with this property, where the form is known and the values fit; or -1
--- where memory was refused; -5 where the form is not known; -6 where a value does not fit; -7 where
--- the trie is too large. The buffer stays where there are no bytes
+-- The number of bytes with property P if the form exists and the values fit. Otherwise -5 if the
+-- form does not exist, -6 if a value does not fit, -7 if the trie is too large, -1 if an allocation
+-- failed. The buffer is unchanged if the number is negative.
 abbrev pub AnswersBytes : Type 0 → Type 0 → Type 0 → (List ℕ → Type 0) → List ℕ → List ℕ → ℤ
     → Type 0
 AnswersBytes form fitting large P old new (pos n) = form × fitting × HasBytes P old new n

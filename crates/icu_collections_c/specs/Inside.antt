@@ -1,4 +1,5 @@
--- Words that the functions inside the crate and their proofs need. No public contract cites them.
+-- Definitions for the private functions of the crate and their proofs. No public contract cites
+-- them.
 pub mod BuiltValues
 pub mod Listed
 pub mod NumberLaws

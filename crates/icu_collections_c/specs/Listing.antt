@@ -1,4 +1,4 @@
--- The entries of a unit trie that C is given, and of how many it is.
+-- The entries of a unit trie as C sees them, and how many there are.
 use Rattle.std.specs.Prelude.{◌≡◌, ◌⊎◌, ◌+◌, ◌-◌, ◌^◌, ◌≤◌, ◌&&◌, nat_lt, nat_le, min, ℕ, zero, suc, ℤ, pos, negsuc, List, [], ◌∷◌, length, map, All, if◌then◌else◌}
 use Rattle.std.specs.List.{flat_map}
 use Rattle.std.specs.Str.{IsUtf8}
@@ -8,34 +8,35 @@ use Rattle.icu_char16trie.specs.UnitMap.{UnitMap}
 use Rattle.icu_collections_c.specs.Buffers.{written}
 use Rattle.icu_collections_c.specs.declared.listing.Word.{Word}
 
--- an entry as it is shown: its key as text, in bytes, and its value
+-- An entry as it is listed: its key as UTF-8 bytes, and its value.
 abbrev pub shown : List ℕ × ℤ → List ℕ × ℤ
 shown e = (key_text e.0, e.1)
 
--- the bytes of the texts, one after another
+-- The bytes of the texts, one after another.
 abbrev pub texts_of : List (List ℕ × ℤ) → List ℕ
 texts_of items = flat_map (λ e. e.0) items
 
--- where each text stands in bytes whose next text begins at `start`
+-- The offset, size and value of each text if the first one is at offset `start`.
 abbrev pub words_from : ℕ → List (List ℕ × ℤ) → List Word
 words_from start [] = []
 words_from start (e ∷ es) =
     (record { start = start; size = length e.0; value = e.1 }) ∷ words_from (start + length e.0) es
 
--- the first items, as long as there is room: for so many, and for so many bytes of their texts
+-- The first items, as many as fit: at most `words` of them, with at most `bytes` bytes of texts.
 abbrev pub fitting : ℕ → ℕ → List (List ℕ × ℤ) → List (List ℕ × ℤ)
 fitting words bytes [] = []
 fitting words bytes (e ∷ es) =
     if nat_lt 0 words && nat_le (length e.0) bytes
     then e ∷ fitting (words - 1) (bytes - length e.0) es else []
 
--- the items of units: texts with values; of a trie they are its entries, in unit order
+-- The items of the units are texts with values. If the units are a trie of a map, the items are its
+-- entries, in unit order.
 pub record AreItemsOf (units : List ℕ) (items : List (List ℕ × ℤ)) : Type 0 where
   pub texts : All (λ e. IsUtf8 e.0) items
   pub entries : (m : UnitMap) → IsTrieOf units m → items ≡ map shown m
 
--- how many items there are, and how many bytes their texts take; and the buffers have those that
--- fit
+-- n is the number of items, and `size` the number of bytes of their texts. The buffers start with
+-- the items that fit, and the rest of the buffers is unchanged.
 pub record HasItems (items : List (List ℕ × ℤ)) (words words' : List Word)
     (texts texts' : List ℕ) (size n : ℕ) : Type 0 where
   pub count : n ≡ length items
@@ -45,12 +46,12 @@ pub record HasItems (items : List (List ℕ × ℤ)) (words words' : List Word)
   pub texts_are : texts'
       ≡ written (texts_of (fitting (length words) (length texts) items)) texts
 
--- too many for the numbers of C
+-- There are more items or more bytes than a signed 64-bit number can count.
 abbrev pub AreTooMany : List (List ℕ × ℤ) → Type 0
 AreTooMany items = (2 ^ 63 ≤ length items) ⊎ (2 ^ 63 ≤ length (texts_of items))
 
--- how many items the units have, and they are in the buffers as far as there is room; or -7 where
--- they are too many; -1 where memory was refused. Then all is as before
+-- The number of items of the units, and the buffers hold those that fit. Otherwise -7 if there are
+-- too many, -1 if an allocation failed; then nothing is written.
 abbrev pub AnswersListing : List ℕ → List Word → List Word → List ℕ → List ℕ → ℕ → ℕ → ℤ → Type 0
 AnswersListing units words words' texts texts' size size' told =
     ((items : List (List ℕ × ℤ)) × AreItemsOf units items
@@ -59,12 +60,12 @@ AnswersListing units words words' texts texts' size size' told =
     × (words' ≡ words) × (texts' ≡ texts) × (size' ≡ size))))
     ⊎ ((told ≡ negsuc 0) × (words' ≡ words) × (texts' ≡ texts) × (size' ≡ size))
 
--- the units are a trie of no map
+-- The units are not a trie of any map.
 abbrev pub AreNoTrie : List ℕ → Type 0
 AreNoTrie units = (m : UnitMap) → IsTrieOf units m → ⊥
 
--- how many entries the map has of which the units are a trie, and 2^63 - 1 where they are more; or
--- -1 where memory was refused; -2 where they are no trie
+-- The number of entries of the map whose trie the units are, or 2^63 - 1 if there are more.
+-- Otherwise -2 if the units are not a trie, -1 if an allocation failed.
 abbrev pub AnswersCount : List ℕ → ℤ → Type 0
 AnswersCount units (pos n) =
     ¬ (AreNoTrie units)

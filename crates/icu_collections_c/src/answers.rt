@@ -1,4 +1,5 @@
-//! What calls that take memory answer: a number, or why there is none.
+//! The return values of functions that allocate: a count, or a negative number that says why there
+//! is none.
 ghost use Rattle.std.specs.Prelude.{◌≡◌};
 ghost use Rattle.icu_collections_c.specs.Answers.{AnswersEnds};
 
@@ -6,8 +7,8 @@ use crate::buffers::write;
 use icu_invlist::codepointinvlist::CodePointInversionList;
 use std::alloc::Global;
 
-/// Writes the ends of a set into a buffer, as many as it has room for, and answers how many there
-/// are; -1 where memory was refused, and then the buffer stays.
+/// Writes the boundaries of a set into a buffer, as many as fit, and returns how many there are.
+/// Returns -1 if an allocation fails; the buffer is then unchanged.
 pub(crate) fn ends_answered(
     alloc: Global,
     set: &CodePointInversionList<'_>,

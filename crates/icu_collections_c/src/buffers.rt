@@ -1,8 +1,8 @@
-//! The caller's buffers.
+//! Writing into the caller's buffers.
 ghost use Rattle.std.specs.Prelude.{◌≡◌};
 ghost use Rattle.icu_collections_c.specs.Buffers.{written};
 
-/// Writes the items into the front of a buffer, as many as it has room for.
+/// Writes the items to the start of a buffer, as many as fit. The rest of the buffer is unchanged.
 pub(crate) fn write<T: Copy>(items: &[T], buffer: &mut [T])
     ensures { buffer.new ≡ written items.now buffer.old }
 {

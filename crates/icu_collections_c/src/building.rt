@@ -1,4 +1,4 @@
-//! Tries that are built of rows, in ICU's binary form.
+//! Building tries from rows, in ICU's binary form.
 ghost use Rattle.std.specs.Prelude.{◌≡◌, ◌<◌, ◌≤◌, ◌^◌, ◌↔◌, IsTrue, IsSome, IfNone, IfOk, IfErr, IfSome, length, All};
 ghost use Rattle.icu_trie_core.specs.ValueNumbers.{type_number};
 ghost use Rattle.icu_collections_c.specs.Building.{AnswersBytes, AreFitting, IsBuilt, IsForm, IsTooLargeFor, IsWhyNotBuilt, fast_end, most_blocks, most_bytes, most_data, most_index, written_whole};
@@ -13,8 +13,8 @@ use icu_trie_builder::writes::Write;
 use icu_trie_core::header::TrieType;
 use std::alloc::{AllocError, Global};
 
-/// The value of the code points from `first` to `last`, both included. Where the first one is above
-/// the last one, or above 0x10FFFF, there are none.
+/// A value for the code points from `first` to `last`, both included. A row is empty if `first` is
+/// above `last` or above 0x10FFFF.
 #[repr(C)]
 #[derive(Clone, Copy)]
 pub struct Row {
@@ -26,13 +26,13 @@ pub struct Row {
 /// Why no trie is built.
 #[derive(Clone, Copy)]
 pub(crate) enum Refusal {
-    /// There is no such type, or no such width.
+    /// The type or the width does not exist.
     Form,
     /// A value has more bits than the width.
     Value,
-    /// The map is too large for a trie, or the trie for the binary form.
+    /// The map is too large for a trie, or the trie is too large for the binary form.
     TooLarge,
-    /// Memory was refused.
+    /// An allocation failed.
     Memory,
 }
 
@@ -72,7 +72,7 @@ impl From<WriteError> for Refusal {
     }
 }
 
-/// The type that has this number (UCPTrieType). `None` above 1.
+/// Returns the type with this number (`UCPTrieType`). `None` if the number is above 1.
 fn type_of(number: u32) -> Option<TrieType>
     ensures some { IfSome result (λ t. number ≡ type_number t) }
     ensures none { IfNone result (1 < number) }
@@ -84,21 +84,21 @@ fn type_of(number: u32) -> Option<TrieType>
     }
 }
 
-/// Whether a value has this number.
+/// Returns whether `number` is the number of a value of type `T`.
 fn fits<T: UnsignedValue>(number: u32) -> bool
     ensures { IsTrue result ↔ IsSome (T.of_number number) }
 {
     T::try_from_u32(number).is_ok()
 }
 
-/// Whether a value has the number of each row.
+/// Returns whether the value of each row is the number of a value of type `T`.
 fn rows_fit<T: UnsignedValue>(rows: &[Row]) -> bool
     ensures { IsTrue result ↔ All (λ row. IsSome (T.of_number row.value)) rows.now }
 {
     rows.iter().all(|row| fits::<T>(row.value))
 }
 
-/// The writes that the rows stand for.
+/// Returns the rows as writes of the builder, one write for each row.
 fn writes_of<T: UnsignedValue>(alloc: Global, rows: &[Row]) -> Result<Vec<Write<T>>, AllocError>
     requires { All (λ row. IsSome (T.of_number row.value)) rows.now }
     ensures { IfOk result (λ writes. AreWritesOf T.number rows.now writes.items) }
@@ -113,7 +113,7 @@ fn writes_of<T: UnsignedValue>(alloc: Global, rows: &[Row]) -> Result<Vec<Write<
     Ok(writes)
 }
 
-/// A trie of these values, of the rows, in ICU's binary form.
+/// Builds a trie with values of type `T` from the rows and returns it in ICU's binary form.
 fn built_in<T: UnsignedValue>(
     alloc: Global,
     rows: &[Row],
@@ -136,13 +136,13 @@ fn built_in<T: UnsignedValue>(
     }
     let writes = writes_of::<T>(alloc, rows)?;
     let trie = build_from_writes(alloc, default, error, trie_type, &writes)?;
-    // Its parts have no fault, which shows that it is coherent as it is stored.
+    // That its parts have no fault shows that its stored form is coherent.
     let _ = trie.parts();
     Ok(to_binary(alloc, &trie)?)
 }
 
-/// A trie of the rows in ICU's binary form, of the type that has this number, with values of so
-/// many bytes.
+/// Builds a trie from the rows and returns it in ICU's binary form. `trie_type` is the number of
+/// its type, `width` the number of bytes of a value.
 fn built(
     alloc: Global,
     rows: &[Row],
@@ -170,16 +170,17 @@ fn built(
     }
 }
 
-/// How many different ones so many rows leave among so many aligned blocks.
+/// Returns how many different blocks `count` rows leave at most among `blocks` aligned blocks.
 fn most_blocks(count: usize, blocks: u64) -> u64
     requires { blocks < 2 ^ 32 }
     ensures { result ≡ most_blocks count blocks }
 {
-    // More rows than there are blocks make no difference.
+    // More rows than blocks make no difference.
     (3 * (count as u64).min(blocks) + 1).min(blocks)
 }
 
-/// How many cells of data so many rows take below and above a fast limit.
+/// Returns how many cells of data `count` rows take at most, below and above the fast limit
+/// `limit`.
 fn most_data(count: usize, limit: u64) -> u64
     requires { limit ≤ 0x10000 }
     ensures { result ≡ most_data count limit }
@@ -189,7 +190,7 @@ fn most_data(count: usize, limit: u64) -> u64
     64 * fast + 16 * small + 160
 }
 
-/// How many cells of index so many rows take above a fast limit.
+/// Returns how many cells of index `count` rows take at most above the fast limit `limit`.
 fn most_index(count: usize, limit: u64) -> u64
     requires { limit ≤ 0x10000 }
     ensures { result ≡ most_index count limit }
@@ -197,12 +198,12 @@ fn most_index(count: usize, limit: u64) -> u64
     36 * most_blocks(count, (0x110000 - limit) / 512) + 3200
 }
 
-/// A number of bytes that a trie of so many rows never exceeds, as [`bks_trie_build`] builds it of
-/// this type and this width: a buffer of so many is always large enough. 0 where there is no such
-/// type or no such width.
+/// Returns the most bytes that [`bks_trie_build`] takes for `count` rows with this type and this
+/// width. A buffer of that size is always large enough. Returns 0 if the type or the width does not
+/// exist.
 ///
-/// Most tries are much smaller. From about 23,000 rows on the bound stays what all blocks of the
-/// code space take, below five million bytes.
+/// Most tries are much smaller. From about 23,000 rows on the bound stays the same, since it then
+/// covers all blocks of the code space. It is always below five million bytes.
 #[unsafe(no_mangle)]
 pub extern "C" fn bks_trie_bound(count: usize, trie_type: u32, width: u32) -> u64
     ensures known { IsForm trie_type width → result ≡ most_bytes count trie_type width }
@@ -216,7 +217,7 @@ pub extern "C" fn bks_trie_bound(count: usize, trie_type: u32, width: u32) -> u6
     16 + 2 * cells + u64::from(width) * most_data(count, limit)
 }
 
-/// Writes the bytes into the front of a buffer that has room for all of them.
+/// Writes the bytes to the start of a buffer if all of them fit. Otherwise the buffer is unchanged.
 pub(crate) fn write_whole(bytes: &[u8], buffer: &mut [u8])
     ensures { buffer.new ≡ written_whole bytes.now buffer.old }
 {
@@ -225,17 +226,23 @@ pub(crate) fn write_whole(bytes: &[u8], buffer: &mut [u8])
     }
 }
 
-/// Builds a trie of rows in ICU's binary form (`umutablecptrie_setRange`,
-/// `umutablecptrie_buildImmutable`, `ucptrie_toBinary`): how many bytes it takes, and these bytes
-/// in the buffer where there is room for all of them. A later row covers an earlier one. Code
-/// points that no row names have the default, and above 0x10FFFF the trie answers the error value.
-/// A row whose first is above its last, or above 0x10FFFF, writes nothing, and one that passes
-/// 0x10FFFF is cut there.
+/// Builds a trie from rows in ICU's binary form and returns how many bytes it takes. The bytes are
+/// in the buffer if all of them fit; otherwise the buffer is unchanged.
+///
+/// A later row overwrites an earlier one. Code points in no row have the default value, and numbers
+/// above 0x10FFFF the error value. A row is empty if its first code point is above its last one, or
+/// above 0x10FFFF. A row that goes beyond 0x10FFFF ends there.
+///
+/// ICU: `umutablecptrie_setRange` for each row, then `umutablecptrie_buildImmutable` and
+/// `ucptrie_toBinary`.
 ///
 /// # Errors
-/// -5 where the type is neither 0, fast, nor 1, small, or the width neither 1, 2 nor 4 bytes; else
-/// -6 where a value has more bits than the width; else -7 where the map is too large for a trie, or
-/// the trie for the binary form; -1 where memory was refused. The buffer is then unchanged.
+/// Returns the first of these that applies, and leaves the buffer unchanged:
+///
+/// - -5 if the type is neither 0 (fast) nor 1 (small), or the width is none of 1, 2 and 4 bytes
+/// - -6 if a value has more bits than the width: the value of a row, the default or the error value
+/// - -7 if the map is too large for a trie, or the trie is too large for the binary form
+/// - -1 if an allocation fails, which may come before -7
 #[unsafe(no_mangle)]
 pub extern "C" fn bks_trie_build(
     alloc: Global,

@@ -22,12 +22,12 @@ use icu_zerovec::ule::AsULE;
 use std::marker::{Brand, PhantomData};
 use std::sync::ledger::{Blank, Ledger};
 
-/// A value of 8, 16 or 32 bits: whatever bytes a cell has, they are one.
+/// A value of 8, 16 or 32 bits. Any bytes of a cell are such a value.
 pub(crate) trait UnsignedValue: TrieValue {
-    /// The bytes of a cell are a value.
+    /// Any bytes of a cell are a value.
     ghost every_cell: { (cell : List ℕ) → IsSome (Self.unpack cell) };
 
-    /// The number that a value was made of is its number.
+    /// A value that was made from a number has that number.
     ghost number_is: { (n : ℕ) (x : Self) → Self.of_number n ≡ Some x → Self.number x ≡ n };
 }
 
@@ -49,7 +49,7 @@ impl UnsignedValue for u32 {
     ghost number_is = { fitting-number (2 ^ 32) };
 }
 
-/// How many whole cells the bytes have.
+/// Returns how many whole cells the bytes have.
 #[inline(always)]
 fn count_of<T: UnsignedValue>(bytes: &[u8]) -> usize
     ensures { result ≡ length (values_of T.unpack T.WIDTH bytes.now) }
@@ -57,8 +57,8 @@ fn count_of<T: UnsignedValue>(bytes: &[u8]) -> usize
     bytes.len() / T::WIDTH
 }
 
-/// The value of the cell at place `i`, which is there. No test is left in machine code: all bytes
-/// of a cell are a value.
+/// Returns the value of the cell at index `i`, which has to exist. The machine code has no test,
+/// since any bytes of a cell are a value.
 #[inline(always)]
 fn value_there<T: UnsignedValue>(bytes: &[u8], i: usize) -> T
     requires { i < length bytes.now / T.WIDTH }
@@ -71,7 +71,7 @@ fn value_there<T: UnsignedValue>(bytes: &[u8], i: usize) -> T
     }
 }
 
-/// The value of the cell at place `i`. `None` past the last whole cell.
+/// Returns the value of the cell at index `i`. `None` if `i` is past the last whole cell.
 #[inline(always)]
 fn value_at<T: UnsignedValue>(bytes: &[u8], i: usize) -> Option<T>
     ensures { result ≡ slice_get (values_of T.unpack T.WIDTH bytes.now) i }
@@ -82,7 +82,7 @@ fn value_at<T: UnsignedValue>(bytes: &[u8], i: usize) -> Option<T>
     Some(value_there(bytes, i))
 }
 
-/// The value of the last whole cell. `None` where there is none.
+/// Returns the value of the last whole cell. `None` if there is none.
 #[inline(always)]
 pub(crate) fn last_value<T: UnsignedValue>(bytes: &[u8]) -> Option<T>
     ensures { result ≡ last_cell (values_of T.unpack T.WIDTH bytes.now) }
@@ -90,7 +90,7 @@ pub(crate) fn last_value<T: UnsignedValue>(bytes: &[u8]) -> Option<T>
     value_at(bytes, count_of::<T>(bytes).saturating_sub(1))
 }
 
-/// Index and data of a trie, where they stand in bytes.
+/// The index and the data of a trie, read in place from bytes.
 #[derive(Drop)]
 pub(crate) struct ByteCells<'a, T: UnsignedValue, L: Ledger> {
     pub(crate) index: &'a [u8],
@@ -141,7 +141,7 @@ impl<'a, T: UnsignedValue, L: Ledger> Cells<T> for ByteCells<'a, T, L> {
     }
 }
 
-/// `look_up` in bytes, with a count in the ledger of `blank`.
+/// `look_up` in bytes, with its reads counted in the ledger of `blank`.
 #[inline(always)]
 fn look_up_counted<T: UnsignedValue, L: Ledger>(
     header: &CodePointTrieHeader,
@@ -166,7 +166,7 @@ fn look_up_counted<T: UnsignedValue, L: Ledger>(
     look_up(header, &mut cells, c)
 }
 
-/// The format's answer at `c`, in bytes.
+/// Returns the value that the format gives `c`, in bytes.
 #[inline(always)]
 pub(crate) fn look_up_in<T: UnsignedValue>(
     header: &CodePointTrieHeader,
@@ -181,7 +181,7 @@ pub(crate) fn look_up_in<T: UnsignedValue>(
     look_up_counted::<T, Brand>(header, index, values, c, Blank::new(1))
 }
 
-/// `walk` in bytes, with a count in the ledger of `blank`.
+/// `walk` in bytes, with its reads counted in the ledger of `blank`.
 #[inline(always)]
 fn walk_counted<T: UnsignedValue, L: Ledger>(
     header: &CodePointTrieHeader,
@@ -212,7 +212,7 @@ fn walk_counted<T: UnsignedValue, L: Ledger>(
     walk(header, &mut cells, c)
 }
 
-/// The range of one value from `c` on, in bytes.
+/// Returns the range of one value that starts at `c`, in bytes.
 #[inline(always)]
 pub(crate) fn walk_in<T: UnsignedValue>(
     header: &CodePointTrieHeader,
@@ -233,7 +233,7 @@ pub(crate) fn walk_in<T: UnsignedValue>(
     walk_counted::<T, Brand>(header, index, values, c, Blank::new(1))
 }
 
-/// `is_coherent` in bytes, with a count in the ledger of `blank`.
+/// `is_coherent` in bytes, with its reads counted in the ledger of `blank`.
 fn is_coherent_counted<T: UnsignedValue, L: Ledger>(
     header: &CodePointTrieHeader,
     index: &[u8],
@@ -256,7 +256,7 @@ fn is_coherent_counted<T: UnsignedValue, L: Ledger>(
     is_coherent::<T, _>(header, &mut cells)
 }
 
-/// Whether a trie in bytes is coherent.
+/// Returns whether a trie in bytes is coherent.
 pub(crate) fn is_coherent_in<T: UnsignedValue>(
     header: &CodePointTrieHeader,
     index: &[u8],

@@ -1,4 +1,4 @@
-//! Frozen sets in words of the caller's, and what is asked of them there.
+//! Frozen sets in the caller's 64-bit words, and look-ups in them.
 ghost use Rattle.std.specs.Prelude.{◌≡◌, ℕ, ◌+◌, ◌*◌, ◌≤◌, ◌++◌, List, IfOk, length, slice_index};
 ghost use Rattle.std.specs.List.{take_while};
 ghost use Rattle.std.specs.Str.{IsCharBoundary, IsUtf8, chars, encode_utf8_all};
@@ -14,10 +14,10 @@ use icu_invlist::codepointinvlist::CodePointInversionList;
 use icu_zerovec::{CODE_POINT_LIMIT, MemoryError};
 use std::alloc::Global;
 
-/// How many words the places take.
+/// How many words the block offsets take.
 const PLACE_WORDS: usize = 1088;
 
-/// The word at this place, or 0 where there is none.
+/// Returns the word at this index, or 0 if there is none.
 #[inline(always)]
 fn word(table: &[u64], place: usize) -> u64
     ensures { result ≡ slice_index table.now place }
@@ -25,7 +25,7 @@ fn word(table: &[u64], place: usize) -> u64
     if place < table.len() { table[place] } else { 0 }
 }
 
-/// The place of the block.
+/// Returns the offset of the block's words.
 #[inline(always)]
 fn place_of(table: &[u64], block: u32) -> usize
     ensures { result ≡ place_in table.now block }
@@ -34,7 +34,7 @@ fn place_of(table: &[u64], block: u32) -> usize
     ((four >> (16 * (block % 4))) % 0x1_0000) as usize
 }
 
-/// The bit of the code point.
+/// Returns the bit of the code point.
 #[inline(always)]
 fn bit_of(table: &[u64], c: u32) -> bool
     ensures { result ≡ bit_in table.now c }
@@ -43,7 +43,7 @@ fn bit_of(table: &[u64], c: u32) -> bool
     (word(table, place) >> (c % 64)) & 1 == 1
 }
 
-/// Whether the code point is held.
+/// Returns whether the frozen set contains the code point.
 #[inline(always)]
 fn contains(table: &[u64], c: u32) -> bool
     ensures { result ≡ is_held table.now c }
@@ -51,7 +51,7 @@ fn contains(table: &[u64], c: u32) -> bool
     c < CODE_POINT_LIMIT && bit_of(table, c)
 }
 
-/// Four of the places in a word, the lowest first.
+/// Packs four block offsets into a word, the first one in the lowest bits.
 fn packed_places(index: &[u16], i: usize) -> u64
     requires { 4 * i + 4 ≤ length index.now }
     ensures { result ≡ word_at index.now (4 * i) }
@@ -62,7 +62,7 @@ fn packed_places(index: &[u16], i: usize) -> u64
     a + 0x1_0000 * (b + 0x1_0000 * (c + 0x1_0000 * d))
 }
 
-/// Writes the places, four a word.
+/// Writes the block offsets, four in each word.
 fn write_places(index: &[u16], words: &mut [u64])
     requires { 4 * length words.old ≤ length index.now }
     ensures { words.new ≡ packed (length words.old) index.now }
@@ -72,8 +72,8 @@ fn write_places(index: &[u16], words: &mut [u64])
     }
 }
 
-/// Writes the tables of a frozen set into the front of a buffer that has room for all of them, and
-/// answers how many words they take.
+/// Writes the tables of a frozen set to the start of a buffer if all of them fit, and returns how
+/// many words they take.
 fn write_tables(index: &[u16], words: &[u64], buffer: &mut [u64]) -> usize
     requires blocks { length index.now ≡ 4352 }
     requires most { length words.now ≤ 8 + 4 * 4352 }
@@ -90,7 +90,7 @@ fn write_tables(index: &[u16], words: &[u64], buffer: &mut [u64]) -> usize
     size
 }
 
-/// The set of these ends, frozen.
+/// Freezes the set with these boundaries.
 fn frozen_of(alloc: Global, ends: &[u32]) -> Result<FrozenCodePointSet, MemoryError>
     requires { IsValid ends.now }
     ensures { IfOk result (λ set. set ≡ ends.now) }
@@ -99,12 +99,14 @@ fn frozen_of(alloc: Global, ends: &[u32]) -> Result<FrozenCodePointSet, MemoryEr
     FrozenCodePointSet::freeze(alloc, &set)
 }
 
-/// Freezes the set of these ends (`uset_freeze`): how many words it takes, and the words in the
-/// buffer where there is room for all of them.
+/// Freezes the set with these boundaries and returns how many words the frozen set takes. The words
+/// are in the buffer if all of them fit; otherwise the buffer is unchanged.
+///
+/// ICU: `uset_freeze`.
 ///
 /// # Errors
-/// -1 where memory was refused; -2 where the ends are those of no set. The buffer is then
-/// unchanged.
+/// Returns -2 if the boundaries are not those of a set, and -1 if an allocation fails. The buffer
+/// is then unchanged.
 #[unsafe(no_mangle)]
 pub extern "C" fn bks_set_freeze(alloc: Global, ends: &[u32], table: &mut [u64]) -> i64
     ensures { AnswersFrozen ends.now table.old table.new result }
@@ -121,8 +123,10 @@ pub extern "C" fn bks_set_freeze(alloc: Global, ends: &[u32], table: &mut [u64])
     }
 }
 
-/// Whether the frozen set with which the words begin holds the code point. No number above 0x10FFFF
-/// is held. Any words are answered: what is behind them counts as 0.
+/// Returns whether the frozen set at the start of the words contains the code point `c`. No set
+/// contains a number above 0x10FFFF.
+///
+/// Any words are accepted. Words that are missing count as 0.
 #[unsafe(no_mangle)]
 pub extern "C" fn bks_frozen_contains(table: &[u64], c: u32) -> bool
     ensures exact { result ≡ is_held table.now c }
@@ -132,8 +136,8 @@ pub extern "C" fn bks_frozen_contains(table: &[u64], c: u32) -> bool
     contains(table, c)
 }
 
-/// The length in bytes of the longest front of a text whose characters are all held, or, for `held`
-/// false, all not held.
+/// Returns the size in bytes of the longest prefix of a text whose characters are all in the set
+/// or, if `held` is false, all not in it.
 fn span(table: &[u64], text: &str, held: bool) -> usize
     ensures place { result
         ≡ length (encode_utf8_all
@@ -150,12 +154,14 @@ fn span(table: &[u64], text: &str, held: bool) -> usize
     length
 }
 
-/// How many bytes the longest front of a UTF-8 text has whose characters the frozen set with which
-/// the words begin holds, or, for `held` false, does not hold (`uset_spanUTF8`). A character ends
-/// there. Any words are answered, as by [`bks_frozen_contains`].
+/// Returns the size in bytes of the longest prefix of a UTF-8 text whose characters are all in the
+/// frozen set at the start of the words or, if `held` is false, all not in it. The prefix ends at a
+/// character boundary. Any words are accepted, as by [`bks_frozen_contains`].
+///
+/// ICU: `uset_spanUTF8`.
 ///
 /// # Errors
-/// -3 where the text is no UTF-8.
+/// Returns -3 if the text is not UTF-8.
 #[unsafe(no_mangle)]
 pub extern "C" fn bks_frozen_span(table: &[u64], text: &[u8], held: bool) -> i64
     ensures exact { AnswersPlace (IsUtf8 text.now)

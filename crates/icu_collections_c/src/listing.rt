@@ -1,4 +1,4 @@
-//! The entries of unit tries, and how many there are.
+//! Listing and counting the entries of unit tries.
 ghost use Rattle.std.specs.Prelude.{◌≡◌, ◌↔◌, ◌<◌, ◌≤◌, ◌-◌, ◌^◌, ◌⊎◌, Some, None, length, min, ℕ, ℤ, List, [], ◌∷◌, ◌++◌, IfOk, OnOk};
 ghost use Rattle.icu_char16trie.specs.Grammar.{IsTrieOf};
 ghost use Rattle.icu_char16trie.specs.UnitMap.{UnitMap};
@@ -11,35 +11,35 @@ use crate::units::trie_in;
 use icu_zerovec::MemoryError;
 use std::alloc::{AllocError, Global};
 
-/// The most entries, and the most bytes, that are answered: above them the numbers of C end.
+/// The most entries, and the most bytes of texts, that can be returned: `i64::MAX`.
 const MOST: usize = 0x7FFF_FFFF_FFFF_FFFF;
 
-/// An entry of a unit trie: where its text stands among the bytes of all texts, and its value.
+/// An entry of a unit trie: where its text is among the bytes of all texts, and its value.
 #[repr(C)]
 #[derive(Clone, Copy)]
 pub struct Word {
-    /// The first byte of the text.
+    /// The offset of the first byte of the text.
     pub start: usize,
-    /// How many bytes the text takes.
+    /// The size of the text in bytes.
     pub size: usize,
     pub value: i32,
 }
 
-/// Entries that were gone through, and as many of the first as there is room for.
+/// The count of the entries so far, and the first entries, as many as fit.
 #[derive(Drop)]
 pub(crate) struct Listing {
-    /// For how many entries there is room, and for how many bytes of texts.
+    /// How many entries fit, and how many bytes of texts.
     most_words: usize,
     most_bytes: usize,
     words: Vec<Word>,
     texts: Vec<u8>,
-    /// How many entries there are, and how many bytes their texts take: no more than `usize::MAX`.
+    /// How many entries there are, and how many bytes their texts take. Both stop at `usize::MAX`.
     count: usize,
     size: usize,
 }
 
 impl Listing {
-    /// No entries.
+    /// Makes a listing with no entries.
     fn new(alloc: Global, most_words: usize, most_bytes: usize) -> Listing
         ensures { IsListingOf [] most_words most_bytes result }
     {
@@ -53,7 +53,7 @@ impl Listing {
         }
     }
 
-    /// Keeps an entry whose text ends there, if there is room for it.
+    /// Stores an entry if it fits. `end` is the offset at which its text ends.
     fn keep(&mut self, text: &str, value: i32, end: usize) -> Result<(), AllocError>
         ensures fits { OnOk result (self.old.count < self.old.most_words → end ≤ self.old.most_bytes
             → IsKept self.old text.now value self.new) }
@@ -72,7 +72,7 @@ impl Listing {
         self.texts.extend_from_slice(text.as_bytes())
     }
 
-    /// Goes through one more entry.
+    /// Adds one more entry.
     fn add(&mut self, text: &str, value: i32) -> Result<(), AllocError>
         requires few { self.old.most_bytes < 2 ^ 63 }
         requires words { self.old.most_words < 2 ^ 63 }
@@ -89,7 +89,7 @@ impl Listing {
     }
 }
 
-/// The entries of the trie of the units in the bytes.
+/// Lists the entries of the unit trie in the bytes.
 fn listed(
     alloc: Global,
     units: &[u8],
@@ -109,7 +109,7 @@ fn listed(
     Ok(listing)
 }
 
-/// How many entries there are, by the library's own count.
+/// Counts the entries of the unit trie in the bytes. `None` if the units are not a trie.
 fn counted(alloc: Global, units: &[u8]) -> Result<Option<u64>, MemoryError>
     ensures some { IfOk result (λ told. (m : UnitMap) → IsTrieOf (units_of units.now) m
         → told ≡ Some (min (length m) (2 ^ 64 - 1))) }
@@ -118,12 +118,11 @@ fn counted(alloc: Global, units: &[u8]) -> Result<Option<u64>, MemoryError>
     trie_in(units).count_entries(alloc)
 }
 
-/// How many entries a unit trie has, and 2 ^ 63 - 1 where it has more. It goes through each node
-/// twice, however many entries there are: so who has units from a stranger asks this before they
-/// are listed.
+/// Returns how many entries a unit trie has, or 2^63 - 1 if it has more. It visits each node twice,
+/// however many entries there are. So call it before you list an untrusted unit trie.
 ///
 /// # Errors
-/// -1 where memory was refused; -2 where the units are no trie.
+/// Returns -2 if the units are not a trie, and -1 if an allocation fails.
 #[unsafe(no_mangle)]
 pub extern "C" fn bks_units_count(alloc: Global, units: &[u8]) -> i64
     ensures { AnswersCount (units_of units.now) result }
@@ -135,16 +134,21 @@ pub extern "C" fn bks_units_count(alloc: Global, units: &[u8]) -> i64
     }
 }
 
-/// The entries of a unit trie in unit order (UCharsTrie::Iterator): how many there are, and in
-/// `texts_size` how many bytes their texts take. The text of an entry is its key in UTF-8, a lone
-/// surrogate as U+FFFD. `words` has the first entries, as many as it has room for and as `texts`
-/// has room for their texts: that of word `w` is `texts[w.start..w.start + w.size]`.
+/// Lists the entries of a unit trie in unit order. Returns how many there are, and stores in
+/// `texts_size` how many bytes their texts take.
 ///
-/// Units of a stranger may have 2 ^ k entries in 4 k units: ask [`bks_units_count`] first. On units
-/// that are no trie the entries are what their nodes say as far as they go.
+/// The text of an entry is its key in UTF-8, with each lone surrogate as U+FFFD. `words` receives
+/// the first entries: as many as fit in `words` and whose texts fit in `texts`. The text of a word
+/// `w` is `texts[w.start..w.start + w.size]`.
+///
+/// An untrusted unit trie of 4 k units may have 2^k entries: call [`bks_units_count`] first. If the
+/// units are not a trie, the entries are those that its nodes have, as far as they can be read.
+///
+/// ICU: `UCharsTrie::Iterator`.
 ///
 /// # Errors
-/// -1 where memory was refused; -7 of 2 ^ 63 entries or bytes, or more. Nothing is then written.
+/// Returns -7 if there are 2^63 entries or bytes of texts or more, and -1 if an allocation fails.
+/// Nothing is then written.
 #[unsafe(no_mangle)]
 pub extern "C" fn bks_units_list(
     alloc: Global,

@@ -1,4 +1,4 @@
-//! Tries over bytes: ranges of one value, and whether they can be trusted.
+//! The ranges of a trie over bytes, and whether the trie is coherent.
 ghost use Rattle.std.specs.Prelude.{◌≡◌, ◌<◌, ◌↔◌, IsTrue, Some};
 ghost use Rattle.icu_trie.specs.Ranges.{IsCoherentTrie};
 ghost use Rattle.icu_collections_c.specs.BytesTrie.{parts_in, parts_of, value_width, fitting_in};
@@ -12,7 +12,7 @@ use icu_trie_core::walk::walk;
 use std::marker::{Brand, PhantomData};
 use std::sync::ledger::{Blank, Ledger};
 
-/// Code points from `first` to `last`, both included, and their value.
+/// The code points from `first` to `last`, both included, and their value.
 #[repr(C)]
 #[derive(Clone, Copy)]
 pub struct Range {
@@ -20,13 +20,13 @@ pub struct Range {
     pub first: u32,
     /// The last code point, which is in the range.
     pub last: u32,
-    /// The number of their value.
+    /// The value of the code points.
     pub value: u32,
-    /// Whether there is a range. Where there is none, the other fields are 0.
+    /// Whether there is a range. If there is none, the other fields are 0.
     pub found: bool,
 }
 
-/// The range as C has it.
+/// Converts a range to the struct that C sees.
 #[inline(always)]
 fn told<T: UnsignedValue>(range: &CodePointMapRange<T>) -> Range
     ensures { result ≡ range_of T.number (Some range.now) }
@@ -39,7 +39,7 @@ fn told<T: UnsignedValue>(range: &CodePointMapRange<T>) -> Range
     }
 }
 
-/// The range from `c` on in a trie of such values.
+/// Returns the range that starts at `c` in a trie with values of type `T`.
 #[inline(always)]
 fn range_in<T: UnsignedValue>(trie: &Trie<'_>, c: u32) -> Range
     ensures { GivesRange T.of_number T.number (parts_in T.unpack T.WIDTH trie.now) c result }
@@ -55,8 +55,8 @@ fn range_in<T: UnsignedValue>(trie: &Trie<'_>, c: u32) -> Range
     }
 }
 
-/// `write_ranges`, with a count in the ledger of `blank`. Header and cells are made once for all
-/// ranges.
+/// `write_ranges`, with its reads counted in the ledger of `blank`. Header and cells are made once
+/// for all ranges.
 #[inline(always)]
 fn write_ranges_counted<T: UnsignedValue, L: Ledger>(
     trie: &Trie<'_>,
@@ -88,8 +88,8 @@ fn write_ranges_counted<T: UnsignedValue, L: Ledger>(
     ranges.len()
 }
 
-/// Writes the ranges from `c` on in a trie of such values into the front of a buffer, as many as
-/// there are and as it has room for; answers how many.
+/// Writes the ranges from `c` on in a trie with values of type `T` to the start of a buffer, as
+/// many as there are and as fit. Returns how many it wrote.
 #[inline(always)]
 fn write_ranges<T: UnsignedValue>(trie: &Trie<'_>, c: u32, ranges: &mut [Range]) -> usize
     ensures { GivesRanges T.of_number T.number (parts_in T.unpack T.WIDTH trie.now) c ranges.old
@@ -98,9 +98,10 @@ fn write_ranges<T: UnsignedValue>(trie: &Trie<'_>, c: u32, ranges: &mut [Range])
     write_ranges_counted::<T, Brand>(trie, c, ranges, Blank::new(1))
 }
 
-/// The range of one value from the code point `c` on, as far as it goes (`ucptrie_getRange`). Over
-/// a coherent trie it is the longest run of equal values. None above 0x10FFFF, and where the trie
-/// lacks a cell.
+/// Returns the range of one value that starts at the code point `c`. In a coherent trie it is the
+/// longest run of equal values. There is none above 0x10FFFF, or if the trie lacks a cell.
+///
+/// ICU: `ucptrie_getRange`.
 #[unsafe(no_mangle)]
 pub extern "C" fn bks_trie_range(trie: &Trie<'_>, c: u32) -> Range
     ensures { let width = value_width trie.now.width in
@@ -113,10 +114,11 @@ pub extern "C" fn bks_trie_range(trie: &Trie<'_>, c: u32) -> Range
     }
 }
 
-/// The ranges of one value from the code point `c` on, one after another, as many as there is room
-/// for (`ucptrie_getRange` again and again): how many were written. Where that is less than there
-/// is room for, there is none after the last; else go on from its last code point + 1. What follows
-/// them in `ranges` is unchanged.
+/// Writes consecutive ranges of one value from the code point `c` on, as many as fit, and returns
+/// how many it wrote. If that is less than the length of `ranges`, there is no range after the last
+/// one. Otherwise continue from its last code point + 1. The rest of `ranges` is unchanged.
+///
+/// ICU: `ucptrie_getRange` in a loop.
 #[unsafe(no_mangle)]
 pub extern "C" fn bks_trie_ranges(trie: &Trie<'_>, c: u32, ranges: &mut [Range]) -> usize
     ensures { let width = value_width trie.now.width in
@@ -130,8 +132,9 @@ pub extern "C" fn bks_trie_ranges(trie: &Trie<'_>, c: u32, ranges: &mut [Range])
     }
 }
 
-/// Whether what the header says of the high value and of null blocks is so, as in every trie that
-/// was built. Over such a trie ranges are the longest runs of equal values; look-ups don't care.
+/// Returns whether the header is right about the high value and the null blocks, as in every trie
+/// that was built. The ranges of such a trie are the longest runs of equal values. Look-ups do not
+/// depend on it.
 #[unsafe(no_mangle)]
 pub extern "C" fn bks_trie_is_coherent(trie: &Trie<'_>) -> bool
     ensures { let width = value_width trie.now.width in

@@ -1,4 +1,4 @@
-//! Sets made of two sets.
+//! Sets made from two sets.
 ghost use Rattle.std.specs.Prelude.{◌≡◌, ◌↔◌, IfOk, IsTrue};
 ghost use Rattle.icu_invlist.specs.InversionList.{IsValid, Acts, holds, either, both, without, one_of};
 ghost use Rattle.icu_collections_c.specs.Answers.{AnswersEnds};
@@ -9,14 +9,14 @@ use icu_invlist::codepointinvlist::{CodePointInversionList, CodePointInversionLi
 use icu_zerovec::MemoryError;
 use std::alloc::Global;
 
-/// Whether both lists are the ends of sets.
+/// Returns whether both lists are the boundaries of sets.
 fn are_sets(a: &[u32], b: &[u32]) -> bool
     ensures { IsTrue result ↔ (IsValid a.now × IsValid b.now) }
 {
     bks_set_test(a) && bks_set_test(b)
 }
 
-/// A builder of the set of these ends.
+/// Returns a builder with the set of these boundaries.
 fn builder_of(alloc: Global, ends: &[u32]) -> Result<CodePointInversionListBuilder, MemoryError>
     requires { IsValid ends.now }
     ensures { IfOk result (λ builder. builder ≡ ends.now) }
@@ -26,7 +26,7 @@ fn builder_of(alloc: Global, ends: &[u32]) -> Result<CodePointInversionListBuild
     Ok(builder)
 }
 
-/// What one of them holds, or both.
+/// Returns the code points in `a`, in `b` or in both.
 fn union_of(
     alloc: Global,
     a: &[u32],
@@ -42,7 +42,7 @@ fn union_of(
     builder.build()
 }
 
-/// What both hold.
+/// Returns the code points in both sets.
 fn intersection_of(
     alloc: Global,
     a: &[u32],
@@ -58,7 +58,7 @@ fn intersection_of(
     builder.build()
 }
 
-/// What the first one holds and the second one does not.
+/// Returns the code points in `a` that are not in `b`.
 fn difference_of(
     alloc: Global,
     a: &[u32],
@@ -74,7 +74,7 @@ fn difference_of(
     builder.build()
 }
 
-/// What exactly one of them holds.
+/// Returns the code points in exactly one of the two sets.
 fn symmetric_difference_of(
     alloc: Global,
     a: &[u32],
@@ -90,12 +90,15 @@ fn symmetric_difference_of(
     builder.build()
 }
 
-/// The union of two sets (`uset_addAll`): how many ends it has, and as many of them in the buffer
-/// as there is room for.
+/// Writes the boundaries of the union of two sets into a buffer, as many as fit, and returns how
+/// many there are.
+///
+/// ICU: `uset_addAll`.
 ///
 /// # Errors
-/// -1 where memory was refused; -2 where one of the lists is no set ([`bks_set_test`]). The buffer
-/// is then unchanged.
+/// Returns -2 if one of the lists is not the boundaries of a set
+/// ([`bks_set_test`](crate::sets::bks_set_test)), and -1 if an allocation fails. The buffer is then
+/// unchanged.
 #[unsafe(no_mangle)]
 pub extern "C" fn bks_set_union(alloc: Global, a: &[u32], b: &[u32], ends: &mut [u32]) -> i64
     ensures { AnswersEnds (IsValid a.now × IsValid b.now) (Acts either a.now (holds b.now))
@@ -110,7 +113,15 @@ pub extern "C" fn bks_set_union(alloc: Global, a: &[u32], b: &[u32], ends: &mut 
     }
 }
 
-/// The intersection of two sets (`uset_retainAll`), as [`bks_set_union`].
+/// Writes the boundaries of the intersection of two sets into a buffer, as many as fit, and returns
+/// how many there are.
+///
+/// ICU: `uset_retainAll`.
+///
+/// # Errors
+/// Returns -2 if one of the lists is not the boundaries of a set
+/// ([`bks_set_test`](crate::sets::bks_set_test)), and -1 if an allocation fails. The buffer is then
+/// unchanged.
 #[unsafe(no_mangle)]
 pub extern "C" fn bks_set_intersection(alloc: Global, a: &[u32], b: &[u32], ends: &mut [u32]) -> i64
     ensures { AnswersEnds (IsValid a.now × IsValid b.now) (Acts both a.now (holds b.now))
@@ -125,7 +136,15 @@ pub extern "C" fn bks_set_intersection(alloc: Global, a: &[u32], b: &[u32], ends
     }
 }
 
-/// What the first set holds and the second one does not (`uset_removeAll`), as [`bks_set_union`].
+/// Writes the boundaries of the difference of two sets into a buffer, as many as fit, and returns
+/// how many there are. The difference has the code points in `a` that are not in `b`.
+///
+/// ICU: `uset_removeAll`.
+///
+/// # Errors
+/// Returns -2 if one of the lists is not the boundaries of a set
+/// ([`bks_set_test`](crate::sets::bks_set_test)), and -1 if an allocation fails. The buffer is then
+/// unchanged.
 #[unsafe(no_mangle)]
 pub extern "C" fn bks_set_difference(alloc: Global, a: &[u32], b: &[u32], ends: &mut [u32]) -> i64
     ensures { AnswersEnds (IsValid a.now × IsValid b.now) (Acts without a.now (holds b.now))
@@ -140,7 +159,16 @@ pub extern "C" fn bks_set_difference(alloc: Global, a: &[u32], b: &[u32], ends: 
     }
 }
 
-/// What exactly one of two sets holds (`uset_complementAll`), as [`bks_set_union`].
+/// Writes the boundaries of the symmetric difference of two sets into a buffer, as many as fit, and
+/// returns how many there are. The symmetric difference has the code points in exactly one of the
+/// sets.
+///
+/// ICU: `uset_complementAll`.
+///
+/// # Errors
+/// Returns -2 if one of the lists is not the boundaries of a set
+/// ([`bks_set_test`](crate::sets::bks_set_test)), and -1 if an allocation fails. The buffer is then
+/// unchanged.
 #[unsafe(no_mangle)]
 pub extern "C" fn bks_set_symmetric_difference(
     alloc: Global,

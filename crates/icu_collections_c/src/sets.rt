@@ -1,4 +1,4 @@
-//! Sets of code points as lists of their ends.
+//! Sets of code points as lists of their boundaries.
 ghost use Rattle.std.specs.Prelude.{◌≡◌, ◌↔◌, IsTrue, length};
 ghost use Rattle.std.specs.List.{take_while};
 ghost use Rattle.std.specs.Str.{IsCharBoundary, IsUtf8, chars, encode_utf8_all};
@@ -11,9 +11,10 @@ use icu_invlist::codepointinvlist::CodePointInversionList;
 use icu_zerovec::CODE_POINT_LIMIT;
 use std::alloc::Global;
 
-/// Whether the ends are those of a set (an inversion list): of even number, ascending without a
-/// repetition, and none above 0x110000. The set begins at the first end, stops before the second,
-/// begins again at the third, and so on.
+/// Returns whether the numbers are the boundaries of a set (an inversion list): an even count of
+/// them, strictly ascending, and none above 0x110000. The set contains the code points from the
+/// first number up to but not including the second, from the third up to but not including the
+/// fourth, and so on.
 #[unsafe(no_mangle)]
 pub extern "C" fn bks_set_test(ends: &[u32]) -> bool
     ensures { IsTrue result ↔ IsValid ends.now }
@@ -31,8 +32,11 @@ pub extern "C" fn bks_set_test(ends: &[u32]) -> bool
     true
 }
 
-/// Whether the set of these ends holds the code point. No number above 0x10FFFF is held. Of ends
-/// that [`bks_set_test`] refuses the answer says nothing.
+/// Returns whether the set with these boundaries contains the code point `c`. No set contains a
+/// number above 0x10FFFF. The result is unspecified (but memory-safe) if [`bks_set_test`] returns
+/// false.
+///
+/// ICU: `uset_contains`.
 #[unsafe(no_mangle)]
 pub extern "C" fn bks_set_contains(ends: &[u32], c: u32) -> bool
     ensures { IsValid ends.now → result ≡ holds ends.now c }
@@ -40,10 +44,12 @@ pub extern "C" fn bks_set_contains(ends: &[u32], c: u32) -> bool
     ends.partition_point(|end| *end <= c) % 2 == 1
 }
 
-/// How many code points the set of these ends holds, surrogates among them.
+/// Returns how many code points the set with these boundaries contains, surrogates included.
+///
+/// ICU: `uset_size`.
 ///
 /// # Errors
-/// -1 where memory was refused; -2 where the ends are those of no set.
+/// Returns -2 if the numbers are not the boundaries of a set, and -1 if an allocation fails.
 #[unsafe(no_mangle)]
 pub extern "C" fn bks_set_size(alloc: Global, ends: &[u32]) -> i64
     ensures { AnswersNumber (IsValid ends.now) (members_below ends.now code_point_limit) result }
@@ -57,12 +63,17 @@ pub extern "C" fn bks_set_size(alloc: Global, ends: &[u32]) -> i64
     }
 }
 
-/// How many bytes the longest front of a UTF-8 text has whose characters are all in the set of
-/// these ends, or, for `held` false, all not in it (`uset_spanUTF8`). A character ends there.
+/// Returns the size in bytes of the longest prefix of a UTF-8 text whose characters are all in the
+/// set or, if `held` is false, all not in it. The prefix ends at a character boundary.
+///
+/// ICU: `uset_spanUTF8`.
 ///
 /// # Errors
-/// -1 where memory was refused; -2 where the ends are those of no set; -3 where the text is no
-/// UTF-8.
+/// Returns the first of these that applies:
+///
+/// - -2 if the numbers are not the boundaries of a set
+/// - -3 if the text is not UTF-8
+/// - -1 if an allocation fails
 #[unsafe(no_mangle)]
 pub extern "C" fn bks_set_span(alloc: Global, ends: &[u32], text: &[u8], held: bool) -> i64
     ensures { AnswersSpan (IsValid ends.now) (IsUtf8 text.now)

@@ -1,4 +1,4 @@
-//! Tries over bytes: look-ups.
+//! A trie as C sees it, and look-ups in it.
 ghost use Rattle.std.specs.Prelude.{◌≡◌, length, map, min, unwrap_or};
 ghost use Rattle.std.specs.Option.{option_or};
 ghost use Rattle.icu_zerovec.specs.Cells.{values_of};
@@ -11,37 +11,38 @@ ghost use Rattle.icu_collections_c.specs.BytesTrie.{cells_of, header_of, parts_i
 use crate::cells::{UnsignedValue, last_value, look_up_in};
 use icu_trie_core::header::{CodePointTrieHeader, TrieType};
 
-/// A trie as C keeps it, by value (UCPTrie): its cells stay where they are, in the caller's bytes,
-/// which don't change while it is used. What
-/// [`bks_trie_open`](crate::opening::bks_trie_open) made is used as it is; any other numbers make a
-/// trie of other answers.
+/// A trie as C sees it, passed by value (`UCPTrie`). Its cells stay in the caller's bytes, which
+/// must not change while the trie is used.
+///
+/// A trie that [`bks_trie_open`](crate::opening::bks_trie_open) made is used as it is. Any other
+/// field values are safe too, but they make a trie with other values.
 #[repr(C)]
 #[derive(Clone, Copy)]
 pub struct Trie<'a> {
-    /// The bytes of the index, two a cell, at any address.
+    /// The bytes of the index, two for each cell, at any address.
     pub index: &'a [u8],
-    /// The bytes of the data, `width` a cell, at any address.
+    /// The bytes of the data, `width` for each cell, at any address.
     pub values: &'a [u8],
-    /// How many bytes the trie takes in all, its header among them.
+    /// How many bytes the trie takes in all, header included.
     pub size: usize,
-    /// The first code point that the fast index doesn't cover: 0x10000 of a fast trie, 0x1000 of a
-    /// small one, and 0 where there is no trie.
+    /// The first code point that the fast index does not cover: 0x10000 for a fast trie, 0x1000 for
+    /// a small one, and 0 if there is no trie.
     pub fast_limit: u32,
-    /// The code point from which on all have one value.
+    /// The first code point from which on all code points have one value.
     pub high_start: u32,
-    /// The value that the blocks have which the header names as null.
+    /// The value of the blocks that the header names as null.
     pub null_value: u32,
-    /// Where the null block stands in the data.
+    /// The offset of the null block in the data, in cells.
     pub data_null_offset: u32,
     /// How many bytes a value takes: 1, 2 or 4.
     pub width: u32,
-    /// The index-2 cell of the blocks of 512 that have the null value.
+    /// The index-2 cell of the blocks of 512 code points that have the null value.
     pub index3_null_offset: u16,
-    /// The high start in blocks of 0x1000, rounded up.
+    /// The high start divided by 0x1000, rounded up.
     pub shifted12_high_start: u16,
 }
 
-/// The header that the fields say.
+/// Returns the header that the fields describe.
 #[inline(always)]
 pub(crate) fn header_of(trie: &Trie<'_>) -> CodePointTrieHeader
     ensures { result ≡ header_of trie.now }
@@ -60,8 +61,8 @@ pub(crate) fn header_of(trie: &Trie<'_>) -> CodePointTrieHeader
     }
 }
 
-/// The value of `c` in bytes: the format's answer, or else the last cell. `None` where there is no
-/// cell.
+/// Returns the value of `c` in bytes: the one that the format gives it, or else the last cell.
+/// `None` if there is no cell at all.
 #[inline(always)]
 pub(crate) fn value_of<T: UnsignedValue>(
     header: &CodePointTrieHeader,
@@ -81,7 +82,7 @@ pub(crate) fn value_of<T: UnsignedValue>(
     }
 }
 
-/// The value of `c` in a trie of such values. `None` where there is no cell.
+/// Returns the value of `c` in a trie with values of type `T`. `None` if there is no cell at all.
 #[inline(always)]
 fn value_in<T: UnsignedValue>(trie: &Trie<'_>, c: u32) -> Option<T>
     ensures { result ≡ trie_value (parts_in T.unpack T.WIDTH trie.now) c }
@@ -89,8 +90,8 @@ fn value_in<T: UnsignedValue>(trie: &Trie<'_>, c: u32) -> Option<T>
     value_of(&header_of(trie), trie.index, trie.values, c)
 }
 
-/// Writes the values of code points into the front of a buffer, as many as it has room for, and
-/// `none` where the trie has no cell; answers how many it wrote.
+/// Writes the values of code points to the start of a buffer, as many as fit, and returns how many
+/// it wrote. The value is `none` if the trie has no cell at all.
 #[inline(always)]
 fn write_values<T: UnsignedValue>(
     trie: &Trie<'_>,
@@ -112,8 +113,11 @@ fn write_values<T: UnsignedValue>(
     count
 }
 
-/// The value of the code point `c` in a trie of 8 bits (`ucptrie_get`). Above 0x10FFFF, and where
-/// the trie lacks a cell, it is the error value, the last cell; 0 of what is no trie.
+/// Returns the value of the code point `c` in a trie of 8-bit values. Above 0x10FFFF, and if the
+/// trie lacks a cell, it returns the error value, which is the last cell. It returns 0 if there is
+/// no trie.
+///
+/// ICU: `ucptrie_get`.
 #[unsafe(no_mangle)]
 pub extern "C" fn bks_trie8_get(trie: &Trie<'_>, c: u32) -> u8
     ensures { result ≡ value_at 1 trie.now c }
@@ -121,7 +125,11 @@ pub extern "C" fn bks_trie8_get(trie: &Trie<'_>, c: u32) -> u8
     value_in(trie, c).unwrap_or(0)
 }
 
-/// The same of 16 bits.
+/// Returns the value of the code point `c` in a trie of 16-bit values. Above 0x10FFFF, and if the
+/// trie lacks a cell, it returns the error value, which is the last cell. It returns 0 if there is
+/// no trie.
+///
+/// ICU: `ucptrie_get`.
 #[unsafe(no_mangle)]
 pub extern "C" fn bks_trie16_get(trie: &Trie<'_>, c: u32) -> u16
     ensures { result ≡ value_at 2 trie.now c }
@@ -129,7 +137,11 @@ pub extern "C" fn bks_trie16_get(trie: &Trie<'_>, c: u32) -> u16
     value_in(trie, c).unwrap_or(0)
 }
 
-/// The same of 32 bits.
+/// Returns the value of the code point `c` in a trie of 32-bit values. Above 0x10FFFF, and if the
+/// trie lacks a cell, it returns the error value, which is the last cell. It returns 0 if there is
+/// no trie.
+///
+/// ICU: `ucptrie_get`.
 #[unsafe(no_mangle)]
 pub extern "C" fn bks_trie32_get(trie: &Trie<'_>, c: u32) -> u32
     ensures { result ≡ value_at 4 trie.now c }
@@ -137,8 +149,9 @@ pub extern "C" fn bks_trie32_get(trie: &Trie<'_>, c: u32) -> u32
     value_in(trie, c).unwrap_or(0)
 }
 
-/// The values of many code points in a trie of 8 bits: value `i` is that of `points[i]`, as far as
-/// both reach. How many there are; what follows them in `values` is unchanged.
+/// Writes the values of code points in a trie of 8-bit values: `values[i]` becomes the value of
+/// `points[i]`, for each index that both slices have. Returns how many values it wrote. The rest of
+/// `values` is unchanged.
 #[unsafe(no_mangle)]
 pub extern "C" fn bks_trie8_get_many(trie: &Trie<'_>, points: &[u32], values: &mut [u8]) -> usize
     ensures count { result ≡ min (length points.now) (length values.old) }
@@ -147,7 +160,9 @@ pub extern "C" fn bks_trie8_get_many(trie: &Trie<'_>, points: &[u32], values: &m
     write_values(trie, points, values, 0)
 }
 
-/// The same of 16 bits.
+/// Writes the values of code points in a trie of 16-bit values: `values[i]` becomes the value of
+/// `points[i]`, for each index that both slices have. Returns how many values it wrote. The rest of
+/// `values` is unchanged.
 #[unsafe(no_mangle)]
 pub extern "C" fn bks_trie16_get_many(trie: &Trie<'_>, points: &[u32], values: &mut [u16]) -> usize
     ensures count { result ≡ min (length points.now) (length values.old) }
@@ -156,7 +171,9 @@ pub extern "C" fn bks_trie16_get_many(trie: &Trie<'_>, points: &[u32], values: &
     write_values(trie, points, values, 0)
 }
 
-/// The same of 32 bits.
+/// Writes the values of code points in a trie of 32-bit values: `values[i]` becomes the value of
+/// `points[i]`, for each index that both slices have. Returns how many values it wrote. The rest of
+/// `values` is unchanged.
 #[unsafe(no_mangle)]
 pub extern "C" fn bks_trie32_get_many(trie: &Trie<'_>, points: &[u32], values: &mut [u32]) -> usize
     ensures count { result ≡ min (length points.now) (length values.old) }

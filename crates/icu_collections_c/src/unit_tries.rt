@@ -1,8 +1,8 @@
-//! Unit tries over bytes: maps from keys of 16-bit units to numbers (UCharsTrie).
+//! Look-ups in unit tries over bytes: maps from keys of 16-bit units to numbers (`UCharsTrie`).
 //!
-//! Two bytes are a unit, the lowest first, at any address; an odd last byte is none. Any bytes are
-//! answered: a unit that is needed and is not there is no match, and a value whose units are cut
-//! off is 0.
+//! Two bytes are a unit, the low byte first, at any address. An odd last byte is not part of any
+//! unit. Any bytes are accepted: if a unit is needed and missing, nothing matches, and if the units
+//! of a value are cut off, the value is 0.
 ghost use Rattle.std.specs.Prelude.{◌≡◌, ℕ, pos, List, [], ◌∷◌, ◌++◌, not};
 ghost use Rattle.std.specs.Str.{IsCharBoundary, IsUtf8};
 ghost use Rattle.icu_char16trie.specs.Grammar.{IsTrieOf};
@@ -17,20 +17,20 @@ ghost use Rattle.icu_collections_c.specs.UnitTries.{GivesMatchInText, GivesMatch
 use crate::units::{give, give_match, step_number, trie_in};
 use icu_char16trie::char16trie::{Char16TrieCursor, CursorPlace};
 
-/// Where a cursor stands in a unit trie, by value (UCharsTrie::State). All zeros is the root,
-/// before any unit. Any numbers are a place: from one that no cursor had, steps lead where the
-/// units say.
+/// The position of a cursor in a unit trie, passed by value (`UCharsTrie::State`). All zeros is the
+/// root, before any unit. Any numbers are a position: from one that no cursor had, steps lead to
+/// where the units say.
 #[repr(C)]
 #[derive(Clone, Copy)]
 pub struct Cursor {
-    /// The place of the next unit among the units of the trie.
+    /// The index of the next unit among the units of the trie.
     pub position: usize,
-    /// 0 at a node; in a linear match how many of its units are left, 1 to 256; above 256 after no
+    /// 0 at a node. In a linear match, how many of its units are left, 1 to 256. Above 256 after no
     /// match.
     pub left: u16,
 }
 
-/// The same place, as the library has it.
+/// Converts the cursor to the position that the library uses.
 #[inline(always)]
 fn place_of(cursor: &Cursor) -> CursorPlace
     ensures { result ≡ record { position = cursor.now.position; left = cursor.now.left } }
@@ -41,14 +41,16 @@ fn place_of(cursor: &Cursor) -> CursorPlace
     }
 }
 
-/// The value of a key (UCharsTrie: reset, next and getValue): true, and `value` is it; false where
-/// the key is not there, and `value` stays.
+/// Looks up a key. Returns true and stores its value in `value`. Returns false if the trie does not
+/// have the key; `value` is then unchanged.
+///
+/// ICU: `UCharsTrie::reset`, `next` for each unit, and `getValue`.
 #[unsafe(no_mangle)]
 pub extern "C" fn bks_units_get(units: &[u8], key: &[u16], value: &mut i32) -> bool
     ensures keys { (m : UnitMap) → IsTrieOf (units_of units.now) m
         → GivesValue (value_of m key.now) value.old result value.new }
 
-    // On all units: what the steps of the units lead to.
+    // For any units: the value at the position to which the steps of the key lead.
     ensures exact { GivesValueAlong (units_of units.now) key.now value.old result value.new }
 {
     let trie = trie_in(units);
@@ -59,10 +61,11 @@ pub extern "C" fn bks_units_get(units: &[u8], key: &[u16], value: &mut i32) -> b
     give(cursor.value(), value)
 }
 
-/// The longest key that begins a text: how many units it has, and `value` is its value.
+/// Finds the longest key that is a prefix of a text. Returns how many units it has and stores its
+/// value in `value`. The empty key is a prefix of every text.
 ///
 /// # Errors
-/// -4 where no key begins the text, and then `value` stays. The empty key begins each text.
+/// Returns -4 if no key is a prefix of the text. `value` is then unchanged.
 #[unsafe(no_mangle)]
 pub extern "C" fn bks_units_longest(units: &[u8], text: &[u16], value: &mut i32) -> i64
     ensures keys { (m : UnitMap) → IsTrieOf (units_of units.now) m
@@ -73,11 +76,13 @@ pub extern "C" fn bks_units_longest(units: &[u8], text: &[u16], value: &mut i32)
     give_match(trie_in(units).longest_match(text), value)
 }
 
-/// The same of a UTF-8 text: how many of its bytes the key is, and a character ends there. A key is
-/// here the units in UTF-16 of some first characters.
+/// Finds the longest key that is a prefix of a UTF-8 text. Returns how many bytes of the text it
+/// takes and stores its value in `value`. The prefix ends at a character boundary: only keys are
+/// found that are the UTF-16 form of the first characters of the text.
 ///
 /// # Errors
-/// -3 where the text is no UTF-8; -4 where no key begins it. Then `value` stays.
+/// Returns -3 if the text is not UTF-8, and -4 if no key is a prefix of it. `value` is then
+/// unchanged.
 #[unsafe(no_mangle)]
 pub extern "C" fn bks_units_longest_utf8(units: &[u8], text: &[u8], value: &mut i32) -> i64
     ensures keys { (m : UnitMap) → IsTrieOf (units_of units.now) m
@@ -93,9 +98,15 @@ pub extern "C" fn bks_units_longest_utf8(units: &[u8], text: &[u8], value: &mut 
     }
 }
 
-/// One more unit (UCharsTrie::next). Whether keys end or go on there: 0 after no match, from where
-/// no unit matches; 1 where the units so far are no key and some key goes on; 2 where they are a
-/// key that none goes on from; 3 where they are a key and some key goes on (UStringTrieResult).
+/// Moves the cursor by one more unit, and returns whether a key ends there and whether a key
+/// continues (`UStringTrieResult`):
+///
+/// - 0: no match; from here no unit matches
+/// - 1: the units so far are not a key, but some key continues
+/// - 2: the units so far are a key, and no key continues
+/// - 3: the units so far are a key, and some key continues
+///
+/// ICU: `UCharsTrie::next`.
 #[unsafe(no_mangle)]
 pub extern "C" fn bks_units_step(units: &[u8], cursor: &mut Cursor, unit: u16) -> u32
     ensures root { (m : UnitMap) → IsTrieOf (units_of units.now) m
@@ -105,7 +116,7 @@ pub extern "C" fn bks_units_step(units: &[u8], cursor: &mut Cursor, unit: u16) -
     ensures keys { (m : UnitMap) (w : List ℕ) → HasPassed (at units.now cursor.new) m w
         → result ≡ step_number (result_of (value_of m w) (not (goes_on m w))) }
 
-    // On all units: the one place that the unit leads to.
+    // For any units: the one position to which the unit leads.
     ensures exact { StepsTo (units_of units.now) (place_of cursor.old) unit (place_of cursor.new) }
     ensures only { (q : Place) → StepsTo (units_of units.now) (place_of cursor.old) unit q
         → q ≡ place_of cursor.new }
@@ -122,8 +133,10 @@ pub extern "C" fn bks_units_step(units: &[u8], cursor: &mut Cursor, unit: u16) -
     step_number(&going)
 }
 
-/// The value of the units so far (UCharsTrie::getValue): true, and `value` is it; false where they
-/// are no key, and `value` stays.
+/// Returns the value of the units so far: true, and the value is stored in `value`. Returns false
+/// if they are not a key; `value` is then unchanged.
+///
+/// ICU: `UCharsTrie::getValue`.
 #[unsafe(no_mangle)]
 pub extern "C" fn bks_units_value(units: &[u8], cursor: &Cursor, value: &mut i32) -> bool
     ensures root { (m : UnitMap) → IsTrieOf (units_of units.now) m

@@ -1,4 +1,4 @@
-//! Unit tries in bytes, and what is told of them.
+//! Unit tries in bytes, and the results of their look-ups.
 ghost use Rattle.std.specs.Prelude.{◌≡◌, ℕ, ◌<◌, ◌^◌, List, IfSome, not};
 ghost use Rattle.icu_char16trie.specs.Passed.{answer_at, result_of};
 ghost use Rattle.icu_char16trie.specs.UnitMap.{UnitMap, goes_on, value_of};
@@ -8,7 +8,7 @@ ghost use Rattle.icu_collections_c.specs.UnitTries.{GivesMatch, GivesValue, step
 use icu_char16trie::char16trie::{Char16Trie, Char16TrieCursor};
 use icu_zerovec::ZeroVec;
 
-/// The trie of the units in the bytes. An odd last byte is left out.
+/// Returns the trie of the units in the bytes. An odd last byte is left out.
 #[inline(always)]
 pub(crate) fn trie_in(bytes: &[u8]) -> Char16Trie<'_>
     ensures { result ≡ units_of bytes.now }
@@ -19,7 +19,7 @@ pub(crate) fn trie_in(bytes: &[u8]) -> Char16Trie<'_>
     }
 }
 
-/// Writes a value, if there is one, and answers whether there is.
+/// Stores the value if there is one, and returns whether there is.
 #[inline(always)]
 pub(crate) fn give(found: Option<i32>, value: &mut i32) -> bool
     ensures { GivesValue found value.old result value.new }
@@ -33,7 +33,8 @@ pub(crate) fn give(found: Option<i32>, value: &mut i32) -> bool
     }
 }
 
-/// Writes the value of a match, if there is one, and answers its length; -4 where there is none.
+/// Stores the value of a match if there is one, and returns its length. Returns -4 if there is no
+/// match.
 #[inline(always)]
 pub(crate) fn give_match(found: Option<(usize, i32)>, value: &mut i32) -> i64
     requires { IfSome found (λ found. found.0 < 2 ^ 63) }
@@ -48,7 +49,7 @@ pub(crate) fn give_match(found: Option<(usize, i32)>, value: &mut i32) -> i64
     }
 }
 
-/// The number of what is told where the cursor stands.
+/// Returns the number for the result at the cursor's position (`UStringTrieResult`).
 #[inline(always)]
 pub(crate) fn step_number(cursor: &Char16TrieCursor<'_>) -> u32
     ensures keys { (m : UnitMap) (w : List ℕ) → HasPassed cursor.now m w

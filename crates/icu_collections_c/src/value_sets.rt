@@ -12,7 +12,7 @@ use icu_trie::cptrie::CodePointTrie;
 use icu_zerovec::{MemoryError, ZeroVec};
 use std::alloc::Global;
 
-/// The trie of these cells. `None` where they are no trie.
+/// Returns the trie of these cells. `None` if they are not a trie.
 fn trie_of<'a, T: UnsignedValue>(trie: &Trie<'a>) -> Option<CodePointTrie<'a, T>>
     ensures { MatchOption result (¬ (IsSound T.of_number T.unpack T.WIDTH trie.now))
         (λ t. IsSound T.of_number T.unpack T.WIDTH trie.now
@@ -23,7 +23,7 @@ fn trie_of<'a, T: UnsignedValue>(trie: &Trie<'a>) -> Option<CodePointTrie<'a, T>
     CodePointTrie::try_new(header_of(trie), index, values).ok()
 }
 
-/// The set of the value that has this number: the empty set where no value has it.
+/// Returns the set of the value with this number, or the empty set if no value has this number.
 fn set_of<T: UnsignedValue>(
     alloc: Global,
     trie: &CodePointTrie<'_, T>,
@@ -37,7 +37,7 @@ fn set_of<T: UnsignedValue>(
     trie.get_set_for_value(alloc, value)
 }
 
-/// `bks_trie_set` of such values.
+/// `bks_trie_set` for values of type `T`.
 fn set_answered<T: UnsignedValue>(
     alloc: Global,
     trie: &Trie<'_>,
@@ -57,11 +57,14 @@ fn set_answered<T: UnsignedValue>(
     }
 }
 
-/// The set of the code points whose range has this value, over a coherent trie of those that have
-/// it: how many ends it has, and as many of them in the buffer as there is room for.
+/// Writes the boundaries of the set of the code points in ranges of this value into a buffer, as
+/// many as fit, and returns how many there are. In a coherent trie these are the code points that
+/// have the value.
 ///
 /// # Errors
-/// -1 where memory was refused; -2 of what is no trie. The buffer is then unchanged.
+/// Returns -2 if the fields of `trie` do not describe a trie, as those of one that
+/// [`bks_trie_open`](crate::opening::bks_trie_open) made do, and -1 if an allocation fails. The
+/// buffer is then unchanged.
 #[unsafe(no_mangle)]
 pub extern "C" fn bks_trie_set(alloc: Global, trie: &Trie<'_>, value: u32, ends: &mut [u32]) -> i64
     ensures { let width = value_width trie.now.width in

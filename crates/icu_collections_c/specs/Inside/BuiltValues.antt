@@ -1,4 +1,4 @@
--- Tries that are built of rows, over values of any type by their numbers.
+-- Tries that are built from rows, over values of any type, compared by the numbers of the values.
 use Rattle.std.specs.Prelude.{◌≡◌, ℕ, ◌<◌, ◌≤◌, ◌⊎◌, List, length, map, Option, Some, option_map}
 use Rattle.icu_trie.specs.Parts.{Parts, trie_value}
 use Rattle.icu_trie.specs.Ranges.{IsCoherentTrie}
@@ -19,32 +19,34 @@ use Rattle.icu_collections_c.specs.declared.building.Row.{Row}
 use Rattle.icu_collections_c.specs.declared.building.Refusal.{Refusal}
 use Rattle.icu_collections_c.specs.declared.building.Refusal.TheVariants as Refused
 
--- why no trie is built, by what a builder refuses, and by what a writer does
+-- Why no trie is built, by the error of the builder and by that of the writer.
 abbrev pub of_build : BuildError → Refusal
 of_build TooLarge = Refused.TooLarge
 of_build Memory = Refused.Memory
 
+-- The same for an error of the writer.
 abbrev pub of_write : WriteError → Refusal
 of_write write.Memory = Refused.Memory
 of_write _ = Refused.TooLarge
 
 module _ {T : Type 0} (number : T → ℕ) where
-  -- the row that says what a write does
+  -- The row that says what a write does.
   abbrev pub row_of : Write T → Row
   row_of w = record { first = write_first w; last = write_last w; value = number (write_value w) }
 
-  -- the writes do what the rows say, one each
+  -- The writes do what the rows say, one write for each row.
   abbrev pub AreWritesOf : List Row → List (Write T) → Type 0
   AreWritesOf rows writes = map row_of writes ≡ rows
 
-  -- the trie is of the type, and the numbers of its answers are those that the rows ask for
+  -- The trie has the type, and the numbers of its values are those that the rows give.
   pub record IsTrieOfNumbers (rows : List Row) (default error : ℕ) (kind : TrieType) (t : Parts T)
       : Type 0 where
     pub of_kind : t.header.trie_type ≡ kind
     pub answers : (u : ℕ)
         → option_map number (trie_value t u) ≡ Some (row_answer rows default error u)
 
-  -- the bytes are, whole, such a trie, which is coherent, and no more than such rows take
+  -- All the bytes together are such a trie. It is coherent, and takes no more bytes than such rows
+  -- may.
   pub record IsBuiltOf (unpack : List ℕ → Option T) (width : ℕ) (of_number : ℕ → Option T)
       (rows : List Row) (default error : ℕ) (kind : TrieType) (bytes : List ℕ) : Type 0 where
     pub trie : Parts T
@@ -53,7 +55,7 @@ module _ {T : Type 0} (number : T → ℕ) where
     pub coherent : IsCoherentTrie of_number trie
     pub size : length bytes ≤ most_bytes (length rows) (type_number kind) width
 
-  -- the map is too large for a trie, or such a trie for the form
+  -- The map is too large for a trie, or such a trie is too large for the binary form.
   abbrev pub IsTooLargeOf : (ℕ → Option T) → ℕ → List Row → ℕ → ℕ → TrieType → Type 0
   IsTooLargeOf of_number width rows default error kind =
       ((256 < length rows) × IsTooLarge (row_value rows default))

@@ -1,4 +1,4 @@
--- The answer is how many ends the set has, and they are written.
+-- The result is how many boundaries the set has, and they are written.
 use Rattle.std.proofs.Common.{◌≡◌, ◌<◌, ◌^◌, ◌∙◌, ap, refl, arith, length, w64}
 use Rattle.std.proofs.lemmas.Int.{to_z_pos}
 use Rattle.icu_collections_c.specs.Buffers.{written}

@@ -1,4 +1,4 @@
--- Past the cells is none.
+-- There is no value past the cells.
 use Rattle.std.proofs.Common.{◌≤◌, ◌/◌, sym, length}
 use Rattle.icu_collections_c.proofs.CellLemmas.{get_past-values_of}
 use Rattle.icu_collections_c.proofs.cells.value_at.Goals as goal

@@ -1,4 +1,4 @@
--- Value i is that of cell i.
+-- Value i is the value of cell i.
 use Rattle.std.proofs.Common.{◌≡◌, ◌+◌, ◌-◌, ◌*◌, ◌∙◌, ap, sym, arith, take, drop}
 use Rattle.icu_collections_c.proofs.CellLemmas.{get-values_of}
 use Rattle.icu_collections_c.proofs.cells.value_there.Goals as goal

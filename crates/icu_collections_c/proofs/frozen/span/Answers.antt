@@ -1,4 +1,5 @@
--- The text is walked character by character, each of which is held as the words say.
+-- The walk visits the text character by character, and the words say of each whether the set
+-- contains it.
 use Rattle.std.proofs.Common.{◌≡◌, ◌∙◌, ap, sym, arith, Bool}
 use Rattle.std.proofs.lemmas.Bool.{not-true, not-false}
 use Rattle.icu_collections_c.specs.Frozen.{is_held}

@@ -1,4 +1,4 @@
--- The items are the entries, since none of them was a want of memory.
+-- The items are the entries, since none of them was a failed allocation.
 use Rattle.std.proofs.Common.{sym, subst, w32, rules, map}
 use Rattle.std.specs.Iterator.{Yields, Drains}
 use Rattle.std.proofs.lemmas.Int.{to_z-of_z}

@@ -5,7 +5,7 @@ use Rattle.icu_collections_c.specs.BytesTrie.{cells_of, parts_in}
 use Rattle.icu_collections_c.proofs.RangeLemmas.{HasWritten}
 use Rattle.icu_collections_c.proofs.ranges.write_ranges_counted.Given as goal
 
--- the cells are those of the trie, and the ranges so far are written, one after another
+-- The cells are those of the trie, and the ranges so far are written, one after another.
 abbrev pub invariant-loop-i : goal.invariant-loop-i
 invariant-loop-i g l = record {
   kept : contents_of (cells_of 2 l.cells.index.now) (values_of g.T.AsULE.unpack g.T.AsULE.WIDTH l.cells.values.now)

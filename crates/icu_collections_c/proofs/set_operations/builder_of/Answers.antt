@@ -1,4 +1,4 @@
--- What is added to the empty set is the set, which has one list of ends.
+-- Adding to the empty set makes the set, which has one list of boundaries.
 use Rattle.std.proofs.Common.{refl, ◌∙◌}
 use Rattle.icu_invlist.proofs.CallerLemmas.{holds-nil, same_sets}
 use Rattle.icu_collections_c.proofs.set_operations.builder_of.Goals as goal

@@ -1,4 +1,5 @@
--- The set is what the flip left in the builder. Named, since a search tries what a second flip does.
+-- The set is what the flip left in the builder. Named, since a search tries what a second flip
+-- does.
 use Rattle.std.proofs.Common.{refl, ◌∙◌}
 use Rattle.icu_invlist.specs.InversionList.{one_of, holds}
 use Rattle.icu_collections_c.proofs.SetLemmas.{acts_answered}

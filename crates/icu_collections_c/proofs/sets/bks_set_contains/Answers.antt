@@ -1,4 +1,5 @@
--- The ends are in order, so those not above the number stand in front, and the search counts them.
+-- The boundaries are in order, so those not above the number come first, and the search counts
+-- them.
 use Rattle.std.proofs.Common.{ap, ℕ, Bool, rules, sym}
 use Rattle.std.specs.Prelude.{nat_le}
 use Rattle.std.proofs.lemmas.List.Sorted.{IsPartitionedBy-leb, IsPartitionPoint-from_clause}

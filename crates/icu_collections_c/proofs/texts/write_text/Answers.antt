@@ -1,4 +1,4 @@
--- The characters are gone through in order, and the values written as far as there is room.
+-- The characters are visited in order, and the values that fit are written.
 use Rattle.std.proofs.Common.{◌≡◌, ◌∙◌, ◌<◌, ap, arith, length, get_or, ℕ}
 use Rattle.std.specs.Prelude.{min, unwrap_or}
 use Rattle.std.specs.Str.{chars}

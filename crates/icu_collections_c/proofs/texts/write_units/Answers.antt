@@ -1,4 +1,4 @@
--- The code points are gone through in order, and the values written as far as there is room.
+-- The code points are visited in order, and the values that fit are written.
 use Rattle.std.proofs.Common.{◌≡◌, ◌∙◌, ap, sym, arith, length, get_or, ℕ}
 use Rattle.std.specs.Prelude.{min, unwrap_or}
 use Rattle.icu_trie.specs.Parts.{trie_value}

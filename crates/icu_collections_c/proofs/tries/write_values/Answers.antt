@@ -1,4 +1,4 @@
--- The values are written one after another, as far as there is room.
+-- The values that fit are written one after another.
 use Rattle.std.proofs.Common.{◌≡◌, ◌∙◌, ◌<◌, ap, arith, length, get_or, ℕ}
 use Rattle.std.specs.Prelude.{min, unwrap_or}
 use Rattle.icu_trie.specs.Parts.{trie_value}

@@ -1,4 +1,4 @@
--- The units of the key are passed one after another.
+-- The cursor passes the units of the key one after another.
 use Rattle.std.proofs.Common.{◌∙◌, get_or, subst}
 use Rattle.std.proofs.lemmas.List.{take_more}
 use Rattle.icu_char16trie.specs.Steps.{StepsTo}

@@ -7,7 +7,7 @@ use Rattle.icu_char16trie.specs.declared.place.Place.TheVariants.{Node}
 use Rattle.icu_collections_c.specs.UnitTries.{units_of}
 use Rattle.icu_collections_c.proofs.unit_tries.bks_units_get.Given as goal
 
--- the cursor has passed the units so far
+-- The cursor has passed the units so far.
 abbrev pub invariant-loop-unit : goal.invariant-loop-unit
 invariant-loop-unit l = record {
   units : l.cursor.units ≡ units_of l.units;

@@ -1,4 +1,4 @@
--- One entry more, kept or not.
+-- One more entry, stored or not.
 use Rattle.std.proofs.Common.{◌≡◌, refl, subst, to_z, of_z, w32, rules}
 use Rattle.std.proofs.lemmas.Int.{to_z-of_z}
 use Rattle.icu_collections_c.specs.Inside.Listed.{IsKept}
