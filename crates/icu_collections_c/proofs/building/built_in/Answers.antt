@@ -79,8 +79,9 @@ returns-clause-built g c =
       stored = c.in_ok-to_binary.ensures.read;
       of_rows = stored-of_rows number rows c.deref.result.now is d e default error d-is e-is
           c.in_ok-trie.trie c.in_ok-trie.ensures.answers c.args.trie_type c.in_ok-trie.ensures.trie_type width;
-      coherent = coherent-stored_form g.T.TrieValue.of_number number width (value_after c.deref.result.now d) e
-          c.in_ok-trie.trie c.in_ok-trie.ensures.answers c.in_ok-trie.ensures.built c.in_ok-to_binary.ensures.room c.parts.ensures.whole;
+      coherent = coherent-stored_form g.T.AsULE.unpack width number g.T.TrieValue.of_number (value_after c.deref.result.now d) e
+          c.in_ok-trie.trie c.in_ok-trie.ensures.answers c.in_ok-trie.ensures.built _ _ c.in_ok-to_binary.ensures.read
+          c.in_ok-to_binary.ensures.room;
       size = size-of_rows number d c.deref.result.now rows is g.T.TrieValue.of_number c.in_ok-trie.trie c.args.trie_type
           c.in_ok-trie.ensures.trie_type c.in_ok-trie.ensures.built width _ c.in_ok-to_binary.ensures.len;
     }
