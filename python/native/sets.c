@@ -1,12 +1,12 @@
 /* The type bekstaudi._native.CodePointSet.
  *
- * A set has its boundaries. Once it was asked often enough, it also has its frozen form, which takes
- * two reads per question and 9 to 148 kB. Sets never change, so nobody can see the difference. */
+ * A set stores its boundaries. After many look-ups it also stores its frozen form, a table of 9 to
+ * 148 kB that takes two reads per look-up. Sets never change, so callers see no difference but time. */
 #include "shared.h"
 #include <string.h>
 
-/* A set with at most MANY_ENDS boundaries, or asked for fewer than MANY_TESTS code points, is not
- * frozen: its binary search is short, or the table would not pay off. */
+/* A set is not frozen if it has at most MANY_ENDS boundaries, as its binary search is short, or before
+ * it has looked up MANY_TESTS code points, as the table would not pay off. */
 #define MANY_ENDS 16
 #define MANY_TESTS 512
 
@@ -97,7 +97,7 @@ static PyObject *set_from_bytes(PyTypeObject *type, PyObject *args) {
     return raise_error("NoSet", NULL);
 }
 
-/* Makes the frozen form. Without memory the set stays as it is, and is asked for longer. */
+/* Makes the frozen form. If an allocation fails the set stays as it is, which only takes more time. */
 static void freeze(code_point_set *self) {
     uint64_t nothing[1];
     self->tests = 0;
@@ -145,7 +145,7 @@ static PyObject *set_ends(code_point_set *self, void *none) {
     return ends;
 }
 
-/* A long span goes on by copies of the text of so many characters, without the GIL. */
+/* A long span copies this many characters at a time, and releases the GIL while it looks them up. */
 #define SPAN_PART 65536
 
 static Py_ssize_t span_of_part(const code_point_set *self, const uint32_t *points, Py_ssize_t count, bool held) {
@@ -154,10 +154,10 @@ static Py_ssize_t span_of_part(const code_point_set *self, const uint32_t *point
     return i;
 }
 
-/* Goes on with a span at `at`. Returns where it ends, or -1 with an exception set. */
+/* Continues a span at the index `at`. Returns the index at which it ends, or -1 with an exception set. */
 static Py_ssize_t long_span(code_point_set *self, PyObject *text, Py_ssize_t at, Py_ssize_t length, bool held) {
     /* A copy, as another thread may freeze the set while the GIL is released. */
-    const code_point_set asked = *self;
+    const code_point_set copy = *self;
     uint32_t *points = PyMem_Malloc(SPAN_PART * sizeof *points);
     Py_ssize_t size = 0, found = 0;
     if (!points) return PyErr_NoMemory(), -1;
@@ -171,7 +171,7 @@ static Py_ssize_t long_span(code_point_set *self, PyObject *text, Py_ssize_t at,
             return -1;
         }
         Py_BEGIN_ALLOW_THREADS
-        found = span_of_part(&asked, points, size, held);
+        found = span_of_part(&copy, points, size, held);
         Py_END_ALLOW_THREADS
     }
     PyMem_Free(points);
@@ -240,7 +240,7 @@ static PyObject *set_invert(code_point_set *self) {
     return raise_refusal(count, "NoSet");
 }
 
-/* How many boundaries the result of an operation has, or -1 with an exception set. */
+/* Returns how many boundaries the result of an operation has, or -1 with an exception set. */
 static int64_t count_of(operation *call, const code_point_set *a, const code_point_set *b) {
     uint32_t nothing[1];
     int64_t count = call(a->ends, a->count, b->ends, b->count, nothing, 0);

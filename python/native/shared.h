@@ -1,8 +1,8 @@
 /* What the files of the extension module `bekstaudi._native` share.
  *
  * The module uses only the limited API of CPython 3.9, so one binary works from 3.9 on. It has no
- * global or module state: exceptions are looked up when they are raised, and `is_set` recognises a
- * set by its type's slots. It therefore works in subinterpreters. */
+ * global or module state, so it works in subinterpreters: exceptions are looked up when they are raised,
+ * and `is_set` recognises a set by its type's slots. */
 #ifndef BEKSTAUDI_SHARED_H
 #define BEKSTAUDI_SHARED_H
 
@@ -11,7 +11,7 @@
 #include <Python.h>
 #include <bekstaudi.h>
 
-/* How many numbers a call handles before it is worth releasing the GIL: some ten microseconds. */
+/* The GIL is released by calls over more numbers than this, which take more than 10 microseconds. */
 #define LONG_CALL 8192
 
 /* ---- Errors ---- */

@@ -28,9 +28,9 @@ static size_t get_many(const bks_trie *trie, const uint32_t *points, size_t coun
                               : bks_trie32_get_many(trie, points, count, values, count);
 }
 
-/* Writes the value of each code point. Returns the index of the first that is no number of 32 bits,
- * or the count. Other people's memory is copied first, some of it at a time, so that the library
- * reads numbers that nobody changes meanwhile. */
+/* Writes the value of each code point. Returns how many it wrote: it stops before the first that is
+ * not a number of 32 bits. Memory of other objects is copied in parts first, so that nobody can change
+ * a number while the library reads it. */
 static Py_ssize_t write_values(const bks_trie *trie, const numbers *points, void *values) {
     uint32_t part[1024];
     if (points->copy) return (Py_ssize_t)get_many(trie, points->copy, (size_t)points->count, values);
@@ -80,7 +80,7 @@ static PyObject *trie_values(over_bytes *self, PyObject *args, PyObject *keyword
     return view;
 }
 
-/* The values of a slice of all code points. */
+/* Returns the values of a slice of all code points. */
 static PyObject *trie_slice(over_bytes *self, PyObject *slice) {
     Py_ssize_t start, stop, step;
     if (PySlice_Unpack(slice, &start, &stop, &step)) return NULL;
@@ -104,7 +104,7 @@ static PyObject *trie_item(over_bytes *self, PyObject *key) {
                                                       : bks_trie32_get(trie, (uint32_t)c));
 }
 
-/* The next ranges from a code point on, at most 256: a list of first, last and value. */
+/* Returns at most 256 ranges from a code point on: a list of first, last and value. */
 static PyObject *trie_ranges_from(over_bytes *self, PyObject *start) {
     bks_range ranges[256];
     int64_t c = checked_code_point(start);
@@ -118,7 +118,7 @@ static PyObject *trie_ranges_from(over_bytes *self, PyObject *start) {
     return list;
 }
 
-/* The boundaries of the set of a value, packed as uint32_t. */
+/* Returns the boundaries of the set of a value, packed as uint32_t. */
 static PyObject *trie_set_of(over_bytes *self, PyObject *given) {
     uint32_t value = (uint32_t)PyLong_AsUnsignedLong(given), nothing[1];
     if (PyErr_Occurred()) return NULL;
@@ -129,7 +129,7 @@ static PyObject *trie_set_of(over_bytes *self, PyObject *given) {
     if (count < 0) return raise_refusal(count, "NoTrie");
     uint32_t *ends = PyMem_Malloc(((size_t)count + 1) * sizeof *ends);
     int64_t written = ends ? bks_trie_set(&self->trie, value, ends, (size_t)count) : BKS_NO_MEMORY;
-    /* Bytes that somebody changed between the two calls may make another set. */
+    /* The set is another one if somebody changed the bytes between the two calls. */
     if (written > count) written = count;
     PyObject *packed = written < 0 ? raise_refusal(written, "NoTrie")
                                    : PyBytes_FromStringAndSize((char *)ends, written * (Py_ssize_t)sizeof *ends);

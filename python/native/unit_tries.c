@@ -36,7 +36,7 @@ static int64_t read_unit(PyObject *item) {
     return -1;
 }
 
-/* A key: `units`, which are `few` or memory to free. */
+/* The units of a key. `units` is `few` or memory to free. */
 typedef struct {
     uint16_t few[128];
     uint16_t *units;
@@ -109,14 +109,14 @@ static PyObject *units_get(over_bytes *self, PyObject *args, PyObject *keywords)
 
 /* ---- Prefixes of texts ---- */
 
-/* Where a search through a text is: `at` is the next character. */
+/* The state of a search through a text: `at` is the index of the next character. */
 typedef struct {
     bks_cursor cursor;
     uint32_t step;          /* of enum bks_step */
     Py_ssize_t at;
 } search;
 
-/* Goes on to the next character after which a key ends. Returns whether there is one. A key that
+/* Advances to the next character after which a key ends. Returns whether there is one. A key that
  * ends between the two units of a character does not count. */
 static bool next_end(over_bytes *self, PyObject *text, Py_ssize_t length, search *from) {
     uint16_t units[2];
@@ -129,7 +129,7 @@ static bool next_end(over_bytes *self, PyObject *text, Py_ssize_t length, search
     return false;
 }
 
-/* The key that ends where a cursor is, with its value. */
+/* Returns the key that ends at a cursor, with its value. */
 static PyObject *found_key(over_bytes *self, PyObject *text, Py_ssize_t start, const search *end) {
     int32_t value = 0;
     bks_units_value(self->bytes, self->size, &end->cursor, &value);
@@ -194,7 +194,7 @@ static PyObject *units_prefixes(over_bytes *self, PyObject *args, PyObject *keyw
 
 /* ---- Entries ---- */
 
-/* The entries as a list of pairs. */
+/* Returns the entries as a list of pairs. */
 static PyObject *pairs_of(const bks_word *words, size_t count, const char *texts) {
     PyObject *list = PyList_New((Py_ssize_t)count);
     for (size_t i = 0; list && i < count; i++) {
@@ -233,7 +233,7 @@ static PyObject *units_items(over_bytes *self, PyObject *none) {
         Py_END_ALLOW_THREADS
     }
     if (listed < 0) raise_refusal(listed, "NoTrie");
-    else if (listed > count || needed > size) PyErr_SetString(PyExc_RuntimeError, "the units changed meanwhile");
+    else if (listed > count || needed > size) PyErr_SetString(PyExc_RuntimeError, "the units changed while they were listed");
     else list = pairs_of(words, (size_t)listed, texts);
     PyMem_Free(words);
     PyMem_Free(texts);

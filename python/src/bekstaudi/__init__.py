@@ -12,7 +12,7 @@
 A code point is an int, or a str of one character; anything else is a TypeError. Objects never
 change. They read bytes-like objects in place if these are read-only, such as bytes and
 `mmap.mmap(file.fileno(), 0, access=mmap.ACCESS_READ)`, and copy all others. The bytes of a mapped
-file must not change while an object reads them: answers are then unspecified, but memory-safe.
+file must not change while an object uses them: results are then unspecified, but memory-safe.
 """
 import collections.abc
 import itertools
