@@ -93,6 +93,18 @@ NOT_IN_RUST = (
     r"\bGlobal\b", r"\b(?<!crate::)alloc\b", r"\bstd::\w+", r"\bthiserror\b", r"\bModel\b",
     r"\bcore::[^;(]*\b(?:Brand|Drop)\b", r"\bstd::\{"
 )
+# The loop of write_text.
+WRITTEN_BY_SLOTS = """\
+    let mut chars = text.chars();
+    for slot in values.iter_mut() {
+        let Some(c) = chars.next() else {
+            return count;
+        };
+        *slot = value_of(&header, index, cells, u32::from(c)).unwrap_or(none);
+        count += 1;
+    }
+    count + chars.count()
+"""
 # Changes to one source: pattern, replacement, and how often the pattern occurs.
 EDITS = {
     # Reads of cells, by the functions of rust/support/cells.
@@ -111,6 +123,14 @@ EDITS = {
             1,
         ),
         (r"(?=use icu_trie_core::cells)", "use crate::support::cells::{cell, proved_cell};\n", 1),
+        (r"(count_of::<T>\(bytes\))\.saturating_sub\(1\)", r"\1.checked_sub(1)?", 1),
+    ],
+    # What makes the C library fast: the error value is a cold path, and a text is written slot by slot.
+    "icu_collections_c/tries": [
+        (r"None => last_value\(values\),", "None => {\n            crate::cold();\n            last_value(values)\n        }", 1),
+    ],
+    "icu_collections_c/texts": [
+        (r"    for c in text\.chars\(\) \{\n(?:.*\n){4}    count\n", WRITTEN_BY_SLOTS, 1),
     ],
     # Two types that differ in lifetimes only may have different widths, so a vector of one must not
     # be accepted as a vector of the other.

@@ -84,6 +84,11 @@ unsafe fn slice_mut<'a, T>(first: *mut T, count: usize) -> &'a mut [T] {
     unsafe { core::slice::from_raw_parts_mut(first, count) }
 }
 
+/// Marks a path as unlikely, so that the compiler favours the others.
+#[cold]
+#[inline(never)]
+fn cold() {}
+
 // The modules of rust/bekstaudi. rust/make writes this list.
 #[forbid(unsafe_code)]
 #[path = "../../bekstaudi/src/char16trie.rs"]

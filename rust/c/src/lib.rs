@@ -84,3 +84,8 @@ unsafe fn slice_mut<'a, T>(first: *mut T, count: usize) -> &'a mut [T] {
     unsafe { core::slice::from_raw_parts_mut(first, count) }
 }
 
+/// Marks a path as unlikely, so that the compiler favours the others.
+#[cold]
+#[inline(never)]
+fn cold() {}
+
