@@ -1,8 +1,8 @@
 //! Maps from keys of 16-bit units to numbers that are read in place (ICU's unit tries).
 //!
-//! [`Char16TrieBuilder`] builds a trie. [`Char16Trie::cursor`] and [`Char16Trie::iter`] look keys up
-//! unit by unit. [`Char16Trie::longest_match`] and [`Char16Trie::matches`] find the keys that are
-//! prefixes of a text. [`Char16Trie::iter2`] and [`Char16Trie::entries`] list the entries.
+//! [`Char16TrieBuilder`] builds a trie. [`Char16Trie::cursor`] and [`Char16Trie::iter`] look keys
+//! up unit by unit. [`Char16Trie::longest_match`] and [`Char16Trie::matches`] find the keys that
+//! are prefixes of a text. [`Char16Trie::iter2`] and [`Char16Trie::entries`] list the entries.
 //!
 //! ```
 //! use bekstaudi::char16trie::{Char16TrieBuilder, Char16TrieCursor};
@@ -49,7 +49,8 @@ impl Char16Trie<'_> {
     /// Returns the entries in unit order, each with its key decoded lossily.
     ///
     /// # Panics
-    /// The iterator panics if an allocation fails; that of [`try_iter2`](Self::try_iter2) returns an
+    /// The iterator panics if an allocation fails; that of [`try_iter2`](Self::try_iter2) returns
+    /// an
     /// error then.
     pub fn iter2(&self) -> impl Iterator<Item = (String, i32)> + '_ {
         self.try_iter2().map(plain)
@@ -66,7 +67,8 @@ impl Char16Trie<'_> {
     /// Returns the number of entries, at most `u64::MAX`, or `None` if the units are no trie.
     ///
     /// # Panics
-    /// Panics if an allocation fails; [`try_count_entries`](Self::try_count_entries) returns an error
+    /// Panics if an allocation fails; [`try_count_entries`](Self::try_count_entries) returns an
+    /// error
     /// then.
     pub fn count_entries(&self) -> Option<u64> {
         plain(self.try_count_entries())
@@ -77,7 +79,8 @@ impl Char16TrieCursor<'_> {
     /// Returns the units with which some key continues from here, ascending.
     ///
     /// # Panics
-    /// Panics if an allocation fails; [`try_next_units`](Self::try_next_units) returns an error then.
+    /// Panics if an allocation fails; [`try_next_units`](Self::try_next_units) returns an error
+    /// then.
     pub fn next_units(&self) -> Vec<u16> {
         plain(self.try_next_units())
     }

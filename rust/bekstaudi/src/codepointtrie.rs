@@ -2,8 +2,8 @@
 //!
 //! [`CodePointTrieBuilder`] builds a trie, [`CodePointTrie::get32`] looks a code point up, and
 //! [`CodePointTrieBuilder::from_trie`] changes a trie and builds it again. [`binary::from_binary`]
-//! reads a trie that ICU wrote where it is. [`CodePointTrie::try_new`] makes a trie of its parts, as
-//! other files have them, and borrows them. [`text::values_of`] returns the values in a text.
+//! reads a trie that ICU wrote where it is. [`CodePointTrie::try_new`] makes a trie of its parts,
+//! as other files have them, and borrows them. [`text::values_of`] returns the values in a text.
 //!
 //! ```
 //! use bekstaudi::codepointtrie::{CodePointTrieBuilder, TrieType};
@@ -70,7 +70,8 @@ impl<T: TrieValue> CodePointTrie<'_, T> {
     /// Returns the set of the code points that have this value.
     ///
     /// # Panics
-    /// Panics if an allocation fails; [`try_get_set_for_value`](Self::try_get_set_for_value) returns an error then.
+    /// Panics if an allocation fails; [`try_get_set_for_value`](Self::try_get_set_for_value)
+    /// returns an error then.
     pub fn get_set_for_value(&self, value: T) -> CodePointInversionList<'static> {
         plain(self.try_get_set_for_value(value))
     }
@@ -97,7 +98,8 @@ impl<T: TrieValue> CodePointTrieBuilder<T> {
     /// 0x10FFFF.
     ///
     /// # Panics
-    /// Panics if an allocation fails; [`try_set_range_value`](Self::try_set_range_value) returns an error then.
+    /// Panics if an allocation fails; [`try_set_range_value`](Self::try_set_range_value) returns an
+    /// error then.
     pub fn set_range_value(&mut self, range: RangeInclusive<u32>, value: T) {
         plain(self.try_set_range_value(range, value));
     }

@@ -56,7 +56,7 @@ impl CodePointInversionListBuilder {
         add32 = try_add32(c: u32);
         "Adds each character in `range` to the set."
         add_range = try_add_range(range: impl RangeBounds<char>);
-        "Adds each code point in `range` to the set. A range with numbers above 0x10FFFF adds nothing."
+        "Adds each code point in `range`. A range with numbers above 0x10FFFF adds nothing."
         add_range32 = try_add_range32(range: impl RangeBounds<u32>);
         "Adds each code point of `set` to the set."
         add_set = try_add_set(set: &CodePointInversionList<'_>);
@@ -74,11 +74,11 @@ impl CodePointInversionListBuilder {
         retain_set = try_retain_set(set: &CodePointInversionList<'_>);
         "Adds `c` if the set does not contain it, and else removes it."
         complement_char = try_complement_char(c: char);
-        "Adds the code point `c` if the set does not contain it, and else removes it. Ignores numbers above 0x10FFFF."
+        "Adds the code point `c`, or removes it if the set contains it. Ignores other numbers."
         complement32 = try_complement32(c: u32);
-        "Adds each character in `range` that the set does not contain, and removes the others in it."
+        "Adds each character in `range` that is not in the set, and removes the others in it."
         complement_range = try_complement_range(range: impl RangeBounds<char>);
-        "Adds each code point in `range` that the set does not contain, and removes the others in it."
+        "Adds each code point in `range` that is not in the set, and removes the others in it."
         complement_range32 = try_complement_range32(range: impl RangeBounds<u32>);
         "Adds each code point of `set` that the set does not contain, and removes the others of it."
         complement_set = try_complement_set(set: &CodePointInversionList<'_>);
@@ -87,7 +87,8 @@ impl CodePointInversionListBuilder {
     /// Complements the set: it then contains exactly the code points that it did not.
     ///
     /// # Panics
-    /// Panics if an allocation fails; [`try_complement`](Self::try_complement) returns an error then.
+    /// Panics if an allocation fails; [`try_complement`](Self::try_complement) returns an error
+    /// then.
     pub fn complement(&mut self) {
         plain(self.try_complement());
     }
@@ -111,7 +112,8 @@ impl CodePointInversionList<'_> {
     /// Returns the boundaries of the set, ascending.
     ///
     /// # Panics
-    /// Panics if an allocation fails; [`try_get_inversion_list_vec`](Self::try_get_inversion_list_vec) returns an error then.
+    /// Panics if an allocation fails;
+    /// [`try_get_inversion_list_vec`](Self::try_get_inversion_list_vec) returns an error then.
     pub fn get_inversion_list_vec(&self) -> Vec<u32> {
         plain(self.try_get_inversion_list_vec())
     }
@@ -119,7 +121,8 @@ impl CodePointInversionList<'_> {
     /// Returns the set with boundaries of its own, which it borrows no longer.
     ///
     /// # Panics
-    /// Panics if an allocation fails; [`try_into_owned`](Self::try_into_owned) returns an error then.
+    /// Panics if an allocation fails; [`try_into_owned`](Self::try_into_owned) returns an error
+    /// then.
     pub fn into_owned(self) -> CodePointInversionList<'static> {
         plain(self.try_into_owned())
     }

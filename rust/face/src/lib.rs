@@ -9,9 +9,9 @@
 //! | a number for each word of a list | [`char16trie`] |
 //! | a list of numbers or characters, packed and read in place | [`zerovec`] |
 //!
-//! Methods that allocate have two forms. `add_char` panics if an allocation fails. `try_add_char` is
-//! the proved method that it calls: it returns a `Result`, and on an error leaves what it was about
-//! to change unchanged.
+//! Methods that allocate have two forms. `add_char` panics if an allocation fails. `try_add_char`
+//! is the proved method that it calls: it returns a `Result`, and on an error leaves what it was
+//! about to change unchanged.
 //!
 //! # Values
 //!

@@ -26,7 +26,8 @@ impl<T: AsULE> ZeroVec<'_, T> {
     /// Returns a vector that owns its bytes, and borrows them no longer.
     ///
     /// # Panics
-    /// Panics if an allocation fails; [`try_into_owned`](Self::try_into_owned) returns an error then.
+    /// Panics if an allocation fails; [`try_into_owned`](Self::try_into_owned) returns an error
+    /// then.
     pub fn into_owned(self) -> ZeroVec<'static, T> {
         plain(self.try_into_owned())
     }

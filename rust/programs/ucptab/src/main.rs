@@ -1,4 +1,5 @@
-//! The program ucptab: crates/ucptab and crates/ucptab_table without their proofs, over `bekstaudi`.
+//! The program ucptab: crates/ucptab and crates/ucptab_table without their proofs, over
+//! `bekstaudi`.
 #![forbid(unsafe_code)]
 
 extern crate alloc;

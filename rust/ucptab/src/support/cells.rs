@@ -51,7 +51,7 @@ pub(crate) fn proved_cell(bytes: &[u8], width: usize, i: usize) -> &[u8] {
 #[inline(always)]
 pub(crate) fn proved_cell(bytes: &[u8], width: usize, i: usize) -> &[u8] {
     debug_assert!(cell(bytes, width, i).is_some());
-    // SAFETY: the callers are those that rust/README.md lists, each with the reason why the index is
-    // in bounds whatever a user-defined type returns.
+    // SAFETY: the callers are those that rust/README.md lists, each with the reason why the index
+    // is in bounds whatever a user-defined type returns.
     unsafe { bytes.get_unchecked(i * width..(i + 1) * width) }
 }
