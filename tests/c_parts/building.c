@@ -1,7 +1,8 @@
-/* Tries that are built of rows: each code point has the value of the last row that covers it, in the
-   trie that is opened of the bytes, and where ICU4C is at hand (WITH_ICU) in the one that it opens
-   of them, as in the one that it builds of the same rows. Buffers that are too short stay, no trie is
-   larger than its bound, and each refusal is told. Usage: building TURNS RUNS.. */
+/* Tries that are built of rows. Each code point has the value of the last row that contains it: in
+   the trie that the library opens of the bytes, and with ICU4C (WITH_ICU) also in the tries that
+   ICU opens of them and builds of the same rows. Buffers that are too short are unchanged, no trie
+   is larger than its bound, and each error is returned.
+   Usage: building TURNS RUNS.. */
 #include "parts.h"
 #ifdef WITH_ICU
 #include <unicode/ucptrie.h>
@@ -23,7 +24,7 @@ static uint32_t below(uint32_t limit) {
     return (uint32_t)(state >> 16) % limit;
 }
 
-/* What each code point is to have. */
+/* Computes the expected value of each code point. */
 static void expect(size_t count) {
     for (uint32_t c = 0; c < CODE_POINTS; c++) expected[c] = NONE;
     for (size_t i = 0; i < count; i++)
@@ -52,7 +53,7 @@ static UCPTrie *built_by_icu(size_t count, uint32_t type, uint32_t width) {
     return trie;
 }
 
-/* ICU opens the bytes, and answers from them as from the trie that it builds. */
+/* ICU opens the bytes, and gets the same values from them as from the trie that it builds. */
 static void as_icu(const uint8_t *bytes, size_t size, size_t count, uint32_t type, uint32_t width) {
     UErrorCode status = U_ZERO_ERROR;
     int32_t taken = 0;
@@ -79,7 +80,7 @@ static void as_icu(const uint8_t *bytes, size_t size, size_t count, uint32_t typ
 }
 #endif
 
-/* The trie of the rows in bytes, first with less room than it takes. */
+/* Builds the trie of the rows, first into a buffer that is too short. */
 static uint8_t *built(size_t count, uint32_t type, uint32_t width, size_t *size) {
     uint8_t none = 0x55;
     int64_t n = bks_trie_build(rows, count, NONE, WRONG, type, width, &none, 0);
@@ -99,7 +100,7 @@ static uint8_t *built(size_t count, uint32_t type, uint32_t width, size_t *size)
     return bytes;
 }
 
-/* The trie of the rows, of each type and of each width that their values have room in. */
+/* Builds the trie of the rows in each type and each width that fits their values. */
 static void each_form(size_t count, uint32_t largest) {
     expect(count);
     for (uint32_t type = BKS_FAST; type <= BKS_SMALL; type++)
@@ -120,7 +121,7 @@ static void each_form(size_t count, uint32_t largest) {
         }
 }
 
-/* Rows over one another, reversed, and above the code space. */
+/* Rows that overlap, are reversed, or are above 0x10FFFF. */
 static size_t random_rows(uint32_t largest) {
     size_t count = below(300);
     for (size_t i = 0; i < count; i++) {
@@ -134,8 +135,9 @@ static size_t random_rows(uint32_t largest) {
     return count;
 }
 
-/* The bound of sizes by hand: without a row, with few, and what all blocks of the code space take,
-   however many rows there are; never less for more rows; and 0 of no form. */
+/* The bound on sizes, calculated by hand: for no row, for few rows, and for so many that all
+   blocks of the code space differ. It never falls as rows are added, and is 0 for an unknown type
+   or width. */
 static void bounds(void) {
     const uint64_t none[2][3] = {{6730, 6970, 7450}, {6730, 6970, 7450}};
     const uint64_t most[2][3] = {{1268146, 2382418, 4610962}, {1276786, 2391058, 4619602}};
@@ -162,7 +164,7 @@ static void bounds(void) {
     CHECK(bks_trie_bound(3, BKS_FAST, UINT32_MAX) == 0 && bks_trie_bound(3, UINT32_MAX, 1) == 0);
 }
 
-/* Each refusal, the first one that there is cause for. */
+/* Each error, and if there are several causes, the first one. */
 static void refusals(void) {
     uint8_t bytes[64];
     memset(bytes, 0x55, sizeof bytes);

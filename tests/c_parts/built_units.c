@@ -1,10 +1,11 @@
-/* Unit tries that are built and listed: worked ones, refused ones, buffers of all sizes before a
-   closed page, and units of a stranger. Usage: built_units */
+/* Unit tries that are built and listed: worked examples, errors, buffers of all sizes before a
+   closed page, and untrusted units.
+   Usage: built_units */
 #include "parts.h"
 
 enum { STAYS = 77, MOST = 64 };
 
-/* Entries, and the units of their trie in hexadecimal, as the format's description has them. */
+/* Entries, and the units of their trie in hexadecimal, from the description of the format. */
 typedef struct row {
     const char *texts[4]; /* of ASCII */
     int32_t values[4];
@@ -22,7 +23,7 @@ static const row rows[] = {
 static uint16_t keys[MOST];
 static size_t lengths[4];
 
-/* The keys of a row, and how many there are. */
+/* The keys of a row, and their number. */
 static size_t keys_of(const row *r, size_t *units) {
     size_t count = 0;
     *units = 0;
@@ -44,7 +45,7 @@ static size_t read_units(const char *said, uint8_t *units) {
     return 2 * count;
 }
 
-/* A row into buffers of all sizes: the units are there where they have room. */
+/* Builds a row into buffers of all sizes: the units are written if they fit. */
 static void is_row(const row *r) {
     size_t units, count = keys_of(r, &units);
     uint8_t wanted[MOST];
@@ -61,7 +62,7 @@ static void is_row(const row *r) {
     }
 }
 
-/* What is refused, the first cause of several. */
+/* Each error, and if there are several causes, the first one. */
 static void refused(void) {
     static uint16_t many[70000];
     static const size_t two[] = {1, 1}, three[] = {1, 1, 1}, huge[] = {65536, 1, SIZE_MAX};
@@ -89,7 +90,7 @@ static void refused(void) {
     for (size_t i = 0; i < MOST; i++) CHECK(bytes[i] == STAYS);
 }
 
-/* A listing: how many entries, and the texts one after another. */
+/* A listing: the number of entries, and their texts one after another. */
 static int64_t listed(const char *said, bks_word *words, size_t room, char *texts, size_t *size) {
     uint8_t units[MOST * 4];
     size_t n = read_units(said, units);
@@ -115,12 +116,12 @@ static void listings(void) {
     /* a lone surrogate is U+FFFD, a pair its character */
     CHECK(listed("30 D83D B0 DE00 8002", words, 4, texts, &size) == 2 && size == 7);
     CHECK(memcmp(texts, "\xEF\xBF\xBD\xF0\x9F\x98\x80", 7) == 0 && words[1].start == 3);
-    /* no tries: a lead without its units, and a value that is cut off */
+    /* not tries: a lead unit without the ones it needs, and a value that is cut off */
     CHECK(listed("30", words, 4, texts, &size) == 0 && size == 0);
     CHECK(listed("30 61 FFFF", words, 4, texts, &size) == 1 && words[0].value == 0);
 }
 
-/* How many entries units have. */
+/* The number of entries of units. */
 static int64_t counted(const char *said) {
     uint8_t units[MOST * 4];
     return bks_units_count(units, read_units(said, units));
@@ -133,7 +134,7 @@ static void counts(void) {
     CHECK(counted("1 61 8001 62 8002") == 2);
 }
 
-/* So many levels of four units, of which both arms lead to the next one, and a value or none. */
+/* Levels of four units, both arms of which lead to the next level; at the end a value, or none. */
 static int64_t levels(size_t levels, bool has_value) {
     static const uint16_t level[] = {1, 'a', 1, 'b'};
     uint16_t units[4 * 80 + 1];
@@ -142,7 +143,7 @@ static int64_t levels(size_t levels, bool has_value) {
     return bks_units_count(units, 8 * levels + (has_value ? 2 : 0));
 }
 
-/* Four units a level, of which both arms lead to the next one: 2^12 entries. */
+/* Twelve levels of four units, both arms of which lead to the next level: 2^12 entries. */
 static void doubled(void) {
     enum { LEVELS = 12 };
     uint16_t units[4 * LEVELS + 1];

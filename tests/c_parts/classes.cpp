@@ -1,5 +1,6 @@
-/* The classes of bekstaudi.hpp over a trie, beside the runs of its table, std's own sets and worked rows.
-   Usage: classes TRIE RUNS ERROR, where ERROR is the trie's error value. */
+/* The classes of bekstaudi.hpp over a trie, compared with the runs of its table, with std::set,
+   and with worked examples.
+   Usage: classes TRIE RUNS ERROR; ERROR is the trie's error value. */
 #include "bekstaudi.hpp"
 #include "parts.h"
 #include <map>
@@ -11,7 +12,7 @@ using bekstaudi::code_point_set;
 
 static bks_range runs[1 << 17];
 
-/* Whether the call throws such an error. */
+/* Whether the call throws an error of this type. */
 template <class Error, class Call>
 static bool throws(Call call) {
     try {
@@ -51,7 +52,7 @@ static void all_of(const bekstaudi::view<uint8_t> &bytes, size_t count, uint32_t
     }
 }
 
-/* Bytes that are no trie, or one of another width. */
+/* Bytes that are not a trie, or one of another width. */
 static void refused(const bekstaudi::view<uint8_t> &bytes, size_t width) {
     auto status_of = [](auto open) {
         try {
@@ -69,7 +70,7 @@ static void refused(const bekstaudi::view<uint8_t> &bytes, size_t width) {
     CHECK(status_of([&] { bekstaudi::trie32 trie(bytes); }) == (width == 4 ? BKS_OK : BKS_OTHER_WIDTH));
 }
 
-/* The code points below 40 of a set, and those that std's set has. */
+/* The code points below 40 of a set, compared with those of a std::set. */
 static std::set<uint32_t> below_40(const code_point_set &set) {
     std::set<uint32_t> found;
     for (uint32_t c = 0; c < 40; c++)
@@ -102,14 +103,15 @@ static void spans() {
     CHECK(letters.span("7 a", false) == "7 " && letters.span("").empty());
     CHECK(letters.span(std::string_view()).empty());
     CHECK(throws<bekstaudi::set_refused>([&] { letters.span("a\xFF"); }));
-    /* Fronts of each length around those that are read at a time, also where these cut a character. */
+    /* Prefixes of each length around the size that is read at a time, also if it splits a
+       character. */
     for (size_t size = 0; size < 600; size++)
         for (std::string_view last : {"", "7", "\xC3\x9F", "\xC3\x9F" "7", "\xE4\xB8\x96", "\xF0\x9F\x98\x80"}) {
             std::string text = std::string(size, 'a') + std::string(last) + "7";
             CHECK(letters.span(text).size() == text.find_first_not_of("a\xC3\x9F"));
             CHECK(bekstaudi::frozen_set(letters).span(text) == letters.span(text));
         }
-    /* What is ill-formed is told where it is read, and not behind. */
+    /* An ill-formed part is an error if it is read, and not if it comes later. */
     const std::string before = std::string(100, ' ') + std::string(200, 'a') + "\xFF";
     CHECK(letters.span(before, false).size() == 100);
     CHECK(throws<bekstaudi::set_refused>([&] { letters.span(std::string_view(before).substr(100)); }));
@@ -117,7 +119,8 @@ static void spans() {
         CHECK(throws<bekstaudi::set_refused>([&] { code_point_set set(ends); }));
 }
 
-/* Frozen sets: as the set that each was made of, copied and moved from, and where memory is refused. */
+/* Frozen sets: equal to the set that each was made of, also copied and moved, and with failing
+   allocations. */
 static bool refusing = false;
 
 extern "C" void *__real_malloc(size_t size);
@@ -147,8 +150,8 @@ static void frozen_sets() {
     }
 }
 
-/* The worked tries of the format's description: a has 1 and ab 100; a lead surrogate has 1 and its pair
-   with DE00 has 2. */
+/* The examples of the format's description: a is 1 and ab 100; a lead surrogate is 1 and its pair
+   with DE00 is 2. */
 static void unit_tries() {
     const uint8_t worked[] = {0x30, 0, 0x61, 0, 0xB0, 0, 0x62, 0, 0x64, 0x80};
     const uint8_t pairs[] = {0x30, 0, 0x3D, 0xD8, 0xB0, 0, 0, 0xDE, 2, 0x80};
@@ -165,7 +168,7 @@ static void unit_tries() {
     CHECK(cursor.step(u'b') == BKS_NO_MATCH && !cursor.value());
 }
 
-/* Tries are made over what stays: containers that have a name, and views. */
+/* Tries are made over bytes that outlive them: named containers, and views. */
 template <class Trie, class From>
 inline constexpr bool made_over = std::is_constructible_v<Trie, From>;
 static_assert(!made_over<bekstaudi::trie8, std::vector<uint8_t>>);
@@ -179,7 +182,7 @@ static_assert(made_over<bekstaudi::trie8, bekstaudi::view<uint8_t>>);
 static_assert(made_over<bekstaudi::unit_trie, std::u16string_view>);
 static_assert(std::is_move_constructible_v<bekstaudi::trie8>);
 
-/* Unit tries of maps, listed, and entries that are refused. */
+/* Unit tries of maps, listed, and entries that are errors. */
 static void unit_tries_built() {
     typedef std::vector<std::pair<std::string, int32_t>> entries;
     const std::map<std::u16string, int32_t> words = {
@@ -211,7 +214,7 @@ static void unit_tries_built() {
     CHECK(refusal_of(std::u16string(65536, u'a')) == BKS_LONG_KEY);
 }
 
-/* Tries of the runs of a table, and of rows that are refused. */
+/* Tries of the runs of a table, and of rows that are errors. */
 template <class Value>
 static void built(size_t count, uint32_t error) {
     for (bks_type type : {BKS_FAST, BKS_SMALL}) {

@@ -1,5 +1,6 @@
-/* Calls over a trie with buffers that are too short, empty or at odd addresses, and over bytes that
-   are cut off or damaged. All memory ends before a closed page. Usage: edges DAMAGES TRIE.. */
+/* Functions over a trie, with buffers that are too short, empty or at odd addresses, and over
+   bytes that are cut off or damaged. All memory ends before a closed page.
+   Usage: edges DAMAGES TRIE.. */
 #include "parts.h"
 
 static uint64_t state = 88172645463325252u;
@@ -22,7 +23,7 @@ static void is_no_trie(const bks_trie *trie) {
     CHECK(!bks_trie_is_coherent(trie) && bks_trie_set(trie, 0, ends, 4) == BKS_NO_TRIE);
 }
 
-/* The trie at each address modulo 8 answers alike. */
+/* The trie has the same values at each address modulo 8. */
 static void odd_addresses(const uint8_t *bytes, size_t size, const bks_trie *trie) {
     uint8_t *room = (uint8_t *)malloc(size + 8);
     for (size_t at = 0; at < 8; at++) {
@@ -38,7 +39,8 @@ static void odd_addresses(const uint8_t *bytes, size_t size, const bks_trie *tri
     free(room);
 }
 
-/* Look-ups in line of another width than the trie's answer as the calls do, and read inside. */
+/* Inline look-ups of another width than the trie's return what the functions do, and stay in
+   bounds. */
 static void other_widths(const uint8_t *bytes, size_t size) {
     uint8_t *last = before_closed_page(size);
     bks_trie trie;
@@ -51,7 +53,7 @@ static void other_widths(const uint8_t *bytes, size_t size) {
     released(last, size);
 }
 
-/* The ranges from c on, one by one and by many, with so much room. */
+/* The ranges from c on, one by one and many at a time, into a buffer of this size. */
 static void many_ranges(const bks_trie *trie, uint32_t c, size_t room) {
     size_t size = room * sizeof(bks_range), n, i = 0;
     bks_range *ranges = (bks_range *)before_closed_page(size);
@@ -68,7 +70,7 @@ static void many_ranges(const bks_trie *trie, uint32_t c, size_t room) {
     released(ranges, size);
 }
 
-/* Buffers of every length up to what is needed: what fits is written, and nothing else. */
+/* Buffers of every size up to the one needed: what fits is written, and nothing else. */
 static void short_buffers(const bks_trie *trie) {
     enum { POINTS = 40 };
     static const uint32_t characters[] = {'a', 0xE9, 0x4E16, 'z', 'z', 'z'};
@@ -103,7 +105,7 @@ static void short_buffers(const bks_trie *trie) {
     }
 }
 
-/* Every front of the bytes is refused. */
+/* Every proper prefix of the bytes is an error. */
 static void fronts(const uint8_t *bytes, size_t size) {
     for (size_t n = 0; n < size; n += n < 40 || n + 8 > size ? 1 : 997) {
         uint8_t *front = before_closed_page(n);
@@ -114,7 +116,7 @@ static void fronts(const uint8_t *bytes, size_t size) {
     }
 }
 
-/* All calls over a trie of damaged bytes, whatever they answer. */
+/* All functions over a trie of damaged bytes, whatever they return. */
 static void ask(const bks_trie *trie) {
     static uint32_t ends[16];
     uint32_t turns = 0, next = 0;
@@ -132,7 +134,7 @@ static void ask(const bks_trie *trie) {
     CHECK(bks_trie_set(trie, 0, ends, 16) >= 0);
 }
 
-/* A few bytes of the trie are others, mostly of its header or of its index. */
+/* Changes a few bytes of the trie, mostly of its header or its index. */
 static void damage(uint8_t *bytes, size_t size, const uint8_t *whole, uint32_t *seen) {
     bks_trie trie;
     memcpy(bytes, whole, size);

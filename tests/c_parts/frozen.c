@@ -1,5 +1,6 @@
-/* Frozen sets, compared with tables of a flag for each code point, and with ICU4C where it is at hand
-   (WITH_ICU); buffers of all kinds, and words that nobody froze. Usage: frozen SETS DAMAGES */
+/* Frozen sets, compared with tables of a flag for each code point, and with ICU4C (WITH_ICU);
+   buffers of all kinds, and words that bks_set_freeze did not write.
+   Usage: frozen SETS DAMAGES */
 #include "set_tables.h"
 #ifdef WITH_ICU
 #include <unicode/uset.h>
@@ -8,15 +9,15 @@
 static set_table a;
 static uint64_t room[BKS_FROZEN_MOST + 8];
 
-/* What the header says of any words, read one by one. */
+/* What the header says about any words, read one by one. */
 static bool said(const uint64_t *table, size_t count, uint32_t c) {
     size_t block = c / 256, place = block / 4 < count ? table[block / 4] >> 16 * (block % 4) & 0xFFFF : 0;
     size_t at = 1088 + place + c / 64 % 4;
     return c < CODE_POINTS && at < count && (table[at] >> c % 64 & 1) != 0;
 }
 
-/* Freezes the set into as much as it needs, before a closed page; a buffer that is too short stays,
-   and so does what is behind the words in a longer one. */
+/* Freezes the set into exactly as many words as it needs, before a closed page. A buffer that is
+   too short is unchanged, and so is the rest of a longer one. */
 static uint64_t *frozen(const uint32_t *ends, size_t count, int64_t *size) {
     *size = bks_set_freeze(ends, count, room, 0);
     CHECK(*size > 1088 && *size <= BKS_FROZEN_MOST);
@@ -37,7 +38,7 @@ static uint64_t *frozen(const uint32_t *ends, size_t count, int64_t *size) {
     return table;
 }
 
-/* All code points, as they are held: the words alone, and with others behind them. */
+/* All code points: in the words alone, and with other words behind them. */
 static void asks(const set_table *s, const uint64_t *table, size_t size) {
     for (uint32_t c = 0; c < CODE_POINTS; c++) {
         CHECK(bks_frozen_contains(table, size, c) == s->held[c]);
@@ -71,7 +72,7 @@ static void spans(const set_table *s, const uint64_t *table, size_t size) {
     released(text, bytes);
 }
 
-/* Every second code point, so that each block has words of its own; nothing; and everything. */
+/* Every second code point, so that each block has words of its own; no code point; and all. */
 static void extremes(void) {
     static uint32_t ends[CODE_POINTS];
     const uint32_t all[] = {0, CODE_POINTS};
@@ -86,7 +87,7 @@ static void extremes(void) {
     for (uint32_t c = 0; c < CODE_POINTS; c++) CHECK(bks_frozen_has(table, c));
 }
 
-/* Ends of no set, and bytes that are no text. */
+/* Boundaries that are no set, and bytes that are no text. */
 static void refused(void) {
     static const uint32_t lists[][4] = {
         {1, 2, 3, 3}, {1, 2, 2, 3}, {2, 1, 3, 4}, {1, 2, 3, 0x110001}, {1, 1, 3, 4}, {0, 9, 8, 9}};
@@ -101,7 +102,7 @@ static void refused(void) {
     CHECK(bks_frozen_span(room, 0, "", 0, true) == 0);
 }
 
-/* A few words of the table are others, or it is cut off: the answers are what the words say. */
+/* Changes a few words of the table, or cuts it off: the results are what the words say. */
 static void damaged(const uint64_t *table, size_t size) {
     static const char text[] = "a\xC3\xA9\xE4\xB8\x96\xF0\x9F\x98\x80 Stra\xC3\x9F" "e";
     static const uint32_t characters[] = {'a', 0xE9, 0x4E16, 0x1F600, ' ', 'S', 't', 'r', 'a', 0xDF, 'e'};

@@ -1,6 +1,6 @@
-/* Unit tries that are listed and built, beside ICU4C: the entries of each file of units are those
-   that UCharsTrie::Iterator gives, and a trie that is built of them in another order is read by
-   ICU. Usage: icu_built_units UNITS.. */
+/* Unit tries that are listed and built, compared with ICU4C: the entries of each file of units are
+   those of UCharsTrie::Iterator, and ICU reads a trie that is built of them in another order.
+   Usage: icu_built_units UNITS.. */
 #include "parts.h"
 #include <algorithm>
 #include <string>
@@ -32,7 +32,7 @@ static std::string text_of(const std::u16string &key) {
     return text;
 }
 
-/* The listing of units, with room for so much: all that has room is there, and nothing else. */
+/* Lists units into buffers of this size: all that fits is written, and nothing else. */
 static void listed(const std::vector<char16_t> &units, const std::vector<entry> &all,
                    size_t words_room, size_t texts_room) {
     std::vector<bks_word> words(words_room + 1, {77, 77, 77});
@@ -57,7 +57,7 @@ static void listed(const std::vector<char16_t> &units, const std::vector<entry> 
     CHECK(texts.find_first_not_of('~', kept) == std::string::npos);
 }
 
-/* The units of a trie of the entries in an order of their own. */
+/* Builds the units of a trie of the entries, in another order. */
 static std::vector<char16_t> built(std::vector<entry> all, uint64_t state) {
     std::vector<uint16_t> keys(1);
     std::vector<size_t> lengths(1);

@@ -1,7 +1,7 @@
-/* The calls over unit tries that ICU4C builds there and then, compared with its UCharsTrie: all
-   keys and their neighbours. It leaves the units of each trie in NAME.units, and in names.keys.txt
-   the keys of one, lines KEY;N. Usage: icu_unit_tries STEP, which takes the names of each STEP-th
-   code point. */
+/* Functions over unit tries that ICU4C builds, compared with its UCharsTrie: all keys and their
+   neighbours. Writes the units of each trie to NAME.units, and the keys of one to names.keys.txt,
+   in lines KEY;N.
+   Usage: icu_unit_tries STEP, to use the name of every STEP-th code point. */
 #include "parts.h"
 #include <map>
 #include <string>
@@ -33,7 +33,7 @@ static bool as_icu(const bks_cursor &cursor, const std::string &units, const icu
     return has;
 }
 
-/* The steps of a text, the value of all of it, and the longest key that begins it. */
+/* The steps of a text, its value, and the longest key that is a prefix of it. */
 static void units_as_icu(const std::string &units, icu::UCharsTrie &trie,
                          const std::u16string &text) {
     bks_cursor cursor = {0, 0};
@@ -58,7 +58,7 @@ static void units_as_icu(const std::string &units, icu::UCharsTrie &trie,
     CHECK(value == longest);
 }
 
-/* The longest key in UTF-8, where the units are a text. */
+/* The longest key in UTF-8, if the units are a text. */
 static void text_as_icu(const std::string &units, icu::UCharsTrie &trie,
                         const std::u16string &text) {
     icu::UnicodeString characters(text.data(), (int32_t)text.size());
@@ -83,7 +83,7 @@ static void text_as_icu(const std::string &units, icu::UCharsTrie &trie,
     CHECK(value == longest);
 }
 
-/* The trie of the entries: each key, shorter, longer and with another unit. */
+/* The trie of the entries: each key, and shorter, longer and changed ones. */
 static void compared(const char *name, const entries &all, UStringTrieBuildOption option) {
     UErrorCode error = U_ZERO_ERROR;
     icu::UCharsTrieBuilder builder(error);

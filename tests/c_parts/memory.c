@@ -1,6 +1,7 @@
-/* The calls that take memory, with each of their requests refused in turn, by malloc and realloc of
-   this program's own (linked with --wrap): a refusal is told, the buffer stays, and what was taken
-   is given back. Usage: memory TRIE.. */
+/* The functions that allocate, with each of their allocations failing in turn, by this program's
+   own malloc and realloc (linked with --wrap): the error is returned, the buffer is unchanged, and
+   all memory is freed.
+   Usage: memory TRIE.. */
 #include "parts.h"
 
 void *__real_malloc(size_t size);
@@ -12,7 +13,7 @@ void __wrap_free(void *block);
 
 static long left = -1, requests, taken;
 
-/* Whether this request is the one to be refused. */
+/* Whether this allocation is the one that has to fail. */
 static bool refuses(void) {
     requests++;
     return left >= 0 && left-- == 0;
@@ -69,7 +70,7 @@ static int64_t listed(void) {
     return count;
 }
 
-/* How many requests the call makes, each of which was refused once. */
+/* The number of allocations of the function, each of which failed once. */
 static long refused_in_turn(call tried) {
     long before = taken, made;
     requests = 0;

@@ -1,5 +1,5 @@
-/* What the tests in C share: files, the runs of a table, and memory that ends at a page which can't
-   be read or written. */
+/* What the tests in C share: files, the runs of a table, and memory before a page that cannot be
+   read or written. */
 #ifndef PARTS_H
 #define PARTS_H
 
@@ -22,7 +22,7 @@ enum { CODE_POINTS = 0x110000, PAGE = 4096 };
         }                                                                                \
     } while (0)
 
-/* Memory of so many bytes, whose end is the end of a page before one that is closed. */
+/* Returns `size` bytes of memory that end where a page that cannot be accessed starts. */
 static inline uint8_t *before_closed_page(size_t size) {
     size_t open = (size + PAGE - 1) / PAGE * PAGE + PAGE;
     uint8_t *pages = (uint8_t *)mmap(NULL, open + PAGE, PROT_READ | PROT_WRITE,
@@ -32,13 +32,13 @@ static inline uint8_t *before_closed_page(size_t size) {
     return pages + open - size;
 }
 
-/* Gives such memory back. */
+/* Frees such memory. */
 static inline void released(void *bytes, size_t size) {
     size_t open = (size + PAGE - 1) / PAGE * PAGE + PAGE;
     CHECK(munmap((uint8_t *)bytes + size - open, open + PAGE) == 0);
 }
 
-/* The bytes of a file, before a closed page. */
+/* Returns the bytes of a file, before a closed page. */
 static inline uint8_t *file_bytes(const char *path, size_t *size) {
     FILE *file = fopen(path, "rb");
     CHECK(file && fseek(file, 0, SEEK_END) == 0);
@@ -50,7 +50,7 @@ static inline uint8_t *file_bytes(const char *path, size_t *size) {
     return bytes;
 }
 
-/* The runs of a table, lines HEX..HEX;N and HEX;N, which have all code points in order. */
+/* Reads the runs of a table: lines HEX..HEX;N and HEX;N, with all code points in order. */
 static inline size_t read_runs(const char *path, bks_range *runs, size_t room) {
     FILE *file = fopen(path, "r");
     char line[64];
@@ -114,7 +114,7 @@ static inline size_t of_units(const bks_trie *trie, const uint16_t *text, size_t
                : bks_trie32_get_utf16(trie, text, count, (uint32_t *)values, room);
 }
 
-/* Writes a code point in UTF-8, and answers its size. */
+/* Writes a code point in UTF-8, and returns its size. */
 static inline size_t write_utf8(uint32_t c, char *text) {
     size_t more = c < 0x80 ? 0 : c < 0x800 ? 1 : c < 0x10000 ? 2 : 3, size = more + 1;
     if (more == 0) *text++ = (char)c;

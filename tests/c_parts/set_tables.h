@@ -1,4 +1,4 @@
-/* Sets made at random, beside tables of a flag for each code point. */
+/* Random sets, with tables of a flag for each code point. */
 #ifndef SET_TABLES_H
 #define SET_TABLES_H
 
@@ -23,7 +23,7 @@ static inline uint64_t next_number(void) {
 
 static inline uint32_t below(uint32_t limit) { return (uint32_t)(next_number() >> 16) % limit; }
 
-/* A set of a few ranges, some of them at the ends of the code points, with its table. */
+/* Makes a set of a few ranges, some of them at 0 or 0x10FFFF, with its table. */
 static inline void make(set_table *s) {
     uint32_t step = below(2) ? 200 : CODE_POINTS / 32, next = below(2) ? 0 : below(step);
     size_t count = 2 * below(MOST / 2);
@@ -40,7 +40,8 @@ static inline void make(set_table *s) {
         memset(s->held + s->ends[i], 1, s->ends[i + 1] - s->ends[i]);
 }
 
-/* A text of characters in and about the set, before a closed page, and how far its front is held. */
+/* Makes a text of characters in and near the set, before a closed page, and the sizes of its
+   spans. */
 static inline char *text_about(const set_table *s, size_t *size, size_t front[2]) {
     static char text[1 << 12];
     bool going[2] = {true, true};

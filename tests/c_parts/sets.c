@@ -1,5 +1,6 @@
-/* The calls over sets, compared with tables of a flag for each code point, and with ICU4C where it
-   is at hand (WITH_ICU). Usage: sets PAIRS */
+/* Functions over sets, compared with tables of a flag for each code point, and with ICU4C
+   (WITH_ICU).
+   Usage: sets PAIRS */
 #include "set_tables.h"
 #ifdef WITH_ICU
 #include <unicode/uset.h>
@@ -7,7 +8,7 @@
 
 static set_table a, b;
 
-/* The set is asked for each code point, and for its size. */
+/* Tests each code point, and the size of the set. */
 static void asks(const set_table *s) {
     int64_t size = 0;
     CHECK(bks_set_test(s->ends, s->count));
@@ -20,7 +21,7 @@ static void asks(const set_table *s) {
     CHECK(!bks_set_contains(s->ends, s->count, UINT32_MAX));
 }
 
-/* The ends that were answered are those of a table with `wanted` for what a and b hold. */
+/* The boundaries are those of a table that has `wanted` of what a and b contain. */
 static void joined(int64_t count, const uint32_t *ends, const bool wanted[2][2]) {
     bool held = false;
     int64_t i = 0;
@@ -43,7 +44,7 @@ static void joined(int64_t count, const uint32_t *ends, const bool wanted[2][2])
         joined(n, ends, wanted);                                                             \
     } while (0)
 
-/* How far the front of a text is held. */
+/* The span of a text. */
 static void spans(const set_table *s) {
     size_t size, front[2];
     char *text = text_about(s, &size, front);
@@ -60,7 +61,7 @@ static void spans(const set_table *s) {
 #endif
 }
 
-/* Lists that are no sets, and bytes that are no text. */
+/* Lists that are not sets, and bytes that are not text. */
 static void refused(void) {
     static const uint32_t lists[][4] = {
         {1, 2, 3, 3}, {1, 2, 2, 3}, {2, 1, 3, 4}, {1, 2, 3, 0x110001}, {1, 1, 3, 4}, {0, 9, 8, 9}};

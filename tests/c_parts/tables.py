@@ -1,4 +1,4 @@
-"""The tries that tests/c asks: the one that tests/data has in TOML, and those that ICU4C builds."""
+"""The tries of tests/c: the one that tests/data has in TOML, and those that ICU4C builds."""
 import os
 import re
 import shutil
@@ -7,7 +7,7 @@ import subprocess
 
 PARTS = os.path.dirname(os.path.realpath(__file__))
 DATA = f"{os.path.dirname(PARTS)}/data"
-# The tables of tests/data, and the types and widths that tries are built in.
+# The tables of tests/data, and the types and widths in which tries are built of them.
 TABLES = {
     "general_category": ("fast 8", "small 8", "fast 16", "small 32"),
     "simple_uppercase": ("small 32", "fast 32"),
@@ -16,7 +16,7 @@ ALL = (0x110000, 0x110000, -1)
 
 
 def runs_of(rows):
-    """The runs of all code points, of which those in no row have 0."""
+    """Returns the runs of all code points. Those in no row have 0."""
     runs, following = [], 0
     for first, last, value in [*rows, ALL]:
         runs += [(following, first - 1, 0)] if following < first else []
@@ -26,7 +26,7 @@ def runs_of(rows):
 
 
 def trie_of_toml(room):
-    """Writes the trie that tests/data has in TOML, in the binary form, and its runs: its error
+    """Writes the trie that tests/data has in TOML in the binary form, and its runs. Returns its error
     value."""
     with open(f"{DATA}/east_asian_width.toml", encoding="utf-8") as file:
         text = file.read()
@@ -48,7 +48,7 @@ def trie_of_toml(room):
 
 
 def tries_of_icu(room):
-    """Writes the tries that the program icu_tries has ICU4C build of the tables: whether it did."""
+    """Writes the tries that ICU4C builds of the tables in the program icu_tries, and whether it did."""
     for table, kinds in TABLES.items():
         for kind in kinds:
             path = f"{room}/tries/{table}_{kind.replace(' ', '_')}"

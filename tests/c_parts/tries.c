@@ -1,6 +1,6 @@
-/* The calls over a trie, compared with the runs of its table that another program found, and with
-   ICU4C where it is at hand (WITH_ICU): all code points, all ranges, and the set of each value.
-   Usage: tries TRIE RUNS ERROR, where ERROR is the trie's error value. */
+/* Functions over a trie, compared with the runs of its table that another program found, and with
+   ICU4C (WITH_ICU): all code points, all ranges, and the set of each value.
+   Usage: tries TRIE RUNS ERROR; ERROR is the trie's error value. */
 #include "parts.h"
 #ifdef WITH_ICU
 #include <unicode/ucptrie.h>
@@ -13,7 +13,7 @@ static uint32_t expected[CODE_POINTS + 16], points[CODE_POINTS + 16], ends[1 << 
 static uint32_t values[CODE_POINTS + 16];
 static char text[4 * CODE_POINTS];
 
-/* Each code point by the call, in line, and by the call for many; and what is above them. */
+/* Each code point, and numbers above: by the function, inline, and many at a time. */
 static void look_ups(const bks_trie *trie, uint32_t error) {
     for (uint32_t c = 0; c < CODE_POINTS + 16; c++) {
         points[c] = c;
@@ -26,7 +26,7 @@ static void look_ups(const bks_trie *trie, uint32_t error) {
     CHECK(called(trie, UINT32_MAX) == error && in_line(trie, UINT32_MAX) == error);
 }
 
-/* All characters in one text, with room for all values and for a few. */
+/* All characters in one text, into a buffer for all values, and into one for a few. */
 static void texts(const bks_trie *trie) {
     size_t size = 0, count = 0;
     for (uint32_t c = 0; c < CODE_POINTS; c++)
@@ -44,7 +44,7 @@ static void texts(const bks_trie *trie) {
     CHECK(of_text(trie, "\xED\xB0\x80", 3, values, 3) == BKS_NO_TEXT);
 }
 
-/* The next code point of 16-bit units: ICU's where it is at hand. */
+/* The next code point of 16-bit units, by ICU if it is there. */
 static uint32_t next_point(const uint16_t *units, size_t count, size_t *i) {
 #ifdef WITH_ICU
     UChar32 c;
@@ -58,7 +58,7 @@ static uint32_t next_point(const uint16_t *units, size_t count, size_t *i) {
 #endif
 }
 
-/* So many units, with room for all values, for a few, and for none. */
+/* These units, into buffers for all values, for a few, and for none. */
 static void of_these_units(const bks_trie *trie, const uint16_t *units, size_t n) {
     size_t count = 0;
     for (size_t i = 0; i < n; count++) points[count] = next_point(units, n, &i);
@@ -73,8 +73,8 @@ static void of_these_units(const bks_trie *trie, const uint16_t *units, size_t n
     CHECK(of_units(trie, units, n, values, 0) == count);
 }
 
-/* All units one after another, all pairs of surrogates, and surrogates in any order; the last one
-   before a closed page. */
+/* All units one after another, all pairs of surrogates, and surrogates in any order. The last one
+   is before a closed page. */
 static void units(const bks_trie *trie) {
     enum { MOST = 0x200000 };
     static const uint16_t some[] = {0x41, 0xD800, 0xDBFF, 0xDC00, 0xDFFF, 0xFFFF};
@@ -96,7 +96,7 @@ static void units(const bks_trie *trie) {
     released(text, MOST * sizeof *text);
 }
 
-/* All ranges from 0 on, and the one from the midst of each. */
+/* All ranges from 0 on, and the one from the middle of each. */
 static void ranges(const bks_trie *trie, size_t count) {
     bks_range r = bks_trie_range(trie, 0);
     for (size_t i = 0; i < count; i++) {
@@ -114,7 +114,8 @@ static void ranges(const bks_trie *trie, size_t count) {
     CHECK(!bks_trie_range(trie, UINT32_MAX).found);
 }
 
-/* All ranges, so many a call, into memory before a closed page. What lies behind them stays. */
+/* All ranges, `room` at a time, into memory before a closed page. What is behind them is
+   unchanged. */
 static void many_ranges(const bks_trie *trie, size_t count, size_t room) {
     size_t i = 0, n = room, size = room * sizeof(bks_range);
     bks_range *buffer = (bks_range *)before_closed_page(size);
@@ -133,7 +134,7 @@ static void many_ranges(const bks_trie *trie, size_t count, size_t room) {
     released(buffer, size);
 }
 
-/* The set of a value: its ends are those of the runs with the value. */
+/* The set of a value: its boundaries are those of the runs with the value. */
 static void set_of(const bks_trie *trie, uint32_t value, size_t count) {
     int64_t n = bks_trie_set(trie, value, ends, 1 << 17);
     size_t i = 0;

@@ -1,6 +1,6 @@
-/* The calls over unit tries: worked ones of the format's description and of ICU's builder, at odd
-   addresses, cut off and damaged, all before a closed page. Usage: unit_tries DAMAGES UNITS..,
-   where each UNITS is a file of a trie's units. */
+/* Functions over unit tries: examples of the format's description and of ICU's builder, at odd
+   addresses, cut off and damaged, all before a closed page.
+   Usage: unit_tries DAMAGES UNITS..; each UNITS is a file with a trie's units. */
 #include "parts.h"
 
 enum { KEY = 16, STAYS = -77777 };
@@ -14,12 +14,12 @@ static uint32_t below(uint32_t limit) {
     return (uint32_t)(state >> 16) % limit;
 }
 
-/* Whether a step answers that a key ends, and that one goes on. */
+/* Whether a step returns that a key ends, or that one goes on. */
 static bool ends(uint32_t told) { return told >= BKS_FINAL_VALUE; }
 static bool goes_on(uint32_t told) { return told & 1; }
 
-/* All calls over a text agree with its steps: the value of each front, and the longest one that has
-   a value. What the last step told. */
+/* All functions over a text agree with its steps: the value of each prefix, and the longest one
+   with a value. Returns what the last step did. */
 static uint32_t along(const void *units, size_t size, const uint16_t *text, size_t count) {
     bks_cursor cursor = {0, 0};
     int32_t value = STAYS, found = STAYS, longest = STAYS, empty = STAYS;
@@ -67,7 +67,7 @@ static void in_utf8(const void *units, size_t size, const uint32_t *characters, 
     CHECK(bks_units_longest_utf8(units, size, "\xED\xA0\xBD", 3, &value) == BKS_NO_TEXT);
 }
 
-/* A few texts over any bytes, which follow the units that are there. */
+/* A few texts over any bytes, which follow the units in them. */
 static void ask(const uint8_t *units, size_t size) {
     static const uint32_t others[] = {'a', 'b', 'z', 0xE9, 0xFFFF, 0x1F600, 0x10FFFF};
     for (int n = 0; n < 12; n++) {
@@ -91,7 +91,7 @@ static void ask(const uint8_t *units, size_t size) {
     }
 }
 
-/* What a text gives in these units: what the last step tells, and the longest key, both known. */
+/* What a text finds in these units: the result of the last step, and the longest key, both known. */
 typedef struct row {
     const char *units;  /* in hexadecimal */
     const char *text;   /* of ASCII */
@@ -123,7 +123,7 @@ static const row rows[] = {
     {SIX_BY_ICU, "ezz", BKS_NO_MATCH, 2, -1},
     {SIX_BY_ICU, "fz", BKS_FINAL_VALUE, 2, INT32_MIN},
     {SIX_BY_ICU, "fy", BKS_NO_MATCH, 1, -1},
-    /* no trie: a lead and a length that are not there, and a jump past the end */
+    /* not tries: a missing lead unit, a missing length, and a jump past the end */
     {"", "a", BKS_NO_MATCH, BKS_NO_KEY, STAYS},
     {"30", "a", BKS_NO_MATCH, BKS_NO_KEY, STAYS},
     {"0", "a", BKS_NO_MATCH, BKS_NO_KEY, STAYS},
@@ -132,7 +132,7 @@ static const row rows[] = {
     {"1 61 3FFF 62 8002", "b", BKS_FINAL_VALUE, 1, 2},
 };
 
-/* The units of a row, as many as there are. */
+/* The units of a row, and their number. */
 static size_t read_units(const char *said, uint8_t *units) {
     size_t count = 0;
     for (char *next; *said; said = next, count++) {
@@ -143,7 +143,7 @@ static size_t read_units(const char *said, uint8_t *units) {
     return count;
 }
 
-/* A row, at an even and at an odd address, and with a byte behind its units. */
+/* A row, at an even and at an odd address, and with a byte after its units. */
 static void is_row(const row *r) {
     uint8_t units[256];
     uint16_t text[KEY] = {0};
@@ -162,7 +162,7 @@ static void is_row(const row *r) {
     }
 }
 
-/* A key that goes on within a character: "\u{1f600}" is 2, its lead surrogate alone 1. */
+/* A key that ends within a character: "\u{1f600}" is 2, its lead surrogate alone 1. */
 static void within_a_character(void) {
     uint8_t units[16];
     static const uint16_t text[] = {0xD83D, 0xDE00, 0xD83D, 0xDE01};
@@ -176,7 +176,7 @@ static void within_a_character(void) {
     CHECK(value == STAYS);
 }
 
-/* Fronts of the bytes, and bytes of which a few are others. */
+/* Prefixes of the bytes, and bytes of which a few are changed. */
 static void broken(const uint8_t *units, size_t size, int damages) {
     uint8_t *copy = before_closed_page(size);
     for (size_t n = 0; n < size; n += n < 100 || n + 20 > size ? 1 : 997) {
