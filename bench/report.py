@@ -1,15 +1,22 @@
-"""Prints what the program bench measured, in Markdown: report.py MEASURED..
+"""Prints what the program bench measured, in Markdown: report.py [--page FILE] MEASURED..
 
 Each file is one run of the program. A time is the least of all runs: they differ in the address of
-the code, which changes the time of short loops by up to a half on some processors.
+the code, which changes the time of short loops by up to a half on some processors. `--page FILE`
+also writes all but the rows of each kernel to that file, as the page bench/results.md.
 """
+import argparse
 import collections
 import math
-import sys
 
 LIBRARIES = ["ours", "rust", "icu"]
 # In ns. A row with a lower time is left out, because the compiler removed the loop.
 NOTHING = 0.1
+PAGE_HEAD = """# Results of the benchmark
+
+`PAGE=bench/results.md bench/run.sh` generates this page; do not edit it. [Benchmarks](README.md)
+describes the kernels and the columns, names the machine, and explains the slow rows.
+
+"""
 
 
 def read(files):
@@ -34,11 +41,9 @@ def read(files):
 
 
 def table(head, lines):
-    print("| " + " | ".join(head) + " |")
-    print("|---" * len(head) + "|")
-    for line in lines:
-        print("| " + " | ".join(str(word) for word in line) + " |")
-    print()
+    """Returns a table in Markdown."""
+    rows = ["| " + " | ".join(map(str, words)) + " |" for words in (head, *lines)]
+    return "\n".join([rows[0], "|---" * len(head) + "|", *rows[1:], ""])
 
 
 def ratio(least, library):
@@ -62,12 +67,12 @@ def by_better(least):
 
 
 def rows_of(kernel, rows):
-    print(f"### {kernel}\n")
+    """Returns the title and the table of a kernel's rows."""
     lines = []
     for row, least in rows.items():
         ns = [f"{least[library]:.2f}" if library in least else "" for library in LIBRARIES]
         lines.append([row, *ns, shown(ratio(least, "rust")), shown(ratio(least, "icu"))])
-    table(["ns", "ours", "Rust", "ICU", "ours / Rust", "ours / ICU"], lines)
+    return kernel, table(["ns", "ours", "Rust", "ICU", "ours / Rust", "ours / ICU"], lines)
 
 
 def summary(kernel, rows):
@@ -76,21 +81,36 @@ def summary(kernel, rows):
     return [f"`{kernel}`", len(rows), *map(shown, means), f"{by_better(rows[worst]):.2f} ({worst})"]
 
 
-def main():
-    times, cells, units = read(sys.argv[1:])
-    for kernel, rows in times.items():
-        rows_of(kernel, rows)
+def sizes(cells, units):
+    """Yields the titles and the tables of what was built."""
     if cells:
-        print("### Cells of tries that are built, and the most of the heap\n")
-        table(["kernel", "table", "data", "ICU's", "index", "ICU's", "kB", "ICU's"], cells)
+        heads = ["kernel", "table", "data", "ICU's", "index", "ICU's", "kB", "ICU's"]
+        yield "Cells of tries that are built, and the most of the heap", table(heads, cells)
     if units:
-        print("### Units of unit tries that are built\n")
-        table(["list", "keys", "units", "ICU's fast", "ICU's small"], units)
-    print("### Summary\n")
-    table(
-        ["kernel", "rows", "ours / Rust", "ours / ICU", "worst row, to the better"],
-        [summary(kernel, rows) for kernel, rows in times.items()],
-    )
+        heads = ["list", "keys", "units", "ICU's fast", "ICU's small"]
+        yield "Units of unit tries that are built", table(heads, units)
+
+
+def summary_of(times):
+    """Returns the title and the table of the means of all kernels."""
+    heads = ["kernel", "rows", "ours / Rust", "ours / ICU", "worst row, to the better"]
+    return "Summary", table(heads, [summary(kernel, rows) for kernel, rows in times.items()])
+
+
+def main():
+    parser = argparse.ArgumentParser()
+    parser.add_argument("--page")
+    parser.add_argument("measured", nargs="+")
+    words = parser.parse_args()
+    times, cells, units = read(words.measured)
+    built = list(sizes(cells, units))
+    all_rows = [rows_of(kernel, rows) for kernel, rows in times.items()]
+    for title, text in (*all_rows, *built, summary_of(times)):
+        print(f"### {title}\n\n{text}")
+    if words.page:
+        parts = [f"## {title}\n\n{text}" for title, text in (summary_of(times), *built)]
+        with open(words.page, "w", encoding="utf-8") as file:
+            file.write(PAGE_HEAD + "\n".join(parts))
 
 
 main()

@@ -5,7 +5,8 @@
 # Usage: bench/run.sh [KERNEL..]     a kernel's name or a prefix of it; all kernels if none is given
 #
 # TABLES=FOLDER adds the tables NAME.txt of a folder to those of tests/data. CODE=FOLDER writes the
-# machine code there. OURS=LIBRARY measures the Rust edition that rust.sh built.
+# machine code there. PAGE=FILE also writes the summary and the sizes there: bench/results.md is made
+# so. OURS=LIBRARY measures the Rust edition that rust.sh built.
 set -eu
 here=$(dirname -- "$(readlink -f -- "$0")")
 root=$here/..
@@ -59,4 +60,4 @@ for shift in 0 16 32 48; do
     echo "bench: measures, our code $shift bytes past a multiple of 64" >&2
     "$work/bench" "$@" >"$work/measured.$shift"
 done
-python3 "$here/report.py" "$work"/measured.*
+python3 "$here/report.py" ${PAGE:+--page "$PAGE"} "$work"/measured.*

@@ -4,7 +4,7 @@ import re
 
 from picture import GREEN, GREY, HERE, INK, Picture
 
-BENCH = os.path.join(HERE, "../../bench/README.md")
+RESULTS = os.path.join(HERE, "../../bench/results.md")
 # The shown kernels of the benchmark, with what each is about; the first word is its name.
 KERNELS = (
     ("get_u8", "look-ups of 8 bits"),
@@ -27,8 +27,8 @@ KERNELS = (
 
 
 def ratios():
-    """The kernels' means beside ICU, as bench/README.md has them."""
-    with open(BENCH, encoding="utf-8") as file:
+    """The kernels' means beside ICU, as bench/results.md has them."""
+    with open(RESULTS, encoding="utf-8") as file:
         rows = re.findall(r"^\| `(\w+)` \| \d+ \| [\d.]* ?\| ([\d.]+) \|", file.read(), re.M)
     found = {name: float(icu) for name, icu in rows}
     return [(what, found[name]) for name, what in KERNELS]
@@ -40,7 +40,7 @@ def draw_speed():
     height = 100 + 30 * len(rows)
     picture = Picture(1000, height, "Our time by ICU's")
     picture.text(30, 38, "Our time, where ICU’s is 1", font_size=20)
-    picture.text(30, 62, "means of bench/README.md; shorter is faster", GREY)
+    picture.text(30, 62, "means of bench/results.md; shorter is faster", GREY)
     scale = 250
     for k, (what, ratio) in enumerate(rows):
         y = 82 + 30 * k
