@@ -1,4 +1,4 @@
-//! Prints what a code point trie answers, made from the rows that standard input holds.
+//! Prints the values of a code point trie that is built of the rows on standard input.
 #![tactic(auto)]
 
 ghost use Rattle.std.specs.Prelude.{◌≡◌, ◌<◌};
@@ -14,7 +14,7 @@ use ucptab_table::streams::{Failed, Sink, Source};
 use ucptab_table::text::write_fault;
 use ucptab_table::{run_words, write_usage};
 
-/// A reader, with a count of its failures.
+/// A reader with a count of its failures.
 #[derive(Drop)]
 struct Input<R: Read, L: Ledger> {
     reader: R,
@@ -37,7 +37,7 @@ impl<R: Read, L: Ledger> Source for Input<R, L> {
     }
 }
 
-/// A writer, with a count of its failures.
+/// A writer with a count of its failures.
 #[derive(Drop)]
 struct Output<W: Write, L: Ledger> {
     writer: W,
@@ -60,8 +60,8 @@ impl<W: Write, L: Ledger> Sink for Output<W, L> {
     }
 }
 
-/// Says why there are no words, and answers the status: by the line of refused memory, or the usage
-/// line where a word is no text.
+/// Prints why there are no arguments, and returns the status: the line of a failed allocation, or
+/// the usage line if an argument is not valid text.
 fn without_words<W: Sink>(writer: &mut W, why: ErrorKind) -> u8 {
     if why != ErrorKind::OutOfMemory {
         write_usage(writer);
@@ -71,8 +71,8 @@ fn without_words<W: Sink>(writer: &mut W, why: ErrorKind) -> u8 {
     1
 }
 
-/// Runs the program over standard input and output, with a ledger for the failures of each.
-/// It answers the status.
+/// Runs the program over standard input and output, and returns its status. Each stream has a
+/// ledger for its failures.
 fn status<L: Ledger, K: Ledger>(rt: &HostRuntime, reads: Blank, writes: Blank) -> u8
     requires name { reads.name ≡ L.name }
     requires parts { reads.parts ≡ L.parts }
