@@ -1,5 +1,5 @@
--- The text of a table: the rows that it is read from, and the lines that are printed. Bytes are
--- numbers, as 59 for `;`.
+-- The text of a table: the rows that are read and the lines that are printed. Bytes are numbers, as
+-- 59 for `;`.
 use Rattle.std.specs.Prelude.{◌≡◌, ◌<◌, ◌-◌, ℕ, ◌==◌, nat_lt, nat_le, ◌||◌, ◌&&◌, Bool, true, false, List, [], ◌∷◌, ◌++◌, length, take, drop, slice_get, slice_index, reverse, replicate, Option, Some, None, Result, Ok, Err, IsOk, IfSome, IsSomeAnd, All, if◌then◌else◌, codes, decimal}
 use Rattle.std.specs.List.{before_first, after_first, list_all, filter_map, flat_map}
 use Rattle.std.specs.Option.{option_map, option_and_then}
@@ -24,8 +24,8 @@ use Rattle.ucptab_table.specs.declared.rows.CodePoints.TheVariants.{Single, Span
 
 -- ---- Numbers and fields
 
--- the number that 1 to `most` digits of a base write, the first digit highest, and none for any
--- other bytes
+-- the number that 1 to `most` digits of a base write, the highest digit first; none for any other
+-- bytes
 unfoldable pub number_of : ℕ → ℕ → List ℕ → Option ℕ
 number_of base most bytes =
     if nat_lt 0 (length bytes)
@@ -44,21 +44,21 @@ decimal_number bytes = number_of 10 10 bytes
 abbrev pub is_blank : ℕ → Bool
 is_blank b = b == 32 || b == 9
 
--- bytes without the spaces and tabs before them
+-- bytes without leading spaces and tabs
 abbrev pub trim_start : List ℕ → List ℕ
 trim_start [] = []
 trim_start (b ∷ bytes) = if is_blank b then trim_start bytes else b ∷ bytes
 
--- bytes without the spaces and tabs after them
+-- bytes without trailing spaces and tabs
 unfoldable pub trim_end : List ℕ → List ℕ
 trim_end bytes = reverse (trim_start (reverse bytes))
 
--- bytes without the spaces and tabs round them
+-- bytes without leading and trailing spaces and tabs
 unfoldable pub trimmed : List ℕ → List ℕ
 trimmed bytes = trim_end (trim_start bytes)
 
--- what stands before the first byte that is `mark`, or all where none is, and what stands after it,
--- or nothing where none is
+-- the bytes before the first one that is `mark`, or all if there is none; and the bytes after it,
+-- or nothing if there is none
 unfoldable pub before : ℕ → List ℕ → List ℕ
 before mark bytes = before_first (λ b. b == mark) bytes
 
@@ -67,7 +67,7 @@ after mark bytes = after_first (λ b. b == mark) bytes
 
 -- ---- Rows
 
--- `HEX..HEX`, where the first `.` has a `.` after it, and else `HEX`
+-- `HEX..HEX` if a `.` follows the first `.`, and `HEX` otherwise
 unfoldable pub code_points_of : List ℕ → Option CodePoints
 code_points_of field =
     let first = before 46 field in let rest = after 46 field in
@@ -111,12 +111,13 @@ abbrev pub some_write : Result (Write ℕ) RowFault → Result (Option (Write �
 some_write (Ok write) = Ok (Some write)
 some_write (Err fault) = Err fault
 
--- a line without its comment, from the first `#` on, and without blanks round it
+-- a line without its comment, which starts at the first `#`, and without leading and trailing
+-- blanks
 abbrev pub content_of : List ℕ → List ℕ
 content_of line = trimmed (before 35 line)
 
--- what a line says: nothing where its content is empty, and else the write of the row `CODE POINTS
--- ; N`, or its fault
+-- what a line says: nothing if its content is empty, and otherwise the write of the row `CODE
+-- POINTS ; N`, or its fault
 unfoldable pub row_of : List ℕ → Result (Option (Write ℕ)) RowFault
 row_of line =
     let content = content_of line in
@@ -124,7 +125,7 @@ row_of line =
     else some_write (row_of_fields (code_points_of (trimmed (before 59 content)))
     (decimal_number (trimmed (after 59 content))))
 
--- the write of a line, where it has one
+-- the write of a line, if it has one
 abbrev pub write_of : List ℕ → Option (Write ℕ)
 write_of line = result_unwrap_or (row_of line) None
 
@@ -132,13 +133,13 @@ write_of line = result_unwrap_or (row_of line) None
 abbrev pub IsFaultless : List ℕ → Type 0
 IsFaultless line = IsOk (row_of line)
 
--- no line of the input has a fault, and ws are the writes of its lines, in order. Lines end with
--- LF, which may have a CR before it, or with the input; after a last LF there is no line
+-- no line of the input has a fault, and ws are the writes of its lines, in order. A line ends with
+-- LF or CR LF, or with the input; there is no line after a last LF
 pub record AreRows (input : List ℕ) (ws : List (Write ℕ)) : Type 0 where
   pub faultless : All IsFaultless (lines input)
   pub writes : ws ≡ filter_map write_of (lines input)
 
--- line k of the input, from 1, has the fault f, and no line before it has a fault
+-- line k of the input, counted from 1, has the fault f, and no line before it has a fault
 pub record IsFirstFault (input : List ℕ) (k : ℕ) (f : RowFault) : Type 0 where
   pub counted : 0 < k
   pub faulty : IsSomeAnd (slice_get (lines input) (k - 1)) (λ line. row_of line ≡ Err f)
@@ -146,7 +147,7 @@ pub record IsFirstFault (input : List ℕ) (k : ℕ) (f : RowFault) : Type 0 whe
 
 -- ---- What is printed
 
--- a number in upper-case hexadecimal digits, with zeros in front up to four digits
+-- a number in upper-case hexadecimal digits, with leading zeros up to four digits
 unfoldable pub hex_text : ℕ → List ℕ
 hex_text n = let shown = digits 16 true n in replicate (4 - length shown) 48 ++ shown
 
@@ -158,11 +159,11 @@ decimal_text n = decimal n
 unfoldable pub answer_line : ℕ → ℕ → List ℕ
 answer_line n answer = hex_text n ++ (59 ∷ (decimal_text answer ++ (10 ∷ [])))
 
--- the lines of the numbers that are asked, in order
+-- the lines of the asked numbers, in order
 abbrev pub answers_text : (ℕ → ℕ) → List ℕ → List ℕ
 answers_text answer asked = flat_map (λ n. answer_line n (answer n)) asked
 
--- the line of a run, `HEX..HEX;N` LF, and `HEX;N` LF where it is one code point
+-- the line of a run, `HEX..HEX;N` LF, or `HEX;N` LF if it is one code point
 unfoldable pub run_line : Run ℕ → List ℕ
 run_line r =
     if nat_lt r.first r.last
@@ -173,21 +174,21 @@ run_line r =
 abbrev pub runs_text : List (Run ℕ) → List ℕ
 runs_text runs = flat_map run_line runs
 
--- what is printed where these numbers are asked of a map with these answers: their lines, and where
--- none is asked the lines of the map's maximal runs
+-- what is printed of a map with these values if these numbers are asked: their lines, or the lines
+-- of the map's maximal runs if no number is asked
 abbrev pub IsTextOfMap : (ℕ → ℕ) → (ℕ → ℕ) → List ℕ → List ℕ → Type 0
 IsTextOfMap value answer [] text = (runs : List (Run ℕ))
     × (AreMaximalRuns value runs × (text ≡ runs_text runs))
 IsTextOfMap value answer (n ∷ asked) text = text ≡ answers_text answer (n ∷ asked)
 
--- no line of the input has a fault, and the text is that of the map of its writes: each code point
--- has the value of the last write of the input that covers it and the default where none does, and
--- a number above the code space the error value
+-- no line of the input has a fault, and the text is that of the map of its writes. A code point has
+-- the value of the last write of the input that covers it, or the default if none does; a number
+-- above the code space has the error value
 abbrev pub IsTableText : List ℕ → ℕ → ℕ → List ℕ → List ℕ → Type 0
 IsTableText input default error asked text = (ws : List (Write ℕ)) × (AreRows input ws
     × IsTextOfMap (value_after ws default) (answer_after default error ws) asked text)
 
--- what is printed of a row's fault, and of each fault, without the LF
+-- what is printed of a row's fault, and of each error, without the LF
 abbrev pub row_fault_text : RowFault → List ℕ
 row_fault_text NotARow = codes "not a row"
 row_fault_text CodePoint = codes "code point too large"
@@ -207,9 +208,9 @@ abbrev pub IsTooLargeInput : ℕ → List ℕ → Type 0
 IsTooLargeInput default input =
     (ws : List (Write ℕ)) × (AreRows input ws × IsTooLarge (value_after ws default))
 
--- a fault has its cause, where a reader's bytes were `before` and are `after`, as far as they are
--- known: a row's fault is the first one of the whole input, which is read to its end, as it is
--- before a map is found too large, and at a read fault the count of failed reads rose
+-- an error has its cause. A reader's bytes were `before` and are `after`, as far as they are known.
+-- A row's fault is the first one of the whole input, which is read to its end; so it is if a map is
+-- too large. At a read fault the count of failed reads rose
 pub record HasCause (default : ℕ) (before after : Option (List ℕ))
     (failures_before failures_after : ℕ) (fault : TableError) : Type 0 where
   pub row : (k : ℕ) (f : RowFault) → fault ≡ Row k f

@@ -2,7 +2,7 @@
 ghost use Rattle.std.specs.Prelude.{◌≡◌, ◌≤◌, ◌<◌, ◌^◌, IfSome};
 ghost use Rattle.ucptab_table.specs.TableText.{number_of, hexadecimal, decimal_number};
 
-/// The number that 1 to `most` digits of the base write. `None` for any other bytes.
+/// Returns the number that 1 to `most` digits of the base write, or `None` for any other bytes.
 #[tactic(auto, using(crate::proofs::Powers::one_digit_more, crate::proofs::Powers::digits_fit), unfolding(crate::specs::TableText::number_of))]
 fn number_of(base: u32, most: usize, bytes: &[u8]) -> Option<u64>
     requires two { 2 ≤ base }
@@ -22,7 +22,8 @@ fn number_of(base: u32, most: usize, bytes: &[u8]) -> Option<u64>
     Some(number)
 }
 
-/// The number that 1 to 8 hexadecimal digits of either case write. `None` for any other bytes.
+/// Returns the number that 1 to 8 hexadecimal digits of either case write, or `None` for any other
+/// bytes.
 pub fn hexadecimal(bytes: &[u8]) -> Option<u32>
     ensures { result ≡ hexadecimal bytes.now }
 {
@@ -30,7 +31,7 @@ pub fn hexadecimal(bytes: &[u8]) -> Option<u32>
     Some(number as u32)
 }
 
-/// The number that 1 to 10 decimal digits write. `None` for any other bytes.
+/// Returns the number that 1 to 10 decimal digits write, or `None` for any other bytes.
 pub fn decimal_number(bytes: &[u8]) -> Option<u64>
     ensures { result ≡ decimal_number bytes.now }
 {

@@ -1,4 +1,4 @@
-//! Reads the table: its bytes, then its lines, then the rows.
+//! Reads a table: its bytes, its lines and its rows.
 ghost use Rattle.std.specs.Prelude.{◌≡◌, ◌⊎◌, ◌<◌, ℕ, length, ◌∷◌, [], IfOk, IfErr, IfSome, IfNone};
 ghost use Rattle.std.specs.Io.KnownBytes.{IsAtEnd};
 ghost use Rattle.std.specs.Str.Lines.{lines, strip_carriage_return};
@@ -12,7 +12,10 @@ use crate::streams::{Failed, Source};
 use icu_trie_builder::writes::Write;
 use std::alloc::Global;
 
-/// All bytes that are left. `Read` where a read failed, and `Memory` where they found no room.
+/// Reads all bytes that are left.
+///
+/// # Errors
+/// Returns [`TableError::Read`] if a read fails, and [`TableError::Memory`] if an allocation fails.
 pub fn read_all<S: Source>(alloc: Global, reader: &mut S) -> Result<Vec<u8>, TableError>
     ensures bytes { IfOk result
         (λ all. IfSome (S.remaining reader.old) (λ input. all.items ≡ input)) }
@@ -36,11 +39,11 @@ pub fn read_all<S: Source>(alloc: Global, reader: &mut S) -> Result<Vec<u8>, Tab
             return Err(TableError::Memory);
         }
     }
-    // Each turn adds a byte, and a `Vec` has fewer than there are turns.
+    // Each turn adds a byte, and a `Vec` has fewer bytes than there are turns.
     unreachable!()
 }
 
-/// The line without the one carriage return at its end, if it has one.
+/// Returns the line without one carriage return at its end, if it has one.
 fn strip_carriage_return(line: &[u8]) -> &[u8]
     ensures { result.now ≡ strip_carriage_return line.now }
 {
@@ -50,7 +53,7 @@ fn strip_carriage_return(line: &[u8]) -> &[u8]
     }
 }
 
-/// The first line, and what is after its LF. `None` where there is no line.
+/// Returns the first line and what follows its line feed, or `None` if there is no line.
 fn first_line(input: &[u8]) -> Option<(&[u8], &[u8])>
     ensures none { IfNone result (lines input.now ≡ []) }
     ensures some { IfSome result (λ cut. lines input.now ≡ cut.0.now ∷ lines cut.1.now) }
@@ -66,8 +69,11 @@ fn first_line(input: &[u8]) -> Option<(&[u8], &[u8])>
     Some((input, &[]))
 }
 
-/// The writes of all rows of the table, in order. `Row` with the first line that has a fault,
-/// counted from 1, and `Memory` where the writes found no room.
+/// Returns the writes of all rows of the table, in order.
+///
+/// # Errors
+/// Returns [`TableError::Row`] for the first line that has a fault, counted from 1, and
+/// [`TableError::Memory`] if an allocation fails.
 pub fn read_rows(alloc: Global, input: &[u8]) -> Result<Vec<Write<u32>>, TableError>
     ensures ok { IfOk result (λ writes. AreRows input.now writes.items) }
     ensures row { (k : ℕ) (f : RowFault) → IfErr result (λ e. e ≡ Row k f

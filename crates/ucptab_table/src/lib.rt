@@ -1,4 +1,4 @@
-//! The table's engine: it reads rows, and prints what a trie of them answers.
+//! The engine of `ucptab`: reads rows, and prints the values of a trie that is built of them.
 #![tactic(auto)]
 
 ghost use Rattle.std.specs.Prelude.{◌≡◌, ◌≢◌, ◌⊎◌, ℕ, nat_eq, ◌<◌, ◌≤◌, List, [], ◌∷◌, ◌++◌, None, map, IfOk, IfErr, IfSome, string_bytes};
@@ -29,11 +29,11 @@ use icu_trie_builder::writes::Write;
 use icu_trie_core::header::TrieType;
 use std::alloc::Global;
 
-/// What the program takes.
+/// The arguments of the program.
 pub const USAGE: &str = "usage: ucptab fast|small DEFAULT ERROR [HEX ..]\n";
 
-/// The lines of the asked numbers, as a trie of these writes answers them, and where none is asked
-/// those of its ranges.
+/// Returns the lines of the asked numbers in a trie of these writes, or those of its ranges if no
+/// number is asked.
 #[tactic(auto, using(crate::proofs::RangeRuns::text_of_some))]
 fn answer_text(
     alloc: Global,
@@ -57,8 +57,8 @@ fn answer_text(
     }
 }
 
-/// Reads the table to its end, and answers the lines of the asked numbers, or where none is asked
-/// those of all ranges of equal values.
+/// Reads the table to its end. Returns the lines of the asked numbers, or those of all ranges of
+/// equal values if no number is asked.
 fn table_text<S: Source>(
     alloc: Global,
     trie_type: TrieType,
@@ -80,9 +80,10 @@ fn table_text<S: Source>(
     answer_text(alloc, trie_type, default, error, &writes, asked)
 }
 
-/// Reads the table to its end, and writes the lines of the asked numbers by one call, or where none
-/// is asked those of all ranges of equal values. Every fault but that of the write comes before a
-/// byte is written.
+/// Reads the table to its end, and writes the lines of the asked numbers by one call, or those of
+/// all ranges of equal values if no number is asked.
+///
+/// Every error but that of the write comes before a byte is written.
 pub fn run<S: Source, W: Sink>(
     alloc: Global,
     trie_type: TrieType,
@@ -112,7 +113,7 @@ pub fn run<S: Source, W: Sink>(
     }
 }
 
-/// Writes the usage line. Where that fails, nothing else is done.
+/// Writes the usage line. If that fails, nothing else is done.
 pub fn write_usage<W: Sink>(writer: &mut W)
     ensures usage { W.failures writer.new ≡ W.failures writer.old
         → Appends (W.contents writer.old) (W.contents writer.new) USAGE.now }
@@ -121,7 +122,7 @@ pub fn write_usage<W: Sink>(writer: &mut W)
     let _ = writer.write(USAGE.as_bytes());
 }
 
-/// Answers a request: the same as `run`, after its words are taken as numbers.
+/// Does what a request asks for, as `run` does, after the words of its numbers are read.
 fn answer<S: Source, W: Sink>(
     alloc: Global,
     request: Request<'_>,
@@ -153,9 +154,10 @@ fn answer<S: Source, W: Sink>(
     )
 }
 
-/// What the program does with the words after its name, and its status: 0 where the asked numbers
-/// are answered, or the ranges printed where none is asked, 1 where a fault's line is written, and
-/// 2 where the usage line is. Where a line can't be written, the status is the same.
+/// Runs the program with the words after its name, and returns its status.
+///
+/// The status is 0 if the values or the ranges are printed, 1 if the line of an error is, and 2 if
+/// the usage line is. It is the same if that line can't be written.
 pub fn run_words<S: Source, W: Sink>(
     alloc: Global,
     words: &[String],
@@ -171,12 +173,12 @@ pub fn run_words<S: Source, W: Sink>(
         × (IsTableText input a.default a.error a.asked text
         × Appends (W.contents writer.old) (W.contents writer.new) text))) }
 
-    // A failed read or write is never passed over.
+    // A failed read or write is never ignored.
     ensures sound_reads { result ≡ 0 → S.failures reader.new ≡ S.failures reader.old }
     ensures sound_writes { result ≡ 0 → W.failures writer.new ≡ W.failures writer.old }
 
-    // Where no write failed, a fault's line is all that is written, and so is the usage line.
-    // For that nothing is read.
+    // If no write failed, nothing but the line of an error, or the usage line, is written. Nothing
+    // is read before the usage line.
     ensures fault_line { result ≡ 1 → W.failures writer.new ≡ W.failures writer.old
         → IfSome (arguments_of (map string_bytes words.now)) (λ a. (fault : TableError)
         × (fault ≢ WriteFault

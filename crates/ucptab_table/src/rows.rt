@@ -1,4 +1,4 @@
-//! What a line of the table says.
+//! Reads one line of the table.
 ghost use Rattle.std.specs.Prelude.{◌≡◌, ◌≤◌, ◌==◌, length};
 ghost use Rattle.std.specs.List.{position_or_len};
 ghost use Rattle.ucptab_table.specs.TableText.{trim_start, trim_end, trimmed, before, after, code_points_of, row_of_numbers, content_of, row_of};
@@ -8,16 +8,16 @@ use crate::fault::RowFault;
 use icu_trie_builder::writes::Write;
 use icu_zerovec::CODE_POINT_LIMIT;
 
-/// The code points that a row speaks of.
+/// The code points of a row.
 #[derive(Clone, Copy, Debug, PartialEq, Eq)]
 pub enum CodePoints {
-    /// This one.
+    /// One code point.
     Single(u32),
-    /// Those from the first to the second, both included.
+    /// The code points from the first to the second, both inclusive.
     Span(u32, u32),
 }
 
-/// The bytes without the spaces and tabs before them.
+/// Returns the bytes without leading spaces and tabs.
 fn trim_start(bytes: &[u8]) -> &[u8]
     ensures { result.now ≡ trim_start bytes.now }
 {
@@ -28,7 +28,7 @@ fn trim_start(bytes: &[u8]) -> &[u8]
     rest
 }
 
-/// The bytes without the spaces and tabs after them.
+/// Returns the bytes without trailing spaces and tabs.
 #[tactic(auto, using(crate::proofs::Bytes::trim_end_blank, crate::proofs::Bytes::trim_end_other, crate::proofs::Bytes::trim_end_none))]
 fn trim_end(bytes: &[u8]) -> &[u8]
     ensures { result.now ≡ trim_end bytes.now }
@@ -40,7 +40,7 @@ fn trim_end(bytes: &[u8]) -> &[u8]
     rest
 }
 
-/// The bytes without the spaces and tabs round them.
+/// Returns the bytes without leading and trailing spaces and tabs.
 #[tactic(auto, unfolding(crate::specs::TableText::trimmed))]
 fn trimmed(bytes: &[u8]) -> &[u8]
     ensures { result.now ≡ trimmed bytes.now }
@@ -48,7 +48,7 @@ fn trimmed(bytes: &[u8]) -> &[u8]
     trim_end(trim_start(bytes))
 }
 
-/// The place of the first byte that is `mark`, or the length where none is.
+/// Returns the index of the first byte that is `mark`, or the length if there is none.
 pub fn position_or_len(mark: u8, bytes: &[u8]) -> usize
     ensures place { result ≡ position_or_len (λ b. b == mark) bytes.now }
     ensures within { result ≤ length bytes.now }
@@ -59,7 +59,7 @@ pub fn position_or_len(mark: u8, bytes: &[u8]) -> usize
     }
 }
 
-/// What stands before the first byte that is `mark`: all where none is.
+/// Returns the bytes before the first one that is `mark`, or all if there is none.
 #[tactic(auto, unfolding(crate::specs::TableText::before))]
 pub fn before(mark: u8, bytes: &[u8]) -> &[u8]
     ensures { result.now ≡ before mark bytes.now }
@@ -67,7 +67,7 @@ pub fn before(mark: u8, bytes: &[u8]) -> &[u8]
     &bytes[..position_or_len(mark, bytes)]
 }
 
-/// What stands after the first byte that is `mark`: nothing where none is.
+/// Returns the bytes after the first one that is `mark`, or nothing if there is none.
 #[tactic(auto, unfolding(crate::specs::TableText::after))]
 pub fn after(mark: u8, bytes: &[u8]) -> &[u8]
     ensures { result.now ≡ after mark bytes.now }
@@ -80,7 +80,7 @@ pub fn after(mark: u8, bytes: &[u8]) -> &[u8]
     }
 }
 
-/// The code points of the field `HEX` or `HEX..HEX`. `None` for any other field.
+/// Returns the code points of the field `HEX` or `HEX..HEX`, or `None` for any other field.
 #[tactic(auto, unfolding(crate::specs::TableText::code_points_of))]
 fn code_points_of(field: &[u8]) -> Option<CodePoints>
     ensures { result ≡ code_points_of field.now }
@@ -94,7 +94,7 @@ fn code_points_of(field: &[u8]) -> Option<CodePoints>
     Some(CodePoints::Single(code_point))
 }
 
-/// The write of a row, or the first fault of its numbers.
+/// Returns the write of a row, or the first fault of its numbers.
 #[tactic(auto, unfolding(crate::specs::TableText::row_of_numbers))]
 fn row_of_numbers(points: CodePoints, value: u64) -> Result<Write<u32>, RowFault>
     ensures { result ≡ row_of_numbers points value }
@@ -118,15 +118,18 @@ fn row_of_numbers(points: CodePoints, value: u64) -> Result<Write<u32>, RowFault
     }
 }
 
-/// The line without its comment, from the first `#` on, and without the blanks round it.
+/// Returns the line without its comment, which starts at the first `#`, and without leading and
+/// trailing blanks.
 fn content_of(line: &[u8]) -> &[u8]
     ensures { result.now ≡ content_of line.now }
 {
     trimmed(before(b'#', line))
 }
 
-/// What a line says: its write, `None` where the line is empty or a comment, or what is wrong with
-/// it.
+/// Returns the write of a line, or `None` if the line is blank or a comment.
+///
+/// # Errors
+/// Returns what is wrong with the line, by the first of the tests in [`RowFault`].
 #[tactic(auto, unfolding(crate::specs::TableText::row_of))]
 pub fn row_of(line: &[u8]) -> Result<Option<Write<u32>>, RowFault>
     ensures { result ≡ row_of line.now }

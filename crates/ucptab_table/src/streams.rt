@@ -1,22 +1,25 @@
-//! Where a table's bytes come from, and where its lines go.
+//! The streams that a table is read from and its lines are written to.
 ghost use Rattle.std.specs.Prelude.{◌≡◌, ℕ, ◌+◌, ◌<◌, List, Option, None, length, take, IfOk, IfErr};
 ghost use Rattle.std.specs.Io.{ReadsAtMost};
 ghost use Rattle.std.specs.Io.KnownBytes.{Appends, Consumes, IsAtEnd};
 
-/// A stream failed.
+/// A read or a write failed.
 #[derive(Clone, Copy, Debug, PartialEq, Eq)]
 pub struct Failed;
 
-/// Where bytes come from.
+/// A stream to read from.
 pub trait Source {
-    /// The bytes that reads will give from here on, where they are known.
+    /// The bytes that reads will return from here on, if they are known.
     ghost remaining: { Self → Option (List ℕ) } = { λ _. None };
 
     /// How many reads failed.
     ghost failures: { Self → ℕ };
 
-    /// Fills the front of `buf`, and answers how many bytes that took: where `buf` has room, 0 only
-    /// at the end. A read that fails may have lost bytes.
+    /// Fills a prefix of `buf`, and returns its length. If `buf` is not empty, 0 means the end of
+    /// the stream.
+    ///
+    /// # Errors
+    /// Returns [`Failed`] if the read fails. It may have lost bytes.
     fn read(&mut self, buf: &mut [u8]) -> Result<usize, Failed>
         ensures bound { ReadsAtMost result buf.new }
         ensures bytes { IfOk result
@@ -26,15 +29,18 @@ pub trait Source {
         ensures failed { IfErr result (λ _. failures self.new ≡ failures self.old + 1) };
 }
 
-/// Where bytes go.
+/// A stream to write to.
 pub trait Sink {
-    /// The bytes that were written, where they are known.
+    /// The bytes that were written, if they are known.
     ghost contents: { Self → Option (List ℕ) } = { λ _. None };
 
     /// How many writes failed.
     ghost failures: { Self → ℕ };
 
-    /// Writes all of `buf`. A write that fails may have written any part of it.
+    /// Writes all of `buf`.
+    ///
+    /// # Errors
+    /// Returns [`Failed`] if the write fails. Any prefix of `buf` may have been written.
     fn write(&mut self, buf: &[u8]) -> Result<(), Failed>
         ensures bytes { IfOk result
             (λ _. Appends (contents self.old) (contents self.new) buf.now) }

@@ -14,7 +14,8 @@ use icu_trie::cptrie::CodePointTrie;
 use icu_trie_core::range::CodePointMapRange;
 use std::alloc::{AllocError, Global};
 
-/// The line of one asked number: the number, in at least four hexadecimal digits, and its answer.
+/// Appends the line of an asked number: the number, in at least four hexadecimal digits, and its
+/// value.
 #[tactic(auto, using(crate::proofs::Printed::hex_written), unfolding(crate::specs::TableText::answer_line))]
 fn push_answer(text: &mut String, asked: u32, answer: u32) -> Result<(), AllocError>
     ensures { IfOk result (λ _. string_bytes text.new
@@ -23,7 +24,10 @@ fn push_answer(text: &mut String, asked: u32, answer: u32) -> Result<(), AllocEr
     writeln!(text, "{asked:04X};{answer}")
 }
 
-/// The lines of the asked numbers, in order, each with what `answer` gives for it.
+/// Returns the lines of the asked numbers, in order, each with what `answer` returns for it.
+///
+/// # Errors
+/// Returns [`AllocError`] if an allocation fails.
 pub fn answers_text<F: Fn(u32) -> u32>(
     alloc: Global,
     asked: &[u32],
@@ -40,7 +44,7 @@ pub fn answers_text<F: Fn(u32) -> u32>(
     Ok(text)
 }
 
-/// A number in at least four hexadecimal digits, and two dots after it.
+/// Appends a number in at least four hexadecimal digits, and two dots.
 #[tactic(auto, using(crate::proofs::Printed::hex_written))]
 fn push_dotted(text: &mut String, n: u32) -> Result<(), AllocError>
     ensures { IfOk result (λ _. string_bytes text.new
@@ -49,8 +53,8 @@ fn push_dotted(text: &mut String, n: u32) -> Result<(), AllocError>
     write!(text, "{n:04X}..")
 }
 
-/// The line of a range: its first and last code point in at least four hexadecimal digits, or the
-/// one where it is but one, and its value.
+/// Appends the line of a range: its first and its last code point, or one if they are equal, and
+/// its value. Code points have at least four hexadecimal digits.
 fn push_range(text: &mut String, range: &CodePointMapRange<u32>) -> Result<(), AllocError>
     ensures { IfOk result (λ _. string_bytes text.new
         ≡ string_bytes text.old ++ run_line (run_of_values range.now)) }
@@ -64,8 +68,11 @@ fn push_range(text: &mut String, range: &CodePointMapRange<u32>) -> Result<(), A
     }
 }
 
-/// The lines of all ranges of the trie, in order. Where the trie is coherent they are those of the
-/// maximal runs of its map.
+/// Returns the lines of all ranges of the trie, in order. If the trie is coherent, they are the
+/// maximal runs of its values.
+///
+/// # Errors
+/// Returns [`AllocError`] if an allocation fails.
 pub fn ranges_text(alloc: Global, trie: &CodePointTrie<'_, u32>) -> Result<String, AllocError>
     ensures { IsCoherentTrie (fitting (2 ^ 32)) trie.now → (value : ℕ → ℕ)
         → ((u : ℕ) → u < code_point_limit → answers trie.now u ≡ Some (value u))
@@ -79,7 +86,7 @@ pub fn ranges_text(alloc: Global, trie: &CodePointTrie<'_, u32>) -> Result<Strin
     Ok(text)
 }
 
-/// Writes a number in decimal digits. It takes no memory.
+/// Writes a number in decimal digits. Allocates nothing.
 #[tactic(auto, using(crate::proofs::Printed::printing))]
 fn write_decimal<W: Sink>(sink: &mut W, n: u64) -> Result<(), Failed>
     ensures text { IfOk result (λ _. Appends (W.contents sink.old) (W.contents sink.new)
@@ -94,7 +101,7 @@ fn write_decimal<W: Sink>(sink: &mut W, n: u64) -> Result<(), Failed>
     sink.write(&[b'0' + (n % 10) as u8])
 }
 
-/// Writes the line of a fault. It takes no memory.
+/// Writes the line of an error. Allocates nothing.
 #[tactic(auto, using(crate::proofs::Printed::printing))]
 pub fn write_fault<W: Sink>(sink: &mut W, fault: TableError) -> Result<(), Failed>
     ensures text { IfOk result

@@ -1,4 +1,4 @@
-//! What the program's words ask for.
+//! The arguments of the program.
 ghost use Rattle.std.specs.Prelude.{◌≡◌, ◌++◌, length, OnOk, map, IfOk, IfSome, is_some, string_bytes};
 ghost use Rattle.std.specs.List.{list_all, filter_map};
 ghost use Rattle.std.specs.Option.{option_map, option_to_list};
@@ -9,20 +9,20 @@ use crate::digits::{decimal_number, hexadecimal};
 use icu_trie_core::header::TrieType;
 use std::alloc::{AllocError, Global};
 
-/// What the words ask for.
+/// What the arguments ask for.
 #[derive(Clone, Copy)]
 pub struct Request<'a> {
     /// The type of the trie.
     pub trie_type: TrieType,
-    /// The value of each code point that no row names.
+    /// The value of each code point that no row covers.
     pub default: u32,
-    /// The answer above 10FFFF.
+    /// The value of each number above 0x10FFFF.
     pub error: u32,
-    /// The words of the numbers whose answers are wanted. Each is 1 to 8 hexadecimal digits.
+    /// The words of the asked numbers, each of 1 to 8 hexadecimal digits.
     pub asked: &'a [String],
 }
 
-/// The type of a trie that is named `fast` or `small`. `None` for any other word.
+/// Returns the trie type with the name `fast` or `small`, or `None` for any other word.
 #[tactic(auto, unfolding(crate::specs::Words::trie_type_of))]
 fn trie_type_of(word: &[u8]) -> Option<TrieType>
     ensures { result ≡ trie_type_of word.now }
@@ -36,7 +36,8 @@ fn trie_type_of(word: &[u8]) -> Option<TrieType>
     }
 }
 
-/// The value that 1 to 10 decimal digits write. `None` for any other word, and above 4294967295.
+/// Returns the value that 1 to 10 decimal digits write, or `None` for any other word and above
+/// 4294967295.
 #[tactic(auto, unfolding(crate::specs::Words::value_of))]
 fn value_of(word: &[u8]) -> Option<u32>
     ensures { result ≡ value_of word.now }
@@ -45,7 +46,7 @@ fn value_of(word: &[u8]) -> Option<u32>
     u32::try_from(number).ok()
 }
 
-/// Whether each word is 1 to 8 hexadecimal digits.
+/// Returns whether each word is 1 to 8 hexadecimal digits.
 fn are_hexadecimal(words: &[String]) -> bool
     ensures { result ≡ list_all (λ word. is_some (hexadecimal (string_bytes word))) words.now }
 {
@@ -54,8 +55,10 @@ fn are_hexadecimal(words: &[String]) -> bool
         .all(|word| hexadecimal(word.as_bytes()).is_some())
 }
 
-/// What the words after the program's name ask for: KIND DEFAULT ERROR [HEX ..]. `None` where they
-/// can't be read. It takes no memory, so that all words are tested before any is taken.
+/// Returns what the words after the program's name ask for, KIND DEFAULT ERROR [HEX ..], or `None`
+/// if they can't be read.
+///
+/// Allocates nothing, so that all words are tested before any is used.
 #[tactic(auto, unfolding(crate::specs::Words::arguments_of))]
 pub fn request_of(words: &[String]) -> Option<Request<'_>>
     ensures value { arguments_of (map string_bytes words.now) ≡ option_map (λ request. record {
@@ -85,7 +88,7 @@ pub fn request_of(words: &[String]) -> Option<Request<'_>>
     })
 }
 
-/// Appends the number that a word writes in hexadecimal digits to the others, if it writes one.
+/// Appends the number that a word writes in hexadecimal digits, if it writes one.
 fn push_number(asked: &mut Vec<u32>, word: &[u8]) -> Result<(), AllocError>
     ensures { OnOk result
         (asked.new.items ≡ asked.old.items ++ option_to_list (hexadecimal word.now)) }
@@ -96,12 +99,12 @@ fn push_number(asked: &mut Vec<u32>, word: &[u8]) -> Result<(), AllocError>
     Ok(())
 }
 
-/// The numbers that the words write in hexadecimal digits, in order.
+/// Returns the numbers that the words write in hexadecimal digits, in order.
 pub fn asked_numbers(alloc: Global, words: &[String]) -> Result<Vec<u32>, AllocError>
     ensures { IfOk result
         (λ asked. asked.items ≡ filter_map (λ word. hexadecimal (string_bytes word)) words.now) }
 {
-    // One by one: `collect` would go on where its first request for room is refused.
+    // One by one: `collect` would go on after its first allocation fails.
     let mut asked = Vec::new(alloc);
     for word in words {
         push_number(&mut asked, word.as_bytes())?;
