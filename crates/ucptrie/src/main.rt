@@ -1,4 +1,4 @@
-//! Makes code point tries of tables of rows, writes them in the forms that other programs take, and
+//! Makes code point tries of tables of rows, writes them in the forms that other programs read, and
 //! reads and shows them.
 #![tactic(auto)]
 
@@ -26,7 +26,7 @@ use ucptrie_tables::width::ValueWidth;
 use ucptrie_tables::written::{Form, written};
 use words::program_words;
 
-/// The type that the words name.
+/// Returns the trie type that the arguments name.
 fn trie_type(matches: &ArgMatches<'_>) -> TrieType {
     match matches.get_str("type") {
         Some("small") => TrieType::Small,
@@ -34,7 +34,7 @@ fn trie_type(matches: &ArgMatches<'_>) -> TrieType {
     }
 }
 
-/// The width that the words name.
+/// Returns the width that the arguments name.
 fn width(matches: &ArgMatches<'_>) -> ValueWidth {
     match matches.get_str("width") {
         Some("8") => ValueWidth::Bits8,
@@ -43,12 +43,12 @@ fn width(matches: &ArgMatches<'_>) -> ValueWidth {
     }
 }
 
-/// A word is not what it is to be.
+/// Returns the error for a word that is not what it has to be.
 fn refused(word: &str, why: &str) -> Error {
     anyhow!("{word}: {why}")
 }
 
-/// The form that the words name.
+/// Returns the form that the arguments name.
 fn form<'a>(matches: &ArgMatches<'a>) -> Result<Form<'a>> {
     let name = name_of(matches.get_str("name").unwrap_or("table"))?;
     Ok(match matches.get_str("as") {
@@ -61,7 +61,7 @@ fn form<'a>(matches: &ArgMatches<'a>) -> Result<Form<'a>> {
     })
 }
 
-/// What a table is to be beside its rows.
+/// Returns what a table is to be, apart from its rows.
 fn options(matches: &ArgMatches<'_>) -> TableOptions {
     TableOptions {
         trie_type: trie_type(matches),
@@ -71,14 +71,14 @@ fn options(matches: &ArgMatches<'_>) -> TableOptions {
     }
 }
 
-/// All of standard input.
+/// Reads all of standard input.
 fn input(rt: &HostRuntime) -> Result<Vec<u8>> {
     let mut bytes = Vec::new(rt.alloc());
     rt.stdin().read_to_end(&mut bytes)?;
     Ok(bytes)
 }
 
-/// What is told of a fault: that a map is too large says why.
+/// Returns the error for a fault. For a map that is too large, it says why.
 fn told(fault: BuildFault) -> Error {
     match fault {
         BuildFault::Table(TableError::TooLarge) => {
@@ -88,14 +88,14 @@ fn told(fault: BuildFault) -> Error {
     }
 }
 
-/// A table of the rows on standard input, in the form that the words name.
+/// Builds a table of the rows on standard input, in the form that the arguments name.
 fn build(rt: &HostRuntime, matches: &ArgMatches<'_>) -> Result<Vec<u8>> {
     let form = form(matches)?;
     let rows = input(rt)?;
     built(rt.alloc(), &rows, options(matches), form).map_err(told)
 }
 
-/// The bytes of a file, whose name may stand for standard input.
+/// Reads a file, or standard input if its name is `-`.
 fn bytes_at(rt: &HostRuntime, path: &str) -> Result<Vec<u8>> {
     if path == "-" {
         return input(rt);
@@ -103,7 +103,7 @@ fn bytes_at(rt: &HostRuntime, path: &str) -> Result<Vec<u8>> {
     Ok(fs::read(rt, path)?)
 }
 
-/// The table of the file that the words name.
+/// Reads the table of the file that the argument `id` names.
 fn table_at(rt: &HostRuntime, matches: &ArgMatches<'_>, id: &str) -> Result<Table> {
     let path = matches.get_str(id).context("no file")?;
     let bytes = bytes_at(rt, path).context(path)?;
@@ -111,8 +111,10 @@ fn table_at(rt: &HostRuntime, matches: &ArgMatches<'_>, id: &str) -> Result<Tabl
     Ok(table)
 }
 
-/// The table of a file, in the form that the words name. Rows are ranges, and those of a table that
-/// is not coherent are not what it answers: such rows would make another table.
+/// Returns the table of a file in the form that the arguments name.
+///
+/// Rows are ranges. The ranges of a table that is not coherent may differ from its values, so its
+/// rows would make another table and are not written.
 fn convert(rt: &HostRuntime, matches: &ArgMatches<'_>) -> Result<Vec<u8>> {
     let form = form(matches)?;
     let path = matches.get_str("file").context("no file")?;
@@ -124,13 +126,13 @@ fn convert(rt: &HostRuntime, matches: &ArgMatches<'_>) -> Result<Vec<u8>> {
     Ok(written(rt.alloc(), &table, form).context(path)?)
 }
 
-/// What a table is.
+/// Returns what a table is, in lines.
 fn show(rt: &HostRuntime, matches: &ArgMatches<'_>) -> Result<String> {
     let table = table_at(rt, matches, "file")?;
     Ok(shown(rt.alloc(), &table)?)
 }
 
-/// The number that a word asks for.
+/// Returns the number that a word asks for.
 fn number_of(word: &str) -> Result<u32> {
     match hexadecimal(word.as_bytes()) {
         Some(number) => Ok(number),
@@ -138,7 +140,7 @@ fn number_of(word: &str) -> Result<u32> {
     }
 }
 
-/// The numbers that the words ask for.
+/// Returns the numbers that the arguments ask for.
 fn asked(rt: &HostRuntime, matches: &ArgMatches<'_>) -> Result<Vec<u32>> {
     let mut asked = Vec::new(rt.alloc());
     for word in matches.get_strs("asked").unwrap_or(&[]) {
@@ -147,21 +149,21 @@ fn asked(rt: &HostRuntime, matches: &ArgMatches<'_>) -> Result<Vec<u32>> {
     Ok(asked)
 }
 
-/// What a table answers.
+/// Returns the value of each asked number in a table, in lines.
 fn get(rt: &HostRuntime, matches: &ArgMatches<'_>) -> Result<String> {
     let asked = asked(rt, matches)?;
     let table = table_at(rt, matches, "file")?;
     Ok(answered(rt.alloc(), &table, &asked)?)
 }
 
-/// Where two tables differ.
+/// Returns the ranges in which two tables differ, in lines.
 fn diff(rt: &HostRuntime, matches: &ArgMatches<'_>) -> Result<String> {
     let first = table_at(rt, matches, "first")?;
     let second = table_at(rt, matches, "second")?;
     Ok(differences_text(rt.alloc(), &first.trie, &second.trie)?)
 }
 
-/// What a command writes to standard output.
+/// Returns what a command writes to standard output.
 fn written_by(rt: &HostRuntime, name: &str, matches: &ArgMatches<'_>) -> Result<Vec<u8>> {
     let text = match name {
         "build" => return build(rt, matches),
@@ -174,8 +176,8 @@ fn written_by(rt: &HostRuntime, name: &str, matches: &ArgMatches<'_>) -> Result<
     Ok(text.into_bytes())
 }
 
-/// Says why the words are not taken, and answers the status. That memory was refused is no fault of
-/// the words.
+/// Prints why the arguments are rejected, and returns the status. A failed allocation is not a
+/// fault of the arguments.
 fn not_taken(rt: &HostRuntime, error: &clap::Error) -> Result<ExitCode> {
     if matches!(error.kind(), ErrorKind::OutOfMemory) {
         return Err(AllocError.into());
@@ -184,8 +186,8 @@ fn not_taken(rt: &HostRuntime, error: &clap::Error) -> Result<ExitCode> {
     Ok(ExitCode::from(error.exit_code() as u8))
 }
 
-/// Writes to standard output, and answers the status. Where nobody reads on, as behind `head`,
-/// nothing is said.
+/// Writes to standard output, and returns the status. Prints no error if the reader has closed the
+/// pipe, as `head` does.
 fn put(rt: &HostRuntime, bytes: &[u8]) -> Result<ExitCode> {
     match rt.stdout().write_all(bytes) {
         Ok(()) => Ok(ExitCode::SUCCESS),
@@ -194,7 +196,7 @@ fn put(rt: &HostRuntime, bytes: &[u8]) -> Result<ExitCode> {
     }
 }
 
-/// Does what the words ask for, and answers the status.
+/// Does what the arguments ask for, and returns the status.
 fn run(rt: &HostRuntime) -> Result<ExitCode> {
     let words: Vec<String> = env::args(rt)?.collect(rt.alloc())?;
     let command = program_words(rt.alloc())?;

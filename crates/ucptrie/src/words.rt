@@ -1,35 +1,35 @@
-//! The words that the program takes.
+//! The arguments of the program.
 use clap::builder::ValueParser;
 use clap::{Arg, Command};
 use std::alloc::{AllocError, Global};
 
-/// Where an argument stands.
+/// How an argument is given.
 #[derive(Clone, Copy)]
 enum Place {
     /// `--id VALUE`, anywhere.
     Option,
-    /// One word, by its place.
+    /// One word, by its position.
     Word,
     /// This word and all that follow.
     Words,
 }
 
-/// What a command takes: one argument.
+/// One argument of a command.
 #[derive(Clone, Copy)]
 struct Argument {
     id: &'static str,
     place: Place,
     required: bool,
-    /// What help calls the value: nothing for the id itself.
+    /// What help calls the value. If it is empty, help shows the id.
     value_name: &'static [&'static str],
-    /// What a value has to be.
+    /// Which values are accepted.
     values: ValueParser<'static>,
-    /// The value where the argument is left out, if it has one.
+    /// The value if the argument is left out, if there is one.
     default: &'static [&'static str],
     help: &'static str,
 }
 
-/// An option that takes any value, and may be left out.
+/// An option that accepts any value and may be left out.
 const OPTION: Argument = Argument {
     id: "",
     place: Place::Option,
@@ -40,8 +40,8 @@ const OPTION: Argument = Argument {
     help: "",
 };
 
-/// An option that takes a value of 32 bits, as `value_parser!(u32)` tests it, and is 0 where it is
-/// left out.
+/// An option with a value of 32 bits, which is tested as `value_parser!(u32)` does. It is 0 if it
+/// is left out.
 const NUMBER: Argument = Argument {
     value_name: &["N"],
     values: ValueParser::Signed(0, 0xffffffff),
@@ -68,7 +68,7 @@ const FORM: Argument = Argument {
     ..OPTION
 };
 
-/// What stands in front of each name in source.
+/// The start of each name in source.
 const NAME: Argument = Argument {
     id: "name",
     default: &["table"],
@@ -76,7 +76,7 @@ const NAME: Argument = Argument {
     ..OPTION
 };
 
-/// What rows become.
+/// The arguments of `build`.
 const BUILD: [Argument; 6] = [
     Argument {
         id: "type",
@@ -106,10 +106,10 @@ const BUILD: [Argument; 6] = [
     NAME,
 ];
 
-/// A table, and what it becomes.
+/// The arguments of `convert`: a table, and the form in which it is written.
 const CONVERT: [Argument; 3] = [FILE, FORM, NAME];
 
-/// A table, and the numbers that it is asked.
+/// The arguments of `get`: a table, and the asked numbers.
 const GET: [Argument; 2] = [
     FILE,
     Argument {
@@ -121,7 +121,7 @@ const GET: [Argument; 2] = [
     },
 ];
 
-/// Two tables.
+/// The arguments of `diff`: two tables.
 const DIFF: [Argument; 2] = [
     Argument {
         id: "first",
@@ -133,7 +133,7 @@ const DIFF: [Argument; 2] = [
     },
 ];
 
-/// The commands: the name of each, what it does, and what it takes.
+/// The commands: the name, the description and the arguments of each.
 const COMMANDS: [(&str, &str, &[Argument]); 5] = [
     (
         "build",
@@ -163,7 +163,7 @@ fn with_value_name<'a>(argument: Arg<'a>, row: &Argument) -> Arg<'a> {
     argument.value_names(row.value_name)
 }
 
-/// Sets what the argument's value has to be.
+/// Sets which values the argument accepts.
 fn with_value_parser<'a>(argument: Arg<'a>, row: &Argument) -> Arg<'a> {
     argument.value_parser(row.values)
 }
@@ -173,7 +173,7 @@ fn with_default<'a>(argument: Arg<'a>, row: &Argument) -> Arg<'a> {
     argument.default_values(row.default)
 }
 
-/// The argument by its place among the words.
+/// Sets how the argument is given.
 fn placed<'a>(argument: Arg<'a>, row: &Argument) -> Arg<'a> {
     match row.place {
         Place::Option => argument.long(row.id),
@@ -182,7 +182,7 @@ fn placed<'a>(argument: Arg<'a>, row: &Argument) -> Arg<'a> {
     }
 }
 
-/// The argument, as clap takes it.
+/// Returns the argument in clap's form.
 fn arg_of<'a>(alloc: Global, row: &Argument) -> Arg<'a> {
     let argument = Arg::new(alloc, row.id)
         .required(row.required)
@@ -192,7 +192,7 @@ fn arg_of<'a>(alloc: Global, row: &Argument) -> Arg<'a> {
     placed(with_default(tested, row), row)
 }
 
-/// A command that takes these arguments.
+/// Returns a command with these arguments.
 fn command_of<'a>(
     alloc: Global,
     name: &'a str,
@@ -206,7 +206,7 @@ fn command_of<'a>(
     Ok(command)
 }
 
-/// The program's words.
+/// Returns the program's command line in clap's form.
 pub fn program_words<'a>(alloc: Global) -> Result<Command<'a>, AllocError> {
     let about = "Makes code point tries of tables of rows, and reads them";
     let mut program = command_of(alloc, "ucptrie", about, &[])?.subcommand_required(true);
