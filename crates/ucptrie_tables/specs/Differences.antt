@@ -8,7 +8,7 @@ use Rattle.icu_trie_core.specs.declared.range.CodePointMapRange.{CodePointMapRan
 use Rattle.ucptab_table.specs.TableText.{decimal_text, hex_text}
 
 module _ (a b : Parts ℕ) where
-  -- what look-ups in the two tries answer at a number
+  -- the values of a number in the two tries
   abbrev pub both_values : ℕ → Option ℕ × Option ℕ
   both_values u = (trie_value a u, trie_value b u)
 
@@ -16,7 +16,7 @@ module _ (a b : Parts ℕ) where
   abbrev pub AreSame : ℕ → ℕ → Type 0
   AreSame c end = (u : ℕ) → c ≤ u → u < end → trie_value a u ≡ trie_value b u
 
-  -- the longest run from its first code point on of two values, which are different
+  -- the longest run of two values from its first code point on; the two values are different
   pub record IsDifference (d : CodePointMapRange (ℕ × ℕ)) : Type 0 where
     pub run : LongestRun both_values (first_of d) (last_of d) (Some d.value.0, Some d.value.1)
     pub different : d.value.0 ≢ d.value.1

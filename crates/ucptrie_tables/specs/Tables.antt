@@ -25,9 +25,9 @@ use Rattle.ucptrie_tables.specs.declared.written.Form.TheVariants.{Icu}
 
 -- ---- The table of rows
 
--- no line of the input has a fault, and the trie is what its rows and the options ask for: it
--- answers each code point by the last row that covers it and else by the default, and a number
--- above the code space by the error value, and it is of the asked type and well built
+-- no line of the input has a fault, and the trie is what its rows and the options ask for: a code
+-- point has the value of the last row that covers it, or the default if none does; a number above
+-- the code space has the error value; the trie is of the asked type and well built
 pub record IsTrieOfRows (input : List ℕ) (options : TableOptions) (trie : Parts ℕ) : Type 0 where
   pub writes : List (Write ℕ)
   pub rows : AreRows input writes
@@ -51,7 +51,7 @@ pub record IsTooWide (input : List ℕ) (options : TableOptions) (value : ℕ) (
   pub asked : width ≡ options.width
   pub first : first_wider width trie.values ≡ Some value
 
--- why an input makes no table: a line has a fault, and no line before it has one; the rows are too
+-- why an input makes no table: a line has a fault, and no line before it has one; the rows make too
 -- many different blocks for a trie; or a value has more bits than are asked for. No clause can say
 -- when an allocation fails
 abbrev pub IsWhyNoTable : List ℕ → TableOptions → BuildFault → Type 0

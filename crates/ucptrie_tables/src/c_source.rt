@@ -6,7 +6,7 @@ use crate::source::{header_numbers, index1_offset, push_sizes};
 use crate::table::Table;
 use std::alloc::{AllocError, Global};
 
-/// The look-up that needs no ICU, by the three stages of the format. Each `@` stands for the name.
+/// The look-up in the three stages of the format, without ICU. Each `@` stands for the name.
 const LOOK_UP: &str = "\
 // The value of c, and the error value above 10FFFF. It needs no ICU.
 static inline uint32_t @_get(uint32_t c) {
@@ -84,8 +84,8 @@ static const UCPTrie @_trie={
 #endif
 ";
 
-/// The table in C: the two arrays, a look-up over them that needs no ICU, and the trie for ICU
-/// where its header is included before.
+/// Returns the table in C: the two arrays, a look-up over them that needs no ICU, and the trie for
+/// ICU if its header is included before.
 pub(crate) fn c_text(alloc: Global, table: &Table, name: &str) -> Result<String, AllocError> {
     let mut text = String::new(alloc);
     push_sizes(&mut text, table)?;

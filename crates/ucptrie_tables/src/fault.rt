@@ -12,13 +12,13 @@ use std::{error, fmt};
 use thiserror::Error;
 use ucptab_table::fault::TableError;
 
-/// Why rows make no table, or a table is not written.
+/// Why rows make no table, or why a table is not written.
 #[derive(Clone, Copy, Debug, PartialEq, Eq, Error)]
 pub enum BuildFault {
-    /// A row is at fault, the map is too large for a trie, or memory was refused.
+    /// A row has a fault, the map is too large for a trie, or an allocation failed.
     #[error("{0}")]
     Table(TableError),
-    /// This value has more bits than are asked for.
+    /// This value has more bits than this width.
     #[error("value {0} has more than {1}")]
     Width(u32, ValueWidth),
     /// ICU's binary form has no room for the trie.
@@ -84,7 +84,7 @@ impl From<MemoryError> for BuildFault {
     }
 }
 
-/// Why a text is no TOML, and in which line, counted from 1.
+/// Why a text is not TOML, and in which line, counted from 1.
 #[derive(Clone, Copy, Debug, PartialEq, Eq)]
 pub struct TomlFault {
     line: usize,
@@ -92,7 +92,7 @@ pub struct TomlFault {
 }
 
 impl TomlFault {
-    /// The fault of a text.
+    /// Returns the fault of a text, with its line.
     pub(crate) fn new(text: &str, error: toml::de::Error) -> TomlFault {
         let start = error.span().map_or(0, |span| span.start);
         let before = text.bytes().take(start);
@@ -101,7 +101,7 @@ impl TomlFault {
     }
 }
 
-/// In one line.
+/// Writes the line and the message, without a line feed.
 impl fmt::Display for TomlFault {
     fn fmt<W: fmt::Write>(&self, f: &mut fmt::Formatter<W>) -> fmt::Result {
         let (line, message) = (self.line, self.error.message());
@@ -114,25 +114,25 @@ impl error::Error for TomlFault {}
 /// Why a file has no table.
 #[derive(Debug, Drop, Error)]
 pub enum ReadFault {
-    /// It begins as a trie in ICU's binary form, and is none.
+    /// It has the signature of ICU's binary form, and is not a trie in it.
     #[error("{0}")]
     Binary(BinaryError),
-    /// It is no text in UTF-8.
+    /// It has no signature, and is not a text in UTF-8.
     #[error("neither a trie in the binary form nor a text in UTF-8")]
     Text,
-    /// It begins as JSON, and is none.
+    /// It starts with `{`, and is not JSON.
     #[error("{0}")]
     Json(serde_json::Error),
-    /// Its JSON is no trie.
+    /// Its JSON is not a trie.
     #[error("{0}")]
     TrieJson(TrieJsonError),
-    /// It is no TOML, nor any of the other forms.
+    /// It is not TOML, nor in any of the other forms.
     #[error("no TOML: {0}")]
     Toml(TomlFault),
-    /// Its TOML is no trie.
+    /// Its TOML is not a trie.
     #[error("{0}")]
     TrieToml(TrieFromTomlError),
-    /// Memory was refused.
+    /// An allocation failed.
     #[error("no memory")]
     Memory,
 }

@@ -1,8 +1,8 @@
-//! The engine of the program `ucptrie`: tables of rows made into tries, written in the forms that
-//! other programs take, read from these, shown and compared.
+//! The engine of the program `ucptrie`: tables of rows become tries, which are written in the forms
+//! that other programs read, read from these, shown and compared.
 //!
 //! - `table`: a trie with the width of its values, built of rows
-//! - `read`: the table that a file has, in ICU's binary form, in JSON or in TOML
+//! - `read`: the table that a file has in ICU's binary form, in JSON or in TOML
 //! - `written`: a table in one of the forms, as the bytes of a file
 //! - `shown`: what a table is, in lines, and its ranges; `sizes`: the bounds on its cells
 //! - `diff`: the ranges in which two tables differ
@@ -41,13 +41,15 @@ use crate::table::{TableOptions, table_of_rows};
 use crate::written::{Form, written};
 use std::alloc::Global;
 
-/// The table of rows in a form, as the bytes of a file. The rows of it are the text that `ucptab`
-/// prints where no number is asked.
+/// Builds the table of the rows, and returns it in a form, as the bytes of a file.
+///
+/// In the form `Rows` this is the text that `ucptab` prints if no number is asked.
 ///
 /// # Errors
-/// `Table` with the first line that is no row, where the map is too large for a trie, and where
-/// memory was refused; `Width` with a value that has more bits than are asked for; `Binary` where
-/// ICU's binary form has no room for the trie.
+/// Returns [`BuildFault::Table`] for the first line that is not a row, for a map that is too large
+/// for a trie, and if an allocation fails. Returns [`BuildFault::Width`] for the first value that
+/// has more bits than the asked width. Returns [`BuildFault::Binary`] if ICU's binary form has no
+/// room for the trie.
 pub fn built(
     alloc: Global,
     rows: &[u8],

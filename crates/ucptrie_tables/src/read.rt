@@ -24,7 +24,7 @@ use serde_json::Value;
 use std::alloc::Global;
 use std::str;
 
-/// The table of a trie over values of a narrower type.
+/// Returns the table of a trie over values of a narrower type.
 fn widened<T: TrieValue>(
     alloc: Global,
     trie: &CodePointTrie<'_, T>,
@@ -37,13 +37,13 @@ fn widened<T: TrieValue>(
 {
     match with_values_of(alloc, trie) {
         Ok(trie) => Ok(Table { trie, width }),
-        // Each value's number is one of 32 bits.
+        // The number of each value has at most 32 bits.
         Err(MapError::Closure(_)) => unreachable!(),
         Err(MapError::Memory) => Err(ReadFault::Memory),
     }
 }
 
-/// The table in ICU's binary form.
+/// Reads a table in ICU's binary form.
 fn table_of_binary(alloc: Global, file: &[u8]) -> Result<Table, ReadFault>
     ensures ok { IfOk result (IsBinaryOf file.now) }
     ensures err { IfErr result (IsWhyNoBinary file.now) }
@@ -56,7 +56,8 @@ fn table_of_binary(alloc: Global, file: &[u8]) -> Result<Table, ReadFault>
     }
 }
 
-/// The table in ICU's binary form, of a machine with the other byte order: each width is tried.
+/// Reads a table in ICU's binary form as a machine with the other byte order writes it. Tries each
+/// width in turn.
 fn table_of_swapped(alloc: Global, file: &[u8]) -> Result<Table, ReadFault>
     ensures ok { IfOk result (IsSwappedOf file.now) }
     ensures err { IfErr result (IsWhyNoSwapped file.now) }
@@ -78,7 +79,7 @@ fn table_of_swapped(alloc: Global, file: &[u8]) -> Result<Table, ReadFault>
     })
 }
 
-/// The table in JSON. It says no width: its numbers have 32 bits.
+/// Reads a table in JSON, which has no width: its numbers have 32 bits.
 fn table_of_json(alloc: Global, text: &str) -> Result<Table, ReadFault>
     ensures ok { IfOk result (IsJsonOf text.now) }
     ensures err { IfErr result (IsWhyNoJson text.now) }
@@ -90,14 +91,14 @@ fn table_of_json(alloc: Global, text: &str) -> Result<Table, ReadFault>
     })
 }
 
-/// The value at a key.
+/// Returns the value at a key.
 fn value_at<'a>(table: &'a toml::Table, key: &str) -> Option<&'a toml::Value>
     ensures { option_map (λ v. view v.now) result ≡ get_member key.now (table_view table.now) }
 {
     table.get(key)
 }
 
-/// The first of the properties at a key: icuexportdata writes an array of them.
+/// Returns the first of the properties at a key. icuexportdata writes an array of them.
 fn first_property(property: &toml::Value) -> Option<&toml::Value>
     ensures { option_map (λ v. view v.now) result ≡ first_property (view property.now) }
 {
@@ -107,8 +108,8 @@ fn first_property(property: &toml::Value) -> Option<&toml::Value>
     }
 }
 
-/// The TOML table of the trie that a property's table has, or that it is itself, as in what
-/// icuexportdata writes for normalization.
+/// Returns the trie of a property's table. For normalization, icuexportdata writes a trie in its
+/// place.
 fn trie_of_table(property: &toml::Table) -> Option<&toml::Table>
     ensures { option_map (λ t. table_view t.now) result ≡ trie_of_table (table_view property.now) }
 {
@@ -118,7 +119,7 @@ fn trie_of_table(property: &toml::Table) -> Option<&toml::Table>
     }
 }
 
-/// The TOML table of the trie that the properties at a key of icuexportdata's file have.
+/// Returns the trie of the properties at a key.
 fn trie_of_property(property: &toml::Value) -> Option<&toml::Table>
     ensures { option_map (λ t. table_view t.now) result ≡ trie_of_property (view property.now) }
 {
@@ -127,7 +128,7 @@ fn trie_of_property(property: &toml::Value) -> Option<&toml::Table>
     trie_of_table(table)
 }
 
-/// The TOML table of a trie: that of the first property which has one, and else the whole file.
+/// Returns the trie of the first property that has one, or the whole file if none has.
 fn trie_table(file: &toml::Table) -> &toml::Table
     ensures { table_view result.now ≡ trie_table (table_view file.now) }
 {
@@ -139,7 +140,7 @@ fn trie_table(file: &toml::Table) -> &toml::Table
     file
 }
 
-/// The width of the first array of data that a TOML table has.
+/// Returns the width of the first array of data that a TOML table has.
 fn width_of(read: &CodePointTrieToml) -> ValueWidth
     ensures { result ≡ width_of read.now }
 {
@@ -150,7 +151,7 @@ fn width_of(read: &CodePointTrieToml) -> ValueWidth
     }
 }
 
-/// The table in TOML.
+/// Reads a table in TOML.
 fn table_of_toml(alloc: Global, text: &str) -> Result<Table, ReadFault>
     ensures ok { IfOk result (IsTomlOf text.now) }
     ensures err { IfErr result (IsWhyNoToml text.now) }
@@ -166,7 +167,7 @@ fn table_of_toml(alloc: Global, text: &str) -> Result<Table, ReadFault>
     Ok(Table { trie, width })
 }
 
-/// The table in JSON or in TOML.
+/// Reads a table in JSON or in TOML.
 fn table_of_text(alloc: Global, text: &str) -> Result<Table, ReadFault>
     ensures json { starts_object text.now ≡ true
         → MatchResult result (IsJsonOf text.now) (IsWhyNoJson text.now) }
@@ -180,14 +181,20 @@ fn table_of_text(alloc: Global, text: &str) -> Result<Table, ReadFault>
     }
 }
 
-/// The table that a file has, whose form is told by its first bytes: ICU's binary form, in either
-/// byte order, by its signature; JSON by `{`; and else TOML, of which it is the file's own table,
-/// or that of the first property with a trie, as ICU's icuexportdata writes it. What follows a trie
-/// in the binary form is not read.
+/// Reads the table that a file has.
+///
+/// The first bytes decide which form the file is taken for: ICU's binary form, in either byte
+/// order, by its signature; JSON by `{` after white space; and TOML otherwise. In TOML the trie is
+/// that of the first property that has one, as ICU's icuexportdata writes it, or the whole file. In
+/// the binary form, what follows the trie is not read.
 ///
 /// # Errors
-/// `Binary`, `Json` and `TrieJson`, `Toml` and `TrieToml` with the fault of its form; `Text` where
-/// it has no signature and is no text; `Memory` where memory was refused.
+/// Returns [`ReadFault::Binary`] for the first fault of a file with a signature. Returns
+/// [`ReadFault::Text`] if the file has no signature and is not a text in UTF-8. Returns
+/// [`ReadFault::Json`] if a text that starts with `{` is not JSON, and [`ReadFault::TrieJson`] for
+/// the first fault of its JSON as a trie. Returns [`ReadFault::Toml`] if any other text is not
+/// TOML, and [`ReadFault::TrieToml`] for the first fault of its TOML as a trie. Returns
+/// [`ReadFault::Memory`] if an allocation fails.
 pub fn read_table(alloc: Global, file: &[u8]) -> Result<Table, ReadFault>
     ensures binary { HasSignature file.now
         → MatchResult result (IsBinaryOf file.now) (IsWhyNoBinary file.now) }

@@ -1,4 +1,4 @@
-//! How many cells a trie may have by its values: the bounds that a built one keeps.
+//! How many cells a built trie has at most.
 ghost use Rattle.std.specs.Prelude.{◌≡◌, ◌<◌, IfOk, vec_len};
 
 use icu_trie::cptrie::CodePointTrie;
@@ -13,7 +13,7 @@ pub struct Bounds {
     pub data: usize,
 }
 
-/// The value of each code point.
+/// Returns the value of each code point.
 fn values_of(alloc: Global, trie: &CodePointTrie<'_, u32>) -> Result<Vec<u32>, AllocError>
     ensures { IfOk result (λ values. vec_len values ≡ 0x110000) }
 {
@@ -24,7 +24,7 @@ fn values_of(alloc: Global, trie: &CodePointTrie<'_, u32>) -> Result<Vec<u32>, A
     Ok(values)
 }
 
-/// The lists of 16 neighbours in an aligned block of 64.
+/// Returns the lists of 16 neighbours in an aligned block of 64.
 fn windows_of(alloc: Global, values: &[u32]) -> Result<BTreeSet<&[u32]>, AllocError> {
     let mut windows = BTreeSet::new(alloc);
     for block in values.chunks(64) {
@@ -35,7 +35,7 @@ fn windows_of(alloc: Global, values: &[u32]) -> Result<BTreeSet<&[u32]>, AllocEr
     Ok(windows)
 }
 
-/// How many different aligned blocks of so many values there are beside those that are known.
+/// Counts the different aligned blocks of `size` values that are not among the known ones.
 fn count_different(
     alloc: Global,
     values: &[u32],
@@ -53,11 +53,15 @@ fn count_different(
     Ok(blocks.len())
 }
 
-/// The bounds on the cells of a trie that is built of the values of this one, of its type, which
-/// count different aligned blocks: 64 cells of data for each of 64 code points below the fast
-/// limit, and 16 for each of 16 from there on that stands in none of these, and 160; 36 cells of
-/// index for each of 512 from the fast limit on, or 32 where that bound on the data is at most
+/// Returns the most cells that a trie of this type has if it is built of the values of this one.
+///
+/// The bounds count different aligned blocks. Data: 64 cells for each block of 64 code points below
+/// the fast limit, 16 for each block of 16 above it that occurs in none of these, and 160. Index:
+/// 36 cells for each block of 512 above the fast limit, or 32 if the bound on the data is at most
 /// 0x10000, and 3,200.
+///
+/// # Errors
+/// Returns [`AllocError`] if an allocation fails.
 pub fn bounds_of(alloc: Global, trie: &CodePointTrie<'_, u32>) -> Result<Bounds, AllocError> {
     let (header, _, _) = trie.parts();
     let values = values_of(alloc, trie)?;

@@ -20,7 +20,7 @@ dataNullOffset = %
 nullValue = %
 ";
 
-/// The table in TOML.
+/// Returns the table in TOML.
 pub(crate) fn toml_text(alloc: Global, table: &Table) -> Result<String, AllocError> {
     let (_, index, values) = table.trie.parts();
     let mut text = String::new(alloc);

@@ -9,7 +9,8 @@ use icu_trie::map_value::MapError;
 use icu_trie::value::TrieValue;
 use std::alloc::Global;
 
-/// The value that has the number of another type's value, or that number where there is none.
+/// Returns the value with the number of another type's value, or that number if there is no such
+/// value.
 fn same_number<T: TrieValue, P: TrieValue>(value: T) -> Result<P, u32>
     ensures same { result ≡ ok_or (P.of_number (T.number value)) (T.number value) }
     ensures bound { IfErr result (λ n. n < 2 ^ 32) }
@@ -21,8 +22,10 @@ fn same_number<T: TrieValue, P: TrieValue>(value: T) -> Result<P, u32>
     Ok(same)
 }
 
-/// The trie that has the same numbers as values of another type. `Closure` with a number of which
-/// there is no such value: that of the error value, of the null value or of a cell, the first one.
+/// Returns the trie that has the same numbers as values of another type.
+///
+/// Tries the error value, the null value and each cell, in this order. `Closure` has the first
+/// number for which there is no such value.
 pub(crate) fn with_values_of<P: TrieValue, T: TrieValue>(
     alloc: Global,
     trie: &CodePointTrie<'_, T>,

@@ -39,15 +39,15 @@ pub enum Form<'a> {
     Toml,
     /// JSON, as the Rust crate has it.
     Json,
-    /// Source in C, with this name in front of each of its own.
+    /// Source in C. Each of its names starts with this one.
     C(&'a str),
-    /// Source in Rust, a module of this name.
+    /// Source in Rust: a module of this name.
     Rust(&'a str),
     /// The rows of `ucptab`: a line for each range of equal values.
     Rows,
 }
 
-/// The bytes of the table's trie, over values of another type, in ICU's binary form.
+/// Returns the table in ICU's binary form with values of another type.
 fn binary_over<P: TrieValue>(alloc: Global, table: &Table) -> Result<Vec<u8>, BuildFault>
     ensures ok { IfOk result (λ bytes. (t : Parts _)
         × HasNumbersOf (λ n. n) (fitting (2 ^ 32)) P.number P.of_number table.now.trie t
@@ -64,7 +64,7 @@ fn binary_over<P: TrieValue>(alloc: Global, table: &Table) -> Result<Vec<u8>, Bu
     Ok(to_binary(alloc, &narrowed)?)
 }
 
-/// The table in ICU's binary form, with values of its width.
+/// Returns the table in ICU's binary form with values of its width.
 fn binary(alloc: Global, table: &Table) -> Result<Vec<u8>, BuildFault>
     ensures ok { IfOk result (λ bytes. bytes.items ≡ binary_bytes table.now) }
     ensures room { OnOk result (HasBinaryForm table.now) }
@@ -77,7 +77,7 @@ fn binary(alloc: Global, table: &Table) -> Result<Vec<u8>, BuildFault>
     }
 }
 
-/// The table in JSON, in one line.
+/// Returns the table in JSON, in one line.
 fn json_text(alloc: Global, table: &Table) -> Result<String, MemoryError>
     ensures { IfOk result (λ text. string_bytes text
         ≡ compact_text (json_of (λ n. n) table.now.trie) ++ 10 ∷ []) }
@@ -87,11 +87,13 @@ fn json_text(alloc: Global, table: &Table) -> Result<String, MemoryError>
     Ok(text)
 }
 
-/// The table in a form, as the bytes of a file.
+/// Returns the table in a form, as the bytes of a file.
 ///
 /// # Errors
-/// `Binary` where ICU's binary form has no room for the trie, `Width` where a value has more bits
-/// than the table's width, `Table` where memory was refused.
+/// Returns [`BuildFault::Width`] in ICU's binary form for the first value that has more bits than
+/// the table's width: the error value, the null value, or a cell of the data, in this order.
+/// Returns [`BuildFault::Binary`] if ICU's binary form has no room for the trie. Returns
+/// [`BuildFault::Table`] if an allocation fails.
 pub fn written(alloc: Global, table: &Table, form: Form<'_>) -> Result<Vec<u8>, BuildFault>
     ensures icu { form.entry ≡ Form.Icu
         → IfOk result (λ bytes. bytes.items ≡ binary_bytes table.now) }
