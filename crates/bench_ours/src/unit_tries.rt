@@ -112,7 +112,7 @@ pub extern "C" fn ours_c16_look(units: &[u8], keys: &[u16], ends: &[u32], along:
 }
 
 /// Returns a checksum of the lengths and values of the longest keys that start at each position of
-/// a text, with 0 and 7 where there is no key.
+/// a text. At a position without a key these are 0 and 7.
 fn mixed_matches(trie: &Char16Trie<'_>, text: &[u16]) -> u64 {
     let mut sum = 0u64;
     for start in 0..text.len() {

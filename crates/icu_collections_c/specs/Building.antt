@@ -49,9 +49,9 @@ pub record AreFitting {T : Type 0} (of_number : ℕ → Option T) (rows : List R
   pub of_error : IsSome (of_number error)
 
 -- ---- how large a trie of rows gets
--- How many different blocks there can be among so many aligned blocks: each row leaves at most one
--- block of its value alone and one at each of its two ends, and one more block has the default
--- alone.
+-- The most different blocks that there can be among so many aligned blocks. Each row causes at most
+-- three: one with only its value, one at its start and one at its end. One more block has only the
+-- default value.
 abbrev pub most_blocks : ℕ → ℕ → ℕ
 most_blocks count blocks = min (3 * count + 1) blocks
 

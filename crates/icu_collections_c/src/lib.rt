@@ -1,4 +1,4 @@
-//! The functions that C calls: tries, sets and unit tries, over the caller's memory.
+//! The functions of the C library: tries, sets and unit tries, over the caller's memory.
 //!
 //! A slice is passed as a pointer and a length. Nothing is stored between calls, and nothing has to
 //! be freed: results go into the caller's buffers, as far as they fit. A function that takes a

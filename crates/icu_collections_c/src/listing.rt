@@ -14,7 +14,8 @@ use std::alloc::{AllocError, Global};
 /// The most entries, and the most bytes of texts, that can be returned: `i64::MAX`.
 const MOST: usize = 0x7FFF_FFFF_FFFF_FFFF;
 
-/// An entry of a unit trie: where its text is among the bytes of all texts, and its value.
+/// An entry of a unit trie: the start and size of its text among the bytes of all texts, and its
+/// value.
 #[repr(C)]
 #[derive(Clone, Copy)]
 pub struct Word {

@@ -4,7 +4,7 @@ use Rattle.std.proofs.lemmas.Bool.{ltb-false}
 use Rattle.std.proofs.lemmas.List.{reverse-append, reverse-reverse, take_more, take_all}
 use Rattle.ucptab_table.specs.TableText.{is_blank, trim_end}
 
--- a place that was found among n, and none that was found
+-- An index that was found among n, and one that was not.
 pub place_found : (place n len : ℕ) → Some place ≡ cond (ltb n len) (Some n) None → place ≡ n
 place_found place n len e = by_test (ltb n len) e where
   by_test : (found : Bool) → Some place ≡ cond found (Some n) None → place ≡ n
@@ -17,7 +17,7 @@ place_missing n len within e = by_test (ltb n len) refl e where
   by_test true is e = cc
   by_test false is e = let least : len ≤ n = ltb-false n len is in omega arith
 
--- the list the other way round begins with its last byte
+-- The reversed list starts with the last byte.
 reversed : (bytes : List ℕ) → 0 < length bytes → reverse bytes ≡ get_or bytes (length bytes - 1) 0 ∷ reverse (take (length bytes - 1) bytes)
 reversed bytes some =
     let n = length bytes - 1 in

@@ -10,7 +10,7 @@ use Rattle.ucptab_table.specs.declared.fault.RowFault.{RowFault}
 use Rattle.ucptab_table.specs.declared.fault.TableError.TheVariants.{Row}
 use Rattle.ucptab_table.specs.TableText.{row_of, write_of, IsFaultless, AreRows, IsFirstFault}
 
--- the first of what is left stands at the place
+-- The first line that is left is the line at this index.
 slice_get_left : (all : List (List ℕ)) (n : ℕ) (line : List ℕ) (more : List (List ℕ)) → drop n all ≡ line ∷ more
     → slice_get all n ≡ Some line
 slice_get_left [] zero line more left = cc

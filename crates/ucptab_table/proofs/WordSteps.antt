@@ -23,7 +23,7 @@ module _ {X Y : Type 0} (h : X → Option Y) where
   filter_map-map g (z ∷ zs) = ap (cons_option (h (g z))) (filter_map-map g zs)
 
 module _ {X : Type 0} (bytes : X → List ℕ) where
-  -- the numbers of the words, where each is one, and none where one is not
+  -- The numbers of the words if each word is a number, and none if one is not.
   pub asked_of_all : (words : List X) → list_all (λ word. is_some (hexadecimal (bytes word))) words ≡ true
       → asked_of (map bytes words) ≡ Some (filter_map (λ word. hexadecimal (bytes word)) words)
   unfolding asked_of

@@ -57,11 +57,11 @@ trim_end bytes = reverse (trim_start (reverse bytes))
 unfoldable pub trimmed : List ℕ → List ℕ
 trimmed bytes = trim_end (trim_start bytes)
 
--- the bytes before the first one that is `mark`, or all if there is none; and the bytes after it,
--- or nothing if there is none
+-- The bytes before the first one that is `mark`, or all if there is none.
 unfoldable pub before : ℕ → List ℕ → List ℕ
 before mark bytes = before_first (λ b. b == mark) bytes
 
+-- The bytes after the first one that is `mark`, or nothing if there is none.
 unfoldable pub after : ℕ → List ℕ → List ℕ
 after mark bytes = after_first (λ b. b == mark) bytes
 
@@ -76,11 +76,12 @@ code_points_of field =
     (hexadecimal first)
     else option_map Single (hexadecimal field)
 
--- the first and the last of the code points
+-- The first of the code points.
 abbrev pub first_of : CodePoints → ℕ
 first_of (Single c) = c
 first_of (Span start end) = start
 
+-- The last of the code points.
 abbrev pub last_of : CodePoints → ℕ
 last_of (Single c) = c
 last_of (Span start end) = end
@@ -188,13 +189,14 @@ abbrev pub IsTableText : List ℕ → ℕ → ℕ → List ℕ → List ℕ → 
 IsTableText input default error asked text = (ws : List (Write ℕ)) × (AreRows input ws
     × IsTextOfMap (value_after ws default) (answer_after default error ws) asked text)
 
--- what is printed of a row's fault, and of each error, without the LF
+-- What is printed for a row's fault, without the LF.
 abbrev pub row_fault_text : RowFault → List ℕ
 row_fault_text NotARow = codes "not a row"
 row_fault_text CodePoint = codes "code point too large"
 row_fault_text Reversed = codes "range reversed"
 row_fault_text Value = codes "value too large"
 
+-- What is printed for an error, without the LF.
 abbrev pub fault_text : TableError → List ℕ
 fault_text (Row k f) = codes "line " ++ (decimal k ++ (codes ": " ++ row_fault_text f))
 fault_text TooLarge = codes "too large"

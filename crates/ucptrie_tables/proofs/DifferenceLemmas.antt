@@ -25,7 +25,7 @@ module _ (a b : Parts ℕ) where
   differences-same s e le same [] rest = joined s e 0x110000 same rest
   differences-same s e le same (d ∷ ds) rest = (omega (arith, le, rest.0), joined s e (first_of d) same rest.1, rest.2, rest.3)
 
-  -- and where they differ from s to before e
+  -- The same if they differ from s to before e.
   pub differences-other : (d : CodePointMapRange (ℕ × ℕ)) (s e : ℕ) → first_of d ≡ s → last_of d + 1 ≡ e → e ≤ 0x110000
       → ((u : ℕ) → s ≤ u → u < e → both_values a b u ≡ (Some d.value.0, Some d.value.1))
       → (e < 0x110000 → both_values a b e ≢ (Some d.value.0, Some d.value.1))

@@ -26,11 +26,13 @@ AddsComments-more old text new comment (bytes, (are, is)) one grown = (
       one_line = All-append (λ c. All (λ b. b ≢ 10) c) are.comments (comment ∷ []) are.one_line
           (λ k d below. grind (arith, common_steps, one));
       lines = ap (λ b. b ++ comment_line comment) are.lines
-          ∙ sym (flat_map-append comment_line are.comments (comment ∷ []) ∙ ap (λ b. flat_map comment_line are.comments ++ b) (append-nil (comment_line comment)));
+          ∙ sym (flat_map-append comment_line are.comments (comment ∷ [])
+          ∙ ap (λ b. flat_map comment_line are.comments ++ b) (append-nil (comment_line comment)));
     },
     grown ∙ (ap (λ t. t ++ comment_line comment) is ∙ append_assoc old bytes (comment_line comment)),
   ),
 )
 
 pub AddsComments-none : (old : List ℕ) → AddsComments old old
-AddsComments-none old = ([], (record { comments = []; one_line = λ k d below. absurd (omega (arith, below)); lines = refl }, sym (append-nil old)))
+AddsComments-none old =
+    ([], (record { comments = []; one_line = λ k d below. absurd (omega (arith, below)); lines = refl }, sym (append-nil old)))

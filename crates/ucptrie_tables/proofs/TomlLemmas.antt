@@ -43,7 +43,8 @@ pub trie_table-found : (file : BTreeMap (String Global) Value) (before after : L
     → trie_table (table_view file) ≡ trie
 trie_table-found file before after v trie is none here =
     let first : first_trie (members_view file.entries) ≡ Some trie =
-    first_trie-values file.entries ∙ (ap first_among is ∙ (first_among-append before (v ∷ after) none ∙ ap (λ o. option_or o (first_among after)) here))
+    first_trie-values file.entries
+    ∙ (ap first_among is ∙ (first_among-append before (v ∷ after) none ∙ ap (λ o. option_or o (first_among after)) here))
     in ap (λ o. unwrap_or o (table_view file)) first
 
 pub trie_table-none : (file : BTreeMap (String Global) Value) → first_among (map (λ e. e.1) file.entries) ≡ None

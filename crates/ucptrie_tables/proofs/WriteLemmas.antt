@@ -27,7 +27,8 @@ kept_or : (b : Bool) (v : ℕ) (o p : Option ℕ) → option_map (λ n. n) o ≡
 kept_or true v o p e = refl
 kept_or false v o p e = e
 
-first-wider : (limit : ℕ) (vs : List ℕ) → option_map (λ n. n) (find (λ v. is_none (fitting limit v)) vs) ≡ find (λ v. not (nat_lt v limit)) vs
+first-wider : (limit : ℕ) (vs : List ℕ)
+    → option_map (λ n. n) (find (λ v. is_none (fitting limit v)) vs) ≡ find (λ v. not (nat_lt v limit)) vs
 first-wider limit [] = refl
 first-wider limit (v ∷ vs) = rw (is_wider limit v) (kept_or (not (nat_lt v limit)) v _ _ (first-wider limit vs))
 

@@ -28,11 +28,11 @@ module _ (a b : Parts ℕ) where
       (c ≤ first_of d) × AreSame c (first_of d) × IsDifference d
       × AreDifferencesFrom (last_of d + 1) ds
 
--- the line of a range, `HEX..HEX;A;B` LF, and `HEX;A;B` LF if it is one code point: A is the value
--- of the first trie, B that of the second
+-- The end of a line, `;A;B` LF: A is the value of the first trie, and B that of the second.
 abbrev pub values_text : ℕ × ℕ → List ℕ
 values_text values = 59 ∷ (decimal_text values.0 ++ (59 ∷ (decimal_text values.1 ++ (10 ∷ []))))
 
+-- The line of a range, `HEX..HEX;A;B` LF, or `HEX;A;B` LF if it is one code point.
 unfoldable pub difference_line : CodePointMapRange (ℕ × ℕ) → List ℕ
 difference_line d =
     if nat_lt (first_of d) (last_of d)

@@ -46,12 +46,13 @@ pub record HasNoSignature (file : List ℕ) : Type 0 where
 abbrev pub starts_object : List ℕ → Bool
 starts_object text = slice_index (trim_start text) 0 == 123
 
--- a text in UTF-8 with no signature is taken for JSON if an object starts it, and else for TOML
+-- A UTF-8 text without a signature is read as JSON if it starts with an object.
 pub record IsTakenForJson (file : List ℕ) : Type 0 where
   pub unsigned : HasNoSignature file
   pub text : IsUtf8 file
   pub object : starts_object file ≡ true
 
+-- A UTF-8 text without a signature is read as TOML if it does not start with an object.
 pub record IsTakenForToml (file : List ℕ) : Type 0 where
   pub unsigned : HasNoSignature file
   pub text : IsUtf8 file
@@ -143,14 +144,17 @@ IsWhyNoToml text _ = ⊥
 
 -- ---- How the errors of the crates below are passed on: an allocation that failed is `Memory`
 
+-- The error of a trie in JSON.
 abbrev pub refusal_of_json : TrieJsonError → ReadFault
 refusal_of_json json_refusals.Memory = Memory
 refusal_of_json why = TrieJson why
 
+-- The error of a trie in TOML.
 abbrev pub refusal_of_toml : TrieFromTomlError → ReadFault
 refusal_of_toml trie_refusals.Memory = Memory
 refusal_of_toml why = TrieToml why
 
+-- The error of a trie in the other byte order.
 abbrev pub refusal_of_swapped : SwappedError → ReadFault
 refusal_of_swapped (swapped_refusals.Binary why) = Binary why
 refusal_of_swapped swapped_refusals.Memory = Memory

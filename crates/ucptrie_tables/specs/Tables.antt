@@ -84,9 +84,9 @@ pub record HasBinaryForm (t : Table) : Type 0 where
   pub fits : first_unfit t.width t.trie ≡ None
   pub room : why_not_written (bytes_of t.width) (λ n. n) t.trie ≡ None
 
--- why a table is not written: in the binary form alone, its first value that has more bits than its
--- width, or, where none has, why the form has no room for the trie. No clause can say when an
--- allocation fails
+-- Why a table is not written. Only the binary form has such reasons: the first value that has more
+-- bits than the table's width, else why the form cannot store the trie. No contract can say when an
+-- allocation fails.
 abbrev pub IsWhyNotWritten : Form → Table → BuildFault → Type 0
 IsWhyNotWritten form t (TableFault Memory) = ⊤
 IsWhyNotWritten form t (TableFault _) = ⊥

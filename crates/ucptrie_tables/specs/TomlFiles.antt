@@ -6,21 +6,23 @@ use Rattle.icu_trie_formats.specs.TrieToml.{TomlParts}
 use Rattle.ucptrie_tables.specs.declared.width.ValueWidth.{ValueWidth}
 use Rattle.ucptrie_tables.specs.declared.width.ValueWidth.TheVariants.{Bits8, Bits16, Bits32}
 
--- the first of the properties at a key: the first item of an array, and any other value itself
+-- The first item if the value is an array, else the value itself.
 abbrev pub first_or_self : Option Items → Data → Option Data
 first_or_self (Some items) d = get_item 0 items
 first_or_self None d = Some d
 
+-- The first of the properties at a key.
 abbrev pub first_property : Data → Option Data
 first_property d = first_or_self (as_array d) d
 
--- the trie of a property's table: what is at its key `code_point_trie`, if anything is, and else
--- the table itself, if it has an `index`
+-- The value of the key `code_point_trie`, if there is one; else the table itself, if it has an
+-- `index`.
 abbrev pub trie_or_self : Option Data → Members → Option Members
 trie_or_self (Some trie) property = as_table trie
 trie_or_self None property =
     if is_some (get_member (codes "index") property) then Some property else None
 
+-- The trie in a property's table.
 abbrev pub trie_of_table : Members → Option Members
 trie_of_table property = trie_or_self (get_member (codes "code_point_trie") property) property
 

@@ -69,7 +69,7 @@ fn push_numbers(text: &mut String, table: &Table, name: &str) -> Result<(), Allo
 
 /// The trie for ICU's functions and macros (usrc_writeUCPTrie).
 const STRUCT: &str = "
-// The trie for ICU, where <unicode/ucptrie.h> is included before.
+// The trie for ICU, if <unicode/ucptrie.h> is included before.
 #ifdef UCPTRIE_FAST_GET
 static const UCPTrie @_trie={
     @_trieIndex,

@@ -1,12 +1,16 @@
 //! The engine of the program `ucptrie`: tables of rows become tries, which are written in the forms
 //! that other programs read, read from these, shown and compared.
 //!
-//! - `table`: a trie with the width of its values, built of rows
+//! - `table`: a trie with the width of its values, built from rows
+//! - `width`: how many bits a value has in a file; `values`: the same numbers as values of another
+//!   type
 //! - `read`: the table that a file has in ICU's binary form, in JSON or in TOML
 //! - `written`: a table in one of the forms, as the bytes of a file
 //! - `shown`: what a table is, in lines, and its ranges; `sizes`: the bounds on its cells
 //! - `diff`: the ranges in which two tables differ
-//! - `source`: names in C and in Rust; `c_source` and `rust_source` write these
+//! - `source`: names in C and in Rust; `c_source` and `rust_source` write these; `pattern`: texts
+//!   with places for a name and for numbers; `cells`: the cells of a trie as numbers in a text
+//! - `toml_text`: a table in TOML
 //! - `fault`: why a table can't be made, written or read
 #![tactic(auto)]
 

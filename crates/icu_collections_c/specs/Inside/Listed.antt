@@ -19,12 +19,13 @@ pub record IsListed (units : List ℕ) (most_words most_bytes : ℕ) (l : Listin
   pub of_units : AreItemsOf units items
   pub kept : IsListingOf items most_words most_bytes l
 
--- One more item is stored; or what is stored is unchanged.
+-- One more item is stored.
 pub record IsKept (l : Listing) (text : List ℕ) (v : ℤ) (l' : Listing) : Type 0 where
   pub words_are : l'.words.items
       ≡ l.words.items ++ (record { start = l.size; size = length text; value = v }) ∷ []
   pub texts_are : l'.texts.items ≡ l.texts.items ++ text
 
+-- What is stored is unchanged.
 pub record IsKeptOut (l l' : Listing) : Type 0 where
   pub words_are : l'.words.items ≡ l.words.items
   pub texts_are : l'.texts.items ≡ l.texts.items

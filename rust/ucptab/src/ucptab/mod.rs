@@ -1,4 +1,4 @@
-//! Prints what a code point trie answers, made from the rows that standard input holds.
+//! Prints the values of a code point trie that is built of the rows on standard input.
 
 #[allow(unused_imports)]
 use crate::host::{HostRuntime, Text};
@@ -15,7 +15,7 @@ use crate::ucptab_table::streams::{Failed, Sink, Source};
 use crate::ucptab_table::text::write_fault;
 use crate::ucptab_table::{run_words, write_usage};
 
-/// A reader, with a count of its failures.
+/// A reader with a count of its failures.
 struct Input<R: Read, L: Ledger> {
     reader: R,
     failures: Steps<L>,
@@ -33,7 +33,7 @@ impl<R: Read, L: Ledger> Source for Input<R, L> {
     }
 }
 
-/// A writer, with a count of its failures.
+/// A writer with a count of its failures.
 struct Output<W: Write, L: Ledger> {
     writer: W,
     failures: Steps<L>,
@@ -51,8 +51,8 @@ impl<W: Write, L: Ledger> Sink for Output<W, L> {
     }
 }
 
-/// Says why there are no words, and answers the status: by the line of refused memory, or the usage
-/// line where a word is no text.
+/// Prints why there are no arguments, and returns the status: the line of a failed allocation, or
+/// the usage line if an argument is not valid text.
 fn without_words<W: Sink>(writer: &mut W, why: ErrorKind) -> u8 {
     if why != ErrorKind::OutOfMemory {
         write_usage(writer);
@@ -62,8 +62,8 @@ fn without_words<W: Sink>(writer: &mut W, why: ErrorKind) -> u8 {
     1
 }
 
-/// Runs the program over standard input and output, with a ledger for the failures of each.
-/// It answers the status.
+/// Runs the program over standard input and output, and returns its status. Each stream has a
+/// ledger for its failures.
 fn status<L: Ledger, K: Ledger>(rt: &HostRuntime, reads: Blank, writes: Blank) -> u8 {
     let mut reader = Input {
         reader: rt.stdin(),

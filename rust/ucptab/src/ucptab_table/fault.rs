@@ -1,4 +1,4 @@
-//! Why a table can't be answered, and the line that says so.
+//! Why the program fails, and the line that says so.
 
 #[allow(unused_imports)]
 use crate::host::{HostRuntime, Text};
@@ -21,7 +21,7 @@ pub enum RowFault {
 }
 
 impl RowFault {
-    /// What is wrong, in words.
+    /// Returns what is wrong, in words.
     pub fn text(self) -> &'static str {
         match self {
             RowFault::NotARow => "not a row",
@@ -40,14 +40,14 @@ impl fmt::Display for RowFault {
 
 impl Error for RowFault {}
 
-/// Why a table can't be answered.
+/// Why the program fails.
 #[derive(Clone, Copy, Debug, PartialEq, Eq)]
 pub enum TableError {
-    /// The first line, counted from 1, that is no row, and what is wrong with it.
+    /// The first line that is not a row, counted from 1, and what is wrong with it.
     Row(u64, RowFault),
     /// The map is too large for a trie.
     TooLarge,
-    /// Memory was refused.
+    /// An allocation failed.
     Memory,
     /// The input can't be read.
     Read,

@@ -1,4 +1,4 @@
-//! Reads the table: its bytes, then its lines, then the rows.
+//! Reads a table: its bytes, its lines and its rows.
 
 #[allow(unused_imports)]
 use crate::host::{HostRuntime, Text};
@@ -9,7 +9,10 @@ use crate::ucptab_table::rows::{position_or_len, row_of};
 use crate::ucptab_table::streams::{Failed, Source};
 use bekstaudi::codepointtrie::Write;
 
-/// All bytes that are left. `Read` where a read failed, and `Memory` where they found no room.
+/// Reads all bytes that are left.
+///
+/// # Errors
+/// Returns [`TableError::Read`] if a read fails, and [`TableError::Memory`] if an allocation fails.
 pub fn read_all<S: Source>(reader: &mut S) -> Result<Vec<u8>, TableError> {
     let mut all = Vec::new();
     let mut buf = [0u8; 4096];
@@ -25,11 +28,11 @@ pub fn read_all<S: Source>(reader: &mut S) -> Result<Vec<u8>, TableError> {
             return Err(TableError::Memory);
         }
     }
-    // Each turn adds a byte, and a `Vec` has fewer than there are turns.
+    // Each turn adds a byte, and a `Vec` has fewer bytes than there are turns.
     unreachable!()
 }
 
-/// The line without the one carriage return at its end, if it has one.
+/// Returns the line without one carriage return at its end, if it has one.
 fn strip_carriage_return(line: &[u8]) -> &[u8] {
     match line {
         [front @ .., b'\r'] => front,
@@ -37,7 +40,7 @@ fn strip_carriage_return(line: &[u8]) -> &[u8] {
     }
 }
 
-/// The first line, and what is after its LF. `None` where there is no line.
+/// Returns the first line and what follows its line feed, or `None` if there is no line.
 fn first_line(input: &[u8]) -> Option<(&[u8], &[u8])> {
     let place = position_or_len(b'\n', input);
     if place < input.len() {
@@ -49,8 +52,11 @@ fn first_line(input: &[u8]) -> Option<(&[u8], &[u8])> {
     Some((input, &[]))
 }
 
-/// The writes of all rows of the table, in order. `Row` with the first line that has a fault,
-/// counted from 1, and `Memory` where the writes found no room.
+/// Returns the writes of all rows of the table, in order.
+///
+/// # Errors
+/// Returns [`TableError::Row`] for the first line that has a fault, counted from 1, and
+/// [`TableError::Memory`] if an allocation fails.
 pub fn read_rows(input: &[u8]) -> Result<Vec<Write<u32>>, TableError> {
     let mut writes = Vec::new();
     let mut number = 0u64;

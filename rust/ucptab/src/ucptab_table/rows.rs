@@ -1,4 +1,4 @@
-//! What a line of the table says.
+//! Reads one line of the table.
 
 #[allow(unused_imports)]
 use crate::host::{HostRuntime, Text};
@@ -9,16 +9,16 @@ use crate::ucptab_table::fault::RowFault;
 use bekstaudi::codepointtrie::Write;
 use bekstaudi::zerovec::CODE_POINT_LIMIT;
 
-/// The code points that a row speaks of.
+/// The code points of a row.
 #[derive(Clone, Copy, Debug, PartialEq, Eq)]
 pub enum CodePoints {
-    /// This one.
+    /// One code point.
     Single(u32),
-    /// Those from the first to the second, both included.
+    /// The code points from the first to the second, both inclusive.
     Span(u32, u32),
 }
 
-/// The bytes without the spaces and tabs before them.
+/// Returns the bytes without leading spaces and tabs.
 fn trim_start(bytes: &[u8]) -> &[u8] {
     let mut rest = bytes;
     while let [b' ' | b'\t', others @ ..] = rest {
@@ -27,7 +27,7 @@ fn trim_start(bytes: &[u8]) -> &[u8] {
     rest
 }
 
-/// The bytes without the spaces and tabs after them.
+/// Returns the bytes without trailing spaces and tabs.
 fn trim_end(bytes: &[u8]) -> &[u8] {
     let mut rest = bytes;
     while let [others @ .., b' ' | b'\t'] = rest {
@@ -36,12 +36,12 @@ fn trim_end(bytes: &[u8]) -> &[u8] {
     rest
 }
 
-/// The bytes without the spaces and tabs round them.
+/// Returns the bytes without leading and trailing spaces and tabs.
 fn trimmed(bytes: &[u8]) -> &[u8] {
     trim_end(trim_start(bytes))
 }
 
-/// The place of the first byte that is `mark`, or the length where none is.
+/// Returns the index of the first byte that is `mark`, or the length if there is none.
 pub fn position_or_len(mark: u8, bytes: &[u8]) -> usize {
     match bytes.iter().position(|b| *b == mark) {
         Some(place) => place,
@@ -49,12 +49,12 @@ pub fn position_or_len(mark: u8, bytes: &[u8]) -> usize {
     }
 }
 
-/// What stands before the first byte that is `mark`: all where none is.
+/// Returns the bytes before the first one that is `mark`, or all if there is none.
 pub fn before(mark: u8, bytes: &[u8]) -> &[u8] {
     &bytes[..position_or_len(mark, bytes)]
 }
 
-/// What stands after the first byte that is `mark`: nothing where none is.
+/// Returns the bytes after the first one that is `mark`, or nothing if there is none.
 pub fn after(mark: u8, bytes: &[u8]) -> &[u8] {
     let place = position_or_len(mark, bytes);
     if place < bytes.len() {
@@ -64,7 +64,7 @@ pub fn after(mark: u8, bytes: &[u8]) -> &[u8] {
     }
 }
 
-/// The code points of the field `HEX` or `HEX..HEX`. `None` for any other field.
+/// Returns the code points of the field `HEX` or `HEX..HEX`, or `None` for any other field.
 fn code_points_of(field: &[u8]) -> Option<CodePoints> {
     if let [b'.', end @ ..] = after(b'.', field) {
         let start = hexadecimal(before(b'.', field))?;
@@ -75,7 +75,7 @@ fn code_points_of(field: &[u8]) -> Option<CodePoints> {
     Some(CodePoints::Single(code_point))
 }
 
-/// The write of a row, or the first fault of its numbers.
+/// Returns the write of a row, or the first fault of its numbers.
 fn row_of_numbers(points: CodePoints, value: u64) -> Result<Write<u32>, RowFault> {
     let (start, end) = match points {
         CodePoints::Single(code_point) => (code_point, code_point),
@@ -96,13 +96,16 @@ fn row_of_numbers(points: CodePoints, value: u64) -> Result<Write<u32>, RowFault
     }
 }
 
-/// The line without its comment, from the first `#` on, and without the blanks round it.
+/// Returns the line without its comment, which starts at the first `#`, and without leading and
+/// trailing blanks.
 fn content_of(line: &[u8]) -> &[u8] {
     trimmed(before(b'#', line))
 }
 
-/// What a line says: its write, `None` where the line is empty or a comment, or what is wrong with
-/// it.
+/// Returns the write of a line, or `None` if the line is blank or a comment.
+///
+/// # Errors
+/// Returns what is wrong with the line, by the first of the tests in [`RowFault`].
 pub fn row_of(line: &[u8]) -> Result<Option<Write<u32>>, RowFault> {
     let content = content_of(line);
     if content.is_empty() {

@@ -1,20 +1,26 @@
-//! Where a table's bytes come from, and where its lines go.
+//! The streams that a table is read from and its lines are written to.
 
 #[allow(unused_imports)]
 use crate::host::{HostRuntime, Text};
-/// A stream failed.
+/// A read or a write failed.
 #[derive(Clone, Copy, Debug, PartialEq, Eq)]
 pub struct Failed;
 
-/// Where bytes come from.
+/// A stream to read from.
 pub trait Source {
-    /// Fills the front of `buf`, and answers how many bytes that took: where `buf` has room, 0 only
-    /// at the end. A read that fails may have lost bytes.
+    /// Fills a prefix of `buf`, and returns its length. If `buf` is not empty, 0 means the end of
+    /// the stream.
+    ///
+    /// # Errors
+    /// Returns [`Failed`] if the read fails. It may have lost bytes.
     fn read(&mut self, buf: &mut [u8]) -> Result<usize, Failed>;
 }
 
-/// Where bytes go.
+/// A stream to write to.
 pub trait Sink {
-    /// Writes all of `buf`. A write that fails may have written any part of it.
+    /// Writes all of `buf`.
+    ///
+    /// # Errors
+    /// Returns [`Failed`] if the write fails. Any prefix of `buf` may have been written.
     fn write(&mut self, buf: &[u8]) -> Result<(), Failed>;
 }

@@ -1,4 +1,4 @@
-//! What the program's words ask for.
+//! The arguments of the program.
 
 #[allow(unused_imports)]
 use crate::host::{HostRuntime, Text};
@@ -8,20 +8,20 @@ use crate::ucptab_table::digits::{decimal_number, hexadecimal};
 use bekstaudi::codepointtrie::TrieType;
 use crate::support::{AllocError};
 
-/// What the words ask for.
+/// What the arguments ask for.
 #[derive(Clone, Copy)]
 pub struct Request<'a> {
     /// The type of the trie.
     pub trie_type: TrieType,
-    /// The value of each code point that no row names.
+    /// The value of each code point that no row covers.
     pub default: u32,
-    /// The answer above 10FFFF.
+    /// The value of each number above 0x10FFFF.
     pub error: u32,
-    /// The words of the numbers whose answers are wanted. Each is 1 to 8 hexadecimal digits.
+    /// The words of the asked numbers, each of 1 to 8 hexadecimal digits.
     pub asked: &'a [String],
 }
 
-/// The type of a trie that is named `fast` or `small`. `None` for any other word.
+/// Returns the trie type with the name `fast` or `small`, or `None` for any other word.
 fn trie_type_of(word: &[u8]) -> Option<TrieType> {
     if word == b"fast".as_slice() {
         Some(TrieType::Fast)
@@ -32,21 +32,24 @@ fn trie_type_of(word: &[u8]) -> Option<TrieType> {
     }
 }
 
-/// The value that 1 to 10 decimal digits write. `None` for any other word, and above 4294967295.
+/// Returns the value that 1 to 10 decimal digits write, or `None` for any other word and above
+/// 4294967295.
 fn value_of(word: &[u8]) -> Option<u32> {
     let number = decimal_number(word)?;
     u32::try_from(number).ok()
 }
 
-/// Whether each word is 1 to 8 hexadecimal digits.
+/// Returns whether each word is 1 to 8 hexadecimal digits.
 fn are_hexadecimal(words: &[String]) -> bool {
     words
         .iter()
         .all(|word| hexadecimal(word.as_bytes()).is_some())
 }
 
-/// What the words after the program's name ask for: KIND DEFAULT ERROR [HEX ..]. `None` where they
-/// can't be read. It takes no memory, so that all words are tested before any is taken.
+/// Returns what the words after the program's name ask for, KIND DEFAULT ERROR [HEX ..], or `None`
+/// if they can't be read.
+///
+/// Allocates nothing, so that all words are tested before any is used.
 pub fn request_of(words: &[String]) -> Option<Request<'_>> {
     let [kind, default, error, asked @ ..] = words else {
         return None;
@@ -65,7 +68,7 @@ pub fn request_of(words: &[String]) -> Option<Request<'_>> {
     })
 }
 
-/// Appends the number that a word writes in hexadecimal digits to the others, if it writes one.
+/// Appends the number that a word writes in hexadecimal digits, if it writes one.
 fn push_number(asked: &mut Vec<u32>, word: &[u8]) -> Result<(), AllocError> {
     if let Some(number) = hexadecimal(word) {
         asked.try_push(number)?;
@@ -73,9 +76,9 @@ fn push_number(asked: &mut Vec<u32>, word: &[u8]) -> Result<(), AllocError> {
     Ok(())
 }
 
-/// The numbers that the words write in hexadecimal digits, in order.
+/// Returns the numbers that the words write in hexadecimal digits, in order.
 pub fn asked_numbers(words: &[String]) -> Result<Vec<u32>, AllocError> {
-    // One by one: `collect` would go on where its first request for room is refused.
+    // One by one: `collect` would go on after its first allocation fails.
     let mut asked = Vec::new();
     for word in words {
         push_number(&mut asked, word.as_bytes())?;

@@ -2,7 +2,7 @@
 
 #[allow(unused_imports)]
 use crate::host::{HostRuntime, Text};
-/// The number that 1 to `most` digits of the base write. `None` for any other bytes.
+/// Returns the number that 1 to `most` digits of the base write, or `None` for any other bytes.
 fn number_of(base: u32, most: usize, bytes: &[u8]) -> Option<u64> {
     if bytes.is_empty() || bytes.len() > most {
         return None;
@@ -15,13 +15,14 @@ fn number_of(base: u32, most: usize, bytes: &[u8]) -> Option<u64> {
     Some(number)
 }
 
-/// The number that 1 to 8 hexadecimal digits of either case write. `None` for any other bytes.
+/// Returns the number that 1 to 8 hexadecimal digits of either case write, or `None` for any other
+/// bytes.
 pub fn hexadecimal(bytes: &[u8]) -> Option<u32> {
     let number = number_of(16, 8, bytes)?;
     Some(number as u32)
 }
 
-/// The number that 1 to 10 decimal digits write. `None` for any other bytes.
+/// Returns the number that 1 to 10 decimal digits write, or `None` for any other bytes.
 pub fn decimal_number(bytes: &[u8]) -> Option<u64> {
     number_of(10, 10, bytes)
 }

@@ -1,4 +1,4 @@
-//! The table's engine: it reads rows, and prints what a trie of them answers.
+//! The engine of `ucptab`: reads rows, and prints the values of a trie that is built of them.
 
 #[allow(unused_imports)]
 use crate::host::{HostRuntime, Text};
@@ -21,11 +21,11 @@ use bekstaudi::codepointtrie::try_build_from_writes;
 use bekstaudi::codepointtrie::Write;
 use bekstaudi::codepointtrie::TrieType;
 
-/// What the program takes.
+/// The arguments of the program.
 pub const USAGE: &str = "usage: ucptab fast|small DEFAULT ERROR [HEX ..]\n";
 
-/// The lines of the asked numbers, as a trie of these writes answers them, and where none is asked
-/// those of its ranges.
+/// Returns the lines of the asked numbers in a trie of these writes, or those of its ranges if no
+/// number is asked.
 fn answer_text(
     trie_type: TrieType,
     default: u32,
@@ -41,8 +41,8 @@ fn answer_text(
     }
 }
 
-/// Reads the table to its end, and answers the lines of the asked numbers, or where none is asked
-/// those of all ranges of equal values.
+/// Reads the table to its end. Returns the lines of the asked numbers, or those of all ranges of
+/// equal values if no number is asked.
 fn table_text<S: Source>(
     trie_type: TrieType,
     default: u32,
@@ -55,9 +55,10 @@ fn table_text<S: Source>(
     answer_text(trie_type, default, error, &writes, asked)
 }
 
-/// Reads the table to its end, and writes the lines of the asked numbers by one call, or where none
-/// is asked those of all ranges of equal values. Every fault but that of the write comes before a
-/// byte is written.
+/// Reads the table to its end, and writes the lines of the asked numbers by one call, or those of
+/// all ranges of equal values if no number is asked.
+///
+/// Every error but that of the write comes before a byte is written.
 pub fn run<S: Source, W: Sink>(
     trie_type: TrieType,
     default: u32,
@@ -73,12 +74,12 @@ pub fn run<S: Source, W: Sink>(
     }
 }
 
-/// Writes the usage line. Where that fails, nothing else is done.
+/// Writes the usage line. If that fails, nothing else is done.
 pub fn write_usage<W: Sink>(writer: &mut W) {
     let _ = writer.write(USAGE.as_bytes());
 }
 
-/// Answers a request: the same as `run`, after its words are taken as numbers.
+/// Does what a request asks for, as `run` does, after the words of its numbers are read.
 fn answer<S: Source, W: Sink>(
     request: Request<'_>,
     reader: &mut S,
@@ -95,9 +96,10 @@ fn answer<S: Source, W: Sink>(
     )
 }
 
-/// What the program does with the words after its name, and its status: 0 where the asked numbers
-/// are answered, or the ranges printed where none is asked, 1 where a fault's line is written, and
-/// 2 where the usage line is. Where a line can't be written, the status is the same.
+/// Runs the program with the words after its name, and returns its status.
+///
+/// The status is 0 if the values or the ranges are printed, 1 if the line of an error is, and 2 if
+/// the usage line is. It is the same if that line can't be written.
 pub fn run_words<S: Source, W: Sink>(
     words: &[String],
     reader: &mut S,

@@ -10,12 +10,16 @@ use bekstaudi::codepointtrie::CodePointTrie;
 use bekstaudi::codepointtrie::CodePointMapRange;
 use crate::support::{AllocError};
 
-/// The line of one asked number: the number, in at least four hexadecimal digits, and its answer.
+/// Appends the line of an asked number: the number, in at least four hexadecimal digits, and its
+/// value.
 fn push_answer(text: &mut String, asked: u32, answer: u32) -> Result<(), AllocError> {
     writeln!(text, "{asked:04X};{answer}")
 }
 
-/// The lines of the asked numbers, in order, each with what `answer` gives for it.
+/// Returns the lines of the asked numbers, in order, each with what `answer` returns for it.
+///
+/// # Errors
+/// Returns [`AllocError`] if an allocation fails.
 pub fn answers_text<F: Fn(u32) -> u32>(
     asked: &[u32],
     answer: F,
@@ -27,13 +31,13 @@ pub fn answers_text<F: Fn(u32) -> u32>(
     Ok(text)
 }
 
-/// A number in at least four hexadecimal digits, and two dots after it.
+/// Appends a number in at least four hexadecimal digits, and two dots.
 fn push_dotted(text: &mut String, n: u32) -> Result<(), AllocError> {
     write!(text, "{n:04X}..")
 }
 
-/// The line of a range: its first and last code point in at least four hexadecimal digits, or the
-/// one where it is but one, and its value.
+/// Appends the line of a range: its first and its last code point, or one if they are equal, and
+/// its value. Code points have at least four hexadecimal digits.
 fn push_range(text: &mut String, range: &CodePointMapRange<u32>) -> Result<(), AllocError> {
     let (first, last) = (*range.range.start(), *range.range.end());
     if first < last {
@@ -44,8 +48,11 @@ fn push_range(text: &mut String, range: &CodePointMapRange<u32>) -> Result<(), A
     }
 }
 
-/// The lines of all ranges of the trie, in order. Where the trie is coherent they are those of the
-/// maximal runs of its map.
+/// Returns the lines of all ranges of the trie, in order. If the trie is coherent, they are the
+/// maximal runs of its values.
+///
+/// # Errors
+/// Returns [`AllocError`] if an allocation fails.
 pub fn ranges_text(trie: &CodePointTrie<'_, u32>) -> Result<String, AllocError> {
     let mut text = String::new();
     for range in trie.iter_ranges() {
@@ -54,7 +61,7 @@ pub fn ranges_text(trie: &CodePointTrie<'_, u32>) -> Result<String, AllocError> 
     Ok(text)
 }
 
-/// Writes a number in decimal digits. It takes no memory.
+/// Writes a number in decimal digits. Allocates nothing.
 fn write_decimal<W: Sink>(sink: &mut W, n: u64) -> Result<(), Failed> {
     if n < 10 {
         return sink.write(&[b'0' + n as u8]);
@@ -63,7 +70,7 @@ fn write_decimal<W: Sink>(sink: &mut W, n: u64) -> Result<(), Failed> {
     sink.write(&[b'0' + (n % 10) as u8])
 }
 
-/// Writes the line of a fault. It takes no memory.
+/// Writes the line of an error. Allocates nothing.
 pub fn write_fault<W: Sink>(sink: &mut W, fault: TableError) -> Result<(), Failed> {
     match fault {
         TableError::Row(number, fault) => {

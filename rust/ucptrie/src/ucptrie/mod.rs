@@ -1,4 +1,4 @@
-//! Makes code point tries of tables of rows, writes them in the forms that other programs take, and
+//! Makes code point tries of tables of rows, writes them in the forms that other programs read, and
 //! reads and shows them.
 
 #[allow(unused_imports)]
@@ -27,7 +27,7 @@ use crate::ucptrie_tables::width::ValueWidth;
 use crate::ucptrie_tables::written::{Form, written};
 use words::program_words;
 
-/// The type that the words name.
+/// Returns the trie type that the arguments name.
 fn trie_type(matches: &ArgMatches) -> TrieType {
     match matches.get_one::<String>("type").map(String::as_str) {
         Some("small") => TrieType::Small,
@@ -35,7 +35,7 @@ fn trie_type(matches: &ArgMatches) -> TrieType {
     }
 }
 
-/// The width that the words name.
+/// Returns the width that the arguments name.
 fn width(matches: &ArgMatches) -> ValueWidth {
     match matches.get_one::<String>("width").map(String::as_str) {
         Some("8") => ValueWidth::Bits8,
@@ -44,12 +44,12 @@ fn width(matches: &ArgMatches) -> ValueWidth {
     }
 }
 
-/// A word is not what it is to be.
+/// Returns the error for a word that is not what it has to be.
 fn refused(word: &str, why: &str) -> Error {
     anyhow!("{word}: {why}")
 }
 
-/// The form that the words name.
+/// Returns the form that the arguments name.
 fn form(matches: &ArgMatches) -> Result<Form<'_>> {
     let name = name_of(matches.get_one::<String>("name").map(String::as_str).unwrap_or("table"))?;
     Ok(match matches.get_one::<String>("as").map(String::as_str) {
@@ -62,7 +62,7 @@ fn form(matches: &ArgMatches) -> Result<Form<'_>> {
     })
 }
 
-/// What a table is to be beside its rows.
+/// Returns what a table is to be, apart from its rows.
 fn options(matches: &ArgMatches) -> TableOptions {
     TableOptions {
         trie_type: trie_type(matches),
@@ -72,14 +72,14 @@ fn options(matches: &ArgMatches) -> TableOptions {
     }
 }
 
-/// All of standard input.
+/// Reads all of standard input.
 fn input(rt: &HostRuntime) -> Result<Vec<u8>> {
     let mut bytes = Vec::new();
     rt.stdin().read_to_end(&mut bytes)?;
     Ok(bytes)
 }
 
-/// What is told of a fault: that a map is too large says why.
+/// Returns the error for a fault. For a map that is too large, it says why.
 fn told(fault: BuildFault) -> Error {
     match fault {
         BuildFault::Table(TableError::TooLarge) => {
@@ -89,14 +89,14 @@ fn told(fault: BuildFault) -> Error {
     }
 }
 
-/// A table of the rows on standard input, in the form that the words name.
+/// Builds a table of the rows on standard input, in the form that the arguments name.
 fn build(rt: &HostRuntime, matches: &ArgMatches) -> Result<Vec<u8>> {
     let form = form(matches)?;
     let rows = input(rt)?;
     built(&rows, options(matches), form).map_err(told)
 }
 
-/// The bytes of a file, whose name may stand for standard input.
+/// Reads a file, or standard input if its name is `-`.
 fn bytes_at(rt: &HostRuntime, path: &str) -> Result<Vec<u8>> {
     if path == "-" {
         return input(rt);
@@ -104,7 +104,7 @@ fn bytes_at(rt: &HostRuntime, path: &str) -> Result<Vec<u8>> {
     Ok(fs::read(rt, path)?)
 }
 
-/// The table of the file that the words name.
+/// Reads the table of the file that the argument `id` names.
 fn table_at(rt: &HostRuntime, matches: &ArgMatches, id: &str) -> Result<Table> {
     let path = matches.get_one::<String>(id).map(String::as_str).context("no file")?;
     let bytes = bytes_at(rt, path).context(path)?;
@@ -112,8 +112,10 @@ fn table_at(rt: &HostRuntime, matches: &ArgMatches, id: &str) -> Result<Table> {
     Ok(table)
 }
 
-/// The table of a file, in the form that the words name. Rows are ranges, and those of a table that
-/// is not coherent are not what it answers: such rows would make another table.
+/// Returns the table of a file in the form that the arguments name.
+///
+/// Rows are ranges. The ranges of a table that is not coherent may differ from its values, so its
+/// rows would make another table and are not written.
 fn convert(rt: &HostRuntime, matches: &ArgMatches) -> Result<Vec<u8>> {
     let form = form(matches)?;
     let path = matches.get_one::<String>("file").map(String::as_str).context("no file")?;
@@ -125,13 +127,13 @@ fn convert(rt: &HostRuntime, matches: &ArgMatches) -> Result<Vec<u8>> {
     Ok(written(&table, form).context(path)?)
 }
 
-/// What a table is.
+/// Returns what a table is, in lines.
 fn show(rt: &HostRuntime, matches: &ArgMatches) -> Result<String> {
     let table = table_at(rt, matches, "file")?;
     Ok(shown(&table)?)
 }
 
-/// The number that a word asks for.
+/// Returns the number that a word asks for.
 fn number_of(word: &str) -> Result<u32> {
     match hexadecimal(word.as_bytes()) {
         Some(number) => Ok(number),
@@ -139,7 +141,7 @@ fn number_of(word: &str) -> Result<u32> {
     }
 }
 
-/// The numbers that the words ask for.
+/// Returns the numbers that the arguments ask for.
 fn asked(rt: &HostRuntime, matches: &ArgMatches) -> Result<Vec<u32>> {
     let mut asked = Vec::new();
     for word in matches.get_many::<String>("asked").into_iter().flatten() {
@@ -148,21 +150,21 @@ fn asked(rt: &HostRuntime, matches: &ArgMatches) -> Result<Vec<u32>> {
     Ok(asked)
 }
 
-/// What a table answers.
+/// Returns the value of each asked number in a table, in lines.
 fn get(rt: &HostRuntime, matches: &ArgMatches) -> Result<String> {
     let asked = asked(rt, matches)?;
     let table = table_at(rt, matches, "file")?;
     Ok(answered(&table, &asked)?)
 }
 
-/// Where two tables differ.
+/// Returns the ranges in which two tables differ, in lines.
 fn diff(rt: &HostRuntime, matches: &ArgMatches) -> Result<String> {
     let first = table_at(rt, matches, "first")?;
     let second = table_at(rt, matches, "second")?;
     Ok(differences_text(&first.trie, &second.trie)?)
 }
 
-/// What a command writes to standard output.
+/// Returns what a command writes to standard output.
 fn written_by(rt: &HostRuntime, name: &str, matches: &ArgMatches) -> Result<Vec<u8>> {
     let text = match name {
         "build" => return build(rt, matches),
@@ -175,15 +177,15 @@ fn written_by(rt: &HostRuntime, name: &str, matches: &ArgMatches) -> Result<Vec<
     Ok(text.into_bytes())
 }
 
-/// Says why the words are not taken, and answers the status. That memory was refused is no fault of
-/// the words.
+/// Prints why the arguments are rejected, and returns the status. A failed allocation is not a
+/// fault of the arguments.
 fn not_taken(error: &clap::Error) -> Result<ExitCode> {
     error.print()?;
     Ok(ExitCode::from(if error.use_stderr() { 2 } else { 0 }))
 }
 
-/// Writes to standard output, and answers the status. Where nobody reads on, as behind `head`,
-/// nothing is said.
+/// Writes to standard output, and returns the status. Prints no error if the reader has closed the
+/// pipe, as `head` does.
 fn put(rt: &HostRuntime, bytes: &[u8]) -> Result<ExitCode> {
     match rt.stdout().write_all(bytes) {
         Ok(()) => Ok(ExitCode::SUCCESS),
@@ -192,7 +194,7 @@ fn put(rt: &HostRuntime, bytes: &[u8]) -> Result<ExitCode> {
     }
 }
 
-/// Does what the words ask for, and answers the status.
+/// Does what the arguments ask for, and returns the status.
 fn run(rt: &HostRuntime) -> Result<ExitCode> {
     let words: Vec<String> = env::args(rt)?.collect()?;
     let command = program_words()?;

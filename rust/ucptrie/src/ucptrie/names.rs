@@ -5,7 +5,7 @@ use crate::ucptrie::refused;
 use crate::context::Result;
 use crate::ucptrie_tables::source::is_name;
 
-/// What names no module in Rust: its keywords, also those that it keeps for later, and `_`.
+/// The words that cannot name a module in Rust: its keywords, including the reserved ones, and `_`.
 const KEPT_BY_RUST: [&str; 53] = [
     "_", "abstract", "as", "async", "await", "become", "box", "break", "const", "continue",
     "crate", "do", "dyn", "else", "enum", "extern", "false", "final", "fn", "for", "gen", "if",
@@ -14,7 +14,7 @@ const KEPT_BY_RUST: [&str; 53] = [
     "typeof", "unsafe", "unsized", "use", "virtual", "where", "while", "yield",
 ];
 
-/// The word, where it can stand in front of each name in source.
+/// Returns the word if each name in source can start with it.
 pub fn name_of(word: &str) -> Result<&str> {
     if !is_name(word) {
         let why = "no name of letters, digits and _ that begins with no digit";
@@ -23,7 +23,7 @@ pub fn name_of(word: &str) -> Result<&str> {
     Ok(word)
 }
 
-/// The name, where it can be that of a module in Rust.
+/// Returns the name if it can be that of a module in Rust.
 pub fn module_name(name: &str) -> Result<&str> {
     if KEPT_BY_RUST.iter().any(|kept| *kept == name) {
         return Err(refused(name, "a word that Rust keeps for itself"));

@@ -1,4 +1,4 @@
-//! The words that the program takes.
+//! The arguments of the program.
 #[allow(unused_imports)]
 use crate::host::{HostRuntime, Text};
 #[allow(unused_imports)]
@@ -7,33 +7,33 @@ use crate::formats::ValueParser;
 use clap::{Arg, Command};
 use crate::support::{AllocError};
 
-/// Where an argument stands.
+/// How an argument is given.
 #[derive(Clone, Copy)]
 enum Place {
     /// `--id VALUE`, anywhere.
     Option,
-    /// One word, by its place.
+    /// One word, by its position.
     Word,
     /// This word and all that follow.
     Words,
 }
 
-/// What a command takes: one argument.
+/// One argument of a command.
 #[derive(Clone, Copy)]
 struct Argument {
     id: &'static str,
     place: Place,
     required: bool,
-    /// What help calls the value: nothing for the id itself.
+    /// What help calls the value. If it is empty, help shows the id.
     value_name: &'static [&'static str],
-    /// What a value has to be.
+    /// Which values are accepted.
     values: ValueParser<'static>,
-    /// The value where the argument is left out, if it has one.
+    /// The value if the argument is left out, if there is one.
     default: &'static [&'static str],
     help: &'static str,
 }
 
-/// An option that takes any value, and may be left out.
+/// An option that accepts any value and may be left out.
 const OPTION: Argument = Argument {
     id: "",
     place: Place::Option,
@@ -44,8 +44,8 @@ const OPTION: Argument = Argument {
     help: "",
 };
 
-/// An option that takes a value of 32 bits, as `value_parser!(u32)` tests it, and is 0 where it is
-/// left out.
+/// An option with a value of 32 bits, which is tested as `value_parser!(u32)` does. It is 0 if it
+/// is left out.
 const NUMBER: Argument = Argument {
     value_name: &["N"],
     values: ValueParser::Signed(0, 0xffffffff),
@@ -72,7 +72,7 @@ const FORM: Argument = Argument {
     ..OPTION
 };
 
-/// What stands in front of each name in source.
+/// The start of each name in source.
 const NAME: Argument = Argument {
     id: "name",
     default: &["table"],
@@ -80,7 +80,7 @@ const NAME: Argument = Argument {
     ..OPTION
 };
 
-/// What rows become.
+/// The arguments of `build`.
 const BUILD: [Argument; 6] = [
     Argument {
         id: "type",
@@ -110,10 +110,10 @@ const BUILD: [Argument; 6] = [
     NAME,
 ];
 
-/// A table, and what it becomes.
+/// The arguments of `convert`: a table, and the form in which it is written.
 const CONVERT: [Argument; 3] = [FILE, FORM, NAME];
 
-/// A table, and the numbers that it is asked.
+/// The arguments of `get`: a table, and the asked numbers.
 const GET: [Argument; 2] = [
     FILE,
     Argument {
@@ -125,7 +125,7 @@ const GET: [Argument; 2] = [
     },
 ];
 
-/// Two tables.
+/// The arguments of `diff`: two tables.
 const DIFF: [Argument; 2] = [
     Argument {
         id: "first",
@@ -137,7 +137,7 @@ const DIFF: [Argument; 2] = [
     },
 ];
 
-/// The commands: the name of each, what it does, and what it takes.
+/// The commands: the name, the description and the arguments of each.
 const COMMANDS: [(&str, &str, &[Argument]); 5] = [
     (
         "build",
@@ -167,7 +167,7 @@ fn with_value_name(argument: Arg, row: &Argument) -> Arg {
     argument.value_names(row.value_name)
 }
 
-/// Sets what the argument's value has to be.
+/// Sets which values the argument accepts.
 fn with_value_parser(argument: Arg, row: &Argument) -> Arg {
     argument.value_parser(row.values)
 }
@@ -177,7 +177,7 @@ fn with_default(argument: Arg, row: &Argument) -> Arg {
     argument.default_values(row.default)
 }
 
-/// The argument by its place among the words.
+/// Sets how the argument is given.
 fn placed(argument: Arg, row: &Argument) -> Arg {
     match row.place {
         Place::Option => argument.long(row.id),
@@ -186,7 +186,7 @@ fn placed(argument: Arg, row: &Argument) -> Arg {
     }
 }
 
-/// The argument, as clap takes it.
+/// Returns the argument in clap's form.
 fn arg_of(row: &Argument) -> Arg {
     let argument = Arg::new(row.id)
         .required(row.required)
@@ -196,7 +196,7 @@ fn arg_of(row: &Argument) -> Arg {
     placed(with_default(tested, row), row)
 }
 
-/// A command that takes these arguments.
+/// Returns a command with these arguments.
 fn command_of(
     name: &'static str,
     about: &'static str,
@@ -209,7 +209,7 @@ fn command_of(
     Ok(command)
 }
 
-/// The program's words.
+/// Returns the program's command line in clap's form.
 pub fn program_words() -> Result<Command, AllocError> {
     let about = "Makes code point tries of tables of rows, and reads them";
     let mut program = command_of("ucptrie", about, &[])?.subcommand_required(true);

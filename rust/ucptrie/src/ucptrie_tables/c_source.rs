@@ -10,7 +10,7 @@ use crate::ucptrie_tables::source::{header_numbers, index1_offset, push_sizes};
 use crate::ucptrie_tables::table::Table;
 use crate::support::{AllocError};
 
-/// The look-up that needs no ICU, by the three stages of the format. Each `@` stands for the name.
+/// The look-up in the three stages of the format, without ICU. Each `@` stands for the name.
 const LOOK_UP: &str = "\
 // The value of c, and the error value above 10FFFF. It needs no ICU.
 static inline uint32_t @_get(uint32_t c) {
@@ -73,7 +73,7 @@ fn push_numbers(text: &mut String, table: &Table, name: &str) -> Result<(), Allo
 
 /// The trie for ICU's functions and macros (usrc_writeUCPTrie).
 const STRUCT: &str = "
-// The trie for ICU, where <unicode/ucptrie.h> is included before.
+// The trie for ICU, if <unicode/ucptrie.h> is included before.
 #ifdef UCPTRIE_FAST_GET
 static const UCPTrie @_trie={
     @_trieIndex,
@@ -88,8 +88,8 @@ static const UCPTrie @_trie={
 #endif
 ";
 
-/// The table in C: the two arrays, a look-up over them that needs no ICU, and the trie for ICU
-/// where its header is included before.
+/// Returns the table in C: the two arrays, a look-up over them that needs no ICU, and the trie for
+/// ICU if its header is included before.
 pub(crate) fn c_text(table: &Table, name: &str) -> Result<String, AllocError> {
     let mut text = String::new();
     push_sizes(&mut text, table)?;

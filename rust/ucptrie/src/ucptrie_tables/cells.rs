@@ -8,10 +8,10 @@ use bekstaudi::codepointtrie::TrieValue;
 use bekstaudi::zerovec::ZeroSlice;
 use crate::support::AllocError;
 
-/// How many cells stand in a line.
+/// How many cells a line has.
 const CELLS_IN_LINE: usize = 16;
 
-/// A number as ICU's tools write it: in decimal digits up to 9, and else in hexadecimal ones.
+/// Returns a number as ICU's tools write it: in decimal up to 9, and in hexadecimal above.
 fn number_of(cell: u32) -> Number {
     if cell <= 9 {
         Number::Decimal(cell as usize)
@@ -20,7 +20,7 @@ fn number_of(cell: u32) -> Number {
     }
 }
 
-/// Appends the cells' numbers, sixteen a line, each line but the first behind the indent
+/// Appends the cells' numbers, sixteen to a line. Every line but the first starts with the indent
 /// (usrc_writeArray).
 pub(crate) fn push_cells<T: TrieValue>(
     text: &mut String,

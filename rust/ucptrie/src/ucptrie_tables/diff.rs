@@ -9,12 +9,12 @@ use bekstaudi::codepointtrie::CodePointMapRange;
 use bekstaudi::zerovec::CODE_POINT_LIMIT;
 use crate::support::{AllocError};
 
-/// The values that two tries have at a number, as their look-ups answer it.
+/// Returns the values of the number `c` in two tries.
 fn values_at(first: &CodePointTrie<'_, u32>, second: &CodePointTrie<'_, u32>, c: u32) -> (u32, u32) {
     (first.get32(c), second.get32(c))
 }
 
-/// The end, exclusive, of the code points from `c` on that have these two values.
+/// Returns the exclusive end of the code points from `c` on that have these two values.
 fn end_of_values(
     first: &CodePointTrie<'_, u32>,
     second: &CodePointTrie<'_, u32>,
@@ -29,11 +29,12 @@ fn end_of_values(
     CODE_POINT_LIMIT
 }
 
-/// The ranges of code points at which look-ups in two tries have different answers, in order, each
-/// with the two values that its code points have.
+/// Returns the ranges of code points whose values differ in two tries, in ascending order.
+///
+/// Each range has the two values of its code points and is as long as possible.
 ///
 /// # Errors
-/// `AllocError` where memory was refused.
+/// Returns [`AllocError`] if an allocation fails.
 pub fn differences(
     first: &CodePointTrie<'_, u32>,
     second: &CodePointTrie<'_, u32>,

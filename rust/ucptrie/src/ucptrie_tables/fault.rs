@@ -12,12 +12,12 @@ use crate::support::AllocError;
 use core::{error, fmt};
 use crate::ucptab_table::fault::TableError;
 
-/// Why rows make no table, or a table is not written.
+/// Why rows make no table, or why a table is not written.
 #[derive(Clone, Copy, Debug, PartialEq, Eq)]
 pub enum BuildFault {
-    /// A row is at fault, the map is too large for a trie, or memory was refused.
+    /// A row has a fault, the map is too large for a trie, or an allocation failed.
     Table(TableError),
-    /// This value has more bits than are asked for.
+    /// This value has more bits than this width.
     Width(u32, ValueWidth),
     /// ICU's binary form has no room for the trie.
     Binary(WriteError),
@@ -56,7 +56,7 @@ impl From<MemoryError> for BuildFault {
     }
 }
 
-/// Why a text is no TOML, and in which line, counted from 1.
+/// Why a text is not TOML, and in which line, counted from 1.
 #[derive(Clone, Debug, PartialEq, Eq)]
 pub struct TomlFault {
     line: usize,
@@ -64,13 +64,13 @@ pub struct TomlFault {
 }
 
 impl TomlFault {
-    /// The fault of a text.
+    /// Returns the fault of a text, with its line.
     pub(crate) fn new(error: crate::formats::TomlError) -> TomlFault {
         TomlFault { line: error.line, error }
     }
 }
 
-/// In one line.
+/// Writes the line and the message, without a line feed.
 impl fmt::Display for TomlFault {
     fn fmt(&self, f: &mut fmt::Formatter<'_>) -> fmt::Result {
         let (line, message) = (self.line, &self.error.message);
@@ -83,19 +83,19 @@ impl error::Error for TomlFault {}
 /// Why a file has no table.
 #[derive(Debug)]
 pub enum ReadFault {
-    /// It begins as a trie in ICU's binary form, and is none.
+    /// It has the signature of ICU's binary form, and is not a trie in it.
     Binary(BinaryError),
-    /// It is no text in UTF-8.
+    /// It has no signature, and is not a text in UTF-8.
     Text,
-    /// It begins as JSON, and is none.
+    /// It starts with `{`, and is not JSON.
     Json(serde_json::Error),
-    /// Its JSON is no trie.
+    /// Its JSON is not a trie.
     TrieJson(TrieJsonError),
-    /// It is no TOML, nor any of the other forms.
+    /// It is not TOML, nor in any of the other forms.
     Toml(TomlFault),
-    /// Its TOML is no trie.
+    /// Its TOML is not a trie.
     TrieToml(TrieFromTomlError),
-    /// Memory was refused.
+    /// An allocation failed.
     Memory,
 }
 

@@ -1,12 +1,16 @@
-//! The engine of the program `ucptrie`: tables of rows made into tries, written in the forms that
-//! other programs take, read from these, shown and compared.
+//! The engine of the program `ucptrie`: tables of rows become tries, which are written in the forms
+//! that other programs read, read from these, shown and compared.
 //!
-//! - `table`: a trie with the width of its values, built of rows
-//! - `read`: the table that a file has, in ICU's binary form, in JSON or in TOML
+//! - `table`: a trie with the width of its values, built from rows
+//! - `width`: how many bits a value has in a file; `values`: the same numbers as values of another
+//!   type
+//! - `read`: the table that a file has in ICU's binary form, in JSON or in TOML
 //! - `written`: a table in one of the forms, as the bytes of a file
 //! - `shown`: what a table is, in lines, and its ranges; `sizes`: the bounds on its cells
 //! - `diff`: the ranges in which two tables differ
-//! - `source`: names in C and in Rust; `c_source` and `rust_source` write these
+//! - `source`: names in C and in Rust; `c_source` and `rust_source` write these; `pattern`: texts
+//!   with places for a name and for numbers; `cells`: the cells of a trie as numbers in a text
+//! - `toml_text`: a table in TOML
 //! - `fault`: why a table can't be made, written or read
 
 #[allow(unused_imports)]
@@ -33,13 +37,15 @@ use crate::ucptrie_tables::fault::BuildFault;
 use crate::ucptrie_tables::table::{TableOptions, table_of_rows};
 use crate::ucptrie_tables::written::{Form, written};
 
-/// The table of rows in a form, as the bytes of a file. The rows of it are the text that `ucptab`
-/// prints where no number is asked.
+/// Builds the table of the rows, and returns it in a form, as the bytes of a file.
+///
+/// In the form `Rows` this is the text that `ucptab` prints if no number is asked.
 ///
 /// # Errors
-/// `Table` with the first line that is no row, where the map is too large for a trie, and where
-/// memory was refused; `Width` with a value that has more bits than are asked for; `Binary` where
-/// ICU's binary form has no room for the trie.
+/// Returns [`BuildFault::Table`] for the first line that is not a row, for a map that is too large
+/// for a trie, and if an allocation fails. Returns [`BuildFault::Width`] for the first value that
+/// has more bits than the asked width. Returns [`BuildFault::Binary`] if ICU's binary form has no
+/// room for the trie.
 pub fn built(
     rows: &[u8],
     options: TableOptions,

@@ -18,20 +18,20 @@ use bekstaudi::codepointtrie::json::from_json;
 use bekstaudi::codepointtrie::trie_toml::{CodePointDataSlice, CodePointTrieToml};
 use serde_json::Value;
 
-/// The table of a trie over values of a narrower type.
+/// Returns the table of a trie over values of a narrower type.
 fn widened<T: TrieValue>(
     trie: &CodePointTrie<'_, T>,
     width: ValueWidth,
 ) -> Result<Table, ReadFault> {
     match with_values_of(trie) {
         Ok(trie) => Ok(Table { trie, width }),
-        // Each value's number is one of 32 bits.
+        // The number of each value has at most 32 bits.
         Err(MapError::Closure(_)) => unreachable!(),
         Err(MapError::Memory) => Err(ReadFault::Memory),
     }
 }
 
-/// The table in ICU's binary form.
+/// Reads a table in ICU's binary form.
 fn table_of_binary(file: &[u8]) -> Result<Table, ReadFault> {
     let (read, _) = from_binary_any(file)?;
     match read {
@@ -41,7 +41,8 @@ fn table_of_binary(file: &[u8]) -> Result<Table, ReadFault> {
     }
 }
 
-/// The table in ICU's binary form, of a machine with the other byte order: each width is tried.
+/// Reads a table in ICU's binary form as a machine with the other byte order writes it. Tries each
+/// width in turn.
 fn table_of_swapped(file: &[u8]) -> Result<Table, ReadFault> {
     match from_binary_swapped::<u8>(file) {
         Ok((trie, _)) => return widened(&trie, ValueWidth::Bits8),
@@ -60,7 +61,7 @@ fn table_of_swapped(file: &[u8]) -> Result<Table, ReadFault> {
     })
 }
 
-/// The table in JSON. It says no width: its numbers have 32 bits.
+/// Reads a table in JSON, which has no width: its numbers have 32 bits.
 fn table_of_json(text: &str) -> Result<Table, ReadFault> {
     let value = serde_json::from_str::<Value>(text)?;
     Ok(Table {
@@ -69,12 +70,12 @@ fn table_of_json(text: &str) -> Result<Table, ReadFault> {
     })
 }
 
-/// The value at a key.
+/// Returns the value at a key.
 fn value_at<'a>(table: &'a toml::value::Table, key: &str) -> Option<&'a toml::Value> {
     table.get(key)
 }
 
-/// The first of the properties at a key: icuexportdata writes an array of them.
+/// Returns the first of the properties at a key. icuexportdata writes an array of them.
 fn first_property(property: &toml::Value) -> Option<&toml::Value> {
     match property.as_array() {
         Some(properties) => properties.first(),
@@ -82,8 +83,8 @@ fn first_property(property: &toml::Value) -> Option<&toml::Value> {
     }
 }
 
-/// The TOML table of the trie that a property's table has, or that it is itself, as in what
-/// icuexportdata writes for normalization.
+/// Returns the trie of a property's table. For normalization, icuexportdata writes a trie in its
+/// place.
 fn trie_of_table(property: &toml::value::Table) -> Option<&toml::value::Table> {
     match value_at(property, "code_point_trie") {
         Some(trie) => trie.as_table(),
@@ -91,14 +92,14 @@ fn trie_of_table(property: &toml::value::Table) -> Option<&toml::value::Table> {
     }
 }
 
-/// The TOML table of the trie that the properties at a key of icuexportdata's file have.
+/// Returns the trie of the properties at a key.
 fn trie_of_property(property: &toml::Value) -> Option<&toml::value::Table> {
     let first = first_property(property)?;
     let table = first.as_table()?;
     trie_of_table(table)
 }
 
-/// The TOML table of a trie: that of the first property which has one, and else the whole file.
+/// Returns the trie of the first property that has one, or the whole file if none has.
 fn trie_table(file: &toml::value::Table) -> &toml::value::Table {
     for property in file.values() {
         if let Some(table) = trie_of_property(property) {
@@ -108,7 +109,7 @@ fn trie_table(file: &toml::value::Table) -> &toml::value::Table {
     file
 }
 
-/// The width of the first array of data that a TOML table has.
+/// Returns the width of the first array of data that a TOML table has.
 fn width_of(read: &CodePointTrieToml) -> ValueWidth {
     match read.data_slice() {
         Ok(CodePointDataSlice::U8(_)) => ValueWidth::Bits8,
@@ -117,7 +118,7 @@ fn width_of(read: &CodePointTrieToml) -> ValueWidth {
     }
 }
 
-/// The table in TOML.
+/// Reads a table in TOML.
 fn table_of_toml(text: &str) -> Result<Table, ReadFault> {
     let file = match crate::formats::table_from_str(text) {
         Ok(file) => file,
@@ -129,7 +130,7 @@ fn table_of_toml(text: &str) -> Result<Table, ReadFault> {
     Ok(Table { trie, width })
 }
 
-/// The table in JSON or in TOML.
+/// Reads a table in JSON or in TOML.
 fn table_of_text(text: &str) -> Result<Table, ReadFault> {
     if text.trim_start().starts_with('{') {
         table_of_json(text)
@@ -138,14 +139,20 @@ fn table_of_text(text: &str) -> Result<Table, ReadFault> {
     }
 }
 
-/// The table that a file has, whose form is told by its first bytes: ICU's binary form, in either
-/// byte order, by its signature; JSON by `{`; and else TOML, of which it is the file's own table,
-/// or that of the first property with a trie, as ICU's icuexportdata writes it. What follows a trie
-/// in the binary form is not read.
+/// Reads the table that a file has.
+///
+/// The first bytes decide which form the file is taken for: ICU's binary form, in either byte
+/// order, by its signature; JSON by `{` after white space; and TOML otherwise. In TOML the trie is
+/// that of the first property that has one, as ICU's icuexportdata writes it, or the whole file. In
+/// the binary form, what follows the trie is not read.
 ///
 /// # Errors
-/// `Binary`, `Json` and `TrieJson`, `Toml` and `TrieToml` with the fault of its form; `Text` where
-/// it has no signature and is no text; `Memory` where memory was refused.
+/// Returns [`ReadFault::Binary`] for the first fault of a file with a signature. Returns
+/// [`ReadFault::Text`] if the file has no signature and is not a text in UTF-8. Returns
+/// [`ReadFault::Json`] if a text that starts with `{` is not JSON, and [`ReadFault::TrieJson`] for
+/// the first fault of its JSON as a trie. Returns [`ReadFault::Toml`] if any other text is not
+/// TOML, and [`ReadFault::TrieToml`] for the first fault of its TOML as a trie. Returns
+/// [`ReadFault::Memory`] if an allocation fails.
 pub fn read_table(file: &[u8]) -> Result<Table, ReadFault> {
     match file {
         [b'3', b'i', b'r', b'T', ..] => return table_of_binary(file),

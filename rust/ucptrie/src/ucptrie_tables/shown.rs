@@ -1,4 +1,4 @@
-//! What a table is, in lines.
+//! What a table is, as comments and rows.
 
 #[allow(unused_imports)]
 use crate::host::{HostRuntime, Text};
@@ -12,7 +12,7 @@ use crate::ucptrie_tables::table::Table;
 use crate::support::{AllocError};
 use crate::ucptab_table::text::{answers_text, ranges_text};
 
-/// What the header says.
+/// The lines about the header.
 const HEADER: &str = "\
 type: @
 value width: % bits
@@ -24,7 +24,7 @@ null value: %
 error value: %
 ";
 
-/// Appends what the header says.
+/// Appends the lines about the header.
 fn push_header(text: &mut String, table: &Table) -> Result<(), AllocError> {
     let (header, _, _) = table.trie.parts();
     let numbers = [
@@ -39,15 +39,15 @@ fn push_header(text: &mut String, table: &Table) -> Result<(), AllocError> {
     push_pattern(text, HEADER, type_name(header.trie_type), &numbers)
 }
 
-/// How many cells there are, and whether the header can be trusted.
+/// The lines about the cells, and whether the table is coherent.
 const CELLS: &str = "\
 index cells: %, bound %
 data cells: %, bound %
 coherent: @
 ";
 
-/// Appends how many cells the table has, each count with the bound on it, and whether the header
-/// can be trusted.
+/// Appends how many cells the table has, the bound on each count, and whether the table is
+/// coherent.
 fn push_cells(text: &mut String, table: &Table) -> Result<(), AllocError> {
     let (_, index, values) = table.trie.parts();
     let bounds = bounds_of(&table.trie)?;
@@ -65,7 +65,7 @@ fn push_cells(text: &mut String, table: &Table) -> Result<(), AllocError> {
     push_pattern(text, CELLS, coherent, &numbers)
 }
 
-/// What a table is, in lines.
+/// Returns what a table is, in lines.
 fn about(table: &Table) -> Result<String, AllocError> {
     let mut about = String::new();
     push_header(&mut about, table)?;
@@ -78,7 +78,7 @@ fn push_comment(text: &mut String, comment: &str) -> Result<(), AllocError> {
     writeln!(text, "# {comment}")
 }
 
-/// Appends each line that ends with a line feed as a comment.
+/// Appends each line as a comment. A line ends with a line feed.
 fn push_comments(text: &mut String, lines: &str) -> Result<(), AllocError> {
     let mut rest = lines;
     while let Some((line, others)) = rest.split_once('\n') {
@@ -88,12 +88,14 @@ fn push_comments(text: &mut String, lines: &str) -> Result<(), AllocError> {
     Ok(())
 }
 
-/// What the table is: the fields of its header, how many cells it has beside the bounds that a
-/// built trie of its values keeps, and whether its header can be trusted, each in a comment of
-/// `ucptab`'s form; and then its ranges, in rows of that form. So the whole text is a table again.
+/// Returns what a table is, as a table in `ucptab`'s form: comments, and a row for each of its
+/// ranges.
+///
+/// The comments have the fields of the header, the number of cells beside the most that a trie
+/// built of the same values has, and whether the table is coherent.
 ///
 /// # Errors
-/// `AllocError` where memory was refused.
+/// Returns [`AllocError`] if an allocation fails.
 pub fn shown(table: &Table) -> Result<String, AllocError> {
     let about = about(table)?;
     let mut text = String::new();
@@ -103,10 +105,10 @@ pub fn shown(table: &Table) -> Result<String, AllocError> {
     Ok(text)
 }
 
-/// The lines of the asked numbers, in order, as `ucptab` prints them.
+/// Returns the lines of the asked numbers, in order, as `ucptab` prints them.
 ///
 /// # Errors
-/// `AllocError` where memory was refused.
+/// Returns [`AllocError`] if an allocation fails.
 pub fn answered(table: &Table, asked: &[u32]) -> Result<String, AllocError> {
     answers_text(asked, |n| table.trie.get32(n))
 }

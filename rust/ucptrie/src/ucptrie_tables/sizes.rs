@@ -1,4 +1,4 @@
-//! How many cells a trie may have by its values: the bounds that a built one keeps.
+//! How many cells a built trie has at most.
 
 #[allow(unused_imports)]
 use crate::host::{HostRuntime, Text};
@@ -16,7 +16,7 @@ pub struct Bounds {
     pub data: usize,
 }
 
-/// The value of each code point.
+/// Returns the value of each code point.
 fn values_of(trie: &CodePointTrie<'_, u32>) -> Result<Vec<u32>, AllocError> {
     let mut values = Vec::with_room(CODE_POINT_LIMIT as usize)?;
     for c in 0..CODE_POINT_LIMIT {
@@ -25,7 +25,7 @@ fn values_of(trie: &CodePointTrie<'_, u32>) -> Result<Vec<u32>, AllocError> {
     Ok(values)
 }
 
-/// The lists of 16 neighbours in an aligned block of 64.
+/// Returns the lists of 16 neighbours in an aligned block of 64.
 fn windows_of(values: &[u32]) -> Result<BTreeSet<&[u32]>, AllocError> {
     let mut windows = BTreeSet::new();
     for block in values.chunks(64) {
@@ -36,7 +36,7 @@ fn windows_of(values: &[u32]) -> Result<BTreeSet<&[u32]>, AllocError> {
     Ok(windows)
 }
 
-/// How many different aligned blocks of so many values there are beside those that are known.
+/// Counts the different aligned blocks of `size` values that are not among the known ones.
 fn count_different(
     values: &[u32],
     size: usize,
@@ -51,11 +51,15 @@ fn count_different(
     Ok(blocks.len())
 }
 
-/// The bounds on the cells of a trie that is built of the values of this one, of its type, which
-/// count different aligned blocks: 64 cells of data for each of 64 code points below the fast
-/// limit, and 16 for each of 16 from there on that stands in none of these, and 160; 36 cells of
-/// index for each of 512 from the fast limit on, or 32 where that bound on the data is at most
+/// Returns the most cells that a trie of this type has if it is built of the values of this one.
+///
+/// The bounds count different aligned blocks. Data: 64 cells for each block of 64 code points below
+/// the fast limit, 16 for each block of 16 above it that occurs in none of these, and 160. Index:
+/// 36 cells for each block of 512 above the fast limit, or 32 if the bound on the data is at most
 /// 0x10000, and 3,200.
+///
+/// # Errors
+/// Returns [`AllocError`] if an allocation fails.
 pub fn bounds_of(trie: &CodePointTrie<'_, u32>) -> Result<Bounds, AllocError> {
     let (header, _, _) = trie.parts();
     let values = values_of(trie)?;

@@ -1,4 +1,4 @@
-//! What the texts of a table have in common.
+//! What the sources in C and in Rust have in common.
 #[allow(unused_imports)]
 use crate::host::{HostRuntime, Text};
 #[allow(unused_imports)]
@@ -9,8 +9,8 @@ use crate::ucptrie_tables::table::Table;
 use bekstaudi::codepointtrie::TrieType;
 use crate::support::AllocError;
 
-/// Whether a text can be a name in C and in Rust: ASCII letters, digits and `_`, and no digit in
-/// front. Words of either language are not looked for.
+/// Returns whether a text can be a name in C and in Rust: ASCII letters, digits and `_`, and not a
+/// digit first. Keywords of the two languages are not excluded.
 pub fn is_name(text: &str) -> bool {
     let Some(first) = text.bytes().next() else {
         return false;
@@ -21,7 +21,7 @@ pub fn is_name(text: &str) -> bool {
             .all(|byte| byte.is_ascii_alphanumeric() || byte == b'_')
 }
 
-/// The name of a type, as `ucptab` takes it.
+/// Returns the name of a type, as in `ucptab`'s arguments.
 pub(crate) fn type_name(trie_type: TrieType) -> &'static str {
     match trie_type {
         TrieType::Fast => "fast",
@@ -29,7 +29,7 @@ pub(crate) fn type_name(trie_type: TrieType) -> &'static str {
     }
 }
 
-/// The number that ICU has for a type (UCPTRIE_TYPE_FAST, _SMALL).
+/// Returns ICU's number of a type (UCPTRIE_TYPE_FAST, _SMALL).
 pub(crate) fn type_code(trie_type: TrieType) -> u8 {
     match trie_type {
         TrieType::Fast => 0,
@@ -37,8 +37,8 @@ pub(crate) fn type_code(trie_type: TrieType) -> u8 {
     }
 }
 
-/// What is added to `c >> 14` for the place of a code point's index-1 cell: behind the fast index,
-/// where a fast trie leaves out the four cells of the BMP.
+/// Returns what is added to `c >> 14` for the index of the index-1 cell of `c`. The cells follow
+/// the fast index, and a fast trie leaves out the four of the BMP.
 pub(crate) fn index1_offset(trie_type: TrieType) -> u32 {
     match trie_type {
         TrieType::Fast => 1024 - 4,
@@ -46,13 +46,13 @@ pub(crate) fn index1_offset(trie_type: TrieType) -> u32 {
     }
 }
 
-/// What the trie is, and its sizes.
+/// The comment about the trie and its sizes.
 const SIZES: &str = "\
 // Made by ucptrie: a @ code point trie, with values of % bits.
 // Index: % cells, % bytes. Data: % cells, % bytes.
 ";
 
-/// Appends a comment that says what the trie is, and its sizes.
+/// Appends a comment about the trie and its sizes.
 pub(crate) fn push_sizes(text: &mut String, table: &Table) -> Result<(), AllocError> {
     let (header, index, values) = table.trie.parts();
     let numbers = [
@@ -65,8 +65,8 @@ pub(crate) fn push_sizes(text: &mut String, table: &Table) -> Result<(), AllocEr
     push_pattern(text, SIZES, type_name(header.trie_type), &numbers)
 }
 
-/// The numbers of the header in the order of ICU's own struct, which TOML has too: lengths, where
-/// the high values begin, type and width, null blocks and the null value.
+/// Returns the numbers of the header in the order of ICU's struct and of TOML: lengths, the high
+/// start in two forms, type and width, null blocks and the null value.
 pub(crate) fn header_numbers(table: &Table) -> [Number; 9] {
     let (header, index, values) = table.trie.parts();
     [

@@ -1,4 +1,4 @@
-//! A trie with the width of its values, and the one that rows make.
+//! A trie with the width of its values, and the table of some rows.
 
 #[allow(unused_imports)]
 use crate::host::{HostRuntime, Text};
@@ -11,38 +11,38 @@ use bekstaudi::codepointtrie::TrieType;
 use bekstaudi::codepointtrie::try_build_from_writes;
 use crate::ucptab_table::input::read_rows;
 
-/// A trie over numbers, and how many bits its values take where it is stored.
+/// A trie over numbers, and how many bits a value has in a file.
 #[derive(Debug)]
 pub struct Table {
     pub trie: CodePointTrie<'static, u32>,
     pub width: ValueWidth,
 }
 
-/// What a table is to be beside its rows.
+/// What a table is to be, apart from its rows.
 #[derive(Clone, Copy, Debug)]
 pub struct TableOptions {
     /// The type of the trie.
     pub trie_type: TrieType,
-    /// How many bits a value takes.
+    /// How many bits a value has.
     pub width: ValueWidth,
-    /// The value of each code point that no row names.
+    /// The value of each code point that no row covers.
     pub default: u32,
-    /// The answer above 10FFFF.
+    /// The value of each number above 0x10FFFF.
     pub error: u32,
 }
 
-/// The first value in the trie's data that has more bits.
+/// Returns the first value in the trie's data that has more bits.
 fn first_wider(trie: &CodePointTrie<'_, u32>, width: ValueWidth) -> Option<u32> {
     let (_, _, values) = trie.parts();
     values.iter().find(|value| !width.fits(*value))
 }
 
-/// The table of the rows that the bytes have, in `ucptab`'s form.
+/// Builds the table of the rows that the bytes have, in `ucptab`'s form.
 ///
 /// # Errors
-/// `Table` with the first line that is no row, where the map is too large for a trie, and where
-/// memory was refused; `Width` with the first value in the trie's data that has more bits than are
-/// asked for.
+/// Returns [`BuildFault::Table`] for the first line that is not a row, for a map that is too large
+/// for a trie, and if an allocation fails. Returns [`BuildFault::Width`] for the first value in the
+/// trie's data that has more bits than the asked width.
 pub fn table_of_rows(rows: &[u8], options: TableOptions) -> Result<Table, BuildFault> {
     let writes = read_rows(rows)?;
     let trie = try_build_from_writes(

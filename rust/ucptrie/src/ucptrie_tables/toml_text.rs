@@ -24,7 +24,7 @@ dataNullOffset = %
 nullValue = %
 ";
 
-/// The table in TOML.
+/// Returns the table in TOML.
 pub(crate) fn toml_text(table: &Table) -> Result<String, AllocError> {
     let (_, index, values) = table.trie.parts();
     let mut text = String::new();

@@ -8,7 +8,8 @@ use bekstaudi::codepointtrie::CodePointTrie;
 use bekstaudi::codepointtrie::MapError;
 use bekstaudi::codepointtrie::TrieValue;
 
-/// The value that has the number of another type's value, or that number where there is none.
+/// Returns the value with the number of another type's value, or that number if there is no such
+/// value.
 fn same_number<T: TrieValue, P: TrieValue>(value: T) -> Result<P, u32> {
     let number = value.to_u32();
     let Ok(same) = P::try_from_u32(number) else {
@@ -17,8 +18,10 @@ fn same_number<T: TrieValue, P: TrieValue>(value: T) -> Result<P, u32> {
     Ok(same)
 }
 
-/// The trie that has the same numbers as values of another type. `Closure` with a number of which
-/// there is no such value: that of the error value, of the null value or of a cell, the first one.
+/// Returns the trie that has the same numbers as values of another type.
+///
+/// Tries the error value, the null value and each cell, in this order. `Closure` has the first
+/// number for which there is no such value.
 pub(crate) fn with_values_of<P: TrieValue, T: TrieValue>(
     trie: &CodePointTrie<'_, T>,
 ) -> Result<CodePointTrie<'static, P>, MapError<u32>> {

@@ -1,10 +1,10 @@
-//! How many bits a value takes where a trie is stored.
+//! How many bits a value has in a file.
 
 #[allow(unused_imports)]
 use crate::host::{HostRuntime, Text};
 use core::fmt;
 
-/// How many bits a value takes where a trie is stored (UCPTrieValueWidth).
+/// How many bits a value has in a file (UCPTrieValueWidth).
 #[derive(Clone, Copy, Debug, PartialEq, Eq)]
 pub enum ValueWidth {
     Bits8,
@@ -13,7 +13,7 @@ pub enum ValueWidth {
 }
 
 impl ValueWidth {
-    /// How many bits these are: 8, 16 or 32.
+    /// Returns the number of bits: 8, 16 or 32.
     pub fn bits(self) -> u32 {
         match self {
             ValueWidth::Bits8 => 8,
@@ -22,7 +22,7 @@ impl ValueWidth {
         }
     }
 
-    /// How many bytes these are: 1, 2 or 4.
+    /// Returns the number of bytes: 1, 2 or 4.
     pub fn bytes(self) -> usize {
         match self {
             ValueWidth::Bits8 => 1,
@@ -31,7 +31,7 @@ impl ValueWidth {
         }
     }
 
-    /// The number that ICU has for the width (UCPTRIE_VALUE_BITS_16, _32 and _8): 2, 0 or 1.
+    /// Returns ICU's number of the width (UCPTRIE_VALUE_BITS_16, _32 and _8): 2, 0 or 1.
     pub fn code(self) -> u32 {
         match self {
             ValueWidth::Bits8 => 2,
@@ -40,7 +40,7 @@ impl ValueWidth {
         }
     }
 
-    /// Whether a value has no more bits.
+    /// Returns whether a value has at most this many bits.
     pub fn fits(self, value: u32) -> bool {
         match self {
             ValueWidth::Bits8 => value <= 0xff,

@@ -29,15 +29,15 @@ pub enum Form<'a> {
     Toml,
     /// JSON, as the Rust crate has it.
     Json,
-    /// Source in C, with this name in front of each of its own.
+    /// Source in C. Each of its names starts with this one.
     C(&'a str),
-    /// Source in Rust, a module of this name.
+    /// Source in Rust: a module of this name.
     Rust(&'a str),
     /// The rows of `ucptab`: a line for each range of equal values.
     Rows,
 }
 
-/// The bytes of the table's trie, over values of another type, in ICU's binary form.
+/// Returns the table in ICU's binary form with values of another type.
 fn binary_over<P: TrieValue>(table: &Table) -> Result<Vec<u8>, BuildFault> {
     let narrowed: CodePointTrie<'static, P> = match with_values_of(&table.trie) {
         Ok(narrowed) => narrowed,
@@ -47,7 +47,7 @@ fn binary_over<P: TrieValue>(table: &Table) -> Result<Vec<u8>, BuildFault> {
     Ok(to_binary(&narrowed)?)
 }
 
-/// The table in ICU's binary form, with values of its width.
+/// Returns the table in ICU's binary form with values of its width.
 fn binary(table: &Table) -> Result<Vec<u8>, BuildFault> {
     match table.width {
         ValueWidth::Bits8 => binary_over::<u8>(table),
@@ -56,18 +56,20 @@ fn binary(table: &Table) -> Result<Vec<u8>, BuildFault> {
     }
 }
 
-/// The table in JSON, in one line.
+/// Returns the table in JSON, in one line.
 fn json_text(table: &Table) -> Result<String, MemoryError> {
     let mut text = to_json(&table.trie)?.to_string();
     text.push('\n');
     Ok(text)
 }
 
-/// The table in a form, as the bytes of a file.
+/// Returns the table in a form, as the bytes of a file.
 ///
 /// # Errors
-/// `Binary` where ICU's binary form has no room for the trie, `Width` where a value has more bits
-/// than the table's width, `Table` where memory was refused.
+/// Returns [`BuildFault::Width`] in ICU's binary form for the first value that has more bits than
+/// the table's width: the error value, the null value, or a cell of the data, in this order.
+/// Returns [`BuildFault::Binary`] if ICU's binary form has no room for the trie. Returns
+/// [`BuildFault::Table`] if an allocation fails.
 pub fn written(table: &Table, form: Form<'_>) -> Result<Vec<u8>, BuildFault> {
     let text = match form {
         Form::Icu => return binary(table),
