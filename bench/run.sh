@@ -31,7 +31,7 @@ else
     libc=$(dirname -- "$(dirname -- "$(readlink -f -- "$(command -v rt)")")")/c/liblibc_c.a
     echo "bench: proves and builds; from a clean clone this takes some minutes" >&2
     ours=$("$root/tests/build" bench_ours) || stop "bench_ours is not proved and built"
-    "$root/c/build" || stop "the library for C is not built"
+    "$root/c/build" --proved || stop "the library for C is not built"
     rust=$work/libpeer.a
     rustc --edition 2024 -O -C target-cpu=x86-64-v2 -C panic=abort --crate-type staticlib \
         -o "$rust" "$here/peer/lib.rs"

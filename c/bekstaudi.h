@@ -13,10 +13,9 @@
  * A code point is any 32-bit number. Above 0x10FFFF a trie returns its error value, and no set
  * contains the number. A `count` is a number of items, a `size` a number of bytes, and `room` the
  * length of an output buffer in items. The bytes of tries, unit tries and texts may be at any
- * address; numbers of 16, 32 and 64 bits have to be aligned as in C. A pointer is never NULL, not
- * even if the count beside it is 0 (the data() of an empty std::vector may be NULL). An output
- * buffer may not overlap an input. All functions may be called from several threads at once, as
- * long as nobody changes what they read.
+ * address; numbers of 16, 32 and 64 bits have to be aligned as in C. If a count is 0, the pointer
+ * beside it may be NULL; no other pointer may be. An output buffer may not overlap an input. All
+ * functions may be called from several threads at once, as long as nobody changes what they read.
  *
  * Functions marked [inline] are in this header, at its end; they are tested, not proved. All others
  * are in the library, and are proved: README.md says what. Those marked [m] allocate with malloc
@@ -152,7 +151,7 @@ typedef struct bks_word {
  * 0. trie->size says how many bytes the trie takes; the bytes after it are not read.
  *
  * It writes every field of *trie and reads none, so *trie may be uninitialized. The compiled code
- * shows this; the proof takes *trie for a bks_trie, to which bks_open sees.
+ * shows this, and tests; the proof takes *trie for a bks_trie, which bks_open makes of it.
  *
  * ICU: ucptrie_openFromBinary. */
 uint32_t bks_trie_open(const void *bytes, size_t size, bks_trie *trie);

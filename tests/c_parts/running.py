@@ -7,13 +7,14 @@ import sys
 
 PARTS = os.path.dirname(os.path.realpath(__file__))
 TOP = os.path.dirname(os.path.dirname(PARTS))
-OUT = f"{TOP}/c/out"
 STRICT = ["-Wall", "-Wextra", "-pedantic", "-Werror", f"-I{TOP}/c"]
 SANITIZED = ["-g", "-O1", "-fsanitize=address,undefined", "-fno-sanitize-recover=all"]
 CC, CXX = os.environ.get("CC", "cc"), os.environ.get("CXX", "c++")
 # Which library is tested: that of the kit, or without it or with --cargo that of cargo.
 IS_CARGO = "--cargo" in sys.argv or not shutil.which("rt")
-BUILD = [f"{TOP}/c/build", "--cargo" if IS_CARGO else "--proved"]
+# The two libraries are tested side by side.
+OUT = f"{TOP}/c/out/by_cargo" if IS_CARGO else f"{TOP}/c/out"
+BUILD = [f"{TOP}/c/build", "--cargo" if IS_CARGO else "--proved", "--out", OUT]
 
 
 def functions():
