@@ -2,7 +2,7 @@
 
 The functions of crates/icu_collections_c become safe Rust functions. For each of them `exports.rs`
 has an `extern "C"` function with the name, the parameters and the structs of c/bekstaudi.h, which
-turns pointers and counts into slices. Where the header and the crate differ, rust/make stops.
+turns pointers and counts into slices. If the header and the crate differ, rust/make stops.
 """
 import glob
 import os
@@ -182,7 +182,7 @@ def compare(functions, structs, header):
 
 
 def module_list(edition):
-    """The declarations of the edition's modules, which are compiled from where they are."""
+    """The declarations of the edition's modules, which are compiled in place."""
     text = "// The modules of rust/bekstaudi. rust/make writes this list.\n"
     for path in sorted(glob.glob(f"{edition}/src/*")):
         name, suffix = os.path.splitext(os.path.basename(path))

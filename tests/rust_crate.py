@@ -1,5 +1,5 @@
-"""The edition in Rust as tests/rust has it: written anew, with our crates of tests in it, or
-without what stands on other crates."""
+"""The Rust edition as tests/rust needs it: written anew, with our crates of tests in it, or without
+what depends on other crates."""
 import filecmp
 import glob
 import importlib.machinery
@@ -106,8 +106,8 @@ def runs_all():
 
 
 def sweeps_all(made):
-    """Whether each public call that answers a want of memory is refused it by a test in
-    rust_parts/public that names it, as it is named in the edition."""
+    """Whether each public function that can report a failed allocation is named, as in the edition,
+    by a test in rust_parts/public, which lets its allocations fail."""
     named = "".join(read(it) for it in glob.glob(f"{PARTS}/public/refused_*.rs"))
     failed = []
     for call, memory in public_calls.public_calls().items():
@@ -115,19 +115,19 @@ def sweeps_all(made):
         tried = "try_" if name in [*made.TRIED, "build_from_writes"] else ""
         call = OTHER_NAMES.get(call, f"{owner}::{tried}{name}")
         if memory == "answers" and f'"{call}"' not in named and not re.search(NOT_SWEPT, call):
-            print(f"{call}: no test in rust_parts/public refuses it memory")
+            print(f"{call}: no test in rust_parts/public lets its allocations fail")
             failed.append(call)
     return not failed
 
 
 def cut(folder):
-    """Takes JSON and TOML out of a crate, where what they stand on is not at hand."""
+    """Takes JSON and TOML out of a crate, if the crates that they depend on are not installed."""
     path = f"{folder}/Cargo.toml"
     write(path, re.sub(r'"dep:\w+"|(?m:^(?:serde_json|toml) = \{.*\n)', "", read(path)))
 
 
 def add_tests(made, folder):
-    """Puts the crates of tests into a crate that was made, as modules of its own, and what lies in
+    """Puts the crates of tests into a crate that was made, as modules of its own, and the files of
     rust_parts beside them."""
     made.LEFT_OUT += [] if HAS_FORMATS else FORM_MODULES
     made.make(folder, TESTS, TEST_RULES if HAS_FORMATS else TEST_RULES + FORM_RULES)
@@ -148,7 +148,7 @@ def add_tests(made, folder):
 
 
 def add_caller(folder):
-    """A crate of a user's own: its program is the example in rust/README.md."""
+    """Writes a user's crate, whose program is the example in rust/README.md."""
     os.makedirs(f"{folder}/src")
     write(f"{folder}/Cargo.toml", '[package]\nname = "words"\nedition = "2024"\n')
     write(f"{folder}/src/main.rs", re.search(r"```rust\n(.*?)```", read(README), re.S)[1])

@@ -1,7 +1,7 @@
 """The examples in the docs of the edition in Rust, which rustdoc doesn't run, as tests that are run.
 
-An example is told by the fence `ignore` or `text`. It may end by `?`, and takes a trie, a set or a text that it
-doesn't make itself as given: the first row of GIVEN that its file has with that name.
+An example has the fence `ignore` or `text`. It may end with `?`. A trie, a set or a text that it uses
+and does not make is given: by the first row of GIVEN for its file with that name.
 """
 import glob
 import os
@@ -104,8 +104,7 @@ def given(path, code):
 
 
 def write(folder, has_formats):
-    """Writes the tests into a crate that was made, with those of JSON and TOML where these are at
-    hand."""
+    """Writes the tests into a crate that was made, with those of JSON and TOML if `has_formats`."""
     text = HEAD + (FORMATS if has_formats else "") + HELP
     for path, line, code in examples(folder):
         if not has_formats and re.search("json|toml", path):

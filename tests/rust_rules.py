@@ -9,11 +9,11 @@ FORM_MODULES = (
     " packed_tests/tests/unit_tries/written trie_tests/tests/formats/json"
     " trie_tests/tests/formats/toml_keys trie_tests/tests/formats/trie_toml"
 ).split()
-# A test of memory becomes one that runs it by one of tests/rust_parts/refusals.rs.
+# A test of memory becomes one that runs it by a function of `tests/rust_parts/refusals.rs`.
 RUN_BY = r"#[test]\nfn \1() {\n    %s(\1_once);\n}\n\nfn \1_once("
 # What tests of Rattle have besides the code: a runtime in hand, and assertions that name it.
 TEST_RULES = [
-    # serde_json has no answer to want of memory.
+    # serde_json cannot report a failed allocation.
     (r"#\[test\]\s*fn (?!to_json)(\w+_refused)\(", RUN_BY % "each_refused"),
     (r"#\[test\]\s*fn (\w+_quiet)\(", RUN_BY % "none_asked"),
     (
@@ -55,9 +55,9 @@ FORM_RULES = [
     ),
     (r"\b\w+JsonError, |, \w+JsonError\b|use serde_json::Value;\n", ""),
 ]
-# Calls that have other names in the edition than TRIED in rust/rules.py says.
+# Functions that have other names in the edition than TRIED in rust/rules.py says.
 OTHER_NAMES = {"CodePointInversionList::try_from": "CodePointInversionList::try_from_range"}
-# Calls whose requests are not refused one by one: one that is inside, and those that write JSON.
+# Functions whose allocations do not fail in turn: an internal one, and those that write JSON.
 NOT_SWEPT = r"::from_valid_slice$|::to_json$"
 # Forms that rust/make does not know.
 UNKNOWN = [

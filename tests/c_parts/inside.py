@@ -7,7 +7,7 @@ import subprocess
 from running import CC, OUT, PARTS, STRICT, TOP, functions, passes
 
 CHECKS = "-C overflow-checks -C debug-assertions"
-# How many turns a comparison takes: 20,000 are some 8 million answers, and 10 seconds.
+# How many turns a comparison takes: 20,000 are some 8 million results, and 10 seconds.
 TURNS = os.environ.get("ALIKE_TURNS", "20000")
 TARGET = "x86_64-unknown-linux-gnu"
 

@@ -20,7 +20,7 @@ static void zeros(void) {
     CHECK(bks_trie32_get_utf8(&trie, "A", 1, &value, 1) == 1 && value == 0);
 }
 
-/* No items at NULL, where there may be some. */
+/* NULL with a count of 0, for parameters that may have items. */
 static void empty_sets(void) {
     uint32_t ends[4];
     uint64_t word;

@@ -7,7 +7,7 @@ pub(crate) mod codepointtrie {
     pub(crate) use crate::icu_trie_core::lookup::{look_up, look_up_whole};
     pub(crate) use crate::icu_trie_core::walk::walk;
 
-    /// The header's numbers by the keys that JSON gives them, where there is no JSON.
+    /// Without the feature `json`: the numbers of the header, by their keys in JSON.
     #[cfg(not(feature = "json"))]
     pub(crate) mod json {
         use crate::codepointtrie::{CodePointTrie, TrieValue};

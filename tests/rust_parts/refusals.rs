@@ -1,5 +1,6 @@
-//! The tests of memory: those whose names end in `_refused` have each request between `call` and
-//! `done` refused in turn, and say so; in those that end in `_quiet` there is none.
+//! Tests of memory. In a test whose name ends in `_refused`, each allocation between `call` and
+//! `done` fails in turn, and the test has to report it. In one that ends in `_quiet` there is no
+//! allocation.
 
 use crate::runtime::{Fail, HostRuntime};
 use std::cell::Cell;
@@ -8,7 +9,7 @@ std::thread_local! {
     static IS_SAID: Cell<bool> = const { Cell::new(false) };
     /// How many requests were made before the last `call`.
     static BEFORE: Cell<usize> = const { Cell::new(0) };
-    /// Whether nothing was asked for between a `call` and the next `done`.
+    /// Whether there was no request between some `call` and the next `done`.
     static IS_IDLE: Cell<bool> = const { Cell::new(false) };
 }
 
@@ -27,7 +28,7 @@ impl Ending for Result<(), Fail> {
     }
 }
 
-/// Hears what a test says of its calls.
+/// Reads a line that a test prints: `call`, `done` or `refused`.
 pub(crate) fn hear(line: &str) {
     match line {
         "call" => {
@@ -43,7 +44,7 @@ pub(crate) fn hear(line: &str) {
     }
 }
 
-/// Runs the test with its request at this place refused. Answers how many it made.
+/// Runs the test with request number `refused` failing, and returns how many requests it made.
 fn asked_in<E: Ending>(test: fn(HostRuntime) -> E, refused: usize) -> usize {
     IS_SAID.set(false);
     IS_IDLE.set(false);

@@ -1,4 +1,4 @@
-//! What tests of Rattle see of their runtime, for the crates of tests that run as this crate's own.
+//! The parts of Rattle's runtime that tests use, for our crates of tests as modules of this crate.
 
 pub(crate) use crate::refusals::{each_refused, hear, none_asked};
 pub(crate) use crate::support::AllocError;
@@ -13,7 +13,7 @@ pub(crate) type Fail = std::boxed::Box<dyn std::error::Error>;
 /// The runtime of a test.
 pub(crate) struct HostRuntime;
 
-/// Who may end the test.
+/// What may end the test.
 pub(crate) trait Abort {
     fn panic(&self, what: impl fmt::Display) -> ! {
         panic!("{what}")
@@ -22,7 +22,7 @@ pub(crate) trait Abort {
 
 impl Abort for HostRuntime {}
 
-/// Who may print.
+/// What may print.
 pub(crate) trait Print {
     fn println(&self, line: &str) -> Result<(), fmt::Error> {
         hear(line);
@@ -32,7 +32,7 @@ pub(crate) trait Print {
 
 impl Print for HostRuntime {}
 
-/// A text that grows, where there is memory for it.
+/// A text that grows, or an error if an allocation fails.
 pub(crate) trait Text {
     fn write_fmt(&mut self, arguments: fmt::Arguments<'_>) -> Result<(), AllocError>;
 }
@@ -43,7 +43,7 @@ impl Text for String {
     }
 }
 
-/// A text as Rust's formatter writes to it.
+/// A text that Rust's formatter can write to.
 struct Growing<'a>(&'a mut String);
 
 impl fmt::Write for Growing<'_> {
@@ -54,7 +54,7 @@ impl fmt::Write for Growing<'_> {
     }
 }
 
-/// The text of these parts, where there is memory for it.
+/// The text of these parts, or an error if an allocation fails.
 pub(crate) fn text_of(parts: fmt::Arguments<'_>) -> Result<String, AllocError> {
     let mut text = String::new();
     Text::write_fmt(&mut text, parts)?;
@@ -78,7 +78,7 @@ impl<T: fmt::Display> TryToString for T {
     }
 }
 
-/// What an iterator gives, as a vector.
+/// The items of an iterator as a vector.
 pub(crate) trait Listed: Iterator + Sized {
     fn listed(self) -> Result<alloc::vec::Vec<Self::Item>, AllocError> {
         Ok(self.collect())

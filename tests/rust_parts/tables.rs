@@ -1,4 +1,4 @@
-//! The program `ucptab`, erased: what it prints of whole tables, and of the streams that
+//! The program `ucptab`, translated: what it prints of whole tables, and of the streams that
 //! `tests/program` gives the proved one. `tests/command_lines` has all other rows.
 
 use crate::runtime::*;
@@ -8,7 +8,7 @@ use crate::ucptab_table::streams::{Failed, Sink, Source};
 use std::format;
 use std::path::{Path, PathBuf};
 
-/// A table of which a read gives up to `most` bytes, and fails where that is 0.
+/// A table of which a read returns up to `most` bytes, and fails if `most` is 0.
 struct Input<'a> {
     rest: &'a [u8],
     most: usize,
@@ -27,7 +27,7 @@ impl Source for Input<'_> {
     }
 }
 
-/// What was written, where there is room.
+/// What was written. A write fails if it is full.
 struct Output {
     bytes: Vec<u8>,
     is_full: bool,
@@ -51,14 +51,14 @@ fn ran(words: &str, input: Input<'_>, is_full: bool) -> (u8, Vec<u8>) {
     (status, output.bytes)
 }
 
-/// The program prints this of a table, and its status is 0.
+/// Expects that the program prints this of a table, with status 0.
 fn expect_printed(words: &str, table: &[u8], most: usize, want: &[u8]) {
     let (status, bytes) = ran(words, Input { rest: table, most }, false);
     assert_eq!(status, 0, "{words}");
     assert!(bytes == want, "{words}: other lines");
 }
 
-/// Both types of trie print these ranges.
+/// Expects that both types of trie print these ranges.
 fn compare(table: &Path, ranges: &Path) {
     let (table, ranges) = (std::fs::read(table), std::fs::read(ranges));
     let (table, ranges) = (table.expect("no table"), ranges.expect("no ranges"));
@@ -67,7 +67,7 @@ fn compare(table: &Path, ranges: &Path) {
     }
 }
 
-/// Compares each table of a folder with the ranges beside it. Answers how many there are.
+/// Compares each table of a folder with the ranges beside it, and returns how many there are.
 fn compare_all(folder: &Path) -> usize {
     let mut compared = 0;
     for entry in std::fs::read_dir(folder).expect("no tables") {
@@ -113,7 +113,8 @@ fn streams() {
     assert_eq!(ran("fast 0", empty, false), (2, usage.to_vec()));
 }
 
-/// Rows with a value of their own at every sixteenth code point, and each hundredth of them asked.
+/// Rows with a value of their own at every sixteenth code point. Every hundredth of them is looked
+/// up.
 #[test]
 fn ten_thousand_blocks() {
     let row = |i: u32| format!("{:X};{}\n", 0x1_0000 + 16 * i, i + 1);

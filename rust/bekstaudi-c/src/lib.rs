@@ -1,7 +1,7 @@
 //! The library that c/bekstaudi.h declares, built by cargo alone.
 //!
 //! `icu_collections_c` has the functions of the proved crate of that name, without their proofs.
-//! They use the modules of rust/bekstaudi, which are compiled from where they are. Unsafe code is
+//! They use the modules of rust/bekstaudi, which are compiled in place. Unsafe code is
 //! in this file and in `exports`, and only touches memory that the C caller or `malloc` provides.
 #![no_std]
 #![deny(unsafe_op_in_unsafe_fn)]

@@ -2,7 +2,7 @@
 //!
 //! [`CodePointTrieBuilder`] builds a trie, [`CodePointTrie::get32`] looks a code point up, and
 //! [`CodePointTrieBuilder::from_trie`] changes a trie and builds it again. [`binary::from_binary`]
-//! reads a trie that ICU wrote where it is. [`CodePointTrie::try_new`] makes a trie of its parts,
+//! reads in place a trie that ICU wrote. [`CodePointTrie::try_new`] makes a trie of its parts,
 //! as other files have them, and borrows them. [`text::values_of`] returns the values in a text.
 //!
 //! ```

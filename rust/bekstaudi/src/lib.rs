@@ -1,5 +1,5 @@
-//! Collections for Unicode data, generated from proved sources: the names and calls of the crate
-//! `icu_collections`.
+//! Collections for Unicode data, generated from proved sources, with the names and functions of the
+//! crate `icu_collections`.
 //!
 //! | To store | Use |
 //! |---|---|

@@ -1,4 +1,4 @@
-//! The command line and TOML, where the crates `clap` and `toml` have another form than Rattle's.
+//! The command line and TOML, for which `clap` and `toml` have another form than Rattle's crates.
 
 /// What the value of an argument has to be.
 #[derive(Clone, Copy)]

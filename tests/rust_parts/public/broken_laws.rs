@@ -1,5 +1,5 @@
-//! Types that break their laws get wrong answers or panics: no place is read that is not there, as
-//! `proved-reads` asserts without optimization, and other reads test.
+//! Types that break the laws of their traits get wrong results or panics. Nothing is read out of
+//! bounds: `proved-reads` asserts this without optimization, and all other reads are checked.
 
 #[allow(dead_code)]
 mod liar;
@@ -19,7 +19,7 @@ use std::hash::Hash;
 
 const TYPES: [TrieType; 2] = [TrieType::Fast, TrieType::Small];
 
-/// Makes of a trie all that is made of one, and asks that.
+/// Makes everything that can be made of a trie, and calls the functions of each result.
 fn make_of(trie: &CodePointTrie<'_, Liar>) {
     ask(trie);
     tried(|| ask(&trie.try_alloc_map_value(|it| Ok::<_, ()>(it)).expect("not mapped")));
@@ -42,7 +42,7 @@ fn make_of(trie: &CodePointTrie<'_, Liar>) {
     });
 }
 
-/// A trie of truthful numbers.
+/// A trie of plain numbers, which break no law.
 fn truthful(trie_type: TrieType) -> CodePointTrie<'static, u8> {
     let mut builder = CodePointTrieBuilder::new(0u8, 255, trie_type);
     for i in 0..90u32 {
@@ -81,7 +81,7 @@ fn liars() {
     }
 }
 
-/// Reads ICU's binary form as a trie of liars, and writes it, perhaps as another one.
+/// Reads ICU's binary form as a trie of `Liar` and writes it again, perhaps with other contents.
 fn binary_forms(trie_type: TrieType) {
     let mut bytes = to_binary(&truthful(trie_type)).expect("not written");
     tried(|| {
@@ -92,7 +92,8 @@ fn binary_forms(trie_type: TrieType) {
         write_binary(&trie, &mut written).expect("not written");
         from_binary::<u8>(&written).map(|(read, _)| read.get32(0x333))
     });
-    // The other order: a number of 32 bits, others of 16, and values of a byte.
+    // The other byte order: first a number of 32 bits, then numbers of 16 bits. The values are
+    // bytes.
     let len = 16 + 2 * usize::from(u16::from_le_bytes([bytes[6], bytes[7]]));
     bytes[..4].reverse();
     bytes[4..len].chunks_mut(2).for_each(|it| it.reverse());
@@ -129,7 +130,8 @@ fn vectors<const WIDTH: usize>() {
     }
 }
 
-/// No type has such a width but one to four, and that of its bytes.
+/// Types say that they have this width. A real type has a width from one to four: that of its
+/// bytes.
 fn width<const WIDTH: usize>() {
     for turn in [97, u32::MAX] {
         lie_each(turn);
@@ -154,7 +156,7 @@ fn other_widths() {
     width::<{ usize::MAX }>();
 }
 
-/// A trie whose values stop to be values has no shorter data: it is not made.
+/// If the values stop being values halfway, no trie with shorter data is made: it panics.
 #[test]
 #[should_panic(expected = "left == right")]
 fn shorter_data() {

@@ -1,4 +1,5 @@
-//! Values that break their laws, read from JSON and TOML: wrong answers or panics, and no more.
+//! Values that break the laws of their traits, read from JSON and TOML: they get wrong results or
+//! panics, and nothing worse.
 #![cfg(all(feature = "json", feature = "toml"))]
 
 #[allow(dead_code)]

@@ -1,5 +1,5 @@
-//! Damaged JSON and TOML: values changed at random are refused, or what is read of them answers
-//! without a panic, and is written and read again as it is.
+//! Damaged JSON and TOML. Values changed at random are rejected, or are read. What is read works
+//! without a panic, and is the same after it is written and read again.
 #![cfg(all(feature = "json", feature = "toml"))]
 
 mod random;
@@ -14,7 +14,7 @@ use serde_json::{Value, json};
 
 const ROUNDS: usize = 10_000;
 
-/// What stands in place of a value.
+/// What replaces a value.
 fn other(random: &mut Random) -> Value {
     let number = [0, 1, 255, 256, 0xFFFF, 0x1_0000, u64::from(u32::MAX), u64::MAX];
     let text = ["", "A", "A-Z", "Z-A", "U+1F600", "U+", "A-", "U+D800-U+DFFF", "abc", "Fast"];
@@ -27,7 +27,7 @@ fn other(random: &mut Random) -> Value {
     }
 }
 
-/// Changes a value at a place anywhere in it, takes one out of a list, or doubles it.
+/// Changes a value anywhere inside this one, or removes or doubles an item of a list.
 fn damage(random: &mut Random, value: &mut Value) {
     match value {
         Value::Array(list) if !list.is_empty() && random.below(12) > 0 => {
@@ -50,7 +50,7 @@ fn damage(random: &mut Random, value: &mut Value) {
     }
 }
 
-/// So many times a damaged value, which `is_read` reads where it can.
+/// Calls `is_read` with `ROUNDS` damaged values. It returns whether it could read one.
 fn tried(seed: u64, whole: &Value, is_read: impl Fn(&Value, &mut Random) -> bool) {
     let mut random = Random(seed);
     let mut taken = 0;
@@ -86,7 +86,7 @@ fn unit_tries() {
     });
 }
 
-/// What a trie answers at some numbers.
+/// Looks up random numbers in a trie.
 fn ask(trie: &CodePointTrie<'_, u8>, random: &mut Random) {
     for _ in 0..4 {
         let c = random.below(0x11_1000) as u32;
@@ -95,7 +95,7 @@ fn ask(trie: &CodePointTrie<'_, u8>, random: &mut Random) {
     }
 }
 
-/// The trie of the planes as JSON, whose object is damaged at each part alike.
+/// The trie of the planes as JSON. Each part of the object is damaged equally often.
 #[test]
 fn tries() {
     let whole = json::to_json(&planes::get_planes_trie()).expect("no memory");
@@ -107,7 +107,7 @@ fn tries() {
     });
 }
 
-/// The table of TOML that has these values, but for those that TOML has not.
+/// The TOML table with these values. `None` if TOML cannot express one of them.
 fn table_of(value: &Value) -> Option<toml::value::Table> {
     toml::from_str(&toml::to_string(value).ok()?).ok()
 }

@@ -1,5 +1,6 @@
-//! Damaged sets and vectors: ends, serialized forms, lists of texts and packed bytes changed at
-//! random are refused, or answer without a panic, and the same by each way to ask.
+//! Damaged sets and vectors: lists of boundaries, serialized forms, lists of texts and packed
+//! bytes, changed at random. They are rejected, or work without a panic, and all functions agree on
+//! them.
 
 mod random;
 
@@ -16,13 +17,13 @@ use random::{Random, damaged_units};
 
 const ROUNDS: usize = 34_000;
 
-/// Forty ranges, of which some lie above U+FFFF.
+/// Forty ranges, some of them above U+FFFF.
 fn whole() -> CodePointInversionList<'static> {
     let start = |it: u32| if it < 30 { it * 99 } else { it * 0x5555 };
     (0..40u32).map(|it| start(it)..=start(it) + 30).collect()
 }
 
-/// What a set answers, by each way to ask it.
+/// Expects that all functions agree on what a set contains.
 fn ask(set: &CodePointInversionList<'_>, random: &mut Random) {
     let ends = set.get_inversion_list_vec();
     let frozen = FrozenCodePointSet::freeze(set);
@@ -95,7 +96,7 @@ fn serialized_sets() {
     assert!(taken > 1_000, "{taken}");
 }
 
-/// Texts ascend, and none is of one character.
+/// Texts ascend, and none has exactly one character.
 #[test]
 fn lists_of_texts() {
     let mut random = Random(6);
@@ -118,7 +119,7 @@ fn lists_of_texts() {
     }
 }
 
-/// The first three bytes of a cell that are no character's, where there is one.
+/// The error for the first cell whose three bytes are no character, if there is one.
 fn first_fault(bytes: &[u8]) -> Option<UleError> {
     if bytes.len() % 3 > 0 {
         return Some(UleError::Length);

@@ -1,5 +1,5 @@
-//! Damaged tries: headers, indices, data and binary forms changed at random are refused, or answer
-//! without a panic, and the same by each way to ask.
+//! Damaged tries: headers, indices, data and binary forms, changed at random. They are rejected, or
+//! work without a panic, and all functions agree on them.
 
 mod random;
 
@@ -28,7 +28,7 @@ fn trie<T: TrieValue + From<u8>>(trie_type: TrieType) -> CodePointTrie<'static, 
     builder.build()
 }
 
-/// What a trie answers, by each way to ask it.
+/// Expects that all look-ups in a trie agree.
 fn ask<T: TrieValue + Debug>(trie: &CodePointTrie<'_, T>, random: &mut Random) {
     let is_coherent = trie.is_coherent();
     for _ in 0..8 {
@@ -61,7 +61,8 @@ fn ask<T: TrieValue + Debug>(trie: &CodePointTrie<'_, T>, random: &mut Random) {
     assert!(trie.iter_ranges().take(300).count() > 0 || trie.get_range(0).is_none());
 }
 
-/// What is made of a trie, which takes longer: its set of a value, a builder, and its binary form.
+/// Tests what can be made of a trie, which takes longer: the set of a value, a builder, and the
+/// binary form.
 fn ask_at_length(trie: &CodePointTrie<'_, u8>, random: &mut Random) {
     let value = trie.get32(random.below(0x11_0000) as u32);
     let set = trie.get_set_for_value(value);
@@ -86,7 +87,7 @@ fn ask_at_length(trie: &CodePointTrie<'_, u8>, random: &mut Random) {
     }
 }
 
-/// A trie is written where its form has room for it, and is then read again.
+/// Expects that a trie that its binary form has room for is written, and read again.
 fn expect_written(trie: &CodePointTrie<'_, u8>) {
     let Ok(bytes) = to_binary(trie) else {
         assert_eq!(to_binary(trie).err(), binary_len(trie).err());
@@ -140,7 +141,7 @@ fn parts() {
     assert!(taken > 1_000, "{taken}");
 }
 
-/// Bytes of no trie at all, behind the front of a header.
+/// Bytes that are no trie, after the start of a header.
 #[test]
 fn made_up_binary_forms() {
     let mut random = Random(2);
@@ -157,7 +158,7 @@ fn made_up_binary_forms() {
     }
 }
 
-/// Of a trie of 16 bits all numbers but the first one are of 16 bits.
+/// The bytes in the other byte order. In a trie of 16 bits, all numbers but the first have 16 bits.
 fn swapped(bytes: &[u8]) -> Vec<u8> {
     let (front, rest) = bytes.split_at(bytes.len().min(4));
     front.iter().rev().chain(rest.chunks(2).flat_map(|it| it.iter().rev())).copied().collect()
@@ -170,7 +171,7 @@ fn binary_forms() {
     let whole = [written(TrieType::Fast), written(TrieType::Small)];
     let mut taken = 0;
     for round in 0..ROUNDS / 2 {
-        // A bit of the header, a byte of its fields, or bytes anywhere.
+        // Changes a bit of the header, a byte of its fields, or bytes anywhere.
         let mut bytes = whole[round % 2].clone();
         match round % 3 {
             0 => bytes[random.below(16)] ^= 1 << random.below(8),

@@ -1,5 +1,5 @@
-//! Damaged unit tries: units changed at random, and places that no cursor had, answer without a
-//! panic, and the same by each way to ask.
+//! Damaged unit tries: units changed at random, and positions that no cursor had. Functions return
+//! without a panic, and agree with each other.
 
 mod random;
 

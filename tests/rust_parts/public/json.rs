@@ -1,4 +1,4 @@
-//! JSON: what is written is as the docs say, and is read again.
+//! JSON: values are written as the docs say, and can be read again.
 #![cfg(feature = "json")]
 
 use bekstaudi::char16trie::{Char16JsonError, Char16Trie};

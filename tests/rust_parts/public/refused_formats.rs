@@ -1,5 +1,5 @@
-//! Each request for memory of the calls that read JSON and TOML refused in turn. Those that write
-//! JSON are no part of it: serde_json ends the program where its own objects find no memory.
+//! Functions that read JSON and TOML, with each of their allocations failing in turn. Functions
+//! that write JSON are left out: serde_json ends the program if one of its own allocations fails.
 #![cfg(all(feature = "json", feature = "toml"))]
 
 use bekstaudi::char16trie::Char16Trie;

@@ -1,5 +1,5 @@
-//! Each request for memory of the calls of sets refused in turn: the call answers it, nothing
-//! panics, and what was lent is as it was.
+//! Functions of sets, with each of their allocations failing in turn: the function reports it,
+//! nothing panics, and what it borrows is unchanged.
 
 use bekstaudi::codepointinvlist::serialized::{SerializedSetError, from_serialized, to_serialized};
 use bekstaudi::codepointinvlist::{
@@ -10,7 +10,7 @@ use bekstaudi::codepointinvliststringlist::CodePointInversionListAndStringList;
 use bekstaudi::zerovec::{MemoryError, PotentialCodePoint, ZeroVec};
 use refusing::{refused_in_turn, unchanged_where_refused};
 
-/// Letters, of which the first ones are a range.
+/// Letters. The first ones form a range.
 fn letters() -> CodePointInversionList<'static> {
     ('b'..='m').chain(['p', 'r', 'x', 'é', '\u{1F600}']).collect()
 }
@@ -20,14 +20,14 @@ fn other() -> CodePointInversionList<'static> {
     ('a'..='z').step_by(3).chain('\u{3040}'..='\u{30FF}').collect()
 }
 
-/// A builder of the letters that has no room left, since a clone has none.
+/// A builder of the letters without spare capacity, since a clone has none.
 fn full() -> CodePointInversionListBuilder {
     let mut builder = CodePointInversionListBuilder::new();
     builder.add_set(&letters());
     builder.clone()
 }
 
-/// A call that changes a builder, with its name.
+/// A method that changes a builder, with its name.
 type Change = (
     &'static str,
     fn(&mut CodePointInversionListBuilder, &CodePointInversionList) -> Result<(), MemoryError>,
@@ -73,7 +73,7 @@ fn sets() {
     let (set, builder) = (letters(), full());
     let ends = set.get_inversion_list_vec();
     refused_in_turn("CodePointInversionListBuilder::try_clone", || builder.try_clone().ok());
-    // What is built takes the builder's place, which is made anew beforehand.
+    // Building consumes the builder, so each turn first makes a new one.
     refused_in_turn("CodePointInversionListBuilder::try_build", || {
         builder.try_clone().ok()?.try_build().ok()
     });
@@ -93,7 +93,7 @@ fn sets() {
     assert_eq!(set, letters());
 }
 
-/// A set over bytes that are lent has to copy them.
+/// A set over borrowed bytes has to copy them.
 #[test]
 fn lent_sets() {
     let set = letters();
@@ -102,7 +102,7 @@ fn lent_sets() {
     refused_in_turn("CodePointInversionList::try_into_owned", || {
         CodePointInversionList::try_from_inversion_list(lent()?).ok()?.try_into_owned().ok()
     });
-    // A list that is no set's is given back, copied.
+    // A list that is not a set's is returned as a copy.
     let odd = ZeroVec::<PotentialCodePoint>::parse_bytes(&bytes[3..]).expect("no ends");
     refused_in_turn("CodePointInversionList::try_from_inversion_list", || {
         match CodePointInversionList::try_from_inversion_list(odd.as_slice().as_zerovec()) {

@@ -1,5 +1,5 @@
-//! Each request for memory of the calls of tries refused in turn: the call answers it, nothing
-//! panics, and what was lent is as it was.
+//! Functions of tries, with each of their allocations failing in turn: the function reports it,
+//! nothing panics, and what it borrows is unchanged.
 
 use bekstaudi::codepointtrie::binary::{SwappedError, WriteError, from_binary_swapped, to_binary};
 use bekstaudi::codepointtrie::{
@@ -8,7 +8,7 @@ use bekstaudi::codepointtrie::{
 };
 use refusing::{asks_for_nothing, refused_at, refused_in_turn, unchanged_where_refused};
 
-/// Ranges and single values, in the plane of Emoji too.
+/// Writes of ranges and of single values, some of them in the plane of Emoji.
 fn writes() -> Vec<Write<u16>> {
     let ranges = (0..60u16).map(|i| {
         let start = u32::from(i) * 0x333;
@@ -23,7 +23,7 @@ fn builder(trie_type: TrieType) -> CodePointTrieBuilder<u16> {
     builder
 }
 
-/// Whether the builder's map is that of the trie.
+/// Whether the builder has the same map as the trie.
 fn is_map_of(builder: &CodePointTrieBuilder<u16>, trie: &CodePointTrie<'_, u16>) -> bool {
     let mut next = 0;
     while let Some(range) = builder.get_range(next) {
@@ -35,7 +35,7 @@ fn is_map_of(builder: &CodePointTrieBuilder<u16>, trie: &CodePointTrie<'_, u16>)
     next == 0x11_0000
 }
 
-/// The answer of a builder but for want of memory.
+/// The result of a builder, or `None` if an allocation failed.
 fn built<T>(answer: Result<T, BuildError>) -> Option<T> {
     match answer {
         Ok(trie) => Some(trie),
@@ -75,7 +75,7 @@ fn builders() {
     }
 }
 
-/// What is built takes the builder's place, which is made anew beforehand.
+/// Building consumes the builder, so each turn first makes a new one.
 #[test]
 fn builds() {
     for trie_type in [TrieType::Fast, TrieType::Small] {
@@ -92,7 +92,7 @@ fn builds() {
     }
 }
 
-/// The writes before the one that was refused are made, and no other.
+/// The writes before the one whose allocation failed are made, and no others.
 #[test]
 fn writes_up_to_a_refusal() {
     let writes = writes();
@@ -160,13 +160,13 @@ fn binary_forms() {
     }
 }
 
-/// The form on a machine that has the highest byte first: a number of 32 bits, and others of 16.
+/// The form on a big-endian machine: first a number of 32 bits, then numbers of 16 bits.
 fn swapped(bytes: &[u8]) -> Vec<u8> {
     let front = bytes[..4].iter().rev();
     front.chain(bytes[4..].chunks(2).flat_map(|it| it.iter().rev())).copied().collect()
 }
 
-/// The other calls of the binary form that answer the same errors, and take no memory.
+/// The functions of the binary form that return the same errors and allocate nothing.
 fn expect_quiet(trie: &CodePointTrie<'_, u16>, bytes: &[u8]) {
     let mut written = vec![0; bytes.len()];
     let len = asks_for_nothing("binary::binary_len", || binary::binary_len(trie));

@@ -1,11 +1,11 @@
-//! Each request for memory of the calls of unit tries and packed vectors refused in turn: the call
-//! answers it, nothing panics, and what was lent is as it was.
+//! Functions of unit tries and packed vectors, with each of their allocations failing in turn: the
+//! function reports it, nothing panics, and what it borrows is unchanged.
 
 use bekstaudi::char16trie::{AddError, Char16Trie, Char16TrieBuilder};
 use bekstaudi::zerovec::ZeroVec;
 use refusing::{refused_at, refused_in_turn, unchanged_where_refused};
 
-/// Keys of different lengths, with the front of a surrogate pair in some.
+/// Keys of different lengths. Some end with the first half of a surrogate pair.
 fn keys() -> Vec<Vec<u16>> {
     (0..400u16)
         .map(|i| {
@@ -23,7 +23,7 @@ fn builder(keys: &[Vec<u16>]) -> Char16TrieBuilder {
     builder
 }
 
-/// What is built takes the builder's place, which is made anew beforehand.
+/// Building consumes the builder, so each turn first makes a new one.
 fn trie(keys: &[Vec<u16>], place: usize) -> (Option<Char16Trie<'static>>, bool) {
     let builder = builder(keys);
     refused_at(place, || builder.try_build().ok())
@@ -47,7 +47,7 @@ fn builders() {
             false
         }
     };
-    // So many that the list of keys is full.
+    // With this many keys the list of keys is full.
     let some = || builder(&keys[..64]);
     let is_some = |it: &Char16TrieBuilder| it.len() == 64;
     let add = |it: &mut Char16TrieBuilder| added(it.add(&[0xE000, 0xE000], 1));

@@ -1,7 +1,9 @@
-//! The values along a text by a trie of ICU's own: of the trie in the file `trie.toml` of the folder
-//! that the variable ALONG names, as ICU's icuexportdata writes it, the values along the bytes of the
-//! file `text`, which may be ill-formed UTF-8, are written into `values`, four bytes a part, the
-//! lowest first; and the trie in ICU's binary form into `trie.bin`. `tests/rust` has ICU compare them.
+//! The values along a text by a trie of ICU's.
+//!
+//! The variable ALONG names a folder. Its file `trie.toml` is a trie as ICU's icuexportdata writes
+//! it, and its file `text` may be ill-formed UTF-8. The test writes the values along the bytes of
+//! `text` into `values`, four bytes each in little-endian order, and the trie in ICU's binary form
+//! into `trie.bin`. `tests/rust` has ICU compare them.
 
 use super::tries::trie_table;
 use crate::icu_trie::cptrie::CodePointTrie;

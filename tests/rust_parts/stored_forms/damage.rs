@@ -7,13 +7,13 @@ use crate::support::AllocError;
 #[allow(unused_imports)]
 use crate::support::prelude::*;
 
-/// A number below `count`, 0 where there is none.
+/// A random number below `count`, or 0 if `count` is 0.
 pub fn below(dice: &mut Pcg32, count: usize) -> usize {
     let drawn = dice.next_u32() as usize;
     if count == 0 { 0 } else { drawn % count }
 }
 
-/// One bit of the byte at a place is flipped.
+/// Flips one bit of the byte at an index.
 fn flip(bytes: &mut Vec<u8>, place: usize, dice: &mut Pcg32) {
     let bit = 1u8.wrapping_shl(dice.next_u32());
     if let Some(byte) = bytes.get_mut(place) {
@@ -21,7 +21,7 @@ fn flip(bytes: &mut Vec<u8>, place: usize, dice: &mut Pcg32) {
     }
 }
 
-/// The byte at a place becomes the least one, the greatest or one beside the middle.
+/// Replaces the byte at an index by the least, the greatest, or one beside the least or the middle.
 fn put_extreme(bytes: &mut Vec<u8>, place: usize, dice: &mut Pcg32) {
     let extremes = [0, 1, 0x7F, 0x80, 0xFF];
     let extreme = extremes.get(below(dice, 5)).copied();
@@ -30,7 +30,7 @@ fn put_extreme(bytes: &mut Vec<u8>, place: usize, dice: &mut Pcg32) {
     }
 }
 
-/// The first decimal digit from a place on becomes another one.
+/// Replaces the first decimal digit at or after an index.
 fn change_digit(bytes: &mut Vec<u8>, place: usize, dice: &mut Pcg32) {
     let digits = b"0123456789";
     let digit = digits.get(below(dice, 10)).copied();
@@ -42,7 +42,7 @@ fn change_digit(bytes: &mut Vec<u8>, place: usize, dice: &mut Pcg32) {
     }
 }
 
-/// The bytes at two places are exchanged.
+/// Exchanges the bytes at two indices.
 fn exchange(bytes: &mut Vec<u8>, place: usize, other: usize) {
     let (Some(a), Some(b)) = (bytes.get(place).copied(), bytes.get(other).copied()) else {
         return;
@@ -55,8 +55,7 @@ fn exchange(bytes: &mut Vec<u8>, place: usize, other: usize) {
     }
 }
 
-/// The bytes from a place on, as far as the next comma or `width` of them where there is none, are
-/// doubled.
+/// Doubles the bytes from an index up to the next comma, at most `width` of them.
 fn double(bytes: &mut Vec<u8>, place: usize, width: usize) -> Result<(), AllocError> {
     let mut item = Vec::new();
     for byte in bytes.iter().skip(place).take(width) {
@@ -73,12 +72,12 @@ fn double(bytes: &mut Vec<u8>, place: usize, width: usize) -> Result<(), AllocEr
     Ok(())
 }
 
-/// What bytes are damaged as.
+/// How bytes are damaged.
 #[derive(Clone, Copy, PartialEq, Eq)]
 pub enum Form {
-    /// A text, mostly in its digits.
+    /// As a text, mostly in its digits.
     Text,
-    /// Packed cells, in any byte.
+    /// As packed cells, in any byte.
     Packed,
 }
 
@@ -97,7 +96,7 @@ fn damage_once(bytes: &mut Vec<u8>, form: Form, dice: &mut Pcg32) -> Result<(), 
     Ok(())
 }
 
-/// A copy of the bytes, damaged once to three times.
+/// A copy of the bytes, damaged one to three times.
 pub fn damaged(bytes: &[u8], form: Form, dice: &mut Pcg32) -> Result<Vec<u8>, AllocError> {
     let mut copy = Vec::from_slice(bytes)?;
     for _ in 0..=below(dice, 3) {
@@ -106,7 +105,7 @@ pub fn damaged(bytes: &[u8], form: Form, dice: &mut Pcg32) -> Result<Vec<u8>, Al
     Ok(copy)
 }
 
-/// A number at an end of something, or beside one.
+/// A number at a limit of the format, or beside one.
 fn extreme_number(dice: &mut Pcg32) -> u32 {
     let extremes = [
         0,
@@ -152,7 +151,7 @@ pub fn damaged_header(header: CodePointTrieHeader, dice: &mut Pcg32) -> CodePoin
     damaged
 }
 
-/// The type that this isn't.
+/// The other type.
 fn other_type(trie_type: TrieType) -> TrieType {
     match trie_type {
         TrieType::Fast => TrieType::Small,

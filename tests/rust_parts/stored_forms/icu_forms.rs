@@ -1,5 +1,5 @@
-//! Tries and sets in ICU's binary forms: what a damaged one is refused with, and whether one that
-//! is taken answers as it has to.
+//! Tries and sets in ICU's binary forms: by which error a damaged one is rejected, and whether one
+//! that is accepted behaves as it has to.
 use crate::icu_invlist::codepointinvlist::CodePointInversionList;
 use crate::icu_invlist_binary::serialized::{from_serialized, to_serialized};
 use crate::icu_trie::cptrie::CodePointTrie;
@@ -23,16 +23,15 @@ const HEADER_SIZE: usize = 16;
 pub struct IcuForms {
     /// The small trie.
     trie: Vec<u8>,
-    /// The same, as a machine writes it that has the highest byte first.
+    /// The same, as a big-endian machine writes it.
     swapped: Vec<u8>,
     /// The fast trie with values of 32 bits.
     wide: Vec<u8>,
-    /// The units of the set, each with its lowest byte first.
+    /// The units of the set, in little-endian order.
     set: Vec<u8>,
 }
 
-/// A trie with values of one byte and an index of so many cells, with the bytes of each number in
-/// the other order.
+/// The other byte order of a trie with values of one byte and an index of `cells` cells.
 fn in_other_order(bytes: &[u8], cells: usize) -> Result<Vec<u8>, AllocError> {
     let mut swapped = Vec::new();
     swapped.try_extend_from_slice(b"3irT")?;
@@ -48,7 +47,7 @@ fn in_other_order(bytes: &[u8], cells: usize) -> Result<Vec<u8>, AllocError> {
     Ok(swapped)
 }
 
-/// The bytes of these units, each with its lowest byte first.
+/// The bytes of these units, in little-endian order.
 fn unit_bytes(units: &[u16]) -> Result<Vec<u8>, AllocError> {
     let mut bytes = Vec::new();
     for unit in units.iter() {
@@ -57,8 +56,8 @@ fn unit_bytes(units: &[u16]) -> Result<Vec<u8>, AllocError> {
     Ok(bytes)
 }
 
-/// These tries and this set in ICU's binary forms. `None` where a form has no room for one, or
-/// memory was refused.
+/// These tries and this set in ICU's binary forms. `None` if a form has no room for one, or if an
+/// allocation fails.
 pub fn icu_forms(
     small: &CodePointTrie<'_, u8>,
     fast: &CodePointTrie<'_, u8>,
@@ -91,7 +90,7 @@ fn damaged_trie(bytes: &[u8], dice: &mut Pcg32) -> Result<Vec<u8>, AllocError> {
     }
 }
 
-/// What becomes of bytes as a trie.
+/// The outcome of reading bytes as a trie.
 fn of_trie(bytes: &[u8]) -> Outcome {
     match from_binary::<u8>(bytes) {
         Ok((trie, _)) => tries::asked(&trie),
@@ -99,7 +98,7 @@ fn of_trie(bytes: &[u8]) -> Outcome {
     }
 }
 
-/// What becomes of bytes as a trie of a machine with the other byte order.
+/// The outcome of reading bytes as a trie of a machine with the other byte order.
 fn of_swapped(bytes: &[u8]) -> Outcome {
     match from_binary_swapped::<u8>(bytes) {
         Ok((trie, _)) => tries::asked(&trie),
@@ -107,7 +106,7 @@ fn of_swapped(bytes: &[u8]) -> Outcome {
     }
 }
 
-/// What becomes of bytes as a trie of any width.
+/// The outcome of reading bytes as a trie of any width.
 fn of_any_width(bytes: &[u8]) -> Outcome {
     match from_binary_any(bytes) {
         Ok((AnyWidthTrie::Bits8(trie), _)) => tries::asked(&trie),
@@ -117,7 +116,8 @@ fn of_any_width(bytes: &[u8]) -> Outcome {
     }
 }
 
-/// What becomes of bytes as the units of a serialized set. A last byte without another is left out.
+/// The outcome of reading bytes as the units of a serialized set. An odd byte at the end is
+/// ignored.
 fn of_set(bytes: &[u8]) -> Result<Outcome, AllocError> {
     let mut units = Vec::new();
     for pair in bytes.chunks_exact(2) {
@@ -132,7 +132,7 @@ fn of_set(bytes: &[u8]) -> Result<Outcome, AllocError> {
 }
 
 impl IcuForms {
-    /// What becomes of form number `number`, damaged.
+    /// The outcome of reading form number `number`, damaged.
     pub fn tried(&self, dice: &mut Pcg32, number: u32) -> Result<Outcome, AllocError> {
         match number % 4 {
             0 => Ok(of_trie(&damaged_trie(&self.trie, dice)?)),

@@ -1,8 +1,9 @@
-//! Stored forms of tries, sets and unit tries, damaged, read, and asked where they are taken; and the
-//! values along damaged texts.
+//! Stored forms of tries, sets and unit tries, damaged and read, and their functions called if they
+//! are accepted; and the values along damaged texts.
 //!
-//! The damage comes from a fixed seed, so each run of one count does the same. What comes of each
-//! form is counted as it was by the proved code, in a program with these modules.
+//! The damage comes from a fixed seed, so two runs with the same count do the same. The outcomes
+//! are counted, and compared with those that the proved code counted in a program with these
+//! modules.
 
 mod along;
 mod damage;
@@ -24,7 +25,7 @@ fn folder() -> PathBuf {
     Path::new(&top).join("tests/data/stored_forms")
 }
 
-/// What is counted of so many forms.
+/// The counts of the outcomes of `count` damaged forms.
 fn counted(count: u32) -> std::string::String {
     let read = |file| std::fs::read_to_string(folder().join(file)).expect("no form");
     let texts: Vec<String> = stored::FILES.into_iter().map(read).collect();
@@ -51,7 +52,7 @@ fn counted(count: u32) -> std::string::String {
     std::format!("{counts}")
 }
 
-/// Of a thousand forms and of a hundred thousand, what the proved code counted.
+/// The counts for a thousand forms, and for a hundred thousand, are those of the proved code.
 #[test]
 fn damaged_forms() {
     let counts = std::fs::read_to_string(folder().join("counts")).expect("nothing to compare");

@@ -1,4 +1,4 @@
-//! Names of the errors by which forms are refused.
+//! Names of the errors by which forms are rejected.
 use crate::icu_char16trie::char16trie::Char16JsonError;
 use crate::icu_invlist::codepointinvlist::{SetError, SetJsonError};
 use crate::icu_invlist_binary::serialized::SerializedSetError;
@@ -12,7 +12,7 @@ use crate::icu_zerovec::ule::UleError;
 use crate::runtime::*;
 use crate::stored_forms::outcome::Outcome;
 
-/// Refused as bytes.
+/// Rejected as bytes.
 pub fn by_bytes(error: UleError) -> Outcome {
     Outcome::Refused(match error {
         UleError::Length => "Length",
@@ -20,7 +20,7 @@ pub fn by_bytes(error: UleError) -> Outcome {
     })
 }
 
-/// Refused as the parts of a trie.
+/// Rejected as the parts of a trie.
 pub fn by_parts(error: CodePointTrieError) -> Outcome {
     Outcome::Refused(match error {
         CodePointTrieError::FromDeserialized { .. } => "FromDeserialized",
@@ -31,7 +31,7 @@ pub fn by_parts(error: CodePointTrieError) -> Outcome {
     })
 }
 
-/// Refused as the JSON of a trie.
+/// Rejected as the JSON of a trie.
 pub fn by_trie_json(error: TrieJsonError) -> Outcome {
     match error {
         TrieJsonError::Shape(_) => Outcome::Refused("TrieJson::Shape"),
@@ -42,7 +42,7 @@ pub fn by_trie_json(error: TrieJsonError) -> Outcome {
     }
 }
 
-/// Refused as the table of a trie.
+/// Rejected as the table of a trie.
 pub fn by_table(error: TomlError) -> Outcome {
     match error {
         TomlError::Missing(_) => Outcome::Refused("Toml::Missing"),
@@ -51,7 +51,7 @@ pub fn by_table(error: TomlError) -> Outcome {
     }
 }
 
-/// Refused as what a table says of a trie.
+/// Rejected as the trie that a table describes.
 pub fn by_table_parts(error: TrieFromTomlError) -> Outcome {
     match error {
         TrieFromTomlError::Trie(error) => by_parts(error),
@@ -60,7 +60,7 @@ pub fn by_table_parts(error: TrieFromTomlError) -> Outcome {
     }
 }
 
-/// Refused as the ends of a set.
+/// Rejected as the boundaries of a set.
 pub fn by_ends(error: SetError) -> Outcome {
     match error {
         SetError::Invalid(_) => Outcome::Refused("Invalid"),
@@ -68,7 +68,7 @@ pub fn by_ends(error: SetError) -> Outcome {
     }
 }
 
-/// Refused as the JSON of a set.
+/// Rejected as the JSON of a set.
 pub fn by_set_json(error: SetJsonError) -> Outcome {
     match error {
         SetJsonError::NotAnArray => Outcome::Refused("SetJson::NotAnArray"),
@@ -79,7 +79,7 @@ pub fn by_set_json(error: SetJsonError) -> Outcome {
     }
 }
 
-/// Refused as the JSON of a set with strings.
+/// Rejected as the JSON of a set with strings.
 pub fn by_text_set_json(error: &StringListJsonError) -> Outcome {
     match error {
         StringListJsonError::Shape(_) => Outcome::Refused("StringListJson::Shape"),
@@ -90,7 +90,7 @@ pub fn by_text_set_json(error: &StringListJsonError) -> Outcome {
     }
 }
 
-/// Refused as the JSON of a unit trie.
+/// Rejected as the JSON of a unit trie.
 pub fn by_unit_json(error: Char16JsonError) -> Outcome {
     match error {
         Char16JsonError::Shape => Outcome::Refused("Char16Json::Shape"),
@@ -99,7 +99,7 @@ pub fn by_unit_json(error: Char16JsonError) -> Outcome {
     }
 }
 
-/// Refused as a trie in ICU's binary form.
+/// Rejected as a trie in ICU's binary form.
 pub fn by_binary(error: BinaryError) -> Outcome {
     match error {
         BinaryError::Short => Outcome::Refused("Binary::Short"),
@@ -115,7 +115,7 @@ pub fn by_binary(error: BinaryError) -> Outcome {
     }
 }
 
-/// Refused as a trie in ICU's binary form, of the other byte order.
+/// Rejected as a trie in ICU's binary form, of the other byte order.
 pub fn by_swapped(error: SwappedError) -> Outcome {
     match error {
         SwappedError::Binary(error) => by_binary(error),
@@ -123,7 +123,7 @@ pub fn by_swapped(error: SwappedError) -> Outcome {
     }
 }
 
-/// Refused as a set in ICU's serialized form.
+/// Rejected as a set in ICU's serialized form.
 pub fn by_serialized(error: SerializedSetError) -> Outcome {
     match error {
         SerializedSetError::Short => Outcome::Refused("SerializedSet::Short"),

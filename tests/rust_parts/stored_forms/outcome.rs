@@ -1,4 +1,4 @@
-//! What became of a damaged form, and of how many.
+//! Outcomes of damaged forms, and how often each occurs.
 #[allow(unused_imports)]
 use crate::runtime::*;
 use crate::support::AllocError;
@@ -6,20 +6,20 @@ use crate::support::AllocError;
 use crate::support::prelude::*;
 use core::fmt;
 
-/// What became of a damaged form.
+/// The outcome of a damaged form.
 #[derive(Clone, Copy, Debug, PartialEq, Eq)]
 pub enum Outcome {
-    /// It was taken, and answered as it has to.
+    /// It was accepted, and behaved as it has to.
     Taken,
-    /// It was taken as a coherent trie, and its ranges were those of its look-ups.
+    /// It was accepted as a coherent trie, and its ranges agreed with its look-ups.
     Coherent,
-    /// It was refused, by an error of this name.
+    /// It was rejected by an error of this name.
     Refused(&'static str),
-    /// It was taken, and this is wrong.
+    /// It was accepted, and this is wrong.
     Wrong(&'static str),
 }
 
-/// How often each outcome came.
+/// How often each outcome occurred.
 pub struct Counts {
     taken: u32,
     coherent: u32,
@@ -27,7 +27,7 @@ pub struct Counts {
     refused: Vec<Refusals>,
 }
 
-/// How often an error came.
+/// How often an error occurred.
 #[derive(Clone, Copy)]
 struct Refusals {
     name: &'static str,
@@ -35,7 +35,7 @@ struct Refusals {
 }
 
 impl Counts {
-    /// Nothing was tried yet.
+    /// The counts before anything was tried.
     pub fn new() -> Counts {
         Counts {
             taken: 0,
@@ -45,7 +45,7 @@ impl Counts {
         }
     }
 
-    /// One form more with this outcome.
+    /// Counts one more form with this outcome.
     pub fn add(&mut self, outcome: Outcome) -> Result<(), AllocError> {
         match outcome {
             Outcome::Taken => self.taken = self.taken.saturating_add(1),
@@ -56,13 +56,13 @@ impl Counts {
         Ok(())
     }
 
-    /// No outcome was wrong, and all kinds of outcomes came.
+    /// Whether no outcome was wrong, and forms were accepted both as coherent tries and otherwise.
     pub fn is_well(&self) -> bool {
         self.wrong == 0 && self.taken > 0 && self.coherent > 0
     }
 }
 
-/// One refusal more by the error of this name.
+/// Counts one more form that was rejected by the error of this name.
 fn add_refusal(refused: &mut Vec<Refusals>, name: &'static str) -> Result<(), AllocError> {
     for refusals in refused.iter_mut() {
         if refusals.name == name {
@@ -74,7 +74,7 @@ fn add_refusal(refused: &mut Vec<Refusals>, name: &'static str) -> Result<(), Al
     Ok(())
 }
 
-/// How many were refused in all.
+/// How many were rejected in all.
 fn refused_in_all(refused: &[Refusals]) -> u32 {
     let mut all = 0u32;
     for refusals in refused {

@@ -11,14 +11,14 @@ use crate::stored_forms::stored::value_of;
 use crate::support::prelude::*;
 use core::ops::RangeInclusive;
 
-/// The range starts after the one before it, and ends within the code points.
+/// Whether the range starts at `start` or later, and ends within the code points.
 fn follows(range: &RangeInclusive<u32>, start: u32) -> bool {
     let (first, last) = (*range.start(), *range.end());
     start <= first && first <= last && last < 0x11_0000
 }
 
-/// How many code points the ranges of a set have. `None` where they aren't ascending ranges that
-/// the set holds.
+/// How many code points the ranges of a set have. `None` if they are not ascending ranges that the
+/// set contains.
 fn count_in_ranges(set: &CodePointInversionList<'_>) -> Option<usize> {
     let mut next = 0u32;
     let mut count = 0usize;
@@ -33,7 +33,7 @@ fn count_in_ranges(set: &CodePointInversionList<'_>) -> Option<usize> {
     Some(count)
 }
 
-/// The ranges that a set doesn't hold are ascending, and it holds none of their ends.
+/// Whether the ranges outside a set ascend, and the set contains neither bound of any of them.
 fn has_gaps(set: &CodePointInversionList<'_>) -> bool {
     let mut next = 0u32;
     for range in set.iter_ranges_complemented() {
@@ -46,7 +46,7 @@ fn has_gaps(set: &CodePointInversionList<'_>) -> bool {
     true
 }
 
-/// How many characters a set gives.
+/// How many characters a set lists.
 fn count_of_chars(set: &CodePointInversionList<'_>) -> usize {
     let mut count = 0usize;
     for _ in set.iter_chars() {
@@ -55,13 +55,13 @@ fn count_of_chars(set: &CodePointInversionList<'_>) -> usize {
     count
 }
 
-/// Whether a set answers as it has to.
+/// Whether the functions of a set agree.
 fn is_right(set: &CodePointInversionList<'_>) -> bool {
     let size = set.size();
     count_in_ranges(set) == Some(size) && has_gaps(set) && count_of_chars(set) <= size
 }
 
-/// Asks a set for all that it answers.
+/// The outcome of calling the functions of a set.
 pub fn asked(set: &CodePointInversionList<'_>) -> Outcome {
     if is_right(set) {
         Outcome::Taken
@@ -70,7 +70,7 @@ pub fn asked(set: &CodePointInversionList<'_>) -> Outcome {
     }
 }
 
-/// What becomes of bytes as the ends of a set.
+/// The outcome of reading bytes as the boundaries of a set.
 pub fn of_bytes(bytes: &[u8]) -> Outcome {
     let ends = match ZeroVec::parse_bytes(bytes) {
         Ok(ends) => ends,
@@ -82,7 +82,7 @@ pub fn of_bytes(bytes: &[u8]) -> Outcome {
     }
 }
 
-/// What becomes of a text as the JSON of a set.
+/// The outcome of reading a text as the JSON of a set.
 pub fn of_json(text: &[u8]) -> Outcome {
     let value = match value_of(text) {
         Ok(value) => value,
@@ -94,7 +94,7 @@ pub fn of_json(text: &[u8]) -> Outcome {
     }
 }
 
-/// Whether each string of a set is a member, and stands before the next one by its bytes.
+/// Whether each string of a set is a member, and is less than the next one by its bytes.
 fn has_strings(set: &CodePointInversionListAndStringList<'_>) -> bool {
     let mut before: Option<&str> = None;
     for string in set.strings() {
@@ -111,7 +111,7 @@ fn has_strings(set: &CodePointInversionListAndStringList<'_>) -> bool {
     true
 }
 
-/// What becomes of a text as the JSON of a set with strings.
+/// The outcome of reading a text as the JSON of a set with strings.
 pub fn of_text_json(text: &[u8]) -> Outcome {
     let value = match value_of(text) {
         Ok(value) => value,
@@ -124,7 +124,7 @@ pub fn of_text_json(text: &[u8]) -> Outcome {
     }
 }
 
-/// The set that a JSON text says, if it says one.
+/// The set that a JSON text describes, if it does.
 pub fn stored_set(text: &[u8]) -> Option<CodePointInversionList<'static>> {
     let value = value_of(text).ok()?;
     CodePointInversionList::from_json(&value).ok()

@@ -1,4 +1,4 @@
-//! The stored forms, and which of them is damaged in turn.
+//! The stored forms, of which one is damaged in each turn.
 use crate::icu_trie::cptrie::CodePointTrie;
 use crate::icu_trie_formats::planes::get_planes_trie;
 #[allow(unused_imports)]
@@ -25,7 +25,7 @@ pub const FILES: [&str; 6] = [
     "units.json",
 ];
 
-/// The JSON value of a text, or that it is refused.
+/// The JSON value of a text, or the outcome if there is none.
 pub fn value_of(text: &[u8]) -> Result<Value, Outcome> {
     let Ok(text) = str::from_utf8(text) else {
         return Err(Outcome::Refused("UTF-8"));
@@ -36,8 +36,8 @@ pub fn value_of(text: &[u8]) -> Result<Value, Outcome> {
     }
 }
 
-/// The stored forms: texts, the tries that the first two say, packed ends of a set, units of a
-/// trie, and tries and a set as ICU writes them.
+/// The stored forms: texts, the tries that the first two describe, the packed boundaries of a set,
+/// the units of a trie, and tries and a set as ICU writes them.
 #[derive(Clone, Copy)]
 pub struct Stored<'a> {
     pub texts: &'a [String],
@@ -57,7 +57,7 @@ impl<'a> Stored<'a> {
         }
     }
 
-    /// What becomes of a trie that is damaged.
+    /// The outcome of reading a trie that is damaged.
     fn tried_trie(self, dice: &mut Pcg32, number: u32) -> Result<Outcome, AllocError> {
         match number % 8 {
             0 => Ok(tries::of_toml(&self.damaged_text(0, dice)?)),
@@ -69,7 +69,7 @@ impl<'a> Stored<'a> {
         }
     }
 
-    /// What becomes of form number `number`, damaged.
+    /// The outcome of reading form number `number`, damaged.
     pub fn tried(self, dice: &mut Pcg32, number: u32) -> Result<Outcome, AllocError> {
         match number % 9 {
             0 => Ok(sets::of_json(&self.damaged_text(3, dice)?)),

@@ -1,4 +1,5 @@
-//! Tries: what a damaged one is refused with, and whether one that is taken answers as it has to.
+//! Tries: by which error a damaged one is rejected, and whether one that is accepted behaves as it
+//! has to.
 use crate::icu_invlist::codepointinvlist::CodePointInversionList;
 use crate::icu_trie::cptrie::CodePointTrie;
 use crate::icu_trie::ranges::CodePointMapRange;
@@ -18,7 +19,7 @@ use crate::support::AllocError;
 use crate::support::prelude::*;
 use toml::value::Table;
 
-/// Code points at the ends of what the format tells apart, and numbers above them.
+/// Code points on both sides of the limits in the format, and numbers above them.
 const SAMPLE: [u32; 14] = [
     0,
     0x41,
@@ -36,7 +37,7 @@ const SAMPLE: [u32; 14] = [
     0xFFFF_FFFF,
 ];
 
-/// All ways to ask for the value of `c` agree.
+/// Whether all functions for the value of `c` agree.
 fn is_asked_alike<T: TrieValue>(trie: &CodePointTrie<'_, T>, c: u32) -> bool {
     let value = trie.get32(c);
     let packed = match trie.get32_ule(c) {
@@ -49,13 +50,13 @@ fn is_asked_alike<T: TrieValue>(trie: &CodePointTrie<'_, T>, c: u32) -> bool {
     packed == value && trie.get32_u32(c) == value.to_u32() && trie.get32_supplementary(c) == value
 }
 
-/// The range starts where the one before it ended, and ends within the code points.
+/// Whether the range starts at `start`, and ends within the code points.
 fn follows<T: TrieValue>(range: &CodePointMapRange<T>, start: u32) -> bool {
     let (first, last) = (*range.range.start(), *range.range.end());
     first == start && first <= last && last < 0x11_0000
 }
 
-/// Look-ups answer the value of the range at its ends and in its middle.
+/// Whether look-ups return the value of the range at its first, middle and last code point.
 fn is_as_looked_up<T: TrieValue>(
     trie: &CodePointTrie<'_, T>,
     range: &CodePointMapRange<T>,
@@ -67,8 +68,8 @@ fn is_as_looked_up<T: TrieValue>(
         && trie.get32(last) == range.value
 }
 
-/// What is wrong with the ranges of a trie. Those of a coherent one are the longest runs of its
-/// answers.
+/// What is wrong with the ranges of a trie. Those of a coherent one are the longest runs of equal
+/// values.
 fn fault_of_ranges<T: TrieValue>(
     trie: &CodePointTrie<'_, T>,
     is_coherent: bool,
@@ -95,7 +96,7 @@ fn fault_of_ranges<T: TrieValue>(
     None
 }
 
-/// The set holds those code points of the sample at which the trie has the value.
+/// Whether the set contains those code points of the sample that have the value in the trie.
 fn is_set_of<T: TrieValue>(
     set: &CodePointInversionList<'_>,
     trie: &CodePointTrie<'_, T>,
@@ -119,7 +120,7 @@ fn fault_of_set<T: TrieValue>(trie: &CodePointTrie<'_, T>) -> Option<&'static st
     }
 }
 
-/// Asks a trie for all that it answers.
+/// The outcome of calling the functions of a trie.
 pub fn asked<T: TrieValue>(trie: &CodePointTrie<'_, T>) -> Outcome {
     for c in SAMPLE {
         if !is_asked_alike(trie, c) {
@@ -139,7 +140,7 @@ pub fn asked<T: TrieValue>(trie: &CodePointTrie<'_, T>) -> Outcome {
     }
 }
 
-/// What becomes of these parts.
+/// The outcome of making a trie of these parts.
 fn of_parts(header: CodePointTrieHeader, index: &[u8], data: &[u8]) -> Outcome {
     let index = match ZeroVec::parse_bytes(index) {
         Ok(index) => index,
@@ -155,7 +156,7 @@ fn of_parts(header: CodePointTrieHeader, index: &[u8], data: &[u8]) -> Outcome {
     }
 }
 
-/// What becomes of the packed parts of a trie, one of them damaged.
+/// The outcome of reading the packed parts of a trie, one of them damaged.
 pub fn tried_parts(trie: &CodePointTrie<'_, u8>, dice: &mut Pcg32) -> Result<Outcome, AllocError> {
     let (header, index, data) = trie.parts();
     let (index, data) = (index.as_bytes(), data.as_bytes());
@@ -166,7 +167,7 @@ pub fn tried_parts(trie: &CodePointTrie<'_, u8>, dice: &mut Pcg32) -> Result<Out
     })
 }
 
-/// What becomes of a text as the JSON of a trie.
+/// The outcome of reading a text as the JSON of a trie.
 pub fn of_json(text: &[u8]) -> Outcome {
     let value = match value_of(text) {
         Ok(value) => value,
@@ -184,7 +185,7 @@ pub fn trie_table(file: &Table) -> Option<&Table> {
     property.as_table()?.get("code_point_trie")?.as_table()
 }
 
-/// What becomes of what a table says of a trie.
+/// The outcome of reading the trie that a table describes.
 fn of_table(table: &Table) -> Outcome {
     let read = match CodePointTrieToml::from_table(table) {
         Ok(read) => read,
@@ -196,7 +197,7 @@ fn of_table(table: &Table) -> Outcome {
     }
 }
 
-/// What becomes of a text as the file of a trie in TOML.
+/// The outcome of reading a text as the file of a trie in TOML.
 pub fn of_toml(text: &[u8]) -> Outcome {
     let Ok(text) = str::from_utf8(text) else {
         return Outcome::Refused("UTF-8");
@@ -210,7 +211,7 @@ pub fn of_toml(text: &[u8]) -> Outcome {
     }
 }
 
-/// The trie that a file in TOML says.
+/// The trie in a file in TOML.
 pub fn stored_trie(text: &str) -> Option<CodePointTrie<'static, u8>> {
     let file = table_from_str(text).ok()?;
     let read = CodePointTrieToml::from_table(trie_table(&file)?).ok()?;

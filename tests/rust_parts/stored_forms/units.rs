@@ -10,11 +10,11 @@ use crate::support::AllocError;
 #[allow(unused_imports)]
 use crate::support::prelude::*;
 
-/// How many entries are asked for at most: nodes may be shared, so that a few units can have more
-/// entries than there is time.
+/// How many entries are listed at most. Nodes may be shared, so a few units can have more entries
+/// than there is time for.
 const MOST: usize = 1000;
 
-/// Whether after no match nothing matches, for the characters of a text.
+/// Whether nothing matches after a first mismatch, for the characters of a text.
 fn stays_lost(trie: &Char16Trie<'_>, text: &str) -> bool {
     let mut iterator = trie.iter();
     let mut lost = false;
@@ -28,7 +28,7 @@ fn stays_lost(trie: &Char16Trie<'_>, text: &str) -> bool {
     true
 }
 
-/// How many entries a listing gives: all of them, or as many as are asked for.
+/// How many entries a listing has, `MOST` at most.
 fn entries_given(trie: &Char16Trie<'_>) -> Result<u64, MemoryError> {
     let mut given = 0u64;
     for entry in trie.try_iter2().take(MOST) {
@@ -38,8 +38,8 @@ fn entries_given(trie: &Char16Trie<'_>) -> Result<u64, MemoryError> {
     Ok(given)
 }
 
-/// Whether the units are told to be a trie exactly where their entries are counted, and as many are
-/// given as were counted.
+/// Whether the units are reported to be a trie exactly if their entries can be counted, and the
+/// listing has as many entries as were counted.
 fn counts_agree(trie: &Char16Trie<'_>) -> Result<bool, MemoryError> {
     let given = entries_given(trie)?;
     let is_trie = trie.try_is_trie()?;
@@ -49,7 +49,7 @@ fn counts_agree(trie: &Char16Trie<'_>) -> Result<bool, MemoryError> {
     }
 }
 
-/// Asks a trie for all that it answers.
+/// The outcome of calling the functions of a trie.
 fn asked(trie: &Char16Trie<'_>) -> Outcome {
     if !stays_lost(trie, "az\u{1F600}d") || !stays_lost(trie, "ezz") {
         return Outcome::Wrong("a match after none");
@@ -61,7 +61,7 @@ fn asked(trie: &Char16Trie<'_>) -> Outcome {
     }
 }
 
-/// What becomes of bytes as the units of a trie.
+/// The outcome of reading bytes as the units of a trie.
 pub fn of_bytes(bytes: &[u8]) -> Outcome {
     match ZeroVec::parse_bytes(bytes) {
         Ok(units) => asked(&Char16Trie::new(units)),
@@ -69,7 +69,7 @@ pub fn of_bytes(bytes: &[u8]) -> Outcome {
     }
 }
 
-/// What becomes of a text as the JSON of a unit trie.
+/// The outcome of reading a text as the JSON of a unit trie.
 pub fn of_json(text: &[u8]) -> Outcome {
     let value = match value_of(text) {
         Ok(value) => value,
@@ -81,7 +81,7 @@ pub fn of_json(text: &[u8]) -> Outcome {
     }
 }
 
-/// The packed units of the trie that a JSON text says.
+/// The packed units of the trie that a JSON text describes.
 pub fn stored_units(text: &[u8]) -> Result<Vec<u8>, AllocError> {
     let Ok(value) = value_of(text) else {
         return Ok(Vec::new());

@@ -1,5 +1,5 @@
-//! Values that break each law of `AsULE`, `TrieValue`, `Ord` and `Eq`: one in so many of their
-//! answers is a lie.
+//! Values that break each law of `AsULE`, `TrieValue`, `Ord` and `Eq`: every so often, one of their
+//! methods returns a wrong result.
 
 use bekstaudi::codepointinvlist::{CodePointInversionListBuilder, FrozenCodePointSet};
 use bekstaudi::codepointtrie::{
@@ -17,18 +17,18 @@ thread_local! {
     static TURN: Cell<u32> = const { Cell::new(1) };
 }
 
-/// From here on one in so many answers is a lie.
+/// From here on, every `turn`-th result is wrong.
 pub fn lie_each(turn: u32) {
     TURN.set(turn);
 }
 
-/// Whether it is the turn of a lie.
+/// Whether this result has to be wrong.
 fn lies() -> bool {
     ASKED.set(ASKED.get().wrapping_add(1));
     ASKED.get() % TURN.get() == 0
 }
 
-/// A number of a byte, said to take `WIDTH` bytes.
+/// A number of one byte that says it takes `WIDTH` bytes.
 #[derive(Clone, Copy, Debug)]
 pub struct Liar<const WIDTH: usize = 1>(pub u8);
 
@@ -82,13 +82,13 @@ impl<const WIDTH: usize> TrieValue for Liar<WIDTH> {
     }
 }
 
-/// What the call answers, or `None` where it panics, which it may.
+/// The result of the call, or `None` if it panics, which is allowed.
 pub fn tried<A>(call: impl FnOnce() -> A) -> Option<A> {
     catch_unwind(AssertUnwindSafe(call)).ok()
 }
 
-/// Panics are no news here, but for one: a place that has to be there is asserted in the file of
-/// the reads, and ends the tests where it is not.
+/// Silences panics. One in the file of the reads means that an index is out of bounds: it ends the
+/// tests.
 pub fn watch() {
     std::panic::set_hook(Box::new(|panic| {
         if panic.location().is_some_and(|it| it.file().ends_with("support/cells.rs")) {
@@ -98,7 +98,7 @@ pub fn watch() {
     }));
 }
 
-/// Asks a trie for all that it answers.
+/// Calls every function of a trie that reads it.
 pub fn ask<const WIDTH: usize>(trie: &CodePointTrie<'_, Liar<WIDTH>>) {
     for c in (0..0x11_0100).step_by(0x3FD) {
         tried(|| trie.get32(c));
@@ -131,7 +131,7 @@ pub fn ask<const WIDTH: usize>(trie: &CodePointTrie<'_, Liar<WIDTH>>) {
     }
 }
 
-/// Asks a trie for the values along texts.
+/// Looks up the values along texts.
 fn ask_along_texts<const WIDTH: usize>(trie: &CodePointTrie<'_, Liar<WIDTH>>) {
     let line = "\0az\u{7F}\u{80}ß\u{FFFF}\u{1F600}";
     tried(|| text::values_of(trie, line).count());

@@ -1,7 +1,7 @@
 //! Random numbers, and damage by them.
 #![allow(dead_code)]
 
-/// A linear congruence, of which the upper bits are taken.
+/// A linear congruential generator, of which the upper bits are used.
 pub struct Random(pub u64);
 
 impl Random {
@@ -11,12 +11,12 @@ impl Random {
         (self.0 >> 33) as usize % limit
     }
 
-    /// One of these.
+    /// Returns one of these items.
     pub fn one_of<T: Copy>(&mut self, values: &[T]) -> T {
         values[self.below(values.len())]
     }
 
-    /// Changes some of the bytes, or cuts them.
+    /// Changes some of the bytes, or cuts them off.
     pub fn damage(&mut self, bytes: &mut Vec<u8>) {
         for _ in 0..=self.below(4) {
             let place = self.below(bytes.len());
@@ -28,7 +28,7 @@ impl Random {
     }
 }
 
-/// Units of 16 bits as damaged bytes make them.
+/// Units of 16 bits that damaged bytes make.
 pub fn damaged_units(random: &mut Random, units: &[u16]) -> Vec<u16> {
     let mut bytes: Vec<u8> = units.iter().flat_map(|it| it.to_le_bytes()).collect();
     random.damage(&mut bytes);

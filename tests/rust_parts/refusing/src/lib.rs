@@ -1,4 +1,4 @@
-//! An allocator that counts the requests of a thread, and refuses one of them.
+//! An allocator that counts the requests of a thread, and lets one of them fail.
 
 use std::alloc::{GlobalAlloc, Layout, System};
 use std::cell::Cell;
@@ -6,18 +6,18 @@ use std::cell::Cell;
 thread_local! {
     static IS_COUNTING: Cell<bool> = const { Cell::new(false) };
     static ASKED: Cell<usize> = const { Cell::new(0) };
-    /// The place of the request that is refused, from 0.
+    /// The number of the request that fails, from 0.
     static REFUSED: Cell<usize> = const { Cell::new(usize::MAX) };
 }
 
-/// Counts from 0 again, once counting is on, and will refuse the request at this place.
+/// Starts again from 0, and lets request number `refused` fail once counting is on.
 pub fn begin(refused: usize) {
     IS_COUNTING.set(false);
     ASKED.set(0);
     REFUSED.set(refused);
 }
 
-/// Whether requests of this thread are counted from here on: all others are granted.
+/// Whether this thread's requests are counted from here on. Requests that are not counted succeed.
 pub fn count(is_counting: bool) {
     IS_COUNTING.set(is_counting);
 }
@@ -27,7 +27,8 @@ pub fn asked() -> usize {
     ASKED.get()
 }
 
-/// What the call answers with its request at this place refused, and whether it came so far.
+/// The result of the call with its request number `place` failing, and whether it made that
+/// request.
 pub fn refused_at<A>(place: usize, call: impl FnOnce() -> A) -> (A, bool) {
     begin(place);
     count(true);
@@ -36,15 +37,15 @@ pub fn refused_at<A>(place: usize, call: impl FnOnce() -> A) -> (A, bool) {
     (answer, asked() > place)
 }
 
-/// What the call of this name answers, which asks for nothing.
+/// The result of the call of this name, which must not allocate.
 pub fn asks_for_nothing<A>(name: &str, call: impl FnOnce() -> A) -> A {
     let (answer, is_refused) = refused_at(0, call);
     assert!(!is_refused, "{name} asks for memory");
     answer
 }
 
-/// Refuses the first request of the call of this name, then the second, until none is refused: each
-/// time it says so by `None`, and else it does not.
+/// Lets the first request of the call of this name fail, then the second, until none fails. The
+/// call must return `None` exactly if a request failed.
 pub fn refused_in_turn<A>(name: &str, call: impl Fn() -> Option<A>) {
     for place in 0.. {
         let (answer, is_refused) = refused_at(place, &call);
@@ -56,8 +57,8 @@ pub fn refused_in_turn<A>(name: &str, call: impl Fn() -> Option<A>) {
     }
 }
 
-/// Refuses each request of a change in turn, of what is made anew each time. Where the change says
-/// so by `false`, what it was made of is as before.
+/// Lets each request of a change fail in turn, each time on a new value. The change must return
+/// `false` exactly if a request failed, and the value is then unchanged.
 pub fn unchanged_where_refused<B>(
     name: &str,
     made: impl Fn() -> B,
@@ -88,7 +89,7 @@ fn is_granted() -> bool {
     place != REFUSED.get()
 }
 
-// SAFETY: what is granted is the system's, and null is what the trait says of refused memory.
+// SAFETY: memory comes from the system's allocator, and null is how the trait reports a failure.
 unsafe impl GlobalAlloc for Refusing {
     unsafe fn alloc(&self, layout: Layout) -> *mut u8 {
         if is_granted() { unsafe { System.alloc(layout) } } else { std::ptr::null_mut() }
