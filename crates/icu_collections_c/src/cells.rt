@@ -57,7 +57,7 @@ fn count_of<T: UnsignedValue>(bytes: &[u8]) -> usize
     bytes.len() / T::WIDTH
 }
 
-/// Returns the value of the cell at index `i`, which has to exist. The machine code has no test,
+/// Returns the value of the cell at index `i`, which has to exist. The proved library has no test,
 /// since any bytes of a cell are a value.
 #[inline(always)]
 fn value_there<T: UnsignedValue>(bytes: &[u8], i: usize) -> T

@@ -14,8 +14,8 @@
 //!   [`PotentialCodePoint`]
 //! - `vec`, `slice`, `iter`: the vector, the view, and the iterator over their values
 //! - `equality`: equality and hashing of vectors
-//! - `memory`: the error for a failed allocation, which all crates above use, and the one for a
-//!   failed list of writes
+//! - `memory`: the error for a failed allocation, which all crates above use, and the error for a
+//!   list of writes that failed in the middle
 //! - `cells`: the work on packed bytes
 
 mod cells;
