@@ -91,8 +91,7 @@ OTHER_HEADERS = [
     ("uint32_t width, void *bytes", "uint16_t width, void *bytes"),
     ("uint64_t bks_trie_bound(size_t count, ", "uint64_t bks_trie_bound("),
     ("bks_cursor *cursor, uint16_t unit", "const bks_cursor *cursor, uint16_t unit"),
-    ("uint16_t index3_null_offset;\n    uint16_t shifted12_high_start;",
-     "uint16_t shifted12_high_start;\n    uint16_t index3_null_offset;"),
+    ("uint16_t index3_null_offset;      /*", "uint16_t shifted12_high_start;   /*"),
     ("    size_t start;\n    size_t size;", "    uint32_t start;\n    size_t size;"),
     ("} bks_word;", "    int32_t other;\n} bks_word;"),
 ]
