@@ -1,0 +1,27 @@
+"""The examples in C and C++, as c/tests/run runs them."""
+import os
+import shutil
+import subprocess
+
+from running import BUILD, CC, CXX, STRICT, TOP, passes, prints
+
+
+def examples(room):
+    """The library installed, and the examples as a user runs them."""
+    yield passes("c/build PREFIX", [*BUILD, f"{room}/usr"])
+    flags = [f"-I{room}/usr/include", f"-L{room}/usr/lib", f"-Wl,-rpath,{room}/usr/lib", "-lbekstaudi"]
+    code, text = f"{TOP}/c/examples", "A\u00df7 \u4e16\U0001f600\u0301"
+    yield passes("make_table.c", [CC, *STRICT, "-o", f"{room}/make_table", f"{code}/make_table.c", "-licuuc"])
+    with open(f"{room}/gc.bin", "wb") as table:
+        yield subprocess.run([f"{room}/make_table"], stdout=table).returncode == 0
+    shown = "".join(f"{it} {kind}\n" for it, kind in zip(text, "Lu Ll Nd Zs Lo So Mn".split()))
+    programs = {"categories.c": (CC, "c99", shown), "letters.cpp": (CXX, "c++17", "A\u00df\n\u4e16\n")}
+    programs["kept.cpp"] = (CXX, "c++17", "A\u00df7 \u4e16\n")
+    for source, (compiler, standard, wanted) in programs.items():
+        if shutil.which(compiler):
+            words = [compiler, f"-std={standard}", *STRICT, "-o", f"{room}/shown", f"{code}/{source}"]
+            yield passes(source, [*words, *flags])
+            yield prints(source, [f"{room}/shown", f"{room}/gc.bin", text], wanted, os.environ)
+    if shutil.which(CXX):
+        lines = f"{text}\n\n" * 9000
+        yield prints("kept.cpp", [f"{room}/shown", f"{room}/gc.bin"], "A\u00df7 \u4e16\n\n" * 9000, os.environ, lines)

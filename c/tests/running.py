@@ -1,0 +1,40 @@
+"""How c/tests/run builds the library, and runs what it tries."""
+import os
+import re
+import shutil
+import subprocess
+import sys
+
+PARTS = os.path.dirname(os.path.realpath(__file__))
+TOP = os.path.dirname(os.path.dirname(PARTS))
+STRICT = ["-Wall", "-Wextra", "-pedantic", "-Werror", f"-I{TOP}/c"]
+SANITIZED = ["-g", "-O1", "-fsanitize=address,undefined", "-fno-sanitize-recover=all"]
+CC, CXX = os.environ.get("CC", "cc"), os.environ.get("CXX", "c++")
+# Which library is tested: that of the kit, or without it or with --cargo that of cargo.
+IS_CARGO = "--cargo" in sys.argv or not shutil.which("rt")
+# The two libraries are tested side by side.
+OUT = f"{TOP}/c/out/by_cargo" if IS_CARGO else f"{TOP}/c/out"
+BUILD = [f"{TOP}/c/build", "--cargo" if IS_CARGO else "--proved", "--out", OUT]
+
+
+def functions():
+    """The functions that bekstaudi.h declares, without the inline ones."""
+    with open(f"{TOP}/c/bekstaudi.h", encoding="utf-8") as file:
+        return re.findall(r"(?m)^(?!static)[a-z]\w* (bks_\w+)\(", file.read())
+
+
+def passes(what, words, **more):
+    """Whether a command succeeds. Prints what it was; if it fails, also what it printed."""
+    ran = subprocess.run(words, stdout=subprocess.PIPE, stderr=subprocess.STDOUT, text=True, errors="replace", **more)
+    print(ran.stdout.rstrip() if ran.returncode else f"{what}: {ran.stdout.strip() or 'done'}", flush=True)
+    if ran.returncode:
+        print(f"{what}: FAILED")
+    return ran.returncode == 0
+
+
+def prints(what, words, wanted, environment, given=""):
+    """Whether a program that gets this text on standard input prints what is wanted."""
+    ran = subprocess.run(words, input=given.encode("utf-8"), stdout=subprocess.PIPE, env=environment)
+    found = ran.stdout.decode("utf-8")
+    print(f"{what}: {'as wanted' if found == wanted else found}")
+    return found == wanted

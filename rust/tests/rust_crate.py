@@ -1,0 +1,155 @@
+"""The Rust edition as rust/tests/run needs it: written anew, with our crates of tests in it, or without
+what depends on other crates."""
+import filecmp
+import glob
+import importlib.machinery
+import importlib.util
+import os
+import re
+import shutil
+import sys
+
+sys.path.insert(0, f"{os.path.dirname(os.path.realpath(__file__))}/../../tests/lib")
+import public_calls
+from rust_rules import (
+    FORM_MODULES, FORM_RULES, KNOWN, NOT_SWEPT, OTHER_HEADERS, OTHER_NAMES, TEST_NAMES, TEST_RULES,
+    TESTS, UNKNOWN
+)
+
+TOP = os.path.dirname(os.path.dirname(os.path.dirname(os.path.realpath(__file__))))
+PARTS = f"{TOP}/rust/tests/src"
+README = f"{TOP}/rust/README.md"
+# Sources of serde_json and toml, as Debian has them in librust-serde-json-dev, librust-toml-dev.
+SOURCES = "/usr/share/cargo/registry"
+HAS_FORMATS = all(glob.glob(f"{SOURCES}/{it}-*") for it in ("serde_json", "toml"))
+HAS_CLAP = HAS_FORMATS and bool(glob.glob(f"{SOURCES}/clap-4*"))
+# What rust/tests/src has that needs them.
+FORMS = ["stored_forms"] if HAS_FORMATS else []
+
+
+def read(path):
+    with open(path, encoding="utf-8") as file:
+        return file.read()
+
+
+def write(path, text, mode="w"):
+    with open(path, mode, encoding="utf-8") as file:
+        file.write(text)
+
+
+def maker():
+    """rust/make as a module."""
+    sys.path.insert(0, f"{TOP}/rust")
+    loader = importlib.machinery.SourceFileLoader("make", f"{TOP}/rust/make")
+    made = importlib.util.module_from_spec(importlib.util.spec_from_loader("make", loader))
+    loader.exec_module(made)
+    return made
+
+
+def refuses_all(made, folder):
+    """Whether rust/make stops at each unknown form, and turns each known one into what it is."""
+    failed = []
+    for number, text in enumerate([*UNKNOWN, *KNOWN]):
+        path = f"{folder}/form{number}.rt"
+        write(path, text)
+        try:
+            code = made.rust(path, "icu_zerovec", "icu_zerovec/form")
+        except SystemExit as why:
+            code = why
+        if text in KNOWN and code != KNOWN[text] or text in UNKNOWN and isinstance(code, str):
+            print(f"rust/make: {text!r} becomes {code!r}")
+            failed.append(text)
+    return not failed
+
+
+def compares_header(made, folder):
+    """Whether rust/make stops if c/bekstaudi.h declares something else than the crate has."""
+    header, failed = read(f"{TOP}/c/bekstaudi.h"), []
+    for number, (old, new) in enumerate(OTHER_HEADERS):
+        path = f"{folder}/header{number}.h"
+        write(path, header.replace(old, new))
+        try:
+            made.c_library(f"{folder}/other_c", f"{folder}/bekstaudi", path, made.make)
+            print(f"rust/make does not see that a header has {new!r} for {old!r}")
+            failed.append(old)
+        except made.Stop:
+            failed += [] if header.count(old) == 1 else [old]
+    return not failed
+
+
+def files(folder):
+    """The files of a package."""
+    found = glob.glob(f"{folder}/**/*.*", recursive=True)
+    return {os.path.relpath(it, folder) for it in found if os.path.isfile(it)} - {"Cargo.lock"}
+
+
+def is_as_made(made, folder):
+    """Whether the packages in rust/ are what rust/make writes."""
+    made.packages(folder)
+    failed = []
+    for package in os.listdir(folder):
+        new, kept = f"{folder}/{package}", f"{TOP}/rust/{package}"
+        names = files(new) | {it for it in files(kept) if not it.startswith("target")}
+        _, other, missing = filecmp.cmpfiles(new, kept, names, shallow=False)
+        failed += [f"{package}/{it}" for it in sorted(other + missing)]
+    for name in failed:
+        print(f"rust/{name} is not what rust/make writes")
+    return not failed
+
+
+def runs_all():
+    """Whether each of our crates that has tests is one of those that run."""
+    paths = glob.glob(f"{TOP}/crates/*/src/**/*.rt", recursive=True)
+    tested = {os.path.relpath(it, TOP).split("/")[1] for it in paths if "#[test]" in read(it)}
+    for crate in sorted(tested - {*TESTS}):
+        print(f"crates/{crate} has tests, and is not in TESTS of rust/tests/rust_rules.py")
+    return tested <= {*TESTS}
+
+
+def sweeps_all(made):
+    """Whether each public function that can report a failed allocation is named, as in the edition,
+    by a test in rust/tests/src/public, which lets its allocations fail."""
+    named = "".join(read(it) for it in glob.glob(f"{PARTS}/public/refused_*.rs"))
+    failed = []
+    for call, memory in public_calls.public_calls().items():
+        owner, name = call.rsplit("::", 1)
+        tried = "try_" if name in [*made.TRIED, "build_from_writes"] else ""
+        call = OTHER_NAMES.get(call, f"{owner}::{tried}{name}")
+        if memory == "answers" and f'"{call}"' not in named and not re.search(NOT_SWEPT, call):
+            print(f"{call}: no test in rust/tests/src/public lets its allocations fail")
+            failed.append(call)
+    return not failed
+
+
+def cut(folder):
+    """Takes JSON and TOML out of a crate, if the crates that they depend on are not installed."""
+    path = f"{folder}/Cargo.toml"
+    write(path, re.sub(r'"dep:\w+"|(?m:^(?:serde_json|toml) = \{.*\n)', "", read(path)))
+
+
+def add_tests(made, folder):
+    """Puts the crates of tests into a crate that was made, as modules of its own, and the files of
+    rust/tests/src beside them."""
+    made.LEFT_OUT += [] if HAS_FORMATS else FORM_MODULES
+    made.make(folder, TESTS, TEST_RULES if HAS_FORMATS else TEST_RULES + FORM_RULES)
+    for crate in TESTS:
+        for path in glob.glob(f"{folder}/src/{crate}/**/*.rs", recursive=True):
+            text = read(path)
+            place = re.match(r"(?://!.*\n)*\n*", text).end()
+            write(path, text[:place] + TEST_NAMES + text[place:])
+    shutil.copytree(PARTS, f"{folder}/src", dirs_exist_ok=True)
+    shutil.move(f"{folder}/src/public", f"{folder}/tests")
+    shutil.move(f"{folder}/src/refusing", folder)
+    write(f"{folder}/Cargo.toml", '\n[dev-dependencies]\nrefusing = { path = "refusing" }\n', "a")
+    names = "".join(
+        f"#[cfg(test)]\n#[allow(dead_code, unused_imports, unused_variables)]\nmod {name};\n"
+        for name in ["runtime", "refusals", "icu_collections", "tables", *FORMS, *TESTS]
+    )
+    write(f"{folder}/src/lib.rs", f"#[cfg(test)]\nextern crate std;\n{names}", "a")
+
+
+def add_caller(folder):
+    """Writes a user's crate, whose program is the example in rust/README.md."""
+    os.makedirs(f"{folder}/src")
+    write(f"{folder}/Cargo.toml", '[package]\nname = "words"\nedition = "2024"\n')
+    write(f"{folder}/src/main.rs", re.search(r"```rust\n(.*?)```", read(README), re.S)[1])
