@@ -13,14 +13,15 @@
  * A code point is any 32-bit number. Above 0x10FFFF a trie returns its error value, and no set
  * contains the number. A `count` is a number of items, a `size` a number of bytes, and `room` the
  * length of an output buffer in items. The bytes of tries, unit tries and texts may be at any
- * address; numbers of 16, 32 and 64 bits have to be aligned as in C. If a count is 0, the pointer
- * beside it may be NULL; no other pointer may be. An output buffer may not overlap an input. All
- * functions may be called from several threads at once, as long as nobody changes what they read.
+ * address; numbers of 16, 32 and 64 bits have to be aligned as in C. If a count or a size is 0, the
+ * pointer beside it may be NULL; no other pointer may be. An output buffer may not overlap an
+ * input. All functions may be called from several threads at once, as long as nobody changes what
+ * they read.
  *
  * Functions marked [inline] are in this header, at its end; they are tested, not proved. All others
- * are in the library, and are proved: README.md says what. Those marked [m] allocate with malloc
- * while they run. C99 or later, C++11 or later, with gcc or clang, on x86-64 Linux. Link with
- * -lbekstaudi. */
+ * are in the library, and are proved (README.md says what is). Those marked [m] allocate with
+ * malloc while they run. Use C99 or later, or C++11 or later, with gcc or clang, on x86-64 Linux.
+ * Link with -lbekstaudi. */
 #ifndef BEKSTAUDI_H
 #define BEKSTAUDI_H
 
@@ -30,7 +31,7 @@
 #include <string.h>
 
 #if !defined(__BYTE_ORDER__) || __BYTE_ORDER__ != __ORDER_LITTLE_ENDIAN__
-#error "bekstaudi.h: gcc or clang is wanted, and a machine with the lowest byte first"
+#error "bekstaudi.h: expected gcc or clang, and a little-endian machine"
 #endif
 
 #ifdef __cplusplus
@@ -48,8 +49,8 @@ enum bks_status {
     BKS_UNKNOWN_TYPE = 4,    /* the type is neither fast nor small */
     BKS_UNKNOWN_WIDTH = 5,   /* the values have none of the widths 8, 16 and 32 bits */
     BKS_RESERVED = 6,        /* a reserved bit is not 0 */
-    BKS_OTHER_WIDTH = 7,     /* not returned: bks_trie_open accepts any width. bekstaudi.hpp
-                                throws it */
+    BKS_OTHER_WIDTH = 7,     /* thrown by bekstaudi.hpp. Not returned: bks_trie_open accepts any
+                                width */
     BKS_CUT_OFF = 8,         /* fewer bytes than the index and the data take */
     BKS_CELL = 9,            /* reserved, not returned: a cell that is not a value */
     BKS_EMPTY_DATA = 10,     /* the data is empty */
@@ -63,8 +64,8 @@ enum bks_status {
 enum bks_refusal {
     BKS_NO_MEMORY = -1,  /* an allocation failed */
     BKS_NO_SET = -2,     /* bks_set_test returns false for a list of boundaries */
-    BKS_NO_TRIE = -2,    /* from functions that take no set, and so have no BKS_NO_SET: the
-                            trie was not made by bks_trie_open, or the units are not a trie */
+    BKS_NO_TRIE = -2,    /* the same number, from functions that take no set: the trie was not
+                            made by bks_trie_open, or the units are not a trie */
     BKS_NO_TEXT = -3,    /* the text is not UTF-8 */
     BKS_NO_KEY = -4,     /* no key of a unit trie is a prefix of the text */
     BKS_NO_FORM = -5,    /* the type or the width does not exist */
@@ -76,8 +77,8 @@ enum bks_refusal {
     BKS_SAME_KEY = -10   /* two entries have the same key */
 };
 
-/* A trie, passed by value: copy it and drop it as you like. Its cells stay in the bytes that it was
- * opened from. These have to stay where they are, unchanged, while it is used. Read its fields,
+/* A trie, passed by value: copy it and drop it as you like. Its cells are in the bytes that it was
+ * opened from. These have to stay at their address, unchanged, while it is used. Read its fields,
  * never write them: the inline look-ups rely on them. A bks_trie of zeros, and one that
  * bks_trie_open could not open, has no cells, and all its values are 0. */
 typedef struct bks_trie {
@@ -127,8 +128,8 @@ enum bks_step {
 };
 
 /* A position in a unit trie, passed by value: copy it and drop it as you like. All zeros is the
- * root, before any unit. Any numbers are a position: from one that no step led to, the units say
- * what follows, and nothing matches if a unit is missing. */
+ * root, before any unit. Any numbers are accepted: from a position to which no step led, the units
+ * say what follows, and nothing matches if a unit is missing. */
 typedef struct bks_cursor {
     size_t position;                  /* the index of the next unit */
     uint16_t left;                    /* 0 at a node. In a run of units that all have to match, how
@@ -150,15 +151,16 @@ typedef struct bks_word {
  * first fault in the order of enum bks_status. With a fault, *trie has no cells and its numbers are
  * 0. trie->size says how many bytes the trie takes; the bytes after it are not read.
  *
- * It writes every field of *trie and reads none, so *trie may be uninitialized. The compiled code
- * shows this, and tests; the proof takes *trie for a bks_trie, which bks_open makes of it.
+ * It writes every field of *trie and reads none, so *trie may be uninitialized: the compiled code
+ * and tests show this. The proof assumes that *trie is a valid bks_trie; bks_open first makes it
+ * one.
  *
  * ICU: ucptrie_openFromBinary. */
 uint32_t bks_trie_open(const void *bytes, size_t size, bks_trie *trie);
 
-/* Returns the value of c, and the error value if c is above 0x10FFFF. The number in the name is how
- * many bits a value has, and has to be 8 * trie->width. Unspecified (but memory-safe) for a trie of
- * another width. Inline: bks_get8, bks_get16, bks_get32. ICU: ucptrie_get. */
+/* Returns the value of c, or the error value if c is above 0x10FFFF. The number in the name is the
+ * number of bits of a value, and has to be 8 * trie->width. Unspecified (but memory-safe) for a
+ * trie of another width. Inline: bks_get8, bks_get16, bks_get32. ICU: ucptrie_get. */
 uint8_t bks_trie8_get(const bks_trie *trie, uint32_t c);
 uint16_t bks_trie16_get(const bks_trie *trie, uint32_t c);
 uint32_t bks_trie32_get(const bks_trie *trie, uint32_t c);
@@ -193,13 +195,12 @@ size_t bks_trie32_get_utf16(const bks_trie *trie, const uint16_t *text, size_t c
                             uint32_t *values, size_t room);
 
 /* Returns whether the trie's header is right about the high value and the null blocks, as in every
- * trie that ICU built. Look-ups do not depend on it. Ranges rely on the header: in a coherent trie
- * they are the longest runs of equal values, in another one they may be shorter or have another
- * value. */
+ * trie that ICU built. Look-ups do not rely on the header. Ranges do: in a coherent trie they are
+ * the longest runs of equal values, in another one they may be shorter or have another value. */
 bool bks_trie_is_coherent(const bks_trie *trie);
 
-/* Returns the range of one value that starts at c. There is none above 0x10FFFF, or if the trie
- * lacks a cell. All ranges of a trie:
+/* Returns the range of one value that starts at c. There is none if c is above 0x10FFFF, or if the
+ * trie lacks a cell. All ranges of a trie:
  *     for (bks_range r = bks_trie_range(&t, 0); r.found; r = bks_trie_range(&t, r.last + 1)) ..
  * ICU: ucptrie_getRange. */
 bks_range bks_trie_range(const bks_trie *trie, uint32_t c);
@@ -214,7 +215,7 @@ bks_range bks_trie_range(const bks_trie *trie, uint32_t c);
 size_t bks_trie_ranges(const bks_trie *trie, uint32_t c, bks_range *ranges, size_t room);
 
 /* [m] Writes the boundaries of the set of the code points in ranges of this value into `ends`, as
- * many as fit. Returns how many there are; BKS_NO_MEMORY or BKS_NO_TRIE. */
+ * many as fit. Returns how many there are, or BKS_NO_MEMORY or BKS_NO_TRIE. */
 int64_t bks_trie_set(const bks_trie *trie, uint32_t value, uint32_t *ends, size_t room);
 
 /* [m] Builds a trie from rows in ICU's binary form. A later row overwrites an earlier one. Code
@@ -228,8 +229,8 @@ int64_t bks_trie_set(const bks_trie *trie, uint32_t value, uint32_t *ends, size_
  * bks_open opens the bytes, as a coherent trie.
  *
  * If no trie is built, it returns the first of these that applies: BKS_NO_FORM; BKS_WIDE_VALUE, for
- * the value of any row, the default or the error value; BKS_TOO_LARGE, for its number of blocks
- * only with more than 256 rows; BKS_NO_MEMORY, which may come before BKS_TOO_LARGE.
+ * the value of any row, the default or the error value; BKS_TOO_LARGE; BKS_NO_MEMORY, which may
+ * come before BKS_TOO_LARGE. With up to 256 rows, no trie has too many blocks.
  *
  * ICU: umutablecptrie_setRange for each row, umutablecptrie_buildImmutable and ucptrie_toBinary. */
 int64_t bks_trie_build(const bks_row *rows, size_t count, uint32_t default_value,
@@ -251,21 +252,21 @@ bool bks_set_test(const uint32_t *ends, size_t count);
  * ICU: uset_contains. */
 bool bks_set_contains(const uint32_t *ends, size_t count, uint32_t c);
 
-/* [m] Returns how many code points the set contains, surrogates included; BKS_NO_MEMORY or
+/* [m] Returns how many code points the set contains, surrogates included, or BKS_NO_MEMORY or
  * BKS_NO_SET. ICU: uset_size. */
 int64_t bks_set_size(const uint32_t *ends, size_t count);
 
 /* [m] Returns the size in bytes of the longest prefix of a UTF-8 text whose characters are all in
- * the set or, if `held` is false, all not in it. It ends at a character boundary. BKS_NO_SET,
- * BKS_NO_TEXT or BKS_NO_MEMORY. All of the text is validated first, which takes time for all of it.
- * So pass a long text piece by piece, and a larger piece if the result is all of it, as
+ * the set or, if `held` is false, all not in it. It ends at a character boundary. Errors:
+ * BKS_NO_SET, BKS_NO_TEXT, BKS_NO_MEMORY. All of the text is validated first, which takes time for
+ * all of it. So pass only the start of a long text, and more if the result is all of it, as
  * bekstaudi.hpp does. ICU: uset_spanUTF8. */
 int64_t bks_set_span(const uint32_t *ends, size_t count, const char *text, size_t size, bool held);
 
 /* [m] Writes the boundaries of a set made from two sets into `ends`, as many as fit: the union, the
  * intersection, the code points in the first set and not in the second, those in exactly one of
- * them. Returns how many there are, never more than a_count + b_count; BKS_NO_MEMORY or BKS_NO_SET.
- * `ends` may not overlap a or b. ICU: uset_addAll, uset_retainAll, uset_removeAll,
+ * them. Returns how many there are, never more than a_count + b_count, or BKS_NO_MEMORY or
+ * BKS_NO_SET. `ends` may not overlap a or b. ICU: uset_addAll, uset_retainAll, uset_removeAll,
  * uset_complementAll. */
 int64_t bks_set_union(const uint32_t *a, size_t a_count, const uint32_t *b, size_t b_count,
                       uint32_t *ends, size_t room);
@@ -277,13 +278,13 @@ int64_t bks_set_symmetric_difference(const uint32_t *a, size_t a_count, const ui
                                      size_t b_count, uint32_t *ends, size_t room);
 
 /* [m] Freezes a set, for many look-ups of two reads each. Returns how many 64-bit words the frozen
- * set takes, at most BKS_FROZEN_MOST. They are in `table` if all of them fit; otherwise `table` is
- * unchanged: call it first with room 0, or again with more. BKS_NO_MEMORY or BKS_NO_SET.
+ * set takes, at most BKS_FROZEN_MOST, or BKS_NO_MEMORY or BKS_NO_SET. The words are in `table` if
+ * all of them fit; otherwise `table` is unchanged: call it first with room 0, or again with more.
  *
  * First come 4,352 block offsets of 16 bits, one for each block of 256 code points, four in a word,
  * the first one in the lowest bits. From word 1,088 on, each word has the bits of 64 code points,
  * the first one in the lowest bit. A block's offset says at which of these words its four words
- * start. Blocks that contain nothing share their words, and so do those that contain everything.
+ * start. Blocks without members share their words, and so do blocks of members only.
  * There are no pointers in the words: you may copy, store and map them. ICU: uset_freeze. */
 enum { BKS_FROZEN_MOST = 18504 };
 int64_t bks_set_freeze(const uint32_t *ends, size_t count, uint64_t *table, size_t room);
@@ -294,8 +295,8 @@ int64_t bks_set_freeze(const uint32_t *ends, size_t count, uint64_t *table, size
 bool bks_frozen_contains(const uint64_t *table, size_t count, uint32_t c);
 
 /* Returns the size in bytes of the longest prefix of a UTF-8 text whose characters are all in the
- * frozen set or, if `held` is false, all not in it. It ends at a character boundary. BKS_NO_TEXT.
- * Any words are accepted. Like bks_set_span it validates all of the text first.
+ * frozen set or, if `held` is false, all not in it. It ends at a character boundary. Error:
+ * BKS_NO_TEXT. Any words are accepted. Like bks_set_span it validates all of the text first.
  * ICU: uset_spanUTF8. */
 int64_t bks_frozen_span(const uint64_t *table, size_t count, const char *text, size_t size,
                         bool held);
@@ -320,8 +321,8 @@ int64_t bks_units_longest(const void *units, size_t size, const uint16_t *text, 
 
 /* Finds the longest key that is a prefix of a UTF-8 text. Returns how many bytes of the text it
  * takes, and stores its value in *value. A key that ends within a character does not count.
- * BKS_NO_KEY or BKS_NO_TEXT; *value is then unchanged. All of the text is validated first: of a
- * long text, pass no more than the longest key takes. */
+ * Errors: BKS_NO_KEY, BKS_NO_TEXT; *value is then unchanged. All of the text is validated first: of
+ * a long text, pass no more than the longest key takes. */
 int64_t bks_units_longest_utf8(const void *units, size_t size, const char *text, size_t text_size,
                                int32_t *value);
 
@@ -335,21 +336,21 @@ uint32_t bks_units_step(const void *units, size_t size, bks_cursor *cursor, uint
  * does; *value is then unchanged. ICU: UCharsTrie::getValue. */
 bool bks_units_value(const void *units, size_t size, const bks_cursor *cursor, int32_t *value);
 
-/* [m] Returns how many entries a unit trie has, at most 2^63 - 1; BKS_NO_MEMORY, or BKS_NO_TRIE if
- * the units are not a trie. It visits each node twice, however many entries there are. So it also
- * validates untrusted units, in time linear in their number. */
+/* [m] Returns how many entries a unit trie has, at most 2^63 - 1, or BKS_NO_MEMORY, or BKS_NO_TRIE
+ * if the units are not a trie. It visits each node twice, however many entries there are. So it
+ * also validates untrusted units, in time linear in their number. */
 int64_t bks_units_count(const void *units, size_t size);
 
 /* [m] Lists the entries of a unit trie in unit order. Returns how many there are, and stores in
  * *texts_size how many bytes their texts take. A text is a key in UTF-8, with each lone surrogate
  * as U+FFFD. `words` receives the first entries: as many as fit in `words` and whose texts fit in
  * `texts`. The text of a word w is w.size bytes at texts + w.start. Unless all fit, it does not
- * return how many words it wrote: so call it first with room 0, or again with more. BKS_NO_MEMORY,
- * or BKS_TOO_LARGE if there are 2^63 entries or bytes; nothing is then written.
+ * return how many words it wrote: call it first with room 0, or again with more. It returns
+ * BKS_NO_MEMORY, or BKS_TOO_LARGE if there are 2^63 entries or bytes; nothing is then written.
  *
- * 4 k untrusted units can have 2^k entries, and a listing takes time for all of them, however small
- * the buffers: call bks_units_count first. If the units are not a trie, the entries are those that
- * its nodes have, as far as they can be read. ICU: UCharsTrie::Iterator. */
+ * 4 k + 1 untrusted units can have 2^k entries, and a listing takes time for all of them, however
+ * small the buffers: call bks_units_count first. If the units are not a trie, the entries are those
+ * of its nodes, as far as they can be read. ICU: UCharsTrie::Iterator. */
 int64_t bks_units_list(const void *units, size_t size, bks_word *words, size_t words_room,
                        char *texts, size_t texts_room, size_t *texts_size);
 
@@ -369,10 +370,10 @@ int64_t bks_units_build(const uint16_t *keys, size_t keys_count, const size_t *l
                         void *units, size_t room);
 
 /* ---- Inline functions ------------------------------------------------------------------------ */
-/* These are C: they are tested, not proved. They read without a test what the proved functions
- * guarantee; the README of crates/icu_collections_c lists each such read and the guarantee. */
+/* They read without a test what the proved functions guarantee. The README of
+ * crates/icu_collections_c lists each such read and the guarantee. */
 
-/* [inline] bks_trie_open for a *trie that may be uninitialized: it makes a bks_trie of it first,
+/* [inline] bks_trie_open for a *trie that may be uninitialized: it first makes it a valid bks_trie,
  * as the proof of bks_trie_open assumes. */
 static inline uint32_t bks_open(bks_trie *trie, const void *bytes, size_t size) {
     memset(trie, 0, sizeof *trie);
@@ -390,16 +391,16 @@ static inline size_t bks_fast_place(const bks_trie *trie, uint32_t c) {
     return (size_t)block + (c & 63);
 }
 
-/* [inline] Returns whether c is a code point from the high start on. In a trie that is open all of
- * these have one value, that of the last cell but one, and there are at least 64 cells. */
+/* [inline] Returns whether c is a code point from the high start on. In an open trie all of these
+ * have one value, that of the last cell but one, and there are at least 64 cells. */
 static inline bool bks_is_high(const bks_trie *trie, uint32_t c) {
     return c >= trie->high_start && c <= 0x10FFFF && trie->fast_limit != 0;
 }
 
 /* [inline] bks_trie8_get: two reads below the fast limit, one from the high start on, and a call to
  * the library between them. Unspecified (but memory-safe) for a trie of another width. Code points
- * below the high start have a test of their own, so that a compiler does not make one slow test of
- * three. ICU: ucptrie_get. */
+ * below the high start have a separate test, so that a compiler does not join three tests into a
+ * slow one. ICU: ucptrie_get. */
 static inline uint8_t bks_get8(const bks_trie *trie, uint32_t c) {
     if (c < trie->fast_limit) return trie->values[bks_fast_place(trie, c)];
     if (c < trie->high_start) return bks_trie8_get(trie, c);
@@ -407,8 +408,8 @@ static inline uint8_t bks_get8(const bks_trie *trie, uint32_t c) {
     return bks_trie8_get(trie, c);
 }
 
-/* [inline] bks_trie16_get. A trie of another width goes to the library, which stays inside the
- * trie. ICU: ucptrie_get. */
+/* [inline] bks_trie16_get. For a trie of another width it calls the library, which reads only
+ * inside the trie. ICU: ucptrie_get. */
 static inline uint16_t bks_get16(const bks_trie *trie, uint32_t c) {
     uint16_t value;
     if (trie->width != sizeof value) return bks_trie16_get(trie, c);
@@ -422,8 +423,8 @@ static inline uint16_t bks_get16(const bks_trie *trie, uint32_t c) {
     return value;
 }
 
-/* [inline] bks_trie32_get. A trie of another width goes to the library, which stays inside the
- * trie. ICU: ucptrie_get. */
+/* [inline] bks_trie32_get. For a trie of another width it calls the library, which reads only
+ * inside the trie. ICU: ucptrie_get. */
 static inline uint32_t bks_get32(const bks_trie *trie, uint32_t c) {
     uint32_t value;
     if (trie->width != sizeof value) return bks_trie32_get(trie, c);
@@ -438,7 +439,7 @@ static inline uint32_t bks_get32(const bks_trie *trie, uint32_t c) {
 }
 
 /* [inline] bks_frozen_contains for words that bks_set_freeze wrote: two reads, both inside them.
- * For other words, untrusted ones say, use bks_frozen_contains. */
+ * For other words, such as untrusted ones, use bks_frozen_contains. */
 static inline bool bks_frozen_has(const uint64_t *table, uint32_t c) {
     uint16_t place;
     if (c >= 0x110000) return false;

@@ -1,6 +1,6 @@
 // bekstaudi.hpp: bekstaudi.h in C++17, as classes that are passed by value.
 //
-// Tries and unit tries are views: what they read stays in the bytes that they were made over. A set
+// Tries and unit tries are views of bytes, which have to stay at their address, unchanged. A set
 // owns its boundaries. If a function of bekstaudi.h returns a negative number, the class throws
 // std::bad_alloc or one of the errors below. If no key is a prefix of a text, or units are not a
 // trie, the result is an empty optional. Link with -lbekstaudi.
@@ -27,7 +27,7 @@
 
 namespace bekstaudi {
 
-// Thrown if the bytes are not a trie of the wanted width. status() is the first fault.
+// Thrown if the bytes are not a trie of this width. status() is the first fault.
 class trie_refused : public std::invalid_argument {
 public:
     explicit trie_refused(bks_status status)
@@ -38,8 +38,8 @@ private:
     bks_status status_;
 };
 
-// Thrown if the numbers are not the boundaries of a set, or if the bytes of a text, as far as they
-// are read, are not UTF-8.
+// Thrown if the numbers are not the boundaries of a set, or if the part of a text that is read is
+// not UTF-8.
 class set_refused : public std::invalid_argument {
 public:
     using std::invalid_argument::invalid_argument;
@@ -59,7 +59,7 @@ public:
     constexpr std::size_t size() const noexcept { return size_; }
 
 private:
-    // The functions of bekstaudi.h take no NULL pointer, not even with a size of 0.
+    // data() is never NULL: a view without items points to this one.
     static constexpr T none{};
     const T *data_;
     std::size_t size_;
@@ -102,9 +102,9 @@ inline std::string_view front_of(std::string_view text, std::size_t size) {
     return text.substr(0, end);
 }
 
-// Returns the longest prefix of a text that a call finds. Since a call validates all bytes that it
-// gets, it gets a short prefix of the text first, and one of twice as many bytes as long as all of
-// it is found.
+// Returns the longest prefix of a text that a call finds. A call validates all bytes that it gets.
+// So it gets a short prefix of the text first, and twice as many bytes as long as the result is all
+// of them.
 template <class Call>
 std::string_view span_of(std::string_view text, Call call) {
     for (std::size_t size = 64;; size *= 2) {
@@ -159,8 +159,8 @@ public:
     }
 
     // Returns the longest prefix of a UTF-8 text whose characters are all in the set or, if `held`
-    // is false, all not in it. It reads no more of the text than 64 bytes, or four times the
-    // prefix. Throws set_refused if that part is not UTF-8.
+    // is false, all not in it. It reads at most 64 bytes, or four times the prefix. Throws
+    // set_refused if that part of the text is not UTF-8.
     std::string_view span(std::string_view text, bool held = true) const {
         return detail::span_of(text, [&](view<char> bytes) {
             return bks_set_span(of().data(), ends_.size(), bytes.data(), bytes.size(), held);
@@ -208,13 +208,13 @@ private:
 };
 
 // A set of code points for many look-ups, of two reads each (ICU: a frozen UnicodeSet). A move
-// copies its words too, so no frozen set is ever without words.
+// copies the words, so no frozen set is ever without words.
 class frozen_set {
 public:
     explicit frozen_set(const code_point_set &set) {
         view<std::uint32_t> ends(set.ends());
-        // A boundary is in one block, which then has four words of its own. Eight more words are
-        // shared.
+        // Each boundary is in one block, and such a block has four words of its own. Blocks without
+        // a boundary share eight words.
         std::size_t needed = 1088 + 8 + 4 * ends.size();
         if (needed > BKS_FROZEN_MOST) needed = BKS_FROZEN_MOST;
         do {
@@ -246,7 +246,7 @@ private:
 };
 
 // A trie whose values have 8, 16 or 32 bits (ICU: UCPTrie). The bytes that it was opened from have
-// to stay where they are, unchanged, while it or a copy of it is used.
+// to stay at their address, unchanged, while it or a copy of it is used.
 template <class Value>
 class trie {
     static_assert(std::is_same_v<Value, std::uint8_t> || std::is_same_v<Value, std::uint16_t> ||
@@ -272,8 +272,8 @@ public:
     const bks_trie &as_c() const noexcept { return trie_; }
     std::size_t size_bytes() const noexcept { return trie_.size; }
 
-    // Returns the value of c, and the error value if c is above 0x10FFFF. Inline, as bks_get8,
-    // bks_get16 or bks_get32 (ICU: ucptrie_get).
+    // Returns the value of c, or the error value if c is above 0x10FFFF. Inline, like bks_get8,
+    // bks_get16 and bks_get32 (ICU: ucptrie_get).
     Value operator[](std::uint32_t c) const noexcept {
         if constexpr (sizeof(Value) == 1)
             return bks_get8(&trie_, c);
@@ -287,8 +287,8 @@ public:
     // this library built.
     bool is_coherent() const noexcept { return bks_trie_is_coherent(&trie_); }
 
-    // Returns the range of one value that starts at c (ICU: ucptrie_getRange). There is none above
-    // 0x10FFFF, or if the trie lacks a cell.
+    // Returns the range of one value that starts at c (ICU: ucptrie_getRange). There is none if c
+    // is above 0x10FFFF, or if the trie lacks a cell.
     std::optional<bks_range> range(std::uint32_t c) const noexcept {
         bks_range found = bks_trie_range(&trie_, c);
         return found.found ? std::optional<bks_range>(found) : std::nullopt;
@@ -397,7 +397,7 @@ private:
 };
 
 // A map from keys of 16-bit units to numbers (ICU: UCharsTrie). The units, two bytes each, have to
-// stay where they are, unchanged, while it or a copy of it is used. Any bytes are accepted.
+// stay at their address, unchanged, while it or a copy of it is used. Any bytes are accepted.
 class unit_trie {
 public:
     // A prefix of a text that is a key: its size in the items of the text (units or bytes), and its
@@ -500,8 +500,8 @@ public:
     }
 
     // Returns the longest key that is a prefix of a UTF-8 text, or nothing if no key is. All of the
-    // text is validated first, which takes time for all of it: of a long text, pass no more than
-    // the longest key takes. Throws set_refused if the text is not UTF-8.
+    // text is validated first: of a long text, pass no more than the longest key takes. Throws
+    // set_refused if the text is not UTF-8.
     std::optional<match> longest(std::string_view text) const {
         std::int32_t value = 0;
         view<char> bytes(text);
