@@ -38,6 +38,10 @@
 extern "C" {
 #endif
 
+/* The version of this header, as text and as a number: 1.2.3 is 10203. */
+#define BKS_VERSION "0.2.0"
+#define BKS_VERSION_NUMBER 200
+
 /* ---- Types ----------------------------------------------------------------------------------- */
 
 /* What bks_trie_open returns. If there are several faults, it reports the first in this order. */

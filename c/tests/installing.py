@@ -1,0 +1,130 @@
+"""What c/build installs, and its end if it is interrupted."""
+import os
+import re
+import shutil
+import signal
+import subprocess
+import time
+
+from running import BUILD, CC, TOP, passes
+
+# A project that finds the library as CMake does, and one that asks for a later version.
+PROJECT = """cmake_minimum_required(VERSION 3.10)
+project(user C)
+find_package(bekstaudi {wanted} REQUIRED)
+foreach(kind bekstaudi static)
+  add_executable(by_${{kind}} main.c)
+  target_link_libraries(by_${{kind}} PRIVATE bekstaudi::${{kind}})
+endforeach()
+"""
+MAIN = """#include <bekstaudi.h>
+int main(void) {
+    const uint32_t ends[] = {0x41, 0x5B};
+    return bks_set_contains(ends, 2, 0x41) ? 0 : 1;
+}
+"""
+# A compiler that waits: what c/build has started when the signal arrives.
+WAITING = """#!/bin/sh
+echo $$ >"{room}/started"
+sleep 600
+"""
+
+
+def version():
+    with open(f"{TOP}/VERSION", encoding="utf-8") as file:
+        return file.read().strip()
+
+
+def of_one_version(where, pattern):
+    """Whether a file names this version wherever it names one."""
+    with open(f"{TOP}/{where}", encoding="utf-8") as file:
+        found = re.findall(pattern, file.read())
+    good = bool(found) and set(found) == {version()}
+    print(f"{where}: version {version()}" if good else f"{where}: {found} in place of {version()}: FAILED")
+    return good
+
+
+def versions():
+    """The version of the header and of each package is that of the file VERSION."""
+    yield of_one_version("c/bekstaudi.h", r'#define BKS_VERSION "([^"]*)"')
+    parts = "".join(f"{int(it):02}" for it in version().split(".")).lstrip("0")
+    with open(f"{TOP}/c/bekstaudi.h", encoding="utf-8") as file:
+        found = re.findall(r"#define BKS_VERSION_NUMBER (\d+)", file.read())
+    print(f"BKS_VERSION_NUMBER: {found}")
+    yield found == [parts]
+    for package in ("bekstaudi", "bekstaudi-c", "ucptab", "ucptrie"):
+        yield of_one_version(f"rust/{package}/Cargo.toml", r'(?m)^(?:bekstaudi = \{ )?version = "([^"]*)"')
+
+
+def by_cmake(room, prefix):
+    """A project in C finds the library by CMake; one that asks for a later version is refused."""
+    if not shutil.which("cmake"):
+        print("CMake is not tried: no cmake on PATH")
+        return
+    os.makedirs(f"{room}/user")
+    with open(f"{room}/user/main.c", "w", encoding="utf-8") as file:
+        file.write(MAIN)
+    for wanted, is_found in ((version(), True), (version().rpartition(".")[0], True), ("", True), ("99.0", False)):
+        with open(f"{room}/user/CMakeLists.txt", "w", encoding="utf-8") as file:
+            file.write(PROJECT.format(wanted=wanted))
+        shutil.rmtree(f"{room}/made", ignore_errors=True)
+        words = ["cmake", "-S", f"{room}/user", "-B", f"{room}/made", f"-DCMAKE_PREFIX_PATH={prefix}", f"-DCMAKE_C_COMPILER={CC}"]
+        ran = subprocess.run(words, stdout=subprocess.PIPE, stderr=subprocess.STDOUT, text=True)
+        print(f"find_package(bekstaudi {wanted}): {'found' if ran.returncode == 0 else 'refused'}")
+        if (ran.returncode == 0) != is_found:
+            print(f"{ran.stdout}\nFAILED")
+        yield (ran.returncode == 0) == is_found
+        if is_found and wanted == version():
+            yield passes("cmake --build", ["cmake", "--build", f"{room}/made"])
+            for kind in ("bekstaudi", "static"):
+                yield passes(f"by {kind}", [f"{room}/made/by_{kind}"])
+
+
+def running(session):
+    """The processes of a session that still run."""
+    words = ["ps", "-o", "stat=", "-g", str(session)]
+    return [it for it in subprocess.run(words, stdout=subprocess.PIPE, text=True).stdout.split() if it[0] != "Z"]
+
+
+def ends(room, name):
+    """c/build that is interrupted leaves nothing running."""
+    os.makedirs(f"{room}/waiting", exist_ok=True)
+    if os.path.exists(f"{room}/started"):
+        os.remove(f"{room}/started")
+    with open(f"{room}/waiting/cargo", "w", encoding="utf-8") as file:
+        file.write(WAITING.format(room=room))
+    os.chmod(f"{room}/waiting/cargo", 0o755)
+    where = {**os.environ, "PATH": f"{room}/waiting:{os.environ['PATH']}"}
+    words = [BUILD[0], "--cargo", "--out", f"{room}/never"]
+    # A shell does not set a trap for a signal that was ignored when it began.
+    begun = subprocess.Popen(words, env=where, preexec_fn=lambda: signal.signal(signal.SIGINT, signal.SIG_DFL))
+    until = time.monotonic() + 60
+    while not os.path.exists(f"{room}/started") or not os.path.getsize(f"{room}/started"):
+        if time.monotonic() > until:
+            print("c/build did not start cargo: FAILED")
+            return False
+        time.sleep(0.05)
+    with open(f"{room}/started", encoding="utf-8") as file:
+        child = int(file.read())
+    begun.send_signal(getattr(signal, name))
+    status = begun.wait(60)
+    while (left := running(child)) and time.monotonic() < until:
+        time.sleep(0.05)
+    print(f"c/build at {name}: status {status}, {len(left)} left")
+    return not left and status == {"SIGINT": 130, "SIGTERM": 143}[name]
+
+
+def installing(room):
+    """c/build with a relative PREFIX, and the files that pkg-config and CMake read."""
+    yield from versions()
+    os.makedirs(f"{room}/below", exist_ok=True)
+    yield passes("c/build with a relative PREFIX", [*BUILD, "relative"], cwd=f"{room}/below")
+    prefix = f"{room}/below/relative"
+    if shutil.which("pkg-config"):
+        known = {**os.environ, "PKG_CONFIG_PATH": f"{prefix}/lib/pkgconfig"}
+        ran = subprocess.run(["pkg-config", "--variable=prefix", "bekstaudi"], env=known, stdout=subprocess.PIPE, text=True)
+        print(f"prefix in bekstaudi.pc: {ran.stdout.strip()}")
+        yield os.path.realpath(ran.stdout.strip()) == os.path.realpath(prefix)
+    yield from by_cmake(room, prefix)
+    yield ends(room, "SIGTERM")
+    yield ends(room, "SIGINT")
