@@ -1,40 +1,28 @@
-/* Prints each character of a text with its general category, from a table of ICU's (make_table.c).
+/* Prints each character of a text with its general category.
    cc categories.c $(pkg-config --cflags --libs bekstaudi) -o categories
-   ./categories general_category.bin 'Grüße, 世界!' */
+   ./categories 'Grüße, 世界!' */
 #include <bekstaudi.h>
+#include <bekstaudi_categories.h>
 #include <stdio.h>
 
-/* ICU's names for the values (UCharCategory). */
-static const char names[][3] = {"Cn", "Lu", "Ll", "Lt", "Lm", "Lo", "Mn", "Me", "Mc", "Nd",
-                                "Nl", "No", "Zs", "Zl", "Zp", "Cc", "Cf", "Co", "Cs", "Pd",
-                                "Ps", "Pe", "Pc", "Po", "Sm", "Sc", "Sk", "So", "Pi", "Pf"};
-
 int main(int count, char **words) {
-    static unsigned char table[1 << 16];
-    static uint8_t categories[1 << 16];
-    FILE *file = count == 3 ? fopen(words[1], "rb") : NULL;
-    if (!file) {
-        fprintf(stderr, "usage: categories TABLE TEXT\n");
+    static uint8_t values[1 << 16];
+    if (count != 2) {
+        fprintf(stderr, "usage: categories TEXT\n");
         return 2;
     }
-    size_t size = fread(table, 1, sizeof table, file);
-    fclose(file);
-    bks_trie trie;
-    uint32_t status = bks_open(&trie, table, size);
-    if (status != BKS_OK || trie.width != 1) {
-        fprintf(stderr, "categories: no table of 8 bits: fault %u\n", status);
-        return 1;
-    }
-    const char *text = words[2];
-    int64_t found = bks_trie8_get_utf8(&trie, text, strlen(text), categories, sizeof categories);
-    if (found < 0 || (size_t)found > sizeof categories) {
+    bks_trie categories;
+    bks_open(&categories, bks_category_table, sizeof bks_category_table);
+    const char *text = words[1];
+    int64_t found = bks_trie8_get_utf8(&categories, text, strlen(text), values, sizeof values);
+    if (found < 0 || (size_t)found > sizeof values) {
         fprintf(stderr, "categories: the text is no UTF-8, or too long\n");
         return 1;
     }
     for (int64_t i = 0; i < found; i++) {
         int bytes = 1;
         while ((text[bytes] & 0xC0) == 0x80) bytes++;
-        printf("%.*s %s\n", bytes, text, categories[i] < 30 ? names[categories[i]] : "?");
+        printf("%.*s %s\n", bytes, text, bks_category_names[values[i]]);
         text += bytes;
     }
     return 0;

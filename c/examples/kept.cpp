@@ -1,8 +1,10 @@
-// Prints what a text has of letters, digits and spaces, by a table of general categories in ICU's form.
+// Prints what a text has of letters, digits and spaces, by a table of general categories that ICU or
+// ucptrie wrote (make_table.c).
 // c++ -std=c++17 kept.cpp $(pkg-config --cflags --libs bekstaudi) -o kept
 // ./kept general_category.bin 'A+ß, 7!'
 // ./kept general_category.bin <FILE
 #include <bekstaudi.hpp>
+#include <bekstaudi_categories.h>
 #include <fstream>
 #include <iostream>
 #include <iterator>
@@ -29,8 +31,9 @@ int main(int count, char **words) {
     const std::string bytes = read_all(file);
     try {
         bekstaudi::trie8 categories(bytes);
-        bekstaudi::code_point_set kept{0x0A, 0x0B};             // ends of lines
-        for (std::uint8_t category : {1, 2, 3, 4, 5, 9, 12}) {  // Lu to Lo, Nd, Zs, by ICU's numbers
+        bekstaudi::code_point_set kept{0x0A, 0x0B};  // ends of lines
+        for (std::uint8_t category : {BKS_GC_LU, BKS_GC_LL, BKS_GC_LT, BKS_GC_LM, BKS_GC_LO,
+                                      BKS_GC_ND, BKS_GC_ZS}) {
             kept = kept | categories.set_of(category);
         }
         std::string text = count == 3 ? words[2] + std::string("\n") : read_all(std::cin);

@@ -1,26 +1,23 @@
-// Prints the words of a text, by a table of general categories in ICU's form: what is made of letters.
+// Prints the words of a text: what is made of letters.
 // c++ -std=c++17 letters.cpp $(pkg-config --cflags --libs bekstaudi) -o letters
-// ./letters general_category.bin 'Grüße, 世界!'
+// ./letters 'Grüße, 世界!'
 #include <bekstaudi.hpp>
-#include <fstream>
+#include <bekstaudi_categories.h>
 #include <iostream>
-#include <iterator>
-#include <string>
 
 int main(int count, char **words) {
-    std::ifstream file(count == 3 ? words[1] : "", std::ios::binary);
-    if (!file) {
-        std::cerr << "usage: letters TABLE TEXT\n";
+    if (count != 2) {
+        std::cerr << "usage: letters TEXT\n";
         return 2;
     }
-    std::string bytes{std::istreambuf_iterator<char>(file), {}};
     try {
-        bekstaudi::trie8 categories(bytes);
-        bekstaudi::code_point_set letters;
-        for (std::uint8_t letter = 1; letter <= 5; letter++) {  // Lu to Lo, by ICU's numbers
-            letters = letters | categories.set_of(letter);
+        bekstaudi::trie8 categories(bks_category_table);
+        bekstaudi::code_point_set set;
+        for (int letter = BKS_GC_LU; letter <= BKS_GC_LO; letter++) {
+            set = set | categories.set_of(static_cast<std::uint8_t>(letter));
         }
-        for (std::string_view text = words[2]; !text.empty();) {
+        bekstaudi::frozen_set letters(set);
+        for (std::string_view text = words[1]; !text.empty();) {
             text.remove_prefix(letters.span(text, false).size());
             std::string_view word = letters.span(text);
             text.remove_prefix(word.size());

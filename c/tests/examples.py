@@ -15,13 +15,16 @@ def examples(room):
     with open(f"{room}/gc.bin", "wb") as table:
         yield subprocess.run([f"{room}/make_table"], stdout=table).returncode == 0
     shown = "".join(f"{it} {kind}\n" for it, kind in zip(text, "Lu Ll Nd Zs Lo So Mn".split()))
-    programs = {"categories.c": (CC, "c99", shown), "letters.cpp": (CXX, "c++17", "A\u00df\n\u4e16\n")}
-    programs["kept.cpp"] = (CXX, "c++17", "A\u00df7 \u4e16\n")
-    for source, (compiler, standard, wanted) in programs.items():
+    yield passes("categories_icu.c", [CC, *STRICT, "-o", f"{room}/categories", f"{TOP}/c/tests/categories_icu.c", *flags, "-licuuc"])
+    yield os.path.exists(f"{room}/categories") and passes("categories_icu", [f"{room}/categories"])
+    table = [f"{room}/gc.bin"]
+    programs = {"categories.c": (CC, "c99", [], shown), "letters.cpp": (CXX, "c++17", [], "A\u00df\n\u4e16\n")}
+    programs["kept.cpp"] = (CXX, "c++17", table, "A\u00df7 \u4e16\n")
+    for source, (compiler, standard, files, wanted) in programs.items():
         if shutil.which(compiler):
             words = [compiler, f"-std={standard}", *STRICT, "-o", f"{room}/shown", f"{code}/{source}"]
             yield passes(source, [*words, *flags])
-            yield prints(source, [f"{room}/shown", f"{room}/gc.bin", text], wanted, os.environ)
+            yield prints(source, [f"{room}/shown", *files, text], wanted, os.environ)
     if shutil.which(CXX):
         lines = f"{text}\n\n" * 9000
         yield prints("kept.cpp", [f"{room}/shown", f"{room}/gc.bin"], "A\u00df7 \u4e16\n\n" * 9000, os.environ, lines)

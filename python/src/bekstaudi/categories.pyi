@@ -1,0 +1,6 @@
+from bekstaudi import Trie
+
+__all__ = ["NAMES", "TRIE", "UNICODE_VERSION"]
+NAMES: tuple[str, ...]
+TRIE: Trie
+UNICODE_VERSION: str
