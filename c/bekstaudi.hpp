@@ -9,8 +9,10 @@
 
 #include "bekstaudi.h"
 
+#include <algorithm>
 #include <cstddef>
 #include <cstdint>
+#include <functional>
 #include <initializer_list>
 #include <iterator>
 #include <new>
@@ -146,8 +148,134 @@ public:
     code_point_set(std::initializer_list<std::uint32_t> ends)
         : code_point_set(view<std::uint32_t>(ends.begin(), ends.size())) {}
 
+    // The code points from `first` to `last`, both included.
+    struct range {
+        std::uint32_t first, last;
+    };
+
+    // Makes the set of all code points in these ranges, which may be in any order and may overlap.
+    // A range whose first code point is above its last one has none, and code points above 0x10FFFF
+    // are left out. Takes O(n log n) time (ICU: uset_addRange, range by range).
+    static code_point_set from_ranges(std::vector<range> ranges) {
+        auto by_first = [](const range &a, const range &b) { return a.first < b.first; };
+        if (!std::is_sorted(ranges.begin(), ranges.end(), by_first))
+            std::sort(ranges.begin(), ranges.end(), by_first);
+        code_point_set set;
+        for (const range &it : ranges) {
+            if (it.first > it.last || it.first > 0x10FFFF) continue;
+            std::uint32_t end = it.last < 0x10FFFF ? it.last + 1 : 0x110000;
+            if (!set.ends_.empty() && it.first <= set.ends_.back()) {
+                if (set.ends_.back() < end) set.ends_.back() = end;
+            } else {
+                set.ends_.push_back(it.first);
+                set.ends_.push_back(end);
+            }
+        }
+        return set;
+    }
+
+    // Makes the set of these code points, in any order. Those above 0x10FFFF are left out.
+    template <class Points>
+    static code_point_set from_points(const Points &points) {
+        std::vector<range> ranges;
+        for (auto c : points) {
+            auto point = static_cast<std::uint32_t>(c);
+            ranges.push_back({point, point});
+        }
+        return from_ranges(std::move(ranges));
+    }
+
     const std::vector<std::uint32_t> &ends() const noexcept { return ends_; }
     bool empty() const noexcept { return ends_.empty(); }
+
+    // Returns the ranges of the set, in ascending order. No two of them are adjacent.
+    std::vector<range> ranges() const {
+        std::vector<range> found;
+        found.reserve(ends_.size() / 2);
+        for (std::size_t i = 0; i < ends_.size(); i += 2)
+            found.push_back({ends_[i], ends_[i + 1] - 1});
+        return found;
+    }
+
+    // Iterates over all code points, in order and backwards: for (std::uint32_t c : set) ..
+    class iterator {
+    public:
+        using iterator_category = std::bidirectional_iterator_tag;
+        using value_type = std::uint32_t;
+        using difference_type = std::ptrdiff_t;
+        using pointer = void;
+        using reference = std::uint32_t;
+
+        iterator() = default;
+        reference operator*() const noexcept { return c_; }
+        iterator &operator++() noexcept {
+            if (++c_ == end_[1]) at(end_ + 2, true);
+            return *this;
+        }
+        iterator &operator--() noexcept {
+            if (end_ == last_ || c_ == *end_)
+                at(end_ - 2, false);
+            else
+                --c_;
+            return *this;
+        }
+        iterator operator++(int) noexcept {
+            iterator before = *this;
+            ++*this;
+            return before;
+        }
+        iterator operator--(int) noexcept {
+            iterator before = *this;
+            --*this;
+            return before;
+        }
+        friend bool operator==(const iterator &a, const iterator &b) noexcept {
+            return a.end_ == b.end_ && a.c_ == b.c_;
+        }
+        friend bool operator!=(const iterator &a, const iterator &b) noexcept { return !(a == b); }
+
+    private:
+        friend class code_point_set;
+        iterator(const std::uint32_t *end, const std::uint32_t *last) noexcept : last_(last) {
+            at(end, true);
+        }
+        // Goes to the first or the last code point of the range whose boundaries are at `end`.
+        void at(const std::uint32_t *end, bool first) noexcept {
+            end_ = end;
+            c_ = end == last_ ? 0x110000 : first ? *end : end[1] - 1;
+        }
+
+        const std::uint32_t *end_ = nullptr, *last_ = nullptr;
+        std::uint32_t c_ = 0x110000;
+    };
+    iterator begin() const noexcept { return {ends_.data(), ends_.data() + ends_.size()}; }
+    iterator end() const noexcept {
+        return {ends_.data() + ends_.size(), ends_.data() + ends_.size()};
+    }
+
+    // Returns the code point at this index, if the set has that many (ICU: uset_charAt).
+    std::optional<std::uint32_t> nth(std::size_t index) const noexcept {
+        for (std::size_t i = 0; i < ends_.size(); i += 2) {
+            std::size_t size = ends_[i + 1] - ends_[i];
+            if (index < size) return ends_[i] + static_cast<std::uint32_t>(index);
+            index -= size;
+        }
+        return std::nullopt;
+    }
+
+    // Returns the index of a code point among those of the set, if it is in the set (ICU:
+    // uset_indexOf).
+    std::optional<std::size_t> index_of(std::uint32_t c) const noexcept {
+        std::size_t before = 0;
+        for (std::size_t i = 0; i < ends_.size() && ends_[i] <= c; i += 2) {
+            if (c < ends_[i + 1]) return before + (c - ends_[i]);
+            before += ends_[i + 1] - ends_[i];
+        }
+        return std::nullopt;
+    }
+
+    // Returns whether the set contains all code points of another one (ICU: uset_containsAll).
+    bool contains_all(const code_point_set &other) const { return (other - *this).empty(); }
 
     bool contains(std::uint32_t c) const noexcept {
         return bks_set_contains(of().data(), ends_.size(), c);
@@ -178,6 +306,18 @@ public:
     }
     friend code_point_set operator^(const code_point_set &a, const code_point_set &b) {
         return made(bks_set_symmetric_difference, a, b);
+    }
+    // Returns the code points that are not in the set (ICU: uset_complement).
+    code_point_set operator~() const { return *this ^ code_point_set{0, 0x110000}; }
+
+    code_point_set &operator|=(const code_point_set &other) { return *this = *this | other; }
+    code_point_set &operator&=(const code_point_set &other) { return *this = *this & other; }
+    code_point_set &operator-=(const code_point_set &other) { return *this = *this - other; }
+    code_point_set &operator^=(const code_point_set &other) { return *this = *this ^ other; }
+
+    // An order for ordered containers: that of the lists of boundaries. It says nothing of subsets.
+    friend bool operator<(const code_point_set &a, const code_point_set &b) noexcept {
+        return a.ends_ < b.ends_;
     }
     friend bool operator==(const code_point_set &a, const code_point_set &b) noexcept {
         return a.ends_ == b.ends_;
@@ -211,6 +351,8 @@ private:
 // copies the words, so no frozen set is ever without words.
 class frozen_set {
 public:
+    // Makes the empty set.
+    frozen_set() : frozen_set(code_point_set()) {}
     explicit frozen_set(const code_point_set &set) {
         view<std::uint32_t> ends(set.ends());
         // Each boundary is in one block, and such a block has four words of its own. Blocks without
@@ -254,6 +396,9 @@ class trie {
                   "the values of a trie have 8, 16 or 32 bits");
 
 public:
+    // Makes a trie without cells, whose values are all 0.
+    trie() = default;
+
     // Opens the trie at the start of the bytes. Throws trie_refused if there is none, or one of
     // another width (BKS_OTHER_WIDTH).
     trie(const void *bytes, std::size_t size) {
@@ -351,7 +496,7 @@ public:
     }
 
 private:
-    bks_trie trie_;
+    bks_trie trie_ = {};
 };
 
 // Thrown by build if no trie can be built from the rows.
@@ -382,14 +527,20 @@ std::vector<std::uint8_t> build(view<bks_row> rows, std::uint32_t default_value 
         if (fits) return bytes;
     }
 }
+template <class Value>
+std::vector<std::uint8_t> build(std::initializer_list<bks_row> rows,
+                                std::uint32_t default_value = 0, std::uint32_t error_value = 0,
+                                bks_type type = BKS_FAST) {
+    return build<Value>(view<bks_row>(rows.begin(), rows.size()), default_value, error_value, type);
+}
 
 // Thrown if no unit trie can be built from the entries.
 class entries_refused : public std::invalid_argument {
 public:
     explicit entries_refused(bks_refusal refusal)
         : std::invalid_argument("bekstaudi: no unit trie of these entries"), refusal_(refusal) {}
-    // Returns BKS_LONG_KEY; BKS_SAME_KEY if two entries have the same key; BKS_WIDE_VALUE if a
-    // value is not a signed 32-bit number; or BKS_TOO_LARGE.
+    // Returns BKS_LONG_KEY; BKS_SAME_KEY if two entries have the same key; BKS_NO_TEXT if a key is
+    // not UTF-8; BKS_WIDE_VALUE if a value is not a signed 32-bit number; or BKS_TOO_LARGE.
     bks_refusal refusal() const noexcept { return refusal_; }
 
 private:
@@ -417,17 +568,20 @@ public:
     explicit unit_trie(const C &&units) = delete;
 
     // Returns the units of a trie built from entries in any order, as bks_units_build writes them.
-    // The entries are a map, or any other range of pairs of a key, in UTF-16, and an integer.
-    // Throws entries_refused.
+    // The entries are a map, or any other range of pairs of a key, in UTF-16 or UTF-8, and an
+    // integer. Throws entries_refused.
     template <class Entries>
     static std::vector<std::uint8_t> build(const Entries &entries) {
         std::u16string keys;
         std::vector<std::size_t> lengths;
         std::vector<std::int32_t> values;
         for (const auto &[key, value] : entries) {
-            std::u16string_view units(key);
-            keys.append(units);
-            lengths.push_back(units.size());
+            std::size_t before = keys.size();
+            if constexpr (std::is_convertible_v<decltype(key), std::string_view>)
+                append_utf8(keys, key);
+            else
+                keys.append(std::u16string_view(key));
+            lengths.push_back(keys.size() - before);
             if (!is_of_32_bits(value)) throw entries_refused(BKS_WIDE_VALUE);
             values.push_back(static_cast<std::int32_t>(value));
         }
@@ -512,6 +666,13 @@ public:
         return match{static_cast<std::size_t>(size), value};
     }
 
+    // Returns the value of a key in UTF-8. Throws set_refused if it is not UTF-8.
+    std::optional<std::int32_t> operator[](std::string_view key) const {
+        std::optional<match> found = longest(key);
+        return found && found->size == key.size() ? std::optional<std::int32_t>(found->value)
+                                                  : std::nullopt;
+    }
+
     // Moves unit by unit from the root (ICU: UCharsTrie::next, getValue).
     class cursor {
     public:
@@ -547,6 +708,31 @@ private:
         return {reinterpret_cast<const std::uint16_t *>(text.data()), text.size()};
     }
 
+    // Appends a UTF-8 text as UTF-16.
+    static void append_utf8(std::u16string &units, std::string_view text) {
+        // The least code point of a character of 1 to 4 bytes.
+        static constexpr char32_t least[] = {0, 0x80, 0x800, 0x10000};
+        for (std::size_t i = 0; i < text.size();) {
+            auto lead = static_cast<unsigned char>(text[i++]);
+            std::size_t more = lead < 0x80 ? 0 : lead < 0xE0 ? 1 : lead < 0xF0 ? 2 : 3;
+            char32_t c = more == 0 ? lead : lead & (0x3Fu >> more);
+            bool is_good = (lead < 0x80 || (lead >= 0xC2 && lead < 0xF5)) && more <= text.size() - i;
+            for (std::size_t k = 0; is_good && k < more; k++) {
+                auto byte = static_cast<unsigned char>(text[i++]);
+                is_good = (byte & 0xC0) == 0x80;
+                c = c << 6 | (byte & 0x3F);
+            }
+            if (!is_good || c < least[more] || c > 0x10FFFF || (c >> 11) == 0x1B)
+                throw entries_refused(BKS_NO_TEXT);
+            if (c < 0x10000) {
+                units.push_back(static_cast<char16_t>(c));
+            } else {
+                units.push_back(static_cast<char16_t>(0xD7C0 + (c >> 10)));
+                units.push_back(static_cast<char16_t>(0xDC00 + (c & 0x3FF)));
+            }
+        }
+    }
+
     view<std::uint8_t> units_;
 };
 
@@ -555,5 +741,14 @@ using trie16 = trie<std::uint16_t>;
 using trie32 = trie<std::uint32_t>;
 
 }  // namespace bekstaudi
+
+template <>
+struct std::hash<bekstaudi::code_point_set> {
+    std::size_t operator()(const bekstaudi::code_point_set &set) const noexcept {
+        std::size_t sum = set.ends().size();
+        for (std::uint32_t end : set.ends()) sum = (sum ^ end) * 0x9E3779B97F4A7C15;
+        return sum;
+    }
+};
 
 #endif

@@ -97,6 +97,55 @@ static void operations() {
     CHECK((a | b) == code_point_set({1, 20, 30, 31}) && (a & none).empty() && all.size() == 0x110000);
 }
 
+/* Sets of ranges and of points in any order, and what a set says of its code points, compared with
+   std::set. */
+static void sets_of_ranges() {
+    typedef std::vector<code_point_set::range> ranges;
+    CHECK(code_point_set::from_ranges({}).empty());
+    CHECK(code_point_set::from_ranges({{5, 4}, {0x110000, 0x110005}}).empty());
+    CHECK(code_point_set::from_ranges({{0x10FFFF, UINT32_MAX}}) == code_point_set({0x10FFFF, 0x110000}));
+    CHECK(code_point_set::from_ranges({{7, 9}, {1, 3}, {4, 5}, {2, 8}}) == code_point_set({1, 10}));
+    CHECK(code_point_set::from_ranges({{0, UINT32_MAX}}).size() == 0x110000);
+    CHECK(code_point_set::from_points(std::u32string_view(U"bca")) == code_point_set({0x61, 0x64}));
+    uint32_t state = 1;
+    for (int turn = 0; turn < 2000; turn++) {
+        ranges given;
+        std::set<uint32_t> wanted;
+        for (int i = 0; i < turn % 9; i++) {
+            uint32_t pair[2];
+            for (uint32_t &it : pair) it = (state = state * 1664525 + 1013904223) >> 27;
+            given.push_back({pair[0], pair[1]});
+            for (uint32_t c = pair[0]; c <= pair[1]; c++) wanted.insert(c);
+        }
+        const code_point_set set = code_point_set::from_ranges(given);
+        CHECK(below_40(set) == wanted && set.size() == wanted.size());
+        CHECK(code_point_set(bekstaudi::view<uint32_t>(set.ends())) == set);
+        CHECK(code_point_set::from_points(wanted) == set && code_point_set::from_ranges(set.ranges()) == set);
+        CHECK(std::vector<uint32_t>(set.begin(), set.end()) ==
+              std::vector<uint32_t>(wanted.begin(), wanted.end()));
+        CHECK(std::vector<uint32_t>(std::make_reverse_iterator(set.end()),
+                                    std::make_reverse_iterator(set.begin())) ==
+              std::vector<uint32_t>(wanted.rbegin(), wanted.rend()));
+        size_t index = 0;
+        for (uint32_t c : wanted) {
+            CHECK(set.nth(index) == c && set.index_of(c) == index);
+            index++;
+        }
+        CHECK(!set.nth(index) && !set.index_of(40) && (~set).size() == 0x110000 - index && ~~set == set);
+        CHECK((~set & set).empty() && set.contains_all(code_point_set()) && set.contains_all(set));
+        CHECK(set.contains_all(~set) == false && (~code_point_set()).contains_all(set));
+        code_point_set same;
+        same |= set;
+        CHECK(same == set && std::hash<code_point_set>()(same) == std::hash<code_point_set>()(set));
+        same &= code_point_set{3, 9};
+        CHECK(same == (set & code_point_set{3, 9}));
+        same -= code_point_set{4, 5};
+        same ^= set;
+        CHECK(same == (((set & code_point_set{3, 9}) - code_point_set{4, 5}) ^ set));
+        CHECK(!(set < set) && (set == same || (set < same) != (same < set)));
+    }
+}
+
 static void spans() {
     const code_point_set letters{0x41, 0x5B, 0x61, 0x7B, 0xDF, 0xE0};
     CHECK(letters.span("Stra\xC3\x9F" "e 7") == "Stra\xC3\x9F" "e");
@@ -211,6 +260,16 @@ static void unit_tries_built() {
         return 0;
     };
     CHECK(refusal_of(u"a") == BKS_SAME_KEY && refusal_of(u"b") == 0);
+    /* Keys in UTF-8 make the same trie, and keys that are not UTF-8 are refused. */
+    const std::map<std::string, int> texts = {{"", -7}, {"\u0041\u00DF\u4E16\U0001F600", 1}, {"\uD7FF\uE000\uFFFF\U0010FFFF", 2}};
+    const std::map<std::u16string, int> same = {{u"", -7}, {u"\u0041\u00DF\u4E16\U0001F600", 1}, {u"\uD7FF\uE000\uFFFF\U0010FFFF", 2}};
+    const std::vector<uint8_t> by_utf8 = bekstaudi::unit_trie::build(texts);
+    CHECK(by_utf8 == bekstaudi::unit_trie::build(same));
+    for (const auto &text : texts) CHECK(bekstaudi::unit_trie(by_utf8)[text.first] == text.second);
+    CHECK(!bekstaudi::unit_trie(by_utf8)["A"] && !bekstaudi::unit_trie(by_utf8)["A\u00DF\u4E16\U0001F600!"]);
+    for (const char *bad : {"\x80", "\xC1\x80", "\xC3", "\xC3(", "\xE0\x9F\xBF", "\xED\xA0\x80", "\xE4\xB8", "\xF0\x8F\xBF\xBF", "\xF4\x90\x80\x80", "\xF5\x80\x80\x80", "\xFF"})
+        CHECK(throws<bekstaudi::entries_refused>(
+            [&] { bekstaudi::unit_trie::build(std::map<std::string, int>{{bad, 1}}); }));
     CHECK(refusal_of(std::u16string(65536, u'a')) == BKS_LONG_KEY);
 }
 
@@ -247,6 +306,11 @@ static void rows_refused() {
     CHECK(refusal_of([&] { bekstaudi::build<uint16_t>(large); }) == 0);
     const std::vector<uint8_t> bytes = bekstaudi::build<uint8_t>(std::vector<bks_row>(), 3);
     CHECK(bekstaudi::trie8(bytes)[0x41] == 3);
+    const std::vector<uint8_t> listed = bekstaudi::build<uint8_t>({{0x41, 0x5A, 1}, {0x61, 0x7A, 2}});
+    bekstaudi::trie8 trie;
+    CHECK(trie[0x41] == 0 && trie[0x110000] == 0 && trie.begin() == trie.end());
+    trie = bekstaudi::trie8(listed);
+    CHECK(trie[0x41] == 1 && trie[0x7A] == 2);
 }
 
 int main(int argc, char **argv) {
@@ -269,7 +333,9 @@ int main(int argc, char **argv) {
     frozen_sets();
     unit_tries_built();
     operations();
+    sets_of_ranges();
     spans();
+    CHECK(!bekstaudi::frozen_set().contains(0x41) && bekstaudi::frozen_set().span("a").empty());
     puts("all as expected");
     return 0;
 }
