@@ -21,7 +21,8 @@
  * Functions marked [inline] are in this header, at its end; they are tested, not proved. All others
  * are in the library, and are proved (README.md says what is). Those marked [m] allocate with
  * malloc while they run. Use C99 or later, or C++11 or later, with gcc or clang, on x86-64 Linux.
- * Link with -lbekstaudi. */
+ * The proved library needs a processor with SSE4.2 (x86-64-v2); cargo's runs on any. Link with
+ * -lbekstaudi. */
 #ifndef BEKSTAUDI_H
 #define BEKSTAUDI_H
 

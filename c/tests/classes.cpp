@@ -260,7 +260,7 @@ static void unit_tries_built() {
         return 0;
     };
     CHECK(refusal_of(u"a") == BKS_SAME_KEY && refusal_of(u"b") == 0);
-    /* Keys in UTF-8 make the same trie, and keys that are not UTF-8 are refused. */
+    /* Keys in UTF-8 make the same trie, and keys that are not UTF-8 are rejected. */
     const std::map<std::string, int> texts = {{"", -7}, {"\u0041\u00DF\u4E16\U0001F600", 1}, {"\uD7FF\uE000\uFFFF\U0010FFFF", 2}};
     const std::map<std::u16string, int> same = {{u"", -7}, {u"\u0041\u00DF\u4E16\U0001F600", 1}, {u"\uD7FF\uE000\uFFFF\U0010FFFF", 2}};
     const std::vector<uint8_t> by_utf8 = bekstaudi::unit_trie::build(texts);

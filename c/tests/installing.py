@@ -57,7 +57,7 @@ def versions():
 
 
 def by_cmake(room, prefix):
-    """A project in C finds the library by CMake; one that asks for a later version is refused."""
+    """A project in C finds the library by CMake; one that asks for a later version is rejected."""
     if not shutil.which("cmake"):
         print("CMake is not tried: no cmake on PATH")
         return
@@ -70,7 +70,7 @@ def by_cmake(room, prefix):
         shutil.rmtree(f"{room}/made", ignore_errors=True)
         words = ["cmake", "-S", f"{room}/user", "-B", f"{room}/made", f"-DCMAKE_PREFIX_PATH={prefix}", f"-DCMAKE_C_COMPILER={CC}"]
         ran = subprocess.run(words, stdout=subprocess.PIPE, stderr=subprocess.STDOUT, text=True)
-        print(f"find_package(bekstaudi {wanted}): {'found' if ran.returncode == 0 else 'refused'}")
+        print(f"find_package(bekstaudi {wanted}): {'found' if ran.returncode == 0 else 'rejected'}")
         if (ran.returncode == 0) != is_found:
             print(f"{ran.stdout}\nFAILED")
         yield (ran.returncode == 0) == is_found
