@@ -68,9 +68,7 @@ enum bks_status {
 /* What a function returns instead of a count. Its output buffer is then unchanged. */
 enum bks_refusal {
     BKS_NO_MEMORY = -1,  /* an allocation failed */
-    BKS_NO_SET = -2,     /* bks_set_test returns false for a list of boundaries */
-    BKS_NO_TRIE = -2,    /* the same number, from functions that take no set: the trie was not
-                            made by bks_trie_open, or the units are not a trie */
+    BKS_NO_TRIE = -2,    /* the trie was not made by bks_trie_open, or the units are not a trie */
     BKS_NO_TEXT = -3,    /* the text is not UTF-8 */
     BKS_NO_KEY = -4,     /* no key of a unit trie is a prefix of the text */
     BKS_NO_FORM = -5,    /* the type or the width does not exist */
@@ -79,7 +77,8 @@ enum bks_refusal {
     BKS_NO_ENTRIES = -8, /* the numbers of keys and of values differ, or the keys need more units
                             than there are */
     BKS_LONG_KEY = -9,   /* a key has more than 65,535 units */
-    BKS_SAME_KEY = -10   /* two entries have the same key */
+    BKS_SAME_KEY = -10,  /* two entries have the same key */
+    BKS_NO_SET = -11     /* bks_set_test returns false for a list of boundaries */
 };
 
 /* A trie, passed by value: copy it and drop it as you like. Its cells are in the bytes that it was

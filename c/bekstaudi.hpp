@@ -89,9 +89,11 @@ using if_temporary =
     std::enable_if_t<!outlived<C>, decltype(std::data(std::declval<const C &>()))>;
 
 // Returns the count that a function returned, or throws the error that it reports.
-inline std::size_t answered(std::int64_t answer, const char *refused) {
+inline std::size_t answered(std::int64_t answer) {
     if (answer == BKS_NO_MEMORY) throw std::bad_alloc();
-    if (answer < 0) throw set_refused(refused);
+    if (answer == BKS_NO_TEXT) throw set_refused("bekstaudi: no UTF-8");
+    if (answer == BKS_NO_TRIE) throw set_refused("bekstaudi: no trie");
+    if (answer < 0) throw set_refused("bekstaudi: no set"); // BKS_NO_SET
     return static_cast<std::size_t>(answer);
 }
 
@@ -111,7 +113,7 @@ template <class Call>
 std::string_view span_of(std::string_view text, Call call) {
     for (std::size_t size = 64;; size *= 2) {
         std::string_view front = front_of(text, size);
-        std::size_t found = answered(call(view<char>(front)), "bekstaudi: no UTF-8");
+        std::size_t found = answered(call(view<char>(front)));
         if (found < front.size() || front.size() == text.size()) return text.substr(0, found);
     }
 }
@@ -119,12 +121,12 @@ std::string_view span_of(std::string_view text, Call call) {
 // Returns the boundaries that a call writes. The call is made again with a larger buffer if there
 // are more than `room`.
 template <class Call>
-std::vector<std::uint32_t> ends_of(std::size_t room, const char *refused, Call call) {
+std::vector<std::uint32_t> ends_of(std::size_t room, Call call) {
     std::vector<std::uint32_t> ends(room ? room : 1);
-    std::size_t count = answered(call(ends.data(), ends.size()), refused);
+    std::size_t count = answered(call(ends.data(), ends.size()));
     if (count > ends.size()) {
         ends.resize(count);
-        answered(call(ends.data(), ends.size()), refused);
+        answered(call(ends.data(), ends.size()));
     }
     ends.resize(count);
     return ends;
@@ -283,7 +285,7 @@ public:
 
     // Returns how many code points the set contains, surrogates included.
     std::size_t size() const {
-        return detail::answered(bks_set_size(of().data(), ends_.size()), "bekstaudi: no set");
+        return detail::answered(bks_set_size(of().data(), ends_.size()));
     }
 
     // Returns the longest prefix of a UTF-8 text whose characters are all in the set or, if `held`
@@ -340,7 +342,7 @@ private:
             return operation(a.of().data(), a.ends_.size(), b.of().data(), b.ends_.size(), ends,
                              room);
         };
-        set.ends_ = detail::ends_of(a.ends_.size() + b.ends_.size(), "bekstaudi: no set", call);
+        set.ends_ = detail::ends_of(a.ends_.size() + b.ends_.size(), call);
         return set;
     }
 
@@ -362,8 +364,7 @@ public:
         do {
             words_.resize(needed);
             needed = detail::answered(
-                bks_set_freeze(ends.data(), ends.size(), words_.data(), words_.size()),
-                "bekstaudi: no set");
+                bks_set_freeze(ends.data(), ends.size(), words_.data(), words_.size()));
         } while (needed > words_.size());
         words_.resize(needed);
     }
@@ -491,7 +492,7 @@ public:
         auto call = [&](std::uint32_t *ends, std::size_t room) {
             return bks_trie_set(&trie_, value, ends, room);
         };
-        set.ends_ = detail::ends_of(256, "bekstaudi: no trie", call);
+        set.ends_ = detail::ends_of(256, call);
         return set;
     }
 

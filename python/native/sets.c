@@ -131,7 +131,7 @@ static int set_contains(code_point_set *self, PyObject *key) {
 
 static Py_ssize_t set_length(code_point_set *self) {
     int64_t size = bks_set_size(self->ends, self->count);
-    if (size < 0) raise_refusal(size, "NoSet");
+    if (size < 0) raise_refusal(size);
     return size < 0 ? -1 : (Py_ssize_t)size;
 }
 
@@ -209,7 +209,7 @@ static PyObject *joined(PyObject *left, PyObject *right, operation *call) {
     code_point_set *a = (code_point_set *)left, *b = (code_point_set *)right;
     size_t room = a->count + b->count;
     uint32_t *ends = PyMem_Malloc((room + 1) * sizeof *ends);
-    if (!ends) return raise_refusal(BKS_NO_MEMORY, "NoSet");
+    if (!ends) return raise_refusal(BKS_NO_MEMORY);
     int64_t count;
     if (room > LONG_CALL) {
         Py_BEGIN_ALLOW_THREADS
@@ -220,7 +220,7 @@ static PyObject *joined(PyObject *left, PyObject *right, operation *call) {
     }
     if (count >= 0) return set_owning(Py_TYPE(left), ends, (size_t)count);
     PyMem_Free(ends);
-    return raise_refusal(count, "NoSet");
+    return raise_refusal(count);
 }
 
 static PyObject *set_or(PyObject *a, PyObject *b) { return joined(a, b, bks_set_union); }
@@ -237,14 +237,14 @@ static PyObject *set_invert(code_point_set *self) {
                          : BKS_NO_MEMORY;
     if (count >= 0) return set_owning(Py_TYPE(self), ends, (size_t)count);
     PyMem_Free(ends);
-    return raise_refusal(count, "NoSet");
+    return raise_refusal(count);
 }
 
 /* Returns how many boundaries the result of an operation has, or -1 with an exception set. */
 static int64_t count_of(operation *call, const code_point_set *a, const code_point_set *b) {
     uint32_t nothing[1];
     int64_t count = call(a->ends, a->count, b->ends, b->count, nothing, 0);
-    if (count < 0) raise_refusal(count, "NoSet");
+    if (count < 0) raise_refusal(count);
     return count < 0 ? -1 : count;
 }
 

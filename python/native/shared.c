@@ -28,16 +28,17 @@ void *raise_error(const char *name, PyObject *argument) {
     return NULL;
 }
 
-void *raise_refusal(int64_t refusal, const char *minus_two) {
+void *raise_refusal(int64_t refusal) {
     switch (refusal) {
         case BKS_NO_MEMORY: return raise_error("NoMemory", NULL);
-        case BKS_NO_SET: return raise_error(minus_two, NULL);
+        case BKS_NO_TRIE: return raise_error("NoTrie", NULL);
         case BKS_NO_FORM: return raise_error("NoForm", NULL);
         case BKS_WIDE_VALUE: return raise_error("WideValue", NULL);
         case BKS_TOO_LARGE: return raise_error("TooLarge", NULL);
         case BKS_LONG_KEY: return raise_error("LongKey", NULL);
         case BKS_SAME_KEY: return raise_error("SameKey", NULL);
-        default: return PyErr_Format(PyExc_SystemError, "unexpected status %d", (int)refusal);
+        case BKS_NO_SET: return raise_error("NoSet", NULL);
+        default: return PyErr_Format(PyExc_SystemError, "unexpected result %d", (int)refusal);
     }
 }
 

@@ -19,9 +19,8 @@
 /* Raises the exception `name` of bekstaudi._errors with one argument, or with none if it is NULL. */
 void *raise_error(const char *name, PyObject *argument);
 
-/* Raises the exception for an `enum bks_refusal`. BKS_NO_SET and BKS_NO_TRIE are one number, so the
- * caller names the exception for it. */
-void *raise_refusal(int64_t refusal, const char *minus_two);
+/* Raises the exception for an `enum bks_refusal`. */
+void *raise_refusal(int64_t refusal);
 
 /* ---- Code points and positions ---- */
 

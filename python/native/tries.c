@@ -126,12 +126,12 @@ static PyObject *trie_set_of(over_bytes *self, PyObject *given) {
     Py_BEGIN_ALLOW_THREADS
     count = bks_trie_set(&self->trie, value, nothing, 0);
     Py_END_ALLOW_THREADS
-    if (count < 0) return raise_refusal(count, "NoTrie");
+    if (count < 0) return raise_refusal(count);
     uint32_t *ends = PyMem_Malloc(((size_t)count + 1) * sizeof *ends);
     int64_t written = ends ? bks_trie_set(&self->trie, value, ends, (size_t)count) : BKS_NO_MEMORY;
     /* The set is another one if somebody changed the bytes between the two calls. */
     if (written > count) written = count;
-    PyObject *packed = written < 0 ? raise_refusal(written, "NoTrie")
+    PyObject *packed = written < 0 ? raise_refusal(written)
                                    : PyBytes_FromStringAndSize((char *)ends, written * (Py_ssize_t)sizeof *ends);
     PyMem_Free(ends);
     return packed;
@@ -189,7 +189,7 @@ PyObject *build_trie(PyObject *module, PyObject *args) {
         size = bks_trie_build(rows, count, missing, error, type, width, bytes, room);
         Py_END_ALLOW_THREADS
     }
-    built = size < 0 ? raise_refusal(size, "NoTrie") : PyBytes_FromStringAndSize((char *)bytes, size);
+    built = size < 0 ? raise_refusal(size) : PyBytes_FromStringAndSize((char *)bytes, size);
     PyMem_Free(bytes);
     return built;
 }

@@ -222,7 +222,7 @@ static PyObject *units_items(over_bytes *self, PyObject *none) {
     Py_BEGIN_ALLOW_THREADS
     count = bks_units_list(self->bytes, self->size, nothing, 0, (char *)nothing, 0, &size);
     Py_END_ALLOW_THREADS
-    if (count < 0) return raise_refusal(count, "NoTrie");
+    if (count < 0) return raise_refusal(count);
     if ((size_t)count <= most && size < PY_SSIZE_T_MAX) {
         words = PyMem_Malloc(((size_t)count + 1) * sizeof *words);
         texts = PyMem_Malloc(size + 1);
@@ -232,7 +232,7 @@ static PyObject *units_items(over_bytes *self, PyObject *none) {
         listed = bks_units_list(self->bytes, self->size, words, (size_t)count, texts, size, &needed);
         Py_END_ALLOW_THREADS
     }
-    if (listed < 0) raise_refusal(listed, "NoTrie");
+    if (listed < 0) raise_refusal(listed);
     else if (listed > count || needed > size) PyErr_SetString(PyExc_RuntimeError, "the units changed while they were listed");
     else list = pairs_of(words, (size_t)listed, texts);
     PyMem_Free(words);
@@ -252,14 +252,14 @@ static PyObject *units_count(over_bytes *self, PyObject *none) {
     (void)none;
     int64_t count = counted(self);
     if (count >= 0) return PyLong_FromLongLong(count);
-    if (count != BKS_NO_TRIE) return raise_refusal(count, "NoTrie");
+    if (count != BKS_NO_TRIE) return raise_refusal(count);
     Py_INCREF(Py_None);
     return Py_None;
 }
 
 static Py_ssize_t units_length(over_bytes *self) {
     int64_t count = counted(self);
-    if (count < 0) raise_refusal(count, "NoTrie");
+    if (count < 0) raise_refusal(count);
     return count < 0 ? -1 : (Py_ssize_t)count;
 }
 
@@ -296,7 +296,7 @@ PyObject *build_units(PyObject *module, PyObject *args) {
         size = bks_units_build(units, key_count, sizes, count, numbers, value_count, bytes, room);
         Py_END_ALLOW_THREADS
     }
-    built = size < 0 ? raise_refusal(size, "NoTrie") : PyBytes_FromStringAndSize((char *)bytes, size);
+    built = size < 0 ? raise_refusal(size) : PyBytes_FromStringAndSize((char *)bytes, size);
     PyMem_Free(bytes);
     return built;
 }

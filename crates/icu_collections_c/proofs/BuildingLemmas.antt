@@ -30,8 +30,8 @@ use Rattle.icu_trie_builder.proofs.CallerLemmas.{answer-of-map, error-of-map}
 use Rattle.icu_collections_c.specs.Building.{AreFitting, IsBuilt, IsForm, IsTooLargeFor, IsTrieOf, IsWhyNotBuilt, covers, last_row, most_bytes, row_answer, row_value}
 use Rattle.icu_collections_c.specs.BytesTrie.{value_width}
 use Rattle.icu_collections_c.specs.Inside.BuiltValues.{AreWritesOf, IsBuiltOf, IsTooLargeOf, IsTrieOfNumbers, of_build, of_write, row_of}
-use Rattle.icu_collections_c.specs.declared.building.Refusal.{Refusal}
-use Rattle.icu_collections_c.specs.declared.building.Refusal.TheVariants as refused
+use Rattle.icu_collections_c.specs.declared.status.Refusal.{Refusal}
+use Rattle.icu_collections_c.specs.declared.status.Refusal.TheVariants as refusal
 use Rattle.icu_collections_c.specs.declared.building.Row.{Row}
 
 -- ---- rows and writes
@@ -206,14 +206,21 @@ module _ (width : ℕ) (rows : List Row) (default error : ℕ) (kind : TrieType)
   why-numbers : (F : Type 0) → value_width width ≡ width → (e : Refusal)
       → IsWhyNotBuilt (Unit {0}) F (IsTooLargeOf (λ x. x) (fitting (2 ^ (8 * width))) width rows default error kind) e
       → IsWhyNotBuilt (IsForm n width) F (IsTooLargeFor rows default error n width) e
-  why-numbers F w refused.Form h = absurd (h tt)
-  why-numbers F w refused.Value h = (form-known w, h.1)
-  why-numbers F w refused.TooLarge h = (form-known w, h.1, by h.2)
+  why-numbers F w refusal.NoForm h = absurd (h tt)
+  why-numbers F w refusal.WideValue h = (form-known w, h.1)
+  why-numbers F w refusal.TooLarge h = (form-known w, h.1, by h.2)
     where
       by : IsTooLargeOf (λ x. x) (fitting (2 ^ (8 * width))) width rows default error kind → IsTooLargeFor rows default error n width
       by (inl l) = inl l
       by (inr l) = inr (l.0, trie-numbers l.0 l.1, l.2, l.3, l.4)
-  why-numbers F w refused.Memory h = (form-known w, h.1)
+  why-numbers F w refusal.NoMemory h = (form-known w, h.1)
+  why-numbers F w refusal.NoTrie h = absurd h
+  why-numbers F w refusal.NoText h = absurd h
+  why-numbers F w refusal.NoKey h = absurd h
+  why-numbers F w refusal.NoEntries h = absurd h
+  why-numbers F w refusal.LongKey h = absurd h
+  why-numbers F w refusal.SameKey h = absurd h
+  why-numbers F w refusal.NoSet h = absurd h
 
   pub if_err-numbers : {V : Type 0} (F : Type 0) → value_width width ≡ width → (r : Result V Refusal)
       → IfErr r (IsWhyNotBuilt (Unit {0}) F (IsTooLargeOf (λ x. x) (fitting (2 ^ (8 * width))) width rows default error kind))

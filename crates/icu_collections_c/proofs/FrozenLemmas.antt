@@ -166,7 +166,9 @@ answers_frozen ends set index words old new n e valid t count buffer =
     let of_ends = subst (λ (s : List ℕ). AreTablesOf s (record { index = index; words = words })) e t in
     let long : length (packed 1088 index ++ words) ≡ 1088 + length words =
     length-append (packed 1088 index) words ∙ ap (λ (n : ℕ). n + length words) (length-packed 1088 index) in
-    rw (to_z_pos w64 n (omega arith)) (
+    rw (to_z_pos w64 n (omega arith)) (inl (
+      n,
+      refl,
       valid,
       record {
         table = packed 1088 index ++ words;
@@ -174,7 +176,7 @@ answers_frozen ends set index words old new n e valid t count buffer =
         count = count ∙ sym long;
         buffer = buffer;
       },
-    )
+    ))
 
 -- ---- look-ups in them
 module _ (ends words rest : List ℕ) (f : IsFrozenOf ends words) where

@@ -1,5 +1,5 @@
 -- Tries that are built from rows, and the bytes that they are written as.
-use Rattle.std.specs.Prelude.{◌≡◌, ℕ, zero, suc, ◌+◌, ◌-◌, ◌*◌, ◌/◌, ℤ, pos, negsuc, ◌<◌, ◌≤◌, min, ◌⊎◌, ◌&&◌, nat_eq, nat_le, Bool, List, [], ◌∷◌, ◌++◌, length, drop, All, Option, Some, None, IsSome, unwrap_or, if◌then◌else◌}
+use Rattle.std.specs.Prelude.{◌≡◌, ℕ, ◌+◌, ◌-◌, ◌*◌, ◌/◌, ℤ, pos, ◌<◌, ◌≤◌, min, ◌⊎◌, ◌&&◌, nat_eq, nat_le, Bool, List, [], ◌∷◌, ◌++◌, length, drop, All, Option, Some, None, IsSome, unwrap_or, if◌then◌else◌}
 use Rattle.std.specs.Option.{option_or}
 use Rattle.icu_trie.specs.Parts.{Parts, trie_value}
 use Rattle.icu_trie.specs.Ranges.{IsCoherentTrie}
@@ -10,9 +10,10 @@ use Rattle.icu_trie_binary.specs.declared.error.WriteError.{WriteError}
 use Rattle.icu_trie_builder.specs.Bounds.{IsTooLarge}
 use Rattle.icu_trie_builder.specs.Built.{IsWellBuilt}
 use Rattle.icu_collections_c.specs.BytesTrie.{fitting_in, value_width}
+use Rattle.icu_collections_c.specs.Status.{refused}
 use Rattle.icu_collections_c.specs.declared.building.Row.{Row}
-use Rattle.icu_collections_c.specs.declared.building.Refusal.{Refusal}
-use Rattle.icu_collections_c.specs.declared.building.Refusal.TheVariants.{Form, Value, TooLarge, Memory}
+use Rattle.icu_collections_c.specs.declared.status.Refusal.{Refusal}
+use Rattle.icu_collections_c.specs.declared.status.Refusal.TheVariants.{NoForm, WideValue, TooLarge, NoMemory}
 
 -- ---- what rows say
 -- Whether a row covers c: its first code point is at most 0x10FFFF, and c is between its first and
@@ -115,22 +116,17 @@ pub record HasBytes (P : List ℕ → Type 0) (old new : List ℕ) (n : ℕ) : T
 
 -- Why there are no bytes. The reasons are listed in the order in which they are reported.
 abbrev pub IsWhyNotBuilt : Type 0 → Type 0 → Type 0 → Refusal → Type 0
-IsWhyNotBuilt form fitting large Form = ¬ form
-IsWhyNotBuilt form fitting large Value = form × ¬ fitting
+IsWhyNotBuilt form fitting large NoForm = ¬ form
+IsWhyNotBuilt form fitting large WideValue = form × ¬ fitting
 IsWhyNotBuilt form fitting large TooLarge = form × fitting × large
-IsWhyNotBuilt form fitting large Memory = form × fitting
+IsWhyNotBuilt form fitting large NoMemory = form × fitting
+IsWhyNotBuilt form fitting large _ = ⊥
 
--- The number of bytes with property P if the form exists and the values fit. Otherwise -5 if the
--- form does not exist, -6 if a value does not fit, -7 if the trie is too large, -1 if an allocation
--- failed. The buffer is unchanged if the number is negative.
+-- The number of bytes with property P if the form exists and the values fit. Otherwise the number
+-- of the error that says why there are none, and the buffer is unchanged.
 abbrev pub AnswersBytes : Type 0 → Type 0 → Type 0 → (List ℕ → Type 0) → List ℕ → List ℕ → ℤ
     → Type 0
-AnswersBytes form fitting large P old new (pos n) = form × fitting × HasBytes P old new n
-AnswersBytes form fitting large P old new (negsuc zero) = (form × fitting) × (new ≡ old)
-AnswersBytes form fitting large P old new (negsuc (suc (suc (suc (suc zero))))) =
-    (¬ form) × (new ≡ old)
-AnswersBytes form fitting large P old new (negsuc (suc (suc (suc (suc (suc zero)))))) =
-    (form × ¬ fitting) × (new ≡ old)
-AnswersBytes form fitting large P old new (negsuc (suc (suc (suc (suc (suc (suc zero))))))) =
-    (form × fitting × large) × (new ≡ old)
-AnswersBytes form fitting large P old new (negsuc _) = ⊥
+AnswersBytes form fitting large P old new returned =
+    ((n : ℕ) × (returned ≡ pos n) × form × fitting × HasBytes P old new n)
+    ⊎ ((why : Refusal) × (returned ≡ refused why) × IsWhyNotBuilt form fitting large why
+    × (new ≡ old))

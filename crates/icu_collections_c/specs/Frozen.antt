@@ -2,11 +2,13 @@
 -- code points, four in a word with the first one in the lowest bits. From word 1,088 on, each word
 -- has the bits of 64 code points, the first one in the lowest bit. A block's offset says at which
 -- of these words its four words start.
-use Rattle.std.specs.Prelude.{◌≡◌, ℕ, zero, suc, ℤ, pos, negsuc, ◌+◌, ◌*◌, ◌/◌, ◌%◌, ◌^◌, ◌<◌, ◌≤◌, ◌==◌, ◌&&◌, nat_lt, Bool, List, length, slice_index}
+use Rattle.std.specs.Prelude.{◌≡◌, ◌⊎◌, ℕ, ℤ, pos, ◌+◌, ◌*◌, ◌/◌, ◌%◌, ◌^◌, ◌<◌, ◌≤◌, ◌==◌, ◌&&◌, nat_lt, Bool, List, length, slice_index}
 use Rattle.std.specs.Int.{bit_at}
 use Rattle.icu_zerovec.specs.CodePoints.{code_point_limit}
 use Rattle.icu_invlist.specs.InversionList.{IsValid, holds}
 use Rattle.icu_collections_c.specs.Building.{written_whole}
+use Rattle.icu_collections_c.specs.Status.{refused}
+use Rattle.icu_collections_c.specs.declared.status.Refusal.TheVariants.{NoMemory, NoSet, NoText}
 
 -- The offset of block b.
 abbrev pub place_in : List ℕ → ℕ → ℕ
@@ -37,18 +39,16 @@ pub record HasFrozen (ends old new : List ℕ) (n : ℕ) : Type 0 where
   pub count : n ≡ length table
   pub buffer : new ≡ written_whole table old
 
--- The number of words of the frozen set with these boundaries. Otherwise -2 if they are not those
--- of a set, -1 if an allocation failed. The buffer is unchanged if the number is negative.
+-- The number of words of the frozen set with these boundaries. Otherwise `NoSet` if they are not
+-- those of a set, `NoMemory` if an allocation failed; the buffer is then unchanged.
 abbrev pub AnswersFrozen : List ℕ → List ℕ → List ℕ → ℤ → Type 0
-AnswersFrozen ends old new (pos n) = IsValid ends × HasFrozen ends old new n
-AnswersFrozen ends old new (negsuc zero) = IsValid ends × (new ≡ old)
-AnswersFrozen ends old new (negsuc (suc zero)) = ¬ (IsValid ends) × (new ≡ old)
-AnswersFrozen ends old new (negsuc (suc (suc n))) = ⊥
+AnswersFrozen ends old new returned =
+    ((n : ℕ) × (returned ≡ pos n) × IsValid ends × HasFrozen ends old new n)
+    ⊎ ((returned ≡ refused NoSet) × ¬ (IsValid ends) × (new ≡ old))
+    ⊎ ((returned ≡ refused NoMemory) × IsValid ends × (new ≡ old))
 
--- If the bytes are a `text`: the number n, which is a position in the text. If they are not: -3.
+-- If the bytes are a `text`: the number n, which is a position in the text. If they are not:
+-- `NoText`.
 abbrev pub AnswersPlace : Type 0 → ℕ → (ℕ → Type 0) → ℤ → Type 0
-AnswersPlace text n is_place (pos k) = text × (k ≡ n) × is_place k
-AnswersPlace text n is_place (negsuc zero) = ⊥
-AnswersPlace text n is_place (negsuc (suc zero)) = ⊥
-AnswersPlace text n is_place (negsuc (suc (suc zero))) = ¬ text
-AnswersPlace text n is_place (negsuc (suc (suc (suc k)))) = ⊥
+AnswersPlace text n is_place returned =
+    (text × (returned ≡ pos n) × is_place n) ⊎ (¬ text × (returned ≡ refused NoText))

@@ -3,4 +3,5 @@
 pub mod BuiltValues
 pub mod Listed
 pub mod NumberLaws
+pub mod Operations
 pub mod PackedPlaces

@@ -7,5 +7,6 @@ pub mod Inside
 pub mod Listing
 pub mod Opening
 pub mod Ranges
+pub mod Status
 pub mod UnitBuilding
 pub mod UnitTries

@@ -1,12 +1,14 @@
 -- The entries of a unit trie as C sees them, and how many there are.
-use Rattle.std.specs.Prelude.{◌≡◌, ◌⊎◌, ◌+◌, ◌-◌, ◌^◌, ◌≤◌, ◌&&◌, nat_lt, nat_le, min, ℕ, zero, suc, ℤ, pos, negsuc, List, [], ◌∷◌, length, map, All, if◌then◌else◌}
+use Rattle.std.specs.Prelude.{◌≡◌, ◌⊎◌, ◌+◌, ◌-◌, ◌^◌, ◌≤◌, ◌&&◌, nat_lt, nat_le, min, ℕ, ℤ, pos, List, [], ◌∷◌, length, map, All, if◌then◌else◌}
 use Rattle.std.specs.List.{flat_map}
 use Rattle.std.specs.Str.{IsUtf8}
 use Rattle.icu_char16trie.specs.Grammar.{IsTrieOf}
 use Rattle.icu_char16trie.specs.LossyText.{key_text}
 use Rattle.icu_char16trie.specs.UnitMap.{UnitMap}
 use Rattle.icu_collections_c.specs.Buffers.{written}
+use Rattle.icu_collections_c.specs.Status.{refused}
 use Rattle.icu_collections_c.specs.declared.listing.Word.{Word}
+use Rattle.icu_collections_c.specs.declared.status.Refusal.TheVariants.{NoMemory, NoTrie, TooLarge}
 
 -- An entry as it is listed: its key as UTF-8 bytes, and its value.
 abbrev pub shown : List ℕ × ℤ → List ℕ × ℤ
@@ -50,26 +52,25 @@ pub record HasItems (items : List (List ℕ × ℤ)) (words words' : List Word)
 abbrev pub AreTooMany : List (List ℕ × ℤ) → Type 0
 AreTooMany items = (2 ^ 63 ≤ length items) ⊎ (2 ^ 63 ≤ length (texts_of items))
 
--- The number of items of the units, and the buffers hold those that fit. Otherwise -7 if there are
--- too many, -1 if an allocation failed; then nothing is written.
+-- The number of items of the units, and the buffers hold those that fit. Otherwise `TooLarge` if
+-- there are too many, `NoMemory` if an allocation failed; then nothing is written.
 abbrev pub AnswersListing : List ℕ → List Word → List Word → List ℕ → List ℕ → ℕ → ℕ → ℤ → Type 0
-AnswersListing units words words' texts texts' size size' told =
+AnswersListing units words words' texts texts' size size' returned =
     ((items : List (List ℕ × ℤ)) × AreItemsOf units items
-    × (((n : ℕ) × (told ≡ pos n) × HasItems items words words' texts texts' size' n)
-    ⊎ ((told ≡ negsuc 6) × AreTooMany items
+    × (((n : ℕ) × (returned ≡ pos n) × HasItems items words words' texts texts' size' n)
+    ⊎ ((returned ≡ refused TooLarge) × AreTooMany items
     × (words' ≡ words) × (texts' ≡ texts) × (size' ≡ size))))
-    ⊎ ((told ≡ negsuc 0) × (words' ≡ words) × (texts' ≡ texts) × (size' ≡ size))
+    ⊎ ((returned ≡ refused NoMemory) × (words' ≡ words) × (texts' ≡ texts) × (size' ≡ size))
 
 -- The units are not a trie of any map.
 abbrev pub AreNoTrie : List ℕ → Type 0
 AreNoTrie units = (m : UnitMap) → IsTrieOf units m → ⊥
 
 -- The number of entries of the map whose trie the units are, or 2^63 - 1 if there are more.
--- Otherwise -2 if the units are not a trie, -1 if an allocation failed.
+-- Otherwise `NoTrie` if the units are not a trie, `NoMemory` if an allocation failed.
 abbrev pub AnswersCount : List ℕ → ℤ → Type 0
-AnswersCount units (pos n) =
-    ¬ (AreNoTrie units)
-    × ((m : UnitMap) → IsTrieOf units m → n ≡ min (length m) (2 ^ 63 - 1))
-AnswersCount units (negsuc zero) = Unit {0}
-AnswersCount units (negsuc (suc zero)) = AreNoTrie units
-AnswersCount units (negsuc (suc (suc n))) = ⊥
+AnswersCount units returned =
+    ((n : ℕ) × (returned ≡ pos n) × ¬ (AreNoTrie units)
+    × ((m : UnitMap) → IsTrieOf units m → n ≡ min (length m) (2 ^ 63 - 1)))
+    ⊎ ((returned ≡ refused NoTrie) × AreNoTrie units)
+    ⊎ (returned ≡ refused NoMemory)

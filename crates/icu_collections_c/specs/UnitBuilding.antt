@@ -1,5 +1,5 @@
 -- Unit tries that are built from entries, and what C learns about them.
-use Rattle.std.specs.Prelude.{◌≡◌, ◌⊎◌, ◌+◌, ◌*◌, ◌<◌, ◌≤◌, ℕ, ℤ, pos, negsuc, List, [], ◌∷◌, length, take, drop, sum, All, IsNone}
+use Rattle.std.specs.Prelude.{◌≡◌, ◌⊎◌, ◌+◌, ◌*◌, ◌<◌, ◌≤◌, ℕ, ℤ, pos, List, [], ◌∷◌, length, take, drop, sum, All, IsNone}
 use Rattle.icu_char16trie.specs.Grammar.{IsTrieOf}
 use Rattle.icu_char16trie.specs.UnitMap.{UnitMap, value_of}
 use Rattle.icu_char16trie_builder.specs.Entries.{most_units, with_entry}
@@ -8,9 +8,10 @@ use Rattle.icu_char16trie_builder.specs.declared.error.AddError.TheVariants as a
 use Rattle.icu_char16trie_builder.specs.declared.error.BuildError.{BuildError}
 use Rattle.icu_char16trie_builder.specs.declared.error.BuildError.TheVariants as build
 use Rattle.icu_collections_c.specs.Building.{HasBytes}
+use Rattle.icu_collections_c.specs.Status.{refused}
 use Rattle.icu_collections_c.specs.UnitTries.{units_of}
-use Rattle.icu_collections_c.specs.declared.unit_building.Refusal.{Refusal}
-use Rattle.icu_collections_c.specs.declared.unit_building.Refusal.TheVariants.{Entries, LongKey, SameKey, TooLarge, Memory}
+use Rattle.icu_collections_c.specs.declared.status.Refusal.{Refusal}
+use Rattle.icu_collections_c.specs.declared.status.Refusal.TheVariants.{NoEntries, LongKey, SameKey, TooLarge, NoMemory}
 
 -- ---- what is given
 -- There is a value for each length, and there are enough units for all keys.
@@ -52,25 +53,25 @@ pub record AreUnitsOf (m : UnitMap) (bytes : List ℕ) : Type 0 where
 abbrev pub of_add : AddError → Refusal
 of_add add.KeyTooLong = LongKey
 of_add add.Duplicate = SameKey
-of_add add.Memory = Memory
+of_add add.Memory = NoMemory
 
 -- The same for the errors of the last step, which builds the units.
 abbrev pub of_build : BuildError → Refusal
 of_build build.TooLarge = TooLarge
 of_build (build.Entry e) = of_add e
-of_build build.Memory = Memory
+of_build build.Memory = NoMemory
 
 -- An entry is rejected if it is not new, or if an allocation failed.
 abbrev pub IsWhyNotAdded : Type 0 → Refusal → Type 0
 IsWhyNotAdded fresh SameKey = ¬ fresh
-IsWhyNotAdded fresh Memory = Unit {0}
+IsWhyNotAdded fresh NoMemory = Unit {0}
 IsWhyNotAdded fresh _ = ⊥
 
 -- Why no unit trie is built: the entries are not given, else a key is too long, else a key is there
 -- twice, else the map is too large. Or an allocation failed, which may be reported before the last
 -- two.
 abbrev pub IsWhyNotBuilt : List ℕ → List ℕ → List ℤ → Refusal → Type 0
-IsWhyNotBuilt keys lengths values Entries = ¬ (HasEntries keys lengths values)
+IsWhyNotBuilt keys lengths values NoEntries = ¬ (HasEntries keys lengths values)
 IsWhyNotBuilt keys lengths values LongKey =
     HasEntries keys lengths values × ¬ (All (λ n. n ≤ 65535) lengths)
 IsWhyNotBuilt keys lengths values SameKey =
@@ -80,16 +81,9 @@ IsWhyNotBuilt keys lengths values TooLarge =
     HasEntries keys lengths values × All (λ n. n ≤ 65535) lengths
     × AreAllNew (entries_of keys lengths values) []
     × (0x7FFF_FFFF < most_units (map_of (entries_of keys lengths values)))
-IsWhyNotBuilt keys lengths values Memory =
+IsWhyNotBuilt keys lengths values NoMemory =
     HasEntries keys lengths values × All (λ n. n ≤ 65535) lengths
-
--- The numbers of the errors, as `enum bks_refusal` of bekstaudi.h names them.
-abbrev pub number_of : Refusal → ℤ
-number_of Memory = negsuc 0
-number_of TooLarge = negsuc 6
-number_of Entries = negsuc 7
-number_of LongKey = negsuc 8
-number_of SameKey = negsuc 9
+IsWhyNotBuilt keys lengths values _ = ⊥
 
 -- n is the number of bytes of a trie of the entries, and the buffer holds them if all of them fit.
 -- The entries are given, no key is too long, no key is there twice, and the map is not too large.
@@ -104,9 +98,9 @@ pub record HasUnits (keys lengths : List ℕ) (values : List ℤ) (old new : Lis
   pub bytes : HasBytes (AreUnitsOf (map_of (entries_of keys lengths values))) old new n
 
 -- The number of bytes, and they are in the buffer if all of them fit. Otherwise the number of the
--- error, and the buffer is unchanged.
+-- error that says why there are none, and the buffer is unchanged.
 abbrev pub AnswersUnits : List ℕ → List ℕ → List ℤ → List ℕ → List ℕ → ℤ → Type 0
-AnswersUnits keys lengths values old new told =
-    ((n : ℕ) × (told ≡ pos n) × HasUnits keys lengths values old new n)
-    ⊎ ((why : Refusal) × (told ≡ number_of why) × IsWhyNotBuilt keys lengths values why
+AnswersUnits keys lengths values old new returned =
+    ((n : ℕ) × (returned ≡ pos n) × HasUnits keys lengths values old new n)
+    ⊎ ((why : Refusal) × (returned ≡ refused why) × IsWhyNotBuilt keys lengths values why
     × (new ≡ old))

@@ -1,5 +1,5 @@
 -- What C learns about a unit trie in bytes.
-use Rattle.std.specs.Prelude.{◌≡◌, ◌⊎◌, ℕ, ℤ, pos, negsuc, Bool, true, false, List, Option, Some, None}
+use Rattle.std.specs.Prelude.{◌≡◌, ◌⊎◌, ℕ, ℤ, pos, Bool, true, false, List, Option, Some, None}
 use Rattle.icu_char16trie.specs.CursorPlaces as cursors
 use Rattle.icu_char16trie.specs.Matches.{HasValueAlong}
 use Rattle.icu_char16trie.specs.UnitPlaces.{At}
@@ -7,6 +7,8 @@ use Rattle.icu_char16trie.specs.declared.iterator.TrieResult.{TrieResult}
 use Rattle.icu_char16trie.specs.declared.iterator.TrieResult.TheVariants.{NoMatch, NoValue, FinalValue, Intermediate}
 use Rattle.icu_char16trie.specs.declared.place.Place.{Place}
 use Rattle.icu_collections_c.specs.BytesTrie.{cells_of}
+use Rattle.icu_collections_c.specs.Status.{refused}
+use Rattle.icu_collections_c.specs.declared.status.Refusal.TheVariants.{NoKey, NoText}
 use Rattle.icu_collections_c.specs.declared.unit_tries.Cursor.{Cursor}
 
 -- The units in the bytes, two bytes each, the low byte first.
@@ -36,20 +38,22 @@ abbrev pub GivesValueAlong : List ℕ → List ℕ → ℤ → Bool → ℤ → 
 GivesValueAlong units w old told new =
     (v : Option ℤ) × HasValueAlong units w v × GivesValue v old told new
 
--- If there is a match: its length, and its value is stored. If there is none: -4, and the old value
--- is unchanged.
+-- If there is a match: its length, and its value is stored. If there is none: `NoKey`, and the old
+-- value is unchanged.
 abbrev pub GivesMatch : Option (ℕ × ℤ) → ℤ → ℤ → ℤ → Type 0
-GivesMatch (Some found) old told new = (told ≡ pos found.0) × (new ≡ found.1)
-GivesMatch None old told new = (told ≡ negsuc 3) × (new ≡ old)
+GivesMatch (Some found) old returned new = (returned ≡ pos found.0) × (new ≡ found.1)
+GivesMatch None old returned new = (returned ≡ refused NoKey) × (new ≡ old)
 
 -- The result for a match with property P, or for none.
 abbrev pub GivesMatchThat : (Option (ℕ × ℤ) → Type 0) → ℤ → ℤ → ℤ → Type 0
-GivesMatchThat P old told new = (found : Option (ℕ × ℤ)) × P found × GivesMatch found old told new
+GivesMatchThat P old returned new =
+    (found : Option (ℕ × ℤ)) × P found × GivesMatch found old returned new
 
--- The same for a UTF-8 text. If the bytes are not a text: -3, and the old value is unchanged.
+-- The same for a UTF-8 text. If the bytes are not a text: `NoText`, and the old value is unchanged.
 abbrev pub GivesMatchInText : Type 0 → (Option (ℕ × ℤ) → Type 0) → ℤ → ℤ → ℤ → Type 0
-GivesMatchInText text P old told new =
-    (text × GivesMatchThat P old told new) ⊎ (¬ text × (told ≡ negsuc 2) × (new ≡ old))
+GivesMatchInText text P old returned new =
+    (text × GivesMatchThat P old returned new)
+    ⊎ (¬ text × (returned ≡ refused NoText) × (new ≡ old))
 
 -- The numbers of the results of a step, as `enum bks_step` of bekstaudi.h and ICU's
 -- UStringTrieResult name them.

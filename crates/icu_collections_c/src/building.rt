@@ -6,6 +6,7 @@ ghost use Rattle.icu_collections_c.specs.BytesTrie.{fitting_in};
 ghost use Rattle.icu_collections_c.specs.Inside.BuiltValues.{AreWritesOf, IsBuiltOf, IsTooLargeOf};
 
 use crate::cells::UnsignedValue;
+use crate::status::Refusal;
 use icu_trie_binary::binary::{WriteError, to_binary};
 use icu_trie_builder::build_from_writes;
 use icu_trie_builder::error::BuildError;
@@ -23,26 +24,13 @@ pub struct Row {
     pub value: u32,
 }
 
-/// Why no trie is built.
-#[derive(Clone, Copy)]
-pub(crate) enum Refusal {
-    /// The type or the width does not exist.
-    Form,
-    /// A value has more bits than the width.
-    Value,
-    /// The map is too large for a trie, or the trie is too large for the binary form.
-    TooLarge,
-    /// An allocation failed.
-    Memory,
-}
-
 impl From<AllocError> for Refusal {
-    ghost use Rattle.icu_collections_c.specs.declared.building.Refusal.TheVariants.{Memory};
+    ghost use Rattle.icu_collections_c.specs.declared.status.Refusal.TheVariants.{NoMemory};
 
-    ghost from_gives = { λ _ e. e ≡ Memory };
+    ghost from_gives = { λ _ e. e ≡ NoMemory };
 
     fn from(_error: AllocError) -> Refusal {
-        Refusal::Memory
+        Refusal::NoMemory
     }
 }
 
@@ -54,7 +42,7 @@ impl From<BuildError> for Refusal {
     fn from(error: BuildError) -> Refusal {
         match error {
             BuildError::TooLarge => Refusal::TooLarge,
-            BuildError::Memory => Refusal::Memory,
+            BuildError::Memory => Refusal::NoMemory,
         }
     }
 }
@@ -66,7 +54,7 @@ impl From<WriteError> for Refusal {
 
     fn from(error: WriteError) -> Refusal {
         match error {
-            WriteError::Memory => Refusal::Memory,
+            WriteError::Memory => Refusal::NoMemory,
             _ => Refusal::TooLarge,
         }
     }
@@ -129,10 +117,10 @@ fn built_in<T: UnsignedValue>(
         (IsTooLargeOf T.number T.of_number T.WIDTH rows.now default error trie_type)) }
 {
     let (Ok(default), Ok(error)) = (T::try_from_u32(default), T::try_from_u32(error)) else {
-        return Err(Refusal::Value);
+        return Err(Refusal::WideValue);
     };
     if !rows_fit::<T>(rows) {
-        return Err(Refusal::Value);
+        return Err(Refusal::WideValue);
     }
     let writes = writes_of::<T>(alloc, rows)?;
     let trie = build_from_writes(alloc, default, error, trie_type, &writes)?;
@@ -158,13 +146,13 @@ fn built(
         (IsTooLargeFor rows.now default error trie_type width)) }
 {
     let Some(trie_type) = type_of(trie_type) else {
-        return Err(Refusal::Form);
+        return Err(Refusal::NoForm);
     };
     match width {
         1 => built_in::<u8>(alloc, rows, default, error, trie_type),
         2 => built_in::<u16>(alloc, rows, default, error, trie_type),
         4 => built_in::<u32>(alloc, rows, default, error, trie_type),
-        _ => Err(Refusal::Form),
+        _ => Err(Refusal::NoForm),
     }
 }
 
@@ -235,12 +223,15 @@ pub(crate) fn write_whole(bytes: &[u8], buffer: &mut [u8])
 /// `ucptrie_toBinary`.
 ///
 /// # Errors
-/// Returns the first of these that applies, and leaves the buffer unchanged:
+/// Returns the number of the first of these that applies, and leaves the buffer unchanged:
 ///
-/// - -5 if the type is neither 0 (fast) nor 1 (small), or the width is none of 1, 2 and 4 bytes
-/// - -6 if a value has more bits than the width: the value of a row, the default or the error value
-/// - -7 if the map is too large for a trie, or the trie is too large for the binary form
-/// - -1 if an allocation fails, which may come before -7
+/// - [`Refusal::NoForm`] if the type is neither 0 (fast) nor 1 (small), or the width is none of 1,
+///   2 and 4 bytes
+/// - [`Refusal::WideValue`] if a value has more bits than the width: the value of a row, the
+///   default or the error value
+/// - [`Refusal::TooLarge`] if the map is too large for a trie, or the trie is too large for the
+///   binary form
+/// - [`Refusal::NoMemory`] if an allocation fails, which may come before `TooLarge`
 #[unsafe(no_mangle)]
 pub extern "C" fn bks_trie_build(
     alloc: Global,
@@ -261,9 +252,6 @@ pub extern "C" fn bks_trie_build(
             write_whole(&stored, bytes);
             stored.len() as i64
         }
-        Err(Refusal::Memory) => -1,
-        Err(Refusal::Form) => -5,
-        Err(Refusal::Value) => -6,
-        Err(Refusal::TooLarge) => -7,
+        Err(refusal) => refusal.number(),
     }
 }

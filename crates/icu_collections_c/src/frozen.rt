@@ -9,6 +9,7 @@ ghost use Rattle.icu_collections_c.specs.Frozen.{AnswersFrozen, AnswersPlace, Is
 ghost use Rattle.icu_collections_c.specs.Inside.PackedPlaces.{packed, word_at};
 
 use crate::sets::bks_set_test;
+use crate::status::Refusal;
 use icu_frozen_sets::frozen::FrozenCodePointSet;
 use icu_invlist::codepointinvlist::CodePointInversionList;
 use icu_zerovec::{CODE_POINT_LIMIT, MemoryError};
@@ -105,21 +106,21 @@ fn frozen_of(alloc: Global, ends: &[u32]) -> Result<FrozenCodePointSet, MemoryEr
 /// ICU: `uset_freeze`.
 ///
 /// # Errors
-/// Returns -2 if the boundaries are not those of a set, and -1 if an allocation fails. The buffer
-/// is then unchanged.
+/// Returns the number of [`Refusal::NoSet`] if the boundaries are not those of a set, and of
+/// [`Refusal::NoMemory`] if an allocation fails. The buffer is then unchanged.
 #[unsafe(no_mangle)]
 pub extern "C" fn bks_set_freeze(alloc: Global, ends: &[u32], table: &mut [u64]) -> i64
     ensures { AnswersFrozen ends.now table.old table.new result }
 {
     if !bks_set_test(ends) {
-        return -2;
+        return Refusal::NoSet.number();
     }
     match frozen_of(alloc, ends) {
         Ok(set) => {
             let tables = set.tables();
             write_tables(tables.index, tables.words, table) as i64
         }
-        Err(_) => -1,
+        Err(_) => Refusal::NoMemory.number(),
     }
 }
 
@@ -161,7 +162,7 @@ fn span(table: &[u64], text: &str, held: bool) -> usize
 /// ICU: `uset_spanUTF8`.
 ///
 /// # Errors
-/// Returns -3 if the text is not UTF-8.
+/// Returns the number of [`Refusal::NoText`] if the text is not UTF-8.
 #[unsafe(no_mangle)]
 pub extern "C" fn bks_frozen_span(table: &[u64], text: &[u8], held: bool) -> i64
     ensures exact { AnswersPlace (IsUtf8 text.now)
@@ -176,6 +177,6 @@ pub extern "C" fn bks_frozen_span(table: &[u64], text: &[u8], held: bool) -> i64
 {
     match str::from_utf8(text) {
         Ok(text) => span(table, text, held) as i64,
-        Err(_) => -3,
+        Err(_) => Refusal::NoText.number(),
     }
 }

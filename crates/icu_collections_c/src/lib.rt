@@ -17,7 +17,8 @@
 //! - `unit_tries`: look-ups in unit tries; `units`: helpers of them
 //! - `unit_building`: builds unit tries from entries; `listing`: lists the entries of a unit trie
 //! - `cells`: the cells of tries, in bytes at any address
-//! - `answers`, `buffers`: return values, and writes into buffers
+//! - `status`: the errors of functions that return a count
+//! - `answers`, `buffers`: writes into the caller's buffers
 #![tactic(auto)]
 
 mod answers;
@@ -30,6 +31,7 @@ pub mod opening;
 pub mod ranges;
 pub mod set_operations;
 pub mod sets;
+pub mod status;
 pub mod texts;
 pub mod tries;
 pub mod unit_building;

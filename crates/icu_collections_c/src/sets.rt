@@ -7,6 +7,7 @@ ghost use Rattle.icu_zerovec.specs.CodePoints.{code_point_limit};
 ghost use Rattle.icu_invlist.specs.InversionList.{IsValid, holds, members_below};
 ghost use Rattle.icu_collections_c.specs.Answers.{AnswersNumber, AnswersSpan};
 
+use crate::status::Refusal;
 use icu_invlist::codepointinvlist::CodePointInversionList;
 use icu_zerovec::CODE_POINT_LIMIT;
 use std::alloc::Global;
@@ -49,17 +50,18 @@ pub extern "C" fn bks_set_contains(ends: &[u32], c: u32) -> bool
 /// ICU: `uset_size`.
 ///
 /// # Errors
-/// Returns -2 if the numbers are not the boundaries of a set, and -1 if an allocation fails.
+/// Returns the number of [`Refusal::NoSet`] if the numbers are not the boundaries of a set, and of
+/// [`Refusal::NoMemory`] if an allocation fails.
 #[unsafe(no_mangle)]
 pub extern "C" fn bks_set_size(alloc: Global, ends: &[u32]) -> i64
     ensures { AnswersNumber (IsValid ends.now) (members_below ends.now code_point_limit) result }
 {
     if !bks_set_test(ends) {
-        return -2;
+        return Refusal::NoSet.number();
     }
     match CodePointInversionList::from_valid_slice(alloc, ends) {
         Ok(set) => set.size() as i64,
-        Err(_) => -1,
+        Err(_) => Refusal::NoMemory.number(),
     }
 }
 
@@ -69,11 +71,11 @@ pub extern "C" fn bks_set_size(alloc: Global, ends: &[u32]) -> i64
 /// ICU: `uset_spanUTF8`.
 ///
 /// # Errors
-/// Returns the first of these that applies:
+/// Returns the number of the first of these that applies:
 ///
-/// - -2 if the numbers are not the boundaries of a set
-/// - -3 if the text is not UTF-8
-/// - -1 if an allocation fails
+/// - [`Refusal::NoSet`] if the numbers are not the boundaries of a set
+/// - [`Refusal::NoText`] if the text is not UTF-8
+/// - [`Refusal::NoMemory`] if an allocation fails
 #[unsafe(no_mangle)]
 pub extern "C" fn bks_set_span(alloc: Global, ends: &[u32], text: &[u8], held: bool) -> i64
     ensures { AnswersSpan (IsValid ends.now) (IsUtf8 text.now)
@@ -82,13 +84,13 @@ pub extern "C" fn bks_set_span(alloc: Global, ends: &[u32], text: &[u8], held: b
         (IsCharBoundary text.now) result }
 {
     if !bks_set_test(ends) {
-        return -2;
+        return Refusal::NoSet.number();
     }
     let Ok(text) = str::from_utf8(text) else {
-        return -3;
+        return Refusal::NoText.number();
     };
     match CodePointInversionList::from_valid_slice(alloc, ends) {
         Ok(set) => set.span(text, held) as i64,
-        Err(_) => -1,
+        Err(_) => Refusal::NoMemory.number(),
     }
 }

@@ -8,6 +8,7 @@ ghost use Rattle.icu_collections_c.specs.Buffers.{written};
 ghost use Rattle.icu_collections_c.specs.BytesTrie.{parts_in, value_at};
 
 use crate::cells::UnsignedValue;
+use crate::status::Refusal;
 use crate::tries::{Trie, header_of, value_of};
 use icu_trie_text::first_utf16::first_code_point;
 
@@ -71,7 +72,8 @@ fn write_units<T: UnsignedValue>(trie: &Trie<'_>, units: &[u16], values: &mut [T
 /// of the text in bytes.
 ///
 /// # Errors
-/// Returns -3 if the text is not UTF-8. The buffer is then unchanged.
+/// Returns the number of [`Refusal::NoText`] if the text is not UTF-8. The buffer is then
+/// unchanged.
 #[unsafe(no_mangle)]
 pub extern "C" fn bks_trie8_get_utf8(trie: &Trie<'_>, text: &[u8], values: &mut [u8]) -> i64
     ensures values { AnswersText (IsUtf8 text.now) (map (value_at 1 trie.now) (chars text.now))
@@ -80,7 +82,7 @@ pub extern "C" fn bks_trie8_get_utf8(trie: &Trie<'_>, text: &[u8], values: &mut 
 {
     match str::from_utf8(text) {
         Ok(text) => write_text(trie, text, values, 0) as i64,
-        Err(_) => -3,
+        Err(_) => Refusal::NoText.number(),
     }
 }
 
@@ -89,7 +91,8 @@ pub extern "C" fn bks_trie8_get_utf8(trie: &Trie<'_>, text: &[u8], values: &mut 
 /// of the text in bytes.
 ///
 /// # Errors
-/// Returns -3 if the text is not UTF-8. The buffer is then unchanged.
+/// Returns the number of [`Refusal::NoText`] if the text is not UTF-8. The buffer is then
+/// unchanged.
 #[unsafe(no_mangle)]
 pub extern "C" fn bks_trie16_get_utf8(trie: &Trie<'_>, text: &[u8], values: &mut [u16]) -> i64
     ensures values { AnswersText (IsUtf8 text.now) (map (value_at 2 trie.now) (chars text.now))
@@ -98,7 +101,7 @@ pub extern "C" fn bks_trie16_get_utf8(trie: &Trie<'_>, text: &[u8], values: &mut
 {
     match str::from_utf8(text) {
         Ok(text) => write_text(trie, text, values, 0) as i64,
-        Err(_) => -3,
+        Err(_) => Refusal::NoText.number(),
     }
 }
 
@@ -107,7 +110,8 @@ pub extern "C" fn bks_trie16_get_utf8(trie: &Trie<'_>, text: &[u8], values: &mut
 /// of the text in bytes.
 ///
 /// # Errors
-/// Returns -3 if the text is not UTF-8. The buffer is then unchanged.
+/// Returns the number of [`Refusal::NoText`] if the text is not UTF-8. The buffer is then
+/// unchanged.
 #[unsafe(no_mangle)]
 pub extern "C" fn bks_trie32_get_utf8(trie: &Trie<'_>, text: &[u8], values: &mut [u32]) -> i64
     ensures values { AnswersText (IsUtf8 text.now) (map (value_at 4 trie.now) (chars text.now))
@@ -116,7 +120,7 @@ pub extern "C" fn bks_trie32_get_utf8(trie: &Trie<'_>, text: &[u8], values: &mut
 {
     match str::from_utf8(text) {
         Ok(text) => write_text(trie, text, values, 0) as i64,
-        Err(_) => -3,
+        Err(_) => Refusal::NoText.number(),
     }
 }
 

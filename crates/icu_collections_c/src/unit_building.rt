@@ -5,6 +5,7 @@ ghost use Rattle.icu_char16trie_builder.specs.Entries.{most_units};
 ghost use Rattle.icu_collections_c.specs.UnitBuilding.{AnswersUnits, AreAllNew, HasEntries, IsWhyNotAdded, IsWhyNotBuilt, entries_of, map_of, with_entries};
 
 use crate::building::write_whole;
+use crate::status::Refusal;
 use icu_char16trie::char16trie::Char16Trie;
 use icu_char16trie_builder::builder::Char16TrieBuilder;
 use icu_char16trie_builder::error::{AddError, BuildError};
@@ -12,21 +13,6 @@ use std::alloc::Global;
 
 /// The most units that a key may have.
 const LONGEST_KEY: usize = 65_535;
-
-/// Why no unit trie is built.
-#[derive(Clone, Copy)]
-pub(crate) enum Refusal {
-    /// The number of values is not the number of keys, or there are fewer units than the keys need.
-    Entries,
-    /// A key has too many units.
-    LongKey,
-    /// Two entries have the same key.
-    SameKey,
-    /// The entries might take too many units.
-    TooLarge,
-    /// An allocation failed.
-    Memory,
-}
 
 impl From<AddError> for Refusal {
     ghost use Rattle.icu_collections_c.specs.UnitBuilding.{of_add};
@@ -37,7 +23,7 @@ impl From<AddError> for Refusal {
         match error {
             AddError::KeyTooLong => Refusal::LongKey,
             AddError::Duplicate => Refusal::SameKey,
-            AddError::Memory => Refusal::Memory,
+            AddError::Memory => Refusal::NoMemory,
         }
     }
 }
@@ -51,7 +37,7 @@ impl From<BuildError> for Refusal {
         match error {
             BuildError::TooLarge => Refusal::TooLarge,
             BuildError::Entry(error) => Refusal::from(error),
-            BuildError::Memory => Refusal::Memory,
+            BuildError::Memory => Refusal::NoMemory,
         }
     }
 }
@@ -123,7 +109,7 @@ fn built(
     ensures err { IfErr result (IsWhyNotBuilt keys.now lengths.now values.now) }
 {
     if lengths.len() != values.len() || !has_units(keys.len(), lengths) {
-        return Err(Refusal::Entries);
+        return Err(Refusal::NoEntries);
     }
     if !are_short(lengths) {
         return Err(Refusal::LongKey);
@@ -144,14 +130,14 @@ fn built(
 /// ICU: `UCharsTrieBuilder::add` and `buildUnicodeString`.
 ///
 /// # Errors
-/// Returns the first of these that applies, and leaves the buffer unchanged:
+/// Returns the number of the first of these that applies, and leaves the buffer unchanged:
 ///
-/// - -8 if `values` and `lengths` have different lengths, or the keys need more units than `keys`
-///   has
-/// - -9 if a key has more than 65,535 units
-/// - -10 if two entries have the same key
-/// - -7 if 2 U + 16 E is above 0x7FFFFFFF
-/// - -1 if an allocation fails, which may come before -10 and -7
+/// - [`Refusal::NoEntries`] if `values` and `lengths` have different lengths, or the keys need more
+///   units than `keys` has
+/// - [`Refusal::LongKey`] if a key has more than 65,535 units
+/// - [`Refusal::SameKey`] if two entries have the same key
+/// - [`Refusal::TooLarge`] if 2 U + 16 E is above 0x7FFFFFFF
+/// - [`Refusal::NoMemory`] if an allocation fails, which may come before `SameKey` and `TooLarge`
 #[unsafe(no_mangle)]
 pub extern "C" fn bks_units_build(
     alloc: Global,
@@ -168,10 +154,6 @@ pub extern "C" fn bks_units_build(
             write_whole(units, bytes);
             units.len() as i64
         }
-        Err(Refusal::Memory) => -1,
-        Err(Refusal::TooLarge) => -7,
-        Err(Refusal::Entries) => -8,
-        Err(Refusal::LongKey) => -9,
-        Err(Refusal::SameKey) => -10,
+        Err(refusal) => refusal.number(),
     }
 }

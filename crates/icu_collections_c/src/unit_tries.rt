@@ -14,6 +14,7 @@ ghost use Rattle.icu_char16trie.specs.UnitPlaces.{HasPassed, value_at};
 ghost use Rattle.icu_char16trie.specs.declared.place.Place.{Place};
 ghost use Rattle.icu_collections_c.specs.UnitTries.{GivesMatchInText, GivesMatchThat, GivesValue, GivesValueAlong, at, place_of, root, step_number, units_of};
 
+use crate::status::Refusal;
 use crate::units::{give, give_match, step_number, trie_in};
 use icu_char16trie::char16trie::{Char16TrieCursor, CursorPlace};
 
@@ -65,7 +66,8 @@ pub extern "C" fn bks_units_get(units: &[u8], key: &[u16], value: &mut i32) -> b
 /// value in `value`. The empty key is a prefix of every text.
 ///
 /// # Errors
-/// Returns -4 if no key is a prefix of the text. `value` is then unchanged.
+/// Returns the number of [`Refusal::NoKey`] if no key is a prefix of the text. `value` is then
+/// unchanged.
 #[unsafe(no_mangle)]
 pub extern "C" fn bks_units_longest(units: &[u8], text: &[u16], value: &mut i32) -> i64
     ensures keys { (m : UnitMap) → IsTrieOf (units_of units.now) m
@@ -81,8 +83,8 @@ pub extern "C" fn bks_units_longest(units: &[u8], text: &[u16], value: &mut i32)
 /// found that are the UTF-16 form of the first characters of the text.
 ///
 /// # Errors
-/// Returns -3 if the text is not UTF-8, and -4 if no key is a prefix of it. `value` is then
-/// unchanged.
+/// Returns the number of [`Refusal::NoText`] if the text is not UTF-8, and of [`Refusal::NoKey`] if
+/// no key is a prefix of it. `value` is then unchanged.
 #[unsafe(no_mangle)]
 pub extern "C" fn bks_units_longest_utf8(units: &[u8], text: &[u8], value: &mut i32) -> i64
     ensures keys { (m : UnitMap) → IsTrieOf (units_of units.now) m
@@ -94,7 +96,7 @@ pub extern "C" fn bks_units_longest_utf8(units: &[u8], text: &[u8], value: &mut 
 {
     match str::from_utf8(text) {
         Ok(text) => give_match(trie_in(units).longest_match_str(text), value),
-        Err(_) => -3,
+        Err(_) => Refusal::NoText.number(),
     }
 }
 

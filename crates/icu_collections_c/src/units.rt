@@ -5,6 +5,7 @@ ghost use Rattle.icu_char16trie.specs.UnitMap.{UnitMap, goes_on, value_of};
 ghost use Rattle.icu_char16trie.specs.UnitPlaces.{HasPassed};
 ghost use Rattle.icu_collections_c.specs.UnitTries.{GivesMatch, GivesValue, step_number, units_of};
 
+use crate::status::Refusal;
 use icu_char16trie::char16trie::{Char16Trie, Char16TrieCursor};
 use icu_zerovec::ZeroVec;
 
@@ -33,8 +34,8 @@ pub(crate) fn give(found: Option<i32>, value: &mut i32) -> bool
     }
 }
 
-/// Stores the value of a match if there is one, and returns its length. Returns -4 if there is no
-/// match.
+/// Stores the value of a match if there is one, and returns its length. Returns the number of
+/// [`Refusal::NoKey`] if there is no match.
 #[inline(always)]
 pub(crate) fn give_match(found: Option<(usize, i32)>, value: &mut i32) -> i64
     requires { IfSome found (λ found. found.0 < 2 ^ 63) }
@@ -45,7 +46,7 @@ pub(crate) fn give_match(found: Option<(usize, i32)>, value: &mut i32) -> i64
             *value = found;
             length as i64
         }
-        None => -4,
+        None => Refusal::NoKey.number(),
     }
 }
 

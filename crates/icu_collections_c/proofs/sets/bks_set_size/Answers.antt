@@ -1,5 +1,5 @@
 -- A set has no more members than there are code points.
-use Rattle.std.proofs.Common.{◌≤◌, ◌∙◌, ap, arith, rules, w64}
+use Rattle.std.proofs.Common.{◌≤◌, ◌∙◌, ap, arith, inl, pos, rules, w64}
 use Rattle.std.proofs.lemmas.Int.{ints, to_z_pos}
 use Rattle.icu_zerovec.specs.CodePoints.{code_point_limit}
 use Rattle.icu_invlist.specs.InversionList.{members_below}
@@ -15,4 +15,4 @@ pub returns-in-Ok : goal.returns-in-Ok
 returns-in-Ok c =
     let few : c.size.result ≤ code_point_limit = rw c.size.ensures.size (members_below-le _ _) in
     rw (to_z_pos w64 c.size.result (omega arith))
-    (search rules, c.size.ensures.size ∙ ap (λ ends. members_below ends code_point_limit) c.in-Ok.ensures)
+    (inl (search rules, inl (ap pos (c.size.ensures.size ∙ ap (λ ends. members_below ends code_point_limit) c.in-Ok.ensures))))
