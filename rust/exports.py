@@ -2,7 +2,8 @@
 
 The functions of crates/icu_collections_c become safe Rust functions. For each of them `exports.rs`
 has an `extern "C"` function with the name, the parameters and the structs of c/bekstaudi.h, which
-turns pointers and counts into slices. If the header and the crate differ, rust/make stops.
+turns pointers and counts into slices. If the header and the crate differ, also in the numbers of
+errors, rust/make stops.
 """
 import glob
 import os
@@ -18,6 +19,10 @@ CALL = re.compile(
 STRUCT = re.compile(
     r"#\[repr\(C\)\]\n#\[derive\(Clone, Copy\)\]\npub struct (\w+)(?:<[^>]*>)? \{\n(.*?)^\}", re.S | re.M
 )
+# An enum whose variants have numbers, each with a line of docs or none.
+ENUM = re.compile(r"^pub enum (\w+) \{\n((?: +(?:///.*|\w+ = -?\d+,)\n)+)\}", re.M)
+# The one enum of Rust that the header has too.
+ERRORS = "bks_refusal"
 # The C types of Rust's numbers.
 NUMBERS = {f"{kind}{bits}": f"{'u' * (kind == 'u')}int{bits}_t" for kind in "iu" for bits in (8, 16, 32, 64)}
 NUMBERS.update({"usize": "size_t", "bool": "bool"})
@@ -142,7 +147,8 @@ impl Trie {{
 
 
 def declared(header):
-    """What the header declares: the types of each function, and the fields of each struct."""
+    """What the header declares: the types of each function, the fields of each struct, and the
+    numbers of each enum."""
     text = re.sub(r"/\*.*?\*/", "", header, flags=re.S).split("static inline")[0]
     functions, structs = {}, {}
     for returned, name, parameters in re.findall(r"(?m)^(\w+) (bks_\w+)\(([^)]*)\);", text):
@@ -150,7 +156,8 @@ def declared(header):
     for name, body in re.findall(r"typedef struct (bks_\w+) \{(.*?)\}", text, re.S):
         fields = re.findall(r"(?m)^\s*([\w ]+?[ *]+)(\w+);", body)
         structs[name] = [f"{of.strip()} {field}" for of, field in fields]
-    return functions, structs
+    enums = re.findall(r"(?m)^enum (bks_\w+) \{(.*?)\}", text, re.S)
+    return functions, structs, {name: re.findall(r"\w+ = -?\d+", body) for name, body in enums}
 
 
 def c_fields(body):
@@ -164,13 +171,22 @@ def c_fields(body):
     return found
 
 
-def compare(functions, structs, header):
-    """Stops where the header and the crate have different functions, types or fields."""
-    wanted, forms = declared(header)
+def c_numbers(body):
+    """The names and numbers that the enum of C has for those of the Rust one: `BKS_NO_SET = -11` for
+    `NoSet = -11`."""
+    found = re.findall(r"(?m)^ +(\w+) = (-?\d+),$", body)
+    return [f"BKS{re.sub('(?=[A-Z])', '_', name).upper()} = {number}" for name, number in found]
+
+
+def compare(functions, structs, enums, header):
+    """Stops where the header and the crate have different functions, types, fields or numbers."""
+    wanted, forms, numbers = declared(header)
     # In C the bytes of a text are `char`, and other bytes `void` or `uint8_t`.
     bytes_alike = lambda types: [re.sub(r"\b(void|char|uint8_t) \*$", "bytes *", it) for it in types]
     tables = [("function", wanted, functions, bytes_alike)]
     tables.append(("struct", forms, {c_type(name): c_fields(body) for name, body in structs.items()}, list))
+    errors = {ERRORS: numbers.get(ERRORS, [])}
+    tables.append(("enum", errors, {c_type(name): c_numbers(body) for name, body in enums.items()}, list))
     wrong = []
     for kind, in_header, in_crate, form in tables:
         for name in sorted(in_header.keys() | in_crate.keys()):
@@ -199,10 +215,11 @@ def c_library(folder, edition, header, make):
     shutil.rmtree(f"{folder}/src", ignore_errors=True)
     shutil.copytree(f"{os.path.dirname(os.path.realpath(__file__))}/c", folder, dirs_exist_ok=True)
     make(folder, [CRATE])
-    functions, structs, text = {}, {}, ""
+    functions, structs, enums, text = {}, {}, {}, ""
     for path in sorted(glob.glob(f"{folder}/src/{CRATE}/*.rs")):
         code, module = read(path), os.path.basename(path)[:-3]
         structs.update(STRUCT.findall(code))
+        enums.update(ENUM.findall(code))
         for name, parameters, returned in CALL.findall(code):
             shown, functions[name] = function(module, name, parameters, returned)
             text += shown
@@ -210,6 +227,6 @@ def c_library(folder, edition, header, make):
         if 'extern "C"' in code or "no_mangle" in code:
             raise Stop(f"crates/{CRATE}/src/{module}.rt: an exported function of a form that is not known")
         write(path, code)
-    compare(functions, structs, read(header))
+    compare(functions, structs, enums, read(header))
     write(f"{folder}/src/exports.rs", HEAD + trie_struct(structs[TRIE]) + text)
     write(f"{folder}/src/lib.rs", read(f"{folder}/src/lib.rs") + module_list(edition))
