@@ -195,10 +195,13 @@ pub extern "C" fn bks_trie_bound(count: usize, trie_type: u32, width: u32) -> u6
     ensures known { IsForm trie_type width → result ≡ most_bytes count trie_type width }
     ensures none { ¬ IsForm trie_type width → result ≡ 0 }
 {
-    if trie_type > 1 || !matches!(width, 1 | 2 | 4) {
+    let Some(trie_type) = type_of(trie_type) else {
+        return 0;
+    };
+    if !matches!(width, 1 | 2 | 4) {
         return 0;
     }
-    let limit = if trie_type == 0 { 0x10000 } else { 0x1000 };
+    let limit = u64::from(trie_type.fast_limit());
     let cells = most_index(count, limit) + 1;
     16 + 2 * cells + u64::from(width) * most_data(count, limit)
 }

@@ -53,7 +53,7 @@ pub(crate) fn header_of(trie: &Trie<'_>) -> CodePointTrieHeader
         index3_null_offset: trie.index3_null_offset,
         data_null_offset: trie.data_null_offset,
         null_value: trie.null_value,
-        trie_type: if trie.fast_limit == 0x1000 {
+        trie_type: if trie.fast_limit == TrieType::Small.fast_limit() {
             TrieType::Small
         } else {
             TrieType::Fast
