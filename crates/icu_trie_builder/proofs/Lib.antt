@@ -14,4 +14,5 @@ mod TypedLemmas
 mod ValuesOfNumbers
 mod BuilderLemmas
 mod RangesOfMap
+mod BuiltAlike
 mod AmendLemmas

@@ -3,13 +3,15 @@ use Rattle.std.proofs.Common.{◌≡◌, ℕ, ◌<◌, Bool, true, List, slice_i
 use Rattle.std.specs.Prelude.{is_some}
 use Rattle.std.specs.List.{AllPass}
 use Rattle.icu_trie_core.specs.declared.header.CodePointTrieHeader.{CodePointTrieHeader}
+use Rattle.icu_trie_core.specs.declared.header.TrieType.{TrieType}
 use Rattle.icu_trie.specs.Parts.{Parts, parts_fault}
 use Rattle.icu_trie_builder.specs.CodePointMap.{IsBuilder}
 use Rattle.icu_trie_builder.specs.Inside.ValuesOfNumbers.{number_value, AreValuesOf}
 use Rattle.icu_trie_builder.specs.Inside.NumberTrie.{IsNumberTrie}
 use Rattle.icu_trie_builder.specs.MapAnswers.{AnswersMap}
-use Rattle.icu_trie_builder.specs.Built.{IsWellBuilt}
+use Rattle.icu_trie_builder.specs.Built.{IsBuiltFrom}
 use Rattle.icu_trie_builder.proofs.BuilderLemmas.{gives_back, all_numbers, number-of_value}
+use Rattle.icu_trie_builder.proofs.RangesOfMap.{HasRangesOf-from_answers}
 use Rattle.icu_trie_builder.proofs.TypedLemmas.{answers_map, no_fault, well_built}
 
 module _ {T : Type 0} (V : T → Type 0) (number : T → ℕ) (of_number : ℕ → Option T) (back : (x : T) → V x → of_number (number x) ≡ Some x)
@@ -44,18 +46,21 @@ module _ {T : Type 0} (V : T → Type 0) (number : T → ℕ) (of_number : ℕ �
       λ j. record { header = sym e j; index = sym i j; values = t.values } in
       subst Q whole (q t.values v)
 
-  -- The trie has the values of the map.
-  pub map_answers : (t : Parts T) → t.header ≡ h → t.index ≡ index → AreValuesOf of_number cells t.values → AnswersMap f error t
-  map_answers = by_parts (AnswersMap f error) (λ values v.
+  -- The trie is built from the map.
+  pub map_trie : (kind : TrieType) → h.trie_type ≡ kind → (t : Parts T) → t.header ≡ h → t.index ≡ index
+      → AreValuesOf of_number cells t.values → IsBuiltFrom number of_number f error kind t
+  map_trie kind of_kind = by_parts (IsBuiltFrom number of_number f error kind) (λ values v.
+      let t : Parts T = record { header = h; index = index; values = values } in
+      let answers : AnswersMap f error t =
       answers_map of_number number f error (λ c. slice_index numbers c) h index cells values v back_is (back error sound.error_value) is
-      built_is null_is)
-
-  -- The trie is well built.
-  pub map_built : (t : Parts T) → t.header ≡ h → t.index ≡ index → AreValuesOf of_number cells t.values
-      → IsWellBuilt of_number (λ c. number (f c)) t
-  map_built = by_parts (IsWellBuilt of_number (λ c. number (f c))) (λ values v.
-      well_built of_number number f error (λ c. slice_index numbers c) h index cells values v back_is (back error sound.error_value) is
-      built_is null_is)
+      built_is null_is in
+      record {
+        answers = answers;
+        ranges = HasRangesOf-from_answers f error t answers;
+        trie_type = of_kind;
+        built = well_built of_number number f error (λ c. slice_index numbers c) h index cells values v back_is
+            (back error sound.error_value) is built_is null_is;
+      })
 
   -- Its parts have no fault.
   pub map_no_fault : (values : List T) → AreValuesOf of_number cells values → parts_fault of_number h index values ≡ None

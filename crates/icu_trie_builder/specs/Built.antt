@@ -1,11 +1,13 @@
--- The properties of a built trie besides its look-up results.
+-- What a trie that was built from a map is.
 use Rattle.std.specs.Prelude.{◌≡◌, ℕ, ◌+◌, ◌/◌, ◌%◌, ◌≤◌, Option, length}
 use Rattle.icu_zerovec.specs.CodePoints.{code_point_limit}
 use Rattle.icu_trie_core.specs.Contents.{contents_of}
 use Rattle.icu_trie_core.specs.declared.header.CodePointTrieHeader.{CodePointTrieHeader}
+use Rattle.icu_trie_core.specs.declared.header.TrieType.{TrieType}
 use Rattle.icu_trie_core.specs.Coherence.{IsCoherent, IsShared}
 use Rattle.icu_trie.specs.Parts.{Parts}
 use Rattle.icu_trie_builder.specs.Bounds.{data_bound, compact_data_bound, index_bound, short_index_bound}
+use Rattle.icu_trie_builder.specs.MapAnswers.{AnswersMap, HasRangesOf}
 use Rattle.icu_trie_builder.specs.NullBlock.{NamesNull, NamesNullIndex}
 
 -- The high start is a multiple of 512 and at most 0x110000. `shifted12_high_start` is the high
@@ -37,3 +39,15 @@ pub record IsWellBuilt {T : Type 0} (of_number : ℕ → Option T) (f : ℕ → 
   -- If the bound on the data is at most 0x10000 cells, the index needs no 18-bit offsets.
   pub tight : compact_data_bound t.header.trie_type f ≤ 0x10000
       → length t.index ≤ short_index_bound t.header.trie_type f
+
+-- The trie t is built from the map f, with this error value and of this type. `number` gives the
+-- number of a value, and of_number the value with a number.
+pub record IsBuiltFrom {T : Type 0} (number : T → ℕ) (of_number : ℕ → Option T) (f : ℕ → T)
+    (error : T) (kind : TrieType) (t : Parts T) : Type 0 where
+  -- It has the map's values.
+  pub answers : AnswersMap f error t
+  -- It has the map's ranges and value sets.
+  pub ranges : HasRangesOf f t
+  pub trie_type : t.header.trie_type ≡ kind
+  -- It is coherent, and its size is bounded.
+  pub built : IsWellBuilt of_number (λ c. number (f c)) t

@@ -6,8 +6,7 @@ ghost use Rattle.icu_trie.specs.Parts.{parts_fault};
 ghost use Rattle.icu_trie_builder.specs.Bounds.{IsTooLarge};
 ghost use Rattle.icu_trie_builder.specs.CodePointMap.{map_value, IsBuilder};
 ghost use Rattle.icu_trie_builder.specs.Inside.ValuesOfNumbers.{number_value, AreValuesOf};
-ghost use Rattle.icu_trie_builder.specs.MapAnswers.{AnswersMap, HasRangesOf};
-ghost use Rattle.icu_trie_builder.specs.Built.{IsWellBuilt};
+ghost use Rattle.icu_trie_builder.specs.Built.{IsBuiltFrom};
 ghost use Rattle.icu_trie_builder.specs.Writes.{is_accepted, value_after};
 ghost use Rattle.icu_trie_compaction.specs.declared.error.BuildError.TheVariants.{TooLarge};
 
@@ -67,11 +66,8 @@ fn build_map<T: TrieValue>(
     trie_type: TrieType,
 ) -> Result<CodePointTrie<'static, T>, BuildError>
     requires { IsBuilder T.is_value T.number numbers.now default error }
-    ensures answers { IfOk result
-        (AnswersMap (number_value T.of_number default numbers.now) error) }
-    ensures trie_type { IfOk result (λ t. t.header.trie_type ≡ trie_type) }
-    ensures built { IfOk result (IsWellBuilt T.of_number
-        (λ c. T.number (number_value T.of_number default numbers.now c))) }
+    ensures trie { IfOk result (IsBuiltFrom T.number T.of_number
+        (number_value T.of_number default numbers.now) error trie_type) }
     ensures too_large { result ≡ Err TooLarge
         → IsTooLarge (λ c. T.number (number_value T.of_number default numbers.now c)) }
 {
@@ -96,10 +92,8 @@ impl<T: TrieValue> CodePointTrieBuilder<T> {
     ///   800 different aligned blocks of 512 values, or more than 12,000 of 16.
     /// - `BuildError::Memory` if an allocation fails.
     pub fn build(self) -> Result<CodePointTrie<'static, T>, BuildError>
-        ensures answers { IfOk result (AnswersMap (map_value self) self.error) }
-        ensures ranges { IfOk result (HasRangesOf (map_value self)) }
-        ensures trie_type { IfOk result (λ t. t.header.trie_type ≡ self.trie_type) }
-        ensures built { IfOk result (IsWellBuilt T.of_number (λ c. T.number (map_value self c))) }
+        ensures trie { IfOk result
+            (IsBuiltFrom T.number T.of_number (map_value self) self.error self.trie_type) }
         ensures too_large { result ≡ Err TooLarge → IsTooLarge (λ c. T.number (map_value self c)) }
     {
         build_map(
@@ -132,11 +126,8 @@ pub fn build_from_writes<T: TrieValue>(
     trie_type: TrieType,
     writes: &[Write<T>],
 ) -> Result<CodePointTrie<'static, T>, BuildError>
-    ensures answers { IfOk result (AnswersMap (value_after writes.now default) error) }
-    ensures ranges { IfOk result (HasRangesOf (value_after writes.now default)) }
-    ensures trie_type { IfOk result (λ t. t.header.trie_type ≡ trie_type) }
-    ensures built { IfOk result (IsWellBuilt T.of_number
-        (λ c. T.number (value_after writes.now default c))) }
+    ensures trie { IfOk result (IsBuiltFrom T.number T.of_number
+        (value_after writes.now default) error trie_type) }
     ensures too_large { result ≡ Err TooLarge → IsTooLarge
         (λ c. T.number (value_after writes.now default c)) }
     ensures few { count_by (is_accepted) writes.now ≤ 256 → result ≢ Err TooLarge }

@@ -46,9 +46,9 @@ returns-in_err-to_binary-clause-err g c =
     c.in-Ok-Ok.ensures'.ok)
     c.in_ok-trie.trie
     (trie-of_rows number rows c.deref.result.now is d e default error d-is e-is
-    c.in_ok-trie.trie c.in_ok-trie.ensures.answers c.args.trie_type c.in_ok-trie.ensures.trie_type)
+    c.in_ok-trie.trie c.in_ok-trie.ensures.trie.answers c.args.trie_type c.in_ok-trie.ensures.trie.trie_type)
     (well-of_rows number rows c.deref.result.now is d e default error d-is e-is g.T.TrieValue.of_number c.in_ok-trie.trie
-    c.in_ok-trie.ensures.built)
+    c.in_ok-trie.ensures.trie.built)
     c.in_err-to_binary.field-0.0 c.in_err-to_binary.ensures.err)
 
 pub returns-clause-fits : goal.returns-clause-fits
@@ -78,10 +78,10 @@ returns-clause-built g c =
       trie = stored_form width number c.in_ok-trie.trie;
       stored = c.in_ok-to_binary.ensures.read;
       of_rows = stored-of_rows number rows c.deref.result.now is d e default error d-is e-is
-          c.in_ok-trie.trie c.in_ok-trie.ensures.answers c.args.trie_type c.in_ok-trie.ensures.trie_type width;
+          c.in_ok-trie.trie c.in_ok-trie.ensures.trie.answers c.args.trie_type c.in_ok-trie.ensures.trie.trie_type width;
       coherent = coherent-stored_form g.T.AsULE.unpack width number g.T.TrieValue.of_number (value_after c.deref.result.now d) e
-          c.in_ok-trie.trie c.in_ok-trie.ensures.answers c.in_ok-trie.ensures.built _ _ c.in_ok-to_binary.ensures.read
+          c.in_ok-trie.trie c.in_ok-trie.ensures.trie.answers c.in_ok-trie.ensures.trie.built _ _ c.in_ok-to_binary.ensures.read
           c.in_ok-to_binary.ensures.room;
       size = size-of_rows number d c.deref.result.now rows is g.T.TrieValue.of_number c.in_ok-trie.trie c.args.trie_type
-          c.in_ok-trie.ensures.trie_type c.in_ok-trie.ensures.built width _ c.in_ok-to_binary.ensures.len;
+          c.in_ok-trie.ensures.trie.trie_type c.in_ok-trie.ensures.trie.built width _ c.in_ok-to_binary.ensures.len;
     }

@@ -2,10 +2,9 @@ use Rattle.std.proofs.Common.{◌≡◌, ℕ, ◌<◌, slice_index, Err, true, r
 use Rattle.std.specs.Prelude.{is_some}
 use Rattle.icu_trie_compaction.specs.declared.error.BuildError.TheVariants.{TooLarge}
 use Rattle.icu_trie_builder.specs.Inside.ValuesOfNumbers.{number_value, AreValuesOf}
-use Rattle.icu_trie_builder.specs.MapAnswers.{AnswersMap}
-use Rattle.icu_trie_builder.specs.Built.{IsWellBuilt}
+use Rattle.icu_trie_builder.specs.Built.{IsBuiltFrom}
 use Rattle.icu_trie_builder.proofs.BuilderLemmas.{all_numbers, number-of_value, IfOk-three}
-use Rattle.icu_trie_builder.proofs.ValuesOfNumbers.{map_answers, map_built, map_no_fault}
+use Rattle.icu_trie_builder.proofs.ValuesOfNumbers.{map_no_fault, map_trie}
 use Rattle.icu_trie_builder.proofs.SameMapLemmas.{IsTooLarge-alike}
 use Rattle.icu_trie_builder.proofs.build.build_map.Goals as goal
 
@@ -32,29 +31,18 @@ trie_of-requires-clause-numbers g c =
     c.requires)
     error_back
 
-pub returns-clause-answers : goal.returns-clause-answers
-returns-clause-answers g c =
+pub returns-clause-trie : goal.returns-clause-trie
+returns-clause-trie g c =
     let trie = c.in_ok-trie.trie in
-    let f : ℕ → g.row.T.Denot = number_value g.T.TrieValue.of_number c.args.default c.args.numbers.now in
+    let number = g.T.TrieValue.number in
+    let of_number = g.T.TrieValue.of_number in
+    let f : ℕ → g.row.T.Denot = number_value of_number c.args.default c.args.numbers.now in
+    let error = c.args.error in
     IfOk-three c.trie_of.result (λ t. t.header ≡ trie.header) (λ t. t.index ≡ trie.index.items)
-    (λ t. AreValuesOf g.T.TrieValue.of_number trie.values.items t.values) (AnswersMap f c.args.error)
-    (map_answers g.T.AsULE.is_value g.T.TrieValue.number g.T.TrieValue.of_number g.met.T.TrieValue.number_gives_back c.args.numbers.now
-    c.args.default c.args.error c.requires
+    (λ t. AreValuesOf of_number trie.values.items t.values) (IsBuiltFrom number of_number f error c.args.trie_type)
+    (map_trie g.T.AsULE.is_value number of_number g.met.T.TrieValue.number_gives_back c.args.numbers.now c.args.default error c.requires
     trie.header trie.index.items trie.values.items c.to_u32.result c.to_u32-2.result c.to_u32.ensures c.to_u32-2.ensures
-    c.in_ok-trie.ensures.built c.in_ok-trie.ensures.null_value)
-    c.trie_of.ensures.header c.trie_of.ensures.index c.trie_of.ensures.values
-
-pub returns-clause-built : goal.returns-clause-built
-returns-clause-built g c =
-    let trie = c.in_ok-trie.trie in
-    let f : ℕ → g.row.T.Denot = number_value g.T.TrieValue.of_number c.args.default c.args.numbers.now in
-    IfOk-three c.trie_of.result (λ t. t.header ≡ trie.header) (λ t. t.index ≡ trie.index.items)
-    (λ t. AreValuesOf g.T.TrieValue.of_number trie.values.items t.values)
-    (IsWellBuilt g.T.TrieValue.of_number (λ k. g.T.TrieValue.number (f k)))
-    (map_built g.T.AsULE.is_value g.T.TrieValue.number g.T.TrieValue.of_number g.met.T.TrieValue.number_gives_back c.args.numbers.now
-    c.args.default c.args.error c.requires
-    trie.header trie.index.items trie.values.items c.to_u32.result c.to_u32-2.result c.to_u32.ensures c.to_u32-2.ensures
-    c.in_ok-trie.ensures.built c.in_ok-trie.ensures.null_value)
+    c.in_ok-trie.ensures.built c.in_ok-trie.ensures.null_value c.args.trie_type c.in_ok-trie.ensures.trie_type)
     c.trie_of.ensures.header c.trie_of.ensures.index c.trie_of.ensures.values
 
 pub trie_of-requires-clause-sound : goal.trie_of-requires-clause-sound

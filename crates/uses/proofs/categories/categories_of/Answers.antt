@@ -1,4 +1,4 @@
 use Rattle.uses.proofs.categories.categories_of.Goals as goal
 
 pub returns : goal.returns
-returns c = λ n. c.in_ok-trie.ensures.answers.value n
+returns c = λ n. c.in_ok-trie.ensures.trie.answers.value n

@@ -9,5 +9,5 @@ returns c =
     let second : IsAfter c.args.second.now c.apply.new.self c.apply-2.new.self = search rules in
     let both = IsAfter-append _ _ _ _ _ first second in
     let answer = map_answer-after 0 255 _ _ _ c.new-builder.ensures.map c.new-builder.ensures.error both c.args.c in
-    let found = c.get32.ensures ∙ (c.in_ok-trie.ensures.answers.value c.args.c ∙ ap Some answer) in
+    let found = c.get32.ensures ∙ (c.in_ok-trie.ensures.trie.answers.value c.args.c ∙ ap Some answer) in
     let same : c.get32.result ≡ answer_after 0 255 (c.args.first.now ++ c.args.second.now) c.args.c = cc in same

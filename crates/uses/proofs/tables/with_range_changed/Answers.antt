@@ -47,12 +47,13 @@ after c = c.in_ok-set_range_value.ensures.ok
 pub returns-clause-inside : goal.returns-clause-inside
 returns-clause-inside c =
     let new = c.set_range_value.new.self in
-    IfOk-weaker c.build.result (AnswersMap (map_value new) new.error) _
-    (λ t of. inside c.args.range c.args.value c.in_ok-builder.builder new t (after c) of) c.build.ensures.answers
+    IfOk-weaker c.build.result _ _ (λ t of. inside c.args.range c.args.value c.in_ok-builder.builder new t (after c) of.answers)
+    c.build.ensures.trie
 
 pub returns-clause-outside : goal.returns-clause-outside
 returns-clause-outside c =
     let new = c.set_range_value.new.self in
-    IfOk-weaker c.build.result (AnswersMap (map_value new) new.error) _
-    (λ t of u out. answered c.args.range c.args.value c.in_ok-builder.builder new t (after c) of u out ∙ c.in_ok-builder.ensures.values u)
-    c.build.ensures.answers
+    IfOk-weaker c.build.result _ _
+    (λ t of u out. answered c.args.range c.args.value c.in_ok-builder.builder new t (after c) of.answers u out
+    ∙ c.in_ok-builder.ensures.values u)
+    c.build.ensures.trie
