@@ -8,20 +8,20 @@ use Rattle.icu_trie_core.specs.declared.range.CodePointMapRange.{CodePointMapRan
 use Rattle.ucptab_table.specs.TableText.{decimal_text, hex_text}
 
 module _ (a b : Parts ℕ) where
-  -- the values of a number in the two tries
+  -- The values of a number in the two tries.
   abbrev pub both_values : ℕ → Option ℕ × Option ℕ
   both_values u = (trie_value a u, trie_value b u)
 
-  -- from c to before `end` the two tries have the same values
+  -- From c to before `end` the two tries have the same values.
   abbrev pub AreSame : ℕ → ℕ → Type 0
   AreSame c end = (u : ℕ) → c ≤ u → u < end → trie_value a u ≡ trie_value b u
 
-  -- the longest run of two values from its first code point on; the two values are different
+  -- The longest run of two values from its first code point on; the two values are different.
   pub record IsDifference (d : CodePointMapRange (ℕ × ℕ)) : Type 0 where
     pub run : LongestRun both_values (first_of d) (last_of d) (Some d.value.0, Some d.value.1)
     pub different : d.value.0 ≢ d.value.1
 
-  -- from c on, the tries differ in these ranges and nowhere else
+  -- From c on, the tries differ in these ranges and nowhere else.
   abbrev pub AreDifferencesFrom : ℕ → List (CodePointMapRange (ℕ × ℕ)) → Type 0
   AreDifferencesFrom c [] = AreSame c 0x110000
   AreDifferencesFrom c (d ∷ ds) =
@@ -39,17 +39,17 @@ difference_line d =
     then hex_text (first_of d) ++ (46 ∷ (46 ∷ (hex_text (last_of d) ++ values_text d.value)))
     else hex_text (last_of d) ++ values_text d.value
 
--- the lines of all these ranges, in order
+-- The lines of all these ranges, in order.
 abbrev pub difference_lines : List (CodePointMapRange (ℕ × ℕ)) → List ℕ
 difference_lines ds = flat_map difference_line ds
 
--- the line of the two error values, a comment, if they differ
+-- The line of the two error values, a comment, if they differ.
 unfoldable pub error_line : ℕ → ℕ → List ℕ
 error_line first second =
     if first == second then [] else codes "# above 10FFFF" ++ values_text (first, second)
 
--- the text has a line for each range in which the two tries differ, in order, and then the line of
--- their error values
+-- The text has a line for each range in which the two tries differ, in order, and then the line of
+-- their error values.
 pub record IsDifferenceText (a b : Parts ℕ) (text : List ℕ) : Type 0 where
   pub ranges : List (CodePointMapRange (ℕ × ℕ))
   pub all : AreDifferencesFrom a b 0 ranges

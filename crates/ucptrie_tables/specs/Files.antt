@@ -29,20 +29,20 @@ use Rattle.ucptrie_tables.specs.declared.width.ValueWidth.TheVariants.{Bits32}
 
 -- ---- Which form a file is taken for
 
--- the first four bytes are the signature of ICU's binary form, in this machine's byte order
+-- The first four bytes are the signature of ICU's binary form, in this machine's byte order.
 abbrev pub HasSignature : List ℕ → Type 0
 HasSignature file = take 4 file ≡ codes "3irT"
 
--- they are that signature in the other byte order
+-- They are that signature in the other byte order.
 abbrev pub HasSwappedSignature : List ℕ → Type 0
 HasSwappedSignature file = take 4 file ≡ codes "Tri3"
 
--- the file has neither signature
+-- The file has neither signature.
 pub record HasNoSignature (file : List ℕ) : Type 0 where
   pub own : ¬ HasSignature file
   pub swapped : ¬ HasSwappedSignature file
 
--- after white space, which the text may have or not, its first byte is `{`
+-- After white space, which the text may have or not, its first byte is `{`.
 abbrev pub starts_object : List ℕ → Bool
 starts_object text = slice_index (trim_start text) 0 == 123
 
@@ -58,34 +58,34 @@ pub record IsTakenForToml (file : List ℕ) : Type 0 where
   pub text : IsUtf8 file
   pub no_object : starts_object file ≡ false
 
--- a file with no signature that is no text in UTF-8 has no form
+-- A file with no signature that is not UTF-8 has no form.
 pub record HasNoForm (file : List ℕ) : Type 0 where
   pub unsigned : HasNoSignature file
   pub no_text : ¬ IsUtf8 file
 
 -- ---- ICU's binary form
 
--- the file starts with the table's trie in ICU's binary form, with values of its width
+-- The file starts with the table's trie in ICU's binary form, with values of its width.
 abbrev pub IsBinaryOf : List ℕ → Table → Type 0
 IsBinaryOf file t = (len : ℕ) × IsUnsignedStored (bytes_of t.width) file t.trie len
 
--- the same if each number has its bytes in the other order
+-- The same if each number has its bytes in the other order.
 abbrev pub IsSwappedOf : List ℕ → Table → Type 0
 IsSwappedOf file t = IsBinaryOf (in_other_order (bytes_of t.width) file) t
 
--- why a file with the signature has no table: its first fault as a trie of the width that its
--- header has. No clause can say when an allocation fails, here and below
+-- Why a file with the signature has no table: its first fault as a trie of the width that its
+-- header has. No clause can say when an allocation fails, here and below.
 abbrev pub IsWhyNoBinary : List ℕ → ReadFault → Type 0
 IsWhyNoBinary file (Binary why) = IsWhyNoneStored file why
 IsWhyNoBinary file Memory = ⊤
 IsWhyNoBinary file _ = ⊥
 
--- the first fault of a file in the other byte order, if its values have so many bytes
+-- The first fault of a file in the other byte order, if its values have so many bytes.
 abbrev pub IsWhyNotSwappedAs : ℕ → List ℕ → BinaryError → Type 0
 IsWhyNotSwappedAs bytes file = IsWhyNoUnsigned bytes (in_other_order bytes file)
 
--- the first fault of a file in the other byte order: each width is tried, the narrowest first, and
--- the next only if the trie has another width
+-- The first fault of a file in the other byte order: each width is tried, the narrowest first, and
+-- the next only if the trie has another width.
 abbrev pub IsWhyNoneSwapped : List ℕ → BinaryError → Type 0
 IsWhyNoneSwapped file why =
     (IsWhyNotSwappedAs 1 file why × (why ≢ OtherWidth))
@@ -93,7 +93,7 @@ IsWhyNoneSwapped file why =
     × ((IsWhyNotSwappedAs 2 file why × (why ≢ OtherWidth))
     ⊎ (IsWhyNotSwappedAs 2 file OtherWidth × IsWhyNotSwappedAs 4 file why)))
 
--- why a file with the signature in the other byte order has no table
+-- Why a file with the signature in the other byte order has no table.
 abbrev pub IsWhyNoSwapped : List ℕ → ReadFault → Type 0
 IsWhyNoSwapped file (Binary why) = IsWhyNoneSwapped file why
 IsWhyNoSwapped file Memory = ⊤
@@ -101,12 +101,12 @@ IsWhyNoSwapped file _ = ⊥
 
 -- ---- JSON
 
--- the text is the table's trie in JSON, whose numbers have 32 bits
+-- The text is the table's trie in JSON, whose numbers have 32 bits.
 abbrev pub IsJsonOf : List ℕ → Table → Type 0
 IsJsonOf text t = (d : Data) × (read_text text ≡ Some d)
     × (trie_of_json (fitting (2 ^ 32)) d ≡ Ok t.trie) × (t.width ≡ Bits32)
 
--- why a text taken for JSON has no table: it is no JSON, or the first fault of its JSON as a trie
+-- Why a text taken for JSON has no table: it is not JSON, or the first fault of its JSON as a trie.
 abbrev pub IsWhyNoJson : List ℕ → ReadFault → Type 0
 IsWhyNoJson text (Json why) = read_text text ≡ None
 IsWhyNoJson text (TrieJson json_refusals.Memory) = ⊥
@@ -117,7 +117,7 @@ IsWhyNoJson text _ = ⊥
 
 -- ---- TOML
 
--- the text is a TOML file that has the table's trie
+-- The text is a TOML file that has the table's trie.
 pub record IsTomlOf (text : List ℕ) (t : Table) : Type 0 where
   pub file : Members
   pub reads : parse_document text ≡ Some file
@@ -126,7 +126,7 @@ pub record IsTomlOf (text : List ℕ) (t : Table) : Type 0 where
   pub trie : trie_of (fitting (2 ^ 32)) parts ≡ Ok t.trie
   pub width : t.width ≡ width_of parts
 
--- why a table of a TOML file says no trie: its own first fault, or that of the trie of its parts
+-- Why a table of a TOML file is not a trie: its own first fault, or that of the trie of its parts.
 abbrev pub IsWhyNoTrieToml : Members → TrieFromTomlError → Type 0
 IsWhyNoTrieToml table (trie_refusals.Table toml_refusals.Memory) = ⊥
 IsWhyNoTrieToml table (trie_refusals.Table why) = IsRefused (toml_of table) why
@@ -134,7 +134,7 @@ IsWhyNoTrieToml table (trie_refusals.Trie why) = (parts : TomlParts) × (toml_of
     × IsRefusedTrie (trie_of (fitting (2 ^ 32)) parts) (trie_refusals.Trie why)
 IsWhyNoTrieToml table trie_refusals.Memory = ⊥
 
--- why a text taken for TOML has no table: it is no TOML, or its table says no trie
+-- Why a text taken for TOML has no table: it is not TOML, or its table is not a trie.
 abbrev pub IsWhyNoToml : List ℕ → ReadFault → Type 0
 IsWhyNoToml text (Toml why) = parse_document text ≡ None
 IsWhyNoToml text (TrieToml why) = (file : Members) × (parse_document text ≡ Some file)

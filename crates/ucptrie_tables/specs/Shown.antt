@@ -4,22 +4,22 @@ use Rattle.std.specs.List.{flat_map}
 use Rattle.icu_trie_core.specs.Runs.{Run, AreMaximalRuns}
 use Rattle.ucptab_table.specs.TableText.{runs_text}
 
--- the line of a comment: `#`, the comment, and LF
+-- The line of a comment: `#`, the comment, and LF.
 abbrev pub comment_line : List ℕ → List ℕ
 comment_line comment = 35 ∷ (comment ++ (10 ∷ []))
 
--- the bytes are whole lines, each of them a comment
+-- The bytes are whole lines, each of them a comment.
 pub record AreComments (bytes : List ℕ) : Type 0 where
   pub comments : List (List ℕ)
   pub one_line : All (λ comment. All (λ b. b ≢ 10) comment) comments
   pub lines : bytes ≡ flat_map comment_line comments
 
--- a text got comments at its end
+-- Comments are appended to a text.
 abbrev pub AddsComments : List ℕ → List ℕ → Type 0
 AddsComments old new = (bytes : List ℕ) × (AreComments bytes × (new ≡ old ++ bytes))
 
--- the text is comments, and behind them the lines of the maximal runs of a map, each once: the rows
--- of the map's table, since `ucptab` reads no comment
+-- The text is comments, and behind them the lines of the maximal runs of a map, each once: the rows
+-- of the map's table, since `ucptab` reads no comment.
 pub record IsShown (value : ℕ → ℕ) (text : List ℕ) : Type 0 where
   pub comments : List ℕ
   pub are_comments : AreComments comments

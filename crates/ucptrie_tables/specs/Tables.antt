@@ -1,4 +1,4 @@
--- The table that rows make, the bytes of a table in ICU's binary form, and each error of these two.
+-- Tables made from rows, their bytes in ICU's binary form, and the errors of both steps.
 use Rattle.std.specs.Prelude.{◌≡◌, ◌⊎◌, ℕ, ◌^◌, ◌<◌, List, ◌∷◌, ◌++◌, Option, Some, None, All, ⊤}
 use Rattle.std.specs.Option.{option_to_list}
 use Rattle.icu_zerovec.specs.PackedBytes.{low_bytes}
@@ -25,9 +25,9 @@ use Rattle.ucptrie_tables.specs.declared.written.Form.TheVariants.{Icu}
 
 -- ---- The table of rows
 
--- no line of the input has a fault, and the trie is what its rows and the options ask for: a code
--- point has the value of the last row that covers it, or the default if none does; a number above
--- the code space has the error value; the trie is of the asked type and well built
+-- No line of the input has a fault, and the trie is that of its rows and the options. A code point
+-- has the value of the last row that covers it, or the default if none does. A number above the
+-- code space has the error value. The trie is of the requested type and well built.
 pub record IsTrieOfRows (input : List ℕ) (options : TableOptions) (trie : Parts ℕ) : Type 0 where
   pub writes : List (Write ℕ)
   pub rows : AreRows input writes
@@ -35,15 +35,15 @@ pub record IsTrieOfRows (input : List ℕ) (options : TableOptions) (trie : Part
   pub built : IsWellBuilt (fitting (2 ^ 32)) (value_after writes options.default) trie
   pub trie_type : trie.header.trie_type ≡ options.trie_type
 
--- the table's trie is what the input's rows and the options ask for, its width is the asked one,
--- and none of its values has more bits than that
+-- The table's trie is that of the input's rows and the options, its width is the requested one,
+-- and none of its values has more bits.
 pub record IsTableOf (input : List ℕ) (options : TableOptions) (t : Table) : Type 0 where
   pub trie : IsTrieOfRows input options t.trie
   pub width : t.width ≡ options.width
   pub fits : All (λ v. v < 2 ^ bits_of t.width) t.trie.values
 
--- the width is the asked one, and in the data of a trie of the rows this value is the first that
--- has more bits
+-- The width is the requested one, and `value` is the first value in the data of a trie of the
+-- rows that has more bits.
 pub record IsTooWide (input : List ℕ) (options : TableOptions) (value : ℕ) (width : ValueWidth)
     : Type 0 where
   pub trie : Parts ℕ
@@ -51,9 +51,9 @@ pub record IsTooWide (input : List ℕ) (options : TableOptions) (value : ℕ) (
   pub asked : width ≡ options.width
   pub first : first_wider width trie.values ≡ Some value
 
--- why an input makes no table: a line has a fault, and no line before it has one; the rows make too
--- many different blocks for a trie; or a value has more bits than are asked for. No clause can say
--- when an allocation fails
+-- Why an input makes no table: a line has a fault, and no line before it has one; the rows make
+-- too many different blocks for a trie; or a value has more bits than the requested width. No
+-- clause can say when an allocation fails.
 abbrev pub IsWhyNoTable : List ℕ → TableOptions → BuildFault → Type 0
 IsWhyNoTable input options (TableFault (Row k f)) = IsFirstFault input k f
 IsWhyNoTable input options (TableFault TooLarge) = IsTooLargeInput options.default input
@@ -64,22 +64,23 @@ IsWhyNoTable input options (Binary why) = ⊥
 
 -- ---- The binary form of a table
 
--- the bytes of a table in ICU's binary form, with values of its width
+-- The bytes of a table in ICU's binary form, with values of its width.
 abbrev pub binary_bytes : Table → List ℕ
 binary_bytes t = binary_of (bytes_of t.width) (λ n. n) (low_bytes (bytes_of t.width)) t.trie
 
--- the values of a trie in the order in which they are narrowed: the error value, the null value,
--- and each cell of the data
+-- The values of a trie in the order in which they are narrowed: the error value, the null value,
+-- and each cell of the data.
 abbrev pub values_in_turn : Parts ℕ → List ℕ
 values_in_turn t = option_to_list (last_cell t.values) ++ (t.header.null_value ∷ t.values)
 
--- the first of these that has more bits than the width, if one has. Every value has 32 bits or less
+-- The first of these that has more bits than the width, if one has. Every value has 32 bits or
+-- less.
 abbrev pub first_unfit : ValueWidth → Parts ℕ → Option ℕ
 first_unfit Bits8 t = first_wider Bits8 (values_in_turn t)
 first_unfit Bits16 t = first_wider Bits16 (values_in_turn t)
 first_unfit Bits32 t = None
 
--- no value has more bits than the table's width, and the binary form has room for the trie
+-- No value has more bits than the table's width, and the binary form has room for the trie.
 pub record HasBinaryForm (t : Table) : Type 0 where
   pub fits : first_unfit t.width t.trie ≡ None
   pub room : why_not_written (bytes_of t.width) (λ n. n) t.trie ≡ None
@@ -96,12 +97,12 @@ IsWhyNotWritten form t (Binary why) =
     (form ≡ Icu) × (first_unfit t.width t.trie ≡ None)
     × (why_not_written (bytes_of t.width) (λ n. n) t.trie ≡ Some why)
 
--- how an error of the writing is passed on: an allocation that failed is `Memory`
+-- The error of `built` for an error of `written`: a failed allocation is `Memory`.
 abbrev pub refusal_of_write : WriteError → BuildFault
 refusal_of_write WriteMemory = TableFault Memory
 refusal_of_write why = Binary why
 
--- why nothing is written of rows: why they make no table, or why a table of them is not written
+-- Why `built` fails: the rows make no table, or their table cannot be written.
 abbrev pub IsWhyNotBuilt : List ℕ → TableOptions → Form → BuildFault → Type 0
 IsWhyNotBuilt input options form fault =
     IsWhyNoTable input options fault

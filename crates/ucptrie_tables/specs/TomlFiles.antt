@@ -26,20 +26,20 @@ trie_or_self None property =
 abbrev pub trie_of_table : Members → Option Members
 trie_of_table property = trie_or_self (get_member (codes "code_point_trie") property) property
 
--- the trie of the properties at a key, as ICU's icuexportdata writes them
+-- The trie of the properties at a key, as ICU's icuexportdata writes them.
 abbrev pub trie_of_property : Data → Option Members
 trie_of_property d = option_and_then trie_of_table (option_and_then as_table (first_property d))
 
--- the trie of the first key, in ascending order, that has one
+-- The trie of the first key, in ascending order, that has one.
 abbrev pub first_trie : Members → Option Members
 first_trie no_members = None
 first_trie (member key d others) = option_or (trie_of_property d) (first_trie others)
 
--- the table of a file that has its trie: that of the first property with one, and else the file's
+-- The table of a file that has its trie: that of the first property with one, and else the file's.
 abbrev pub trie_table : Members → Members
 trie_table file = unwrap_or (first_trie file) file
 
--- the width of the first array of data that a table has
+-- The width of the first array of data that a table has.
 abbrev pub width_of : TomlParts → ValueWidth
 width_of parts =
     if is_some parts.data_8 then Bits8

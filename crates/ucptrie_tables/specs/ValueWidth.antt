@@ -4,18 +4,18 @@ use Rattle.std.specs.List.{find}
 use Rattle.ucptrie_tables.specs.declared.width.ValueWidth.{ValueWidth}
 use Rattle.ucptrie_tables.specs.declared.width.ValueWidth.TheVariants.{Bits8, Bits16, Bits32}
 
--- how many bytes a value of this width has
+-- How many bytes a value of this width has.
 abbrev pub bytes_of : ValueWidth → ℕ
 bytes_of Bits8 = 1
 bytes_of Bits16 = 2
 bytes_of Bits32 = 4
 
--- how many bits a value of this width has
+-- How many bits a value of this width has.
 abbrev pub bits_of : ValueWidth → ℕ
 bits_of Bits8 = 8
 bits_of Bits16 = 16
 bits_of Bits32 = 32
 
--- the first of the values that has more bits than the width, if one has
+-- The first of the values that has more bits than the width, if one has.
 abbrev pub first_wider : ValueWidth → List ℕ → Option ℕ
 first_wider w values = find (λ v. not (nat_lt v (2 ^ bits_of w))) values

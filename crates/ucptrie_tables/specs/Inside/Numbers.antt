@@ -12,9 +12,9 @@ use Rattle.ucptrie_tables.specs.declared.fault.BuildFault.{BuildFault}
 use Rattle.ucptrie_tables.specs.declared.fault.BuildFault.TheVariants.{Table as TableFault, Width, Binary}
 use Rattle.ucptrie_tables.specs.declared.table.Table.{Table}
 
--- the values of t are those of the numbers of p's values, cell by cell, and so is its null value;
+-- The values of t are those of the numbers of p's values, cell by cell, and so is its null value;
 -- number gives the number of a value of p, of_number the value of a number in t, and new_number the
--- number of a value of t
+-- number of a value of t.
 pub record HasNumbersOf {T P : Type 0} (number : T → ℕ) (old_of_number : ℕ → Option T)
     (new_number : P → ℕ) (of_number : ℕ → Option P) (p : Parts T) (t : Parts P) : Type 0 where
   pub index : t.index ≡ p.index
@@ -25,14 +25,14 @@ pub record HasNumbersOf {T P : Type 0} (number : T → ℕ) (old_of_number : ℕ
   pub null_is : of_number (number old_null) ≡ Some null
   pub header : t.header ≡ with_null_value p.header (new_number null)
 
--- the number of the first of these values whose number no value of the other type has, if there is
--- one
+-- The number of the first of these values whose number no value of the other type has, if there is
+-- one.
 abbrev pub first_without : {T P : Type 0} → (T → ℕ) → (ℕ → Option P) → List T → Option ℕ
 first_without number of_number values =
     option_map number (find (λ v. is_none (of_number (number v))) values)
 
--- of the error value, the null value and the cells of p, in this order, the first whose number no
--- value of the other type has, has the number n
+-- Of the error value, the null value and the cells of p, in this order, the first whose number no
+-- value of the other type has, has the number n.
 pub record IsFirstWithout {T P : Type 0} (number : T → ℕ) (old_of_number : ℕ → Option T)
     (of_number : ℕ → Option P) (p : Parts T) (n : ℕ) : Type 0 where
   pub error : T
@@ -41,16 +41,16 @@ pub record IsFirstWithout {T P : Type 0} (number : T → ℕ) (old_of_number : �
   pub null_is : old_of_number p.header.null_value ≡ Some null
   pub first : first_without number of_number (error ∷ null ∷ p.values) ≡ Some n
 
--- why there is no trie of another type with the numbers of p. No clause can say when an allocation
--- fails
+-- Why there is no trie of another type with the numbers of p. No clause can say when an allocation
+-- fails.
 abbrev pub IsWhyNoNumbers : {T P : Type 0} → (T → ℕ) → (ℕ → Option T) → (ℕ → Option P) → Parts T
     → MapError ℕ → Type 0
 IsWhyNoNumbers number old_of_number of_number p (Closure n) =
     IsFirstWithout number old_of_number of_number p n
 IsWhyNoNumbers number old_of_number of_number p MapMemory = ⊤
 
--- why a table is not written in the binary form over values of another type, which take so many
--- bytes
+-- Why a table is not written in the binary form over values of another type, which take so many
+-- bytes.
 abbrev pub IsWhyNotNarrowed : {P : Type 0} → ℕ → (P → ℕ) → (ℕ → Option P) → Table → BuildFault
     → Type 0
 IsWhyNotNarrowed bytes number of_number t (TableFault Memory) = ⊤
