@@ -127,7 +127,7 @@ pub enum ReadFault {
     #[error("{0}")]
     TrieJson(TrieJsonError),
     /// It is not TOML, nor in any of the other forms.
-    #[error("no TOML: {0}")]
+    #[error("not TOML: {0}")]
     Toml(TomlFault),
     /// Its TOML is not a trie.
     #[error("{0}")]
