@@ -19,6 +19,7 @@ import zipfile
 HERE = pathlib.Path(__file__).resolve().parent
 C = HERE.parent / "c"
 LIBRARY = C / "out/libbekstaudi.a"
+MADE_BY = C / "out/made-by"
 # The limited API of CPython 3.9 is what the sources ask for (native/shared.h).
 TAG = "cp39-abi3-linux_x86_64"
 
@@ -41,6 +42,8 @@ def _compiled(folder):
     module = folder / "_native.abi3.so"
     words = [*shlex.split(os.environ.get("CC", "cc")), "-std=c11", "-O2", "-fPIC", "-Wall", "-Wextra", "-fvisibility=hidden"]
     words += [f'-DBEKSTAUDI_VERSION="{_version()}"', f"-I{headers}", f"-I{C}", "-I.", "-shared", "-s"]
+    # The proved library is built for x86-64-v2, cargo's for every x86-64.
+    words += ["-DBEKSTAUDI_NEEDS_SSE4_2"] if MADE_BY.read_text().startswith("proved") else []
     words += ["-Wl,--exclude-libs,ALL", "-Wl,--gc-sections", "-o", module]
     words += sorted(it.name for it in (HERE / "native").glob("*.c"))
     subprocess.run([*words, LIBRARY], check=True, cwd=HERE / "native")

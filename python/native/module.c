@@ -17,7 +17,19 @@ static PyMethodDef functions[] = {
     {"point", METHOD(point), METH_O, point_text},
     {NULL, NULL, 0, NULL}};
 
+/* Sets an ImportError if the library has instructions that the processor lacks. */
+static bool is_wrong_processor(void) {
+#ifdef BEKSTAUDI_NEEDS_SSE4_2
+    if (!__builtin_cpu_supports("sse4.2") || !__builtin_cpu_supports("popcnt")) {
+        PyErr_SetString(PyExc_ImportError, "bekstaudi: this build needs a processor with SSE4.2 (x86-64-v2)");
+        return true;
+    }
+#endif
+    return false;
+}
+
 static int execute(PyObject *module) {
+    if (is_wrong_processor()) return -1;
     static const char *const names[] = {"Trie", "CodePointSet", "UnitTrie"};
     PyType_Spec *const specs[] = {&trie_spec, &set_spec, &units_spec};
     for (int i = 0; i < 3; i++) {
