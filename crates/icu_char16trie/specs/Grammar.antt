@@ -6,6 +6,7 @@
 -- intermediate value, which comes before the match node.
 use Rattle.std.specs.Prelude.{◌≡◌, ℕ, ◌+◌, ◌-◌, ◌/◌, ◌%◌, ◌<◌, ◌≤◌, ◌==◌, List, [], ◌∷◌, ◌++◌, Option, Some, slice_get, if◌then◌else◌, take, drop, length}
 use Rattle.std.specs.Int.{cast_signed, w32}
+use Rattle.icu_char16trie.specs.Constants.{max_branch_linear_sub_node_length, min_linear_match, min_value_lead, run_len, value_is_final}
 use Rattle.icu_char16trie.specs.UnitMap.{UnitMap, under}
 use Rattle.icu_char16trie.specs.Numbers.{short_number, short_end, node_number, node_end, delta_end, entry_child, lower_part}
 
@@ -39,12 +40,14 @@ IsAscending (a ∷ arms) = UnitsFrom (a.0 + 1) arms × IsAscending arms
 pub data Part (units : List ℕ) : ℕ → ℕ → Arms → Type 0 where
   last : (p n u : ℕ) (arms : Arms) → n ≡ 1 → slice_get units p ≡ Some u → arms ≡ (u, p + 1) ∷ []
       → Part units p n arms
-  entry : (p n u v child : ℕ) (rest arms : Arms) → 1 < n → n ≤ 5 → slice_get units p ≡ Some u
+  entry : (p n u v child : ℕ) (rest arms : Arms) → 1 < n → n ≤ max_branch_linear_sub_node_length
+      → slice_get units p ≡ Some u
       → slice_get units (p + 1) ≡ Some v
       → entry_child units (p + 2) v ≡ Some child
-      → Part units (short_end (p + 2) (v % 0x8000)) (n - 1) rest
+      → Part units (short_end (p + 2) (v % value_is_final)) (n - 1) rest
       → arms ≡ (u, child) ∷ rest → Part units p n arms
-  split : (p n s d low : ℕ) (lower upper arms : Arms) → 5 < n → slice_get units p ≡ Some s
+  split : (p n s d low : ℕ) (lower upper arms : Arms) → max_branch_linear_sub_node_length < n
+      → slice_get units p ≡ Some s
       → slice_get units (p + 1) ≡ Some d
       → lower_part units (p + 2) d ≡ Some low → Part units low (n / 2) lower
       → Part units (delta_end (p + 2) d) (n - n / 2) upper
@@ -63,24 +66,25 @@ mutual
   -- The node at p represents m: a final value, a match node, or an intermediate value and a match
   -- node.
   pub data Holds (units : List ℕ) : ℕ → UnitMap → Type 0 where
-    final : (p lead n : ℕ) (m : UnitMap) → slice_get units p ≡ Some lead → 0x8000 ≤ lead
-        → short_number units (p + 1) (lead - 0x8000) ≡ Some n → m ≡ ([], cast_signed w32 n) ∷ []
-        → Holds units p m
-    plain : (p lead : ℕ) (m : UnitMap) → slice_get units p ≡ Some lead → lead < 0x40
+    final : (p lead n : ℕ) (m : UnitMap) → slice_get units p ≡ Some lead → value_is_final ≤ lead
+        → short_number units (p + 1) (lead - value_is_final) ≡ Some n
+        → m ≡ ([], cast_signed w32 n) ∷ [] → Holds units p m
+    plain : (p lead : ℕ) (m : UnitMap) → slice_get units p ≡ Some lead → lead < min_value_lead
         → Matches units (p + 1) lead m → Holds units p m
-    valued : (p lead n : ℕ) (m rest : UnitMap) → slice_get units p ≡ Some lead → 0x40 ≤ lead
-        → lead < 0x8000
+    valued : (p lead n : ℕ) (m rest : UnitMap) → slice_get units p ≡ Some lead
+        → min_value_lead ≤ lead → lead < value_is_final
         → node_number units (p + 1) lead ≡ Some n
-        → Matches units (node_end (p + 1) lead) (lead % 64) rest
+        → Matches units (node_end (p + 1) lead) (lead % min_value_lead) rest
         → m ≡ ([], cast_signed w32 n) ∷ rest → Holds units p m
 
   -- The match node with these low six bits represents m. p is the index after the lead and its
   -- value.
   pub data Matches (units : List ℕ) : ℕ → ℕ → UnitMap → Type 0 where
-    run : (p low : ℕ) (m rest : UnitMap) → 0x30 ≤ low → low < 0x40 → p + (low - 0x2f) ≤ length units
-        → Holds units (p + (low - 0x2f)) rest → m ≡ under (take (low - 0x2f) (drop p units)) rest
+    run : (p low : ℕ) (m rest : UnitMap) → min_linear_match ≤ low → low < min_value_lead
+        → p + run_len low ≤ length units
+        → Holds units (p + run_len low) rest → m ≡ under (take (run_len low) (drop p units)) rest
         → Matches units p low m
-    branch : (p low n : ℕ) (arms : Arms) (m : UnitMap) → low < 0x30
+    branch : (p low n : ℕ) (arms : Arms) (m : UnitMap) → low < min_linear_match
         → branch_len units p low ≡ Some n → 1 ≤ n
         → Part units (branch_start p low) (n + 1) arms → IsAscending arms → Children units arms m
         → Matches units p low m

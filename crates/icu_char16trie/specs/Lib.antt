@@ -1,3 +1,4 @@
+pub mod Constants
 pub mod Numbers
 pub mod Grammar
 pub mod UnitMap

@@ -1,5 +1,6 @@
 -- The units that can come next in some key.
 use Rattle.std.specs.Prelude.{◌≡◌, ℕ, ◌+◌, ◌-◌, ◌/◌, ◌%◌, ◌<◌, ◌≤◌, ◌==◌, List, [], ◌∷◌, ◌++◌, Option, Some, None, slice_get, if◌then◌else◌}
+use Rattle.icu_char16trie.specs.Constants.{max_branch_linear_sub_node_length, min_linear_match, min_value_lead, value_is_final}
 use Rattle.icu_char16trie.specs.Numbers.{short_end, node_end, delta_end, lower_part}
 use Rattle.icu_char16trie.specs.UnitMap.{UnitMap}
 use Rattle.icu_char16trie.specs.declared.place.Place.{Place}
@@ -37,19 +38,22 @@ pub data RowUnits (units : List ℕ) : ℕ → ℕ → List ℕ → Type 0 where
       → RowUnits units p n us
   more : (p n u v : ℕ) (rest us : List ℕ) → 1 < n → slice_get units p ≡ Some u
       → slice_get units (p + 1) ≡ Some v
-      → RowUnits units (short_end (p + 2) (v % 0x8000)) (n - 1) rest → us ≡ u ∷ rest
+      → RowUnits units (short_end (p + 2) (v % value_is_final)) (n - 1) rest → us ≡ u ∷ rest
       → RowUnits units p n us
 
 -- The units of the entries of a part of a branch with n entries at p: those of the lower part and
 -- then those of the upper part. If the delta is cut off, there are none of the lower part.
 pub data PartUnits (units : List ℕ) : ℕ → ℕ → List ℕ → Type 0 where
-  row : (p n : ℕ) (us : List ℕ) → n ≤ 5 → RowUnits units p n us → PartUnits units p n us
-  no_split : (p n : ℕ) (us : List ℕ) → 5 < n → slice_get units (p + 1) ≡ None → us ≡ []
+  row : (p n : ℕ) (us : List ℕ) → n ≤ max_branch_linear_sub_node_length → RowUnits units p n us
       → PartUnits units p n us
-  no_lower : (p n d : ℕ) (us : List ℕ) → 5 < n → slice_get units (p + 1) ≡ Some d
+  no_split : (p n : ℕ) (us : List ℕ) → max_branch_linear_sub_node_length < n
+      → slice_get units (p + 1) ≡ None → us ≡ [] → PartUnits units p n us
+  no_lower : (p n d : ℕ) (us : List ℕ) → max_branch_linear_sub_node_length < n
+      → slice_get units (p + 1) ≡ Some d
       → lower_part units (p + 2) d ≡ None
       → PartUnits units (delta_end (p + 2) d) (n - n / 2) us → PartUnits units p n us
-  both : (p n d low : ℕ) (lower upper us : List ℕ) → 5 < n → slice_get units (p + 1) ≡ Some d
+  both : (p n d low : ℕ) (lower upper us : List ℕ) → max_branch_linear_sub_node_length < n
+      → slice_get units (p + 1) ≡ Some d
       → lower_part units (p + 2) d ≡ Some low → PartUnits units low (n / 2) lower
       → PartUnits units (delta_end (p + 2) d) (n - n / 2) upper → us ≡ lower ++ upper
       → PartUnits units p n us
@@ -62,10 +66,10 @@ unit_list (Some u) = u ∷ []
 -- The units that can come next at the match node with these low six bits. p is the index after its
 -- lead and its value.
 pub data MatchUnits (units : List ℕ) : ℕ → ℕ → List ℕ → Type 0 where
-  in_run : (p low : ℕ) (us : List ℕ) → 0x30 ≤ low → us ≡ unit_list (slice_get units p)
+  in_run : (p low : ℕ) (us : List ℕ) → min_linear_match ≤ low → us ≡ unit_list (slice_get units p)
       → MatchUnits units p low us
-  in_short : (p low : ℕ) (us : List ℕ) → 0 < low → low < 0x30 → PartUnits units p (low + 1) us
-      → MatchUnits units p low us
+  in_short : (p low : ℕ) (us : List ℕ) → 0 < low → low < min_linear_match
+      → PartUnits units p (low + 1) us → MatchUnits units p low us
   in_long : (p low n : ℕ) (us : List ℕ) → low ≡ 0 → slice_get units p ≡ Some n
       → PartUnits units (p + 1) (n + 1) us → MatchUnits units p low us
   no_length : (p low : ℕ) (us : List ℕ) → low ≡ 0 → slice_get units p ≡ None → us ≡ []
@@ -74,10 +78,10 @@ pub data MatchUnits (units : List ℕ) : ℕ → ℕ → List ℕ → Type 0 whe
 -- The units that can come next at the node at p, by its lead unit.
 pub data NodeUnits (units : List ℕ) : ℕ → List ℕ → Type 0 where
   no_lead : (p : ℕ) (us : List ℕ) → slice_get units p ≡ None → us ≡ [] → NodeUnits units p us
-  at_final : (p lead : ℕ) (us : List ℕ) → slice_get units p ≡ Some lead → 0x8000 ≤ lead → us ≡ []
-      → NodeUnits units p us
-  at_match : (p lead : ℕ) (us : List ℕ) → slice_get units p ≡ Some lead → lead < 0x8000
-      → MatchUnits units (node_end (p + 1) lead) (lead % 64) us → NodeUnits units p us
+  at_final : (p lead : ℕ) (us : List ℕ) → slice_get units p ≡ Some lead → value_is_final ≤ lead
+      → us ≡ [] → NodeUnits units p us
+  at_match : (p lead : ℕ) (us : List ℕ) → slice_get units p ≡ Some lead → lead < value_is_final
+      → MatchUnits units (node_end (p + 1) lead) (lead % min_value_lead) us → NodeUnits units p us
 
 -- The units that can come next at a position, on all units.
 abbrev pub GoesOnWith : List ℕ → Place → List ℕ → Type 0

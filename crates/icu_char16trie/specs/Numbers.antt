@@ -9,6 +9,7 @@
 --     intermediate value       0x0040..0x403f    0x4040..0x7fbf    0x7fc0..0x7fff
 --     delta                    0x0000..0xfbff    0xfc00..0xfffe    0xffff
 use Rattle.std.specs.Prelude.{ℕ, ◌+◌, ◌-◌, ◌*◌, ◌/◌, List, Option, Some, nat_lt, slice_get, if◌then◌else◌, option_and_then}
+use Rattle.icu_char16trie.specs.Constants.{min_two_unit_delta_lead, min_two_unit_node_lead, min_two_unit_value_lead, min_value_lead, three_unit_delta_lead, three_unit_node_lead, three_unit_value_lead, value_is_final}
 
 -- A number with the given high half, whose low half is the unit at p.
 abbrev pub low_half : List ℕ → ℕ → ℕ → Option ℕ
@@ -32,34 +33,36 @@ end_by two three p w = if nat_lt w two then p else if nat_lt w three then p + 1 
 
 -- A final value, or a jump in a row of entries. Its lead is the low 15 bits of the unit before p.
 abbrev pub short_number : List ℕ → ℕ → ℕ → Option ℕ
-short_number units p w = number_by 0x4000 0x7fff units p w
+short_number units p w = number_by min_two_unit_value_lead three_unit_value_lead units p w
 
 -- The index after a final value or a jump.
 abbrev pub short_end : ℕ → ℕ → ℕ
-short_end p w = end_by 0x4000 0x7fff p w
+short_end p w = end_by min_two_unit_value_lead three_unit_value_lead p w
 
 -- An intermediate value. Its lead is bits 6 to 14 of the lead unit before p, minus one; the low six
 -- bits of that unit describe the match node.
 abbrev pub node_number : List ℕ → ℕ → ℕ → Option ℕ
-node_number units p lead = number_by 0x100 0x1fe units p (lead / 64 - 1)
+node_number units p lead =
+    number_by min_two_unit_node_lead three_unit_node_lead units p (lead / min_value_lead - 1)
 
 -- The index after an intermediate value.
 abbrev pub node_end : ℕ → ℕ → ℕ
-node_end p lead = end_by 0x100 0x1fe p (lead / 64 - 1)
+node_end p lead =
+    end_by min_two_unit_node_lead three_unit_node_lead p (lead / min_value_lead - 1)
 
 -- The delta of a split unit. Its lead is the unit before p.
 abbrev pub delta_number : List ℕ → ℕ → ℕ → Option ℕ
-delta_number units p d = number_by 0xfc00 0xffff units p d
+delta_number units p d = number_by min_two_unit_delta_lead three_unit_delta_lead units p d
 
 -- The index after the delta of a split unit.
 abbrev pub delta_end : ℕ → ℕ → ℕ
-delta_end p d = end_by 0xfc00 0xffff p d
+delta_end p d = end_by min_two_unit_delta_lead three_unit_delta_lead p d
 
 -- The index of the node of an entry whose value unit v is before p: the index of v if v is a final
 -- value, and otherwise the index after the jump's units plus the jump.
 unfoldable pub entry_child : List ℕ → ℕ → ℕ → Option ℕ
 entry_child units p v =
-    if nat_lt v 0x8000
+    if nat_lt v value_is_final
     then option_and_then (λ jump. Some (short_end p v + jump)) (short_number units p v)
     else Some (p - 1)
 

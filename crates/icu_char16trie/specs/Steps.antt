@@ -2,6 +2,7 @@
 -- matches.
 use Rattle.std.specs.Prelude.{◌≡◌, ◌≢◌, ℕ, ◌+◌, ◌-◌, ◌/◌, ◌%◌, ◌<◌, ◌≤◌, List, [], ◌∷◌, Option, Some, None, slice_get, ◌==◌, if◌then◌else◌}
 use Rattle.std.specs.Bool.{then_some}
+use Rattle.icu_char16trie.specs.Constants.{max_branch_linear_sub_node_length, min_linear_match, min_value_lead, value_is_final}
 use Rattle.icu_char16trie.specs.Numbers.{short_end, node_end, delta_end, entry_child, lower_part}
 use Rattle.icu_char16trie.specs.declared.place.Place.{Place}
 use Rattle.icu_char16trie.specs.declared.place.Place.TheVariants.{Nowhere, Node, Run}
@@ -19,24 +20,26 @@ pub data InRow (units : List ℕ) (u : ℕ) : ℕ → ℕ → Option ℕ → Typ
       → r ≡ entry_child units (p + 2) v → InRow units u p n r
   on : (p n x v : ℕ) (r : Option ℕ) → 1 < n → slice_get units p ≡ Some x → x ≢ u
       → slice_get units (p + 1) ≡ Some v
-      → InRow units u (short_end (p + 2) (v % 0x8000)) (n - 1) r → InRow units u p n r
+      → InRow units u (short_end (p + 2) (v % value_is_final)) (n - 1) r → InRow units u p n r
 
 -- In a part of a branch with n entries at p the unit u leads to the node at r.
 pub data InPart (units : List ℕ) (u : ℕ) : ℕ → ℕ → Option ℕ → Type 0 where
-  row : (p n : ℕ) (r : Option ℕ) → n ≤ 5 → InRow units u p n r → InPart units u p n r
-  no_split : (p n : ℕ) (r : Option ℕ) → 5 < n → slice_get units p ≡ None → r ≡ None
+  row : (p n : ℕ) (r : Option ℕ) → n ≤ max_branch_linear_sub_node_length → InRow units u p n r
       → InPart units u p n r
-  no_delta : (p n s : ℕ) (r : Option ℕ) → 5 < n → slice_get units p ≡ Some s
+  no_split : (p n : ℕ) (r : Option ℕ) → max_branch_linear_sub_node_length < n
+      → slice_get units p ≡ None → r ≡ None → InPart units u p n r
+  no_delta : (p n s : ℕ) (r : Option ℕ) → max_branch_linear_sub_node_length < n
+      → slice_get units p ≡ Some s
       → slice_get units (p + 1) ≡ None → r ≡ None
       → InPart units u p n r
-  cut_delta : (p n s d : ℕ) (r : Option ℕ) → 5 < n → slice_get units p ≡ Some s → u < s
-      → slice_get units (p + 1) ≡ Some d
+  cut_delta : (p n s d : ℕ) (r : Option ℕ) → max_branch_linear_sub_node_length < n
+      → slice_get units p ≡ Some s → u < s → slice_get units (p + 1) ≡ Some d
       → lower_part units (p + 2) d ≡ None → r ≡ None → InPart units u p n r
-  lower : (p n s d q : ℕ) (r : Option ℕ) → 5 < n → slice_get units p ≡ Some s → u < s
-      → slice_get units (p + 1) ≡ Some d
+  lower : (p n s d q : ℕ) (r : Option ℕ) → max_branch_linear_sub_node_length < n
+      → slice_get units p ≡ Some s → u < s → slice_get units (p + 1) ≡ Some d
       → lower_part units (p + 2) d ≡ Some q → InPart units u q (n / 2) r → InPart units u p n r
-  upper : (p n s d : ℕ) (r : Option ℕ) → 5 < n → slice_get units p ≡ Some s → s ≤ u
-      → slice_get units (p + 1) ≡ Some d
+  upper : (p n s d : ℕ) (r : Option ℕ) → max_branch_linear_sub_node_length < n
+      → slice_get units p ≡ Some s → s ≤ u → slice_get units (p + 1) ≡ Some d
       → InPart units u (delta_end (p + 2) d) (n - n / 2) r → InPart units u p n r
 
 -- The position that a branch leads to.
@@ -53,9 +56,9 @@ run_place p left u (Some x) =
 -- At the match node with these low six bits the unit u leads to a position. p is the index after
 -- the node's lead and its value.
 pub data InMatch (units : List ℕ) (u : ℕ) : ℕ → ℕ → Place → Type 0 where
-  in_run : (p low : ℕ) (to : Place) → 0x30 ≤ low
-      → to ≡ run_place p (low - 0x30) u (slice_get units p) → InMatch units u p low to
-  in_short : (p low : ℕ) (r : Option ℕ) (to : Place) → 0 < low → low < 0x30
+  in_run : (p low : ℕ) (to : Place) → min_linear_match ≤ low
+      → to ≡ run_place p (low - min_linear_match) u (slice_get units p) → InMatch units u p low to
+  in_short : (p low : ℕ) (r : Option ℕ) (to : Place) → 0 < low → low < min_linear_match
       → InPart units u p (low + 1) r → to ≡ child_place r
       → InMatch units u p low to
   in_long : (p low n : ℕ) (r : Option ℕ) (to : Place) → low ≡ 0 → slice_get units p ≡ Some n
@@ -68,14 +71,14 @@ pub data InMatch (units : List ℕ) (u : ℕ) : ℕ → ℕ → Place → Type 0
 -- is skipped, even if it is cut off.
 pub data InNode (units : List ℕ) (u : ℕ) : ℕ → Place → Type 0 where
   no_lead : (p : ℕ) (to : Place) → slice_get units p ≡ None → to ≡ Nowhere → InNode units u p to
-  at_final : (p lead : ℕ) (to : Place) → slice_get units p ≡ Some lead → 0x8000 ≤ lead
+  at_final : (p lead : ℕ) (to : Place) → slice_get units p ≡ Some lead → value_is_final ≤ lead
       → to ≡ Nowhere → InNode units u p to
-  at_plain : (p lead : ℕ) (to : Place) → slice_get units p ≡ Some lead → lead < 0x40
+  at_plain : (p lead : ℕ) (to : Place) → slice_get units p ≡ Some lead → lead < min_value_lead
       → InMatch units u (p + 1) lead to
       → InNode units u p to
-  at_valued : (p lead : ℕ) (to : Place) → slice_get units p ≡ Some lead → 0x40 ≤ lead
-      → lead < 0x8000
-      → InMatch units u (node_end (p + 1) lead) (lead % 64) to → InNode units u p to
+  at_valued : (p lead : ℕ) (to : Place) → slice_get units p ≡ Some lead → min_value_lead ≤ lead
+      → lead < value_is_final
+      → InMatch units u (node_end (p + 1) lead) (lead % min_value_lead) to → InNode units u p to
 
 -- A unit leads from one position to another.
 abbrev pub StepsTo : List ℕ → Place → ℕ → Place → Type 0

@@ -1,6 +1,7 @@
 -- The positions of a cursor in the units of a trie, and the entries ahead of them.
 use Rattle.std.specs.Prelude.{◌≡◌, ℕ, ℤ, ◌+◌, ◌-◌, ◌^◌, ◌<◌, ◌≤◌, ◌⊎◌, Bool, true, false, nat_lt, nat_le, List, [], Option, Some, None, slice_get, take, drop, length, if◌then◌else◌, option_and_then, unwrap_or}
 use Rattle.std.specs.Int.{cast_signed, w32}
+use Rattle.icu_char16trie.specs.Constants.{min_value_lead, value_is_final}
 use Rattle.icu_char16trie.specs.Numbers.{short_number, node_number}
 use Rattle.icu_char16trie.specs.Grammar.{Holds}
 use Rattle.icu_char16trie.specs.UnitMap.{UnitMap, after_all, under}
@@ -33,9 +34,10 @@ IsNear (Run p left) = p < 2 ^ 63
 -- value are missing.
 abbrev pub value_by : List ℕ → ℕ → ℕ → Option ℤ
 value_by units p lead =
-    if nat_lt lead 0x40 then None
-    else if nat_lt lead 0x8000 then Some (cast_signed w32 (unwrap_or (node_number units p lead) 0))
-    else Some (cast_signed w32 (unwrap_or (short_number units p (lead - 0x8000)) 0))
+    if nat_lt lead min_value_lead then None
+    else if nat_lt lead value_is_final
+    then Some (cast_signed w32 (unwrap_or (node_number units p lead) 0))
+    else Some (cast_signed w32 (unwrap_or (short_number units p (lead - value_is_final)) 0))
 
 -- The value at a position, on all units.
 abbrev pub value_at : List ℕ → Place → Option ℤ
@@ -46,7 +48,7 @@ value_at units (Run p left) = None
 -- The lead unit is missing, or it is that of a final value.
 abbrev pub ends_by : Option ℕ → Bool
 ends_by None = true
-ends_by (Some lead) = nat_le 0x8000 lead
+ends_by (Some lead) = nat_le value_is_final lead
 
 -- No unit can be passed at the position, on all units.
 abbrev pub is_empty_at : List ℕ → Place → Bool

@@ -1,10 +1,14 @@
 //! Finds the entry of a unit in a branch.
 ghost use Rattle.icu_zerovec.specs.Slice.{slice_values};
 ghost use Rattle.std.specs.Prelude.{◌≡◌, ℕ, ◌+◌, ◌*◌, ◌^◌, ◌<◌, ◌≤◌, Option, None, length, IfSome, MatchOption};
+ghost use Rattle.icu_char16trie.specs.Constants.{max_branch_linear_sub_node_length, min_linear_match};
 ghost use Rattle.icu_char16trie.specs.Steps.{InRow, InPart, child_place, InMatch};
 ghost use Rattle.icu_char16trie.specs.Inside.Fronts.{LeadsAs};
 
 use crate::encoded::{delta_end, entry_child, lower_part, short_end, two_at, unit_at};
+use crate::impl_const::{
+    MAX_BRANCH_LINEAR_SUB_NODE_LENGTH, MIN_TWO_UNIT_DELTA_LEAD, VALUE_IS_FINAL,
+};
 use icu_zerovec::ZeroSlice;
 
 /// Returns the index of the child node of `unit` in a row, which has at most five entries.
@@ -21,7 +25,7 @@ fn child_in_row(units: ZeroSlice<'_, u16>, row: usize, length: usize, unit: u16)
         if first == unit {
             return entry_child(units, place + 2, value);
         }
-        place = short_end(place + 2, value & 0x7fff);
+        place = short_end(place + 2, value % VALUE_IS_FINAL);
         left -= 1;
     }
     let last = unit_at(units, place)?;
@@ -38,14 +42,14 @@ fn half_of_part(
     unit: u16,
 ) -> Option<(usize, usize)>
     requires near { part < 2 ^ 63 }
-    requires many { 5 < length }
+    requires many { max_branch_linear_sub_node_length < length }
     ensures { let all = slice_values units.entry in
         MatchOption result (InPart all unit part length None)
         (λ half. LeadsAs all unit part length half.0 half.1) }
 {
     let (split, delta) = two_at(units, part)?;
     let half = length >> 1;
-    if delta < 0xfc00 {
+    if delta < MIN_TWO_UNIT_DELTA_LEAD {
         // For nearly all deltas the unit is the number itself. The processor cannot predict which
         // half it is, so the choice is made without a branch instruction.
         let (low, left) = if unit < split {
@@ -77,7 +81,7 @@ pub(crate) fn child_in_part(
 {
     let mut left = length;
     let mut place = part;
-    while left > 5 {
+    while left > MAX_BRANCH_LINEAR_SUB_NODE_LENGTH {
         let (half, count) = half_of_part(units, place, left, unit)?;
         place = half;
         left = count;
@@ -95,7 +99,7 @@ pub(crate) fn child_in_branch(
     unit: u16,
 ) -> Option<usize>
     requires near { place < 2 ^ 63 }
-    requires low { low < 0x30 }
+    requires low { low < min_linear_match }
     ensures exact { InMatch (slice_values units.entry) unit place low (child_place result) }
     ensures near { IfSome result (λ child. child < 2 ^ 63) }
 {

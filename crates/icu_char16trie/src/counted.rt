@@ -5,12 +5,18 @@
 //! are counted from the last one back to the root.
 ghost use Rattle.icu_zerovec.specs.Slice.{slice_values};
 ghost use Rattle.std.specs.Prelude.{◌≡◌, ◌↔◌, ℕ, List, ◌+◌, ◌-◌, ◌^◌, ◌<◌, ◌≤◌, length, min, slice_index, IfOk, Some, None};
+ghost use Rattle.icu_char16trie.specs.Constants.{max_branch_linear_sub_node_length, min_value_lead};
 ghost use Rattle.icu_char16trie.specs.Grammar.{Arms, Holds, IsTrieOf, Part};
 ghost use Rattle.icu_char16trie.specs.UnitMap.{UnitMap};
 ghost use Rattle.icu_char16trie.specs.Inside.Soundness.{HasMap, IsOneWanted, IsWanted, places_of};
 ghost use Rattle.icu_char16trie.specs.Inside.Counts.{IsClosed, IsCounted, MatchKids, NodeKids, capped, sum_at};
 
-use crate::encoded::{delta_end, entry_child, lower_part, node_end, short_end, two_at, unit_at};
+use crate::encoded::{
+    delta_end, entry_child, lower_part, node_end, run_len, short_end, two_at, unit_at,
+};
+use crate::impl_const::{
+    MAX_BRANCH_LINEAR_SUB_NODE_LENGTH, MIN_LINEAR_MATCH, MIN_VALUE_LEAD, VALUE_IS_FINAL,
+};
 use crate::soundness::has_all_wanted;
 use crate::trie::Char16Trie;
 use icu_zerovec::{MemoryError, ZeroSlice};
@@ -33,7 +39,7 @@ fn both_counts(first: u64, second: u64) -> u64
 /// Returns the number of entries of the nodes of a row, which has at most five entries.
 fn count_row(units: ZeroSlice<'_, u16>, counts: &[u64], row: usize, count: usize) -> Option<u64>
     requires near { row < 2 ^ 63 }
-    requires short { count ≤ 5 }
+    requires short { count ≤ max_branch_linear_sub_node_length }
     ensures { (arms : Arms) → Part (slice_values units.entry) row count arms
         → result ≡ Some (capped (sum_at counts.now (places_of arms))) }
 {
@@ -44,7 +50,7 @@ fn count_row(units: ZeroSlice<'_, u16>, counts: &[u64], row: usize, count: usize
         let (_unit, value) = two_at(units, place)?;
         let child = entry_child(units, place + 2, value)?;
         total = both_counts(total, count_at(counts, child));
-        place = short_end(place + 2, value & 0x7fff);
+        place = short_end(place + 2, value % VALUE_IS_FINAL);
         left -= 1;
     }
     let _last = unit_at(units, place)?;
@@ -58,7 +64,7 @@ fn count_part(units: ZeroSlice<'_, u16>, counts: &[u64], part: usize, count: usi
     ensures { (arms : Arms) → Part (slice_values units.entry) part count arms
         → result ≡ Some (capped (sum_at counts.now (places_of arms))) }
 {
-    if count <= 5 {
+    if count <= MAX_BRANCH_LINEAR_SUB_NODE_LENGTH {
         return count_row(units, counts, part, count);
     }
     let (_split, delta) = two_at(units, part)?;
@@ -74,12 +80,12 @@ fn count_part(units: ZeroSlice<'_, u16>, counts: &[u64], part: usize, count: usi
 /// of its lead unit, and `place` is the index after the lead and its value.
 fn count_match(units: ZeroSlice<'_, u16>, counts: &[u64], place: usize, low: u16) -> Option<u64>
     requires near { place < 2 ^ 63 }
-    requires low { low < 0x40 }
+    requires low { low < min_value_lead }
     ensures { (kids : List ℕ) → MatchKids (slice_values units.entry) place low kids
         → result ≡ Some (capped (sum_at counts.now kids)) }
 {
-    if low >= 0x30 {
-        let after = count_at(counts, place + (usize::from(low) - 0x2f));
+    if low >= MIN_LINEAR_MATCH {
+        let after = count_at(counts, place + run_len(low));
         return Some(after);
     }
     if low > 0 {
@@ -95,14 +101,14 @@ fn count_node(units: ZeroSlice<'_, u16>, counts: &[u64], place: usize) -> Option
         → result ≡ Some (capped (own + sum_at counts.now kids)) }
 {
     let lead = unit_at(units, place)?;
-    if lead >= 0x8000 {
+    if lead >= VALUE_IS_FINAL {
         return Some(1);
     }
-    if lead < 0x40 {
+    if lead < MIN_VALUE_LEAD {
         return count_match(units, counts, place + 1, lead);
     }
     let end = node_end(place + 1, lead);
-    let longer = count_match(units, counts, end, lead % 64)?;
+    let longer = count_match(units, counts, end, lead % MIN_VALUE_LEAD)?;
     Some(both_counts(1, longer))
 }
 

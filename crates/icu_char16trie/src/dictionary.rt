@@ -3,6 +3,7 @@ ghost use Rattle.icu_zerovec.specs.Slice.{slice_values};
 ghost use Rattle.std.specs.Prelude.{◌≡◌, ◌↔◌, ℕ, ℤ, ◌^◌, ◌<◌, List, IfSome, IsTrue};
 ghost use Rattle.std.specs.Iterator.{Drains};
 ghost use Rattle.std.specs.Str.{IsCharBoundary};
+ghost use Rattle.icu_char16trie.specs.Constants.{min_value_lead};
 ghost use Rattle.icu_char16trie.specs.Grammar.{IsTrieOf};
 ghost use Rattle.icu_char16trie.specs.UnitMap.{UnitMap};
 ghost use Rattle.icu_char16trie.specs.Matches.{IsLongestInText, IsLongestMatch, IsLongestStepped, IsLongestSteppedInText, matches_of};
@@ -10,7 +11,8 @@ ghost use Rattle.icu_char16trie.specs.MatchesLeft.{AreLeft, GivesMatch};
 ghost use Rattle.icu_char16trie.specs.Inside.Fronts.{BeginsRun, PassesMatch, longer};
 
 use crate::branch::child_in_branch;
-use crate::encoded::{node_end, unit_at};
+use crate::encoded::{node_end, run_len, unit_at};
+use crate::impl_const::{MIN_LINEAR_MATCH, MIN_VALUE_LEAD, VALUE_IS_FINAL};
 use crate::matches::Matches;
 use crate::step::value_by;
 use crate::trie::Char16Trie;
@@ -55,11 +57,11 @@ fn pass_match(
     text: &[u16],
 ) -> Option<(usize, usize)>
     requires near { place < 2 ^ 63 }
-    requires low { low < 0x40 }
+    requires low { low < min_value_lead }
     ensures { PassesMatch (slice_values units.entry) text.now place low result }
 {
-    if low >= 0x30 {
-        let count = usize::from(low) - 0x2f;
+    if low >= MIN_LINEAR_MATCH {
+        let count = run_len(low);
         if !begins_run(units, place, count, text) {
             return None;
         }
@@ -97,11 +99,16 @@ impl<'data> Char16Trie<'data> {
         let mut found = None;
         while let Some(lead) = unit_at(units, node) {
             found = longer_match(passed, value_by(units, node + 1, lead), found);
-            if lead >= 0x8000 {
+            if lead >= VALUE_IS_FINAL {
                 return found;
             }
             let place = node_end(node + 1, lead);
-            let Some((next, count)) = pass_match(units, place, lead % 64, &text[passed..]) else {
+            let Some((next, count)) = pass_match(
+                units,
+                place,
+                lead % MIN_VALUE_LEAD,
+                &text[passed..],
+            ) else {
                 return found;
             };
             node = next;

@@ -1,8 +1,13 @@
 //! Numbers encoded in the units of a trie.
 ghost use Rattle.icu_zerovec.specs.Slice.{slice_values};
 ghost use Rattle.std.specs.Prelude.{◌≡◌, ℕ, ◌+◌, ◌*◌, ◌^◌, ◌<◌, ◌≤◌, nat_lt, if◌then◌else◌, slice_get, length, bit_and, Some, None, IfSome, MatchOption};
+ghost use Rattle.icu_char16trie.specs.Constants.{min_linear_match, min_value_lead, run_len};
 ghost use Rattle.icu_char16trie.specs.Numbers.{number_by, end_by, short_number, short_end, node_number, node_end, delta_number, delta_end, low_half, both_halves, entry_child, lower_part};
 
+use crate::impl_const::{
+    MIN_LINEAR_MATCH, MIN_TWO_UNIT_DELTA_LEAD, MIN_TWO_UNIT_NODE_LEAD, MIN_TWO_UNIT_VALUE_LEAD,
+    THREE_UNIT_DELTA_LEAD, THREE_UNIT_NODE_LEAD, THREE_UNIT_VALUE_LEAD, VALUE_IS_FINAL,
+};
 use icu_zerovec::ZeroSlice;
 
 /// Returns the unit at an index, or `None` at or past the end.
@@ -105,12 +110,27 @@ fn end_by(place: usize, lead: u16, two: u16, three: u16) -> usize
     }
 }
 
+/// Returns the number of units in a linear match with these low six bits.
+#[inline(always)]
+pub(crate) fn run_len(low: u16) -> usize
+    requires { min_linear_match ≤ low }
+    ensures { result ≡ run_len low }
+{
+    usize::from(low) - (MIN_LINEAR_MATCH as usize - 1)
+}
+
 /// Returns the number of a final value or a jump. `low_bits` is the low 15 bits of the unit before
 /// `place`.
 pub(crate) fn short_number(units: ZeroSlice<'_, u16>, place: usize, low_bits: u16) -> Option<u32>
     ensures { result ≡ short_number (slice_values units.entry) place low_bits }
 {
-    number_by(units, place, low_bits, 0x4000, 0x7fff)
+    number_by(
+        units,
+        place,
+        low_bits,
+        MIN_TWO_UNIT_VALUE_LEAD,
+        THREE_UNIT_VALUE_LEAD,
+    )
 }
 
 /// Returns the index after the number of a final value or a jump.
@@ -120,15 +140,26 @@ pub(crate) fn short_end(place: usize, low_bits: u16) -> usize
     ensures near { result ≤ place + 2 }
     ensures above { place ≤ result }
 {
-    end_by(place, low_bits, 0x4000, 0x7fff)
+    end_by(
+        place,
+        low_bits,
+        MIN_TWO_UNIT_VALUE_LEAD,
+        THREE_UNIT_VALUE_LEAD,
+    )
 }
 
 /// Returns the number of an intermediate value. Its lead unit is before `place`.
 pub(crate) fn node_number(units: ZeroSlice<'_, u16>, place: usize, lead: u16) -> Option<u32>
-    requires lead { 0x40 ≤ lead }
+    requires lead { min_value_lead ≤ lead }
     ensures { result ≡ node_number (slice_values units.entry) place lead }
 {
-    number_by(units, place, (lead >> 6) - 1, 0x100, 0x1fe)
+    number_by(
+        units,
+        place,
+        (lead >> 6) - 1,
+        MIN_TWO_UNIT_NODE_LEAD,
+        THREE_UNIT_NODE_LEAD,
+    )
 }
 
 /// Returns the index after an intermediate value, or `place` itself if the lead unit has no value.
@@ -138,14 +169,25 @@ pub(crate) fn node_end(place: usize, lead: u16) -> usize
     ensures near { result ≤ place + 2 }
     ensures above { place ≤ result }
 {
-    end_by(place, (lead >> 6).saturating_sub(1), 0x100, 0x1fe)
+    end_by(
+        place,
+        (lead >> 6).saturating_sub(1),
+        MIN_TWO_UNIT_NODE_LEAD,
+        THREE_UNIT_NODE_LEAD,
+    )
 }
 
 /// Returns the delta of a split. `delta` is the unit before `place`.
 pub(crate) fn delta_number(units: ZeroSlice<'_, u16>, place: usize, delta: u16) -> Option<u32>
     ensures { result ≡ delta_number (slice_values units.entry) place delta }
 {
-    number_by(units, place, delta, 0xfc00, 0xffff)
+    number_by(
+        units,
+        place,
+        delta,
+        MIN_TWO_UNIT_DELTA_LEAD,
+        THREE_UNIT_DELTA_LEAD,
+    )
 }
 
 /// Returns the index after the delta of a split.
@@ -155,7 +197,7 @@ pub(crate) fn delta_end(place: usize, delta: u16) -> usize
     ensures near { result ≤ place + 2 }
     ensures above { place ≤ result }
 {
-    end_by(place, delta, 0xfc00, 0xffff)
+    end_by(place, delta, MIN_TWO_UNIT_DELTA_LEAD, THREE_UNIT_DELTA_LEAD)
 }
 
 /// Returns the index of the node of an entry whose value unit is before `place`.
@@ -167,7 +209,7 @@ pub(crate) fn entry_child(units: ZeroSlice<'_, u16>, place: usize, value: u16) -
     ensures near { IfSome result (λ child. child < place + 2 ^ 33) }
     ensures above { IfSome result (λ child. place ≤ child + 1) }
 {
-    if value < 0x8000 {
+    if value < VALUE_IS_FINAL {
         let jump = short_number(units, place, value)?;
         Some(short_end(place, value) + jump as usize)
     } else {

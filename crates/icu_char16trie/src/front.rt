@@ -5,6 +5,7 @@ ghost use Rattle.icu_char16trie.specs.declared.place.Place.TheVariants.{Nowhere}
 ghost use Rattle.icu_char16trie.specs.Inside.Walking.{IsNearFront, below};
 
 use crate::encoded::{node_end, unit_at};
+use crate::impl_const::{MIN_VALUE_LEAD, VALUE_IS_FINAL};
 use crate::pending::Pending;
 use crate::place::Place;
 use crate::step::value_by;
@@ -26,10 +27,10 @@ pub(crate) fn below(place: usize, lead: u16) -> Front
     ensures is { result ≡ below place lead }
     ensures near { IsNearFront result }
 {
-    if lead >= 0x8000 {
+    if lead >= VALUE_IS_FINAL {
         Front::At(Place::Nowhere)
     } else {
-        Front::Match(node_end(place, lead), lead % 64)
+        Front::Match(node_end(place, lead), lead % MIN_VALUE_LEAD)
     }
 }
 

@@ -5,6 +5,9 @@ ghost use Rattle.icu_char16trie.specs.NextUnits.{unit_list, RowUnits, PartUnits,
 ghost use Rattle.icu_char16trie.specs.Inside.Adding.{Adds};
 
 use crate::encoded::{delta_end, lower_part, node_end, short_end, two_at, unit_at};
+use crate::impl_const::{
+    MAX_BRANCH_LINEAR_SUB_NODE_LENGTH, MIN_LINEAR_MATCH, MIN_VALUE_LEAD, VALUE_IS_FINAL,
+};
 use crate::place::Place;
 use icu_zerovec::ZeroSlice;
 use std::alloc::AllocError;
@@ -38,7 +41,7 @@ fn add_row(
             return Ok(());
         };
         list.push(unit)?;
-        place = short_end(place + 2, value & 0x7fff);
+        place = short_end(place + 2, value % VALUE_IS_FINAL);
         left -= 1;
     }
     add_unit(list, units, place)?;
@@ -56,7 +59,7 @@ fn add_part(
     ensures { OnOk result (Adds (PartUnits (slice_values units.entry) part count) list.old.items
         list.new.items) }
 {
-    if count <= 5 {
+    if count <= MAX_BRANCH_LINEAR_SUB_NODE_LENGTH {
         add_row(list, units, part, count)?;
         return Ok(());
     }
@@ -83,7 +86,7 @@ fn add_match(
     ensures { OnOk result (Adds (MatchUnits (slice_values units.entry) place low) list.old.items
         list.new.items) }
 {
-    if low >= 0x30 {
+    if low >= MIN_LINEAR_MATCH {
         add_unit(list, units, place)?;
         return Ok(());
     }
@@ -105,10 +108,10 @@ fn add_node(list: &mut Vec<u16>, units: ZeroSlice<'_, u16>, node: usize) -> Resu
     let Some(lead) = unit_at(units, node) else {
         return Ok(());
     };
-    if lead >= 0x8000 {
+    if lead >= VALUE_IS_FINAL {
         return Ok(());
     }
-    add_match(list, units, node_end(node + 1, lead), lead % 64)?;
+    add_match(list, units, node_end(node + 1, lead), lead % MIN_VALUE_LEAD)?;
     Ok(())
 }
 

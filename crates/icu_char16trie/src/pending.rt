@@ -1,12 +1,16 @@
 //! What an iterator over the entries of a trie has not visited yet.
 ghost use Rattle.icu_zerovec.specs.Slice.{slice_values};
 ghost use Rattle.std.specs.Prelude.{◌≡◌, ℕ, ◌^◌, ◌<◌, ◌≤◌, length, List, [], Some, None, Ok, IsSome, IfOk, OnOk, true, false};
+ghost use Rattle.icu_char16trie.specs.Constants.{max_branch_linear_sub_node_length, min_value_lead};
 ghost use Rattle.icu_char16trie.specs.Grammar.{Matches};
 ghost use Rattle.icu_char16trie.specs.UnitMap.{UnitMap};
 ghost use Rattle.icu_char16trie.specs.UnitPlaces.{InRun, Stands};
 ghost use Rattle.icu_char16trie.specs.declared.place.Place.TheVariants.{Node};
 
-use crate::encoded::{delta_end, entry_child, lower_part, node_end, short_end, unit_at};
+use crate::encoded::{delta_end, entry_child, lower_part, node_end, run_len, short_end, unit_at};
+use crate::impl_const::{
+    MAX_BRANCH_LINEAR_SUB_NODE_LENGTH, MIN_LINEAR_MATCH, MIN_VALUE_LEAD, VALUE_IS_FINAL,
+};
 use crate::spelling::{Mark, Spelling};
 use crate::step::value_by;
 use icu_zerovec::{MemoryError, ZeroSlice};
@@ -69,7 +73,7 @@ impl<'a> Pending<'a> {
     #[inline(always)]
     fn enter_row(&mut self, place: usize, count: usize) -> Result<(), AllocError>
         requires node { self.old.node ≡ None }
-        requires short { count ≤ 5 }
+        requires short { count ≤ max_branch_linear_sub_node_length }
         ensures { OnOk result (Opens self.old place
             (ArmsHold (slice_values self.old.units) place count) self.new) }
     {
@@ -87,7 +91,7 @@ impl<'a> Pending<'a> {
         let Some(child) = entry_child(self.units, place + 2, value) else {
             return Ok(());
         };
-        self.put_off(short_end(place + 2, value & 0x7fff), count - 1)?;
+        self.put_off(short_end(place + 2, value % VALUE_IS_FINAL), count - 1)?;
         self.spelling.push(unit)?;
         self.node = Some(child);
         Ok(())
@@ -99,7 +103,7 @@ impl<'a> Pending<'a> {
         ensures { OnOk result (Opens self.old place
             (ArmsHold (slice_values self.old.units) place count) self.new) }
     {
-        if count <= 5 {
+        if count <= MAX_BRANCH_LINEAR_SUB_NODE_LENGTH {
             self.enter_row(place, count)?;
             return Ok(());
         }
@@ -141,12 +145,12 @@ impl<'a> Pending<'a> {
     pub(crate) fn open_match(&mut self, place: usize, low: u16) -> Result<(), AllocError>
         requires node { self.old.node ≡ None }
         requires place { place < 2 ^ 63 }
-        requires low { low < 0x40 }
+        requires low { low < min_value_lead }
         ensures { let all = slice_values self.old.units in
             OnOk result (Opens self.old place (Matches all place low) self.new) }
     {
-        if low >= 0x30 {
-            self.pass_run(place, low as usize - 0x2f)?;
+        if low >= MIN_LINEAR_MATCH {
+            self.pass_run(place, run_len(low))?;
             return Ok(());
         }
         if low > 0 {
@@ -189,10 +193,10 @@ impl<'a> Pending<'a> {
             return Ok(None);
         };
         let item = self.item_by(alloc, place + 1, lead)?;
-        if lead >= 0x8000 {
+        if lead >= VALUE_IS_FINAL {
             return Ok(item);
         }
-        self.open_match(node_end(place + 1, lead), lead % 64)?;
+        self.open_match(node_end(place + 1, lead), lead % MIN_VALUE_LEAD)?;
         Ok(item)
     }
 

@@ -4,14 +4,18 @@
 //! is valid so far marks, in `wanted`, the indices at which other nodes are required.
 ghost use Rattle.icu_zerovec.specs.Slice.{slice_values};
 ghost use Rattle.std.specs.Prelude.{◌≡◌, ℕ, ◌↔◌, ◌^◌, ◌<◌, ◌≤◌, length, slice_set, MatchOption, IfOk, IsTrue, true};
+ghost use Rattle.icu_char16trie.specs.Constants.{max_branch_linear_sub_node_length, min_value_lead};
 ghost use Rattle.icu_char16trie.specs.Grammar.{IsTrieOf};
 ghost use Rattle.icu_char16trie.specs.UnitMap.{UnitMap};
 ghost use Rattle.icu_char16trie.specs.Inside.Counts.{IsClosed, MatchKids, NodeLeadsTo};
 ghost use Rattle.icu_char16trie.specs.Inside.Soundness.{HasMap, HasMatch, AllWantedHave, IsWanted, PartWalked, IsNoPart, RestsOnWanted};
 
 use crate::encoded::{
-    delta_end, entry_child, lower_part, node_end, node_number, short_end, short_number, two_at,
-    unit_at,
+    delta_end, entry_child, lower_part, node_end, node_number, run_len, short_end, short_number,
+    two_at, unit_at,
+};
+use crate::impl_const::{
+    MAX_BRANCH_LINEAR_SUB_NODE_LENGTH, MIN_LINEAR_MATCH, MIN_VALUE_LEAD, VALUE_IS_FINAL,
 };
 use crate::trie::Char16Trie;
 use icu_zerovec::{MemoryError, ZeroSlice};
@@ -40,7 +44,7 @@ fn check_row(
 ) -> Option<usize>
     requires near { row < 2 ^ 63 }
     requires some { 0 < count }
-    requires short { count ≤ 5 }
+    requires short { count ≤ max_branch_linear_sub_node_length }
     requires wanted { length wanted.old ≡ length (slice_values units) }
     ensures { MatchOption result (IsNoPart (slice_values units.entry) row count from)
         (λ next. PartWalked (slice_values units.entry) row count from next wanted.old wanted.new) }
@@ -56,7 +60,7 @@ fn check_row(
         }
         want(wanted, child)?;
         least = usize::from(unit) + 1;
-        place = short_end(place + 2, value & 0x7fff);
+        place = short_end(place + 2, value % VALUE_IS_FINAL);
         left -= 1;
     }
     let last = unit_at(units, place)?;
@@ -82,7 +86,7 @@ fn check_part(
     ensures { MatchOption result (IsNoPart (slice_values units.entry) part count from)
         (λ next. PartWalked (slice_values units.entry) part count from next wanted.old wanted.new) }
 {
-    if count <= 5 {
+    if count <= MAX_BRANCH_LINEAR_SUB_NODE_LENGTH {
         return check_row(units, wanted, part, count, from);
     }
     let (split, delta) = two_at(units, part)?;
@@ -100,15 +104,15 @@ fn check_part(
 /// bits of its lead unit, and `place` is the index after the lead and its value.
 fn check_match(units: ZeroSlice<'_, u16>, wanted: &mut [bool], place: usize, low: u16) -> Option<()>
     requires near { place < 2 ^ 63 }
-    requires low { low < 0x40 }
+    requires low { low < min_value_lead }
     requires wanted { length wanted.old ≡ length (slice_values units) }
     ensures { let all = slice_values units.entry in
         MatchOption result (HasMatch all place low → ⊥)
         (λ _. RestsOnWanted all place (HasMatch all place low) (MatchKids all place low)
         wanted.old wanted.new) }
 {
-    if low >= 0x30 {
-        return want(wanted, place + (usize::from(low) - 0x2f));
+    if low >= MIN_LINEAR_MATCH {
+        return want(wanted, place + run_len(low));
     }
     if low > 0 {
         check_part(units, wanted, place, usize::from(low) + 1, 0)?;
@@ -131,16 +135,16 @@ pub(crate) fn check_node(units: ZeroSlice<'_, u16>, wanted: &mut [bool], place: 
         wanted.old wanted.new) }
 {
     let lead = unit_at(units, place)?;
-    if lead >= 0x8000 {
-        short_number(units, place + 1, lead - 0x8000)?;
+    if lead >= VALUE_IS_FINAL {
+        short_number(units, place + 1, lead - VALUE_IS_FINAL)?;
         return Some(());
     }
-    if lead < 0x40 {
+    if lead < MIN_VALUE_LEAD {
         return check_match(units, wanted, place + 1, lead);
     }
     node_number(units, place + 1, lead)?;
     let end = node_end(place + 1, lead);
-    check_match(units, wanted, end, lead % 64)
+    check_match(units, wanted, end, lead % MIN_VALUE_LEAD)
 }
 
 /// Returns true if there is a node at each marked index.

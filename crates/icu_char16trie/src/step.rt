@@ -1,6 +1,7 @@
 //! Steps of a cursor, and the value at a position.
 ghost use Rattle.icu_zerovec.specs.Slice.{slice_values};
 ghost use Rattle.std.specs.Prelude.{◌≡◌, ℕ, ℤ, ◌+◌, ◌*◌, ◌^◌, ◌<◌, ◌≤◌, slice_get, length, List, [], not, IfSome, Option, None};
+ghost use Rattle.icu_char16trie.specs.Constants.{min_value_lead};
 ghost use Rattle.icu_char16trie.specs.Grammar.{Arms, Holds, Matches, Part, IsAscending, Children};
 ghost use Rattle.icu_char16trie.specs.UnitMap.{UnitMap, after, value_of, goes_on};
 ghost use Rattle.icu_char16trie.specs.Steps.{StepsTo, InNode, InMatch, InPart, child_place, run_place};
@@ -9,6 +10,7 @@ ghost use Rattle.icu_char16trie.specs.declared.place.Place.TheVariants.{Nowhere}
 
 use crate::branch::child_in_part;
 use crate::encoded::{node_end, node_number, short_number, unit_at};
+use crate::impl_const::{MIN_LINEAR_MATCH, MIN_VALUE_LEAD, VALUE_IS_FINAL};
 use crate::place::Place;
 use icu_zerovec::ZeroSlice;
 
@@ -57,14 +59,14 @@ fn step_in_branch(units: ZeroSlice<'_, u16>, place: usize, length: usize, unit: 
 #[inline(always)]
 fn step_in_match(units: ZeroSlice<'_, u16>, place: usize, low: u16, unit: u16) -> Place
     requires place { place < 2 ^ 63 }
-    requires low { low < 0x40 }
+    requires low { low < min_value_lead }
     ensures stands { let all = slice_values units.entry in
         (m : UnitMap) → Matches all place low m → Stands all result (after unit m) }
     ensures exact { InMatch (slice_values units.entry) unit place low result }
     ensures near { IsNear result }
 {
-    if low >= 0x30 {
-        return step_in_run(units, place, (low - 0x30) as u8, unit);
+    if low >= MIN_LINEAR_MATCH {
+        return step_in_run(units, place, (low - MIN_LINEAR_MATCH) as u8, unit);
     }
     if low > 0 {
         return step_in_branch(units, place, usize::from(low) + 1, unit);
@@ -88,13 +90,18 @@ fn step_in_node(units: ZeroSlice<'_, u16>, place: usize, unit: u16) -> Place
     let Some(lead) = unit_at(units, place) else {
         return Place::Nowhere;
     };
-    if lead >= 0x8000 {
+    if lead >= VALUE_IS_FINAL {
         return Place::Nowhere;
     }
-    if lead < 0x40 {
+    if lead < MIN_VALUE_LEAD {
         return step_in_match(units, place + 1, lead, unit);
     }
-    step_in_match(units, node_end(place + 1, lead), lead % 64, unit)
+    step_in_match(
+        units,
+        node_end(place + 1, lead),
+        lead % MIN_VALUE_LEAD,
+        unit,
+    )
 }
 
 /// Returns the position after one more unit.
@@ -120,13 +127,13 @@ pub(crate) fn step(units: ZeroSlice<'_, u16>, place: Place, unit: u16) -> Place
 pub(crate) fn value_by(units: ZeroSlice<'_, u16>, place: usize, lead: u16) -> Option<i32>
     ensures { result ≡ value_by (slice_values units.entry) place lead }
 {
-    if lead < 0x40 {
+    if lead < MIN_VALUE_LEAD {
         None
-    } else if lead < 0x8000 {
+    } else if lead < VALUE_IS_FINAL {
         Some(node_number(units, place, lead).unwrap_or(0).cast_signed())
     } else {
         Some(
-            short_number(units, place, lead - 0x8000)
+            short_number(units, place, lead - VALUE_IS_FINAL)
                 .unwrap_or(0)
                 .cast_signed(),
         )
@@ -154,7 +161,7 @@ pub(crate) fn is_empty_at(units: ZeroSlice<'_, u16>, place: Place) -> bool
 {
     match place {
         Place::Nowhere => true,
-        Place::Node(node) => unit_at(units, node).is_none_or(|lead| lead >= 0x8000),
+        Place::Node(node) => unit_at(units, node).is_none_or(|lead| lead >= VALUE_IS_FINAL),
         Place::Run(_, _) => false,
     }
 }

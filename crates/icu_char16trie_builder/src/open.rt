@@ -9,12 +9,10 @@ ghost use Rattle.icu_char16trie_builder.specs.declared.step.Step.TheVariants.{No
 
 use crate::arms::{arms_of, shared_len};
 use crate::entry::{Arm, Entry};
-use crate::level::{LONGEST_RUN, write_tail};
+use crate::level::write_tail;
 use crate::step::Step;
+use icu_char16trie::impl_const::{MAX_BRANCH_LINEAR_SUB_NODE_LENGTH, MAX_LINEAR_MATCH_LENGTH};
 use std::alloc::{AllocError, Global};
-
-/// The largest number of entries in a row, which is searched one by one.
-const LONGEST_ROW: usize = 5;
 
 /// Returns the value of an arm whose only key ends at `depth`.
 fn final_value(arm: Arm<'_>, depth: usize) -> Option<i32>
@@ -62,7 +60,7 @@ fn push_part<'a>(
     ensures cost { OnOk result
         (cost steps.new.items + 5 ≤ cost steps.old.items + arm_room depth arms.now) }
 {
-    if arms.len() > LONGEST_ROW {
+    if arms.len() > MAX_BRANCH_LINEAR_SUB_NODE_LENGTH {
         let (lower, upper) = arms.split_at(arms.len() / 2);
         steps.push(Step::Split(first_arm(upper).unit))?;
         push_part(steps, upper, depth)?;
@@ -109,7 +107,8 @@ fn push_run<'a>(
         (cost steps.new.items + 7 ≤ cost steps.old.items + room_of value depth entries.now) }
 {
     let units = units_from(first.key, depth);
-    let shared = 1 + shared_len(units_from(units, 1), entries, depth + 1, LONGEST_RUN - 1);
+    let most = MAX_LINEAR_MATCH_LENGTH as usize - 1;
+    let shared = 1 + shared_len(units_from(units, 1), entries, depth + 1, most);
     steps.push(Step::Run(units.split_at(shared).0, value))?;
     steps.push(Step::Node(entries, depth + shared))?;
     Ok(())

@@ -1,8 +1,13 @@
 //! Encodes the numbers of a trie as units. They are written from the end of the trie to its front:
 //! a unit that is pushed later comes earlier.
 ghost use Rattle.std.specs.Prelude.{◌≡◌, ℕ, ◌+◌, ◌-◌, ◌*◌, ◌/◌, ◌%◌, ◌^◌, ◌<◌, ◌≤◌, List, [], ◌∷◌, ◌++◌, length, reverse, OnOk, IfOk};
+ghost use Rattle.icu_char16trie.specs.Constants.{min_value_lead};
 ghost use Rattle.icu_char16trie_builder.specs.Inside.Encoding.{lead_by, tail_by, short_units, delta_units, node_units, final_units};
 
+use icu_char16trie::impl_const::{
+    MIN_TWO_UNIT_DELTA_LEAD, MIN_TWO_UNIT_NODE_LEAD, MIN_TWO_UNIT_VALUE_LEAD, MIN_VALUE_LEAD,
+    THREE_UNIT_DELTA_LEAD, THREE_UNIT_NODE_LEAD, THREE_UNIT_VALUE_LEAD, VALUE_IS_FINAL,
+};
 use std::alloc::AllocError;
 
 /// Writes one unit in front of the others.
@@ -40,7 +45,7 @@ fn put_tail(out: &mut Vec<u16>, number: u32, two: u16, three: u16) -> Result<u16
 pub(crate) fn put_short(out: &mut Vec<u16>, number: u32) -> Result<(), AllocError>
     ensures { OnOk result (reverse out.new.items ≡ short_units number ++ reverse out.old.items) }
 {
-    let lead = put_tail(out, number, 0x4000, 0x7fff)?;
+    let lead = put_tail(out, number, MIN_TWO_UNIT_VALUE_LEAD, THREE_UNIT_VALUE_LEAD)?;
     put_one(out, lead)
 }
 
@@ -48,25 +53,25 @@ pub(crate) fn put_short(out: &mut Vec<u16>, number: u32) -> Result<(), AllocErro
 pub(crate) fn put_final(out: &mut Vec<u16>, number: u32) -> Result<(), AllocError>
     ensures { OnOk result (reverse out.new.items ≡ final_units number ++ reverse out.old.items) }
 {
-    let lead = put_tail(out, number, 0x4000, 0x7fff)?;
-    put_one(out, 0x8000 + lead)
+    let lead = put_tail(out, number, MIN_TWO_UNIT_VALUE_LEAD, THREE_UNIT_VALUE_LEAD)?;
+    put_one(out, VALUE_IS_FINAL + lead)
 }
 
 /// Writes the lead of a match node with these low six bits and a value: one unit below 0x100, two
 /// below 0xFE_0000, and otherwise three.
 pub(crate) fn put_value(out: &mut Vec<u16>, number: u32, low: u16) -> Result<(), AllocError>
-    requires { low < 0x40 }
+    requires { low < min_value_lead }
     ensures { OnOk result (reverse out.new.items ≡ node_units number low ++ reverse out.old.items) }
 {
-    let lead = put_tail(out, number, 0x100, 0x1fe)?;
-    put_one(out, (lead + 1) * 64 + low)
+    let lead = put_tail(out, number, MIN_TWO_UNIT_NODE_LEAD, THREE_UNIT_NODE_LEAD)?;
+    put_one(out, (lead + 1) * MIN_VALUE_LEAD + low)
 }
 
 /// Writes the delta of a split: one unit below 0xFC00, two below 0x03FF_0000, and otherwise three.
 pub(crate) fn put_delta(out: &mut Vec<u16>, number: u32) -> Result<(), AllocError>
     ensures { OnOk result (reverse out.new.items ≡ delta_units number ++ reverse out.old.items) }
 {
-    let lead = put_tail(out, number, 0xfc00, 0xffff)?;
+    let lead = put_tail(out, number, MIN_TWO_UNIT_DELTA_LEAD, THREE_UNIT_DELTA_LEAD)?;
     put_one(out, lead)
 }
 

@@ -22,6 +22,7 @@ unfoldable pub use Rattle.icu_char16trie_builder.specs.Entries.{most_units, with
 pub use Rattle.icu_char16trie_builder.specs.Sorted.{IsFirstRefusedKey, IsInOrder, key_at, pair_map}
 pub use Rattle.icu_char16trie_builder.specs.Errors.{entry_refusal}
 -- The format, unit by unit, where a unit leads, and what an iterator has left.
+pub use Rattle.icu_char16trie.specs.Constants
 pub use Rattle.icu_char16trie.specs.Numbers
 pub use Rattle.icu_char16trie.specs.Grammar
 pub use Rattle.icu_char16trie.specs.Steps

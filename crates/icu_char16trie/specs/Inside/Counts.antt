@@ -1,5 +1,6 @@
 -- The number of entries of the nodes of a trie, counted from the last node to the root.
 use Rattle.std.specs.Prelude.{◌≡◌, ℕ, ◌+◌, ◌-◌, ◌%◌, ◌<◌, ◌≤◌, Bool, List, [], ◌∷◌, Some, ⊤, length, min, slice_get, slice_index}
+use Rattle.icu_char16trie.specs.Constants.{min_linear_match, min_value_lead, run_len, value_is_final}
 use Rattle.icu_char16trie.specs.Numbers.{node_end}
 use Rattle.icu_char16trie.specs.Grammar.{Arms, Holds, Part, branch_len, branch_start}
 use Rattle.icu_char16trie.specs.UnitMap.{UnitMap}
@@ -16,21 +17,23 @@ sum_at counts (q ∷ places) = slice_index counts q + sum_at counts places
 
 -- The match node with these low six bits leads to the nodes at these indices.
 pub data MatchKids (units : List ℕ) : ℕ → ℕ → List ℕ → Type 0 where
-  after_run : (p low : ℕ) (kids : List ℕ) → 0x30 ≤ low → kids ≡ (p + (low - 0x2f)) ∷ []
+  after_run : (p low : ℕ) (kids : List ℕ) → min_linear_match ≤ low → kids ≡ (p + run_len low) ∷ []
       → MatchKids units p low kids
-  of_arms : (p low n : ℕ) (arms : Arms) (kids : List ℕ) → low < 0x30
+  of_arms : (p low n : ℕ) (arms : Arms) (kids : List ℕ) → low < min_linear_match
       → branch_len units p low ≡ Some n
       → Part units (branch_start p low) (n + 1) arms → kids ≡ places_of arms
       → MatchKids units p low kids
 
 -- The node at p has `own` values of its own, 0 or 1, and leads to the nodes at these indices.
 pub data NodeKids (units : List ℕ) : ℕ → ℕ → List ℕ → Type 0 where
-  no_kids : (p lead own : ℕ) (kids : List ℕ) → slice_get units p ≡ Some lead → 0x8000 ≤ lead
-      → own ≡ 1 → kids ≡ [] → NodeKids units p own kids
-  of_plain : (p lead own : ℕ) (kids : List ℕ) → slice_get units p ≡ Some lead → lead < 0x40
-      → own ≡ 0 → MatchKids units (p + 1) lead kids → NodeKids units p own kids
-  of_valued : (p lead own : ℕ) (kids : List ℕ) → slice_get units p ≡ Some lead → 0x40 ≤ lead
-      → lead < 0x8000 → own ≡ 1 → MatchKids units (node_end (p + 1) lead) (lead % 64) kids
+  no_kids : (p lead own : ℕ) (kids : List ℕ) → slice_get units p ≡ Some lead
+      → value_is_final ≤ lead → own ≡ 1 → kids ≡ [] → NodeKids units p own kids
+  of_plain : (p lead own : ℕ) (kids : List ℕ) → slice_get units p ≡ Some lead
+      → lead < min_value_lead → own ≡ 0 → MatchKids units (p + 1) lead kids
+      → NodeKids units p own kids
+  of_valued : (p lead own : ℕ) (kids : List ℕ) → slice_get units p ≡ Some lead
+      → min_value_lead ≤ lead → lead < value_is_final → own ≡ 1
+      → MatchKids units (node_end (p + 1) lead) (lead % min_value_lead) kids
       → NodeKids units p own kids
 
 -- The node at p leads to the nodes at these indices.

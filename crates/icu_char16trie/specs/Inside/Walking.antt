@@ -3,6 +3,7 @@ use Rattle.std.specs.Prelude.{◌≡◌, ℕ, ℤ, ◌+◌, ◌^◌, ◌%◌, �
 use Rattle.std.proofs.Props.{props}
 use Rattle.std.specs.Coded.{×_prop, Unit-prop}
 use Rattle.icu_zerovec.specs.Slice.{slice_values}
+use Rattle.icu_char16trie.specs.Constants.{min_value_lead, value_is_final}
 use Rattle.icu_char16trie.specs.LossyText.{key_text}
 use Rattle.icu_char16trie.specs.Numbers.{node_end}
 use Rattle.icu_char16trie.specs.UnitMap.{UnitMap}
@@ -21,7 +22,7 @@ use Rattle.icu_char16trie.specs.declared.walk.Walk.{Walk}
 -- Adding to the index of this front never wraps.
 abbrev pub IsNearFront : Front → Type 0
 IsNearFront (At place) = IsNear place
-IsNearFront (Match p low) = (p < 2 ^ 63) × (low < 0x40)
+IsNearFront (Match p low) = (p < 2 ^ 63) × (low < min_value_lead)
 
 -- The text of the key may be cut at the marks, and adding to an index never wraps.
 abbrev pub IsSound : Walk → Type 0
@@ -30,7 +31,8 @@ IsSound s = IsCut s.pending × IsNearFront s.front
 -- What comes after the value of a node whose lead unit is before p.
 abbrev pub below : ℕ → ℕ → Front
 below p lead =
-    if nat_le 0x8000 lead then At Nowhere else Match (node_end p lead) (lead % 64)
+    if nat_le value_is_final lead then At Nowhere
+    else Match (node_end p lead) (lead % min_value_lead)
 
 -- The entry of a node's own value.
 abbrev pub own : Option ℤ → UnitMap

@@ -1,5 +1,6 @@
 -- What the remaining steps make from what is in front of the units so far and from what was saved.
 use Rattle.std.specs.Prelude.{◌≡◌, ℕ, ℤ, ◌+◌, ◌-◌, ◌*◌, ◌/◌, ◌^◌, ◌<◌, ◌≤◌, List, [], ◌∷◌, ◌++◌, length, reverse, Option, Some, None}
+use Rattle.icu_char16trie.specs.Constants.{max_branch_linear_sub_node_length, max_linear_match_length}
 use Rattle.icu_char16trie.specs.Grammar.{Holds}
 use Rattle.icu_char16trie.specs.UnitMap.{UnitMap, under}
 use Rattle.icu_char16trie_builder.specs.Inside.Cuts.{cut, room, IsBelow, arm_units, arm_map}
@@ -60,7 +61,7 @@ pub record TakesJump (u : ℕ) (s t : State) : Type 0 where
   pub m2 : UnitMap
   pub rest : List Piece
   pub many : 1 < n
-  pub few : n ≤ 5
+  pub few : n ≤ max_branch_linear_sub_node_length
   pub was : s ≡ record { front = part (n - 1) us m2; saved = node m1 ∷ rest }
   pub is : t ≡ record { front = part n (u ∷ us) (under (u ∷ []) m1 ++ m2); saved = rest }
 
@@ -70,7 +71,7 @@ pub record TakesValue (u : ℕ) (v : ℤ) (s t : State) : Type 0 where
   pub us : List ℕ
   pub m : UnitMap
   pub many : 1 < n
-  pub few : n ≤ 5
+  pub few : n ≤ max_branch_linear_sub_node_length
   pub was : s.front ≡ part (n - 1) us m
   pub is : t ≡ record { front = part n (u ∷ us) ((u ∷ [], v) ∷ m); saved = s.saved }
 
@@ -82,7 +83,7 @@ pub record TakesSplit (x : ℕ) (s t : State) : Type 0 where
   pub m1 : UnitMap
   pub m2 : UnitMap
   pub rest : List Piece
-  pub many : 5 < n
+  pub many : max_branch_linear_sub_node_length < n
   pub was : s ≡ record { front = part (n - n / 2) us2 m2; saved = part (n / 2) us1 m1 ∷ rest }
   pub below : Below x us1
   pub from : From x us2
@@ -92,7 +93,7 @@ pub record TakesSplit (x : ℕ) (s t : State) : Type 0 where
 pub record TakesRun (units : List ℕ) (value : Option ℤ) (s t : State) : Type 0 where
   pub m : UnitMap
   pub some : 0 < length units
-  pub few : length units ≤ 16
+  pub few : length units ≤ max_linear_match_length
   pub was : s.front ≡ node m
   pub is : t ≡ record { front = node (own_entry value ++ under units m); saved = s.saved }
 
@@ -187,5 +188,6 @@ IsReady (steps.Last u) = Unit {0}
 IsReady (steps.Jump u) = Unit {0}
 IsReady (steps.Value u v) = Unit {0}
 IsReady (steps.Split u) = Unit {0}
-IsReady (steps.Run units value) = (0 < length units.now) × (length units.now ≤ 16)
+IsReady (steps.Run units value) =
+    (0 < length units.now) × (length units.now ≤ max_linear_match_length)
 IsReady (steps.Branch count value) = (2 ≤ count) × (count ≤ 2 ^ 16)

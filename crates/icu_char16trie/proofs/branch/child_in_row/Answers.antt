@@ -1,6 +1,4 @@
-use Rattle.std.proofs.Common.{◌+◌, ◌%◌, arith, ◌∙◌, sym, ap, ◌≡◌}
-use Rattle.std.proofs.lemmas.Nat.{and_mask}
-use Rattle.icu_char16trie.specs.Numbers.{short_end}
+use Rattle.std.proofs.Common.{arith, sym}
 use Rattle.icu_char16trie.specs.Steps.{gone, last, here, on}
 use Rattle.icu_char16trie.proofs.PartLemmas.{row_cut}
 use Rattle.icu_char16trie.proofs.branch.child_in_row.Goals as goal
@@ -18,12 +16,11 @@ returns-then-first-unit-clause-exact c =
 pub loop-left-preserved : goal.loop-left-preserved
 loop-left-preserved c =
     let two = c.in_ok-first.ensures.two in
-    let behind : c.short_end-place.result ≡ short_end (c.loop-left.place + 2) (c.in_ok-first.value % 0x8000) =
-    c.short_end-place.ensures.end ∙ ap (short_end (c.loop-left.place + 2)) (and_mask c.in_ok-first.value 15) in
     record {
       near = omega (arith, c.short_end-place.ensures.near, c.in_ok-first.ensures.within);
       leads = λ r rest. c.loop-left.invariant.leads r
-          (on _ _ c.in_ok-first.first c.in_ok-first.value r c.loop-left-test.true two.0 c.if-first-unit.false two.1 (rw behind at rest));
+          (on _ _ c.in_ok-first.first c.in_ok-first.value r c.loop-left-test.true two.0 c.if-first-unit.false two.1
+          (rw c.short_end-place.ensures.end at rest));
     }
 
 pub returns-in_err-last-clause-exact : goal.returns-in_err-last-clause-exact

@@ -7,18 +7,19 @@ use Rattle.icu_char16trie.proofs.branch.half_of_part.Goals as goal
 pub returns-in_err-split : goal.returns-in_err-split
 returns-in_err-split c = rw c.from_residual.ensures (part_cut _ _ _ _ c.requires.many c.in_err-split.ensures.two)
 
-pub returns-then-delta-lt64512 : goal.returns-then-delta-lt64512
-returns-then-delta-lt64512 c =
+pub returns-then-delta-lt-MIN_TWO_UNIT_DELTA_LEAD : goal.returns-then-delta-lt-MIN_TWO_UNIT_DELTA_LEAD
+returns-then-delta-lt-MIN_TWO_UNIT_DELTA_LEAD c =
     let two = c.in_ok-split.ensures.two in
     elim c.if-unit-split.branch [
       | then-unit-split w ↦
           rw (w.low-is, w.from.ensures)
           (lower_leads _ _ _ _ c.in_ok-split.split c.in_ok-split.delta _ c.requires.many two.0 two.1 w.if-unit-split.true
-          (near_lower _ _ _ c.if-delta-lt64512.true) (omega (arith, c.if-delta-lt64512.true, c.in_ok-split.ensures.within)))
+          (near_lower _ _ _ c.if-delta-lt-MIN_TWO_UNIT_DELTA_LEAD.true)
+          (omega (arith, c.if-delta-lt-MIN_TWO_UNIT_DELTA_LEAD.true, c.in_ok-split.ensures.within)))
       | else-unit-split w ↦
           rw w.low-is
           (upper_leads _ _ _ _ c.in_ok-split.split c.in_ok-split.delta _ c.requires.many two.0 two.1 w.if-unit-split.false
-          (omega (arith, near_end (c.args.part + 2) c.in_ok-split.delta c.if-delta-lt64512.true))
+          (omega (arith, near_end (c.args.part + 2) c.in_ok-split.delta c.if-delta-lt-MIN_TWO_UNIT_DELTA_LEAD.true))
           (omega (arith, c.in_ok-split.ensures.within)))
     ]
 

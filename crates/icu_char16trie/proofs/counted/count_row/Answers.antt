@@ -1,6 +1,4 @@
-use Rattle.std.proofs.Common.{◌+◌, ◌%◌, ◌≡◌, ◌∙◌, ap, sym, arith, Some}
-use Rattle.std.proofs.lemmas.Nat.{and_mask}
-use Rattle.icu_char16trie.specs.Numbers.{short_end}
+use Rattle.std.proofs.Common.{ap, sym, arith, Some}
 use Rattle.icu_char16trie.proofs.CountLemmas.{last_counted, next_counted, no_first, no_jump, no_second}
 use Rattle.icu_char16trie.proofs.counted.count_row.Goals as goal
 
@@ -17,15 +15,13 @@ returns-in_err-child c =
 pub loop-left-preserved : goal.loop-left-preserved
 loop-left-preserved c =
     let two = c.in_ok-_unit.ensures.two in
-    let behind : c.short_end-place.result ≡ short_end (c.loop-left.place + 2) (c.in_ok-_unit.value % 0x8000) =
-    c.short_end-place.ensures.end ∙ ap (short_end (c.loop-left.place + 2)) (and_mask c.in_ok-_unit.value 15) in
     record {
       near = omega (arith, c.short_end-place.ensures.near, c.in_ok-_unit.ensures.within);
       short = omega arith;
       counts = λ r h. c.loop-left.invariant.counts r
           (next_counted _ _ _ _ _ c.in_ok-_unit._unit c.in_ok-_unit.value c.in_ok-child.child _ _ r c.loop-left-test.true
           c.loop-left.invariant.short two.0 two.1
-          (sym c.in_ok-child.ensures.child) behind (rw c.count_at.ensures at c.both_counts-total.ensures) h);
+          (sym c.in_ok-child.ensures.child) c.short_end-place.ensures.end (rw c.count_at.ensures at c.both_counts-total.ensures) h);
     }
 
 pub returns-in_err-_last : goal.returns-in_err-_last

@@ -4,8 +4,9 @@ use Rattle.icu_char16trie.proofs.NextUnitLemmas.{both_added, upper_added}
 use Rattle.icu_char16trie.proofs.next_units.+add_part.Goals as goal
 use Rattle.icu_char16trie.proofs.next_units.+add_part.Goals.{in-Some-lower_part+in_ok-add_part, in_default-lower_part}
 
-pub returns-then-count-le5 : goal.returns-then-count-le5
-returns-then-count-le5 t c = let a = c.in_ok-add_row.ensures in (a.0, row _ _ a.0 c.if-count-le5.true a.1, a.2)
+pub returns-then-count-le-MAX_BRANCH_LINEAR_SUB_NODE_LENGTH : goal.returns-then-count-le-MAX_BRANCH_LINEAR_SUB_NODE_LENGTH
+returns-then-count-le-MAX_BRANCH_LINEAR_SUB_NODE_LENGTH t c =
+    let a = c.in_ok-add_row.ensures in (a.0, row _ _ a.0 c.if-count-le-MAX_BRANCH_LINEAR_SUB_NODE_LENGTH.true a.1, a.2)
 
 pub returns-in_default : goal.returns-in_default
 returns-in_default t c = ([], no_split _ _ [] (omega arith) c.in_default.ensures.two refl, sym (append-nil c.args.list.now.items))

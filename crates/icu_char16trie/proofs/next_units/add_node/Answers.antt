@@ -5,13 +5,17 @@ use Rattle.icu_char16trie.proofs.next_units.add_node.Goals as goal
 pub returns-in_default : goal.returns-in_default
 returns-in_default c = ([], no_lead _ [] (sym c.in_default.ensures.unit) refl, sym (append-nil c.args.list.now.items))
 
-pub returns-then-lead-ge32768 : goal.returns-then-lead-ge32768
-returns-then-lead-ge32768 c = (
+pub returns-then-lead-ge-VALUE_IS_FINAL : goal.returns-then-lead-ge-VALUE_IS_FINAL
+returns-then-lead-ge-VALUE_IS_FINAL c = (
   [],
-  at_final _ c.in-Some.lead [] (sym c.in-Some.ensures.unit) c.if-lead-ge32768.true refl,
+  at_final _ c.in-Some.lead [] (sym c.in-Some.ensures.unit) c.if-lead-ge-VALUE_IS_FINAL.true refl,
   sym (append-nil c.args.list.now.items),
 )
 
 pub returns : goal.returns
-returns c = let a = c.in_ok-add_match.ensures in
-    (a.0, at_match _ c.in-Some.lead a.0 (sym c.in-Some.ensures.unit) c.if-lead-ge32768.false (rw c.node_end.ensures.end at a.1), a.2)
+returns c = let a = c.in_ok-add_match.ensures in (
+  a.0,
+  at_match _ c.in-Some.lead a.0 (sym c.in-Some.ensures.unit) c.if-lead-ge-VALUE_IS_FINAL.false
+      (rw c.node_end.ensures.end at a.1),
+  a.2,
+)

@@ -1,7 +1,5 @@
 use Rattle.icu_zerovec.specs.Slice.{slice_values}
-use Rattle.std.proofs.Common.{◌≡◌, ◌+◌, ◌%◌, [], ◌∷◌, ◌++◌, refl, sym, ap, ◌∙◌, arith, append_assoc, append-nil, slice_get}
-use Rattle.std.proofs.lemmas.Nat.{and_mask}
-use Rattle.icu_char16trie.specs.Numbers.{short_end}
+use Rattle.std.proofs.Common.{◌+◌, [], ◌∷◌, ◌++◌, refl, sym, ap, ◌∙◌, arith, append_assoc, append-nil, slice_get}
 use Rattle.icu_char16trie.specs.NextUnits.{cut, more, unit_list}
 use Rattle.icu_char16trie.proofs.NextUnitLemmas.{added_more, row_end}
 use Rattle.icu_char16trie.proofs.next_units.add_row.Goals as goal
@@ -19,8 +17,6 @@ pub loop-left-preserved : goal.loop-left-preserved
 loop-left-preserved c =
     let so = c.loop-left.invariant.so_far in
     let two = c.in-Some.ensures.two in
-    let behind : c.short_end-place.result ≡ short_end (c.loop-left.place + 2) (c.in-Some.value % 0x8000) =
-    c.short_end-place.ensures.end ∙ ap (short_end (c.loop-left.place + 2)) (and_mask c.in-Some.value 15) in
     record {
       near = omega (arith, c.short_end-place.ensures.near, c.in-Some.ensures.within);
       so_far = (
@@ -29,7 +25,7 @@ loop-left-preserved c =
             c.in_ok-push.ensures.items,
         λ us rest. rw (append_assoc so.0 (c.in-Some.unit ∷ []) us)
             (so.2 (c.in-Some.unit ∷ us) (more _ _ c.in-Some.unit c.in-Some.value us (c.in-Some.unit ∷ us) c.loop-left-test.true two.0 two.1
-            (rw behind at rest) refl)),
+            (rw c.short_end-place.ensures.end at rest) refl)),
       );
     }
 

@@ -1,6 +1,4 @@
-use Rattle.std.proofs.Common.{◌+◌, ◌%◌, ◌≡◌, ◌∙◌, ap, sym, arith}
-use Rattle.std.proofs.lemmas.Nat.{and_mask}
-use Rattle.icu_char16trie.specs.Numbers.{short_end}
+use Rattle.std.proofs.Common.{sym, arith}
 use Rattle.icu_char16trie.proofs.SoundnessLemmas.{last_walked, entry_walked, no_last_child, no_child, no_rest}
 use Rattle.icu_char16trie.proofs.soundness.check_row.Goals as goal
 
@@ -15,8 +13,6 @@ returns-in_err-want c =
 pub loop-left-preserved : goal.loop-left-preserved
 loop-left-preserved c =
     let two = c.in_ok-unit.ensures.two in
-    let behind : c.short_end-place.result ≡ short_end (c.loop-left.place + 2) (c.in_ok-unit.value % 0x8000) =
-    c.short_end-place.ensures.end ∙ ap (short_end (c.loop-left.place + 2)) (and_mask c.in_ok-unit.value 15) in
     record {
       near = omega (arith, c.short_end-place.ensures.near, c.in_ok-unit.ensures.within);
       some = omega arith;
@@ -24,13 +20,13 @@ loop-left-preserved c =
       walked = λ next new w. c.loop-left.invariant.walked next new
           (entry_walked _ c.loop-left.place c.loop-left.left c.in_ok-unit.unit c.in_ok-unit.value c.in_ok-child.child _ _ next
           c.loop-left.wanted new
-          c.loop-left-test.true c.loop-left.invariant.short two.0 two.1 (sym c.in_ok-child.ensures.child) behind
+          c.loop-left-test.true c.loop-left.invariant.short two.0 two.1 (sym c.in_ok-child.ensures.child) c.short_end-place.ensures.end
           (omega (arith, c.from.ensures)) (omega (arith, c.in_ok-child.ensures.above)) (omega (arith, c.in_ok-want.ensures.0))
           (omega (arith, c.short_end-place.ensures.above))
           (rw (c.from-least.ensures, c.in_ok-want.ensures.1) at w));
       refused = λ w. c.loop-left.invariant.refused
           (no_rest _ c.loop-left.place c.loop-left.left c.in_ok-unit.unit c.in_ok-unit.value _ _ c.loop-left-test.true
-          c.loop-left.invariant.short two.0 two.1 behind
+          c.loop-left.invariant.short two.0 two.1 c.short_end-place.ensures.end
           (rw c.from-least.ensures at w));
     }
 

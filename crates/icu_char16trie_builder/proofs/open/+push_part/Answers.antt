@@ -12,32 +12,38 @@ begins {x = x} e r = e ∙ ap (λ z. x ∷ z) (sym r)
 pub push_part-requires : goal.push_part-requires
 push_part-requires t c =
     let many : length c.split_at.result.1.now + length c.args.arms.now / 2 ≡ length c.args.arms.now = c.split_at.ensures.back_len in
-    let less : length c.split_at.result.1.now < length c.args.arms.now = omega (arith, many, c.if-arms-gt-LONGEST_ROW.true) in
-    let some : 0 < length c.split_at.result.1.now = omega (arith, many, c.if-arms-gt-LONGEST_ROW.true) in (
+    let less : length c.split_at.result.1.now < length c.args.arms.now =
+    omega (arith, many, c.if-arms-gt-MAX_BRANCH_LINEAR_SUB_NODE_LENGTH.true) in
+    let some : 0 < length c.split_at.result.1.now = omega (arith, many, c.if-arms-gt-MAX_BRANCH_LINEAR_SUB_NODE_LENGTH.true) in (
       search rules,
       part_high c.args.depth c.args.arms.now c.split_at.result.0.now c.split_at.result.1.now c.split_at.ensures.by_index.0 some
           c.requires,
     )
 
-pub push_part-requires-then-arms-gt-LONGEST_ROW : goal.push_part-requires-then-arms-gt-LONGEST_ROW
-push_part-requires-then-arms-gt-LONGEST_ROW t c =
+pub push_part-requires-then-arms-gt-MAX_BRANCH_LINEAR_SUB_NODE_LENGTH :
+    goal.push_part-requires-then-arms-gt-MAX_BRANCH_LINEAR_SUB_NODE_LENGTH
+push_part-requires-then-arms-gt-MAX_BRANCH_LINEAR_SUB_NODE_LENGTH t c =
     let many : length c.split_at.result.0.now ≡ length c.args.arms.now / 2 = c.split_at.ensures.front_len in
-    let less : length c.split_at.result.0.now < length c.args.arms.now = omega (arith, many, c.if-arms-gt-LONGEST_ROW.true) in
-    let some : 0 < length c.split_at.result.0.now = omega (arith, many, c.if-arms-gt-LONGEST_ROW.true) in (
+    let less : length c.split_at.result.0.now < length c.args.arms.now =
+    omega (arith, many, c.if-arms-gt-MAX_BRANCH_LINEAR_SUB_NODE_LENGTH.true) in
+    let some : 0 < length c.split_at.result.0.now = omega (arith, many, c.if-arms-gt-MAX_BRANCH_LINEAR_SUB_NODE_LENGTH.true) in (
       search rules,
       part_low c.args.depth c.args.arms.now c.split_at.result.0.now c.split_at.result.1.now c.split_at.ensures.by_index.0 some
           c.requires,
     )
 
-pub returns-then-arms-gt-LONGEST_ROW-clause-gives : goal.returns-then-arms-gt-LONGEST_ROW-clause-gives
-returns-then-arms-gt-LONGEST_ROW-clause-gives t c s goal h =
-    gives_split c.args.depth _ _ _ _ c.push_part-then-arms-gt-LONGEST_ROW.new.steps.items c.args.arms.now c.split_at.result.0.now
-    c.split_at.result.1.now (drop 1 c.split_at.result.1.now) c.first_arm.result s goal
-    c.split_at.ensures.by_index.0 c.first_arm.ensures c.split_at.ensures.front_len c.if-arms-gt-LONGEST_ROW.true c.requires.ascends
-    c.in_ok-push.ensures.items c.in_ok-push_part.ensures.gives c.in_ok-push-2.ensures.items c.in_ok-push_part-2.ensures.gives h
+pub returns-then-arms-gt-MAX_BRANCH_LINEAR_SUB_NODE_LENGTH-clause-gives :
+    goal.returns-then-arms-gt-MAX_BRANCH_LINEAR_SUB_NODE_LENGTH-clause-gives
+returns-then-arms-gt-MAX_BRANCH_LINEAR_SUB_NODE_LENGTH-clause-gives t c s goal h =
+    gives_split c.args.depth _ _ _ _ c.push_part-then-arms-gt-MAX_BRANCH_LINEAR_SUB_NODE_LENGTH.new.steps.items c.args.arms.now
+    c.split_at.result.0.now c.split_at.result.1.now (drop 1 c.split_at.result.1.now) c.first_arm.result s goal
+    c.split_at.ensures.by_index.0 c.first_arm.ensures c.split_at.ensures.front_len c.if-arms-gt-MAX_BRANCH_LINEAR_SUB_NODE_LENGTH.true
+    c.requires.ascends c.in_ok-push.ensures.items c.in_ok-push_part.ensures.gives c.in_ok-push-2.ensures.items
+    c.in_ok-push_part-2.ensures.gives h
 
-pub returns-then-arms-gt-LONGEST_ROW-clause-cost : goal.returns-then-arms-gt-LONGEST_ROW-clause-cost
-returns-then-arms-gt-LONGEST_ROW-clause-cost t c =
+pub returns-then-arms-gt-MAX_BRANCH_LINEAR_SUB_NODE_LENGTH-clause-cost :
+    goal.returns-then-arms-gt-MAX_BRANCH_LINEAR_SUB_NODE_LENGTH-clause-cost
+returns-then-arms-gt-MAX_BRANCH_LINEAR_SUB_NODE_LENGTH-clause-cost t c =
     split_cost c.args.depth c.first_arm.result.unit _ _ _ _ _ c.args.arms.now c.split_at.result.0.now c.split_at.result.1.now
     c.split_at.ensures.by_index.0
     c.in_ok-push.ensures.items c.in_ok-push_part.ensures.cost c.in_ok-push-2.ensures.items c.in_ok-push_part-2.ensures.cost
@@ -57,7 +63,7 @@ returns-in-Some-clause-gives t c s goal h =
     let some : 0 < length c.split_at-2.result.1.now = search rules in
     let same : to_z w32 (of_z w32 c.in-Some.value) ≡ c.in-Some.value = to_z-of_z w32 c.in-Some.value (search rules) in
     gives_value c.args.depth _ _ _ c.push_part-in-Some.new.steps.items c.first_arm-first.result c.args.arms.now c.split_at-2.result.1.now s
-    goal is some (omega (arith, c.if-arms-gt-LONGEST_ROW.false))
+    goal is some (omega (arith, c.if-arms-gt-MAX_BRANCH_LINEAR_SUB_NODE_LENGTH.false))
     c.in_ok-push-5.ensures.items (c.in-Some.ensures ∙ ap (λ z. ([], z) ∷ []) (sym same)) c.in_ok-push_part-3.ensures.gives h
 
 pub returns-in-Some-clause-cost : goal.returns-in-Some-clause-cost
@@ -73,7 +79,7 @@ returns-clause-gives t c s goal h =
     let is = begins c.first_arm-first.ensures c.split_at-2.ensures.back in
     let some : 0 < length c.split_at-2.result.1.now = search rules in
     gives_jump c.args.depth _ _ _ c.push-3.new.self.items c.first_arm-first.result c.args.arms.now c.split_at-2.result.1.now s goal is some
-    (omega (arith, c.if-arms-gt-LONGEST_ROW.false))
+    (omega (arith, c.if-arms-gt-MAX_BRANCH_LINEAR_SUB_NODE_LENGTH.false))
     c.in_ok-push-6.ensures.items c.in_ok-push_part-4.ensures.gives c.in_ok-push-7.ensures.items
     (first_below c.args.depth c.args.arms.now c.split_at-2.result.1.now c.first_arm-first.result is c.requires.below) h
 

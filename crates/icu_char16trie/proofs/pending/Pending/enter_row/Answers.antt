@@ -1,6 +1,5 @@
 use Rattle.icu_zerovec.specs.Slice.{slice_values}
-use Rattle.std.proofs.Common.{sym, refl, ap, ◌∙◌, ◌+◌, arith}
-use Rattle.std.proofs.lemmas.Nat.{and_mask}
+use Rattle.std.proofs.Common.{sym, refl, ◌+◌, arith}
 use Rattle.icu_char16trie.specs.Numbers.{short_end}
 use Rattle.icu_char16trie.proofs.OpeningLemmas.{nothing_opens, gone_opens, row_opens, arms_here, arms_next, arms_child, last_stands}
 use Rattle.icu_char16trie.proofs.pending.Pending.enter_row.Goals as goal
@@ -33,7 +32,6 @@ returns c =
     row_opens c.args.self.now c.put_off.new.self _ c.args.place c.args.count c.in-Some.unit c.in-Some-unit_at.value
     c.in-Some-entry_child.child c.short_end.result
     (omega arith) c.requires.short (sym c.in-Some.ensures.unit) (sym c.in-Some-unit_at.ensures.unit)
-    (sym c.in-Some-entry_child.ensures.child)
-    (c.short_end.ensures.end ∙ ap (short_end (c.args.place + 2)) (and_mask c.in-Some-unit_at.value 15))
+    (sym c.in-Some-entry_child.ensures.child) c.short_end.ensures.end
     (omega (arith, c.in-Some-entry_child.ensures.above)) (omega (arith, c.short_end.ensures.above)) c.in_ok-put_off.ensures
     (record { units = refl; spelling = c.in_ok-push-2.ensures; node = refl; parts = refl })

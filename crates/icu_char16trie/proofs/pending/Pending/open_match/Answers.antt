@@ -5,14 +5,14 @@ use Rattle.icu_char16trie.proofs.NodeLemmas.{matches_run}
 use Rattle.icu_char16trie.proofs.OpeningLemmas.{nothing_opens, later_opens, length_gone}
 use Rattle.icu_char16trie.proofs.pending.Pending.open_match.Goals as goal
 
-pub returns-then-low-ge48 : goal.returns-then-low-ge48
-returns-then-low-ge48 c = later_opens c.args.self.now _ c.args.place c.args.place _ _ c.in_ok-pass_run.ensures (omega arith)
-    (λ first m. matches_run (slice_values c.args.self.now.units) m c.if-low-ge48.true)
+pub returns-then-low-ge-MIN_LINEAR_MATCH : goal.returns-then-low-ge-MIN_LINEAR_MATCH
+returns-then-low-ge-MIN_LINEAR_MATCH c = later_opens c.args.self.now _ c.args.place c.args.place _ _ c.in_ok-pass_run.ensures (omega arith)
+    (λ first m. rw c.run_len.ensures (matches_run (slice_values c.args.self.now.units) m c.if-low-ge-MIN_LINEAR_MATCH.true))
 
 pub returns-then-low-gt0 : goal.returns-then-low-gt0
 returns-then-low-gt0 c =
     later_opens c.args.self.now _ c.args.place c.args.place _ _ c.in_ok-enter_part.ensures (omega arith)
-    (λ first m. branch_plain (slice_values c.args.self.now.units) m c.if-low-ge48.false c.if-low-gt0.true)
+    (λ first m. branch_plain (slice_values c.args.self.now.units) m c.if-low-ge-MIN_LINEAR_MATCH.false c.if-low-gt0.true)
 
 pub returns-in_default : goal.returns-in_default
 returns-in_default c = nothing_opens c.args.self.now c.args.place _

@@ -7,11 +7,11 @@ returns-in_default-unit_at c =
     absent_opens c.args.self.now _ c.in-Some.place (record { units = refl; spelling = refl; parts = refl; node = c.take.ensures.after })
     (sym c.in-Some.ensures.value) (sym c.in_default-unit_at.ensures.unit)
 
-pub returns-then-lead-ge32768 : goal.returns-then-lead-ge32768
-returns-then-lead-ge32768 c =
+pub returns-then-lead-ge-VALUE_IS_FINAL : goal.returns-then-lead-ge-VALUE_IS_FINAL
+returns-then-lead-ge-VALUE_IS_FINAL c =
     final_opens c.args.self.now _ c.in-Some.place c.in-Some-unit_at.lead c.in_ok-item.item
     (record { units = refl; spelling = refl; parts = refl; node = c.take.ensures.after })
-    (sym c.in-Some.ensures.value) (sym c.in-Some-unit_at.ensures.unit) c.if-lead-ge32768.true c.in_ok-item.ensures
+    (sym c.in-Some.ensures.value) (sym c.in-Some-unit_at.ensures.unit) c.if-lead-ge-VALUE_IS_FINAL.true c.in_ok-item.ensures
 
 pub returns : goal.returns
 returns c =
@@ -23,5 +23,6 @@ returns c =
     }) c.open_match.new.self
     c.in-Some.place c.in-Some-unit_at.lead c.node_end.result c.in_ok-item.item
     (record { units = refl; spelling = refl; parts = refl; node = c.take.ensures.after })
-    (sym c.in-Some.ensures.value) (sym c.in-Some-unit_at.ensures.unit) c.if-lead-ge32768.false c.in_ok-item.ensures c.node_end.ensures.end
+    (sym c.in-Some.ensures.value) (sym c.in-Some-unit_at.ensures.unit) c.if-lead-ge-VALUE_IS_FINAL.false c.in_ok-item.ensures
+    c.node_end.ensures.end
     (omega (arith, c.node_end.ensures.above)) c.in_ok-open_match.ensures

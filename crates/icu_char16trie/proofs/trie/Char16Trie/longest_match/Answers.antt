@@ -16,13 +16,13 @@ returns-clause-exact c =
     (ends_before (slice_values c.as_slice-units.result) c.args.text.now c.loop-lead.passed c.loop-lead.node c.loop-lead.found
     (rw (← same) at c.loop-lead.invariant) (sym c.in_default.ensures.unit))
 
-pub returns-then-lead-ge32768-clause-exact : goal.returns-then-lead-ge32768-clause-exact
-returns-then-lead-ge32768-clause-exact c =
+pub returns-then-lead-ge-VALUE_IS_FINAL-clause-exact : goal.returns-then-lead-ge-VALUE_IS_FINAL-clause-exact
+returns-then-lead-ge-VALUE_IS_FINAL-clause-exact c =
     let same : slice_values c.as_slice-units.result ≡ c.args.self.now = c.as_slice-units.ensures ∙ c.self.view_is in
     rw (← same)
     (ends_here (slice_values c.as_slice-units.result) c.args.text.now c.loop-lead.passed c.loop-lead.node c.in-Some.lead c.loop-lead.found _
     (rw (← same) at c.loop-lead.invariant) (sym c.in-Some.ensures.unit) (rw c.value_by.ensures at c.longer_match-found.ensures)
-    c.if-lead-ge32768.true)
+    c.if-lead-ge-VALUE_IS_FINAL.true)
 
 pub returns-in_default-pass_match-clause-exact : goal.returns-in_default-pass_match-clause-exact
 returns-in_default-pass_match-clause-exact c =
@@ -31,15 +31,15 @@ returns-in_default-pass_match-clause-exact c =
     (ends_within (slice_values c.as_slice-units.result) c.args.text.now c.loop-lead.passed c.loop-lead.node c.in-Some.lead
     c.node_end-place.result c.loop-lead.found _
     (rw (← same) at c.loop-lead.invariant) (sym c.in-Some.ensures.unit) (rw c.value_by.ensures at c.longer_match-found.ensures)
-    c.if-lead-ge32768.false c.node_end-place.ensures.end
+    c.if-lead-ge-VALUE_IS_FINAL.false c.node_end-place.ensures.end
     (rw (rest_is c.args.text.now c.loop-lead.passed) at c.in_default-pass_match.ensures))
 
 pub returns-clause-longest : goal.returns-clause-longest
 returns-clause-longest c = λ m trie. stepped_is_longest c.args.self.now m c.args.text.now _ _ trie (returns-clause-exact c)
 
-pub returns-then-lead-ge32768-clause-longest : goal.returns-then-lead-ge32768-clause-longest
-returns-then-lead-ge32768-clause-longest c =
-    λ m trie. stepped_is_longest c.args.self.now m c.args.text.now _ _ trie (returns-then-lead-ge32768-clause-exact c)
+pub returns-then-lead-ge-VALUE_IS_FINAL-clause-longest : goal.returns-then-lead-ge-VALUE_IS_FINAL-clause-longest
+returns-then-lead-ge-VALUE_IS_FINAL-clause-longest c =
+    λ m trie. stepped_is_longest c.args.self.now m c.args.text.now _ _ trie (returns-then-lead-ge-VALUE_IS_FINAL-clause-exact c)
 
 pub returns-in_default-pass_match-clause-longest : goal.returns-in_default-pass_match-clause-longest
 returns-in_default-pass_match-clause-longest c =
@@ -52,7 +52,8 @@ leads_on : (c : goal.In-Some-pass_match)
 leads_on c =
     goes_to (slice_values c.as_slice-units.result) c.args.text.now c.loop-lead.passed c.loop-lead.node c.in-Some.lead
     c.node_end-place.result
-    c.in-Some-pass_match.next c.in-Some-pass_match.count (sym c.in-Some.ensures.unit) c.if-lead-ge32768.false c.node_end-place.ensures.end
+    c.in-Some-pass_match.next c.in-Some-pass_match.count (sym c.in-Some.ensures.unit) c.if-lead-ge-VALUE_IS_FINAL.false
+    c.node_end-place.ensures.end
     (rw (rest_is c.args.text.now c.loop-lead.passed) at c.in-Some-pass_match.ensures)
 
 stays_within : (c : goal.In-Some-pass_match) → c.loop-lead.passed + c.in-Some-pass_match.count ≤ length c.args.text.now
