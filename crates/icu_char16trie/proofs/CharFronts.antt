@@ -1,8 +1,8 @@
 -- The first characters of a text, their units and their bytes.
-use Rattle.std.proofs.Common.{◌≡◌, ℕ, ℤ, ◌+◌, ◌<◌, ◌≤◌, Bool, true, false, cond, nat_lt, ◌&&◌, ◌-◌, ◌/◌, ◌%◌, zero, suc, List, [], ◌∷◌, ◌++◌, Option, Some, None, length, take, drop, get_or, sym, ap, refl, ◌∙◌, arith, append-nil, length-append}
+use Rattle.std.proofs.Common.{◌≡◌, ℕ, ℤ, ◌+◌, ◌<◌, ◌≤◌, Bool, true, false, cond, nat_lt, ◌&&◌, ◌-◌, ◌/◌, ◌%◌, zero, suc, List, [], ◌∷◌, ◌++◌, Option, Some, None, length, take, drop, sym, ap, refl, ◌∙◌, arith, append-nil, length-append}
 use Rattle.std.proofs.Math.Utf8.{scalar, scalars, encode, encodes}
 use Rattle.std.proofs.lemmas.Str.{encodes-append, encodes-chars, scalars-chars, IsCharBoundary-from_take}
-use Rattle.std.proofs.Math.Seq.{take-append_seam, take-suc}
+use Rattle.std.proofs.Math.Seq.{take-append_seam}
 use Rattle.std.proofs.lemmas.Grind.{flat_map-append}
 use Rattle.std.proofs.lemmas.List.{take-append-drop}
 use Rattle.std.specs.Prelude.{IfSome, encode_utf8_all}
@@ -19,21 +19,6 @@ use Rattle.icu_char16trie.specs.declared.place.Place.{Place}
 use Rattle.icu_char16trie.specs.declared.place.Place.TheVariants.{Node}
 use Rattle.icu_char16trie.proofs.CallerLemmas.{none_beyond}
 use Rattle.icu_char16trie.proofs.FrontLemmas.{front_more, none_along}
-
-units_append : (xs ys : List ℕ) → flat_map encode_utf16 (xs ++ ys) ≡ flat_map encode_utf16 xs ++ flat_map encode_utf16 ys
-units_append xs ys = flat_map-append encode_utf16 xs ys
-
--- If the characters yielded so far are the first ones, they still are with the next one.
-pub front_next : (cs ys : List ℕ) (c : ℕ) → ys ≡ take (length ys) cs → length ys < length cs → c ≡ get_or cs (length ys) c
-    → ys ++ c ∷ [] ≡ take (length ys + 1) cs
-front_next cs ys c so_far within is =
-    let next : suc (length ys) ≡ length ys + 1 = omega arith in
-    ap (λ (z : List ℕ). z ++ c ∷ []) so_far ∙ ap (λ (z : ℕ). take (length ys) cs ++ z ∷ []) is
-    ∙ sym (take-suc cs (length ys) c within) ∙ ap (λ (k : ℕ). take k cs) next
-
--- The units of one more character.
-pub units_next : (cs : List ℕ) (c : ℕ) → flat_map encode_utf16 (cs ++ c ∷ []) ≡ flat_map encode_utf16 cs ++ encode_utf16 c
-units_next cs c = units_append cs (c ∷ []) ∙ ap (λ z. flat_map encode_utf16 cs ++ z) (append-nil (encode_utf16 c))
 
 -- A character has a unit.
 some_unit : (c : ℕ) → (u : ℕ) × (more : List ℕ) × (encode_utf16 c ≡ u ∷ more)
@@ -52,7 +37,7 @@ units_more cs i k below within =
     let one = some_unit t.0 in (
       one.0,
       one.1 ++ flat_map encode_utf16 t.1,
-      ap (flat_map encode_utf16) t.2 ∙ units_append (take i cs) (t.0 ∷ t.1)
+      ap (flat_map encode_utf16) t.2 ∙ flat_map-append encode_utf16 (take i cs) (t.0 ∷ t.1)
           ∙ ap (λ z. front_units cs i ++ (z ++ flat_map encode_utf16 t.1)) one.2,
     )
 

@@ -1,23 +1,11 @@
 -- The units of the characters of a text.
-use Rattle.std.proofs.Common.{◌≡◌, ℕ, ◌+◌, ◌-◌, ◌/◌, ◌%◌, ◌<◌, ◌≤◌, Bool, true, false, cond, nat_lt, suc, List, [], ◌∷◌, ◌++◌, length, take, drop, get_or, sym, ap, refl, ◌∙◌, arith, append-nil, length-append}
-use Rattle.std.proofs.Math.Seq.{take-suc}
+use Rattle.std.proofs.Common.{◌≡◌, ℕ, ◌+◌, ◌-◌, ◌/◌, ◌%◌, ◌<◌, ◌≤◌, Bool, true, false, cond, nat_lt, List, [], ◌∷◌, ◌++◌, length, take, drop, sym, ap, refl, ◌∙◌, arith, length-append}
 use Rattle.std.proofs.lemmas.Bool.Decides.{nat_tests}
 use Rattle.std.proofs.lemmas.Grind.{flat_map-append}
 use Rattle.std.proofs.lemmas.List.{take-append-drop}
 use Rattle.std.specs.Char.Escape.{encode_utf16}
 use Rattle.std.specs.List.{flat_map}
-
--- If the characters yielded so far are the first ones, they still are with the next one.
-pub front_next : (cs ys : List ℕ) (c : ℕ) → ys ≡ take (length ys) cs → length ys < length cs → c ≡ get_or cs (length ys) c
-    → ys ++ c ∷ [] ≡ take (length ys + 1) cs
-front_next cs ys c so_far within is =
-    let next : suc (length ys) ≡ length ys + 1 = omega arith in
-    ap (λ (z : List ℕ). z ++ c ∷ []) so_far ∙ ap (λ (z : ℕ). take (length ys) cs ++ z ∷ []) is
-    ∙ sym (take-suc cs (length ys) c within) ∙ ap (λ (k : ℕ). take k cs) next
-
--- The units of one more character.
-pub units_next : (cs : List ℕ) (c : ℕ) → flat_map encode_utf16 (cs ++ c ∷ []) ≡ flat_map encode_utf16 cs ++ encode_utf16 c
-units_next cs c = flat_map-append encode_utf16 cs (c ∷ []) ∙ ap (λ z. flat_map encode_utf16 cs ++ z) (append-nil (encode_utf16 c))
+use Rattle.icu_char16trie.proofs.CallerLemmas.{units_next}
 
 one_or_two : (c n : ℕ) → (c < 0x1_0000 → n ≡ 1) → (0x1_0000 ≤ c → n ≡ 2) → length (encode_utf16 c) ≡ n
 one_or_two c n one two = by (nat_lt c 0x1_0000) refl

@@ -1,11 +1,8 @@
-use Rattle.std.proofs.Common.{◌≡◌, ◌++◌, sym, ap, ◌∙◌}
-use Rattle.std.proofs.lemmas.List.{map-id}
+use Rattle.std.proofs.Common.{◌++◌, sym, ap, ◌∙◌}
 use Rattle.std.proofs.lemmas.Iterator.{YieldsList-from_chars}
-use Rattle.std.proofs.lemmas.Iterator.Consumers.{YieldsList-end}
 use Rattle.std.specs.Char.Escape.{encode_utf16}
 use Rattle.std.specs.List.{flat_map}
-use Rattle.std.specs.Str.{chars}
-use Rattle.icu_char16trie_builder.proofs.TextLemmas.{units_next}
+use Rattle.icu_char16trie.proofs.CallerLemmas.{all_chars, units_next}
 use Rattle.icu_char16trie_builder.proofs.text.units_of_text.Goals as goal
 
 pub loop-c-preserved : goal.loop-c-preserved
@@ -14,7 +11,6 @@ loop-c-preserved c =
 
 pub returns : goal.returns
 returns c =
-    let over = YieldsList-end (YieldsList-from_chars c.args.text.now c.utf8.text cc) c.loop-c.yielded _ c.loop-c.yielded_by _ _ c.in-None.is
+    let all = all_chars (YieldsList-from_chars c.args.text.now c.utf8.text cc) c.loop-c.yielded _ c.loop-c.yielded_by _ _ c.in-None.is
     c.next.ensures.steps in
-    let all : c.loop-c.yielded ≡ chars c.args.text.now = sym (map-id c.loop-c.yielded) ∙ over.0 in
     c.loop-c.invariant ∙ ap (flat_map encode_utf16) all

@@ -3,9 +3,8 @@ use Rattle.std.specs.Prelude.{encode_utf8_all}
 use Rattle.std.specs.Char.Escape.{encode_utf16}
 use Rattle.std.specs.List.{flat_map}
 use Rattle.std.specs.Str.{chars}
-use Rattle.std.proofs.lemmas.List.{map-id}
 use Rattle.std.proofs.lemmas.Iterator.{YieldsList-from_chars}
-use Rattle.std.proofs.lemmas.Iterator.Consumers.{YieldsList-end, YieldsList-so_far, YieldsList-turn}
+use Rattle.std.proofs.lemmas.Iterator.Consumers.{YieldsList-end}
 use Rattle.icu_char16trie.specs.UnitMap.{UnitMap, goes_on, value_of}
 use Rattle.icu_char16trie.specs.UnitPlaces.{HasPassed, is_empty_at}
 use Rattle.icu_char16trie.specs.Steps.{StepsAlong}
@@ -13,7 +12,8 @@ use Rattle.icu_char16trie.specs.Matches.{HasCharsStepped, HasCharsValue, Longest
 use Rattle.icu_char16trie.specs.Inside.Fronts.{longer}
 use Rattle.icu_char16trie.specs.Grammar.{IsTrieOf}
 use Rattle.icu_char16trie.specs.declared.place.Place.TheVariants.{Node}
-use Rattle.icu_char16trie.proofs.CharFronts.{front_next, bytes_next, bytes_within, ends_at_boundary, longer_bytes, no_more_chars, no_more_steps, units_next}
+use Rattle.icu_char16trie.proofs.CharFronts.{bytes_next, bytes_within, ends_at_boundary, longer_bytes, no_more_chars, no_more_steps}
+use Rattle.icu_char16trie.proofs.CallerLemmas.{first_chars, units_next}
 use Rattle.icu_char16trie.proofs.FrontLemmas.{LongestWithin-zero, LongestWithin-suc, LongestWithin-more}
 use Rattle.icu_char16trie.proofs.PassedLemmas.{along_then}
 use Rattle.icu_char16trie.proofs.trie.Char16Trie.longest_match_str.Goals as goal
@@ -23,13 +23,8 @@ use Rattle.icu_char16trie.proofs.trie.Char16Trie.longest_match_str.Goals.{In-Som
 are_first : (c : In-Some) → (c.loop-c.yielded ≡ take (length c.loop-c.yielded) (chars c.args.text.now))
     × (length c.loop-c.yielded < length (chars c.args.text.now))
     × (c.loop-c.yielded ++ c.in-Some.c ∷ [] ≡ take (length c.loop-c.yielded + 1) (chars c.args.text.now))
-are_first c =
-    let cs : List ℕ = chars c.args.text.now in
-    let ys : List ℕ = c.loop-c.yielded in
-    let road = YieldsList-from_chars c.args.text.now c.utf8.text cc in
-    let so_far : ys ≡ take (length ys) cs = sym (map-id ys) ∙ YieldsList-so_far road ys _ c.loop-c.yielded_by in
-    let turn = YieldsList-turn road ys _ c.loop-c.yielded_by c.next.result c.next.new.self c.in-Some.c c.in-Some.is c.next.ensures.steps in
-    (so_far, turn.0, front_next cs ys c.in-Some.c so_far turn.0 turn.1)
+are_first c = first_chars (YieldsList-from_chars c.args.text.now c.utf8.text cc) c.loop-c.yielded _ c.loop-c.yielded_by c.next.result
+    c.next.new.self c.in-Some.c c.in-Some.is c.next.ensures.steps
 
 pub overflow_add-end : goal.overflow_add-end
 overflow_add-end c =
