@@ -1,7 +1,7 @@
 -- The number of entries of a node, given those of the nodes that it leads to.
 use Rattle.std.proofs.Common.{◌≡◌, ℕ, suc, ◌+◌, ◌-◌, ◌/◌, ◌%◌, ◌<◌, ◌≤◌, ◌≢◌, ◌↔◌, Bool, true, false, nat_eq, List, [], ◌∷◌, ◌++◌, Option, Some, None, length, get_or, set, slice_get, refl, sym, ap, ◌∙◌, arith, length-append, get_or-set_same, get_or-set_other}
 use Rattle.std.specs.Prelude.{min}
-use Rattle.std.proofs.lemmas.Option.{same_Some}
+use Rattle.std.proofs.lemmas.Option.{none-some, same_Some}
 use Rattle.std.proofs.lemmas.Bool.{eqb-false, eqb-true}
 use Rattle.icu_char16trie.specs.Numbers.{entry_child, short_end, lower_part, delta_end, node_end}
 use Rattle.icu_char16trie.specs.Grammar.{Arms, Part, Holds, final, plain, valued, Matches, run, branch, Children, none, more, IsTrieOf}
@@ -135,14 +135,11 @@ no_second units counts total p n r many g arms part = absurd (part_goes_on units
 pub no_first : (units counts : List ℕ) (total p n : ℕ) (r : Option ℕ) → slice_get units p ≡ None → CountsFrom units counts total p n r
 no_first units counts total p n r g arms part = absurd (part_begins units part g)
 
-no_option : {x : ℕ} → ◌≡◌ {A = Option ℕ} (Some x) None → ⊥
-no_option h = cc
-
 pub no_jump : (units counts : List ℕ) (total p n u v : ℕ) (r : Option ℕ) → 1 < n → n ≤ 5 → slice_get units p ≡ Some u
     → slice_get units (p + 1) ≡ Some v
     → entry_child units (p + 2) v ≡ None → CountsFrom units counts total p n r
 no_jump units counts total p n u v r many few g g' c arms part =
-    let e = entry_found units part many few u v g g' in absurd (no_option (sym e.at ∙ c))
+    let e = entry_found units part many few u v g g' in absurd (none-some _ (sym c ∙ e.at))
 
 pub next_counted : (units counts : List ℕ) (total p n u v child q total' : ℕ) (r : Option ℕ) → 1 < n → n ≤ 5 → slice_get units p ≡ Some u
     → slice_get units (p + 1) ≡ Some v
@@ -181,8 +178,5 @@ both_counted units counts p n s d low high x y many g g' c at l h arms part =
 
 -- ---- the whole trie
 
-some_none : (x : ℕ) → ◌≡◌ {A = Option ℕ} (Some x) None → ⊥
-some_none x h = cc
-
 pub empty_none : (units : List ℕ) (x : ℕ) → units ≡ [] → ◌≡◌ {A = Option ℕ} (Some x) None ↔ ((m : UnitMap) → IsTrieOf units m → ⊥)
-empty_none units x e = (λ h m is. some_none x h, λ never. absurd (never [] (grammar.empty e refl)))
+empty_none units x e = (λ h m is. none-some x (sym h), λ never. absurd (never [] (grammar.empty e refl)))

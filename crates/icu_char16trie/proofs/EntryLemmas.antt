@@ -5,7 +5,7 @@ use Rattle.std.proofs.lemmas.Option.{same_Some}
 use Rattle.icu_char16trie.specs.Grammar.{Part, Holds, Matches, Children, none, more}
 use Rattle.icu_char16trie.specs.UnitMap.{under}
 use Rattle.icu_char16trie.specs.Pending.{ArmsHold}
-use Rattle.icu_char16trie.proofs.NodeLemmas.{matches_branch}
+use Rattle.icu_char16trie.proofs.NodeLemmas.{matches_branch, no_cons}
 
 pub under_append : (front : List ℕ) (m n : List (List ℕ × ℤ)) → under front (m ++ n) ≡ under front m ++ under front n
 under_append front [] n = refl
@@ -15,9 +15,6 @@ pub under_under : (front more' : List ℕ) (m : List (List ℕ × ℤ)) → unde
 under_under front more' [] = refl
 under_under front more' (e ∷ m) = rw (sym (append_assoc front more' e.0))
     (ap (λ z. ((front ++ more') ++ e.0, e.1) ∷ z) (under_under front more' m))
-
-no_arm : {x : ℕ × ℕ} {l : List (ℕ × ℕ)} → ◌≡◌ {A = List (ℕ × ℕ)} [] (x ∷ l) → ⊥
-no_arm h = cc
 
 pub record TwoParts (units : List ℕ) (lower upper : List (ℕ × ℕ)) (m : List (List ℕ × ℤ)) : Type 0 where
   pub low : List (List ℕ × ℤ)
@@ -29,7 +26,7 @@ pub record TwoParts (units : List ℕ) (lower upper : List (ℕ × ℕ)) (m : Li
 pub children_split : (units : List ℕ) {arms : List (ℕ × ℕ)} {m : List (List ℕ × ℤ)} → Children units arms m → (lower upper : List (ℕ × ℕ))
     → arms ≡ lower ++ upper → TwoParts units lower upper m
 children_split units {m = m} c [] upper h = record { low = []; high = m; below = none [] [] refl refl; above = rw (sym h) c; is = refl }
-children_split units (none arms m a e) (x ∷ lower) upper h = absurd (no_arm (sym a ∙ h))
+children_split units (none arms m a e) (x ∷ lower) upper h = absurd (no_cons (sym a ∙ h))
 children_split units (more u q rest arms m others all a node c e) (x ∷ lower) upper h =
     let same : rest ≡ lower ++ upper = cc (a, h) in
     let head : x ≡ (u, q) = cc (a, h) in
@@ -51,7 +48,7 @@ pub record FirstAndOthers (units : List ℕ) (q u : ℕ) (rest : List (ℕ × �
 
 pub children_cons : (units : List ℕ) {arms : List (ℕ × ℕ)} {m : List (List ℕ × ℤ)} → Children units arms m → (u q : ℕ) (rest : List (ℕ × ℕ))
     → arms ≡ (u, q) ∷ rest → FirstAndOthers units q u rest m
-children_cons units (none arms m a e) u q rest h = absurd (no_arm (sym a ∙ h))
+children_cons units (none arms m a e) u q rest h = absurd (no_cons (sym a ∙ h))
 children_cons units (more u' q' rest' arms m others all a node c e) u q rest h =
     let same : rest' ≡ rest = cc (a, h) in
     let both : ◌≡◌ {A = ℕ × ℕ} (u', q') (u, q) = cc (a, h) in
@@ -61,7 +58,7 @@ children_cons units (more u' q' rest' arms m others all a node c e) u q rest h =
 
 pub children_nil : (units : List ℕ) {arms : List (ℕ × ℕ)} {m : List (List ℕ × ℤ)} → Children units arms m → arms ≡ [] → m ≡ []
 children_nil units (none arms m a e) h = e
-children_nil units (more u q rest arms m others all a node c e) h = absurd (no_arm (sym h ∙ a))
+children_nil units (more u q rest arms m others all a node c e) h = absurd (no_cons (sym h ∙ a))
 
 -- The part with all entries of a branch.
 pub branch_plain : (units : List ℕ) {p low : ℕ} {m : List (List ℕ × ℤ)} → Matches units p low m → low < 0x30 → 0 < low

@@ -2,7 +2,7 @@
 use Rattle.std.proofs.Common.{◌≡◌, ℕ, ℤ, true, false, cond, ◌||◌, ◌&&◌, nat_eq, List, [], ◌∷◌, ◌++◌, Some, refl, ap, ◌∙◌, arith}
 use Rattle.icu_char16trie.specs.UnitMap.{under, after, after_all, value_of, same_key, goes_on, key_goes_on}
 
-same_eqb : (u : ℕ) → nat_eq u u ≡ true
+pub same_eqb : (u : ℕ) → nat_eq u u ≡ true
 same_eqb u = grind arith
 
 -- If u is put before all keys, the entries whose keys start with u are all of them.

@@ -1,7 +1,7 @@
 -- The units that can come next are the first units of the keys.
 use Rattle.std.proofs.Common.{◌≡◌, ℕ, ℤ, ◌+◌, ◌-◌, ◌/◌, ◌<◌, ◌≤◌, true, false, nat_eq, List, [], ◌∷◌, ◌++◌, Option, Some, None, refl, sym, ap, subst, ◌∙◌, arith, slice_get, drop, take, append_assoc, append-nil, get_or}
 use Rattle.std.proofs.lemmas.Bool.{ne_eqb, eq-eqb}
-use Rattle.std.proofs.lemmas.Option.{same_Some, slice_get-get_or}
+use Rattle.std.proofs.lemmas.Option.{none-some, same_Some, slice_get-get_or}
 use Rattle.icu_char16trie.specs.Grammar.{Part, last, entry, split, Matches, Children, none, more, UnitsFrom, IsAscending}
 use Rattle.icu_char16trie.specs.UnitMap.{UnitMap, under}
 use Rattle.icu_char16trie.specs.UnitPlaces.{InRun, Stands}
@@ -35,9 +35,6 @@ row_says units (says.more p n u v rest us many g g' r e) part le =
     let f = entry_found units part many le u v g g' in
     e ∙ ap (λ z. u ∷ z) (row_says units r f.others (omega (arith, le))) ∙ sym (ap arm_units f.is)
 
-no_none : {x : ℕ} → ◌≡◌ {A = Option ℕ} (Some x) None → ⊥
-no_none h = cc
-
 record IsBig (units : List ℕ) (p n d : ℕ) (arms : List (ℕ × ℕ)) : Type 0 where
   low : ℕ
   lower : List (ℕ × ℕ)
@@ -61,7 +58,7 @@ part_says : (units : List ℕ) {p n : ℕ} {us : List ℕ} → PartUnits units p
 part_says units (says.row p n us few r) part = row_says units r part few
 part_says units (says.no_split p n us many g e) part = absurd (part_goes_on units part (omega (arith, many)) g)
 part_says units (says.no_lower p n d us many g none' r) part =
-    let b = big_part units part many d g in absurd (no_none (sym b.at ∙ none'))
+    let b = big_part units part many d g in absurd (none-some _ (sym none' ∙ b.at))
 part_says units (says.both p n d low lower upper us many g c l r e) part =
     let b = big_part units part many d g in
     let here : b.low ≡ low = same_Some b.low low (sym b.at ∙ c) in

@@ -179,7 +179,7 @@ matches_no_root units (branch p low n arms m lt len many part up c) = children_n
 abbrev pub HasEntry : List (List ℕ × ℤ) → Type 0
 HasEntry m = (e : List ℕ × ℤ) × (rest : List (List ℕ × ℤ)) × (m ≡ e ∷ rest)
 
-no_cons : {a : ℕ × ℕ} {rest : List (ℕ × ℕ)} → ◌≡◌ {A = List (ℕ × ℕ)} [] (a ∷ rest) → ⊥
+pub no_cons : {a : ℕ × ℕ} {rest : List (ℕ × ℕ)} → ◌≡◌ {A = List (ℕ × ℕ)} [] (a ∷ rest) → ⊥
 no_cons h = cc
 
 abbrev HasArm : List (ℕ × ℕ) → Type 0

@@ -2,6 +2,7 @@
 use Rattle.std.proofs.Common.{◌≡◌, ℕ, ◌+◌, ◌-◌, ◌/◌, ◌%◌, ◌^◌, ◌<◌, ◌≤◌, nat_lt, List, [], ◌∷◌, ◌++◌, Option, Some, None, Bool, true, false, cond, nat_eq, slice_get, refl, sym, ap, ◌∙◌, arith}
 use Rattle.std.specs.Bool.{then_some}
 use Rattle.std.proofs.lemmas.Bool.{ne_eqb, eq-eqb, lt-ltb}
+use Rattle.std.proofs.lemmas.Option.{none-some}
 use Rattle.icu_char16trie.specs.Grammar.{Part, last, entry, split, UnitsBelow, UnitsFrom}
 use Rattle.icu_char16trie.specs.Numbers.{entry_child, short_end, lower_part, delta_end, number_by, end_by}
 use Rattle.icu_char16trie.specs.UnitMap.{arm_of}
@@ -108,20 +109,17 @@ split_found units (split p n s' d' low lower upper arms more g g' c l r b f a) _
       in_upper = λ w le. ap (λ z. arm_of z w) a ∙ arm_below lower upper s' w b (rw ss le);
     }
 
-no_none : {x : ℕ} → ◌≡◌ {A = Option ℕ} (Some x) None → ⊥
-no_none h = cc
-
 -- The first unit of a part is present.
 pub part_begins : (units : List ℕ) {p n : ℕ} {arms : List (ℕ × ℕ)} → Part units p n arms → slice_get units p ≡ None → ⊥
-part_begins units (last p n u arms e g a) h = no_none (sym g ∙ h)
-part_begins units (entry p n u v child rest arms more few g g' c r a) h = no_none (sym g ∙ h)
-part_begins units (split p n s d low lower upper arms more g g' c l r b f a) h = no_none (sym g ∙ h)
+part_begins units (last p n u arms e g a) h = none-some _ (sym h ∙ g)
+part_begins units (entry p n u v child rest arms more few g g' c r a) h = none-some _ (sym h ∙ g)
+part_begins units (split p n s d low lower upper arms more g g' c l r b f a) h = none-some _ (sym h ∙ g)
 
 -- If a part has more than one entry, its second unit is present.
 pub part_goes_on : (units : List ℕ) {p n : ℕ} {arms : List (ℕ × ℕ)} → Part units p n arms → 1 < n → slice_get units (p + 1) ≡ None → ⊥
 part_goes_on units (last p n u arms e g a) many h = omega arith
-part_goes_on units (entry p n u v child rest arms more few g g' c r a) many h = no_none (sym g' ∙ h)
-part_goes_on units (split p n s d low lower upper arms more g g' c l r b f a) many h = no_none (sym g' ∙ h)
+part_goes_on units (entry p n u v child rest arms more few g g' c r a) many h = none-some _ (sym h ∙ g')
+part_goes_on units (split p n s d low lower upper arms more g g' c l r b f a) many h = none-some _ (sym h ∙ g')
 
 row_cut_by : (units : List ℕ) (u p n : ℕ) (first : Option ℕ) → slice_get units p ≡ first → 1 < n
     → slice_get units (p + 1) ≡ None → InRow units u p n None
@@ -163,7 +161,7 @@ part_finds units (row p n r few in_row) part = row_finds units in_row part few
 part_finds units (no_split p n r more g is) part = absurd (part_begins units part g)
 part_finds units (no_delta p n s r more g g' is) part = absurd (part_goes_on units part (omega (arith, more)) g')
 part_finds units (cut_delta p n s d r more g lt g' no_lower is) part =
-    let e = split_found units part more s d g g' in absurd (no_none (sym e.at ∙ no_lower))
+    let e = split_found units part more s d g g' in absurd (none-some _ (sym no_lower ∙ e.at))
 part_finds units {u} (below_split p n s d q r more g lt g' to rest) part =
     let e = split_found units part more s d g g' in
     let same : e.low ≡ q = cc (e.at, to) in

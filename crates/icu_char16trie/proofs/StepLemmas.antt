@@ -3,13 +3,11 @@ use Rattle.std.proofs.Common.{◌≡◌, ℕ, ◌+◌, ◌-◌, ◌/◌, ◌%◌
 use Rattle.std.specs.Bool.{then_some}
 use Rattle.std.proofs.lemmas.Bool.{ne_eqb, lt-ltb, le-ltb}
 use Rattle.std.proofs.lemmas.Option.{same_Some}
+use Rattle.icu_char16trie.proofs.MapLemmas.{same_eqb}
 use Rattle.icu_char16trie.specs.Numbers.{short_end, delta_end, entry_child, lower_part}
 use Rattle.icu_char16trie.specs.Steps.{InRow, gone, last, cut, here, on, InPart, row, no_split, no_delta, cut_delta, lower, upper, InMatch, in_run, in_short, in_long, no_length, InNode, no_lead, at_final, at_plain, at_valued, StepsTo, child_place}
 use Rattle.icu_char16trie.specs.declared.place.Place.{Place}
 use Rattle.icu_char16trie.specs.declared.place.Place.TheVariants.{Nowhere, Node, Run}
-
-same_eqb : (u : ℕ) → nat_eq u u ≡ true
-same_eqb u = grind arith
 
 -- A choice between two facts by a test.
 abbrev Either : Bool → Type 0 → Type 0 → Type 0

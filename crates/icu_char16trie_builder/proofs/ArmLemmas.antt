@@ -13,10 +13,6 @@ pub arm_units_append : (a b : List Arm) → arm_units (a ++ b) ≡ arm_units a +
 arm_units_append [] b = refl
 arm_units_append (x ∷ a) b = ap (λ z. x.unit ∷ z) (arm_units_append a b)
 
-pub arm_units_length : (a : List Arm) → length (arm_units a) ≡ length a
-arm_units_length [] = refl
-arm_units_length (x ∷ a) = omega (arith, arm_units_length a)
-
 pub arm_map_append : (d : ℕ) (a b : List Arm) → arm_map d (a ++ b) ≡ arm_map d a ++ arm_map d b
 arm_map_append d [] b = refl
 arm_map_append d (x ∷ a) b =

@@ -6,19 +6,17 @@ use Rattle.std.specs.Cmp.Lexicographic.{slice_cmp}
 use Rattle.std.specs.declared.cmp.Ordering.{Ordering}
 use Rattle.std.specs.declared.cmp.Ordering.TheVariants.{Less, Equal, Greater}
 use Rattle.std.specs.Ordering.{nat_cmp, match_ordering}
-use Rattle.icu_char16trie.specs.UnitMap.{UnitMap, value_of, same_key, KeyBelow, IsAscendingKeys}
+use Rattle.icu_char16trie.specs.UnitMap.{UnitMap, value_of, same_key, KeyBelow}
 use Rattle.icu_char16trie.specs.LossyText.{key_text}
 use Rattle.icu_char16trie.specs.Entries.{AreEntries, AreCutShort}
 use Rattle.icu_char16trie_builder.specs.Entries.{with_entry, most_units}
-use Rattle.icu_char16trie_builder.proofs.EntryLemmas.{IsCompared, compared, ascends_with}
+use Rattle.icu_char16trie_builder.proofs.EntryLemmas.{IsCompared, compared}
 use Rattle.icu_char16trie.proofs.CallerLemmas.{below_itself, same_key_eq, same_key_self}
--- Keys that continue after some units.
+-- The keys still ascend, and which of them continue after some units.
+pub use Rattle.icu_char16trie_builder.proofs.EntryLemmas.{IsAscendingKeys-with_entry}
 pub use Rattle.icu_char16trie_builder.proofs.LongerKeys.{goes_on-with_entry}
 
 -- ---- the entries with one more
-
-pub IsAscendingKeys-with_entry : (key : List ℕ) (v : ℤ) (m : UnitMap) → IsAscendingKeys m → IsAscendingKeys (with_entry key v m)
-IsAscendingKeys-with_entry key v m up = ascends_with key v m up
 
 not_below : (a b : List ℕ) → a ≡ b → KeyBelow b a → ⊥
 not_below a b e h = below_itself b (subst (λ z. KeyBelow b z) e h)

@@ -1,5 +1,5 @@
 -- How the entries below a node are divided among its arms.
-use Rattle.std.proofs.Common.{◌≡◌, ℕ, ℤ, zero, suc, ◌+◌, ◌*◌, ◌<◌, ◌≤◌, List, [], ◌∷◌, ◌++◌, Some, None, Option, Bool, true, false, not, nat_eq, refl, sym, ap, subst, ◌∙◌, arith, length, take, drop, slice_get, drop-cons, add-one, append_assoc, inl, inr}
+use Rattle.std.proofs.Common.{◌≡◌, ℕ, ℤ, zero, suc, ◌+◌, ◌*◌, ◌<◌, ◌≤◌, List, [], ◌∷◌, ◌++◌, Some, None, Option, Bool, true, false, not, nat_eq, refl, sym, ap, subst, ◌∙◌, arith, length, take, drop, slice_get, drop-cons, add-one, inl, inr}
 use Rattle.std.proofs.lemmas.Bool.{cases_lt}
 use Rattle.std.proofs.Common.{eqb-true}
 use Rattle.std.specs.Option.{option_eq}
@@ -50,11 +50,6 @@ pub ascends_strip : (front : List ℕ) (m : UnitMap) → IsAscendingKeys (under 
 ascends_strip front [] h = tt
 ascends_strip front (e ∷ m) h = (below_strip front e.0 m h.0, ascends_strip front m h.1)
 
-pub under_append : (a b : List ℕ) (m : UnitMap) → under (a ++ b) m ≡ under a (under b m)
-under_append a b [] = refl
-under_append a b (e ∷ m) = ap (λ z. ((a ++ b) ++ e.0, e.1) ∷ z) (under_append a b m)
-    ∙ ap (λ z. (z, e.1) ∷ under a (under b m)) (append_assoc a b e.0)
-
 -- ---- keys with more than d units
 
 drop_all : (d : ℕ) (key : List ℕ) → length key ≤ d → drop d key ≡ []
@@ -104,22 +99,8 @@ cut_shared d k first (e ∷ es) h a =
     ap (λ z. (drop d e.key.now, e.value) ∷ z) (cut_shared d k first es h a.1)
     ∙ ap (λ z. (z, e.value) ∷ under (take k first) (cut (d + k) es)) (shared_one d k first e.key.now h a.0)
 
-pub share_append : (d k : ℕ) (first : List ℕ) (a b : List Entry) → AllShare d k first a → AllShare d k first b → AllShare d k first (a ++ b)
-share_append d k first [] b h i = i
-share_append d k first (e ∷ a) b h i = (h.0, share_append d k first a b h.1 i)
-
 take_less : (j k : ℕ) (a b : List ℕ) → j ≤ k → take k a ≡ take k b → take j a ≡ take j b
 take_less j k a b h e = sym (take-take j k a h) ∙ ap (take j) e ∙ take-take j k b h
-
--- They also share fewer units.
-pub share_less : (d j k : ℕ) (first : List ℕ) (es : List Entry) → j ≤ k → AllShare d k first es → AllShare d j first es
-share_less d j k first [] h a = tt
-share_less d j k first (e ∷ es) h a = (take_less j k (drop d e.key.now) first h a.0, share_less d j k first es h a.1)
-
--- Below shared units the bound is not larger.
-pub room_less : (d k : ℕ) (es : List Entry) → room (d + k) es ≤ room d es
-room_less d k [] = omega arith
-room_less d k (e ∷ es) = omega (arith, room_less d k es)
 
 -- ---- groups
 
@@ -137,10 +118,6 @@ cut_group d u (e ∷ es) h =
 pub room_group : (d u : ℕ) (es : List Entry) → IsGroup d u es → room d es ≡ room (d + 1) es + 2 * length es
 room_group d u [] h = omega arith
 room_group d u (e ∷ es) h = omega (arith, room_group d u es h.1, slice_get_within e.key.now d u h.0)
-
-pub group_append : (d u : ℕ) (a b : List Entry) → IsGroup d u a → IsGroup d u b → IsGroup d u (a ++ b)
-group_append d u [] b h i = i
-group_append d u (e ∷ a) b h i = (h.0, group_append d u a b h.1 i)
 
 -- ---- the first units of keys
 

@@ -1,5 +1,5 @@
 -- An added entry is in unit order among the others.
-use Rattle.std.proofs.Common.{Vec, ◌&&◌, ◌≡◌, ℕ, ℤ, zero, suc, take, drop, get_or, add-one, ◌+◌, ◌*◌, ◌<◌, ◌≤◌, Bool, true, false, cond, nat_lt, nat_eq, List, [], ◌∷◌, ◌++◌, Option, Some, Result, Ok, Err, refl, sym, ap, subst, ◌∙◌, arith, length, inl, inr, ltb-true, eqb-true, eq-eqb, ⊎_elim}
+use Rattle.std.proofs.Common.{Vec, ◌≡◌, ℕ, ℤ, zero, suc, take, drop, get_or, add-one, ◌+◌, ◌*◌, ◌<◌, ◌≤◌, Bool, true, false, cond, nat_lt, nat_eq, List, [], ◌∷◌, ◌++◌, Option, Some, Result, Ok, Err, refl, sym, ap, subst, ◌∙◌, arith, length, inl, inr, ltb-true, eqb-true, eq-eqb, ⊎_elim}
 use Rattle.std.proofs.lemmas.Bool.{ne_eqb, cases_lt, ltb-false}
 use Rattle.std.specs.Option.{is_some}
 use Rattle.std.specs.Prelude.{OnOk, OnErr, IsTrue}
@@ -11,7 +11,6 @@ use Rattle.std.specs.Global.{Global}
 use Rattle.std.specs.Map.{lookup}
 use Rattle.std.specs.BTreeMap.{insert_entry, is_at}
 use Rattle.icu_char16trie.specs.UnitMap.{UnitMap, value_of, same_key, KeyBelow, KeyBelowAll, IsAscendingKeys}
-use Rattle.icu_char16trie.proofs.CallerLemmas.{below_itself, same_key_eq, same_key_self}
 use Rattle.icu_char16trie_builder.specs.Inside.Cuts.{cut, room}
 use Rattle.icu_char16trie_builder.specs.declared.entry.Entry.{Entry}
 use Rattle.icu_char16trie_builder.proofs.CutLemmas.{room_append}
@@ -99,11 +98,11 @@ ascends_with_by key v e m rest Less h up r f = ((h.less refl, below_trans key e.
 ascends_with_by key v e m rest Equal h up r f = (subst (λ z. KeyBelowAll z m) (sym (h.equal refl)) up.0, up.1)
 ascends_with_by key v e m rest Greater h up r f = (f (h.greater refl), r)
 
-pub ascends_with : (key : List ℕ) (v : ℤ) (m : UnitMap) → IsAscendingKeys m → IsAscendingKeys (with_entry key v m)
+pub IsAscendingKeys-with_entry : (key : List ℕ) (v : ℤ) (m : UnitMap) → IsAscendingKeys m → IsAscendingKeys (with_entry key v m)
 unfolding with_entry
-ascends_with key v [] h = (tt, tt)
-ascends_with key v (e ∷ m) h =
-    ascends_with_by key v e m (with_entry key v m) (slice_cmp nat_cmp key e.0) (compared key e.0) h (ascends_with key v m h.1)
+IsAscendingKeys-with_entry key v [] h = (tt, tt)
+IsAscendingKeys-with_entry key v (e ∷ m) h =
+    ascends_with_by key v e m (with_entry key v m) (slice_cmp nat_cmp key e.0) (compared key e.0) h (IsAscendingKeys-with_entry key v m h.1)
     (λ k. below_with e.0 key v m k h.0)
 
 -- ---- as a map stores them
@@ -187,7 +186,7 @@ first_room (e ∷ es) other h = omega arith
 -- An entry was added or rejected.
 pub ascends_added : {A E : Type 0} (r : Result A E) (key : List ℕ) (v : ℤ) (new old : UnitMap) → OnOk r (new ≡ with_entry key v old)
     → OnErr r (new ≡ old) → IsAscendingKeys old → IsAscendingKeys new
-ascends_added (Ok x) key v new old h k up = subst (λ z. IsAscendingKeys z) (sym h) (ascends_with key v old up)
+ascends_added (Ok x) key v new old h k up = subst (λ z. IsAscendingKeys z) (sym h) (IsAscendingKeys-with_entry key v old up)
 ascends_added (Err e) key v new old h k up = subst (λ z. IsAscendingKeys z) (sym k) up
 
 pub too_much : (n most : ℕ) → most < n → (IsTrue false → n ≤ most) × (n ≤ most → IsTrue false)

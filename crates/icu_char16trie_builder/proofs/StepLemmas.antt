@@ -6,7 +6,7 @@ use Rattle.std.proofs.lemmas.Option.{none-some, same_Some}
 use Rattle.icu_char16trie.specs.Grammar.{Holds}
 use Rattle.icu_char16trie.specs.UnitMap.{UnitMap, under}
 use Rattle.icu_char16trie_builder.specs.Inside.Written.{PartAt, Below, From, Ascends, Grew, own_entry}
-use Rattle.icu_char16trie_builder.specs.Inside.Steps.{Piece, nothing, node, part, Stands, IsSaved, AreSaved, AreKnown, State, TakesLast, TakesJump, TakesValue, TakesSplit, TakesRun, TakesBranch, Takes, Gives, Leads, IsReady, cost, step_cost}
+use Rattle.icu_char16trie_builder.specs.Inside.Steps.{Piece, nothing, node, part, Stands, IsSaved, AreSaved, AreKnown, State, TakesLast, TakesJump, TakesValue, TakesSplit, TakesRun, TakesBranch, Takes, Gives, Leads, cost, step_cost}
 use Rattle.std.specs.Borrow.{Bor}
 use Rattle.icu_char16trie_builder.specs.Inside.Cuts.{cut, IsBelow}
 use Rattle.icu_char16trie_builder.specs.declared.entry.Entry.{Entry}
@@ -108,10 +108,6 @@ module _ (units new places : List ℕ) where
       subst (λ z. PartAt units (z - p) (a.n / 2) a.us1 a.m1) (sym same) saved.0.stands in
       subst (λ z. Makes units new places z) (sym a.is) (f a.n a.us1 a.us2 a.m1 a.m2 a.many at front a.below a.from, saved.1)
 
-pub no_split : (units : List ℕ) (known : List KnownNode) (u : ℕ) (others : List Step) (goal : UnitMap)
-    → Leads units [] known (steps.Split u ∷ others) goal → ⊥
-no_split units known u others goal h = subst (λ z. AreSaved units [] z.saved) h.3.1.was h.2
-
 saved_here : (units : List ℕ) (len : ℕ) (x : Piece) → len ≡ length units → Stands units 0 x → IsSaved units len x
 saved_here units len x same h =
     let here : length units - len ≡ 0 = omega arith in
@@ -141,12 +137,6 @@ keep_led units places known known' len d es others goal same more h =
       h.3.2,
       subst (λ z. AreKnown units z) (sym more) (known_more units known (record { entries = es; depth = d; place = len }) h.4 is),
     )
-
--- The entries of a node were opened into steps that make it.
-pub opened : (units places : List ℕ) (known : List KnownNode) (x : Step) (others new : List Step) (goal : UnitMap)
-    → ((s t : State) → Takes x s t → Gives others t goal → Gives new s goal)
-    → Leads units places known (x ∷ others) goal → Leads units places known new goal
-opened units places known x others new goal f h = (h.0, h.1, h.2, f h.0 h.3.0 h.3.1 h.3.2, h.4)
 
 -- ---- stacks, whose last item is the next one
 
@@ -184,16 +174,3 @@ known_at units (x ∷ known) zero k m h g e =
     subst (λ z. IsSaved units k.place (node z)) e
     (subst (λ z. IsSaved units z.place (node (cut z.depth z.entries.now))) (same_Some _ _ g) h.0)
 known_at units (x ∷ known) (suc i) k m h g e = known_at units known i k m h.1 g e
-
-pub ready : (units places : List ℕ) (known : List KnownNode) (x : Step) (others : List Step) (goal : UnitMap)
-    → Leads units places known (x ∷ others) goal → IsReady x
-ready units places known (steps.Node entries d) others goal h = h.3.1.0
-ready units places known steps.Save others goal h = tt
-ready units places known (steps.Place entries d) others goal h = h.3.1.0
-ready units places known (steps.Keep entries d) others goal h = tt
-ready units places known (steps.Last u) others goal h = tt
-ready units places known (steps.Jump u) others goal h = tt
-ready units places known (steps.Value u v) others goal h = tt
-ready units places known (steps.Split u) others goal h = tt
-ready units places known (steps.Run front value) others goal h = (h.3.1.some, h.3.1.few)
-ready units places known (steps.Branch count value) others goal h = (h.3.1.some, h.3.1.few)

@@ -1,11 +1,8 @@
-use Rattle.std.proofs.Common.{◌≡◌, ℤ, Option, Some, None}
+use Rattle.std.proofs.lemmas.Option.{none-some}
 use Rattle.icu_char16trie.proofs.unique.unique_value_at.Goals as goal
 
-none_some : (v : ℤ) → ◌≡◌ {A = Option ℤ} None (Some v) → ⊥
-none_some v e = cc
-
 pub returns-in_default : goal.returns-in_default
-returns-in_default c = λ v. (λ e. absurd (none_some v e), λ h. absurd (c.in_default.ensures v h))
+returns-in_default c = λ v. (λ e. absurd (none-some v e), λ h. absurd (c.in_default.ensures v h))
 
 pub returns : goal.returns
 returns c = λ v. (

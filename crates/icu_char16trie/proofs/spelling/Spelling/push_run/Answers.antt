@@ -1,7 +1,7 @@
 use Rattle.icu_zerovec.specs.Slice.{slice_values}
-use Rattle.std.proofs.Common.{◌≡◌, ℕ, ◌+◌, ◌<◌, ◌++◌, ◌∷◌, [], List, Option, Some, None, slice_get, take, drop, length, get_or, ap, sym, subst, ◌∙◌, arith, length-drop}
+use Rattle.std.proofs.Common.{◌≡◌, ℕ, ◌+◌, ◌<◌, ◌++◌, ◌∷◌, [], List, Some, slice_get, take, drop, length, get_or, ap, sym, subst, ◌∙◌, arith, length-drop}
 use Rattle.std.proofs.lemmas.List.{take_more, get_or-drop}
-use Rattle.std.proofs.lemmas.Option.{slice_get_within, get_or_from_slice_get, slice_get-get_or}
+use Rattle.std.proofs.lemmas.Option.{none-some, slice_get_within, get_or_from_slice_get, slice_get-get_or}
 use Rattle.icu_char16trie.specs.Inside.Opening.{SpellsOn}
 use Rattle.icu_char16trie.proofs.SpellingLemmas.{on_nothing, on_then}
 use Rattle.icu_char16trie.proofs.spelling.Spelling.push_run.Goals as goal
@@ -13,9 +13,6 @@ one_more units p i x g =
     let here : p + i < length units = slice_get_within units (p + i) x g in
     let is : get_or (drop p units) i 0 ≡ x = get_or-drop p units i 0 ∙ get_or_from_slice_get units (p + i) x 0 g in
     sym (take_more (drop p units) i 0 (omega (arith, length-drop p units)) ∙ ap (λ z. take i (drop p units) ++ z ∷ []) is)
-
-some_none : {x : ℕ} → ◌≡◌ {A = Option ℕ} (Some x) None → ⊥
-some_none h = cc
 
 pub loop-i-init : goal.loop-i-init
 loop-i-init c = on_nothing c.args.self.now
@@ -29,6 +26,6 @@ loop-i-preserved c =
           rw w.self-is (subst (λ z. SpellsOn c.args.self.now z w.push.new.self)
           (one_more (slice_values c.args.units) c.args.place c.loop-i.i w.in-Some.unit (sym c.get.ensures ∙ w.in-Some.is)) pushed)
       | in_default w ↦
-          absurd (some_none (sym (slice_get-get_or (slice_values c.args.units) (c.args.place + c.loop-i.i) 0 bound)
-          ∙ (sym c.get.ensures ∙ w.in_default.is)))
+          absurd (none-some _ (sym w.in_default.is
+          ∙ (c.get.ensures ∙ slice_get-get_or (slice_values c.args.units) (c.args.place + c.loop-i.i) 0 bound)))
     ]
