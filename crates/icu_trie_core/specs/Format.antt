@@ -6,16 +6,16 @@ use Rattle.icu_trie_core.specs.declared.header.TrieType.TheVariants.{Fast, Small
 use Rattle.icu_trie_core.specs.declared.header.CodePointTrieHeader.{CodePointTrieHeader}
 use Rattle.icu_trie_core.specs.Contents.{Contents}
 
--- The fast limit: the first code point that has no cell in the fast index.
+-- The fast limit: the first code point that has no cell in the fast index. Every other number that
+-- depends on the type of a trie is computed from it.
 abbrev pub fast_limit : TrieType → ℕ
 fast_limit Fast = 0x10000
 fast_limit Small = 0x1000
 
--- The index position at which the index-1 cell of code point 0 would be. A fast trie omits the
--- first four index-1 cells, those below 0x10000.
+-- The index position at which the index-1 cell of code point 0 would be (1,020 or 64): index-1
+-- follows the fast index and omits each cell whose 0x4000 code points are below the fast limit.
 abbrev pub index1_start : TrieType → ℕ
-index1_start Fast = 1020
-index1_start Small = 64
+index1_start trie_type = fast_limit trie_type / 64 - fast_limit trie_type / 0x4000
 
 -- Data offset number q of a group of eight, as 18 bits. The cell `high` has bits 16 and 17 of all
 -- eight offsets, two bits each with the first offset's at the top. The cell `low` has the low 16
