@@ -4,45 +4,45 @@ use Rattle.std.proofs.lemmas.Bool.{cases_lt, false≢true}
 use Rattle.std.specs.declared.ops.RangeInclusive.{RangeInclusive}
 use Rattle.std.specs.Range.{range_inclusive_start, range_inclusive_end, range_inclusive_exhausted}
 use Rattle.std.specs.Prelude.{false}
-use Rattle.icu_trie_core.specs.Contents.{contents_of}
+use Rattle.icu_trie_core.specs.Contents.{Contents, contents_of}
 use Rattle.icu_trie_core.specs.declared.header.CodePointTrieHeader.{CodePointTrieHeader}
 use Rattle.icu_trie_core.specs.declared.range.CodePointMapRange.{CodePointMapRange}
 use Rattle.icu_trie_core.specs.Format.{answer, high_value}
 use Rattle.icu_trie_core.specs.Coherence.{IsCoherent}
 use Rattle.icu_trie_core.specs.Runs.{LongestRun}
 use Rattle.icu_trie_core.specs.Seen.{seen}
-use Rattle.icu_trie_core.specs.Inside.Walk.{EndsAt, BreaksOff}
+use Rattle.icu_trie_core.specs.Inside.Walk.{blocks_end, EndsAt, BreaksOff}
 use Rattle.icu_trie_core.specs.Range.{GivesWalk, last_of}
 use Rattle.icu_trie_core.proofs.AnswerLemmas.{none_or_some}
 use Rattle.icu_trie_core.proofs.SeenLemmas.{seen-from_high, seen-below, seen-high}
 
-module _ {A : Type 0} (of_number : ℕ → Option A) (h : CodePointTrieHeader) (index : List ℕ)
-    (values : List A) {start limit end : ℕ} {value : A} (from : h.high_start ≤ limit)
-    (ends : EndsAt (seen of_number h (contents_of index values)) start limit value end) (whole : limit ≤ end) where
-  -- A walk reached the high start, and there is no high value.
-  pub BreaksOff-at_high : limit < 0x110000 → high_value values ≡ None
-      → BreaksOff (seen of_number h (contents_of index values)) start 0x110000 value
-  BreaksOff-at_high lt none =
+-- A walk reached the end of the blocks, before 0x110000.
+module _ {A : Type 0} (of_number : ℕ → Option A) (h : CodePointTrieHeader) (cells : Contents A) {start limit end : ℕ} {value : A}
+    (is : limit ≡ blocks_end h) (ends : EndsAt (seen of_number h cells) start (blocks_end h) value end) (whole : limit ≤ end)
+    (lt : limit < 0x110000) where
+  -- There is no high value.
+  pub BreaksOff-at_high : high_value cells.values ≡ None → BreaksOff (seen of_number h cells) start 0x110000 value
+  BreaksOff-at_high none =
       let b = ends.begun in let w = ends.within in
       record {
         place = limit;
         begun = omega (arith, b, w);
         within = lt;
         equal = λ u a d. ends.equal u a (omega (arith, whole, d));
-        missing = seen-from_high of_number h index values limit from ∙ none;
+        missing = seen-from_high of_number h cells limit (omega arith) ∙ none;
       }
 
   -- The walk continues over the high value.
-  pub EndsAt-over_high : limit ≤ 0x110000 → IsSomeAnd (high_value values) (λ y. y ≡ value)
-      → EndsAt (seen of_number h (contents_of index values)) start 0x110000 value 0x110000
-  EndsAt-over_high le same =
+  pub EndsAt-over_high : IsSomeAnd (high_value cells.values) (λ y. y ≡ value)
+      → EndsAt (seen of_number h cells) start 0x110000 value 0x110000
+  EndsAt-over_high same =
       let b = ends.begun in let w = ends.within in
       record {
-        begun = omega (arith, b, w, le);
+        begun = omega (arith, b, w);
         within = omega arith;
         equal = λ u a d. elim (cases_lt u limit) [
           | inl p ↦ ends.equal u a (omega (arith, p, whole))
-          | inr p ↦ seen-from_high of_number h index values u (omega (arith, from, p)) ∙ some_is (high_value values) same
+          | inr p ↦ seen-from_high of_number h cells u (omega (arith, p)) ∙ some_is (high_value cells.values) same
         ];
         differs = λ no. absurd (omega (arith, no));
       }
@@ -52,15 +52,14 @@ module _ {A : Type 0} (of_number : ℕ → Option A) (h : CodePointTrieHeader) (
       some_is (Some x) e = ap (λ y. Some y) e
 
   -- The walk ends at the high start.
-  pub EndsAt-at_high : limit ≤ 0x110000 → IsSomeAnd (high_value values) (λ y. y ≢ value)
-      → EndsAt (seen of_number h (contents_of index values)) start 0x110000 value limit
-  EndsAt-at_high le other =
+  pub EndsAt-at_high : IsSomeAnd (high_value cells.values) (λ y. y ≢ value) → EndsAt (seen of_number h cells) start 0x110000 value limit
+  EndsAt-at_high other =
       let b = ends.begun in let w = ends.within in
       record {
         begun = omega (arith, b, w);
-        within = le;
+        within = omega (arith, lt);
         equal = λ u a d. ends.equal u a (omega (arith, whole, d));
-        differs = λ _. rw (seen-from_high of_number h index values limit from) other;
+        differs = λ _. rw (seen-from_high of_number h cells limit (omega arith)) other;
       }
 
 module _ {A : Type 0} (of_number : ℕ → Option A) (h : CodePointTrieHeader) (index : List ℕ) (values : List A) (c : ℕ) where

@@ -3,11 +3,6 @@ use Rattle.std.proofs.Common.{◌≡◌, inl, inr, ℕ, ◌+◌, ◌-◌, ◌<�
 use Rattle.std.proofs.lemmas.Bool.{cases_lt}
 use Rattle.icu_trie_core.specs.Inside.Walk.{Holds, EndsAt, BreaksOff, Reaches}
 
--- Up to a position below the limit.
-pub Holds-below_limit : {A : Type 0} {f : ℕ → Option A} {start : ℕ} {value : A} (base limit : ℕ) → base ≤ limit
-    → Holds f start (min base limit) value → Holds f start base value
-Holds-below_limit base limit le holds u a b = holds u a (omega (arith, b, le))
-
 -- The range start..base is empty.
 pub Holds-nothing : {A : Type 0} (f : ℕ → Option A) (value : A) {start base : ℕ} → base ≤ start → Holds f start base value
 Holds-nothing f value le = λ u a b. absurd (omega (arith, le, a, b))
@@ -65,18 +60,34 @@ module _ {A : Type 0} {f g : ℕ → Option A} {start base len from : ℕ} {valu
         missing = agree e.place w ∙ e.missing;
       }
 
--- The value reached a block of len positions at base in which nothing is seen.
-pub BreaksOff-at_block : {A : Type 0} {f : ℕ → Option A} {start base : ℕ} {value : A} (len limit : ℕ) → Holds f start base value → 0 < len
-    → start < base + len → base + len ≤ limit → ((i : ℕ) → i < len → f (base + i) ≡ None) → BreaksOff f start limit value
-BreaksOff-at_block {A} {f} {start} {base} {value} len limit before some begun fits none = record {
-  place = base + (start - base);
-  begun = omega arith;
-  within = omega (arith, some, begun, fits);
-  equal = λ u a b. elim (cases_lt start base) [
-    | inl p ↦ before u a (omega (arith, p, b))
-    | inr p ↦ absurd (omega (arith, p, a, b))
-  ];
-  missing = none (start - base) (omega (arith, some, begun));
+-- A block of len positions at base, in which f equals g. The value reached it.
+module _ {A : Type 0} {f g : ℕ → Option A} {start base limit len : ℕ} {value : A} (came : Holds f start (min base limit) value)
+    (agree : (i : ℕ) → i < len → f (base + i) ≡ g i) (begun : start ≤ base) (fits : base + len ≤ limit) where
+  reached : Holds f start base value
+  reached u a b = came u a (omega (arith, b, fits))
+
+  -- The value ends in the block.
+  pub EndsAt-in_step : (reach : ℕ) → reach < len → EndsAt g 0 len value reach → EndsAt f start limit value (base + reach)
+  EndsAt-in_step reach early run = EndsAt-in_block reached agree (omega (arith, begun)) limit reach fits early run
+
+  -- The run breaks off in the block.
+  pub BreaksOff-in_step : BreaksOff g 0 len value → BreaksOff f start limit value
+  BreaksOff-in_step run = BreaksOff-in_block reached agree (omega (arith, begun)) limit fits run
+
+  -- The value continues over the block.
+  pub Holds-over_step : Holds g 0 len value → (next : ℕ) → next ≤ base + len → Holds f start next value
+  Holds-over_step holds next most u a b =
+      Holds-in_block reached agree (omega (arith, begun)) len (omega arith) holds u a (omega (arith, b, most))
+
+-- The value reached a position at which nothing is seen.
+pub BreaksOff-at : {A : Type 0} {f : ℕ → Option A} {start base limit : ℕ} {value : A} → Holds f start (min base limit) value → start ≤ base
+    → base < limit → f base ≡ None → BreaksOff f start limit value
+BreaksOff-at {A} {f} {start} {base} came begun here none = record {
+  place = base;
+  begun = begun;
+  within = here;
+  equal = λ u a b. came u a (omega (arith, b, here));
+  missing = none;
 }
 
 -- If the value extends from start to mid, its end seen from mid is its end seen from start.

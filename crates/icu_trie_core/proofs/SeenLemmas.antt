@@ -2,13 +2,13 @@
 use Rattle.std.proofs.Common.{◌≡◌, ◌≢◌, inl, inr, ◌≤◌, ◌<◌, ◌*◌, ◌/◌, ◌%◌, ◌+◌, ℕ, List, Option, Some, None, true, slice_get, arith, sym, ap, ◌∙◌, nat_eq, refl}
 use Rattle.std.proofs.lemmas.Bool.{lt-ltb, le-ltb, cases_Bool, eqb-true}
 use Rattle.std.proofs.lemmas.Bool.Decides.{nat_tests}
-use Rattle.icu_trie_core.specs.Contents.{contents_of}
+use Rattle.icu_trie_core.specs.Contents.{Contents, contents_of}
 use Rattle.icu_trie_core.specs.declared.header.CodePointTrieHeader.{CodePointTrieHeader}
 use Rattle.icu_trie_core.specs.Format.{answer, fast_limit, fast_offset, small_offset, index2_cell, offset_in_block, high_value}
 use Rattle.icu_trie_core.specs.Coherence.{IsCoherent}
 use Rattle.icu_trie_core.specs.Seen.{seen, names_null, is_cell}
-use Rattle.icu_trie_core.specs.Inside.Walk.{block_seen, cell_seen}
-use Rattle.icu_trie_core.proofs.AnswerLemmas.{fast_limit_most, fast_answer, fast_none, small_answer, small_none, none_or_some}
+use Rattle.icu_trie_core.specs.Inside.Walk.{block_seen, cell_seen, blocks_end, fast_end}
+use Rattle.icu_trie_core.proofs.AnswerLemmas.{fast_limit_most, fast_answer, fast_none, small_answer, small_none, small_offset_none, none_or_some}
 
 module _ {A : Type 0} (of_number : ℕ → Option A) (h : CodePointTrieHeader) (index : List ℕ) (values : List A) where
   -- Below the fast limit.
@@ -24,10 +24,10 @@ module _ {A : Type 0} (of_number : ℕ → Option A) (h : CodePointTrieHeader) (
         fast_answer h index values u offset (omega (arith, most, fast)) fast is,
       ) refl
 
-  fast_missing : (u : ℕ) → u < fast_limit h.trie_type → u < h.high_start → slice_get index (u / 64) ≡ None
+  pub seen-fast_missing : (u : ℕ) → u < fast_limit h.trie_type → u < h.high_start → slice_get index (u / 64) ≡ None
       → seen of_number h (contents_of index values) u ≡ None
   unfolding seen
-  fast_missing u fast below is =
+  seen-fast_missing u fast below is =
       let most = (fast_limit_most h.trie_type).0 in
       rw (
         lt-ltb u h.high_start below,
@@ -35,23 +35,6 @@ module _ {A : Type 0} (of_number : ℕ → Option A) (h : CodePointTrieHeader) (
         is,
         fast_none h index values u (omega (arith, most, fast)) fast is,
       ) refl
-
-  -- In the first len positions of a block of 64 that ends at or below the limit.
-  pub seen-fast_block : (b offset len limit : ℕ) → limit ≤ fast_limit h.trie_type → limit ≤ h.high_start → b * 64 + len ≤ limit → len ≤ 64
-      → slice_get index b ≡ Some offset
-      → (i : ℕ) → i < len → seen of_number h (contents_of index values) (b * 64 + i) ≡ block_seen of_number h values offset i
-  seen-fast_block b offset len limit fast below fits short is i lt =
-      let block : (b * 64 + i) / 64 ≡ b = omega (arith, lt, short) in
-      let place : (b * 64 + i) % 64 ≡ i = omega (arith, lt, short) in
-      fast_seen (b * 64 + i) offset (omega (arith, lt, fits, fast)) (omega (arith, lt, fits, below)) (rw block is)
-      ∙ ap (λ k. block_seen of_number h values offset k) place
-
-  pub seen-fast_missing : (b len limit : ℕ) → limit ≤ fast_limit h.trie_type → limit ≤ h.high_start → b * 64 + len ≤ limit → len ≤ 64
-      → slice_get index b ≡ None
-      → (i : ℕ) → i < len → seen of_number h (contents_of index values) (b * 64 + i) ≡ None
-  seen-fast_missing b len limit fast below fits short is i lt =
-      let block : (b * 64 + i) / 64 ≡ b = omega (arith, lt, short) in
-      fast_missing (b * 64 + i) (omega (arith, lt, fits, fast)) (omega (arith, lt, fits, below)) (rw block is)
 
   -- At or above the fast limit.
   small_seen : (u cell : ℕ) → u < 0x110000 → fast_limit h.trie_type ≤ u → u < h.high_start → index2_cell h.trie_type index u ≡ Some cell
@@ -72,10 +55,11 @@ module _ {A : Type 0} (of_number : ℕ → Option A) (h : CodePointTrieHeader) (
             elim (cases_Bool (nat_eq cell h.index3_null_offset)) [ inl e ↦ rw e refl | inr e ↦ rw e refl ])
       ]
 
-  small_missing : (u : ℕ) → u < 0x110000 → fast_limit h.trie_type ≤ u → u < h.high_start → index2_cell h.trie_type index u ≡ None
-      → small_offset h.trie_type index u ≡ None → seen of_number h (contents_of index values) u ≡ None
+  pub seen-cell_missing : (u : ℕ) → u < 0x110000 → fast_limit h.trie_type ≤ u → u < h.high_start → index2_cell h.trie_type index u ≡ None
+      → seen of_number h (contents_of index values) u ≡ None
   unfolding seen
-  small_missing u within from below two three =
+  seen-cell_missing u within from below two =
+      let three = small_offset_none h.trie_type index u two in
       rw (
         lt-ltb u h.high_start below,
         le-ltb u (fast_limit h.trie_type) from,
@@ -84,34 +68,35 @@ module _ {A : Type 0} (of_number : ℕ → Option A) (h : CodePointTrieHeader) (
         small_none h index values u within from below three,
       ) refl
 
-  -- In the first len positions of a block of 512 that ends at or below the limit.
-  pub seen-cell : (base cell len limit : ℕ) → base % 512 ≡ 0 → fast_limit h.trie_type ≤ base → limit ≤ 0x110000 → limit ≤ h.high_start
-      → base + len ≤ limit → len ≤ 512 → index2_cell h.trie_type index base ≡ Some cell
-      → (i : ℕ) → i < len → seen of_number h (contents_of index values) (base + i) ≡ cell_seen of_number h (contents_of index values) cell i
+module _ {A : Type 0} (of_number : ℕ → Option A) (h : CodePointTrieHeader) (cells : Contents A) where
+  -- In the first len positions of block number b of 64.
+  pub seen-fast_block : (b : ℕ) {offset len : ℕ} → b * 64 + len ≤ fast_end h → len ≤ 64 → slice_get cells.index b ≡ Some offset
+      → (i : ℕ) → i < len → seen of_number h cells (b * 64 + i) ≡ block_seen of_number h cells.values offset i
+  seen-fast_block b {offset} {len} fits short is i lt =
+      let block : (b * 64 + i) / 64 ≡ b = omega (arith, lt, short) in
+      let place : (b * 64 + i) % 64 ≡ i = omega (arith, lt, short) in
+      fast_seen of_number h cells.index cells.values (b * 64 + i) offset (omega (arith, lt, fits)) (omega (arith, lt, fits)) (rw block is)
+      ∙ ap (λ k. block_seen of_number h cells.values offset k) place
+
+  -- In the first len positions of a block of 512.
+  pub seen-cell : (base : ℕ) {cell len : ℕ} → base % 512 ≡ 0 → fast_limit h.trie_type ≤ base → base + len ≤ blocks_end h → len ≤ 512
+      → index2_cell h.trie_type cells.index base ≡ Some cell
+      → (i : ℕ) → i < len → seen of_number h cells (base + i) ≡ cell_seen of_number h cells cell i
   unfolding small_offset
-  seen-cell base cell len limit aligned from within below fits short two i lt =
+  seen-cell base {cell} {len} aligned from fits short two i lt =
       let a : (base + i) / 512 ≡ base / 512 = omega (arith, aligned, lt, short) in
       let b : (base + i) / 16384 ≡ base / 16384 = omega (arith, aligned, lt, short) in
       let place : (base + i) % 512 ≡ i = omega (arith, aligned, lt, short) in
-      small_seen (base + i) cell (omega (arith, lt, fits, within)) (omega (arith, from)) (omega (arith, lt, fits, below)) (rw (a, b) two)
-      (rw (a, b, two) refl) ∙ ap (λ k. cell_seen of_number h (contents_of index values) cell k) place
-
-  pub seen-cell_missing : (base len limit : ℕ) → base % 512 ≡ 0 → fast_limit h.trie_type ≤ base → limit ≤ 0x110000 → limit ≤ h.high_start
-      → base + len ≤ limit → len ≤ 512 → index2_cell h.trie_type index base ≡ None
-      → (i : ℕ) → i < len → seen of_number h (contents_of index values) (base + i) ≡ None
-  unfolding small_offset
-  seen-cell_missing base len limit aligned from within below fits short two i lt =
-      let a : (base + i) / 512 ≡ base / 512 = omega (arith, aligned, lt, short) in
-      let b : (base + i) / 16384 ≡ base / 16384 = omega (arith, aligned, lt, short) in
-      small_missing (base + i) (omega (arith, lt, fits, within)) (omega (arith, from)) (omega (arith, lt, fits, below)) (rw (a, b) two)
-      (rw (a, b, two) refl)
+      small_seen of_number h cells.index cells.values (base + i) cell (omega (arith, lt, fits)) (omega (arith, from))
+      (omega (arith, lt, fits)) (rw (a, b) two) (rw (a, b, two) refl) ∙ ap (λ k. cell_seen of_number h cells cell k) place
 
   -- In the first len positions of block number p of 16, in a block of 512 that is not named as
   -- null.
-  pub cell_seen-block : (cell p offset len : ℕ) → cell ≢ h.index3_null_offset → len ≤ 16 → offset_in_block index cell p ≡ Some offset
-      → (i : ℕ) → i < len → cell_seen of_number h (contents_of index values) cell (p * 16 + i) ≡ block_seen of_number h values offset i
+  pub cell_seen-block : (cell p : ℕ) {offset len : ℕ} → cell ≢ h.index3_null_offset → len ≤ 16
+      → offset_in_block cells.index cell p ≡ Some offset
+      → (i : ℕ) → i < len → cell_seen of_number h cells cell (p * 16 + i) ≡ block_seen of_number h cells.values offset i
   unfolding cell_seen
-  cell_seen-block cell p offset len differs short is i lt =
+  cell_seen-block cell p differs short is i lt =
       let a : (p * 16 + i) / 16 ≡ p = omega (arith, lt, short) in
       let b : (p * 16 + i) % 16 ≡ i = omega (arith, lt, short) in
       elim (cases_Bool (nat_eq cell h.index3_null_offset)) [
@@ -119,18 +104,18 @@ module _ {A : Type 0} (of_number : ℕ → Option A) (h : CodePointTrieHeader) (
         | inr e ↦ rw (e, a, b, is) refl
       ]
 
-  pub cell_seen-missing : (cell p len : ℕ) → cell ≢ h.index3_null_offset → len ≤ 16 → offset_in_block index cell p ≡ None
-      → (i : ℕ) → i < len → cell_seen of_number h (contents_of index values) cell (p * 16 + i) ≡ None
+  pub cell_seen-missing : (cell p : ℕ) → cell ≢ h.index3_null_offset → offset_in_block cells.index cell p ≡ None
+      → cell_seen of_number h cells cell (p * 16) ≡ None
   unfolding cell_seen
-  cell_seen-missing cell p len differs short is i lt =
-      let a : (p * 16 + i) / 16 ≡ p = omega (arith, lt, short) in
+  cell_seen-missing cell p differs is =
+      let a : p * 16 / 16 ≡ p = omega arith in
       elim (cases_Bool (nat_eq cell h.index3_null_offset)) [
         | inl e ↦ absurd (differs (eqb-true cell h.index3_null_offset e))
         | inr e ↦ rw (e, a, is) refl
       ]
 
   -- At or above the high start.
-  pub seen-from_high : (u : ℕ) → h.high_start ≤ u → seen of_number h (contents_of index values) u ≡ high_value values
+  pub seen-from_high : (u : ℕ) → h.high_start ≤ u → seen of_number h cells u ≡ high_value cells.values
   unfolding seen
   seen-from_high u from = rw (le-ltb u h.high_start from) refl
 

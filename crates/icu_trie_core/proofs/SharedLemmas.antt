@@ -1,14 +1,14 @@
 -- Over a coherent and shared trie, blocks in which a walk sees one value have the same cell, so a
 -- walk reads few of them.
-use Rattle.std.proofs.Common.{◌≡◌, inl, inr, ◌+◌, ◌-◌, ◌*◌, ◌/◌, ◌%◌, ◌<◌, ◌≤◌, ℕ, List, slice_get, Option, Some, sym, ◌∙◌, ap, arith, min}
+use Rattle.std.proofs.Common.{◌≡◌, ◌≢◌, inl, inr, ◌+◌, ◌-◌, ◌*◌, ◌/◌, ◌%◌, ◌<◌, ◌≤◌, ℕ, List, slice_get, Option, Some, sym, ◌∙◌, ap, arith, min}
 use Rattle.std.proofs.lemmas.Bool.{cases_lt}
 use Rattle.icu_trie_core.specs.Contents.{contents_of}
 use Rattle.icu_trie_core.specs.Format.{answer, fast_limit, fast_offset, small_offset, index2_cell, offset_in_block}
 use Rattle.icu_trie_core.specs.Coherence.{IsCoherent, IsShared}
 use Rattle.icu_trie_core.specs.Seen.{seen}
-use Rattle.icu_trie_core.specs.Inside.Walk.{Holds, cell_seen, SharesBlocks}
+use Rattle.icu_trie_core.specs.Inside.Walk.{Holds, cell_seen, SharesBlocks, blocks_end, fast_end}
 use Rattle.icu_trie_core.specs.declared.header.CodePointTrieHeader.{CodePointTrieHeader}
-use Rattle.icu_trie_core.proofs.AnswerLemmas.{small_offset_at}
+use Rattle.icu_trie_core.proofs.AnswerLemmas.{fast_limit_most, small_offset_at}
 use Rattle.icu_trie_core.proofs.SeenLemmas.{seen-below, seen-cell}
 
 module _ {A : Type 0} {of_number : ℕ → Option A} {h : CodePointTrieHeader} {index : List ℕ} {values : List A}
@@ -35,21 +35,21 @@ module _ {A : Type 0} {of_number : ℕ → Option A} {h : CodePointTrieHeader} {
       ∙ sym (holds (b * 64 + i) (omega (arith, begun)) (omega (arith, lt))))) in
       rw (here, there) at same
 
-  -- The reads up to the end of a block of 64, from the count of the reads before it.
+  -- The reads up to the end of a block of 64 that was not skipped, from the count of the reads
+  -- before it.
   pub reads_after : (start b offset r s t : ℕ) (value : A) (remembered : Option ℕ) → b * 64 + 64 ≤ fast_limit h.trie_type
       → b * 64 + 64 ≤ h.high_start → slice_get index b ≡ Some offset → start / 64 ≤ b
       → Holds (seen of_number h (contents_of index values)) start (b * 64 + 64) value
       → (start / 64 + 2 ≤ b → remembered ≡ slice_get index (b - 1))
       → s + start / 64 ≤ r + b + 64 * min (b - start / 64) 4
-      → t ≤ s + 65 → (remembered ≡ Some offset → t ≡ s + 1)
+      → t ≤ s + 65 → remembered ≢ Some offset
       → t + start / 64 ≤ r + (b + 1) + 64 * min (b + 1 - start / 64) 4
-  reads_after start b offset r s t value remembered fast below is begun holds last so_far most least =
+  reads_after start b offset r s t value remembered fast below is begun holds last so_far most other =
       elim (cases_lt b (start / 64 + 4)) [
         | inl p ↦ omega (arith, so_far, most, p, begun)
         | inr p ↦
             let same = same_offset start b value (omega (arith, p)) (omega (arith, p)) fast below holds in
-            let one = least (last (omega (arith, p)) ∙ same ∙ is) in
-            omega (arith, so_far, one, p)
+            absurd (other (last (omega (arith, p)) ∙ same ∙ is))
       ]
 
   -- The blocks of 16 in a block of 512.
@@ -66,8 +66,8 @@ module _ {A : Type 0} {of_number : ℕ → Option A} {h : CodePointTrieHeader} {
       let sees : (k i : ℕ) → k < 32 → i < 16 → seen of_number h (contents_of index values) ((base / 16 + k) * 16 + i)
       ≡ cell_seen of_number h (contents_of index values) cell (k * 16 + i)
       = λ k i lt in_block. let d : (base / 16 + k) * 16 + i ≡ base + (k * 16 + i) = omega (arith, aligned) in
-      rw d (seen-cell of_number h index values base cell 512 (base + 512) aligned from (omega (arith, below, most)) below (omega arith)
-      (omega arith) two (k * 16 + i) (omega (arith, lt, in_block))) in
+      rw d (seen-cell of_number h (contents_of index values) base {len = 512} aligned from (omega (arith, below, most)) (omega arith) two
+      (k * 16 + i) (omega (arith, lt, in_block))) in
       let at_p = stand p first in
       let at_q = stand q second in
       sym (offset p first) ∙ (shares.small (base / 16 + p) (base / 16 + q)
@@ -76,6 +76,13 @@ module _ {A : Type 0} {of_number : ℕ → Option A} {h : CodePointTrieHeader} {
       (λ i lt. same_answer ((base / 16 + p) * 16 + i) ((base / 16 + q) * 16 + i) (omega (arith, at_p, first, lt, below))
       (omega (arith, at_q, second, lt, below))
       (sees p i first lt ∙ same i lt ∙ sym (sees q i second lt))) ∙ offset q second)
+
+  -- The blocks end with a whole block of 512, and the fast index with a whole block of 64.
+  pub ends-aligned : (blocks_end h % 512 ≡ 0) × (fast_end h % 64 ≡ 0)
+  ends-aligned =
+      let high = coherent.aligned in
+      let most = (fast_limit_most h.trie_type).1 in
+      (omega (arith, high), omega (arith, high, most))
 
   -- Two blocks of 512.
   pub same_cell : (start d b : ℕ) (value : A) → fast_limit h.trie_type ≤ start → start ≤ d * 512 → d < b → b * 512 + 512 ≤ h.high_start

@@ -5,7 +5,8 @@ use Rattle.icu_trie_core.specs.declared.header.TrieType.{TrieType}
 use Rattle.icu_trie_core.specs.Contents.{Contents}
 use Rattle.icu_trie_core.specs.Format.{fast_limit}
 
--- The number of cells in the fast index (1,024 or 64): one for each block of 64 below the fast limit.
+-- The number of cells in the fast index: 1,024 or 64, one for each block of 64 below the fast
+-- limit.
 abbrev pub fast_index_len : TrieType → ℕ
 fast_index_len trie_type = fast_limit trie_type / 64
 

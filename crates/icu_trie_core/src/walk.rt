@@ -9,9 +9,10 @@ ghost use Rattle.icu_trie_core.specs.Format.{answer, fast_limit};
 ghost use Rattle.icu_trie_core.specs.Coherence.{IsCoherent, IsShared};
 ghost use Rattle.icu_trie_core.specs.Range.{GivesWalk, first_of, last_of};
 ghost use Rattle.icu_trie_core.specs.Runs.{LongestRun};
+ghost use Rattle.icu_trie_core.specs.Inside.Walk.{blocks_end};
 
 use crate::cells::Cells;
-use crate::extend::{extend_from_fast, extend_from_small};
+use crate::extend::{Walk, blocks_end_of};
 use crate::header::CodePointTrieHeader;
 use crate::impl_const::{
     CP_PER_INDEX_2_ENTRY, FAST_TYPE_DATA_BLOCK_LENGTH, SMALL_DATA_BLOCK_LENGTH,
@@ -48,17 +49,15 @@ fn range_up_to<T: TrieValue>(c: u32, end: u32, value: T) -> CodePointMapRange<T>
     }
 }
 
-/// `walk` from a code point below `limit` and below the fast limit. One look-up finds the block of
-/// 64, and the walk continues in its cells.
+/// `walk` from a code point below the end of the blocks and below the fast limit. One look-up finds
+/// the block of 64, and the walk continues in its cells.
 #[inline(always)]
 fn walk_fast<T: TrieValue, C: Cells<T>>(
     header: &CodePointTrieHeader,
     cells: &mut C,
-    limit: u32,
     c: u32,
 ) -> Option<CodePointMapRange<T>>
-    requires begun { c < limit }
-    requires high { limit ≡ min header.now.high_start 0x110000 }
+    requires begun { c < blocks_end header.now }
     requires fast { c < fast_limit header.now.trie_type }
     ensures gives { GivesWalk T.of_number header.now (C.contents cells.old) c result }
     // The reads of `extend_from_fast`, and two for `c`.
@@ -69,21 +68,19 @@ fn walk_fast<T: TrieValue, C: Cells<T>>(
 {
     let offset = u32::from(cells.index_cell((c / FAST_TYPE_DATA_BLOCK_LENGTH) as usize)?);
     let value = cells.data_cell((offset + c % FAST_TYPE_DATA_BLOCK_LENGTH) as usize)?;
-    let end = extend_from_fast(header, cells, limit, c, offset, value)?;
+    let end = Walk { header, value }.extend_from_fast(cells, c, offset)?;
     Some(range_up_to(c, end, value))
 }
 
-/// `walk` from a code point below `limit` and at or above the fast limit. One look-up finds the
-/// block of 512 and the block of 16, and the walk continues in their cells.
+/// `walk` from a code point below the end of the blocks and at or above the fast limit. One look-up
+/// finds the block of 512 and the block of 16, and the walk continues in their cells.
 #[inline(always)]
 fn walk_small<T: TrieValue, C: Cells<T>>(
     header: &CodePointTrieHeader,
     cells: &mut C,
-    limit: u32,
     c: u32,
 ) -> Option<CodePointMapRange<T>>
-    requires begun { c < limit }
-    requires high { limit ≡ min header.now.high_start 0x110000 }
+    requires begun { c < blocks_end header.now }
     requires from { fast_limit header.now.trie_type ≤ c }
     ensures gives { GivesWalk T.of_number header.now (C.contents cells.old) c result }
     // The reads of `extend_from_small`, and five for `c`.
@@ -97,7 +94,7 @@ fn walk_small<T: TrieValue, C: Cells<T>>(
     let place = c % CP_PER_INDEX_2_ENTRY / SMALL_DATA_BLOCK_LENGTH;
     let offset = offset_of(cells, cell, place)?;
     let value = cells.data_cell((offset + c % SMALL_DATA_BLOCK_LENGTH) as usize)?;
-    let end = extend_from_small(header, cells, limit, c, cell, offset, value)?;
+    let end = Walk { header, value }.extend_from_small(cells, c, cell, offset)?;
     Some(range_up_to(c, end, value))
 }
 
@@ -122,7 +119,7 @@ fn walk_high<T: TrieValue, C: Cells<T>>(
     cells: &mut C,
     c: u32,
 ) -> Option<CodePointMapRange<T>>
-    requires high { min header.now.high_start 0x110000 ≤ c }
+    requires high { blocks_end header.now ≤ c }
     ensures gives { GivesWalk T.of_number header.now (C.contents cells.old) c result }
     ensures reads { C.reads cells.new ≤ C.reads cells.old + 5 }
     ensures kept { C.contents cells.new ≡ C.contents cells.old }
@@ -151,14 +148,13 @@ fn walk_any<T: TrieValue, C: Cells<T>>(
         → C.reads cells.new ≤ C.reads cells.old + 6000 }
     ensures kept { C.contents cells.new ≡ C.contents cells.old }
 {
-    let limit = header.high_start.min(CODE_POINT_LIMIT);
-    if c >= limit {
+    if c >= blocks_end_of(header) {
         return walk_high(header, cells, c);
     }
     if c < header.trie_type.fast_limit() {
-        return walk_fast(header, cells, limit, c);
+        return walk_fast(header, cells, c);
     }
-    walk_small(header, cells, limit, c)
+    walk_small(header, cells, c)
 }
 
 /// Returns the range of code points from `c` on that have the same value as `c`. The format is
