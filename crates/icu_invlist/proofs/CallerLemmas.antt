@@ -18,3 +18,10 @@ pub use Rattle.icu_invlist.proofs.PlaceLemmas.{not_past_limit}
 pub use Rattle.icu_invlist.proofs.WrittenSets.{said_alone}
 -- The items of a JSON array, as they are read.
 pub use Rattle.icu_invlist.proofs.JsonLemmas.{list_of-items_view}
+-- The loop of a span: whether what it found out about a character is what is wanted; the
+-- characters that it has passed, by their offsets; and the same with an iterator over the
+-- characters, from the start of the text or from its end.
+pub use Rattle.icu_invlist.proofs.SpanLemmas.{is_unwanted, is_wanted}
+pub use Rattle.icu_invlist.proofs.SpanLemmas.{front, passed_boundary, passed_ends, passed_more, passed_none, passed_stops, Passed}
+pub use Rattle.icu_invlist.proofs.SpanLemmas.{span_past, span_room, span_start, span_stops, Spanned}
+pub use Rattle.icu_invlist.proofs.SpanLemmas.{back_past, back_start, back_stops, SpannedBack}

@@ -1,16 +1,15 @@
-use Rattle.std.proofs.Common.{◌≡◌, ◌∙◌, ℕ, ◌<◌, List, ap, sym, arith, slice_index, slice_index_or, Bool, false}
-use Rattle.std.proofs.lemmas.Bool.{not-false, not-true}
+use Rattle.std.proofs.Common.{◌≡◌, ◌∙◌, ℕ, ◌<◌, List, ap, sym, arith, slice_index, slice_index_or, false}
 use Rattle.std.proofs.lemmas.Bool.Decides.{nat_tests}
 use Rattle.icu_invlist.specs.InversionList.{holds}
-use Rattle.icu_frozen_sets.proofs.SpanLemmas.{passed_none, passed_ascii, passed_boundary}
+use Rattle.icu_invlist.proofs.CallerLemmas.{is_unwanted, is_wanted, passed_boundary, passed_none}
+use Rattle.icu_frozen_sets.proofs.SpanLemmas.{passed_ascii}
 use Rattle.icu_frozen_sets.proofs.frozen.FrozenCodePointSet.past_ascii.Goals as goal
-use mathlib.Core.Bool.{beq}
 
 pub loop-end-init : goal.loop-end-init
 loop-end-init c = passed_none _ c.args.text.now c.args.start c.utf8.text c.requires
 
 pub returns-then-byte-ge128-clause-boundary : goal.returns-then-byte-ge128-clause-boundary
-returns-then-byte-ge128-clause-boundary c = passed_boundary _ c.args.text.now c.args.start c.loop-end.end c.loop-end.invariant
+returns-then-byte-ge128-clause-boundary c = passed_boundary c.loop-end.invariant
 
 pub loop-end-preserved : goal.loop-end-preserved
 loop-end-preserved c =
@@ -20,10 +19,8 @@ loop-end-preserved c =
     (sym c.as_bytes-bytes.ensures.value) in
     let told : holds c.args.self.now byte ≡ slice_index_or c.self.inside.ascii byte false = rw (← c.self.view_is) (sym
     (c.self.invariant.first byte low)) in
-    let p : ℕ → Bool = λ k. beq (holds c.args.self.now k) c.args.held in
-    passed_ascii p c.args.text.now c.args.start c.loop-end.end c.loop-end.invariant (omega (arith, c.loop-end-test.true)) low
-    (ap (λ (b : Bool). beq b c.args.held) (told ∙ ap (λ (n : ℕ). slice_index_or c.self.inside.ascii n false) read)
-    ∙ not-false _ c.if-self-byte.false)
+    passed_ascii c.loop-end.invariant (omega (arith, c.loop-end-test.true)) low
+    (is_wanted _ (sym (told ∙ ap (λ (n : ℕ). slice_index_or c.self.inside.ascii n false) read)) c.if-self-byte.false)
 
 pub returns-then-self-byte-clause-stops : goal.returns-then-self-byte-clause-stops
 returns-then-self-byte-clause-stops c = λ more low.
@@ -32,5 +29,4 @@ returns-then-self-byte-clause-stops c = λ more low.
     (sym c.as_bytes-bytes.ensures.value) in
     let told : holds c.args.self.now byte ≡ slice_index_or c.self.inside.ascii byte false = rw (← c.self.view_is) (sym
     (c.self.invariant.first byte low)) in
-    ap (λ (b : Bool). beq b c.args.held) (told ∙ ap (λ (n : ℕ). slice_index_or c.self.inside.ascii n false) read)
-    ∙ not-true _ c.if-self-byte.true
+    is_unwanted _ (sym (told ∙ ap (λ (n : ℕ). slice_index_or c.self.inside.ascii n false) read)) c.if-self-byte.true

@@ -1,7 +1,7 @@
 use Rattle.std.proofs.Common.{◌-◌, length}
 use mathlib.Core.Bool.{beq}
 use Rattle.icu_invlist.specs.InversionList.{holds}
-use Rattle.icu_frozen_sets.proofs.SpanLemmas.{Passed}
+use Rattle.icu_invlist.proofs.CallerLemmas.{Passed}
 use Rattle.icu_frozen_sets.proofs.frozen.FrozenCodePointSet.past_ascii.Given as goal
 
 abbrev pub invariant-loop-end : goal.invariant-loop-end
