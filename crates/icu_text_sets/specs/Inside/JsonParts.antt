@@ -4,8 +4,8 @@ use Rattle.icu_invlist.specs.declared.codepointinvlist.error.SetJsonError.{SetJs
 use Rattle.icu_invlist.specs.declared.codepointinvlist.error.SetJsonError.TheVariants.{NotAnArray, NotAString, NotARange, InvalidSet, Memory}
 use Rattle.icu_text_sets.specs.TextSetJson.{JsonFault, no_set}
 
--- The fault that the error of a set of code points stands for. A failed allocation is not a fault
--- of the value.
+-- The fault that corresponds to an error of a set of code points. A failed allocation is not a
+-- fault of the value.
 abbrev pub set_fault_of : SetJsonError → Option JsonFault
 set_fault_of Memory = None
 set_fault_of NotAnArray = Some (no_set NotAnArray)
