@@ -8,7 +8,7 @@
 //! - `own_cells`: a look-up over user-defined cells, which counts its reads
 //! - `categories`: a user-defined enum as the value of a trie
 //! - `built`: what is known about a built trie besides its values
-//! - `strangers`: tries of untrusted parts
+//! - `untrusted`: tries of untrusted parts
 //! - `stored`: tries in ICU's binary form
 //! - `errors`: what a function that returns one of the errors may call with `?`
 #![tactic(auto)]
@@ -19,7 +19,7 @@ pub mod errors;
 pub mod own_cells;
 pub mod sets;
 pub mod stored;
-pub mod strangers;
 pub mod tables;
 pub mod texts;
+pub mod untrusted;
 pub mod words;
