@@ -1,6 +1,9 @@
 //! Finds the entry of a unit in a branch.
 
 use crate::icu_char16trie::encoded::{delta_end, entry_child, lower_part, short_end, two_at, unit_at};
+use crate::icu_char16trie::impl_const::{
+    MAX_BRANCH_LINEAR_SUB_NODE_LENGTH, MIN_TWO_UNIT_DELTA_LEAD, VALUE_IS_FINAL,
+};
 use crate::icu_zerovec::ZeroSlice;
 
 /// Returns the index of the child node of `unit` in a row, which has at most five entries.
@@ -13,7 +16,7 @@ fn child_in_row(units: ZeroSlice<'_, u16>, row: usize, length: usize, unit: u16)
         if first == unit {
             return entry_child(units, place + 2, value);
         }
-        place = short_end(place + 2, value & 0x7fff);
+        place = short_end(place + 2, value % VALUE_IS_FINAL);
         left -= 1;
     }
     let last = unit_at(units, place)?;
@@ -31,7 +34,7 @@ fn half_of_part(
 ) -> Option<(usize, usize)> {
     let (split, delta) = two_at(units, part)?;
     let half = length >> 1;
-    if delta < 0xfc00 {
+    if delta < MIN_TWO_UNIT_DELTA_LEAD {
         // For nearly all deltas the unit is the number itself. The processor cannot predict which
         // half it is, so the choice is made without a branch instruction.
         let (low, left) = if unit < split {
@@ -59,7 +62,7 @@ pub(crate) fn child_in_part(
 ) -> Option<usize> {
     let mut left = length;
     let mut place = part;
-    while left > 5 {
+    while left > MAX_BRANCH_LINEAR_SUB_NODE_LENGTH {
         let (half, count) = half_of_part(units, place, left, unit)?;
         place = half;
         left = count;

@@ -6,7 +6,12 @@
 
 #[allow(unused_imports)]
 use crate::support::prelude::*;
-use crate::icu_char16trie::encoded::{delta_end, entry_child, lower_part, node_end, short_end, two_at, unit_at};
+use crate::icu_char16trie::encoded::{
+    delta_end, entry_child, lower_part, node_end, run_len, short_end, two_at, unit_at,
+};
+use crate::icu_char16trie::impl_const::{
+    MAX_BRANCH_LINEAR_SUB_NODE_LENGTH, MIN_LINEAR_MATCH, MIN_VALUE_LEAD, VALUE_IS_FINAL,
+};
 use crate::icu_char16trie::soundness::has_all_wanted;
 use crate::icu_char16trie::trie::Char16Trie;
 use crate::icu_zerovec::{MemoryError, ZeroSlice};
@@ -32,7 +37,7 @@ fn count_row(units: ZeroSlice<'_, u16>, counts: &[u64], row: usize, count: usize
         let (_unit, value) = two_at(units, place)?;
         let child = entry_child(units, place + 2, value)?;
         total = both_counts(total, count_at(counts, child));
-        place = short_end(place + 2, value & 0x7fff);
+        place = short_end(place + 2, value % VALUE_IS_FINAL);
         left -= 1;
     }
     let _last = unit_at(units, place)?;
@@ -43,7 +48,7 @@ fn count_row(units: ZeroSlice<'_, u16>, counts: &[u64], row: usize, count: usize
 /// deep.
 #[inline]
 fn count_part(units: ZeroSlice<'_, u16>, counts: &[u64], part: usize, count: usize) -> Option<u64> {
-    if count <= 5 {
+    if count <= MAX_BRANCH_LINEAR_SUB_NODE_LENGTH {
         return count_row(units, counts, part, count);
     }
     let (_split, delta) = two_at(units, part)?;
@@ -59,8 +64,8 @@ fn count_part(units: ZeroSlice<'_, u16>, counts: &[u64], part: usize, count: usi
 /// of its lead unit, and `place` is the index after the lead and its value.
 #[inline]
 fn count_match(units: ZeroSlice<'_, u16>, counts: &[u64], place: usize, low: u16) -> Option<u64> {
-    if low >= 0x30 {
-        let after = count_at(counts, place + (usize::from(low) - 0x2f));
+    if low >= MIN_LINEAR_MATCH {
+        let after = count_at(counts, place + run_len(low));
         return Some(after);
     }
     if low > 0 {
@@ -74,14 +79,14 @@ fn count_match(units: ZeroSlice<'_, u16>, counts: &[u64], place: usize, low: u16
 #[inline]
 fn count_node(units: ZeroSlice<'_, u16>, counts: &[u64], place: usize) -> Option<u64> {
     let lead = unit_at(units, place)?;
-    if lead >= 0x8000 {
+    if lead >= VALUE_IS_FINAL {
         return Some(1);
     }
-    if lead < 0x40 {
+    if lead < MIN_VALUE_LEAD {
         return count_match(units, counts, place + 1, lead);
     }
     let end = node_end(place + 1, lead);
-    let longer = count_match(units, counts, end, lead % 64)?;
+    let longer = count_match(units, counts, end, lead % MIN_VALUE_LEAD)?;
     Some(both_counts(1, longer))
 }
 

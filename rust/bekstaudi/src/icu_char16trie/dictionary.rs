@@ -1,7 +1,8 @@
 //! Finds the keys that a text starts with, as a dictionary finds words.
 
 use crate::icu_char16trie::branch::child_in_branch;
-use crate::icu_char16trie::encoded::{node_end, unit_at};
+use crate::icu_char16trie::encoded::{node_end, run_len, unit_at};
+use crate::icu_char16trie::impl_const::{MIN_LINEAR_MATCH, MIN_VALUE_LEAD, VALUE_IS_FINAL};
 use crate::icu_char16trie::matches::Matches;
 use crate::icu_char16trie::step::value_by;
 use crate::icu_char16trie::trie::Char16Trie;
@@ -40,8 +41,8 @@ fn pass_match(
     low: u16,
     text: &[u16],
 ) -> Option<(usize, usize)> {
-    if low >= 0x30 {
-        let count = usize::from(low) - 0x2f;
+    if low >= MIN_LINEAR_MATCH {
+        let count = run_len(low);
         if !begins_run(units, place, count, text) {
             return None;
         }
@@ -74,11 +75,16 @@ impl<'data> Char16Trie<'data> {
         let mut found = None;
         while let Some(lead) = unit_at(units, node) {
             found = longer_match(passed, value_by(units, node + 1, lead), found);
-            if lead >= 0x8000 {
+            if lead >= VALUE_IS_FINAL {
                 return found;
             }
             let place = node_end(node + 1, lead);
-            let Some((next, count)) = pass_match(units, place, lead % 64, &text[passed..]) else {
+            let Some((next, count)) = pass_match(
+                units,
+                place,
+                lead % MIN_VALUE_LEAD,
+                &text[passed..],
+            ) else {
                 return found;
             };
             node = next;

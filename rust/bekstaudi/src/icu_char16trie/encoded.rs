@@ -1,5 +1,9 @@
 //! Numbers encoded in the units of a trie.
 
+use crate::icu_char16trie::impl_const::{
+    MIN_LINEAR_MATCH, MIN_TWO_UNIT_DELTA_LEAD, MIN_TWO_UNIT_NODE_LEAD, MIN_TWO_UNIT_VALUE_LEAD,
+    THREE_UNIT_DELTA_LEAD, THREE_UNIT_NODE_LEAD, THREE_UNIT_VALUE_LEAD, VALUE_IS_FINAL,
+};
 use crate::icu_zerovec::ZeroSlice;
 
 /// Returns the unit at an index, or `None` at or past the end.
@@ -75,47 +79,81 @@ fn end_by(place: usize, lead: u16, two: u16, three: u16) -> usize {
     }
 }
 
+/// Returns the number of units in a linear match with these low six bits.
+#[inline(always)]
+pub(crate) fn run_len(low: u16) -> usize {
+    usize::from(low) - (MIN_LINEAR_MATCH as usize - 1)
+}
+
 /// Returns the number of a final value or a jump. `low_bits` is the low 15 bits of the unit before
 /// `place`.
 #[inline]
 pub(crate) fn short_number(units: ZeroSlice<'_, u16>, place: usize, low_bits: u16) -> Option<u32> {
-    number_by(units, place, low_bits, 0x4000, 0x7fff)
+    number_by(
+        units,
+        place,
+        low_bits,
+        MIN_TWO_UNIT_VALUE_LEAD,
+        THREE_UNIT_VALUE_LEAD,
+    )
 }
 
 /// Returns the index after the number of a final value or a jump.
 #[inline]
 pub(crate) fn short_end(place: usize, low_bits: u16) -> usize {
-    end_by(place, low_bits, 0x4000, 0x7fff)
+    end_by(
+        place,
+        low_bits,
+        MIN_TWO_UNIT_VALUE_LEAD,
+        THREE_UNIT_VALUE_LEAD,
+    )
 }
 
 /// Returns the number of an intermediate value. Its lead unit is before `place`.
 #[inline]
 pub(crate) fn node_number(units: ZeroSlice<'_, u16>, place: usize, lead: u16) -> Option<u32> {
-    number_by(units, place, (lead >> 6) - 1, 0x100, 0x1fe)
+    number_by(
+        units,
+        place,
+        (lead >> 6) - 1,
+        MIN_TWO_UNIT_NODE_LEAD,
+        THREE_UNIT_NODE_LEAD,
+    )
 }
 
 /// Returns the index after an intermediate value, or `place` itself if the lead unit has no value.
 #[inline]
 pub(crate) fn node_end(place: usize, lead: u16) -> usize {
-    end_by(place, (lead >> 6).saturating_sub(1), 0x100, 0x1fe)
+    end_by(
+        place,
+        (lead >> 6).saturating_sub(1),
+        MIN_TWO_UNIT_NODE_LEAD,
+        THREE_UNIT_NODE_LEAD,
+    )
 }
 
 /// Returns the delta of a split. `delta` is the unit before `place`.
 #[inline]
 pub(crate) fn delta_number(units: ZeroSlice<'_, u16>, place: usize, delta: u16) -> Option<u32> {
-    number_by(units, place, delta, 0xfc00, 0xffff)
+    number_by(
+        units,
+        place,
+        delta,
+        MIN_TWO_UNIT_DELTA_LEAD,
+        THREE_UNIT_DELTA_LEAD,
+    )
 }
 
 /// Returns the index after the delta of a split.
 #[inline]
 pub(crate) fn delta_end(place: usize, delta: u16) -> usize {
-    end_by(place, delta, 0xfc00, 0xffff)
+    end_by(place, delta, MIN_TWO_UNIT_DELTA_LEAD, THREE_UNIT_DELTA_LEAD)
 }
 
 /// Returns the index of the node of an entry whose value unit is before `place`.
 #[inline]
 pub(crate) fn entry_child(units: ZeroSlice<'_, u16>, place: usize, value: u16) -> Option<usize> {
-    if value < 0x8000 {
+    if value < VALUE_IS_FINAL {
         let jump = short_number(units, place, value)?;
         Some(short_end(place, value) + jump as usize)
     } else {

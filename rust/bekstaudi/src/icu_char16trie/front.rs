@@ -1,6 +1,7 @@
 //! What comes next in a walk over the entries of a trie.
 
 use crate::icu_char16trie::encoded::{node_end, unit_at};
+use crate::icu_char16trie::impl_const::{MIN_VALUE_LEAD, VALUE_IS_FINAL};
 use crate::icu_char16trie::pending::Pending;
 use crate::icu_char16trie::place::Place;
 use crate::icu_char16trie::step::value_by;
@@ -18,10 +19,10 @@ pub(crate) enum Front {
 /// Returns what comes after the value of a node whose lead unit is before `place`.
 #[inline(always)]
 pub(crate) fn below(place: usize, lead: u16) -> Front {
-    if lead >= 0x8000 {
+    if lead >= VALUE_IS_FINAL {
         Front::At(Place::Nowhere)
     } else {
-        Front::Match(node_end(place, lead), lead % 64)
+        Front::Match(node_end(place, lead), lead % MIN_VALUE_LEAD)
     }
 }
 

@@ -12,7 +12,7 @@
 //! long. [`Char16Trie::count_entries`](char16trie::Char16Trie::count_entries) returns the number of
 //! entries in advance.
 //!
-//! All public items are in `char16trie`, as in the Rust crate:
+//! All public items but the constants are in `char16trie`, as in the Rust crate:
 //!
 //! - `char16trie`: the public items, under the Rust crate's names
 //! - `trie`: [`Char16Trie`](char16trie::Char16Trie)
@@ -30,6 +30,7 @@
 //! - `next_units`: the units that can come next in some key
 //! - `unique`: the value that all keys ahead of a cursor have
 //! - `json`: reading and writing JSON
+//! - `impl_const`: the constants of the format
 //! - `place`, `step`, `branch`, `encoded`: positions of a cursor, steps between them, and numbers
 //!   encoded in units
 
@@ -41,6 +42,7 @@ mod dictionary;
 mod encoded;
 mod entries;
 mod front;
+pub mod impl_const;
 mod iterator;
 #[cfg(feature = "json")]
 mod json;

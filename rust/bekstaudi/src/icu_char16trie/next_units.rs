@@ -3,6 +3,9 @@
 #[allow(unused_imports)]
 use crate::support::prelude::*;
 use crate::icu_char16trie::encoded::{delta_end, lower_part, node_end, short_end, two_at, unit_at};
+use crate::icu_char16trie::impl_const::{
+    MAX_BRANCH_LINEAR_SUB_NODE_LENGTH, MIN_LINEAR_MATCH, MIN_VALUE_LEAD, VALUE_IS_FINAL,
+};
 use crate::icu_char16trie::place::Place;
 use crate::icu_zerovec::ZeroSlice;
 use crate::support::AllocError;
@@ -30,7 +33,7 @@ fn add_row(
             return Ok(());
         };
         list.try_push(unit)?;
-        place = short_end(place + 2, value & 0x7fff);
+        place = short_end(place + 2, value % VALUE_IS_FINAL);
         left -= 1;
     }
     add_unit(list, units, place)?;
@@ -44,7 +47,7 @@ fn add_part(
     part: usize,
     count: usize,
 ) -> Result<(), AllocError> {
-    if count <= 5 {
+    if count <= MAX_BRANCH_LINEAR_SUB_NODE_LENGTH {
         add_row(list, units, part, count)?;
         return Ok(());
     }
@@ -67,7 +70,7 @@ fn add_match(
     place: usize,
     low: u16,
 ) -> Result<(), AllocError> {
-    if low >= 0x30 {
+    if low >= MIN_LINEAR_MATCH {
         add_unit(list, units, place)?;
         return Ok(());
     }
@@ -87,10 +90,10 @@ fn add_node(list: &mut Vec<u16>, units: ZeroSlice<'_, u16>, node: usize) -> Resu
     let Some(lead) = unit_at(units, node) else {
         return Ok(());
     };
-    if lead >= 0x8000 {
+    if lead >= VALUE_IS_FINAL {
         return Ok(());
     }
-    add_match(list, units, node_end(node + 1, lead), lead % 64)?;
+    add_match(list, units, node_end(node + 1, lead), lead % MIN_VALUE_LEAD)?;
     Ok(())
 }
 

@@ -2,7 +2,10 @@
 
 #[allow(unused_imports)]
 use crate::support::prelude::*;
-use crate::icu_char16trie::encoded::{delta_end, entry_child, lower_part, node_end, short_end, unit_at};
+use crate::icu_char16trie::encoded::{delta_end, entry_child, lower_part, node_end, run_len, short_end, unit_at};
+use crate::icu_char16trie::impl_const::{
+    MAX_BRANCH_LINEAR_SUB_NODE_LENGTH, MIN_LINEAR_MATCH, MIN_VALUE_LEAD, VALUE_IS_FINAL,
+};
 use crate::icu_char16trie::spelling::{Mark, Spelling};
 use crate::icu_char16trie::step::value_by;
 use crate::icu_zerovec::{MemoryError, ZeroSlice};
@@ -68,7 +71,7 @@ impl<'a> Pending<'a> {
         let Some(child) = entry_child(self.units, place + 2, value) else {
             return Ok(());
         };
-        self.put_off(short_end(place + 2, value & 0x7fff), count - 1)?;
+        self.put_off(short_end(place + 2, value % VALUE_IS_FINAL), count - 1)?;
         self.spelling.try_push(unit)?;
         self.node = Some(child);
         Ok(())
@@ -76,7 +79,7 @@ impl<'a> Pending<'a> {
 
     /// Moves to the first node of a part, and postpones the rest.
     fn enter_part(&mut self, place: usize, count: usize) -> Result<(), AllocError> {
-        if count <= 5 {
+        if count <= MAX_BRANCH_LINEAR_SUB_NODE_LENGTH {
             self.enter_row(place, count)?;
             return Ok(());
         }
@@ -109,8 +112,8 @@ impl<'a> Pending<'a> {
     /// Moves to the first node after a match node. `low` is the low six bits of its lead unit, and
     /// `place` is the index after the lead and its value.
     pub(crate) fn open_match(&mut self, place: usize, low: u16) -> Result<(), AllocError> {
-        if low >= 0x30 {
-            self.pass_run(place, low as usize - 0x2f)?;
+        if low >= MIN_LINEAR_MATCH {
+            self.pass_run(place, run_len(low))?;
             return Ok(());
         }
         if low > 0 {
@@ -147,10 +150,10 @@ impl<'a> Pending<'a> {
             return Ok(None);
         };
         let item = self.item_by(place + 1, lead)?;
-        if lead >= 0x8000 {
+        if lead >= VALUE_IS_FINAL {
             return Ok(item);
         }
-        self.open_match(node_end(place + 1, lead), lead % 64)?;
+        self.open_match(node_end(place + 1, lead), lead % MIN_VALUE_LEAD)?;
         Ok(item)
     }
 

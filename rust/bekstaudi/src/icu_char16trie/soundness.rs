@@ -6,8 +6,11 @@
 #[allow(unused_imports)]
 use crate::support::prelude::*;
 use crate::icu_char16trie::encoded::{
-    delta_end, entry_child, lower_part, node_end, node_number, short_end, short_number, two_at,
-    unit_at,
+    delta_end, entry_child, lower_part, node_end, node_number, run_len, short_end, short_number,
+    two_at, unit_at,
+};
+use crate::icu_char16trie::impl_const::{
+    MAX_BRANCH_LINEAR_SUB_NODE_LENGTH, MIN_LINEAR_MATCH, MIN_VALUE_LEAD, VALUE_IS_FINAL,
 };
 use crate::icu_char16trie::trie::Char16Trie;
 use crate::icu_zerovec::{MemoryError, ZeroSlice};
@@ -42,7 +45,7 @@ fn check_row(
         }
         want(wanted, child)?;
         least = usize::from(unit) + 1;
-        place = short_end(place + 2, value & 0x7fff);
+        place = short_end(place + 2, value % VALUE_IS_FINAL);
         left -= 1;
     }
     let last = unit_at(units, place)?;
@@ -62,7 +65,7 @@ fn check_part(
     count: usize,
     from: usize,
 ) -> Option<usize> {
-    if count <= 5 {
+    if count <= MAX_BRANCH_LINEAR_SUB_NODE_LENGTH {
         return check_row(units, wanted, part, count, from);
     }
     let (split, delta) = two_at(units, part)?;
@@ -79,8 +82,8 @@ fn check_part(
 /// Checks the own units of a match node and marks the nodes that it leads to. `low` is the low six
 /// bits of its lead unit, and `place` is the index after the lead and its value.
 fn check_match(units: ZeroSlice<'_, u16>, wanted: &mut [bool], place: usize, low: u16) -> Option<()> {
-    if low >= 0x30 {
-        return want(wanted, place + (usize::from(low) - 0x2f));
+    if low >= MIN_LINEAR_MATCH {
+        return want(wanted, place + run_len(low));
     }
     if low > 0 {
         check_part(units, wanted, place, usize::from(low) + 1, 0)?;
@@ -98,16 +101,16 @@ fn check_match(units: ZeroSlice<'_, u16>, wanted: &mut [bool], place: usize, low
 #[inline]
 pub(crate) fn check_node(units: ZeroSlice<'_, u16>, wanted: &mut [bool], place: usize) -> Option<()> {
     let lead = unit_at(units, place)?;
-    if lead >= 0x8000 {
-        short_number(units, place + 1, lead - 0x8000)?;
+    if lead >= VALUE_IS_FINAL {
+        short_number(units, place + 1, lead - VALUE_IS_FINAL)?;
         return Some(());
     }
-    if lead < 0x40 {
+    if lead < MIN_VALUE_LEAD {
         return check_match(units, wanted, place + 1, lead);
     }
     node_number(units, place + 1, lead)?;
     let end = node_end(place + 1, lead);
-    check_match(units, wanted, end, lead % 64)
+    check_match(units, wanted, end, lead % MIN_VALUE_LEAD)
 }
 
 /// Returns true if there is a node at each marked index.

@@ -2,6 +2,7 @@
 
 use crate::icu_char16trie::branch::child_in_part;
 use crate::icu_char16trie::encoded::{node_end, node_number, short_number, unit_at};
+use crate::icu_char16trie::impl_const::{MIN_LINEAR_MATCH, MIN_VALUE_LEAD, VALUE_IS_FINAL};
 use crate::icu_char16trie::place::Place;
 use crate::icu_zerovec::ZeroSlice;
 
@@ -33,8 +34,8 @@ fn step_in_branch(units: ZeroSlice<'_, u16>, place: usize, length: usize, unit: 
 /// lead unit, and `place` is the index after the lead and its value.
 #[inline(always)]
 fn step_in_match(units: ZeroSlice<'_, u16>, place: usize, low: u16, unit: u16) -> Place {
-    if low >= 0x30 {
-        return step_in_run(units, place, (low - 0x30) as u8, unit);
+    if low >= MIN_LINEAR_MATCH {
+        return step_in_run(units, place, (low - MIN_LINEAR_MATCH) as u8, unit);
     }
     if low > 0 {
         return step_in_branch(units, place, usize::from(low) + 1, unit);
@@ -51,13 +52,18 @@ fn step_in_node(units: ZeroSlice<'_, u16>, place: usize, unit: u16) -> Place {
     let Some(lead) = unit_at(units, place) else {
         return Place::Nowhere;
     };
-    if lead >= 0x8000 {
+    if lead >= VALUE_IS_FINAL {
         return Place::Nowhere;
     }
-    if lead < 0x40 {
+    if lead < MIN_VALUE_LEAD {
         return step_in_match(units, place + 1, lead, unit);
     }
-    step_in_match(units, node_end(place + 1, lead), lead % 64, unit)
+    step_in_match(
+        units,
+        node_end(place + 1, lead),
+        lead % MIN_VALUE_LEAD,
+        unit,
+    )
 }
 
 /// Returns the position after one more unit.
@@ -74,13 +80,13 @@ pub(crate) fn step(units: ZeroSlice<'_, u16>, place: Place, unit: u16) -> Place 
 /// are missing.
 #[inline(always)]
 pub(crate) fn value_by(units: ZeroSlice<'_, u16>, place: usize, lead: u16) -> Option<i32> {
-    if lead < 0x40 {
+    if lead < MIN_VALUE_LEAD {
         None
-    } else if lead < 0x8000 {
+    } else if lead < VALUE_IS_FINAL {
         Some(node_number(units, place, lead).unwrap_or(0).cast_signed())
     } else {
         Some(
-            short_number(units, place, lead - 0x8000)
+            short_number(units, place, lead - VALUE_IS_FINAL)
                 .unwrap_or(0)
                 .cast_signed(),
         )
@@ -104,7 +110,7 @@ pub(crate) fn value_at(units: ZeroSlice<'_, u16>, place: Place) -> Option<i32> {
 pub(crate) fn is_empty_at(units: ZeroSlice<'_, u16>, place: Place) -> bool {
     match place {
         Place::Nowhere => true,
-        Place::Node(node) => unit_at(units, node).is_none_or(|lead| lead >= 0x8000),
+        Place::Node(node) => unit_at(units, node).is_none_or(|lead| lead >= VALUE_IS_FINAL),
         Place::Run(_, _) => false,
     }
 }

@@ -4,13 +4,8 @@
 #[allow(unused_imports)]
 use crate::support::prelude::*;
 use crate::icu_char16trie_builder::write::{put_all, put_delta, put_final, put_one, put_short, put_value};
+use crate::icu_char16trie::impl_const::{MAX_LINEAR_MATCH_LENGTH, MIN_LINEAR_MATCH};
 use crate::support::AllocError;
-
-/// The largest number of units in a linear match.
-pub(crate) const LONGEST_RUN: usize = 16;
-
-/// The largest number of entries of a branch whose length fits in its lead.
-const LONGEST_SHORT_BRANCH: usize = 0x30;
 
 /// Writes a node that has only a value.
 #[inline]
@@ -70,7 +65,7 @@ fn write_lead(out: &mut Vec<u16>, low: u16, value: Option<i32>) -> Result<(), Al
 /// low six bits of the lead.
 #[inline]
 fn write_length(out: &mut Vec<u16>, count: usize) -> Result<u16, AllocError> {
-    if count <= LONGEST_SHORT_BRANCH {
+    if count <= MIN_LINEAR_MATCH as usize {
         return Ok((count - 1) as u16);
     }
     put_one(out, (count - 1) as u16)?;
@@ -98,7 +93,7 @@ pub(crate) fn write_run(
     value: Option<i32>,
 ) -> Result<(), AllocError> {
     put_all(out, units)?;
-    write_lead(out, 0x2f + units.len() as u16, value)?;
+    write_lead(out, MIN_LINEAR_MATCH - 1 + units.len() as u16, value)?;
     Ok(())
 }
 
@@ -109,7 +104,7 @@ pub(crate) fn write_tail(out: &mut Vec<u16>, units: &[u16], value: i32) -> Resul
     write_final(out, value)?;
     let mut left = units.len();
     while left > 0 {
-        let start = left.saturating_sub(LONGEST_RUN);
+        let start = left.saturating_sub(MAX_LINEAR_MATCH_LENGTH as usize);
         write_run(out, &units[start..left], None)?;
         left = start;
     }

@@ -4,12 +4,10 @@
 use crate::support::prelude::*;
 use crate::icu_char16trie_builder::arms::{arms_of, shared_len};
 use crate::icu_char16trie_builder::entry::{Arm, Entry};
-use crate::icu_char16trie_builder::level::{LONGEST_RUN, write_tail};
+use crate::icu_char16trie_builder::level::write_tail;
 use crate::icu_char16trie_builder::step::Step;
+use crate::icu_char16trie::impl_const::{MAX_BRANCH_LINEAR_SUB_NODE_LENGTH, MAX_LINEAR_MATCH_LENGTH};
 use crate::support::{AllocError};
-
-/// The largest number of entries in a row, which is searched one by one.
-const LONGEST_ROW: usize = 5;
 
 /// Returns the value of an arm whose only key ends at `depth`.
 #[inline]
@@ -47,7 +45,7 @@ fn push_part<'a>(
     arms: &[Arm<'a>],
     depth: usize,
 ) -> Result<(), AllocError> {
-    if arms.len() > LONGEST_ROW {
+    if arms.len() > MAX_BRANCH_LINEAR_SUB_NODE_LENGTH {
         let (lower, upper) = arms.split_at(arms.len() / 2);
         steps.try_push(Step::Split(first_arm(upper).unit))?;
         push_part(steps, upper, depth)?;
@@ -75,7 +73,6 @@ fn push_part<'a>(
 
 /// Adds the steps of a linear match: the unit that all keys have at `depth`, and up to fifteen more
 /// that they share.
-#[inline]
 fn push_run<'a>(
     steps: &mut Vec<Step<'a>>,
     first: &Entry<'a>,
@@ -84,7 +81,8 @@ fn push_run<'a>(
     value: Option<i32>,
 ) -> Result<(), AllocError> {
     let units = units_from(first.key, depth);
-    let shared = 1 + shared_len(units_from(units, 1), entries, depth + 1, LONGEST_RUN - 1);
+    let most = MAX_LINEAR_MATCH_LENGTH as usize - 1;
+    let shared = 1 + shared_len(units_from(units, 1), entries, depth + 1, most);
     steps.try_push(Step::Run(units.split_at(shared).0, value))?;
     steps.try_push(Step::Node(entries, depth + shared))?;
     Ok(())

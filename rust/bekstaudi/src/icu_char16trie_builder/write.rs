@@ -3,6 +3,10 @@
 
 #[allow(unused_imports)]
 use crate::support::prelude::*;
+use crate::icu_char16trie::impl_const::{
+    MIN_TWO_UNIT_DELTA_LEAD, MIN_TWO_UNIT_NODE_LEAD, MIN_TWO_UNIT_VALUE_LEAD, MIN_VALUE_LEAD,
+    THREE_UNIT_DELTA_LEAD, THREE_UNIT_NODE_LEAD, THREE_UNIT_VALUE_LEAD, VALUE_IS_FINAL,
+};
 use crate::support::AllocError;
 
 /// Writes one unit in front of the others.
@@ -32,29 +36,29 @@ fn put_tail(out: &mut Vec<u16>, number: u32, two: u16, three: u16) -> Result<u16
 /// Writes the jump of an entry: one unit below 0x4000, two below 0x3FFF_0000, and otherwise three.
 #[inline]
 pub(crate) fn put_short(out: &mut Vec<u16>, number: u32) -> Result<(), AllocError> {
-    let lead = put_tail(out, number, 0x4000, 0x7fff)?;
+    let lead = put_tail(out, number, MIN_TWO_UNIT_VALUE_LEAD, THREE_UNIT_VALUE_LEAD)?;
     put_one(out, lead)
 }
 
 /// Writes a final value: one unit below 0x4000, two below 0x3FFF_0000, and otherwise three.
 #[inline]
 pub(crate) fn put_final(out: &mut Vec<u16>, number: u32) -> Result<(), AllocError> {
-    let lead = put_tail(out, number, 0x4000, 0x7fff)?;
-    put_one(out, 0x8000 + lead)
+    let lead = put_tail(out, number, MIN_TWO_UNIT_VALUE_LEAD, THREE_UNIT_VALUE_LEAD)?;
+    put_one(out, VALUE_IS_FINAL + lead)
 }
 
 /// Writes the lead of a match node with these low six bits and a value: one unit below 0x100, two
 /// below 0xFE_0000, and otherwise three.
 #[inline]
 pub(crate) fn put_value(out: &mut Vec<u16>, number: u32, low: u16) -> Result<(), AllocError> {
-    let lead = put_tail(out, number, 0x100, 0x1fe)?;
-    put_one(out, (lead + 1) * 64 + low)
+    let lead = put_tail(out, number, MIN_TWO_UNIT_NODE_LEAD, THREE_UNIT_NODE_LEAD)?;
+    put_one(out, (lead + 1) * MIN_VALUE_LEAD + low)
 }
 
 /// Writes the delta of a split: one unit below 0xFC00, two below 0x03FF_0000, and otherwise three.
 #[inline]
 pub(crate) fn put_delta(out: &mut Vec<u16>, number: u32) -> Result<(), AllocError> {
-    let lead = put_tail(out, number, 0xfc00, 0xffff)?;
+    let lead = put_tail(out, number, MIN_TWO_UNIT_DELTA_LEAD, THREE_UNIT_DELTA_LEAD)?;
     put_one(out, lead)
 }
 

@@ -16,274 +16,270 @@ use crate::icu_trie_core::lookup::{high_cell_of, index2_cell_of, offset_of};
 use crate::icu_trie_core::value::TrieValue;
 use crate::icu_trie_core::walk::is_same;
 use crate::icu_zerovec::CODE_POINT_LIMIT;
+use core::ops::Range;
 
-/// Returns the first position in `from..len` of a data block with another value, or `len` if there
-/// is none. Returns `None` if a missing cell comes first.
+/// Returns the code point at which the blocks of a trie end: the high start, or 0x110000 if that is
+/// less.
 #[inline(always)]
-fn extend_by_cells<T: TrieValue, C: Cells<T>>(
-    cells: &mut C,
-    offset: u32,
-    len: u32,
-    from: u32,
-    value: T,
-) -> Option<u32> {
-    let there = cells
-        .data_len()
-        .saturating_sub(offset as usize)
-        .min(len as usize) as u32;
-    for place in from..there {
-        if !is_same(cells.data_at((offset + place) as usize), value) {
-            return Some(place);
+pub(crate) fn blocks_end_of(header: &CodePointTrieHeader) -> u32 {
+    header.high_start.min(CODE_POINT_LIMIT)
+}
+
+/// What a walk looks for: how far `value` extends in the trie with this header.
+pub(crate) struct Walk<'a, T> {
+    /// The header of the trie.
+    pub(crate) header: &'a CodePointTrieHeader,
+    /// The value of the code points.
+    pub(crate) value: T,
+}
+
+impl<'a, T: TrieValue> Walk<'a, T> {
+    /// Returns the first position in `range` of a data block with another value, or the end of
+    /// `range` if there is none. Returns `None` if a missing cell comes first.
+    #[inline(always)]
+    fn extend_by_cells<C: Cells<T>>(
+        &self,
+        cells: &mut C,
+        offset: u32,
+        range: Range<u32>,
+    ) -> Option<u32> {
+        let there = cells
+            .data_len()
+            .saturating_sub(offset as usize)
+            .min(range.end as usize) as u32;
+        for position in range.start..there {
+            if !is_same(
+                cells.data_at(offset as usize + position as usize),
+                self.value,
+            ) {
+                return Some(position);
+            }
+        }
+        if there < range.end {
+            None
+        } else {
+            Some(range.end)
         }
     }
-    if there < len { None } else { Some(len) }
-}
 
-/// Returns the first position in `from..len` of a data block with another value, or `len` if there
-/// is none.
-///
-/// It does not read a block that is named as null or that is remembered to hold the value.
-#[inline(always)]
-fn extend_in_block<T: TrieValue, C: Cells<T>>(
-    header: &CodePointTrieHeader,
-    cells: &mut C,
-    offset: u32,
-    len: u32,
-    from: u32,
-    value: T,
-    remembered: Option<u32>,
-) -> Option<u32> {
-    if remembered == Some(offset) {
-        return Some(len);
+    /// Returns the first position in `range` of a data block with another value, or the end of
+    /// `range` if there is none.
+    ///
+    /// It does not read a block that is named as null.
+    #[inline(always)]
+    fn extend_in_block<C: Cells<T>>(
+        &self,
+        cells: &mut C,
+        offset: u32,
+        range: Range<u32>,
+    ) -> Option<u32> {
+        if offset == self.header.data_null_offset {
+            let null = T::try_from_u32(self.header.null_value).ok()?;
+            return Some(if is_same(null, self.value) {
+                range.end
+            } else {
+                range.start
+            });
+        }
+        self.extend_by_cells(cells, offset, range)
     }
-    if offset == header.data_null_offset {
-        let null = T::try_from_u32(header.null_value).ok()?;
-        return Some(if is_same(null, value) { len } else { from });
-    }
-    extend_by_cells(cells, offset, len, from, value)
-}
 
-/// Returns the first code point in `start..limit` with another value, or `limit` if there is none.
-/// It goes through the blocks of 64.
-///
-/// This function and `extend_index3` are not inlined, so that their loops keep all they need in
-/// registers.
-#[inline(never)]
-fn extend_fast<T: TrieValue, C: Cells<T>>(
-    header: &CodePointTrieHeader,
-    cells: &mut C,
-    limit: u32,
-    start: u32,
-    value: T,
-) -> Option<u32> {
-    let mut remembered = None;
-    for block in start / FAST_TYPE_DATA_BLOCK_LENGTH..limit.div_ceil(FAST_TYPE_DATA_BLOCK_LENGTH) {
-        let base = block * FAST_TYPE_DATA_BLOCK_LENGTH;
-        let len = (limit - base).min(FAST_TYPE_DATA_BLOCK_LENGTH);
-        let offset = u32::from(cells.index_cell(block as usize)?);
-        let reach = extend_in_block(header, cells, offset, len, 0, value, remembered)?;
+    /// Returns the first code point with another value among those from `start` on in blocks of 64.
+    /// If there is none, returns the fast limit, or the end of the blocks if that is less.
+    ///
+    /// This function and `extend_index3` are not inlined, so that their loops keep all they need in
+    /// registers.
+    #[inline(never)]
+    fn extend_fast<C: Cells<T>>(&self, cells: &mut C, start: u32) -> Option<u32> {
+        let limit = blocks_end_of(self.header).min(self.header.trie_type.fast_limit());
+        let mut remembered = None;
+        let blocks = limit.div_ceil(FAST_TYPE_DATA_BLOCK_LENGTH);
+        for block in start / FAST_TYPE_DATA_BLOCK_LENGTH..blocks {
+            let base = block * FAST_TYPE_DATA_BLOCK_LENGTH;
+            let len = (limit - base).min(FAST_TYPE_DATA_BLOCK_LENGTH);
+            let offset = u32::from(cells.index_cell(block as usize)?);
+            if remembered == Some(offset) {
+                continue;
+            }
+            let reach = self.extend_in_block(cells, offset, 0..len)?;
+            if reach < len {
+                return Some(base + reach);
+            }
+            remembered = Some(offset);
+        }
+        Some(limit)
+    }
+
+    /// Returns the first position in `range` of an index-3 block with another value, or the end of
+    /// `range` if there is none. It goes through the blocks of 16.
+    #[inline(never)]
+    fn extend_index3<C: Cells<T>>(&self, cells: &mut C, cell: u16, range: Range<u32>) -> Option<u32> {
+        let len = range.end;
+        let mut remembered = None;
+        let blocks = len.div_ceil(SMALL_DATA_BLOCK_LENGTH);
+        for block in range.start / SMALL_DATA_BLOCK_LENGTH..blocks {
+            let base = block * SMALL_DATA_BLOCK_LENGTH;
+            let block_len = (len - base).min(SMALL_DATA_BLOCK_LENGTH);
+            let offset = offset_of(cells, cell, block)?;
+            if remembered == Some(offset) {
+                continue;
+            }
+            let reach = self.extend_in_block(cells, offset, 0..block_len)?;
+            if reach < block_len {
+                return Some(base + reach);
+            }
+            remembered = Some(offset);
+        }
+        Some(len)
+    }
+
+    /// Returns the first position below `len` in a block of 512 with another value, or `len` if
+    /// there is none.
+    ///
+    /// It does not read a block that is named as null.
+    #[inline]
+    fn extend_in_cell<C: Cells<T>>(&self, cells: &mut C, cell: u16, len: u32) -> Option<u32> {
+        if cell == self.header.index3_null_offset {
+            let null = T::try_from_u32(self.header.null_value).ok()?;
+            return Some(if is_same(null, self.value) { len } else { 0 });
+        }
+        self.extend_index3(cells, cell, 0..len)
+    }
+
+    /// Returns the first code point with another value among those from `start` on in blocks of
+    /// 512, or the end of the blocks if there is none.
+    fn extend_small<C: Cells<T>>(&self, cells: &mut C, start: u32) -> Option<u32> {
+        let limit = blocks_end_of(self.header);
+        let mut remembered = None;
+        for block in start / CP_PER_INDEX_2_ENTRY..limit.div_ceil(CP_PER_INDEX_2_ENTRY) {
+            let base = block * CP_PER_INDEX_2_ENTRY;
+            let len = (limit - base).min(CP_PER_INDEX_2_ENTRY);
+            let cell = index2_cell_of(self.header.trie_type, cells, base)?;
+            if remembered == Some(cell) {
+                continue;
+            }
+            let reach = self.extend_in_cell(cells, cell, len)?;
+            if reach < len {
+                return Some(base + reach);
+            }
+            remembered = Some(cell);
+        }
+        Some(limit)
+    }
+
+    /// Returns the first code point from `start` on in blocks with another value, or the end of the
+    /// blocks if there is none.
+    ///
+    /// `start` is that end or the start of a block.
+    fn extend<C: Cells<T>>(&self, cells: &mut C, start: u32) -> Option<u32> {
+        if start == blocks_end_of(self.header) {
+            return Some(start);
+        }
+        let fast_limit = self.header.trie_type.fast_limit();
+        if start >= fast_limit {
+            return self.extend_small(cells, start);
+        }
+        let end = self.extend_fast(cells, start)?;
+        if end < fast_limit {
+            return Some(end);
+        }
+        self.extend_small(cells, fast_limit)
+    }
+
+    /// Returns whether the high value equals the value, or `None` if the data have no high value.
+    #[inline]
+    fn high_is<C: Cells<T>>(&self, cells: &mut C) -> Option<bool> {
+        let place = high_cell_of(cells.data_len())?;
+        let high = cells.data_cell(place)?;
+        Some(is_same(high, self.value))
+    }
+
+    /// Returns the first code point from `start` on with another value, or 0x110000 if there is
+    /// none.
+    ///
+    /// `start` is the end of the blocks or the start of a block. This function is not inlined,
+    /// since most ranges end in the block in which they start.
+    #[inline(never)]
+    fn extend_to_end<C: Cells<T>>(&self, cells: &mut C, start: u32) -> Option<u32> {
+        let end = self.extend(cells, start)?;
+        let limit = blocks_end_of(self.header);
+        if end < limit || limit == CODE_POINT_LIMIT {
+            return Some(end);
+        }
+        Some(if self.high_is(cells)? {
+            CODE_POINT_LIMIT
+        } else {
+            limit
+        })
+    }
+
+    /// Returns the first code point from `c` on with another value, or 0x110000 if there is none.
+    ///
+    /// `offset` is the data offset of the block of 64 that contains `c`.
+    #[inline(always)]
+    pub(crate) fn extend_from_fast<C: Cells<T>>(
+        &self,
+        cells: &mut C,
+        c: u32,
+        offset: u32,
+    ) -> Option<u32> {
+        let base = c / FAST_TYPE_DATA_BLOCK_LENGTH * FAST_TYPE_DATA_BLOCK_LENGTH;
+        let len = (blocks_end_of(self.header) - base).min(FAST_TYPE_DATA_BLOCK_LENGTH);
+        let reach = self.extend_in_block(cells, offset, c - base..len)?;
         if reach < len {
             return Some(base + reach);
         }
-        remembered = Some(offset);
+        self.extend_to_end(cells, base + len)
     }
-    Some(limit)
-}
 
-/// Returns the first position in `from..len` of an index-3 block with another value, or `len` if
-/// there is none. It goes through the blocks of 16.
-#[inline(never)]
-fn extend_index3<T: TrieValue, C: Cells<T>>(
-    header: &CodePointTrieHeader,
-    cells: &mut C,
-    cell: u16,
-    len: u32,
-    from: u32,
-    value: T,
-) -> Option<u32> {
-    let mut remembered = None;
-    for place in from / SMALL_DATA_BLOCK_LENGTH..len.div_ceil(SMALL_DATA_BLOCK_LENGTH) {
-        let base = place * SMALL_DATA_BLOCK_LENGTH;
-        let block_len = (len - base).min(SMALL_DATA_BLOCK_LENGTH);
-        let offset = offset_of(cells, cell, place)?;
-        let reach = extend_in_block(header, cells, offset, block_len, 0, value, remembered)?;
-        if reach < block_len {
-            return Some(base + reach);
+    /// Returns the first position in `range` of a block of 512 with another value, or the end of
+    /// `range` if there is none.
+    ///
+    /// `offset` is the data offset of the block of 16 that contains the start of `range`.
+    #[inline(always)]
+    fn extend_from_block<C: Cells<T>>(
+        &self,
+        cells: &mut C,
+        cell: u16,
+        offset: u32,
+        range: Range<u32>,
+    ) -> Option<u32> {
+        if cell != self.header.index3_null_offset {
+            let base = range.start / SMALL_DATA_BLOCK_LENGTH * SMALL_DATA_BLOCK_LENGTH;
+            let len = (range.end - base).min(SMALL_DATA_BLOCK_LENGTH);
+            let reach = self.extend_in_block(cells, offset, range.start - base..len)?;
+            if reach < SMALL_DATA_BLOCK_LENGTH {
+                return Some(base + reach);
+            }
+            let next = base + SMALL_DATA_BLOCK_LENGTH;
+            return self.extend_index3(cells, cell, next..range.end);
         }
-        remembered = Some(offset);
+        let null = T::try_from_u32(self.header.null_value).ok()?;
+        Some(if is_same(null, self.value) {
+            range.end
+        } else {
+            range.start
+        })
     }
-    Some(len)
-}
 
-/// Returns the first position in `0..len` of a block of 512 with another value, or `len` if there
-/// is none.
-///
-/// It does not read a block that is named as null or that is remembered to hold the value.
-fn extend_in_cell<T: TrieValue, C: Cells<T>>(
-    header: &CodePointTrieHeader,
-    cells: &mut C,
-    cell: u16,
-    len: u32,
-    value: T,
-    remembered: Option<u16>,
-) -> Option<u32> {
-    if remembered == Some(cell) {
-        return Some(len);
-    }
-    if cell == header.index3_null_offset {
-        let null = T::try_from_u32(header.null_value).ok()?;
-        return Some(if is_same(null, value) { len } else { 0 });
-    }
-    extend_index3(header, cells, cell, len, 0, value)
-}
-
-/// Returns the first code point in `start..limit` with another value, or `limit` if there is none.
-/// It goes through the blocks of 512 from the fast limit on.
-fn extend_small<T: TrieValue, C: Cells<T>>(
-    header: &CodePointTrieHeader,
-    cells: &mut C,
-    limit: u32,
-    start: u32,
-    value: T,
-) -> Option<u32> {
-    let mut remembered = None;
-    for block in start / CP_PER_INDEX_2_ENTRY..limit.div_ceil(CP_PER_INDEX_2_ENTRY) {
-        let base = block * CP_PER_INDEX_2_ENTRY;
-        let len = (limit - base).min(CP_PER_INDEX_2_ENTRY);
-        let cell = index2_cell_of(header.trie_type, cells, base)?;
-        let reach = extend_in_cell(header, cells, cell, len, value, remembered)?;
+    /// Returns the first code point from `c` on with another value, or 0x110000 if there is none.
+    ///
+    /// `cell` is the index-2 cell of the block of 512 that contains `c`, and `offset` is the data
+    /// offset of the block of 16 that does.
+    #[inline(always)]
+    pub(crate) fn extend_from_small<C: Cells<T>>(
+        &self,
+        cells: &mut C,
+        c: u32,
+        cell: u16,
+        offset: u32,
+    ) -> Option<u32> {
+        let base = c / CP_PER_INDEX_2_ENTRY * CP_PER_INDEX_2_ENTRY;
+        let len = (blocks_end_of(self.header) - base).min(CP_PER_INDEX_2_ENTRY);
+        let reach = self.extend_from_block(cells, cell, offset, c - base..len)?;
         if reach < len {
             return Some(base + reach);
         }
-        remembered = Some(cell);
+        self.extend_to_end(cells, base + len)
     }
-    Some(limit)
-}
-
-/// Returns the first code point in `start..limit` with another value, or `limit` if there is none.
-///
-/// `start` is `limit` or the start of a block.
-fn extend<T: TrieValue, C: Cells<T>>(
-    header: &CodePointTrieHeader,
-    cells: &mut C,
-    limit: u32,
-    start: u32,
-    value: T,
-) -> Option<u32> {
-    if start == limit {
-        return Some(limit);
-    }
-    let fast_limit = header.trie_type.fast_limit();
-    if start >= fast_limit {
-        return extend_small(header, cells, limit, start, value);
-    }
-    let fast_end = limit.min(fast_limit);
-    let end = extend_fast(header, cells, fast_end, start, value)?;
-    if end < fast_end || limit <= fast_limit {
-        return Some(end);
-    }
-    extend_small(header, cells, limit, fast_limit, value)
-}
-
-/// Returns whether the high value equals `value`, or `None` if the data have no high value.
-#[inline]
-fn high_is<T: TrieValue, C: Cells<T>>(cells: &mut C, value: T) -> Option<bool> {
-    let place = high_cell_of(cells.data_len())?;
-    let high = cells.data_cell(place)?;
-    Some(is_same(high, value))
-}
-
-/// Returns the first code point from `start` on with another value, or 0x110000 if there is none.
-///
-/// `limit` is the high start, or 0x110000 if that is less. `start` is `limit` or the start of a
-/// block. This function is not inlined, since most ranges end in the block in which they start.
-#[inline(never)]
-fn extend_to_end<T: TrieValue, C: Cells<T>>(
-    header: &CodePointTrieHeader,
-    cells: &mut C,
-    limit: u32,
-    start: u32,
-    value: T,
-) -> Option<u32> {
-    let end = extend(header, cells, limit, start, value)?;
-    if end < limit || limit == CODE_POINT_LIMIT {
-        return Some(end);
-    }
-    Some(if high_is(cells, value)? {
-        CODE_POINT_LIMIT
-    } else {
-        limit
-    })
-}
-
-/// Returns the first code point from `c` on with another value, or 0x110000 if there is none.
-///
-/// `offset` is the data offset of the block of 64 that contains `c`.
-#[inline(always)]
-pub(crate) fn extend_from_fast<T: TrieValue, C: Cells<T>>(
-    header: &CodePointTrieHeader,
-    cells: &mut C,
-    limit: u32,
-    c: u32,
-    offset: u32,
-    value: T,
-) -> Option<u32> {
-    let base = c / FAST_TYPE_DATA_BLOCK_LENGTH * FAST_TYPE_DATA_BLOCK_LENGTH;
-    let len = (limit - base).min(FAST_TYPE_DATA_BLOCK_LENGTH);
-    let reach = extend_in_block(header, cells, offset, len, c - base, value, None)?;
-    if reach < len {
-        return Some(base + reach);
-    }
-    extend_to_end(header, cells, limit, base + len, value)
-}
-
-/// Returns the first position in `from..len` of a block of 512 with another value, or `len` if
-/// there is none.
-///
-/// `offset` is the data offset of the block of 16 that contains position `from`.
-#[inline(always)]
-fn extend_from_block<T: TrieValue, C: Cells<T>>(
-    header: &CodePointTrieHeader,
-    cells: &mut C,
-    cell: u16,
-    offset: u32,
-    len: u32,
-    from: u32,
-    value: T,
-) -> Option<u32> {
-    if cell != header.index3_null_offset {
-        let base = from / SMALL_DATA_BLOCK_LENGTH * SMALL_DATA_BLOCK_LENGTH;
-        let block_len = SMALL_DATA_BLOCK_LENGTH.min(len - base);
-        let reach = extend_in_block(header, cells, offset, block_len, from - base, value, None)?;
-        if reach < SMALL_DATA_BLOCK_LENGTH {
-            return Some(base + reach);
-        }
-        let next = base + SMALL_DATA_BLOCK_LENGTH;
-        return extend_index3(header, cells, cell, len, next, value);
-    }
-    let null = T::try_from_u32(header.null_value).ok()?;
-    Some(if is_same(null, value) { len } else { from })
-}
-
-/// Returns the first code point from `c` on with another value, or 0x110000 if there is none.
-///
-/// `cell` is the index-2 cell of the block of 512 that contains `c`, and `offset` is the data
-/// offset of the block of 16 that does.
-#[inline(always)]
-pub(crate) fn extend_from_small<T: TrieValue, C: Cells<T>>(
-    header: &CodePointTrieHeader,
-    cells: &mut C,
-    limit: u32,
-    c: u32,
-    cell: u16,
-    offset: u32,
-    value: T,
-) -> Option<u32> {
-    let base = c / CP_PER_INDEX_2_ENTRY * CP_PER_INDEX_2_ENTRY;
-    let len = (limit - base).min(CP_PER_INDEX_2_ENTRY);
-    let reach = extend_from_block(header, cells, cell, offset, len, c - base, value)?;
-    if reach < len {
-        return Some(base + reach);
-    }
-    extend_to_end(header, cells, limit, base + len, value)
 }

@@ -5,7 +5,7 @@
 //! true, so a walk sees what look-ups return.
 
 use crate::icu_trie_core::cells::Cells;
-use crate::icu_trie_core::extend::{extend_from_fast, extend_from_small};
+use crate::icu_trie_core::extend::{Walk, blocks_end_of};
 use crate::icu_trie_core::header::CodePointTrieHeader;
 use crate::icu_trie_core::impl_const::{
     CP_PER_INDEX_2_ENTRY, FAST_TYPE_DATA_BLOCK_LENGTH, SMALL_DATA_BLOCK_LENGTH,
@@ -34,28 +34,26 @@ fn range_up_to<T: TrieValue>(c: u32, end: u32, value: T) -> CodePointMapRange<T>
     }
 }
 
-/// `walk` from a code point below `limit` and below the fast limit. One look-up finds the block of
-/// 64, and the walk continues in its cells.
+/// `walk` from a code point below the end of the blocks and below the fast limit. One look-up finds
+/// the block of 64, and the walk continues in its cells.
 #[inline(always)]
 fn walk_fast<T: TrieValue, C: Cells<T>>(
     header: &CodePointTrieHeader,
     cells: &mut C,
-    limit: u32,
     c: u32,
 ) -> Option<CodePointMapRange<T>> {
     let offset = u32::from(cells.index_cell((c / FAST_TYPE_DATA_BLOCK_LENGTH) as usize)?);
     let value = cells.data_cell((offset + c % FAST_TYPE_DATA_BLOCK_LENGTH) as usize)?;
-    let end = extend_from_fast(header, cells, limit, c, offset, value)?;
+    let end = Walk { header, value }.extend_from_fast(cells, c, offset)?;
     Some(range_up_to(c, end, value))
 }
 
-/// `walk` from a code point below `limit` and at or above the fast limit. One look-up finds the
-/// block of 512 and the block of 16, and the walk continues in their cells.
+/// `walk` from a code point below the end of the blocks and at or above the fast limit. One look-up
+/// finds the block of 512 and the block of 16, and the walk continues in their cells.
 #[inline(always)]
 fn walk_small<T: TrieValue, C: Cells<T>>(
     header: &CodePointTrieHeader,
     cells: &mut C,
-    limit: u32,
     c: u32,
 ) -> Option<CodePointMapRange<T>> {
     let base = c / CP_PER_INDEX_2_ENTRY * CP_PER_INDEX_2_ENTRY;
@@ -63,7 +61,7 @@ fn walk_small<T: TrieValue, C: Cells<T>>(
     let place = c % CP_PER_INDEX_2_ENTRY / SMALL_DATA_BLOCK_LENGTH;
     let offset = offset_of(cells, cell, place)?;
     let value = cells.data_cell((offset + c % SMALL_DATA_BLOCK_LENGTH) as usize)?;
-    let end = extend_from_small(header, cells, limit, c, cell, offset, value)?;
+    let end = Walk { header, value }.extend_from_small(cells, c, cell, offset)?;
     Some(range_up_to(c, end, value))
 }
 
@@ -101,14 +99,13 @@ fn walk_any<T: TrieValue, C: Cells<T>>(
     cells: &mut C,
     c: u32,
 ) -> Option<CodePointMapRange<T>> {
-    let limit = header.high_start.min(CODE_POINT_LIMIT);
-    if c >= limit {
+    if c >= blocks_end_of(header) {
         return walk_high(header, cells, c);
     }
     if c < header.trie_type.fast_limit() {
-        return walk_fast(header, cells, limit, c);
+        return walk_fast(header, cells, c);
     }
-    walk_small(header, cells, limit, c)
+    walk_small(header, cells, c)
 }
 
 /// Returns the range of code points from `c` on that have the same value as `c`. The format is

@@ -1,5 +1,5 @@
-//! Makes code point tries of tables of rows, writes them in the forms that other programs read, and
-//! reads and shows them.
+//! Makes code point tries from tables of rows, writes them in the forms that other programs read,
+//! and reads and shows them.
 
 #[allow(unused_imports)]
 use crate::host::{HostRuntime, Text};
@@ -83,7 +83,7 @@ fn input(rt: &HostRuntime) -> Result<Vec<u8>> {
 fn told(fault: BuildFault) -> Error {
     match fault {
         BuildFault::Table(TableError::TooLarge) => {
-            anyhow!("too large: more different blocks of values than one trie has room for")
+            anyhow!("too large: more different blocks of values than fit into a trie")
         }
         _ => fault.into(),
     }
@@ -121,7 +121,7 @@ fn convert(rt: &HostRuntime, matches: &ArgMatches) -> Result<Vec<u8>> {
     let path = matches.get_one::<String>("file").map(String::as_str).context("no file")?;
     let table = table_at(rt, matches, "file")?;
     if matches!(form, Form::Rows) && !table.trie.is_coherent() {
-        let why = "not coherent, so its ranges are not what it answers: no rows are written";
+        let why = "not coherent, so its ranges may differ from its look-ups: no rows are written";
         return Err(refused(path, why));
     }
     Ok(written(&table, form).context(path)?)

@@ -17,7 +17,7 @@ const KEPT_BY_RUST: [&str; 53] = [
 /// Returns the word if each name in source can start with it.
 pub fn name_of(word: &str) -> Result<&str> {
     if !is_name(word) {
-        let why = "no name of letters, digits and _ that begins with no digit";
+        let why = "expected letters, digits and _, not starting with a digit";
         return Err(refused(word, why));
     }
     Ok(word)
@@ -26,7 +26,7 @@ pub fn name_of(word: &str) -> Result<&str> {
 /// Returns the name if it can be that of a module in Rust.
 pub fn module_name(name: &str) -> Result<&str> {
     if KEPT_BY_RUST.iter().any(|kept| *kept == name) {
-        return Err(refused(name, "a word that Rust keeps for itself"));
+        return Err(refused(name, "a reserved word of Rust"));
     }
     Ok(name)
 }

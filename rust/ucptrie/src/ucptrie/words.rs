@@ -68,7 +68,7 @@ const FORM: Argument = Argument {
     id: "as",
     values: ValueParser::Names(&["icu", "toml", "json", "c", "rust", "rows"]),
     required: true,
-    help: "The form that is written",
+    help: "The output form",
     ..OPTION
 };
 
@@ -86,7 +86,7 @@ const BUILD: [Argument; 6] = [
         id: "type",
         values: ValueParser::Names(&["fast", "small"]),
         default: &["fast"],
-        help: "Two reads below 10000, or a smaller trie",
+        help: "fast: two reads below 10000; small: a smaller trie",
         ..OPTION
     },
     Argument {
@@ -141,7 +141,7 @@ const DIFF: [Argument; 2] = [
 const COMMANDS: [(&str, &str, &[Argument]); 5] = [
     (
         "build",
-        "Writes the table of rows, HEX;N or HEX..HEX;N a line of standard input",
+        "Builds a table from rows on standard input, HEX;N or HEX..HEX;N on each line",
         &BUILD,
     ),
     (
@@ -211,7 +211,7 @@ fn command_of(
 
 /// Returns the program's command line in clap's form.
 pub fn program_words() -> Result<Command, AllocError> {
-    let about = "Makes code point tries of tables of rows, and reads them";
+    let about = "Makes code point tries from rows, and reads them";
     let mut program = command_of("ucptrie", about, &[])?.subcommand_required(true);
     for (name, about, arguments) in COMMANDS {
         program = program.subcommand(command_of(name, about, arguments)?);

@@ -163,7 +163,7 @@ impl core::fmt::Display for ReadFault {
             ReadFault::Text => write!(f, "neither a trie in the binary form nor a text in UTF-8"),
             ReadFault::Json(_0) => write!(f, "{_0}"),
             ReadFault::TrieJson(_0) => write!(f, "{_0}"),
-            ReadFault::Toml(_0) => write!(f, "no TOML: {_0}"),
+            ReadFault::Toml(_0) => write!(f, "not TOML: {_0}"),
             ReadFault::TrieToml(_0) => write!(f, "{_0}"),
             ReadFault::Memory => write!(f, "no memory"),
         }
