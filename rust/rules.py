@@ -37,8 +37,7 @@ INSIDE = (
     "PotentialCodePoint::from_u24 ZeroSlice::at ZeroVec::try_into_converted"
     " CodePointInversionList::from_valid_slice Steps::new look_up_far look_up_fast look_up_high"
     " look_up_small look_up_whole NumberMap::set_range NumberMap::repeats NumberMap::copy_block"
-    " NumberMap::get NumberMap::find_other place_block build_index WindowTable::enter_all"
-    " WindowTable::for_cells WindowTable::new"
+    " NumberMap::get NumberMap::find_other CellStore::new CellStore::find CellStore::place build_index"
 ).split()
 # Functions whose `requires` need not hold: an iterator without an end runs until an allocation
 # fails, and a closure that does not return does not return here either.

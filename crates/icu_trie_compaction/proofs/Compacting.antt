@@ -11,10 +11,11 @@ use Rattle.std.proofs.lemmas.Bool.{cases_lt, false_from_ne_true, or_cases}
 use Rattle.std.proofs.lemmas.List.{take_all, take-take, length-append, length-take, length-drop, get_or_append_left, get_or_at}
 use Rattle.icu_trie_core.specs.Blocks.{window, count_different}
 use Rattle.icu_trie_compaction.specs.Different.{count_different_but}
-use Rattle.icu_trie_compaction.specs.Placed.{AllStandIn, IsPlaced}
+use Rattle.icu_trie_compaction.specs.Placed.{AllStandIn, IsPlaced, IsPlacedBlock, OccursNowhere}
 use Rattle.icu_trie_compaction.specs.Windows.{IsLeast}
 use Rattle.icu_trie_compaction.proofs.Counts.{length-le-distinct_count, unique_keys-member, unique_keys-apart, absent-apart, distinct_count-mono}
 use Rattle.icu_trie_compaction.proofs.Windows.{list_laws, list_decides, window-append, times-below}
+use Rattle.icu_trie_compaction.proofs.Placing.{placed-found}
 use Rattle.icu_trie_compaction.proofs.TableLemmas.{append-kept, least-same, least-kept}
 
 and-both : (a b : Bool) → a ≡ true → b ≡ false → (a && not b) ≡ true
@@ -143,41 +144,45 @@ stands-kept k q before stored x h len pos is =
 module _ (k first j : ℕ) (b : ℕ → List ℕ) (before stored offsets : List ℕ) (l : Compacting k first j b before stored offsets) (pos : 0 < k)
     (len : length (b (first + j)) ≡ k) where
   -- A block that does not occur counts as a new one.
-  compacting-fresh : ((q : ℕ) → window k q stored ≢ b (first + j))
+  compacting-fresh : OccursNowhere (b (first + j)) stored
       → (p : List ℕ → Bool) → AllStandIn k before p → length stored + k ≤ length before + k * count_different_but p b first (j + 1)
   compacting-fresh none p st =
       let x : List ℕ = b (first + j) in
       let out : p x ≡ false = false_from_ne_true (p x)
-      (λ t. let w = st x t in none w.0 (stands-kept k w.0 before stored x l.kept len pos w.1)) in
-      let more = count_different_but-more p b first j out (λ i lt e. none (get_or offsets i 0) ((l.least i lt).here ∙ e)) in
+      (λ t. let w = st x t in (rw len at none) w.0 (stands-kept k w.0 before stored x l.kept len pos w.1)) in
+      let more = count_different_but-more p b first j out (λ i lt e. (rw len at none) (get_or offsets i 0) ((l.least i lt).here ∙ e)) in
       omega (arith, l.short p st, times-below k (count_different_but p b first j) (count_different_but p b first (j + 1)) more)
 
-  -- One iteration of the loop.
-  pub compacting-step : (at : ℕ) (stored' offsets' : List ℕ) → IsLeast k at stored' (b (first + j)) → take (length stored) stored' ≡ stored
-      → (length stored < length stored' → (length stored' ≤ length stored + k) × ((q : ℕ) → window k q stored ≢ b (first + j)))
-      → ((p : ℕ → Bool) → AllPass p (b (first + j)) → AllPass p stored → AllPass p stored')
+  -- One more block.
+  pub compacting-step : (limit at : ℕ) (stored' offsets' : List ℕ) → IsPlacedBlock limit (b (first + j)) stored stored' at
       → offsets' ≡ offsets ++ at ∷ [] → Compacting k first (j + 1) b before stored' offsets'
-  compacting-step at stored' offsets' here kept grown drawn o =
+  compacting-step limit at stored' offsets' placed o =
       let longer : length before ≤ length stored = omega (arith, ap length l.kept, length-take (length before) stored) in
       record {
-        kept = sym (take-take (length before) (length stored) stored' longer) ∙ ap (λ xs. take (length before) xs) kept ∙ l.kept;
+        kept = sym (take-take (length before) (length stored) stored' longer) ∙ ap (λ xs. take (length before) xs) placed.kept ∙ l.kept;
         count = omega (arith, ap length o, length-append offsets (at ∷ []), l.count);
         least = below_more (λ i. IsLeast k (get_or offsets' i 0) stored' (b (first + i))) j
             (λ i lt. rw (ap (λ os. get_or os i 0) o, get_or_append_left offsets (at ∷ []) 0 i (omega (arith, lt, l.count)))
-            (least-kept k (get_or offsets i 0) stored stored' (b (first + i)) kept (l.least i lt)))
-            (rw (ap (λ os. get_or os j 0) o, get_or_at offsets at [] 0 j l.count) here);
+            (least-kept k (get_or offsets i 0) stored stored' (b (first + i)) placed.kept (l.least i lt)))
+            (rw (ap (λ os. get_or os j 0) o, get_or_at offsets at [] 0 j l.count) (rw len at placed.least));
         short = λ p st. elim (cases_lt (length stored) (length stored')) [
-          | inl lt ↦ let g = grown lt in omega (arith, g.0, compacting-fresh g.1 p st)
+          | inl lt ↦ let g = placed.grown lt in omega (arith, g.0, len, compacting-fresh g.1 p st)
           | inr ge ↦
               let m = count_different_but-mono p b first j (j + 1) (omega arith) in
               let t : k * count_different_but p b first j ≤ k * count_different_but p b first (j + 1) = mul-le-mul_left k m in
               omega (arith, ge, l.short p st, t)
         ];
-        drawn = λ p all pass. drawn p (all j (omega arith)) (l.drawn p (λ i lt. all i (omega (arith, lt))) pass);
+        drawn = λ p all pass. placed.drawn p (all j (omega arith)) (l.drawn p (λ i lt. all i (omega (arith, lt))) pass);
       }
 
+  -- A block that equals the one before it.
+  pub compacting-again : (offsets' : List ℕ) → 0 < j → b (first + j) ≡ b (first + (j - 1)) → offsets' ≡ offsets ++ (get_or offsets (j - 1) 0) ∷ []
+      → Compacting k first (j + 1) b before stored offsets'
+  compacting-again offsets' some same o = compacting-step 0 (get_or offsets (j - 1) 0) stored offsets'
+      (placed-found 0 (get_or offsets (j - 1) 0) (b (first + j)) stored (rw (len, same) (l.least (j - 1) (omega (arith, some))))) o
+
   -- The limit is exceeded.
-  pub compacting-full : (m limit : ℕ) → j < m → ((q : ℕ) → window k q stored ≢ b (first + j)) → limit < length stored
+  pub compacting-full : (m limit : ℕ) → j < m → OccursNowhere (b (first + j)) stored → limit < length stored
       → limit + k < length before + k * count_different b first m
   compacting-full m limit lt none over =
       let no : List ℕ → Bool = λ x. false in

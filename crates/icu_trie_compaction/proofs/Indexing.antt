@@ -1,26 +1,22 @@
 -- Placing the blocks of 512, one after another.
-use Rattle.std.proofs.Common.{◌≡◌, ◌≢◌, inl, inr, ℕ, ◌+◌, ◌-◌, ◌*◌, ◌<◌, ◌≤◌, false, true, nat_lt, List, [], ◌∷◌, ◌++◌, length, get_or, take, drop, refl, arith, ◌∙◌, sym, ap, subst, below_more, Some}
+use Rattle.std.proofs.Common.{◌≡◌, ◌≢◌, inl, inr, ℕ, ◌+◌, ◌-◌, ◌*◌, ◌/◌, ◌<◌, ◌≤◌, false, true, nat_lt, List, [], ◌∷◌, ◌++◌, length, get_or, take, drop, refl, arith, ◌∙◌, sym, ap, subst, below_more, Some}
 use Rattle.std.specs.List.{AllPass}
 use Rattle.std.proofs.lemmas.Bool.{cases_lt, lt-ltb}
 use Rattle.std.proofs.lemmas.Bool.Decides.{nat_tests}
-use Rattle.std.proofs.lemmas.List.{length-append, length-take, length-drop, get_or_append_left, get_or_at, get_or_default}
+use Rattle.std.proofs.lemmas.List.{length-append, get_or_append_left, get_or_at, get_or_default, take_all}
 use Rattle.icu_trie_core.specs.Blocks.{window, block, count_different}
 use Rattle.icu_trie_core.specs.Format.{offset_in_block}
 use Rattle.icu_trie_compaction.specs.Different.{count_different_but}
-use Rattle.icu_trie_compaction.specs.Windows.{IsLeast, IsTable}
+use Rattle.icu_trie_compaction.specs.Placed.{IsPlacedBlock, OccursNowhere}
+use Rattle.icu_trie_compaction.specs.Windows.{IsLeast}
 use Rattle.icu_trie_compaction.specs.Layout.{AllBelow}
 use Rattle.icu_trie_compaction.specs.Inside.IndexParts.{packed_cells}
-use Rattle.icu_trie_compaction.specs.Inside.Index3Cells.{IsIndex3Cell, IsIndexed, IsUnplaced}
+use Rattle.icu_trie_compaction.specs.Inside.Index3Cells.{IsIndex3Cell, IsIndex3Store, IsIndexed, IsPlacedOffsets, IsUnplaced}
 use Rattle.icu_trie_compaction.proofs.Compacting.{count_different_but-le, count_different_but-mono, count_different_but-more}
-use Rattle.icu_trie_compaction.proofs.PackingLemmas.{offset_packed, packed-read}
+use Rattle.icu_trie_compaction.proofs.PackingLemmas.{offset_packed, packed-below, packed-len, packed-read}
 use Rattle.icu_trie_compaction.proofs.Shared.{short_block}
-use Rattle.icu_trie_compaction.proofs.TableLemmas.{append-kept, least-same, least-kept, table-append}
+use Rattle.icu_trie_compaction.proofs.TableLemmas.{least-same, least-kept}
 use Rattle.icu_trie_compaction.proofs.Windows.{length-window, window-read}
-
--- A table stays valid when cells are appended.
-pub table-kept : (cells more : List ℕ) (t : Rattle.icu_trie_compaction.specs.declared.window_table.WindowTable.WindowTable)
-    → take (length cells) more ≡ cells → IsTable cells t → IsTable more t
-table-kept cells more t h l = subst (λ ys. IsTable ys t) (append-kept cells more h) (table-append cells (drop (length cells) more) t l)
 
 -- A test that expresses a bound.
 pub below-all : (n : ℕ) (xs : List ℕ) → AllBelow n xs → AllPass (λ x. nat_lt x n) xs
@@ -71,62 +67,105 @@ cell-same start fast stored x c d (inr (inr a)) (inr (inl b)) = absurd (a.wide b
 cell-same start fast stored x c d (inr (inr a)) (inr (inr b)) =
     omega (arith, a.from, b.from, least-same 36 (c - (0x8000 + start)) (d - (0x8000 + start)) stored (packed_cells x) a.place b.place)
 
--- The cell of a block in the 18-bit form.
-pub wide-cell : (start : ℕ) (fast stored x : List ℕ) (at : ℕ) → (AllBelow 0x10000 x → ⊥) → IsLeast 36 at stored (packed_cells x)
-    → IsIndex3Cell start fast stored x (0x8000 + start + at)
-unfolding IsIndex3Cell
-wide-cell start fast stored x at wide l =
-    let is : at ≡ 0x8000 + start + at - (0x8000 + start) = omega arith in
-    inr (inr (record { wide = wide; from = omega arith; place = subst (λ n. IsLeast 36 n stored (packed_cells x)) is l }))
+-- A test for the bound 0x10000, of the cells after a block is placed.
+placed-below : (limit at : ℕ) (x before after : List ℕ) → IsPlacedBlock limit x before after at → AllBelow 0x10000 x → AllBelow 0x10000 before
+    → AllBelow 0x10000 after
+placed-below limit at x before after placed own old =
+    all-below 0x10000 after (placed.drawn (λ n. nat_lt n 0x10000) (below-all 0x10000 x own) (below-all 0x10000 before old))
 
--- The cell of a block of 16-bit offsets.
-pub narrow-cell : (start : ℕ) (fast stored x : List ℕ) (at : ℕ) → AllBelow 0x10000 x → ((q : ℕ) → window 32 q fast ≢ x)
-    → start + at < 0x7fff → IsLeast 32 at stored x
-    → IsIndex3Cell start fast stored x (start + at)
-unfolding IsIndex3Cell
-narrow-cell start fast stored x at below nowhere low l =
-    let is : at ≡ start + at - start = omega arith in
-    inr (inl (record { below = below; nowhere = nowhere; from = omega arith; low = low; place = subst (λ n. IsLeast 32 n stored x) is l }))
+-- The 18-bit form of 32 offsets has 36 cells.
+packed_is : (x : List ℕ) → length x ≡ 32 → length (packed_cells x) ≡ 36
+packed_is x len = omega (arith, packed-len x, len)
 
--- The cell of a block that occurs in the fast index.
-pub fast-cell : (start : ℕ) (fast stored x : List ℕ) (at : ℕ) → AllBelow 0x10000 x → IsLeast 32 at fast x
-    → IsIndex3Cell start fast stored x at
-unfolding IsIndex3Cell
-fast-cell start fast stored x at below l = inl (record { below = below; place = l })
+module _ (start : ℕ) (fast x before : List ℕ) (low : start < 0x7fff) (store : IsIndex3Store start before) (len : length x ≡ 32) where
+  -- A block in the fast index.
+  pub placed-fast : (at : ℕ) → length fast ≤ start → AllBelow 0x10000 x → IsLeast (length x) at fast x
+      → IsPlacedOffsets start fast x before before at
+  unfolding IsIndex3Cell
+  placed-fast at few below least = record {
+    names = inl (record { below = below; place = rw len at least });
+    below = omega (arith, least.inside, few, low);
+    store = store;
+    kept = take_all (length before) before (omega arith);
+    fresh = λ lt. absurd (omega (arith, lt));
+    wide = omega arith;
+    narrow = λ b. omega arith;
+  }
 
--- A block whose 18-bit form does not occur.
-pub wide-unplaced : (start : ℕ) (fast stored x : List ℕ) → (AllBelow 0x10000 x → ⊥) → ((q : ℕ) → window 36 q stored ≢ packed_cells x)
-    → IsUnplaced start fast stored x
-unfolding IsUnplaced IsIndex3Cell
-wide-unplaced start fast stored x wide none c (inl a) = wide a.below
-wide-unplaced start fast stored x wide none c (inr (inl a)) = wide a.below
-wide-unplaced start fast stored x wide none c (inr (inr a)) = none (c - (0x8000 + start)) a.place.here
+  -- A block in the 18-bit form.
+  module _ (wide : AllBelow 0x10000 x → ⊥) where
+    pub wide-unplaced : OccursNowhere (packed_cells x) before → IsUnplaced start fast before x
+    unfolding IsUnplaced IsIndex3Cell
+    wide-unplaced none c (inl a) = wide a.below
+    wide-unplaced none c (inr (inl a)) = wide a.below
+    wide-unplaced none c (inr (inr a)) = (rw (packed_is x len) at none) (c - (0x8000 + start)) a.place.here
 
--- A block of 16-bit offsets that does not occur.
-pub narrow-unplaced : (start : ℕ) (fast stored x : List ℕ) → AllBelow 0x10000 x → ((q : ℕ) → window 32 q fast ≢ x)
-    → ((q : ℕ) → window 32 q stored ≢ x) → IsUnplaced start fast stored x
-unfolding IsUnplaced IsIndex3Cell
-narrow-unplaced start fast stored x below nowhere none c (inl a) = nowhere c a.place.here
-narrow-unplaced start fast stored x below nowhere none c (inr (inl a)) = none (c - start) a.place.here
-narrow-unplaced start fast stored x below nowhere none c (inr (inr a)) = a.wide below
+    pub placed-wide : (at : ℕ) (after : List ℕ) → AllBelow 0x40000 x → IsPlacedBlock (0x7ffe - start) (packed_cells x) before after at
+        → IsPlacedOffsets start fast x before after (0x8000 + start + at)
+    unfolding IsIndex3Cell
+    placed-wide at after fit placed =
+        let size = packed_is x len in
+        let is : at ≡ 0x8000 + start + at - (0x8000 + start) = omega arith in
+        let least : IsLeast 36 at after (packed_cells x) = rw size at placed.least in
+        record {
+          names = inr (inr (record { wide = wide; from = omega arith; place = subst (λ n. IsLeast 36 n after (packed_cells x)) is least }));
+          below = omega (arith, least.inside, placed.capped, size, store.room, low);
+          store = record {
+            fit = placed-below (0x7ffe - start) at (packed_cells x) before after placed (packed-below x fit) store.fit;
+            room = omega (arith, placed.capped, size, store.room, low);
+          };
+          kept = placed.kept;
+          fresh = λ lt. wide-unplaced (placed.grown lt).1;
+          wide = grind (arith, placed.grown, size);
+          narrow = λ b. absurd (wide b);
+        }
 
--- A block whose first position is too high for a cell.
-pub narrow-high : (start : ℕ) (fast stored stored' x : List ℕ) (at : ℕ) → AllBelow 0x10000 x → ((q : ℕ) → window 32 q fast ≢ x)
-    → take (length stored) stored' ≡ stored
-    → IsLeast 32 at stored' x → 0x7fff ≤ start + at → IsUnplaced start fast stored x
-unfolding IsUnplaced IsIndex3Cell
-narrow-high start fast stored stored' x at below nowhere kept l high c (inl a) = nowhere c a.place.here
-narrow-high start fast stored stored' x at below nowhere kept l high c (inr (inl a)) =
-    let same = least-same 32 (c - start) at stored' x (least-kept 32 (c - start) stored stored' x kept a.place) l in
-    omega (arith, same, a.low, a.from, high)
-narrow-high start fast stored stored' x at below nowhere kept l high c (inr (inr a)) = a.wide below
+  -- A block of 16-bit offsets that is not in the fast index.
+  module _ (below : AllBelow 0x10000 x) (nowhere : OccursNowhere x fast) where
+    pub narrow-unplaced : OccursNowhere x before → IsUnplaced start fast before x
+    unfolding IsUnplaced IsIndex3Cell
+    narrow-unplaced none c (inl a) = (rw len at nowhere) c a.place.here
+    narrow-unplaced none c (inr (inl a)) = (rw len at none) (c - start) a.place.here
+    narrow-unplaced none c (inr (inr a)) = a.wide below
 
--- If a table does not find a window, the window does not occur.
-pub nowhere-all : (k n : ℕ) (cells x : List ℕ) → length x ≡ k → 0 < k → n ≡ length cells + 1 - k → ((q : ℕ) → q < n → window k q cells ≢ x)
-    → (q : ℕ) → window k q cells ≢ x
-nowhere-all k n cells x len pos is none q e =
-    let fits : q + k ≤ length cells = omega (arith, ap length e, length-take k (drop q cells), length-drop q cells, len, pos) in
-    none q (omega (arith, fits, is, pos)) e
+    -- Its first position is too high for a cell.
+    pub narrow-high : (at : ℕ) (after : List ℕ) → IsPlacedBlock (0x7ffe - start) x before after at → 0x7fff ≤ start + at
+        → (0x7fff ≤ start + length before) × IsUnplaced start fast before x
+    unfolding IsUnplaced IsIndex3Cell
+    narrow-high at after placed high = (omega (arith, placed.least.inside, placed.capped, len, high, low), never)
+      where
+        never : (c : ℕ) → IsIndex3Cell start fast before x c → ⊥
+        never c (inl a) = (rw len at nowhere) c a.place.here
+        never c (inr (inl a)) =
+            let same = least-same 32 (c - start) at after x (least-kept 32 (c - start) before after x placed.kept a.place)
+            (rw len at placed.least) in
+            omega (arith, same, a.low, a.from, high)
+        never c (inr (inr a)) = a.wide below
+
+    pub placed-narrow : (at : ℕ) (after : List ℕ) → start + at < 0x7fff → IsPlacedBlock (0x7ffe - start) x before after at
+        → IsPlacedOffsets start fast x before after (start + at)
+    unfolding IsIndex3Cell
+    placed-narrow at after under placed =
+        let is : at ≡ start + at - start = omega arith in
+        let least : IsLeast 32 at after x = rw len at placed.least in
+        record {
+          names = inr (inl (record {
+            below = below;
+            nowhere = rw len at nowhere;
+            from = omega arith;
+            low = under;
+            place = subst (λ n. IsLeast 32 n after x) is least;
+          }));
+          below = omega (arith, under);
+          store = record {
+            fit = placed-below (0x7ffe - start) at x before after placed below store.fit;
+            room = omega (arith, placed.capped, len, store.room, low);
+          };
+          kept = placed.kept;
+          fresh = λ lt. narrow-unplaced (placed.grown lt).1;
+          wide = grind (arith, placed.grown, len);
+          narrow = λ b. grind (arith, placed.grown, len);
+        }
 
 -- The number of distinct blocks among the first j.
 abbrev apart : List ℕ → ℕ → ℕ
@@ -137,7 +176,7 @@ pub record Indexing (start : ℕ) (fast offsets : List ℕ) (j : ℕ) (stored ce
   pub count : length cells ≡ j
   pub cell : (i : ℕ) → i < j → IsIndex3Cell start fast stored (block 32 offsets i) (get_or cells i 0)
   pub below : AllBelow 0x10000 cells
-  pub fit : AllBelow 0x10000 stored
+  pub store : IsIndex3Store start stored
   pub short : length stored ≤ 36 * apart offsets j
   pub tight : AllBelow 0x10000 offsets → length stored ≤ 32 * apart offsets j
 
@@ -159,12 +198,9 @@ module _ (start : ℕ) (fast offsets : List ℕ) (j : ℕ) (stored cells : List 
       omega (arith, window-read 32 (32 * j) i offsets 0 (omega (arith, lt, len)), below (32 * j + i) (omega (arith, lt, len, fits)))
 
   -- One more block.
-  pub indexing-step : (cell : ℕ) (stored' cells' : List ℕ) → IsIndex3Cell start fast stored' (block 32 offsets j) cell → cell < 0x10000
-      → AllBelow 0x10000 stored' → take (length stored) stored' ≡ stored
-      → (length stored < length stored' → IsUnplaced start fast stored (block 32 offsets j))
-      → length stored' ≤ length stored + 36 → (AllBelow 0x10000 (block 32 offsets j) → length stored' ≤ length stored + 32)
+  pub indexing-step : (cell : ℕ) (stored' cells' : List ℕ) → IsPlacedOffsets start fast (block 32 offsets j) stored stored' cell
       → cells' ≡ cells ++ cell ∷ [] → Indexing start fast offsets (j + 1) stored' cells'
-  indexing-step cell stored' cells' here low fit kept fresh wide narrow is =
+  indexing-step cell stored' cells' here is =
       let len : length cells' ≡ j + 1 = omega (arith, ap length is, length-append cells (cell ∷ []), l.count) in
       let old : (i : ℕ) → i < j → get_or cells' i 0 ≡ get_or cells i 0 =
       λ i lt. ap (λ xs. get_or xs i 0) is ∙ get_or_append_left cells (cell ∷ []) 0 i (omega (arith, lt, l.count)) in
@@ -174,20 +210,34 @@ module _ (start : ℕ) (fast offsets : List ℕ) (j : ℕ) (stored cells : List 
       record {
         count = len;
         cell = below_more (λ i. IsIndex3Cell start fast stored' (block 32 offsets i) (get_or cells' i 0)) j
-            (λ i lt. rw (old i lt) (cell-kept start fast stored stored' (block 32 offsets i) (get_or cells i 0) kept (l.cell i lt)))
-            (rw new here);
+            (λ i lt. rw (old i lt) (cell-kept start fast stored stored' (block 32 offsets i) (get_or cells i 0) here.kept (l.cell i lt)))
+            (rw new here.names);
         below = λ i lt. below_more (λ i. get_or cells' i 0 < 0x10000) j
-            (λ i lt. omega (arith, old i lt, l.below i (omega (arith, lt, l.count)))) (omega (arith, new, low)) i (omega (arith, lt, len));
-        fit = fit;
+            (λ i lt. omega (arith, old i lt, l.below i (omega (arith, lt, l.count)))) (omega (arith, new, here.below)) i (omega (arith, lt, len));
+        store = here.store;
         short = elim (cases_lt (length stored) (length stored')) [
-          | inl lt ↦ omega (arith, indexing-fresh (fresh lt), wide, l.short)
+          | inl lt ↦ omega (arith, indexing-fresh (here.fresh lt), here.wide, l.short)
           | inr ge ↦ omega (arith, ge, l.short, more)
         ];
         tight = λ below. elim (cases_lt (length stored) (length stored')) [
-          | inl lt ↦ omega (arith, indexing-fresh (fresh lt), narrow (block-below below), l.tight below)
+          | inl lt ↦ omega (arith, indexing-fresh (here.fresh lt), here.narrow (block-below below), l.tight below)
           | inr ge ↦ omega (arith, ge, l.tight below, more)
         ];
       }
+
+  -- A block that equals the one before it.
+  pub indexing-again : (cells' : List ℕ) → 0 < j → block 32 offsets j ≡ block 32 offsets (j - 1) → cells' ≡ cells ++ (get_or cells (j - 1) 0) ∷ []
+      → Indexing start fast offsets (j + 1) stored cells'
+  indexing-again cells' some same is = indexing-step (get_or cells (j - 1) 0) stored cells'
+      (record {
+        names = rw same (l.cell (j - 1) (omega (arith, some)));
+        below = l.below (j - 1) (omega (arith, some, l.count));
+        store = l.store;
+        kept = take_all (length stored) stored (omega arith);
+        fresh = λ lt. absurd (omega (arith, lt));
+        wide = omega arith;
+        narrow = λ b. omega arith;
+      }) is
 
   -- A block is rejected.
   pub indexing-full : (m : ℕ) → j < m → IsUnplaced start fast stored (block 32 offsets j) → 0x7fff ≤ start + length stored
@@ -199,8 +249,8 @@ module _ (start : ℕ) (fast offsets : List ℕ) (j : ℕ) (stored cells : List 
 
 -- All blocks.
 pub indexing-done : (start : ℕ) (fast offsets : List ℕ) (j : ℕ) (stored cells : List ℕ) → Indexing start fast offsets j stored cells
-    → IsIndexed start fast offsets stored cells
-indexing-done start fast offsets j stored cells l = record { cell = λ i lt. l.cell i (omega (arith, lt, l.count)); below = l.below }
+    → j ≡ length offsets / 32 → IsIndexed start fast offsets stored cells
+indexing-done start fast offsets j stored cells l end = record { count = l.count ∙ end; cell = λ i lt. l.cell i (omega (arith, lt, l.count)); below = l.below }
 
 -- A block of cells that are below a bound.
 pub block-fit : (n k j : ℕ) (xs : List ℕ) → AllBelow n xs → k * j + k ≤ length xs → AllBelow n (block k xs j)

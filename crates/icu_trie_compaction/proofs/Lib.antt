@@ -6,6 +6,7 @@ pub mod Compacting
 pub mod Counts
 pub mod Different
 pub mod Growing
+pub mod Placing
 pub mod PackingLemmas
 pub mod Laying
 pub mod NullIndex

@@ -1,10 +1,10 @@
 -- Maintaining a table of windows.
 use Rattle.std.proofs.Common.{◌≡◌, ◌≢◌, ℕ, ◌+◌, ◌-◌, ◌*◌, ◌/◌, ◌^◌, ◌<◌, ◌≤◌, ◌⊎◌, List, [], ◌∷◌, ◌++◌, length, get_or, set, take, drop, refl, arith, ◌∙◌, sym, ap, subst, inl, inr, below_more}
-use Rattle.std.proofs.lemmas.Bool.{cases_eq}
+use Rattle.std.proofs.lemmas.Bool.{cases_eq, cases_lt}
 use Rattle.std.proofs.lemmas.List.{take-append-drop, take-append-le, drop-append-le, take_all, take-take, length-drop, length-append, get_or_append_left, get_or_at, length-set, get_or-set_same, get_or-set_other}
 use Rattle.icu_trie_core.specs.Blocks.{window}
 use Rattle.icu_trie_compaction.specs.Hashes.{bucket, cells_hash, leaving_factor}
-use Rattle.icu_trie_compaction.specs.Windows.{IsLeast, IsChained, IsTable, entry, entry_count}
+use Rattle.icu_trie_compaction.specs.Windows.{AreTables, IsLeast, IsChained, IsTable, entry, entry_count}
 use Rattle.icu_trie_compaction.specs.declared.window_table.WindowTable.{WindowTable}
 use Rattle.icu_trie_compaction.proofs.Windows.{window-append}
 
@@ -172,6 +172,22 @@ table-again cells t entered l is fits w = record {
       l.all w q (omega (arith, lt, is));
 }
 
+-- A table whose lists of windows were restored.
+pub table-restored : (cells : List ℕ) (t u : WindowTable) → u.starts.items ≡ t.starts.items → u.next.items ≡ t.next.items → IsTable cells t
+    → IsTable cells (record t { starts = u.starts; next = u.next })
+table-restored cells t u s n l = record {
+  some_cells = l.some_cells;
+  factor = l.factor;
+  some_buckets = l.some_buckets;
+  few_buckets = l.few_buckets;
+  within = l.within;
+  few = rw s l.few;
+  chained = rw (s, n) l.chained;
+  below = rw s l.below;
+  least = rw s l.least;
+  all = rw s l.all;
+}
+
 -- A window that differs from all earlier ones.
 pub table-added : (cells : List ℕ) (t t' : WindowTable) (i : ℕ) → IsTable cells t → t'.size ≡ t.size → t'.leaving ≡ t.leaving
     → t'.entered ≡ t.entered + 1
@@ -252,3 +268,21 @@ part-window k at xs = let n : at + k - at ≡ k = omega arith in ap (λ m. take 
 
 pub part-tail : (at : ℕ) (xs : List ℕ) → take (length xs - at) (drop at xs) ≡ drop at xs
 part-tail at xs = take_all (length xs - at) (drop at xs) (omega (arith, length-drop at xs))
+
+-- All tables stay valid when cells are appended, and when a valid table is added or replaces one.
+pub tables-append : (cells ys : List ℕ) (ts : List WindowTable) → AreTables cells ts → AreTables (cells ++ ys) ts
+tables-append cells ys ts all i d l = table-append cells ys (get_or ts i d) (all i d l)
+
+pub tables-push : (cells : List ℕ) (ts : List WindowTable) (t : WindowTable) → AreTables cells ts → IsTable cells t
+    → AreTables cells (ts ++ t ∷ [])
+tables-push cells ts t all here i d l = elim (cases_lt i (length ts)) [
+  | inl lt ↦ rw (get_or_append_left ts (t ∷ []) d i lt) (all i d lt)
+  | inr ge ↦ rw (get_or_at ts t [] d i (omega (arith, ge, l, length-append ts (t ∷ [])))) here
+]
+
+pub tables-set : (cells : List ℕ) (ts : List WindowTable) (i : ℕ) (t : WindowTable) → AreTables cells ts → IsTable cells t
+    → AreTables cells (set ts i t)
+tables-set cells ts i t all here j d l = elim (cases_eq j i) [
+  | inl e ↦ rw (e, get_or-set_same ts i t d (omega (arith, e, l, length-set ts i t))) here
+  | inr ne ↦ rw (get_or-set_other ts i j t d ne) (all j d (omega (arith, l, length-set ts i t)))
+]

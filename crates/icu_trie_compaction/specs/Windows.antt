@@ -1,6 +1,6 @@
 -- A table of the windows of some cells. It stores each distinct window once, with the first
 -- position at which it occurs.
-use Rattle.std.specs.Prelude.{◌≡◌, ◌≢◌, ℕ, ◌+◌, ◌-◌, ◌^◌, ◌<◌, ◌≤◌, List, length, slice_index}
+use Rattle.std.specs.Prelude.{◌≡◌, ◌≢◌, ℕ, ◌+◌, ◌-◌, ◌^◌, ◌<◌, ◌≤◌, List, length, slice_index, slice_index_or}
 use Rattle.icu_trie_core.specs.Blocks.{window}
 use Rattle.icu_trie_compaction.specs.Hashes.{bucket, leaving_factor}
 use Rattle.icu_trie_compaction.specs.declared.window_table.WindowTable.{WindowTable}
@@ -56,3 +56,12 @@ pub record IsTable (cells : List ℕ) (t : WindowTable) : Type 0 where
 -- The table has all windows of the cells.
 abbrev pub HasAll : List ℕ → WindowTable → Type 0
 HasAll cells t = t.entered ≡ length cells + 1 - t.size
+
+-- Valid tables of the windows of these cells.
+abbrev pub AreTables : List ℕ → List WindowTable → Type 0
+AreTables cells ts = (i : ℕ) (d : WindowTable) → i < length ts → IsTable cells (slice_index_or ts i d)
+
+-- The cells of a store, and its tables of their windows.
+pub record IsStore (cells : List ℕ) (ts : List WindowTable) : Type 0 where
+  pub few : length cells < 2 ^ 30
+  pub tables : AreTables cells ts

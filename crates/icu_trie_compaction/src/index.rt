@@ -8,6 +8,7 @@ ghost use Rattle.icu_trie_compaction.specs.Layout.{AllBelow, IsIndex, IsNullBloc
 ghost use Rattle.icu_trie_compaction.specs.Inside.IndexParts.{IsGrown, IsNullCell, IsUpper};
 ghost use Rattle.icu_trie_compaction.specs.declared.error.BuildError.TheVariants.{TooLarge};
 
+use crate::cell_store::CellStore;
 use crate::error::BuildError;
 use crate::index2::{place_index2, with_unread};
 pub use crate::index3::NO_INDEX3_NULL_OFFSET;
@@ -154,14 +155,14 @@ fn push_upper(
     let limit = trie_type.fast_limit() as usize;
     let start = limit / FAST_TYPE_DATA_BLOCK_LENGTH as usize
         + (high_start.div_ceil(CP_PER_INDEX_1_ENTRY) - limit / CP_PER_INDEX_1_ENTRY);
-    let fast = widened(alloc, index)?;
-    let mut stored = Vec::new(alloc);
-    let numbers = place_index3(alloc, &mut stored, &fast, small, start)?;
+    let mut fast = CellStore::new(alloc, widened(alloc, index)?);
+    let mut store = CellStore::new(alloc, Vec::new(alloc));
+    let numbers = place_index3(alloc, &mut store, &mut fast, small, start)?;
     let unread = limit % CP_PER_INDEX_1_ENTRY / CP_PER_INDEX_2_ENTRY as usize;
     let cells = with_unread(alloc, &numbers, unread)?;
-    let places = place_index2(alloc, &mut stored, &cells)?;
+    let places = place_index2(alloc, &mut store, &cells)?;
     push_index1(index, start, &places)?;
-    push_stored(index, &stored)?;
+    push_stored(index, store.cells())?;
     Ok(null_cell(small, null, &numbers))
 }
 

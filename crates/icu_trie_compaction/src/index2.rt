@@ -1,18 +1,17 @@
 //! Places the index-2 blocks: the index-2 cells of 32 blocks of 512 code points. Equal blocks are
 //! stored once. A block may be anywhere among the index-3 and index-2 cells stored so far, and may
 //! overlap their tail.
-ghost use Rattle.std.specs.Prelude.{◌≡◌, ℕ, ◌+◌, ◌*◌, ◌/◌, ◌<◌, ◌≤◌, length, take, slice_index, IfOk, OnOk};
-ghost use Rattle.std.specs.Int.{div_ceil};
+ghost use Rattle.std.specs.Prelude.{◌≡◌, ℕ, ◌+◌, ◌*◌, ◌/◌, ◌<◌, ◌≤◌, length, slice_index, IfOk, OnOk};
 ghost use Rattle.icu_trie_core.specs.Blocks.{block};
 ghost use Rattle.icu_trie_compaction.specs.Layout.{AllBelow};
-ghost use Rattle.icu_trie_compaction.specs.Inside.IndexParts.{Index2At};
+ghost use Rattle.icu_trie_compaction.specs.Inside.IndexParts.{IsIndex2};
 ghost use Rattle.icu_trie_compaction.specs.Placed.{IsPlaced};
 ghost use Rattle.icu_trie_compaction.specs.declared.error.BuildError.TheVariants.{TooLarge};
 
-use crate::blocks::{block_at, place_block};
+use crate::blocks::block_at;
+use crate::cell_store::CellStore;
 use crate::error::BuildError;
 use crate::lengths::INDEX_2_BLOCK;
-use crate::window_table::WindowTable;
 use std::alloc::{AllocError, Global};
 
 /// A limit above every position of an index-2 block.
@@ -36,58 +35,50 @@ pub(crate) fn with_unread(
     Ok(all)
 }
 
-/// Places the whole blocks of 32 cells, and returns the position of each in `stored`.
+/// Places the whole blocks of 32 cells, and returns the position of each in `store`.
 fn place_whole(
     alloc: Global,
-    stored: &mut Vec<u32>,
+    store: &mut CellStore,
     cells: &[u32],
 ) -> Result<Vec<usize>, BuildError>
     requires cells { length cells.now ≤ 2176 }
-    requires stored { length stored.old.items ≤ 0x8100 }
+    requires store { length store.old ≤ 0x8100 }
     ensures count { IfOk result (λ places. length places.items ≡ length cells.now / 32) }
-    ensures placed { IfOk result (λ places. IsPlaced 32 0 (block 32 cells.now)
-        stored.old.items stored.new.items places.items) }
+    ensures placed { IfOk result (λ places.
+        IsPlaced 32 0 (block 32 cells.now) store.old store.new places.items) }
     ensures short { OnOk result
-        (length stored.new.items ≤ length stored.old.items + 32 * (length cells.now / 32)) }
+        (length store.new ≤ length store.old + 32 * (length cells.now / 32)) }
     ensures never { result ≡ Err TooLarge → ⊥ }
 {
     let count = cells.len() / INDEX_2_BLOCK;
-    let mut table = WindowTable::for_cells(alloc, INDEX_2_BLOCK, stored.len())?;
     let mut places = Vec::with_capacity(alloc, count + 1)?;
     for number in 0..count {
         let wanted = block_at(cells, INDEX_2_BLOCK, number);
-        let at = place_block(alloc, stored, &mut table, wanted, MOST_CELLS)?;
+        let at = store.place(alloc, wanted, MOST_CELLS)?;
         places.push(at)?;
     }
     Ok(places)
 }
 
-/// Places all blocks of 32 cells, and returns the position of each in `stored`. The last block may
+/// Places all blocks of 32 cells, and returns the position of each in `store`. The last block may
 /// be shorter.
 pub(crate) fn place_index2(
     alloc: Global,
-    stored: &mut Vec<u32>,
+    store: &mut CellStore,
     cells: &[u32],
 ) -> Result<Vec<usize>, BuildError>
     requires cells { length cells.now ≤ 2176 }
-    requires stored { length stored.old.items ≤ 0x8100 }
+    requires store { length store.old ≤ 0x8100 }
     requires cells_fit { AllBelow 0x10000 cells.now }
-    requires stored_fit { AllBelow 0x10000 stored.old.items }
-    ensures count { IfOk result (λ places. length places.items ≡ div_ceil (length cells.now) 32) }
-    ensures kept { OnOk result (take (length stored.old.items) stored.new.items
-        ≡ stored.old.items) }
-    ensures placed { IfOk result (λ places. Index2At cells.now stored.new.items places.items) }
-    ensures short { OnOk result
-        (length stored.new.items ≤ length stored.old.items + length cells.now) }
-    ensures fit { OnOk result (AllBelow 0x10000 stored.new.items) }
+    requires store_fit { AllBelow 0x10000 store.old }
+    ensures placed { IfOk result (λ places. IsIndex2 cells.now store.old store.new places.items) }
     ensures never { result ≡ Err TooLarge → ⊥ }
 {
-    let mut places = place_whole(alloc, stored, cells)?;
+    let mut places = place_whole(alloc, store, cells)?;
     let rest = cells.len() % INDEX_2_BLOCK;
     if rest > 0 {
-        let mut table = WindowTable::for_cells(alloc, rest, stored.len())?;
         let tail = &cells[cells.len() - rest..];
-        let last = place_block(alloc, stored, &mut table, tail, MOST_CELLS)?;
+        let last = store.place(alloc, tail, MOST_CELLS)?;
         places.push(last)?;
     }
     Ok(places)

@@ -16,7 +16,7 @@ const MOST_BUCKETS: usize = 0x100000;
 
 /// The distinct windows of some cells, by their hash.
 #[derive(Drop)]
-pub struct WindowTable {
+pub(crate) struct WindowTable {
     /// The number of cells in a window.
     size: usize,
     /// The factor for a cell that leaves a window.
@@ -32,26 +32,17 @@ pub struct WindowTable {
 }
 
 impl WindowTable {
-    /// Makes an empty table for windows of `size` cells.
-    ///
-    /// # Errors
-    ///
-    /// `AllocError` if the allocation fails.
-    pub fn new(alloc: Global, size: usize) -> Result<WindowTable, AllocError>
-        requires { 0 < size }
-        ensures size { IfOk result (λ t. t.size ≡ size) }
-        ensures table { IfOk result (λ t. (cells : List ℕ) → IsTable cells t) }
-    {
-        WindowTable::with_buckets(alloc, size, FIRST_BUCKETS)
-    }
-
     /// Makes an empty table for windows of `size` cells, with enough buckets for the windows of
     /// `cells` cells.
     ///
     /// # Errors
     ///
     /// `AllocError` if the allocation fails.
-    pub fn for_cells(alloc: Global, size: usize, cells: usize) -> Result<WindowTable, AllocError>
+    pub(crate) fn for_cells(
+        alloc: Global,
+        size: usize,
+        cells: usize,
+    ) -> Result<WindowTable, AllocError>
         requires { 0 < size }
         ensures size { IfOk result (λ t. t.size ≡ size) }
         ensures table { IfOk result (λ t. (cells : List ℕ) → IsTable cells t) }
@@ -79,7 +70,7 @@ impl WindowTable {
     }
 
     /// Returns the number of cells in a window.
-    pub fn size(&self) -> usize
+    pub(crate) fn size(&self) -> usize
         ensures { result ≡ self.now.size }
     {
         self.size
@@ -125,7 +116,7 @@ impl WindowTable {
         requires table { IsTable cells.now self.old }
         ensures size { OnOk result (self.new.size ≡ self.old.size) }
         ensures entered { OnOk result (self.new.entered ≡ self.old.entered + 1) }
-        ensures table { OnOk result (IsTable cells.now self.new) }
+        ensures table { IsTable cells.now self.new }
     {
         let at = self.entered;
         if let Some(_first) = self.find(cells, &cells[at..at + self.size], hash) {
@@ -134,6 +125,8 @@ impl WindowTable {
         }
         let bucket = self.bucket_of(hash);
         let newest = self.heads[bucket];
+        // With this, the second push succeeds if the first one does.
+        self.next.reserve(1)?;
         self.starts.push(at as u32)?;
         self.next.push(newest)?;
         set_head(&mut self.heads, bucket, self.starts.len() as u32);
@@ -142,15 +135,11 @@ impl WindowTable {
     }
 
     /// Adds all windows of `cells`.
-    ///
-    /// # Errors
-    ///
-    /// `AllocError` if an allocation fails.
-    pub fn enter_all(&mut self, cells: &[u32]) -> Result<(), AllocError>
+    fn enter_all(&mut self, cells: &[u32]) -> Result<(), AllocError>
         requires room { length cells.now < 2 ^ 31 }
         requires table { IsTable cells.now self.old }
         ensures size { OnOk result (self.new.size ≡ self.old.size) }
-        ensures table { OnOk result (IsTable cells.now self.new) }
+        ensures table { IsTable cells.now self.new }
         ensures whole { OnOk result (HasAll cells.now self.new) }
     {
         let size = self.size;
@@ -168,18 +157,33 @@ impl WindowTable {
     }
 
     /// Empties a full table and gives it more buckets.
-    pub(crate) fn grow(&mut self, alloc: Global) -> Result<(), AllocError>
+    fn grow(&mut self, alloc: Global) -> Result<(), AllocError>
         requires some_cells { 0 < self.old.size }
         requires some_buckets { 0 < length self.old.heads.items }
-        ensures size { OnOk result (self.new.size ≡ self.old.size) }
-        ensures table { OnOk result ((cells : List ℕ) → IsTable cells self.old
-            → IsTable cells self.new) }
+        ensures size { self.new.size ≡ self.old.size }
+        ensures table { (cells : List ℕ) → IsTable cells self.old → IsTable cells self.new }
     {
         let buckets = self.heads.len();
         if self.starts.len() > buckets && buckets < MOST_BUCKETS {
             *self = WindowTable::with_buckets(alloc, self.size, 4 * buckets)?;
         }
         Ok(())
+    }
+
+    /// Adds all windows of `cells`. Before that, a full table gets more buckets.
+    ///
+    /// # Errors
+    ///
+    /// `AllocError` if an allocation fails. The table then lacks windows.
+    pub(crate) fn complete(&mut self, alloc: Global, cells: &[u32]) -> Result<(), AllocError>
+        requires room { length cells.now < 2 ^ 31 }
+        requires table { IsTable cells.now self.old }
+        ensures size { OnOk result (self.new.size ≡ self.old.size) }
+        ensures table { IsTable cells.now self.new }
+        ensures whole { OnOk result (HasAll cells.now self.new) }
+    {
+        self.grow(alloc)?;
+        self.enter_all(cells)
     }
 }
 

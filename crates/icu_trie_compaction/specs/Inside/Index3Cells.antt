@@ -1,10 +1,9 @@
 -- The index-2 cells of blocks of 512, by where their 32 offsets are stored.
-use Rattle.std.specs.Prelude.{◌≡◌, ◌≢◌, ℕ, ◌+◌, ◌-◌, ◌<◌, ◌≤◌, ◌⊎◌, List, length, slice_index}
+use Rattle.std.specs.Prelude.{◌≡◌, ◌≢◌, ℕ, ◌+◌, ◌-◌, ◌/◌, ◌<◌, ◌≤◌, ◌⊎◌, List, length, take, slice_index}
 use Rattle.icu_trie_core.specs.Blocks.{window, block}
 use Rattle.icu_trie_compaction.specs.Layout.{AllBelow}
 use Rattle.icu_trie_compaction.specs.Inside.IndexParts.{packed_cells}
-use Rattle.icu_trie_compaction.specs.Windows.{HasAll, IsLeast, IsTable}
-use Rattle.icu_trie_compaction.specs.declared.index3.Tables.{Tables}
+use Rattle.icu_trie_compaction.specs.Windows.{IsLeast}
 
 -- If all offsets x have 16 bits and occur in the fast index, the cell is the first position at
 -- which they do.
@@ -37,18 +36,26 @@ IsIndex3Cell start fast stored x cell =
 unfoldable pub IsUnplaced : ℕ → List ℕ → List ℕ → List ℕ → Type 0
 IsUnplaced start fast stored x = (cell : ℕ) → IsIndex3Cell start fast stored x cell → ⊥
 
--- Tables of the windows of the fast index and of the cells after index-1.
-pub record IsTables (fast stored : List ℕ) (t : Tables) : Type 0 where
-  pub fast_size : t.fast.size ≡ 32
-  pub in_fast : IsTable fast t.fast
-  pub whole_fast : HasAll fast t.fast
-  pub narrow_size : t.narrow.size ≡ 32
-  pub narrow : IsTable stored t.narrow
-  pub wide_size : t.wide.size ≡ 36
-  pub wide : IsTable stored t.wide
+-- Index-3 blocks are stored from index position `start` on: 16-bit cells, up to the end of a block
+-- of 36 cells at position 0x7ffe.
+pub record IsIndex3Store (start : ℕ) (stored : List ℕ) : Type 0 where
+  pub fit : AllBelow 0x10000 stored
+  pub room : start + length stored ≤ 0x7ffe + 36
+
+-- A block of 512 with the offsets x is placed, and has this index-2 cell.
+pub record IsPlacedOffsets (start : ℕ) (fast x before after : List ℕ) (cell : ℕ) : Type 0 where
+  pub names : IsIndex3Cell start fast after x cell
+  pub below : cell < 0x10000
+  pub store : IsIndex3Store start after
+  pub kept : take (length before) after ≡ before
+  -- If cells are appended, they belong to this block, which was not stored before.
+  pub fresh : length before < length after → IsUnplaced start fast before x
+  pub wide : length after ≤ length before + 36
+  pub narrow : AllBelow 0x10000 x → length after ≤ length before + 32
 
 -- The index-2 cells of all blocks of 512.
 pub record IsIndexed (start : ℕ) (fast offsets stored cells : List ℕ) : Type 0 where
+  pub count : length cells ≡ length offsets / 32
   pub cell : (i : ℕ) → i < length cells
       → IsIndex3Cell start fast stored (block 32 offsets i) (slice_index cells i)
   pub below : AllBelow 0x10000 cells

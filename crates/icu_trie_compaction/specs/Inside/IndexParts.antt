@@ -1,8 +1,9 @@
 -- The parts of the index, as they are put together.
-use Rattle.std.specs.Prelude.{◌≡◌, ℕ, ◌+◌, ◌-◌, ◌*◌, ◌/◌, ◌%◌, ◌<◌, ◌≤◌, ◌⊎◌, nat_eq, List, length, map, slice_index, if◌then◌else◌}
+use Rattle.std.specs.Prelude.{◌≡◌, ℕ, ◌+◌, ◌-◌, ◌*◌, ◌/◌, ◌%◌, ◌<◌, ◌≤◌, ◌⊎◌, nat_eq, List, length, map, take, slice_index, if◌then◌else◌}
 use Rattle.std.specs.List.{range_with_len}
+use Rattle.std.specs.Int.{div_ceil}
 use Rattle.icu_trie_core.specs.declared.header.TrieType.{TrieType}
-use Rattle.icu_trie_compaction.specs.Layout.{GivesSmall, IsNullBlock}
+use Rattle.icu_trie_compaction.specs.Layout.{AllBelow, GivesSmall, IsNullBlock}
 
 -- new is old with the n cells f 0, .., f (n - 1) appended.
 pub record IsGrown (n : ℕ) (f : ℕ → ℕ) (old new : List ℕ) : Type 0 where
@@ -41,6 +42,14 @@ abbrev pub Index2At : List ℕ → List ℕ → List ℕ → Type 0
 Index2At cells stored places = (j q : ℕ) → q < 32 → 32 * j + q < length cells
     → (slice_index places j + q < length stored)
     × (slice_index stored (slice_index places j + q) ≡ slice_index cells (32 * j + q))
+
+-- The index-2 cells are placed in blocks of 32 at these positions.
+pub record IsIndex2 (cells before after places : List ℕ) : Type 0 where
+  pub count : length places ≡ div_ceil (length cells) 32
+  pub kept : take (length before) after ≡ before
+  pub placed : Index2At cells after places
+  pub short : length after ≤ length before + length cells
+  pub fit : AllBelow 0x10000 after
 
 -- `cell` is the value of f for some block whose 32 offsets all are `null`, or 0x7fff if there is
 -- none.

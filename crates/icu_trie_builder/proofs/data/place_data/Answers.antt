@@ -1,5 +1,6 @@
 use Rattle.std.proofs.Common.{rules, ◌≡◌, ℕ, ◌+◌, ◌-◌, ◌*◌, ◌/◌, ◌≤◌, ◌∷◌, Err, Some, Bool, List, length, get_or, take, arith, ap, sym, subst, ◌∙◌, inl, inr}
 use Rattle.std.specs.List.{AllPass}
+use Rattle.std.proofs.lemmas.List.{length-take}
 use Rattle.icu_trie_core.specs.Blocks.{block, block_of, count_different}
 use Rattle.icu_trie_core.specs.Format.{fast_limit}
 use Rattle.icu_trie_builder.specs.Bounds.{stands_below}
@@ -14,9 +15,12 @@ use Rattle.icu_trie_compaction.proofs.CallerLemmas.{count_different-le_count, pa
 use Rattle.icu_trie_builder.proofs.Sizes.{fast_blocks-list, stands-found, lone_blocks-list, small_blocks-all}
 use Rattle.icu_trie_builder.proofs.data.place_data.Goals as goal
 
-pub place_map_blocks-requires-clause-room : goal.place_map_blocks-requires-clause-room
-place_map_blocks-requires-clause-room c = omega
-    (arith, first_len c.args.numbers.now c.copy_block.new.room.items c.requires.all c.in_ok-copy_block.ensures)
+pub new-store-requires : goal.new-store-requires
+new-store-requires c = omega (arith, first_len c.args.numbers.now c.copy_block.new.room.items c.requires.all c.in_ok-copy_block.ensures)
+
+pub place-requires-clause-room : goal.place-requires-clause-room
+place-requires-clause-room c = omega
+    (arith, first_len c.args.numbers.now c.new-store.result c.requires.all (c.new-store.ensures ∙ c.in_ok-copy_block.ensures))
 
 pub returns-in_err-rest-clause-too_large : goal.returns-in_err-rest-clause-too_large
 returns-in_err-rest-clause-too_large c = λ e.
@@ -26,18 +30,18 @@ returns-in_err-rest-clause-too_large c = λ e.
     let numbers = c.args.numbers.now in
     let limit : c.fast_limit-limit.result ≡ L = c.fast_limit-limit.ensures.limit in
     let size = parts t in
-    let first = c.copy_block.new.room.items in
-    let begin : first ≡ take 128 numbers = c.in_ok-copy_block.ensures in
+    let first = c.new-store.result in
+    let begin : first ≡ take 128 numbers = c.new-store.ensures ∙ c.in_ok-copy_block.ensures in
     let first_is : length first ≡ 128 = first_len numbers first c.requires.all begin in
     let large = rw limit at (c.in_err-rest.ensures.too_large (ap (λ x. Err x) is)) in
     absurd (omega (arith, large, first_is, size.2, count_different-le_count (block 64 numbers) 2 (L / 64 - 2)))
 
-pub place_map_blocks-requires-2-clause-room : goal.place_map_blocks-requires-2-clause-room
-place_map_blocks-requires-2-clause-room c =
+pub place-requires-2-clause-room : goal.place-requires-2-clause-room
+place-requires-2-clause-room c =
     omega (
       arith,
       c.in_ok-rest.ensures.capped,
-      first_len c.args.numbers.now c.copy_block.new.room.items c.requires.all c.in_ok-copy_block.ensures,
+      first_len c.args.numbers.now c.new-store.result c.requires.all (c.new-store.ensures ∙ c.in_ok-copy_block.ensures),
     )
 
 pub returns-in_err-small-clause-too_large : goal.returns-in_err-small-clause-too_large
@@ -46,7 +50,7 @@ returns-in_err-small-clause-too_large c = λ e.
     let t = c.args.trie_type in
     let numbers = c.args.numbers.now in
     let limit : c.fast_limit-limit.result ≡ fast_limit t = c.fast_limit-limit.ensures.limit in
-    let one = fast_cells t numbers c.copy_block.new.room.items c.place_map_blocks.new.stored.items c.requires.all c.in_ok-copy_block.ensures
+    let one = fast_cells t numbers c.new-store.result c.place.new.store c.requires.all (c.new-store.ensures ∙ c.in_ok-copy_block.ensures)
     (rw limit at c.in_ok-rest.ensures.short) in
     let count : c.saturating_sub-small_len.result ≡ c.args.high_start - fast_limit t =
     c.saturating_sub-small_len.ensures ∙ ap (λ n. c.args.high_start - n) limit in
@@ -56,9 +60,10 @@ returns-in_err-small-clause-too_large c = λ e.
 pub place_null-requires-clause-room : goal.place_null-requires-clause-room
 place_null-requires-clause-room c = omega (
   arith,
+  ap length c.into_cells-values.ensures,
   c.in_ok-small.ensures.capped,
   c.in_ok-rest.ensures.capped,
-  first_len c.args.numbers.now c.copy_block.new.room.items c.requires.all c.in_ok-copy_block.ensures,
+  first_len c.args.numbers.now c.new-store.result c.requires.all (c.new-store.ensures ∙ c.in_ok-copy_block.ensures),
 )
 
 pub place_null-requires-clause-fast : goal.place_null-requires-clause-fast
@@ -67,19 +72,21 @@ place_null-requires-clause-fast c =
     let L : ℕ = fast_limit t in
     let numbers = c.args.numbers.now in
     let limit : c.fast_limit-limit.result ≡ L = c.fast_limit-limit.ensures.limit in
-    let first = c.copy_block.new.room.items in
-    let begin : first ≡ take 128 numbers = c.in_ok-copy_block.ensures in
-    let one = c.place_map_blocks.new.stored.items in
+    let first = c.new-store.result in
+    let begin : first ≡ take 128 numbers = c.new-store.ensures ∙ c.in_ok-copy_block.ensures in
+    let one = c.place.new.store in
     let rest = c.in_ok-rest.rest.items in
     let p : IsPlaced 64 2 (block 64 numbers) first one rest = c.in_ok-rest.ensures.placed in
     let rest_len : length rest ≡ L / 64 - 2 = omega (arith, c.in_ok-rest.ensures.count, limit) in
     let fast = c.in_ok-fast.fast.items in
     let list : fast ≡ 0 ∷ 64 ∷ rest = c.in_ok-fast.ensures ∙ ap (λ r. 0 ∷ 64 ∷ r) c.deref.ensures.value in
-    let two = c.place_map_blocks-2.new.stored.items in
+    let two = c.into_cells-values.result.items in
     let old = c.in_ok-small.small.items in
     let count : c.saturating_sub-small_len.result ≡ c.args.high_start - L =
     c.saturating_sub-small_len.ensures ∙ ap (λ n. c.args.high_start - n) limit in
-    let q : IsPlaced 16 (L / 16) (block 16 numbers) one two old = rw limit at c.in_ok-small.ensures.placed in
+    let q : IsPlaced 16 (L / 16) (block 16 numbers) one two old =
+    subst (λ xs. IsPlaced 16 (L / 16) (block 16 numbers) one xs old) (sym c.into_cells-values.ensures)
+    (rw limit at c.in_ok-small.ensures.placed) in
     let old_len : length old ≡ (c.args.high_start - L) / 16 = c.in_ok-small.ensures.count ∙ ap (λ n. n / 16) count in
     rw c.deref-2.ensures.value (fast_two t c.args.high_start numbers first one two rest fast old c.requires.all begin p rest_len list q
     old_len).inside
@@ -90,13 +97,32 @@ returns-in_err-null-clause-too_large c = λ e.
     let t = c.args.trie_type in
     let numbers = c.args.numbers.now in
     let limit : c.fast_limit-limit.result ≡ fast_limit t = c.fast_limit-limit.ensures.limit in
-    let one = fast_cells t numbers c.copy_block.new.room.items c.place_map_blocks.new.stored.items c.requires.all c.in_ok-copy_block.ensures
+    let one = fast_cells t numbers c.new-store.result c.place.new.store c.requires.all (c.new-store.ensures ∙ c.in_ok-copy_block.ensures)
     (rw limit at c.in_ok-rest.ensures.short) in
     let count : c.saturating_sub-small_len.result ≡ c.args.high_start - fast_limit t =
     c.saturating_sub-small_len.ensures ∙ ap (λ n. c.args.high_start - n) limit in
     let two = rw (count, limit) at c.in_ok-small.ensures.short in
+    let held = ap length c.into_cells-values.ensures in
     let large = c.in_err-null.ensures.too_large (ap (λ x. Err x) is) in
-    inr (omega (arith, large, two, one, small_blocks-all t numbers c.requires.all c.args.high_start c.requires.within))
+    inr (omega (arith, large, held, two, one, small_blocks-all t numbers c.requires.all c.args.high_start c.requires.within))
+
+pub push_end-requires : goal.push_end-requires
+push_end-requires c =
+    let first = c.new-store.result in
+    let one = c.place.new.store in
+    let two = c.place-2.new.store in
+    let three = c.place_null.new.stored.items in
+    omega (
+      arith,
+      first_len c.args.numbers.now first c.requires.all (c.new-store.ensures ∙ c.in_ok-copy_block.ensures),
+      ap length c.in_ok-rest.ensures.placed.kept,
+      length-take (length first) one,
+      ap length c.in_ok-small.ensures.placed.kept,
+      length-take (length one) two,
+      ap length c.into_cells-values.ensures,
+      ap length c.in_ok-null.ensures.kept,
+      length-take (length c.into_cells-values.result.items) three,
+    )
 
 -- The cells and offsets once the null block is placed, and what is known about them.
 module _ (c : goal.After-drop-rest-2) where
@@ -107,10 +133,10 @@ module _ (c : goal.After-drop-rest-2) where
   numbers = c.args.numbers.now
 
   abbrev first : List ℕ
-  first = c.copy_block.new.room.items
+  first = c.new-store.result
 
   abbrev one : List ℕ
-  one = c.place_map_blocks.new.stored.items
+  one = c.place.new.store
 
   abbrev rest : List ℕ
   rest = c.in_ok-rest.rest.items
@@ -119,7 +145,7 @@ module _ (c : goal.After-drop-rest-2) where
   fast = c.in_ok-fast.fast.items
 
   abbrev two : List ℕ
-  two = c.place_map_blocks-2.new.stored.items
+  two = c.into_cells-values.result.items
 
   abbrev old : List ℕ
   old = c.in_ok-small.small.items
@@ -134,7 +160,7 @@ module _ (c : goal.After-drop-rest-2) where
   limit = c.fast_limit-limit.ensures.limit
 
   begin : first ≡ take 128 numbers
-  begin = c.in_ok-copy_block.ensures
+  begin = c.new-store.ensures ∙ c.in_ok-copy_block.ensures
 
   placed-fast : IsPlaced 64 2 (block 64 numbers) first one rest
   placed-fast = c.in_ok-rest.ensures.placed
@@ -155,7 +181,8 @@ module _ (c : goal.After-drop-rest-2) where
   count = c.saturating_sub-small_len.ensures ∙ ap (λ n. c.args.high_start - n) limit
 
   placed-small : IsPlaced 16 (limit_at / 16) (block 16 numbers) one two old
-  placed-small = rw limit at c.in_ok-small.ensures.placed
+  placed-small = subst (λ xs. IsPlaced 16 (limit_at / 16) (block 16 numbers) one xs old) (sym c.into_cells-values.ensures)
+      (rw limit at c.in_ok-small.ensures.placed)
 
   old_len : length old ≡ (c.args.high_start - limit_at) / 16
   old_len = c.in_ok-small.ensures.count ∙ ap (λ n. n / 16) count
@@ -180,7 +207,8 @@ module _ (c : goal.After-drop-rest-2) where
   small_low =
       let few = count_different-le_count (block 64 numbers) 2 (limit_at / 64 - 2) in
       let size = parts c.args.trie_type in
-      let len_two : length two ≤ 0x3ffff + 16 = omega (arith, c.in_ok-small.ensures.capped, len_one, few, size.2) in
+      let len_two : length two ≤ 0x3ffff + 16 =
+      omega (arith, ap length c.into_cells-values.ensures, c.in_ok-small.ensures.capped, len_one, few, size.2) in
       λ j l. omega (arith, moved.inside j l, c.in_ok-null.ensures.capped, len_two)
 
   fast_whole : IsCopied 64 0 (block 64 numbers) three fast
@@ -248,13 +276,14 @@ returns-clause-short c =
     (fast_len t (numbers c) (first c) (one c) (rest c) (fast c) all (begin c) (placed-fast c) (rest_len c) (list c)) in
     let lone : List ℕ → Bool = stands_below (block_of 64 (λ n. get_or (numbers c) n 0)) (fast_limit t / 64) in
     let raw = c.in_ok-small.ensures.shorter lone stand in
-    let from = subst (λ n. length (two c) ≤ length (one c) + 16 * count_different_but lone (block 16 (numbers c)) (n / 16)
+    let from = subst (λ n. length c.place-2.new.store ≤ length (one c) + 16 * count_different_but lone (block 16 (numbers c)) (n / 16)
     (c.saturating_sub-small_len.result / 16)) (limit c) raw in
-    let shorter = subst (λ n. length (two c) ≤ length (one c) + 16 * count_different_but lone (block 16 (numbers c)) (fast_limit t / 16)
+    let shorter = subst (λ n. length c.place-2.new.store ≤ length (one c) + 16 * count_different_but lone (block 16 (numbers c)) (fast_limit t / 16)
     (n / 16)) (count c) from in
     omega (
       arith,
       len_one c,
+      ap length c.into_cells-values.ensures,
       shorter,
       c.in_ok-null.ensures.short,
       lone_blocks-list t (numbers c) all c.args.high_start c.requires.within,

@@ -5,53 +5,53 @@ use Rattle.icu_trie_compaction.proofs.index.push_upper.Goals as goal
 
 pub push_index1-requires : goal.push_index1-requires
 push_index1-requires c = λ j l.
-    let held : c.deref-5.result.now ≡ c.in_ok-places.places.items = search rules in
-    let held4 : c.deref-4.result.now ≡ c.in_ok-cells.cells.items = search rules in
-    let held3 : c.deref-3.result.now ≡ c.in_ok-numbers.numbers.items = search rules in
+    let held : c.deref-4.result.now ≡ c.in_ok-places.places.items = search rules in
+    let held4 : c.deref-3.result.now ≡ c.in_ok-cells.cells.items = search rules in
+    let held3 : c.deref-2.result.now ≡ c.in_ok-numbers.numbers.items = search rules in
     let p = parts c.args.trie_type in
     let few : length c.in_ok-cells.cells.items ≤ 2176 =
     omega (
       arith,
       c.in_ok-cells.ensures.len,
       ap length held3,
-      c.in_ok-numbers.ensures.count,
+      c.in_ok-numbers.ensures.indexed.count,
       c.requires.small_len,
       c.requires.within,
       p.1,
       p.3,
       c.fast_limit-limit.ensures,
     ) in
-    let w = c.in_ok-places.ensures.placed j 0 (omega arith) (omega (arith, l, ap length held, c.in_ok-places.ensures.count)) in
-    omega (arith, w.0, ap (λ xs. slice_index xs j) held, ap length held4, few, c.in_ok-places.ensures.short, c.in_ok-numbers.ensures.room)
+    let w = c.in_ok-places.ensures.placed.placed j 0 (omega arith) (omega (arith, l, ap length held, c.in_ok-places.ensures.placed.count)) in
+    omega (arith, w.0, ap (λ xs. slice_index xs j) held, ap length held4, few, c.in_ok-places.ensures.placed.short, c.in_ok-numbers.ensures.store.room)
 
 pub returns-clause-upper : goal.returns-clause-upper
 returns-clause-upper c =
-    let held5 : c.deref-5.result.now ≡ c.in_ok-places.places.items = search rules in
-    let held4 : c.deref-4.result.now ≡ c.in_ok-cells.cells.items = search rules in
-    let held3 : c.deref-3.result.now ≡ c.in_ok-numbers.numbers.items = search rules in
+    let held5 : c.deref-4.result.now ≡ c.in_ok-places.places.items = search rules in
+    let held4 : c.deref-3.result.now ≡ c.in_ok-cells.cells.items = search rules in
+    let held3 : c.deref-2.result.now ≡ c.in_ok-numbers.numbers.items = search rules in
     let start : ℕ = c.fast_limit-limit.result / 64 + (c.div_ceil.result - c.fast_limit-limit.result / 16384) in
     upper c.args.trie_type c.args.high_start (c.div_ceil.result - c.fast_limit-limit.result / 16384) start
     (c.fast_limit-limit.result % 16384 / 512)
-    c.args.small.now c.place_index3.new.stored.items c.place_index2.new.stored.items c.in_ok-numbers.numbers.items c.in_ok-cells.cells.items
+    c.args.small.now c.place_index3.new.store c.place_index2.new.store c.in_ok-numbers.numbers.items c.in_ok-cells.cells.items
     c.in_ok-places.places.items
     c.args.index.now.items c.push_index1.new.index.items c.push_stored.new.index.items
     c.requires.aligned c.requires.above c.requires.within c.requires.small_len c.requires.small_fit c.requires.fast (search arith)
     (search arith) (search arith)
-    (search rules) (search rules) (search rules) (search rules) (search rules) (rw held4 at c.in_ok-places.ensures.placed) (search rules)
+    (search rules) (search rules) (search rules) (search rules) (search rules) (rw held4 at c.in_ok-places.ensures.placed.placed) (search rules)
     (search rules) (search rules)
 
 pub returns-clause-null : goal.returns-clause-null
 returns-clause-null c =
-    let held5 : c.deref-5.result.now ≡ c.in_ok-places.places.items = search rules in
-    let held4 : c.deref-4.result.now ≡ c.in_ok-cells.cells.items = search rules in
-    let held3 : c.deref-3.result.now ≡ c.in_ok-numbers.numbers.items = search rules in
+    let held5 : c.deref-4.result.now ≡ c.in_ok-places.places.items = search rules in
+    let held4 : c.deref-3.result.now ≡ c.in_ok-cells.cells.items = search rules in
+    let held3 : c.deref-2.result.now ≡ c.in_ok-numbers.numbers.items = search rules in
     let start : ℕ = c.fast_limit-limit.result / 64 + (c.div_ceil.result - c.fast_limit-limit.result / 16384) in
     upper_null c.args.trie_type c.args.high_start (c.div_ceil.result - c.fast_limit-limit.result / 16384) start
     (c.fast_limit-limit.result % 16384 / 512)
-    c.args.small.now c.place_index3.new.stored.items c.place_index2.new.stored.items c.in_ok-numbers.numbers.items c.in_ok-cells.cells.items
+    c.args.small.now c.place_index3.new.store c.place_index2.new.store c.in_ok-numbers.numbers.items c.in_ok-cells.cells.items
     c.in_ok-places.places.items
     c.args.index.now.items c.push_index1.new.index.items c.push_stored.new.index.items
     c.requires.aligned c.requires.above c.requires.within c.requires.small_len c.requires.small_fit c.requires.fast (search arith)
     (search arith) (search arith)
-    (search rules) (search rules) (search rules) (search rules) (search rules) (rw held4 at c.in_ok-places.ensures.placed) (search rules)
+    (search rules) (search rules) (search rules) (search rules) (search rules) (rw held4 at c.in_ok-places.ensures.placed.placed) (search rules)
     (search rules) (search rules) c.args.null c.null_cell.result (search rules)

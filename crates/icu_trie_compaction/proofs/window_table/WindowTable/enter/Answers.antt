@@ -1,7 +1,7 @@
 use Rattle.std.proofs.Common.{rules, ◌≡◌, ◌+◌, ℕ, [], ◌∷◌, ◌++◌, set, get_or, length, ◌∙◌, ap, sym, refl}
 use Rattle.std.proofs.lemmas.List.{get_or_read, length-append}
 use Rattle.icu_trie_core.specs.Blocks.{window}
-use Rattle.icu_trie_compaction.proofs.TableLemmas.{table-again, table-added, bucket-is, part-window}
+use Rattle.icu_trie_compaction.proofs.TableLemmas.{table-again, table-added, table-restored, bucket-is, part-window}
 use Rattle.icu_trie_compaction.proofs.window_table.WindowTable.enter.Goals as goal
 
 pub returns-in-Some-clause-table : goal.returns-in-Some-clause-table
@@ -11,6 +11,17 @@ returns-in-Some-clause-table c =
     let w = c.requires.table.all c.in-Some._first f.0 in
     table-again c.args.cells.now t (t.entered + 1) c.requires.table refl c.requires.inside
     (w.0, w.1, w.2 ∙ (f.1.here ∙ part-window t.size t.entered c.args.cells.now))
+
+pub returns-in_err-reserve-clause-table : goal.returns-in_err-reserve-clause-table
+returns-in_err-reserve-clause-table c =
+    let t = c.args.self.now in
+    table-restored c.args.cells.now t (record t { next = c.reserve.new.self }) refl c.reserve.ensures.items c.requires.table
+
+pub returns-in_err-push-clause-table : goal.returns-in_err-push-clause-table
+returns-in_err-push-clause-table c =
+    let t = c.args.self.now in
+    table-restored c.args.cells.now t (record t { starts = c.push.new.self; next = c.reserve.new.self }) (search rules)
+    c.reserve.ensures.items c.requires.table
 
 pub returns-clause-table : goal.returns-clause-table
 returns-clause-table c =
@@ -23,7 +34,8 @@ returns-clause-table c =
     get_or_read heads i c.index-newest.result.now c.bucket_of-bucket.ensures.below c.index-newest.ensures 0 in
     let starts : c.push.new.self.items ≡ t.starts.items ++ t.entered ∷ [] = c.in_ok-push.ensures.items in
     let next : c.push-2.new.self.items ≡ t.next.items ++ (get_or heads i 0) ∷ [] =
-    c.in_ok-push-2.ensures.items ∙ ap (λ x. t.next.items ++ x ∷ []) head in
+    c.in_ok-push-2.ensures.items ∙ (ap (λ xs. xs ++ c.index-newest.result.now ∷ []) c.reserve.ensures.items
+    ∙ ap (λ x. t.next.items ++ x ∷ []) head) in
     let held : c.len.result ≡ length c.push.new.self.items = search rules in
     let len : c.len.result ≡ length t.starts.items + 1 = held ∙ ap length starts ∙ length-append t.starts.items (t.entered ∷ []) in
     let heads' : c.set_head.new.heads.items ≡ set heads i (length t.starts.items + 1) = c.set_head.ensures ∙ ap (λ x. set heads i x) len in

@@ -1,0 +1,8 @@
+use Rattle.std.proofs.Common.{rules, ◌≡◌, ◌++◌, ◌∷◌, [], subst, sym}
+use Rattle.icu_trie_compaction.specs.Windows.{AreTables}
+use Rattle.icu_trie_compaction.proofs.TableLemmas.{tables-push}
+use Rattle.icu_trie_compaction.proofs.cell_store.table_index.Goals as goal
+
+pub returns-clause-tables : goal.returns-clause-tables
+returns-clause-tables c = λ cells all. rw c.in_ok-push.ensures.items
+    (tables-push cells c.args.tables.now.items c.in_ok-table.table all (c.in_ok-table.ensures.table cells))
