@@ -3,3 +3,4 @@ pub mod Data
 pub mod FilledBlocks
 pub mod NumberTrie
 pub mod ValuesOfNumbers
+pub mod MapBlocks

@@ -1,7 +1,7 @@
 //! Places the blocks of a map in the data.
-ghost use Rattle.std.specs.Prelude.{◌≡◌, ℕ, ◌+◌, ◌*◌, ◌%◌, ◌^◌, ◌<◌, ◌≤◌, Bool, Err, List, length, max, IfOk, OnOk};
-ghost use Rattle.icu_zerovec.specs.CodePoints.{code_point_limit};
-ghost use Rattle.icu_trie_core.specs.Blocks.{block, count_different};
+ghost use Rattle.std.specs.Prelude.{◌≡◌, ℕ, ◌+◌, ◌*◌, ◌^◌, ◌<◌, ◌≤◌, Bool, Err, List, length, max, IfOk, OnOk};
+ghost use Rattle.icu_trie_core.specs.Blocks.{count_different};
+ghost use Rattle.icu_trie_builder.specs.Inside.MapBlocks.{HasBlocks, numbers_of};
 ghost use Rattle.icu_trie_compaction.specs.Different.{count_different_but};
 ghost use Rattle.icu_trie_compaction.specs.Placed.{AllStandIn, IsPlaced};
 ghost use Rattle.icu_trie_compaction.specs.declared.error.BuildError.TheVariants.{TooLarge};
@@ -39,26 +39,22 @@ impl MapBlocks<'_> {
         first: usize,
         count: usize,
     ) -> Result<Vec<u32>, BuildError>
-        requires some { 0 < self.now.size }
-        requires multiple { self.now.size % 16 ≡ 0 }
-        requires range { self.now.size * (first + count) ≤ code_point_limit }
-        requires whole_map { length self.now.map.now ≡ code_point_limit }
+        requires blocks { HasBlocks self.now (first + count) }
         requires room { length store.old < 2 ^ 30 }
         ensures count { IfOk result (λ offsets. length offsets.items ≡ count) }
-        ensures placed { IfOk result (λ offsets.
-            IsPlaced self.now.size first (block self.now.size self.now.map.now)
-            store.old store.new offsets.items) }
+        ensures placed { IfOk result (λ offsets. IsPlaced self.now.size first
+            (numbers_of self.now) store.old store.new offsets.items) }
         ensures capped { OnOk result
             (length store.new ≤ max (length store.old) (0x3ffff + self.now.size)) }
         ensures short { OnOk result (length store.new ≤ length store.old
-            + self.now.size * count_different (block self.now.size self.now.map.now) first count) }
+            + self.now.size * count_different (numbers_of self.now) first count) }
 
         // Blocks that already occur in the cells add none.
         ensures shorter { OnOk result ((p : List ℕ → Bool) → AllStandIn self.now.size store.old p
-            → length store.new ≤ length store.old + self.now.size
-            * count_different_but p (block self.now.size self.now.map.now) first count) }
+            → length store.new ≤ length store.old
+            + self.now.size * count_different_but p (numbers_of self.now) first count) }
         ensures too_large { result ≡ Err TooLarge → 0x3ffff + self.now.size < length store.old
-            + self.now.size * count_different (block self.now.size self.now.map.now) first count }
+            + self.now.size * count_different (numbers_of self.now) first count }
     {
         let mut room = Vec::with_capacity(alloc, self.size)?;
         let mut offsets = Vec::with_capacity(alloc, count)?;

@@ -176,8 +176,8 @@ module _ (k first j : ℕ) (b : ℕ → List ℕ) (before stored offsets : List 
       }
 
   -- A block that equals the one before it.
-  pub compacting-again : (offsets' : List ℕ) → 0 < j → b (first + j) ≡ b (first + (j - 1)) → offsets' ≡ offsets ++ (get_or offsets (j - 1) 0) ∷ []
-      → Compacting k first (j + 1) b before stored offsets'
+  pub compacting-again : (offsets' : List ℕ) → 0 < j → b (first + j) ≡ b (first + (j - 1))
+      → offsets' ≡ offsets ++ (get_or offsets (j - 1) 0) ∷ [] → Compacting k first (j + 1) b before stored offsets'
   compacting-again offsets' some same o = compacting-step 0 (get_or offsets (j - 1) 0) stored offsets'
       (placed-found 0 (get_or offsets (j - 1) 0) (b (first + j)) stored (rw (len, same) (l.least (j - 1) (omega (arith, some))))) o
 

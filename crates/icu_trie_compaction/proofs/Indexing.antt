@@ -1,10 +1,10 @@
 -- Placing the blocks of 512, one after another.
-use Rattle.std.proofs.Common.{◌≡◌, ◌≢◌, inl, inr, ℕ, ◌+◌, ◌-◌, ◌*◌, ◌/◌, ◌<◌, ◌≤◌, false, true, nat_lt, List, [], ◌∷◌, ◌++◌, length, get_or, take, drop, refl, arith, ◌∙◌, sym, ap, subst, below_more, Some}
+use Rattle.std.proofs.Common.{◌≡◌, ◌≢◌, inl, inr, ℕ, ◌+◌, ◌-◌, ◌*◌, ◌/◌, ◌<◌, ◌≤◌, false, true, nat_lt, List, [], ◌∷◌, ◌++◌, length, get_or, take, refl, arith, ◌∙◌, sym, ap, subst, below_more, Some}
 use Rattle.std.specs.List.{AllPass}
 use Rattle.std.proofs.lemmas.Bool.{cases_lt, lt-ltb}
 use Rattle.std.proofs.lemmas.Bool.Decides.{nat_tests}
 use Rattle.std.proofs.lemmas.List.{length-append, get_or_append_left, get_or_at, get_or_default, take_all}
-use Rattle.icu_trie_core.specs.Blocks.{window, block, count_different}
+use Rattle.icu_trie_core.specs.Blocks.{block, count_different}
 use Rattle.icu_trie_core.specs.Format.{offset_in_block}
 use Rattle.icu_trie_compaction.specs.Different.{count_different_but}
 use Rattle.icu_trie_compaction.specs.Placed.{IsPlacedBlock, OccursNowhere}
@@ -67,24 +67,16 @@ cell-same start fast stored x c d (inr (inr a)) (inr (inl b)) = absurd (a.wide b
 cell-same start fast stored x c d (inr (inr a)) (inr (inr b)) =
     omega (arith, a.from, b.from, least-same 36 (c - (0x8000 + start)) (d - (0x8000 + start)) stored (packed_cells x) a.place b.place)
 
--- A test for the bound 0x10000, of the cells after a block is placed.
-placed-below : (limit at : ℕ) (x before after : List ℕ) → IsPlacedBlock limit x before after at → AllBelow 0x10000 x → AllBelow 0x10000 before
-    → AllBelow 0x10000 after
-placed-below limit at x before after placed own old =
-    all-below 0x10000 after (placed.drawn (λ n. nat_lt n 0x10000) (below-all 0x10000 x own) (below-all 0x10000 before old))
-
 -- The 18-bit form of 32 offsets has 36 cells.
 packed_is : (x : List ℕ) → length x ≡ 32 → length (packed_cells x) ≡ 36
 packed_is x len = omega (arith, packed-len x, len)
 
-module _ (start : ℕ) (fast x before : List ℕ) (low : start < 0x7fff) (store : IsIndex3Store start before) (len : length x ≡ 32) where
-  -- A block in the fast index.
-  pub placed-fast : (at : ℕ) → length fast ≤ start → AllBelow 0x10000 x → IsLeast (length x) at fast x
-      → IsPlacedOffsets start fast x before before at
-  unfolding IsIndex3Cell
-  placed-fast at few below least = record {
-    names = inl (record { below = below; place = rw len at least });
-    below = omega (arith, least.inside, few, low);
+module _ (start : ℕ) (fast x before : List ℕ) (store : IsIndex3Store start before) where
+  -- A block that has a cell already.
+  placed-there : (cell : ℕ) → IsIndex3Cell start fast before x cell → cell < 0x10000 → IsPlacedOffsets start fast x before before cell
+  placed-there cell names below = record {
+    names = names;
+    below = below;
     store = store;
     kept = take_all (length before) before (omega arith);
     fresh = λ lt. absurd (omega (arith, lt));
@@ -92,80 +84,86 @@ module _ (start : ℕ) (fast x before : List ℕ) (low : start < 0x7fff) (store 
     narrow = λ b. omega arith;
   }
 
-  -- A block in the 18-bit form.
-  module _ (wide : AllBelow 0x10000 x → ⊥) where
-    pub wide-unplaced : OccursNowhere (packed_cells x) before → IsUnplaced start fast before x
-    unfolding IsUnplaced IsIndex3Cell
-    wide-unplaced none c (inl a) = wide a.below
-    wide-unplaced none c (inr (inl a)) = wide a.below
-    wide-unplaced none c (inr (inr a)) = (rw (packed_is x len) at none) (c - (0x8000 + start)) a.place.here
-
-    pub placed-wide : (at : ℕ) (after : List ℕ) → AllBelow 0x40000 x → IsPlacedBlock (0x7ffe - start) (packed_cells x) before after at
-        → IsPlacedOffsets start fast x before after (0x8000 + start + at)
+  module _ (low : start < 0x7fff) (len : length x ≡ 32) where
+    -- A block in the fast index.
+    pub placed-fast : (at : ℕ) → length fast ≤ start → AllBelow 0x10000 x → IsLeast (length x) at fast x
+        → IsPlacedOffsets start fast x before before at
     unfolding IsIndex3Cell
-    placed-wide at after fit placed =
-        let size = packed_is x len in
-        let is : at ≡ 0x8000 + start + at - (0x8000 + start) = omega arith in
-        let least : IsLeast 36 at after (packed_cells x) = rw size at placed.least in
-        record {
-          names = inr (inr (record { wide = wide; from = omega arith; place = subst (λ n. IsLeast 36 n after (packed_cells x)) is least }));
-          below = omega (arith, least.inside, placed.capped, size, store.room, low);
-          store = record {
-            fit = placed-below (0x7ffe - start) at (packed_cells x) before after placed (packed-below x fit) store.fit;
-            room = omega (arith, placed.capped, size, store.room, low);
-          };
-          kept = placed.kept;
-          fresh = λ lt. wide-unplaced (placed.grown lt).1;
-          wide = grind (arith, placed.grown, size);
-          narrow = λ b. absurd (wide b);
-        }
+    placed-fast at few below least =
+        placed-there at (inl (record { below = below; place = rw len at least })) (omega (arith, least.inside, few, low))
 
-  -- A block of 16-bit offsets that is not in the fast index.
-  module _ (below : AllBelow 0x10000 x) (nowhere : OccursNowhere x fast) where
-    pub narrow-unplaced : OccursNowhere x before → IsUnplaced start fast before x
-    unfolding IsUnplaced IsIndex3Cell
-    narrow-unplaced none c (inl a) = (rw len at nowhere) c a.place.here
-    narrow-unplaced none c (inr (inl a)) = (rw len at none) (c - start) a.place.here
-    narrow-unplaced none c (inr (inr a)) = a.wide below
+    -- A block that is placed as the cells y.
+    placed-as : (y after : List ℕ) (at cell : ℕ) → length y ≤ 36 → (AllBelow 0x10000 x → length y ≤ 32) → AllBelow 0x10000 y
+        → IsPlacedBlock (0x7ffe - start) y before after at → IsIndex3Cell start fast after x cell → cell < 0x10000
+        → (OccursNowhere y before → IsUnplaced start fast before x) → IsPlacedOffsets start fast x before after cell
+    placed-as y after at cell size narrow own placed names below fresh = record {
+      names = names;
+      below = below;
+      store = record {
+        fit = all-below 0x10000 after (placed.drawn (λ n. nat_lt n 0x10000) (below-all 0x10000 y own) (below-all 0x10000 before store.fit));
+        room = omega (arith, placed.capped, size, store.room, low);
+      };
+      kept = placed.kept;
+      fresh = λ lt. fresh (placed.grown lt).1;
+      wide = grind (arith, placed.grown, size);
+      narrow = λ b. grind (arith, placed.grown, narrow b);
+    }
 
-    -- Its first position is too high for a cell.
-    pub narrow-high : (at : ℕ) (after : List ℕ) → IsPlacedBlock (0x7ffe - start) x before after at → 0x7fff ≤ start + at
-        → (0x7fff ≤ start + length before) × IsUnplaced start fast before x
-    unfolding IsUnplaced IsIndex3Cell
-    narrow-high at after placed high = (omega (arith, placed.least.inside, placed.capped, len, high, low), never)
-      where
-        never : (c : ℕ) → IsIndex3Cell start fast before x c → ⊥
-        never c (inl a) = (rw len at nowhere) c a.place.here
-        never c (inr (inl a)) =
-            let same = least-same 32 (c - start) at after x (least-kept 32 (c - start) before after x placed.kept a.place)
-            (rw len at placed.least) in
-            omega (arith, same, a.low, a.from, high)
-        never c (inr (inr a)) = a.wide below
+    -- A block in the 18-bit form.
+    module _ (wide : AllBelow 0x10000 x → ⊥) where
+      pub wide-unplaced : OccursNowhere (packed_cells x) before → IsUnplaced start fast before x
+      unfolding IsUnplaced IsIndex3Cell
+      wide-unplaced none c (inl a) = wide a.below
+      wide-unplaced none c (inr (inl a)) = wide a.below
+      wide-unplaced none c (inr (inr a)) = (rw (packed_is x len) at none) (c - (0x8000 + start)) a.place.here
 
-    pub placed-narrow : (at : ℕ) (after : List ℕ) → start + at < 0x7fff → IsPlacedBlock (0x7ffe - start) x before after at
-        → IsPlacedOffsets start fast x before after (start + at)
-    unfolding IsIndex3Cell
-    placed-narrow at after under placed =
-        let is : at ≡ start + at - start = omega arith in
-        let least : IsLeast 32 at after x = rw len at placed.least in
-        record {
-          names = inr (inl (record {
+      pub placed-wide : (at : ℕ) (after : List ℕ) → AllBelow 0x40000 x → IsPlacedBlock (0x7ffe - start) (packed_cells x) before after at
+          → IsPlacedOffsets start fast x before after (0x8000 + start + at)
+      unfolding IsIndex3Cell
+      placed-wide at after fit placed =
+          let size = packed_is x len in
+          let is : at ≡ 0x8000 + start + at - (0x8000 + start) = omega arith in
+          let least : IsLeast 36 at after (packed_cells x) = rw size at placed.least in
+          placed-as (packed_cells x) after at (0x8000 + start + at) (omega (arith, size)) (λ b. absurd (wide b)) (packed-below x fit) placed
+          (inr (inr (record { wide = wide; from = omega arith; place = subst (λ n. IsLeast 36 n after (packed_cells x)) is least })))
+          (omega (arith, least.inside, placed.capped, size, store.room, low)) wide-unplaced
+
+    -- A block of 16-bit offsets that is not in the fast index.
+    module _ (below : AllBelow 0x10000 x) (nowhere : OccursNowhere x fast) where
+      pub narrow-unplaced : OccursNowhere x before → IsUnplaced start fast before x
+      unfolding IsUnplaced IsIndex3Cell
+      narrow-unplaced none c (inl a) = (rw len at nowhere) c a.place.here
+      narrow-unplaced none c (inr (inl a)) = (rw len at none) (c - start) a.place.here
+      narrow-unplaced none c (inr (inr a)) = a.wide below
+
+      -- Its first position is too high for a cell.
+      pub narrow-high : (at : ℕ) (after : List ℕ) → IsPlacedBlock (0x7ffe - start) x before after at → 0x7fff ≤ start + at
+          → (0x7fff ≤ start + length before) × IsUnplaced start fast before x
+      unfolding IsUnplaced IsIndex3Cell
+      narrow-high at after placed high = (omega (arith, placed.least.inside, placed.capped, len, high, low), never)
+        where
+          never : (c : ℕ) → IsIndex3Cell start fast before x c → ⊥
+          never c (inl a) = (rw len at nowhere) c a.place.here
+          never c (inr (inl a)) =
+              let same = least-same 32 (c - start) at after x (least-kept 32 (c - start) before after x placed.kept a.place)
+              (rw len at placed.least) in
+              omega (arith, same, a.low, a.from, high)
+          never c (inr (inr a)) = a.wide below
+
+      pub placed-narrow : (at : ℕ) (after : List ℕ) → start + at < 0x7fff → IsPlacedBlock (0x7ffe - start) x before after at
+          → IsPlacedOffsets start fast x before after (start + at)
+      unfolding IsIndex3Cell
+      placed-narrow at after under placed =
+          let is : at ≡ start + at - start = omega arith in
+          let least : IsLeast 32 at after x = rw len at placed.least in
+          placed-as x after at (start + at) (omega (arith, len)) (λ b. omega (arith, len)) below placed
+          (inr (inl (record {
             below = below;
             nowhere = rw len at nowhere;
             from = omega arith;
             low = under;
             place = subst (λ n. IsLeast 32 n after x) is least;
-          }));
-          below = omega (arith, under);
-          store = record {
-            fit = placed-below (0x7ffe - start) at x before after placed below store.fit;
-            room = omega (arith, placed.capped, len, store.room, low);
-          };
-          kept = placed.kept;
-          fresh = λ lt. narrow-unplaced (placed.grown lt).1;
-          wide = grind (arith, placed.grown, len);
-          narrow = λ b. grind (arith, placed.grown, len);
-        }
+          }))) (omega (arith, under)) narrow-unplaced
 
 -- The number of distinct blocks among the first j.
 abbrev apart : List ℕ → ℕ → ℕ
@@ -213,7 +211,8 @@ module _ (start : ℕ) (fast offsets : List ℕ) (j : ℕ) (stored cells : List 
             (λ i lt. rw (old i lt) (cell-kept start fast stored stored' (block 32 offsets i) (get_or cells i 0) here.kept (l.cell i lt)))
             (rw new here.names);
         below = λ i lt. below_more (λ i. get_or cells' i 0 < 0x10000) j
-            (λ i lt. omega (arith, old i lt, l.below i (omega (arith, lt, l.count)))) (omega (arith, new, here.below)) i (omega (arith, lt, len));
+            (λ i lt. omega (arith, old i lt, l.below i (omega (arith, lt, l.count)))) (omega (arith, new, here.below)) i
+            (omega (arith, lt, len));
         store = here.store;
         short = elim (cases_lt (length stored) (length stored')) [
           | inl lt ↦ omega (arith, indexing-fresh (here.fresh lt), here.wide, l.short)
@@ -226,18 +225,11 @@ module _ (start : ℕ) (fast offsets : List ℕ) (j : ℕ) (stored cells : List 
       }
 
   -- A block that equals the one before it.
-  pub indexing-again : (cells' : List ℕ) → 0 < j → block 32 offsets j ≡ block 32 offsets (j - 1) → cells' ≡ cells ++ (get_or cells (j - 1) 0) ∷ []
-      → Indexing start fast offsets (j + 1) stored cells'
+  pub indexing-again : (cells' : List ℕ) → 0 < j → block 32 offsets j ≡ block 32 offsets (j - 1)
+      → cells' ≡ cells ++ (get_or cells (j - 1) 0) ∷ [] → Indexing start fast offsets (j + 1) stored cells'
   indexing-again cells' some same is = indexing-step (get_or cells (j - 1) 0) stored cells'
-      (record {
-        names = rw same (l.cell (j - 1) (omega (arith, some)));
-        below = l.below (j - 1) (omega (arith, some, l.count));
-        store = l.store;
-        kept = take_all (length stored) stored (omega arith);
-        fresh = λ lt. absurd (omega (arith, lt));
-        wide = omega arith;
-        narrow = λ b. omega arith;
-      }) is
+      (placed-there start fast (block 32 offsets j) stored l.store (get_or cells (j - 1) 0) (rw same (l.cell (j - 1) (omega (arith, some))))
+      (l.below (j - 1) (omega (arith, some, l.count)))) is
 
   -- A block is rejected.
   pub indexing-full : (m : ℕ) → j < m → IsUnplaced start fast stored (block 32 offsets j) → 0x7fff ≤ start + length stored
@@ -250,7 +242,8 @@ module _ (start : ℕ) (fast offsets : List ℕ) (j : ℕ) (stored cells : List 
 -- All blocks.
 pub indexing-done : (start : ℕ) (fast offsets : List ℕ) (j : ℕ) (stored cells : List ℕ) → Indexing start fast offsets j stored cells
     → j ≡ length offsets / 32 → IsIndexed start fast offsets stored cells
-indexing-done start fast offsets j stored cells l end = record { count = l.count ∙ end; cell = λ i lt. l.cell i (omega (arith, lt, l.count)); below = l.below }
+indexing-done start fast offsets j stored cells l end =
+    record { count = l.count ∙ end; cell = λ i lt. l.cell i (omega (arith, lt, l.count)); below = l.below }
 
 -- A block of cells that are below a bound.
 pub block-fit : (n k j : ℕ) (xs : List ℕ) → AllBelow n xs → k * j + k ≤ length xs → AllBelow n (block k xs j)

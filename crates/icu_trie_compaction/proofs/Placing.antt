@@ -1,6 +1,5 @@
 -- Placing one block.
-use Rattle.std.proofs.Common.{◌≡◌, ◌≢◌, ℕ, ◌+◌, ◌-◌, ◌<◌, ◌≤◌, true, List, ◌++◌, length, take, drop, arith, ◌∙◌, sym, subst}
-use Rattle.std.specs.List.{AllPass}
+use Rattle.std.proofs.Common.{◌≡◌, ◌≢◌, ℕ, ◌+◌, ◌-◌, ◌<◌, ◌≤◌, true, List, ◌++◌, length, take, drop, arith, ◌∙◌}
 use Rattle.std.proofs.lemmas.List.{length-append, length-drop, take-append-le, take_all}
 use Rattle.std.proofs.lemmas.List.Elements.{All-append, All-drop}
 use Rattle.icu_trie_compaction.specs.Placed.{IsPlacedBlock, OccursNowhere}

@@ -87,7 +87,8 @@ abbrev pub rest : List ℕ → List ℕ
 rest cells = take (length cells - rest_at cells) (drop (rest_at cells) cells)
 
 pub length-rest : (cells : List ℕ) → length (rest cells) ≡ length cells % 32
-length-rest cells = omega (arith, length-take (length cells - rest_at cells) (drop (rest_at cells) cells), length-drop (rest_at cells) cells)
+length-rest cells =
+    omega (arith, length-take (length cells - rest_at cells) (drop (rest_at cells) cells), length-drop (rest_at cells) cells)
 
 module _ (cells before stored places : List ℕ) (placed : IsPlaced 32 0 (block 32 cells) before stored places)
     (count : length places ≡ length cells / 32) (short : length stored ≤ length before + 32 * (length cells / 32))

@@ -95,13 +95,17 @@ module _ (t : TrieType) (high blocks start z : ℕ) (small stored3 stored number
   gives_all : GivesSmall t high small e
   gives_all = gives_by t high small e (λ i. get_or numbers i 0) aligned one two gives alike never
 
-  pub upper : IsUpper t high small a e
+  upper : IsUpper t high small a e
   upper = record {
     kept = at_fast;
     longer = omega (arith, g1.len, g2.len);
     gives = gives_all;
   }
 
-  pub upper_null : (null cell : ℕ) → IsNullCell null small (λ i. get_or numbers i 0) cell → IsNullIndex t high null small e cell
+  upper_null : (null cell : ℕ) → IsNullCell null small (λ i. get_or numbers i 0) cell → IsNullIndex t high null small e cell
   upper_null null cell is = null_index-by t high null small e aligned len_small gives_all (λ i. get_or numbers i 0) cell
       (cell_by t high small e (λ i. get_or numbers i 0) aligned one two gives alike never) is
+
+  pub both : (null cell : ℕ) → IsNullCell null small (λ i. get_or numbers i 0) cell
+      → IsUpper t high small a e × IsNullIndex t high null small e cell
+  both null cell is = (upper, upper_null null cell is)

@@ -59,7 +59,8 @@ HasAll cells t = t.entered ≡ length cells + 1 - t.size
 
 -- Valid tables of the windows of these cells.
 abbrev pub AreTables : List ℕ → List WindowTable → Type 0
-AreTables cells ts = (i : ℕ) (d : WindowTable) → i < length ts → IsTable cells (slice_index_or ts i d)
+AreTables cells ts = (i : ℕ) (d : WindowTable) → i < length ts
+    → IsTable cells (slice_index_or ts i d)
 
 -- The cells of a store, and its tables of their windows.
 pub record IsStore (cells : List ℕ) (ts : List WindowTable) : Type 0 where

@@ -22,6 +22,28 @@ pub place-requires-clause-room : goal.place-requires-clause-room
 place-requires-clause-room c = omega
     (arith, first_len c.args.numbers.now c.new-store.result c.requires.all (c.new-store.ensures ∙ c.in_ok-copy_block.ensures))
 
+pub place-requires-clause-blocks : goal.place-requires-clause-blocks
+place-requires-clause-blocks c = record {
+  some = omega arith;
+  multiple = omega arith;
+  range = omega (arith, c.fast_limit-limit.ensures.limit, (parts c.args.trie_type).2);
+  whole = c.requires.all;
+}
+
+pub place-requires-2-clause-blocks : goal.place-requires-2-clause-blocks
+place-requires-2-clause-blocks c = record {
+  some = omega arith;
+  multiple = omega arith;
+  range = omega (
+    arith,
+    c.fast_limit-limit.ensures.limit,
+    (parts c.args.trie_type).2,
+    c.saturating_sub-small_len.ensures,
+    c.requires.within,
+  );
+  whole = c.requires.all;
+}
+
 pub returns-in_err-rest-clause-too_large : goal.returns-in_err-rest-clause-too_large
 returns-in_err-rest-clause-too_large c = λ e.
     let is : c.in_err-rest.field-0.0 ≡ TooLarge = search rules in
@@ -278,7 +300,8 @@ returns-clause-short c =
     let raw = c.in_ok-small.ensures.shorter lone stand in
     let from = subst (λ n. length c.place-2.new.store ≤ length (one c) + 16 * count_different_but lone (block 16 (numbers c)) (n / 16)
     (c.saturating_sub-small_len.result / 16)) (limit c) raw in
-    let shorter = subst (λ n. length c.place-2.new.store ≤ length (one c) + 16 * count_different_but lone (block 16 (numbers c)) (fast_limit t / 16)
+    let shorter = subst (λ n. length c.place-2.new.store
+    ≤ length (one c) + 16 * count_different_but lone (block 16 (numbers c)) (fast_limit t / 16)
     (n / 16)) (count c) from in
     omega (
       arith,

@@ -1,5 +1,3 @@
-use Rattle.std.proofs.Common.{rules, ◌≡◌, ◌++◌, ◌∷◌, [], subst, sym}
-use Rattle.icu_trie_compaction.specs.Windows.{AreTables}
 use Rattle.icu_trie_compaction.proofs.TableLemmas.{tables-push}
 use Rattle.icu_trie_compaction.proofs.cell_store.table_index.Goals as goal
 

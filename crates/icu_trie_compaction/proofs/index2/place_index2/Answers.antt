@@ -1,4 +1,4 @@
-use Rattle.std.proofs.Common.{rules, ◌%◌, length, arith}
+use Rattle.std.proofs.Common.{arith}
 use Rattle.icu_trie_compaction.proofs.Tails.{index2-placed, index2-placed-rest, length-rest}
 use Rattle.icu_trie_compaction.proofs.index2.place_index2.Goals as goal
 use Rattle.icu_trie_compaction.proofs.index2.place_index2.Goals.{then-rest-gt0+in_ok-last+in_ok-push, else-rest-gt0}

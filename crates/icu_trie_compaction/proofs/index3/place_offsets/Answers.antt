@@ -1,4 +1,4 @@
-use Rattle.std.proofs.Common.{rules, ◌≡◌, true, ◌+◌, ◌-◌, Err, length, arith, ap, ◌∙◌}
+use Rattle.std.proofs.Common.{rules, ◌≡◌, true, ◌-◌, Err, length, arith, ap, ◌∙◌}
 use Rattle.icu_trie_compaction.specs.Layout.{AllBelow}
 use Rattle.icu_trie_compaction.specs.Placed.{OccursNowhere}
 use Rattle.icu_trie_compaction.specs.Inside.IndexParts.{packed_cells}
@@ -24,7 +24,7 @@ returns-in_err-at-clause-too_large c = λ e.
     let held : c.deref.result.now ≡ packed_cells c.args.offsets.now = c.deref.ensures.value ∙ c.in_ok-packed.ensures in
     let t = rw held at (c.in_err-at.ensures.too_large (ap (λ x. Err x) is)) in
     let wide : AllBelow 0x10000 c.args.offsets.now → ⊥ = λ b. let f : c.fit_16_bits.result ≡ true = c.fit_16_bits.ensures.1 b in cc in
-    (omega (arith, t.0, c.from.ensures), wide-unplaced _ _ _ _ r.start r.store r.offsets wide t.1)
+    (omega (arith, t.0, c.from.ensures), wide-unplaced _ _ _ _ r.store r.start r.offsets wide t.1)
 
 pub returns-then-not-fit_16_bits-clause-placed : goal.returns-then-not-fit_16_bits-clause-placed
 returns-then-not-fit_16_bits-clause-placed c =
@@ -32,14 +32,14 @@ returns-then-not-fit_16_bits-clause-placed c =
     let wide : AllBelow 0x10000 c.args.offsets.now → ⊥ = λ b. let f : c.fit_16_bits.result ≡ true = c.fit_16_bits.ensures.1 b in cc in
     let held : c.deref.result.now ≡ packed_cells c.args.offsets.now = c.deref.ensures.value ∙ c.in_ok-packed.ensures in
     let limit : c.from.result - 1 - c.args.start ≡ 0x7ffe - c.args.start = omega (arith, c.from.ensures) in
-    placed-wide _ _ _ _ r.start r.store r.offsets wide c.in_ok-at.at c.place.new.self r.offsets_fit
+    placed-wide _ _ _ _ r.store r.start r.offsets wide c.in_ok-at.at c.place.new.self r.offsets_fit
     (rw (held, limit) at c.in_ok-at.ensures.placed)
 
 pub returns-in-Some-clause-placed : goal.returns-in-Some-clause-placed
 returns-in-Some-clause-placed c =
     let r = c.requires in
     let f : c.fit_16_bits.result ≡ true = search rules in
-    placed-fast _ _ _ _ r.start r.store r.offsets c.in-Some.at r.fast_len (c.fit_16_bits.ensures.0 f)
+    placed-fast _ _ _ _ r.store r.start r.offsets c.in-Some.at r.fast_len (c.fit_16_bits.ensures.0 f)
     (rw c.in-Some.is at c.in_ok-at-2.ensures.found)
 
 pub returns-in_err-at-3-clause-too_large : goal.returns-in_err-at-3-clause-too_large
@@ -49,7 +49,7 @@ returns-in_err-at-3-clause-too_large c = λ e.
     let is : c.in_err-at-3.field-0.0 ≡ TooLarge = search rules in
     let t = c.in_err-at-3.ensures.too_large (ap (λ x. Err x) is) in
     let nowhere : OccursNowhere c.args.offsets.now c.args.fast.now = rw c.in_default.is at c.in_ok-at-2.ensures.none in
-    (omega (arith, t.0, c.from.ensures), narrow-unplaced _ _ _ _ r.start r.store r.offsets (c.fit_16_bits.ensures.0 f) nowhere t.1)
+    (omega (arith, t.0, c.from.ensures), narrow-unplaced _ _ _ _ r.store r.start r.offsets (c.fit_16_bits.ensures.0 f) nowhere t.1)
 
 pub returns-then-at-greatest-clause-too_large : goal.returns-then-at-greatest-clause-too_large
 returns-then-at-greatest-clause-too_large c = λ e.
@@ -57,7 +57,7 @@ returns-then-at-greatest-clause-too_large c = λ e.
     let f : c.fit_16_bits.result ≡ true = search rules in
     let limit : c.from.result - 1 - c.args.start ≡ 0x7ffe - c.args.start = omega (arith, c.from.ensures) in
     let nowhere : OccursNowhere c.args.offsets.now c.args.fast.now = rw c.in_default.is at c.in_ok-at-2.ensures.none in
-    narrow-high _ _ _ _ r.start r.store r.offsets (c.fit_16_bits.ensures.0 f) nowhere c.in_ok-at-3.at c.place-2.new.self
+    narrow-high _ _ _ _ r.store r.start r.offsets (c.fit_16_bits.ensures.0 f) nowhere c.in_ok-at-3.at c.place-2.new.self
     (rw limit at c.in_ok-at-3.ensures.placed) (omega (arith, c.if-at-greatest.true, c.from.ensures, r.start))
 
 pub returns-clause-placed : goal.returns-clause-placed
@@ -66,5 +66,5 @@ returns-clause-placed c =
     let f : c.fit_16_bits.result ≡ true = search rules in
     let limit : c.from.result - 1 - c.args.start ≡ 0x7ffe - c.args.start = omega (arith, c.from.ensures) in
     let nowhere : OccursNowhere c.args.offsets.now c.args.fast.now = rw c.in_default.is at c.in_ok-at-2.ensures.none in
-    placed-narrow _ _ _ _ r.start r.store r.offsets (c.fit_16_bits.ensures.0 f) nowhere c.in_ok-at-3.at c.place-2.new.self
+    placed-narrow _ _ _ _ r.store r.start r.offsets (c.fit_16_bits.ensures.0 f) nowhere c.in_ok-at-3.at c.place-2.new.self
     (omega (arith, c.if-at-greatest.false, c.from.ensures, r.start)) (rw limit at c.in_ok-at-3.ensures.placed)
