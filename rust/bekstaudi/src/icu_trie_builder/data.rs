@@ -5,14 +5,12 @@
 use crate::support::prelude::*;
 use crate::icu_trie_builder::error::BuildError;
 use crate::icu_trie_builder::lengths::{FAST_BLOCK, SMALL_BLOCK};
-use crate::icu_trie_builder::map_blocks::place_map_blocks;
+use crate::icu_trie_builder::map_blocks::{MAX_DATA_OFFSET, MapBlocks};
 use crate::icu_trie_builder::null_block::{NullBlock, place_null};
 use crate::icu_trie::header::TrieType;
+use crate::icu_trie_compaction::cell_store::CellStore;
 use crate::icu_trie_map::number_map::NumberMap;
 use crate::support::{AllocError};
-
-/// The greatest 18-bit offset of a block.
-const MAX_DATA_OFFSET: usize = 0x3ffff;
 
 /// The data offset that stands for "no null block". No block can have it.
 const NO_DATA_NULL_OFFSET: u32 = 0xfffff;
@@ -90,25 +88,21 @@ pub(crate) fn place_data(
 ) -> Result<PlacedData, BuildError> {
     let limit = trie_type.fast_limit() as usize;
     let small_len = high_start.saturating_sub(limit) / SMALL_BLOCK;
-    let mut values = Vec::new();
-    numbers.copy_block(2 * FAST_BLOCK, 0, &mut values)?;
-    let rest = place_map_blocks(
-        &mut values,
-        numbers,
-        FAST_BLOCK,
-        2,
-        limit / FAST_BLOCK - 2,
-        MAX_DATA_OFFSET,
-    )?;
+    let mut first = Vec::new();
+    numbers.copy_block(2 * FAST_BLOCK, 0, &mut first)?;
+    let mut store = CellStore::new(first);
+    let blocks = MapBlocks {
+        map: numbers,
+        size: FAST_BLOCK,
+    };
+    let rest = blocks.place(&mut store, 2, limit / FAST_BLOCK - 2)?;
     let fast = with_first_offsets(&rest)?;
-    let mut small = place_map_blocks(
-        &mut values,
-        numbers,
-        SMALL_BLOCK,
-        limit / SMALL_BLOCK,
-        small_len,
-        MAX_DATA_OFFSET,
-    )?;
+    let blocks = MapBlocks {
+        map: numbers,
+        size: SMALL_BLOCK,
+    };
+    let mut small = blocks.place(&mut store, limit / SMALL_BLOCK, small_len)?;
+    let mut values = store.into_cells();
     let null = place_null(&mut values, &fast, &mut small, MAX_DATA_OFFSET)?;
     push_end(&mut values, numbers.last(), error)?;
     Ok(PlacedData {

@@ -3,6 +3,7 @@
 
 #[allow(unused_imports)]
 use crate::support::prelude::*;
+use crate::icu_trie_compaction::cell_store::CellStore;
 use crate::icu_trie_compaction::error::BuildError;
 use crate::icu_trie_compaction::index2::{place_index2, with_unread};
 pub use crate::icu_trie_compaction::index3::NO_INDEX3_NULL_OFFSET;
@@ -109,14 +110,14 @@ fn push_upper(
     let limit = trie_type.fast_limit() as usize;
     let start = limit / FAST_TYPE_DATA_BLOCK_LENGTH as usize
         + (high_start.div_ceil(CP_PER_INDEX_1_ENTRY) - limit / CP_PER_INDEX_1_ENTRY);
-    let fast = widened(index)?;
-    let mut stored = Vec::new();
-    let numbers = place_index3(&mut stored, &fast, small, start)?;
+    let mut fast = CellStore::new(widened(index)?);
+    let mut store = CellStore::new(Vec::new());
+    let numbers = place_index3(&mut store, &mut fast, small, start)?;
     let unread = limit % CP_PER_INDEX_1_ENTRY / CP_PER_INDEX_2_ENTRY as usize;
     let cells = with_unread(&numbers, unread)?;
-    let places = place_index2(&mut stored, &cells)?;
+    let places = place_index2(&mut store, &cells)?;
     push_index1(index, start, &places)?;
-    push_stored(index, &stored)?;
+    push_stored(index, store.cells())?;
     Ok(null_cell(small, null, &numbers))
 }
 

@@ -4,10 +4,10 @@
 
 #[allow(unused_imports)]
 use crate::support::prelude::*;
-use crate::icu_trie_compaction::blocks::{block_at, place_block};
+use crate::icu_trie_compaction::blocks::block_at;
+use crate::icu_trie_compaction::cell_store::CellStore;
 use crate::icu_trie_compaction::error::BuildError;
 use crate::icu_trie_compaction::lengths::INDEX_2_BLOCK;
-use crate::icu_trie_compaction::window_table::WindowTable;
 use crate::support::{AllocError};
 
 /// A limit above every position of an index-2 block.
@@ -25,34 +25,34 @@ pub(crate) fn with_unread(
     Ok(all)
 }
 
-/// Places the whole blocks of 32 cells, and returns the position of each in `stored`.
+/// Places the whole blocks of 32 cells, and returns the position of each in `store`.
+#[inline]
 fn place_whole(
-    stored: &mut Vec<u32>,
+    store: &mut CellStore,
     cells: &[u32],
 ) -> Result<Vec<usize>, BuildError> {
     let count = cells.len() / INDEX_2_BLOCK;
-    let mut table = WindowTable::for_cells(INDEX_2_BLOCK, stored.len())?;
     let mut places = Vec::with_room(count + 1)?;
     for number in 0..count {
         let wanted = block_at(cells, INDEX_2_BLOCK, number);
-        let at = place_block(stored, &mut table, wanted, MOST_CELLS)?;
+        let at = store.place(wanted, MOST_CELLS)?;
         places.try_push(at)?;
     }
     Ok(places)
 }
 
-/// Places all blocks of 32 cells, and returns the position of each in `stored`. The last block may
+/// Places all blocks of 32 cells, and returns the position of each in `store`. The last block may
 /// be shorter.
+#[inline]
 pub(crate) fn place_index2(
-    stored: &mut Vec<u32>,
+    store: &mut CellStore,
     cells: &[u32],
 ) -> Result<Vec<usize>, BuildError> {
-    let mut places = place_whole(stored, cells)?;
+    let mut places = place_whole(store, cells)?;
     let rest = cells.len() % INDEX_2_BLOCK;
     if rest > 0 {
-        let mut table = WindowTable::for_cells(rest, stored.len())?;
         let tail = &cells[cells.len() - rest..];
-        let last = place_block(stored, &mut table, tail, MOST_CELLS)?;
+        let last = store.place(tail, MOST_CELLS)?;
         places.try_push(last)?;
     }
     Ok(places)

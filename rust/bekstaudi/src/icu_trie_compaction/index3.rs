@@ -5,41 +5,14 @@
 
 #[allow(unused_imports)]
 use crate::support::prelude::*;
-use crate::icu_trie_compaction::blocks::{block_at, place_block};
+use crate::icu_trie_compaction::blocks::block_at;
+use crate::icu_trie_compaction::cell_store::CellStore;
 use crate::icu_trie_compaction::error::BuildError;
-use crate::icu_trie_compaction::hashing::hash_of;
-use crate::icu_trie_compaction::lengths::{INDEX_3_BLOCK, WIDE_INDEX_3_BLOCK};
+use crate::icu_trie_compaction::lengths::INDEX_3_BLOCK;
 use crate::icu_trie_compaction::packing::pack;
-use crate::icu_trie_compaction::window_table::WindowTable;
-use crate::support::{AllocError};
 
 /// The index-3 offset that stands for "no null block". No block has this offset.
 pub const NO_INDEX3_NULL_OFFSET: u16 = 0x7fff;
-
-/// Tables of the windows of the fast index, and of the windows of the cells after index-1 in both
-/// widths.
-pub(crate) struct Tables {
-    /// The windows of 32 cells of the fast index.
-    fast: WindowTable,
-    /// The windows of 32 cells of the cells after index-1.
-    narrow: WindowTable,
-    /// The windows of 36 cells of the cells after index-1.
-    wide: WindowTable,
-}
-
-impl Tables {
-    /// Makes the tables for this fast index and no cells after index-1.
-    #[inline]
-    fn new(fast: &[u32]) -> Result<Tables, AllocError> {
-        let mut in_fast = WindowTable::for_cells(INDEX_3_BLOCK, fast.len())?;
-        in_fast.enter_all(fast)?;
-        Ok(Tables {
-            fast: in_fast,
-            narrow: WindowTable::new(INDEX_3_BLOCK)?,
-            wide: WindowTable::new(WIDE_INDEX_3_BLOCK)?,
-        })
-    }
-}
 
 /// Returns true if all offsets have 16 bits.
 #[inline]
@@ -52,87 +25,63 @@ fn fit_16_bits(offsets: &[u32]) -> bool {
     true
 }
 
-/// Places the block of 512 with these 32 offsets, and returns its index-2 cell. `stored` starts at
+/// Returns true if block number `number` of 512 has the same offsets as the block before it.
+#[inline]
+fn repeats(offsets: &[u32], number: usize) -> bool {
+    number > 0
+        && block_at(offsets, INDEX_3_BLOCK, number) == block_at(offsets, INDEX_3_BLOCK, number - 1)
+}
+
+/// Places the block of 512 with these 32 offsets, and returns its index-2 cell. `store` starts at
 /// index position `start`.
 ///
 /// # Errors
 ///
 /// `TooLarge` if the block would be at position 0x7fff or above.
 fn place_offsets(
-    stored: &mut Vec<u32>,
-    tables: &mut Tables,
-    fast: &[u32],
+    store: &mut CellStore,
+    fast: &mut CellStore,
     offsets: &[u32],
     start: usize,
 ) -> Result<usize, BuildError> {
     let greatest = usize::from(NO_INDEX3_NULL_OFFSET) - 1 - start;
     if !fit_16_bits(offsets) {
         let packed = pack(offsets)?;
-        let at = place_block(stored, &mut tables.wide, &packed, greatest)?;
+        let at = store.place(&packed, greatest)?;
         return Ok(0x8000 + start + at);
     }
-    if let Some(at) = tables.fast.find(fast, offsets, hash_of(offsets)) {
+    if let Some(at) = fast.find(offsets)? {
         return Ok(at);
     }
-    let at = place_block(stored, &mut tables.narrow, offsets, greatest)?;
+    let at = store.place(offsets, greatest)?;
     if at > greatest {
         return Err(BuildError::TooLarge);
     }
     Ok(start + at)
 }
 
-/// Places block number `number` of 512, and returns its index-2 cell. `last` is the index-2 cell of
-/// the block before it, if that block was placed.
-///
-/// # Errors
-///
-/// `TooLarge` if the block would be at position 0x7fff or above.
-fn place_next(
-    stored: &mut Vec<u32>,
-    tables: &mut Tables,
-    fast: &[u32],
-    offsets: &[u32],
-    number: usize,
-    last: Option<usize>,
-    start: usize,
-) -> Result<usize, BuildError> {
-    let wanted = block_at(offsets, INDEX_3_BLOCK, number);
-    if let Some(cell) = last {
-        if wanted == block_at(offsets, INDEX_3_BLOCK, number - 1) {
-            return Ok(cell);
-        }
-    }
-    place_offsets(stored, tables, fast, wanted, start)
-}
-
-/// Places all blocks of 512 in `stored`, and returns their index-2 cells. `stored` is empty at
-/// first and starts at index position `start`.
+/// Places all blocks of 512 in `store`, and returns their index-2 cells. `store` is empty at first
+/// and starts at index position `start`. `fast` has the fast index.
 ///
 /// # Errors
 ///
 /// `TooLarge` at the first block that would be at position 0x7fff or above.
 pub(crate) fn place_index3(
-    stored: &mut Vec<u32>,
-    fast: &[u32],
+    store: &mut CellStore,
+    fast: &mut CellStore,
     offsets: &[u32],
     start: usize,
 ) -> Result<Vec<u32>, BuildError> {
-    let mut tables = Tables::new(fast)?;
     let count = offsets.len() / INDEX_3_BLOCK;
     let mut cells = Vec::with_room(count)?;
-    let mut last = None;
     for number in 0..count {
-        let cell = place_next(
-            stored,
-            &mut tables,
-            fast,
-            offsets,
-            number,
-            last,
-            start,
-        )?;
+        if repeats(offsets, number) {
+            cells.try_push(cells[number - 1])?;
+            continue;
+        }
+        let wanted = block_at(offsets, INDEX_3_BLOCK, number);
+        let cell = place_offsets(store, fast, wanted, start)?;
         cells.try_push(cell as u32)?;
-        last = Some(cell);
     }
     Ok(cells)
 }

@@ -7,6 +7,3 @@ pub(crate) const INDEX_2_BLOCK: usize = INDEX_2_BLOCK_LENGTH as usize;
 
 /// The number of offsets in an index-3 block.
 pub(crate) const INDEX_3_BLOCK: usize = INDEX_3_BLOCK_LENGTH as usize;
-
-/// The number of cells in an index-3 block in the 18-bit form: nine for eight offsets.
-pub(crate) const WIDE_INDEX_3_BLOCK: usize = INDEX_3_BLOCK / 8 * 9;

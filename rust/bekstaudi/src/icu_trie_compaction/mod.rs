@@ -2,14 +2,16 @@
 //! once. A block may be anywhere among the cells stored so far. A block that does not occur among
 //! them is appended, overlapping the longest tail that equals a prefix of the block.
 //!
-//! - `blocks`: finds a block among the cells stored so far or appends it; `window_table` finds it
-//!   by its hash, which `hashing` computes
+//! - `cell_store`: [`CellStore`](cell_store::CellStore), the cells stored so far. It finds a block
+//!   among them or appends it. `window_table` finds a block by its hash, which `hashing` computes;
+//!   `blocks` has the overlap
 //! - `index`: makes the index, which gives each data block its offset. `index3` and `index2` place
 //!   its blocks; `packing` has the 18-bit form of an index-3 block, and `lengths` the lengths of
 //!   blocks
 //! - `error`: why a trie could not be built
 
-pub mod blocks;
+mod blocks;
+pub mod cell_store;
 pub mod error;
 mod hashing;
 pub mod index;
@@ -17,4 +19,4 @@ mod index2;
 mod index3;
 mod lengths;
 mod packing;
-pub mod window_table;
+mod window_table;

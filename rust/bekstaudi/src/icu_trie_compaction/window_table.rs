@@ -13,7 +13,7 @@ const FIRST_BUCKETS: usize = 256;
 const MOST_BUCKETS: usize = 0x100000;
 
 /// The distinct windows of some cells, by their hash.
-pub struct WindowTable {
+pub(crate) struct WindowTable {
     /// The number of cells in a window.
     size: usize,
     /// The factor for a cell that leaves a window.
@@ -29,16 +29,6 @@ pub struct WindowTable {
 }
 
 impl WindowTable {
-    /// Makes an empty table for windows of `size` cells.
-    ///
-    /// # Errors
-    ///
-    /// `AllocError` if the allocation fails.
-    #[inline]
-    pub(crate) fn new(size: usize) -> Result<WindowTable, AllocError> {
-        WindowTable::with_buckets(size, FIRST_BUCKETS)
-    }
-
     /// Makes an empty table for windows of `size` cells, with enough buckets for the windows of
     /// `cells` cells.
     ///
@@ -46,7 +36,10 @@ impl WindowTable {
     ///
     /// `AllocError` if the allocation fails.
     #[inline]
-    pub(crate) fn for_cells(size: usize, cells: usize) -> Result<WindowTable, AllocError> {
+    pub(crate) fn for_cells(
+        size: usize,
+        cells: usize,
+    ) -> Result<WindowTable, AllocError> {
         let buckets = cells.max(FIRST_BUCKETS).min(MOST_BUCKETS);
         WindowTable::with_buckets(size, buckets)
     }
@@ -66,7 +59,7 @@ impl WindowTable {
 
     /// Returns the number of cells in a window.
     #[inline]
-    pub fn size(&self) -> usize {
+    pub(crate) fn size(&self) -> usize {
         self.size
     }
 
@@ -100,6 +93,8 @@ impl WindowTable {
         }
         let bucket = self.bucket_of(hash);
         let newest = self.heads[bucket];
+        // With this, the second push succeeds if the first one does.
+        self.next.try_room(1)?;
         self.starts.try_push(at as u32)?;
         self.next.try_push(newest)?;
         set_head(&mut self.heads, bucket, self.starts.len() as u32);
@@ -108,11 +103,7 @@ impl WindowTable {
     }
 
     /// Adds all windows of `cells`.
-    ///
-    /// # Errors
-    ///
-    /// `AllocError` if an allocation fails.
-    pub(crate) fn enter_all(&mut self, cells: &[u32]) -> Result<(), AllocError> {
+    fn enter_all(&mut self, cells: &[u32]) -> Result<(), AllocError> {
         let size = self.size;
         let from = self.entered;
         let count = window_count(cells.len(), size);
@@ -129,12 +120,23 @@ impl WindowTable {
 
     /// Empties a full table and gives it more buckets.
     #[inline]
-    pub(crate) fn grow(&mut self, ) -> Result<(), AllocError> {
+    fn grow(&mut self, ) -> Result<(), AllocError> {
         let buckets = self.heads.len();
         if self.starts.len() > buckets && buckets < MOST_BUCKETS {
             *self = WindowTable::with_buckets(self.size, 4 * buckets)?;
         }
         Ok(())
+    }
+
+    /// Adds all windows of `cells`. Before that, a full table gets more buckets.
+    ///
+    /// # Errors
+    ///
+    /// `AllocError` if an allocation fails. The table then lacks windows.
+    #[inline]
+    pub(crate) fn complete(&mut self, cells: &[u32]) -> Result<(), AllocError> {
+        self.grow()?;
+        self.enter_all(cells)
     }
 }
 
