@@ -1,42 +1,15 @@
 -- Appending blocks to the tables.
-use Rattle.std.proofs.Common.{◌≡◌, ◌∙◌, ℕ, ◌+◌, ◌-◌, ◌*◌, ◌/◌, ◌%◌, ◌^◌, ◌<◌, ◌≤◌, List, [], ◌∷◌, ◌++◌, length, get_or, set, refl, ap, sym, arith, zero, suc, zero-add, Bool, true, false, cond, inl, inr}
+use Rattle.std.proofs.Common.{◌≡◌, ◌∙◌, ℕ, ◌+◌, ◌-◌, ◌*◌, ◌/◌, ◌%◌, ◌^◌, ◌<◌, ◌≤◌, List, length, get_or, set, refl, ap, sym, arith, zero-add, Bool, true, false, cond, inl, inr}
 use Rattle.std.specs.Int.{bit_at}
 use lib.Bits.{bit_and}
 use Rattle.std.specs.Prelude.{nat_eq}
 use Rattle.std.proofs.lemmas.Bool.{cases_eq, cases_lt}
 use Rattle.std.proofs.lemmas.Grind.{get_or-set_at}
-use Rattle.std.proofs.lemmas.List.{length-append, length-set, get_or_append_left, get_or_default, get_or-set_other, get_or-append-add, get_or_push}
+use Rattle.std.proofs.lemmas.List.{length-set, get_or_default, get_or-set_other}
 use Rattle.std.proofs.lemmas.Nat.Bits.{bit_at_ones, bit_at-zero}
 use Rattle.icu_frozen_sets.proofs.BitLemmas.{bit_tested}
 use Rattle.icu_frozen_sets.specs.CodePointBits.{BitTables, has_bit, word_with}
 use Rattle.icu_frozen_sets.specs.Inside.Filling.{AreTables, AddsBlocks, block_bit}
-
--- ---- tables without blocks
-abbrev pub two_blocks : List ℕ
-two_blocks = 0 ∷ 0 ∷ 0 ∷ 0 ∷ (2 ^ 64 - 1) ∷ (2 ^ 64 - 1) ∷ (2 ^ 64 - 1) ∷ (2 ^ 64 - 1) ∷ []
-
-first_four : (k : ℕ) → k < 4 → get_or two_blocks k 0 ≡ 0
-first_four zero h = refl
-first_four (suc zero) h = refl
-first_four (suc (suc zero)) h = refl
-first_four (suc (suc (suc zero))) h = refl
-first_four (suc (suc (suc (suc k)))) h = absurd (omega arith)
-
-last_four : (k : ℕ) → k < 4 → get_or two_blocks (4 + k) 0 ≡ 2 ^ 64 - 1
-last_four zero h = refl
-last_four (suc zero) h = refl
-last_four (suc (suc zero)) h = refl
-last_four (suc (suc (suc zero))) h = refl
-last_four (suc (suc (suc (suc k)))) h = absurd (omega arith)
-
-pub no_blocks : (index words : List ℕ) → index ≡ [] → words ≡ two_blocks → AreTables (record { index = index; words = words })
-no_blocks index words e w = rw (e, w) (record {
-  least = omega arith;
-  most = omega arith;
-  placed = λ b h. absurd (omega arith);
-  none = first_four;
-  all = last_four;
-})
 
 -- ---- the bits of equal words
 pub bit_of_uniform : (value : Bool) (word k : ℕ) → word ≡ cond value (2 ^ 64 - 1) 0 → k < 64 → nat_eq (bit_at word k) 1 ≡ value
@@ -70,53 +43,6 @@ module _ (t : BitTables) (index : List ℕ) (count : ℕ) (value : Bool) (a : Ar
     kept = λ c h. ap (λ (n : ℕ). nat_eq (bit_at (get_or t.words (n + c / 64 % 4) 0) (c % 64)) 1) (kept (c / 256) h);
     added = λ c l h. ap (λ (n : ℕ). nat_eq (bit_at (get_or t.words (n + c / 64 % 4) 0) (c % 64)) 1) (new (c / 256) l h)
         ∙ bit_of_uniform value _ (c % 64) (shared_word t value (c / 64 % 4) a (omega arith)) (omega arith);
-  }
-
--- ---- a block with words of its own
-module _ (t : BitTables) (block : List ℕ) (a : AreTables t) (four : length block ≡ 4) where
-  abbrev more_index : List ℕ
-  more_index = t.index ++ length t.words ∷ []
-
-  abbrev more_words : List ℕ
-  more_words = t.words ++ block
-
-  own_place : (b : ℕ) → b ≡ length t.index → get_or more_index b 0 ≡ length t.words
-  own_place b e = get_or_push t.index (length t.words) 0 b (sym e)
-
-  old_place : (b : ℕ) → b < length t.index → get_or more_index b 0 ≡ get_or t.index b 0
-  old_place b h = get_or_append_left t.index (length t.words ∷ []) 0 b h
-
-  own_tables : AreTables (record { index = t.index ++ length t.words ∷ []; words = t.words ++ block })
-  own_tables =
-      let li = length-append t.index (length t.words ∷ []) in
-      let lw = length-append t.words block in
-      record {
-        least = (let m = a.least in omega arith);
-        most = (let m = a.most in omega arith);
-        placed = λ b h. elim (cases_lt b (length t.index)) [
-          | inl l ↦ (let k = old_place b l in let p = a.placed b l in omega arith)
-          | inr l ↦ (let k = own_place b (omega arith) in omega arith)
-        ];
-        none = λ k h. get_or_append_left t.words block 0 k (let m = a.least in omega arith) ∙ a.none k h;
-        all = λ k h. get_or_append_left t.words block 0 (4 + k) (let m = a.least in omega arith) ∙ a.all k h;
-      }
-
-  own_kept : (c : ℕ) → c / 256 < length t.index
-      → has_bit (record { index = t.index ++ length t.words ∷ []; words = t.words ++ block }) c ≡ has_bit t c
-  own_kept c h =
-      let p = a.placed (c / 256) h in
-      rw (old_place (c / 256) h, get_or_append_left t.words block 0 (get_or t.index (c / 256) 0 + c / 64 % 4) (omega arith)) refl
-
-  own_added : (c : ℕ) → length t.index ≤ c / 256 → c / 256 < length t.index + 1
-      → has_bit (record { index = t.index ++ length t.words ∷ []; words = t.words ++ block }) c ≡ block_bit block c
-  own_added c l h = rw (own_place (c / 256) (omega arith), get_or-append-add t.words block (c / 64 % 4) 0) refl
-
-  pub own_more : AddsBlocks t (record { index = t.index ++ length t.words ∷ []; words = t.words ++ block }) 1 (block_bit block)
-  own_more = record {
-    tables = own_tables;
-    more = length-append t.index (length t.words ∷ []);
-    kept = own_kept;
-    added = own_added;
   }
 
 -- ---- a block of equal words

@@ -1,12 +1,11 @@
 -- Filling the bits, step by step.
-use Rattle.std.proofs.Common.{◌≡◌, ◌∙◌, ℕ, ◌+◌, ◌*◌, ◌/◌, ◌%◌, ◌<◌, ◌≤◌, List, [], ◌∷◌, length, get_or, refl, ap, sym, arith, zero, suc, Bool, true, false, inl, inr}
+use Rattle.std.proofs.Common.{◌≡◌, ◌∙◌, ℕ, ◌+◌, ◌*◌, ◌/◌, ◌%◌, ◌<◌, ◌≤◌, List, [], ◌∷◌, length, refl, ap, sym, arith, Bool, true, false, inl, inr}
 use Rattle.std.specs.Prelude.{◌&&◌, ◌||◌}
 use Rattle.std.proofs.lemmas.Bool.{cases_lt, lt-ltb, le-ltb}
-use Rattle.std.proofs.lemmas.Nat.Bits.{bit_at-zero}
 use Rattle.icu_zerovec.specs.CodePoints.{code_point_limit}
 use Rattle.icu_invlist.specs.InversionList.{between}
 use Rattle.icu_frozen_sets.specs.CodePointBits.{BitTables, has_bit}
-use Rattle.icu_frozen_sets.specs.Inside.Filling.{AreTables, AddsBlocks, Fills, IsFilling, block_bit, filled}
+use Rattle.icu_frozen_sets.specs.Inside.Filling.{AddsBlocks, Fills, IsFilling, block_bit, filled}
 use Rattle.icu_frozen_sets.proofs.BitLemmas.{between_in, between_before, between_after, between_low, between_high, or_false}
 
 -- ---- tests
@@ -35,24 +34,6 @@ filled_block t block reached c h l = rw (lt-ltb c reached h, le-ltb (c / 256) (l
 
 abbrev pub no_words : List ℕ
 no_words = 0 ∷ 0 ∷ 0 ∷ 0 ∷ []
-
-no_word : (k : ℕ) → k < 4 → get_or no_words k 0 ≡ 0
-no_word zero h = refl
-no_word (suc zero) h = refl
-no_word (suc (suc zero)) h = refl
-no_word (suc (suc (suc zero))) h = refl
-no_word (suc (suc (suc (suc k)))) h = absurd (omega arith)
-
-no_bits : (c : ℕ) (block : List ℕ) → block ≡ no_words → block_bit block c ≡ false
-no_bits c block e =
-    let w : get_or block (c / 64 % 4) 0 ≡ 0 = ap (λ (b : List ℕ). get_or b (c / 64 % 4) 0) e ∙ no_word (c / 64 % 4) (omega arith) in
-    rw (w, bit_at-zero (c % 64)) refl
-
--- ---- nothing is filled
-pub filling_none : (t : BitTables) (block : List ℕ) → AreTables t → t.index ≡ [] → block ≡ no_words → IsFilling t block 0
-filling_none t block a e z =
-    let l : length t.index ≡ 0 = ap (λ (xs : List ℕ). length xs) e in
-    record { tables = a; from = omega arith; to = omega arith; within = omega arith; ahead = λ c h q. no_bits c block z }
 
 -- ---- a part of a block
 module _ (t : BitTables) (block more : List ℕ) (reached next : ℕ) (value : Bool) (f : IsFilling t block reached)
@@ -117,20 +98,6 @@ word_kept t block reached next value e f settled some one_block within =
 module _ (t new : BitTables) (block zeros : List ℕ) (reached : ℕ) (f : IsFilling t block reached) (some : length t.index * 256 < reached)
     (whole : reached % 256 ≡ 0)
     (a : AddsBlocks t new 1 (block_bit block)) (z : zeros ≡ no_words) where
-  pub settled_filling : IsFilling new zeros reached
-  settled_filling =
-      let n = a.more in let x = f.to in
-      record {
-        tables = a.tables;
-        from = omega arith;
-        to = omega arith;
-        within = f.within;
-        ahead = λ c h q. no_bits c zeros z;
-      }
-
-  pub settled_blocks : length new.index ≡ reached / 256
-  settled_blocks = let n = a.more in let x = f.to in omega arith
-
   pub settled_same : (c : ℕ) → filled new zeros reached c ≡ filled t block reached c
   settled_same c = elim (cases_lt c reached) [
     | inl l ↦ elim (cases_lt (c / 256) (length t.index)) [
@@ -140,12 +107,6 @@ module _ (t new : BitTables) (block zeros : List ℕ) (reached : ℕ) (f : IsFil
     ]
     | inr l ↦ filled_past new zeros reached c l ∙ sym (filled_past t block reached c l)
   ]
-
-pub settled_part : (n reached : ℕ) → n * 256 < reached → reached ≤ n * 256 + 256 → (reached % 256 ≡ 0 → ⊥) → n ≡ reached / 256
-settled_part n reached a b h = elim (cases_lt reached (n * 256 + 256)) [
-  | inl l ↦ omega arith
-  | inr l ↦ absurd (h (omega arith))
-]
 
 -- ---- whole blocks
 module _ (t new : BitTables) (block : List ℕ) (reached count : ℕ) (value : Bool) (f : IsFilling t block reached)
@@ -194,20 +155,6 @@ module _ (t new : BitTables) (block : List ℕ) (reached count : ℕ) (value : B
   }
 
 -- ---- one step after another
-nothing_more : (t : BitTables) (block : List ℕ) (reached : ℕ) (value : Bool) (c : ℕ)
-    → (filled t block reached c || (value && between reached reached c)) ≡ filled t block reached c
-nothing_more t block reached value c = elim (cases_lt c reached) [
-  | inl l ↦ rw (and_no (between reached reached c) value (between_before reached reached c l)) (or_false (filled t block reached c))
-  | inr l ↦ rw (and_no (between reached reached c) value (between_after reached reached c l)) (or_false (filled t block reached c))
-]
-
-pub fills_none : (t : BitTables) (block : List ℕ) (reached : ℕ) (value : Bool) → IsFilling t block reached
-    → Fills t block reached t block reached value
-fills_none t block reached value f = record {
-  filling = f;
-  bits = λ c. sym (nothing_more t block reached value c);
-}
-
 or_no : (b x : Bool) → x ≡ false → (b || x) ≡ b
 or_no true x e = refl
 or_no false x e = e

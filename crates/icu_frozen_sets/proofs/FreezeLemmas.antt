@@ -67,12 +67,6 @@ module _ (ends : List ℕ) (left rest : List (RangeInclusive ℕ)) (r : RangeInc
   inside : All IsOfCodePoints (r ∷ rest)
   inside = rw step at f.within
 
-  pub range_order : r.start ≤ r.end
-  range_order = (inside 0 r (omega arith)).0
-
-  pub range_within : r.end < code_point_limit
-  range_within = (inside 0 r (omega arith)).1
-
   pub freezes_more : (t1 : BitTables) (block1 : List ℕ) (t2 : BitTables) (block2 : List ℕ) (end : ℕ) → end ≡ r.end + 1
       → Fills t block reached t1 block1 r.start false → Fills t1 block1 r.start t2 block2 end true
       → length t2.index ≡ end / 256 → Freezes ends rest t2 block2 end
