@@ -1,6 +1,6 @@
 -- Writing units one after another.
 use Rattle.std.proofs.Common.{◌≡◌, ◌∙◌, ℕ, ◌+◌, ◌<◌, ◌≤◌, List, [], ◌∷◌, ◌++◌, length, get_or, slice_get, Some, take, drop, set, refl, ap, sym, arith, suc, zero, append_assoc, append-nil, length-append, subst}
-use Rattle.std.proofs.lemmas.List.{drop-drop, drop-set-lt, length-set, take_more, take_more_set, take_all, take-append-drop}
+use Rattle.std.proofs.lemmas.List.{drop-drop, drop-set-lt, length-set, take_more, take_more_set}
 use Rattle.std.proofs.lemmas.Grind.{flat_map-append}
 use Rattle.std.proofs.lemmas.List.Folds.{length-flat_map-take}
 use Rattle.icu_invlist_binary.specs.SerializedSet.{count_of_singles, head_units, units_of, units_of_end, units_of_ends}
@@ -52,9 +52,6 @@ pub record PutUpTo (old xs : List ℕ) (at i next : ℕ) (new : List ℕ) : Type
   pub place : next ≡ at + length (units_of_ends (take i xs))
   pub put : IsPut old at (units_of_ends (take i xs)) new
 
-pub up_to_none : (old xs : List ℕ) (at : ℕ) → PutUpTo old xs at 0 at old
-up_to_none old xs at = record { place = omega arith; put = put_none old at }
-
 pub up_to_more : (old xs middle new more : List ℕ) (at i next x : ℕ) → PutUpTo old xs at i next middle → i < length xs
     → slice_get xs i ≡ Some x → units_of_end x ≡ more → IsPut middle next more new
     → PutUpTo old xs at (i + 1) (next + length more) new
@@ -78,9 +75,6 @@ room old xs new more at i next x p h e u r =
     ∙ ap length u in
     let c = p.place in let d = p.put.same_length in omega arith
 
-pub up_to_all : (old xs new : List ℕ) (at i next : ℕ) → length xs ≤ i → PutUpTo old xs at i next new → IsPut old at (units_of_ends xs) new
-up_to_all old xs new at i next h p = subst (λ (ys : List ℕ). IsPut old at (units_of_ends ys) new) (take_all i xs h) p.put
-
 -- ---- the whole set
 -- Its first units, followed by the units of its boundaries.
 pub set_put : (ends old middle new : List ℕ) (u s at : ℕ) → u ≡ length (units_of_ends ends) → s ≡ count_of_singles ends
@@ -96,16 +90,3 @@ pub length_of_set : (ends : List ℕ) (u s : ℕ) → u ≡ length (units_of_end
 length_of_set ends u s e f =
     let a = length-append (head_units (length (units_of_ends ends)) (count_of_singles ends)) (units_of_ends ends) in
     rw (e, f) (sym a)
-
--- A slice of exactly its length is the set.
-pub all_put : (old us new : List ℕ) → IsPut old 0 us new → length old ≡ length us → new ≡ us
-all_put old us new p h =
-    let a = p.same_length in
-    sym (take_all (0 + length us) new (omega arith)) ∙ p.front
-
--- The rest of a longer slice is unchanged.
-pub part_put : (old us new : List ℕ) (n : ℕ) → IsPut old 0 us new → n ≡ length us → new ≡ us ++ drop n old
-part_put old us new n p h =
-    let e : n ≡ 0 + length us = omega arith in
-    rw e (sym (take-append-drop (0 + length us) new)
-    ∙ (ap (λ (ys : List ℕ). ys ++ drop (0 + length us) new) p.front ∙ ap (λ (ys : List ℕ). us ++ ys) p.back))
