@@ -11,6 +11,5 @@ mod OpeningLemmas
 mod RangeLemmas
 mod RunLemmas
 mod SetLemmas
-mod SpanLemmas
 mod UnitLemmas
 mod UnitBuildingLemmas

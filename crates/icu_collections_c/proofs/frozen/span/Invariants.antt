@@ -1,6 +1,6 @@
 use mathlib.Core.Bool.{beq}
 use Rattle.icu_collections_c.specs.Frozen.{is_held}
-use Rattle.icu_collections_c.proofs.SpanLemmas.{Spanned}
+use Rattle.icu_invlist.proofs.CallerLemmas.{Spanned}
 use Rattle.icu_collections_c.proofs.frozen.span.Given as goal
 
 abbrev pub invariant-loop-c : goal.invariant-loop-c
