@@ -1,3 +1,4 @@
+pub mod CallerLemmas
 pub mod Bytes
 pub mod InputLines
 pub mod Powers

@@ -45,8 +45,11 @@ pub fn answers_text<F: Fn(u32) -> u32>(
 }
 
 /// Appends a number in at least four hexadecimal digits, and two dots.
+///
+/// # Errors
+/// Returns [`AllocError`] if an allocation fails.
 #[tactic(auto, using(crate::proofs::Printed::hex_written))]
-fn push_dotted(text: &mut String, n: u32) -> Result<(), AllocError>
+pub fn push_dotted(text: &mut String, n: u32) -> Result<(), AllocError>
     ensures { IfOk result (λ _. string_bytes text.new
         ≡ string_bytes text.old ++ (hex_text n ++ (46 ∷ (46 ∷ [])))) }
 {

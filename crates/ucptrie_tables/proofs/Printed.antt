@@ -1,18 +1,10 @@
--- What a number is printed as, and the lines of a difference in their parts.
-use Rattle.std.proofs.Common.{◌≡◌, ℕ, ◌-◌, ◌^◌, ◌<◌, ◌≤◌, false, true, List, [], ◌∷◌, ◌++◌, append_assoc, nat_lt, refl, ◌∙◌, ap, arith}
+-- The line of a difference in its parts.
+use Rattle.std.proofs.Common.{◌≡◌, ℕ, ◌<◌, ◌≤◌, false, true, List, [], ◌∷◌, ◌++◌, append_assoc, nat_lt, refl, ◌∙◌, ap, arith}
 use Rattle.std.proofs.lemmas.Bool.Decides.{nat_tests}
-use Rattle.std.proofs.lemmas.List.{append-nil}
-use Rattle.std.proofs.Math.Nat.{sub-zero}
-use Rattle.std.specs.Fmt.{digits, padded_integral, format_spec, char_count}
 use Rattle.icu_trie_core.specs.Range.{first_of, last_of}
 use Rattle.icu_trie_core.specs.declared.range.CodePointMapRange.{CodePointMapRange}
 use Rattle.ucptab_table.specs.TableText.{hex_text}
 use Rattle.ucptrie_tables.specs.Differences.{difference_line, values_text}
-
--- `{:04X}`
-pub hex_written : (n : ℕ) → padded_integral (format_spec 32 0 4 4 (2 ^ 64 - 1)) false [] (digits 16 true n) ≡ hex_text n
-unfolding padded_integral hex_text char_count
-hex_written n = simp (sub-zero, append-nil)
 
 -- the line of a difference after a text, in its two parts and in one
 pub difference_line-range : (text : List ℕ) (d : CodePointMapRange (ℕ × ℕ)) → first_of d < last_of d

@@ -1,5 +1,5 @@
 //! The ranges in which two tables differ.
-ghost use Rattle.std.specs.Prelude.{◌≡◌, ◌≢◌, ℕ, ◌<◌, ◌≤◌, [], ◌∷◌, ◌++◌, Some, IfOk, string_bytes};
+ghost use Rattle.std.specs.Prelude.{◌≡◌, ◌≢◌, ℕ, ◌<◌, ◌≤◌, ◌++◌, Some, IfOk, string_bytes};
 ghost use Rattle.ucptab_table.specs.TableText.{hex_text};
 ghost use Rattle.ucptrie_tables.specs.Differences.{both_values, difference_line, error_line, values_text, AreDifferencesFrom, IsDifferenceText};
 
@@ -7,6 +7,7 @@ use icu_trie::cptrie::CodePointTrie;
 use icu_trie_core::range::CodePointMapRange;
 use icu_zerovec::CODE_POINT_LIMIT;
 use std::alloc::{AllocError, Global};
+use ucptab_table::text::push_dotted;
 
 /// Returns the values of the number `c` in two tries.
 fn values_at(first: &CodePointTrie<'_, u32>, second: &CodePointTrie<'_, u32>, c: u32) -> (u32, u32)
@@ -68,17 +69,8 @@ pub fn differences(
     Ok(found)
 }
 
-/// Appends a number in at least four hexadecimal digits, and two dots.
-#[tactic(auto, using(crate::proofs::Printed::hex_written))]
-fn push_dotted(text: &mut String, n: u32) -> Result<(), AllocError>
-    ensures { IfOk result (λ _. string_bytes text.new
-        ≡ string_bytes text.old ++ (hex_text n ++ (46 ∷ (46 ∷ [])))) }
-{
-    write!(text, "{n:04X}..")
-}
-
 /// Appends the end of a line: a number in at least four hexadecimal digits, and two values.
-#[tactic(auto, using(crate::proofs::Printed::hex_written))]
+#[tactic(auto, using(ucptab_table::proofs::CallerLemmas::hex_written))]
 fn push_values(text: &mut String, n: u32, values: (u32, u32)) -> Result<(), AllocError>
     ensures { IfOk result (λ _. string_bytes text.new
         ≡ string_bytes text.old ++ (hex_text n ++ values_text values)) }
