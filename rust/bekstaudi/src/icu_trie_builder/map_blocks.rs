@@ -21,8 +21,8 @@ pub(crate) struct MapBlocks<'a> {
 impl MapBlocks<'_> {
     /// Places `count` blocks in `store`, from block number `first` on, and returns their offsets.
     ///
-    /// The offset of a block is the first position at which its numbers occur. A block that equals
-    /// the one before it has the same offset and is not looked up.
+    /// The offset of a block is the first position at which its numbers occur. If [`NumberMap`]
+    /// reports that a block repeats the one before it, the block is not read.
     ///
     /// # Errors
     ///

@@ -32,7 +32,10 @@ pub fn answers_text<F: Fn(u32) -> u32>(
 }
 
 /// Appends a number in at least four hexadecimal digits, and two dots.
-fn push_dotted(text: &mut String, n: u32) -> Result<(), AllocError> {
+///
+/// # Errors
+/// Returns [`AllocError`] if an allocation fails.
+pub fn push_dotted(text: &mut String, n: u32) -> Result<(), AllocError> {
     write!(text, "{n:04X}..")
 }
 

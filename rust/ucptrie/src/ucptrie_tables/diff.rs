@@ -8,6 +8,7 @@ use bekstaudi::codepointtrie::CodePointTrie;
 use bekstaudi::codepointtrie::CodePointMapRange;
 use bekstaudi::zerovec::CODE_POINT_LIMIT;
 use crate::support::{AllocError};
+use crate::ucptab_table::text::push_dotted;
 
 /// Returns the values of the number `c` in two tries.
 fn values_at(first: &CodePointTrie<'_, u32>, second: &CodePointTrie<'_, u32>, c: u32) -> (u32, u32) {
@@ -53,11 +54,6 @@ pub fn differences(
         start = end;
     }
     Ok(found)
-}
-
-/// Appends a number in at least four hexadecimal digits, and two dots.
-fn push_dotted(text: &mut String, n: u32) -> Result<(), AllocError> {
-    write!(text, "{n:04X}..")
 }
 
 /// Appends the end of a line: a number in at least four hexadecimal digits, and two values.
