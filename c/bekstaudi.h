@@ -43,6 +43,9 @@ extern "C" {
 #define BKS_VERSION "0.2.0"
 #define BKS_VERSION_NUMBER 200
 
+/* Returns the version of the library, which may be newer than the header. ICU: u_getVersion. */
+uint32_t bks_version(void);
+
 /* ---- Types ----------------------------------------------------------------------------------- */
 
 /* What bks_trie_open returns. If there are several faults, it reports the first in this order. */

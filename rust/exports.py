@@ -70,7 +70,8 @@ def parameter(name, of, module):
 
 def function(module, name, parameters, returned):
     """A function of exports.rs, and its types in C: what it returns, then its parameters."""
-    parts = [parameter(*it.split(": "), module) for it in re.split(r",\s*", parameters.strip(" ,\n"))]
+    named = [it for it in re.split(r",\s*", parameters.strip(" ,\n")) if it]
+    parts = [parameter(*it.split(": "), module) for it in named]
     call = f"crate::{CRATE}::{module}::{name}"
     head = f"\n#[unsafe(no_mangle)]\npub unsafe extern \"C\" fn {name}({', '.join(it[0] for it in parts)}) -> "
     head += f"{type_there(returned, module)} {{\n"
@@ -152,7 +153,8 @@ def declared(header):
     text = re.sub(r"/\*.*?\*/", "", header, flags=re.S).split("static inline")[0]
     functions, structs = {}, {}
     for returned, name, parameters in re.findall(r"(?m)^(\w+) (bks_\w+)\(([^)]*)\);", text):
-        functions[name] = [returned, *(re.sub(r"\w+$", "", it.strip()).strip() for it in parameters.split(","))]
+        named = [] if parameters == "void" else parameters.split(",")
+        functions[name] = [returned, *(re.sub(r"\w+$", "", it.strip()).strip() for it in named)]
     for name, body in re.findall(r"typedef struct (bks_\w+) \{(.*?)\}", text, re.S):
         fields = re.findall(r"(?m)^\s*([\w ]+?[ *]+)(\w+);", body)
         structs[name] = [f"{of.strip()} {field}" for of, field in fields]

@@ -139,7 +139,7 @@ static void tries(const library *l, const uint8_t *bytes, size_t size) {
     bks_trie trie, *t = &trie;
     opened(l, t, bytes, size);
     values(l, t);
-    PUT(ASK(bks_trie_is_coherent, t));
+    PUT(ASK(bks_trie_is_coherent, t)), PUT(ASK(bks_version));
     FILLED(ranges);
     uint32_t c = point();
     size_t room = any(65), found = ASK(bks_trie_ranges, t, c, SLICE(ranges, room));

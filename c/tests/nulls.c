@@ -24,6 +24,7 @@ static void zeros(void) {
 static void empty_sets(void) {
     uint32_t ends[4];
     uint64_t word;
+    CHECK(bks_version() == BKS_VERSION_NUMBER);
     CHECK(bks_set_test(NULL, 0) && !bks_set_contains(NULL, 0, 0) && bks_set_size(NULL, 0) == 0);
     CHECK(bks_set_span(NULL, 0, NULL, 0, true) == 0 && bks_set_span(NULL, 0, "A", 1, false) == 1);
     CHECK(bks_set_union(NULL, 0, letters, 2, ends, 4) == 2 && bks_set_union(letters, 2, NULL, 0, NULL, 0) == 2);

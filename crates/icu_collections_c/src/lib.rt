@@ -18,6 +18,7 @@
 //! - `unit_building`: builds unit tries from entries; `listing`: lists the entries of a unit trie
 //! - `cells`: the cells of tries, in bytes at any address
 //! - `status`: the errors of functions that return a count
+//! - `version`: the version of the library
 //! - `answers`, `buffers`: writes into the caller's buffers
 #![tactic(auto)]
 
@@ -38,3 +39,4 @@ pub mod unit_building;
 pub mod unit_tries;
 mod units;
 pub mod value_sets;
+pub mod version;

@@ -271,3 +271,8 @@ pub unsafe extern "C" fn bks_units_value(units: *const u8, units_count: usize, c
 pub unsafe extern "C" fn bks_trie_set(trie: *const Trie, value: u32, ends: *mut u32, ends_count: usize) -> i64 {
     unsafe { crate::icu_collections_c::value_sets::bks_trie_set(&(*trie).slices(), value, slice_mut(ends, ends_count)) }
 }
+
+#[unsafe(no_mangle)]
+pub unsafe extern "C" fn bks_version() -> u32 {
+    crate::icu_collections_c::version::bks_version()
+}
