@@ -6,20 +6,18 @@ import subprocess
 from running import BUILD, CC, CXX, STRICT, TOP, passes, prints
 
 
-def examples(room):
-    """The library installed, and the examples as a user runs them."""
+def examples(room, icu):
+    """The library installed, and the examples as a user runs them. ICU4C makes one table, if it is there."""
     yield passes("c/build PREFIX", [*BUILD, f"{room}/usr"])
     flags = [f"-I{room}/usr/include", f"-L{room}/usr/lib", f"-Wl,-rpath,{room}/usr/lib", "-lbekstaudi"]
     code, text = f"{TOP}/c/examples", "A\u00df7 \u4e16\U0001f600\u0301"
-    yield passes("make_table.c", [CC, *STRICT, "-o", f"{room}/make_table", f"{code}/make_table.c", "-licuuc"])
-    with open(f"{room}/gc.bin", "wb") as table:
-        yield subprocess.run([f"{room}/make_table"], stdout=table).returncode == 0
+    tables = [f"{TOP}/data/general_category.bin"]
+    if icu:
+        yield from made_by_icu(room, flags)
+        tables.append(f"{room}/gc.bin")
     shown = "".join(f"{it} {kind}\n" for it, kind in zip(text, "Lu Ll Nd Zs Lo So Mn".split()))
-    yield passes("categories_icu.c", [CC, *STRICT, "-o", f"{room}/categories", f"{TOP}/c/tests/categories_icu.c", *flags, "-licuuc"])
-    yield os.path.exists(f"{room}/categories") and passes("categories_icu", [f"{room}/categories"])
-    table = [f"{room}/gc.bin"]
     programs = {"categories.c": (CC, "c99", [], shown), "letters.cpp": (CXX, "c++17", [], "A\u00df\n\u4e16\n")}
-    programs["kept.cpp"] = (CXX, "c++17", table, "A\u00df7 \u4e16\n")
+    programs["kept.cpp"] = (CXX, "c++17", tables[-1:], "A\u00df7 \u4e16\n")
     for source, (compiler, standard, files, wanted) in programs.items():
         if shutil.which(compiler):
             words = [compiler, f"-std={standard}", *STRICT, "-o", f"{room}/shown", f"{code}/{source}"]
@@ -27,4 +25,13 @@ def examples(room):
             yield prints(source, [f"{room}/shown", *files, text], wanted, os.environ)
     if shutil.which(CXX):
         lines = f"{text}\n\n" * 9000
-        yield prints("kept.cpp", [f"{room}/shown", f"{room}/gc.bin"], "A\u00df7 \u4e16\n\n" * 9000, os.environ, lines)
+        yield prints("kept.cpp", [f"{room}/shown", tables[0]], "A\u00df7 \u4e16\n\n" * 9000, os.environ, lines)
+
+
+def made_by_icu(room, flags):
+    """The table that ICU4C makes, as gc.bin, and the comparison of the header's table with ICU4C."""
+    yield passes("make_table.c", [CC, *STRICT, "-o", f"{room}/make_table", f"{TOP}/c/examples/make_table.c", "-licuuc"])
+    with open(f"{room}/gc.bin", "wb") as table:
+        yield subprocess.run([f"{room}/make_table"], stdout=table).returncode == 0
+    yield passes("categories_icu.c", [CC, *STRICT, "-o", f"{room}/categories", f"{TOP}/c/tests/categories_icu.c", *flags, "-licuuc"])
+    yield os.path.exists(f"{room}/categories") and passes("categories_icu", [f"{room}/categories"])
