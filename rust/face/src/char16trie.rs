@@ -46,17 +46,31 @@ plain_clone! {
 }
 
 impl Char16Trie<'_> {
-    /// Returns the entries in unit order, each with its key decoded lossily.
+    /// Returns an iterator over the entries, in unit order: each key as text, with its value.
+    /// Unpaired surrogates in a key become U+FFFD.
+    ///
+    /// A whole run takes time proportional to the number of entries. Nodes may be shared, so a few
+    /// units can have very many entries: [`count_entries`](Self::count_entries) returns how many.
+    ///
+    /// ```
+    /// use bekstaudi::char16trie::Char16TrieBuilder;
+    ///
+    /// let mut builder = Char16TrieBuilder::new();
+    /// builder.add_str("ab", 2)?;
+    /// builder.add_str("a", 1)?;
+    /// let entries: Vec<_> = builder.try_build()?.iter2().collect();
+    /// assert_eq!(entries, [("a".into(), 1), ("ab".into(), 2)]);
+    /// # Ok::<(), Box<dyn std::error::Error>>(())
+    /// ```
     ///
     /// # Panics
-    /// The iterator panics if an allocation fails; that of [`try_iter2`](Self::try_iter2) returns
-    /// an
+    /// The iterator panics if an allocation fails; that of [`try_iter2`](Self::try_iter2) returns an
     /// error then.
     pub fn iter2(&self) -> impl Iterator<Item = (String, i32)> + '_ {
         self.try_iter2().map(plain)
     }
 
-    /// Returns whether the units are a trie of some map.
+    /// {try_is_trie}
     ///
     /// # Panics
     /// Panics if an allocation fails; [`try_is_trie`](Self::try_is_trie) returns an error then.
@@ -64,19 +78,18 @@ impl Char16Trie<'_> {
         plain(self.try_is_trie())
     }
 
-    /// Returns the number of entries, at most `u64::MAX`, or `None` if the units are no trie.
+    /// {try_count_entries}
     ///
     /// # Panics
     /// Panics if an allocation fails; [`try_count_entries`](Self::try_count_entries) returns an
-    /// error
-    /// then.
+    /// error then.
     pub fn count_entries(&self) -> Option<u64> {
         plain(self.try_count_entries())
     }
 }
 
 impl Char16TrieCursor<'_> {
-    /// Returns the units with which some key continues from here, ascending.
+    /// {try_next_units}
     ///
     /// # Panics
     /// Panics if an allocation fails; [`try_next_units`](Self::try_next_units) returns an error
@@ -85,8 +98,7 @@ impl Char16TrieCursor<'_> {
         plain(self.try_next_units())
     }
 
-    /// Returns the value that all keys have which start with the units so far, that key itself
-    /// included. Returns `None` if their values differ, or if there is no such key.
+    /// {try_unique_value}
     ///
     /// # Panics
     /// Panics if an allocation fails; [`try_unique_value`](Self::try_unique_value) returns an error
@@ -97,7 +109,7 @@ impl Char16TrieCursor<'_> {
 }
 
 impl Entries<'_> {
-    /// Advances to the next entry, and returns whether there is one.
+    /// {try_advance}
     ///
     /// # Panics
     /// Panics if an allocation fails; [`try_advance`](Self::try_advance) returns an error then.

@@ -50,41 +50,41 @@ plain_clone! {
 
 impl CodePointInversionListBuilder {
     plain_calls! {
-        "Adds `c` to the set."
+        /// {try_add_char}
         add_char = try_add_char(c: char);
-        "Adds the code point `c` to the set, if it is at most 0x10FFFF."
+        /// {try_add32}
         add32 = try_add32(c: u32);
-        "Adds each character in `range` to the set."
+        /// {try_add_range}
         add_range = try_add_range(range: impl RangeBounds<char>);
-        "Adds each code point in `range`. A range with numbers above 0x10FFFF adds nothing."
+        /// {try_add_range32}
         add_range32 = try_add_range32(range: impl RangeBounds<u32>);
-        "Adds each code point of `set` to the set."
+        /// {try_add_set}
         add_set = try_add_set(set: &CodePointInversionList<'_>);
-        "Removes `c` from the set."
+        /// {try_remove_char}
         remove_char = try_remove_char(c: char);
-        "Removes the code point `c` from the set."
+        /// {try_remove32}
         remove32 = try_remove32(c: u32);
-        "Removes each character in `range` from the set."
+        /// {try_remove_range}
         remove_range = try_remove_range(range: impl RangeBounds<char>);
-        "Removes each code point in `range` from the set."
+        /// {try_remove_range32}
         remove_range32 = try_remove_range32(range: impl RangeBounds<u32>);
-        "Removes each code point of `set` from the set."
+        /// {try_remove_set}
         remove_set = try_remove_set(set: &CodePointInversionList<'_>);
-        "Removes each code point that is not in `set`."
+        /// {try_retain_set}
         retain_set = try_retain_set(set: &CodePointInversionList<'_>);
-        "Adds `c` if the set does not contain it, and else removes it."
+        /// {try_complement_char}
         complement_char = try_complement_char(c: char);
-        "Adds the code point `c`, or removes it if the set contains it. Ignores other numbers."
+        /// {try_complement32}
         complement32 = try_complement32(c: u32);
-        "Adds each character in `range` that is not in the set, and removes the others in it."
+        /// {try_complement_range}
         complement_range = try_complement_range(range: impl RangeBounds<char>);
-        "Adds each code point in `range` that is not in the set, and removes the others in it."
+        /// {try_complement_range32}
         complement_range32 = try_complement_range32(range: impl RangeBounds<u32>);
-        "Adds each code point of `set` that the set does not contain, and removes the others of it."
+        /// {try_complement_set}
         complement_set = try_complement_set(set: &CodePointInversionList<'_>);
     }
 
-    /// Complements the set: it then contains exactly the code points that it did not.
+    /// {try_complement}
     ///
     /// # Panics
     /// Panics if an allocation fails; [`try_complement`](Self::try_complement) returns an error
@@ -93,7 +93,7 @@ impl CodePointInversionListBuilder {
         plain(self.try_complement());
     }
 
-    /// Returns the set.
+    /// {try_build}
     ///
     /// # Panics
     /// Panics if an allocation fails; [`try_build`](Self::try_build) returns an error then.
@@ -109,7 +109,7 @@ impl Default for CodePointInversionListBuilder {
 }
 
 impl CodePointInversionList<'_> {
-    /// Returns the boundaries of the set, ascending.
+    /// {try_get_inversion_list_vec}
     ///
     /// # Panics
     /// Panics if an allocation fails;
@@ -118,7 +118,7 @@ impl CodePointInversionList<'_> {
         plain(self.try_get_inversion_list_vec())
     }
 
-    /// Returns the set with boundaries of its own, which it borrows no longer.
+    /// {try_into_owned}
     ///
     /// # Panics
     /// Panics if an allocation fails; [`try_into_owned`](Self::try_into_owned) returns an error
@@ -180,7 +180,7 @@ from_ranges! {
 }
 
 impl FrozenCodePointSet {
-    /// Returns a copy of the set with a bit for each code point, for many look-ups.
+    /// {try_freeze}
     ///
     /// # Panics
     /// Panics if an allocation fails; [`try_freeze`](Self::try_freeze) returns an error then.
@@ -190,7 +190,7 @@ impl FrozenCodePointSet {
 }
 
 impl FrozenCodePointSetAndStrings {
-    /// Returns a copy of the set with tables for many look-ups and spans.
+    /// {try_freeze}
     ///
     /// # Panics
     /// Panics if an allocation fails; [`try_freeze`](Self::try_freeze) returns an error then.

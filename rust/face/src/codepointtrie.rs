@@ -67,7 +67,7 @@ plain_clone! {
 }
 
 impl<T: TrieValue> CodePointTrie<'_, T> {
-    /// Returns the set of the code points that have this value.
+    /// {try_get_set_for_value}
     ///
     /// # Panics
     /// Panics if an allocation fails; [`try_get_set_for_value`](Self::try_get_set_for_value)
@@ -78,7 +78,7 @@ impl<T: TrieValue> CodePointTrie<'_, T> {
 }
 
 impl<T: TrieValue> CodePointTrieBuilder<T> {
-    /// Returns a builder with the values of a trie, to be changed and built again.
+    /// {try_from_trie}
     ///
     /// # Panics
     /// Panics if an allocation fails; [`try_from_trie`](Self::try_from_trie) returns an error then.
@@ -86,7 +86,7 @@ impl<T: TrieValue> CodePointTrieBuilder<T> {
         plain(CodePointTrieBuilder::try_from_trie(trie))
     }
 
-    /// Sets the value of the code point `c`. Does nothing above 0x10FFFF.
+    /// {try_set_value}
     ///
     /// # Panics
     /// Panics if an allocation fails; [`try_set_value`](Self::try_set_value) returns an error then.
@@ -94,8 +94,7 @@ impl<T: TrieValue> CodePointTrieBuilder<T> {
         plain(self.try_set_value(c, value));
     }
 
-    /// Sets the value of each code point in `range`, both bounds included. Ignores numbers above
-    /// 0x10FFFF.
+    /// {try_set_range_value}
     ///
     /// # Panics
     /// Panics if an allocation fails; [`try_set_range_value`](Self::try_set_range_value) returns an
@@ -104,7 +103,7 @@ impl<T: TrieValue> CodePointTrieBuilder<T> {
         plain(self.try_set_range_value(range, value));
     }
 
-    /// Returns the trie.
+    /// {try_build}
     ///
     /// # Panics
     /// Panics if an allocation fails, or if the map has too many different blocks;
@@ -114,7 +113,7 @@ impl<T: TrieValue> CodePointTrieBuilder<T> {
     }
 }
 
-/// Builds a trie of a list of writes. The last one that contains a code point sets its value.
+/// {try_build_from_writes}
 ///
 /// # Panics
 /// Panics if an allocation fails, or if the map has too many different blocks;

@@ -28,6 +28,9 @@
 //! assert_eq!(trie.get_set_for_value(1).iter_chars().count(), 26);
 //! ```
 //!
+//! Values may also be of a type of your own, such as an enum of general categories:
+//! [`TrieValue`](codepointtrie::TrieValue) has an example.
+//!
 //! # Sets
 //!
 //! ```

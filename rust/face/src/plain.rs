@@ -19,9 +19,9 @@ fn refused(error: &dyn core::fmt::Display) -> ! {
 
 /// Methods that return nothing, each over its `try_` form.
 macro_rules! plain_calls {
-    ($($text:literal $name:ident = $tried:ident($argument:ident: $of:ty);)*) => {
+    ($($(#[$docs:meta])* $name:ident = $tried:ident($argument:ident: $of:ty);)*) => {
         $(
-            #[doc = $text]
+            $(#[$docs])*
             ///
             /// # Panics
             #[doc = concat!("Panics if an allocation fails; [`", stringify!($tried), "`](Self::",

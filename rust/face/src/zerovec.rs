@@ -23,7 +23,7 @@ plain_clone! {
 }
 
 impl<T: AsULE> ZeroVec<'_, T> {
-    /// Returns a vector that owns its bytes, and borrows them no longer.
+    /// {try_into_owned}
     ///
     /// # Panics
     /// Panics if an allocation fails; [`try_into_owned`](Self::try_into_owned) returns an error
