@@ -52,6 +52,36 @@ PANICS = {
     "trait Cells::data_at": "Panics if there is no such cell.",
     "trait Cells::index_at": "Panics if there is no such cell.",
 }
+# Traits that a type derives beside those of the proved source.
+DERIVED = {
+    **dict.fromkeys(
+        # Iterators, and what they are made of.
+        "Iter IterRanges IterRangesComplemented IterChars Spans Matches Iter2 Pending Entries Walk"
+        " Spelling CodePointMapRangeIterator MappedRanges IterRangesMapped IterRangesForValue"
+        " RangeListIteratorCoalescer ValuesOf ValueIndicesOf ValuesOfUtf16 ValuesOfUtf8 AsciiInPlace"
+        # Builders, and what they are made of.
+        " CodePointTrieBuilder NumberMap Numbers Blocks Char16TrieBuilder CodePointTrieToml Fields".split(),
+        "Clone",
+    ),
+    "CodePointInversionListBuilder": "PartialEq Eq",
+    "Span": "PartialEq Eq Hash",
+    "FrozenTables": "PartialEq Eq Hash",
+    "TrieResult": "Eq Hash",
+    "CursorPlace": "Hash",
+    "FastCodePointTrie": "Clone PartialEq Eq",
+    "SmallCodePointTrie": "Clone PartialEq Eq",
+    "Typed": "Hash",
+    "AnyWidthTrie": "Clone PartialEq Eq Hash",
+    "TrieType": "Hash",
+    "CodePointTrieHeader": "Hash",
+    "CodePointMapRange": "Hash",
+    "CodePointDataSlice": "PartialEq Eq",
+    "Found": "Hash",
+    "Write": "Eq Hash",
+    "NotAValue": "Hash",
+    "ApplyRefused": "Hash",
+    "InvalidStringList": "Clone Eq Hash",
+}
 # The modules of Rattle's std that Rust's core has under the same names.
 OWN = "cmp error fmt hash iter marker ops"
 RULES = [

@@ -9,7 +9,7 @@ const PART: usize = 128;
 
 /// A map that is sorted by its keys: sorted parts of few entries, one after another. No part is
 /// empty.
-#[derive(Debug)]
+#[derive(Clone, Debug)]
 pub struct BTreeMap<K, V> {
     parts: Vec<Vec<(K, V)>>,
     count: usize,

@@ -37,12 +37,34 @@ pub use crate::icu_char16trie::char16trie::Char16JsonError;
 pub use crate::icu_char16trie_builder::builder::Char16TrieBuilder;
 pub use crate::icu_char16trie_builder::error::{AddError, BuildError, SortedError};
 
-use crate::plain::{plain, plain_clone};
+use crate::plain::{fused, plain, plain_clone};
+use crate::zerovec::ZeroVec;
 use alloc::string::String;
 use alloc::vec::Vec;
+use core::hash::{Hash, Hasher};
+use core::iter::FusedIterator;
 
 plain_clone! {
     impl<'data> Clone for Char16Trie<'data>;
+}
+
+fused! {
+    <'a> Iter2<'a>;
+    <'a> Matches<'a>;
+}
+
+/// Hashes the units, which `==` compares.
+impl Hash for Char16Trie<'_> {
+    fn hash<H: Hasher>(&self, state: &mut H) {
+        self.data.hash(state);
+    }
+}
+
+/// Returns the trie of the empty map. Does not allocate.
+impl Default for Char16Trie<'_> {
+    fn default() -> Self {
+        Char16Trie::new(ZeroVec::default())
+    }
 }
 
 impl Char16Trie<'_> {
@@ -66,7 +88,7 @@ impl Char16Trie<'_> {
     /// # Panics
     /// The iterator panics if an allocation fails; that of [`try_iter2`](Self::try_iter2) returns an
     /// error then.
-    pub fn iter2(&self) -> impl Iterator<Item = (String, i32)> + '_ {
+    pub fn iter2(&self) -> impl FusedIterator<Item = (String, i32)> + Clone + '_ {
         self.try_iter2().map(plain)
     }
 

@@ -35,8 +35,9 @@ pub use crate::icu_invlist_binary::serialized;
 
 use crate::codepointinvliststringlist::CodePointInversionListAndStringList;
 use crate::icu_zerovec::CODE_POINT_LIMIT;
-use crate::plain::{plain, plain_calls, plain_clone};
+use crate::plain::{fused, plain, plain_calls, plain_clone};
 use alloc::vec::Vec;
+use core::hash::{Hash, Hasher};
 use core::ops::{
     Bound, Range, RangeBounds, RangeFrom, RangeFull, RangeInclusive, RangeTo, RangeToInclusive,
 };
@@ -46,6 +47,13 @@ plain_clone! {
     impl<> Clone for CodePointInversionListBuilder;
     impl<> Clone for FrozenCodePointSet;
     impl<> Clone for FrozenCodePointSetAndStrings;
+}
+
+fused! {
+    <'a> IterRanges<'a>;
+    <'a> IterRangesComplemented<'a>;
+    <'a> IterChars<'a>;
+    <'s, 't> Spans<'s, 't>;
 }
 
 impl CodePointInversionListBuilder {
@@ -135,23 +143,81 @@ impl Default for CodePointInversionList<'_> {
     }
 }
 
+/// Returns the boundaries of the union of ranges. Like
+/// [`add_range32`](CodePointInversionListBuilder::add_range32) it ignores a range that is empty, or
+/// whose last number is above 0x10FFFF.
+fn ends_of(mut ranges: Vec<(u32, u32)>) -> Vec<u32> {
+    ranges.retain(|&(start, last)| start <= last && last < CODE_POINT_LIMIT);
+    ranges.sort_unstable();
+    let mut ends: Vec<u32> = Vec::new();
+    for (start, last) in ranges {
+        match ends.last_mut() {
+            Some(end) if start <= *end => *end = (*end).max(last + 1),
+            _ => ends.extend([start, last + 1]),
+        }
+    }
+    ends
+}
+
+/// Returns the union of the ranges, which may be in any order and overlap. A range whose last number
+/// is above 0x10FFFF is ignored.
+///
 /// # Panics
 /// Panics if an allocation fails; [`CodePointInversionList::try_from_iter`] returns an error then.
 impl FromIterator<RangeInclusive<u32>> for CodePointInversionList<'_> {
     fn from_iter<I: IntoIterator<Item = RangeInclusive<u32>>>(ranges: I) -> Self {
-        plain(CodePointInversionList::try_from_iter(ranges.into_iter()))
+        let bounds = ranges.into_iter().map(|it| it.deconstruct());
+        let ends = ends_of(bounds.filter(|it| it.0 < it.1).map(|it| (it.0, it.1 - 1)).collect());
+        plain(CodePointInversionList::from_valid_slice(&ends))
     }
 }
 
+/// Returns the set of the characters, which may be in any order and repeat.
+///
 /// # Panics
 /// Panics if an allocation fails.
 impl FromIterator<char> for CodePointInversionList<'_> {
     fn from_iter<I: IntoIterator<Item = char>>(characters: I) -> Self {
-        let mut builder = CodePointInversionListBuilder::new();
-        for c in characters {
-            builder.add_char(c);
-        }
-        builder.build()
+        let points = characters.into_iter().map(u32::from);
+        let ends = ends_of(points.map(|c| (c, c)).collect());
+        plain(CodePointInversionList::from_valid_slice(&ends))
+    }
+}
+
+macro_rules! collected {
+    ($($item:ty)*) => {
+        $(
+            /// # Panics
+            /// Panics if an allocation fails.
+            impl FromIterator<$item> for CodePointInversionListBuilder {
+                fn from_iter<I: IntoIterator<Item = $item>>(items: I) -> Self {
+                    let mut builder = CodePointInversionListBuilder::new();
+                    builder.extend(items);
+                    builder
+                }
+            }
+
+            /// Adds all items, which may be in any order.
+            ///
+            /// # Panics
+            /// Panics if an allocation fails.
+            impl Extend<$item> for CodePointInversionListBuilder {
+                fn extend<I: IntoIterator<Item = $item>>(&mut self, items: I) {
+                    self.add_set(&items.into_iter().collect());
+                }
+            }
+        )*
+    };
+}
+
+collected! { char RangeInclusive<u32> }
+
+impl<'a> IntoIterator for &'a CodePointInversionList<'_> {
+    type Item = RangeInclusive<u32>;
+    type IntoIter = IterRanges<'a>;
+
+    fn into_iter(self) -> IterRanges<'a> {
+        self.iter_ranges()
     }
 }
 
@@ -177,6 +243,32 @@ macro_rules! from_ranges {
 
 from_ranges! {
     Range<char> RangeFrom<char> RangeFull RangeInclusive<char> RangeTo<char> RangeToInclusive<char>
+}
+
+impl From<CodePointInversionList<'_>> for CodePointInversionListBuilder {
+    /// Returns a builder that holds the set, to be changed.
+    ///
+    /// # Panics
+    /// Panics if an allocation fails.
+    fn from(set: CodePointInversionList<'_>) -> Self {
+        let mut builder = CodePointInversionListBuilder::new();
+        builder.add_set(&set);
+        builder
+    }
+}
+
+/// Hashes the set that was frozen, which `==` compares.
+impl Hash for FrozenCodePointSet {
+    fn hash<H: Hasher>(&self, state: &mut H) {
+        self.as_set().hash(state);
+    }
+}
+
+/// Hashes the set that was frozen, which `==` compares.
+impl Hash for FrozenCodePointSetAndStrings {
+    fn hash<H: Hasher>(&self, state: &mut H) {
+        self.as_set().hash(state);
+    }
 }
 
 impl FrozenCodePointSet {

@@ -59,11 +59,76 @@ pub use crate::icu_trie_formats::trie_toml;
 pub use crate::icu_trie_text::text;
 
 use crate::codepointinvlist::CodePointInversionList;
-use crate::plain::{plain, plain_clone};
+use crate::icu_trie::mapped_ranges::MappedRanges;
+use crate::iterator_utils::RangeListIteratorCoalescer;
+use crate::plain::{fused, plain, plain_clone};
+use core::hash::{Hash, Hasher};
+use core::iter::FusedIterator;
 use core::ops::RangeInclusive;
 
 plain_clone! {
     impl<'trie, T: TrieValue> Clone for CodePointTrie<'trie, T>;
+}
+
+fused! {
+    <'a, T: TrieValue> CodePointMapRangeIterator<'a, T>;
+    <'a, T: TrieValue> IterRangesForValue<'a, T>;
+    <'a, T: TrieValue> text::ValuesOf<'a, T>;
+    <'a, T: TrieValue> text::ValueIndicesOf<'a, T>;
+    <'a, T: TrieValue> text::ValuesOfUtf16<'a, T>;
+    <'a, T: TrieValue> text::ValuesOfUtf8<'a, T>;
+}
+
+impl<T: TrieValue, U, F: Fn(T) -> U> FusedIterator for MappedRanges<'_, T, F> {}
+
+impl<T: TrieValue, U: Eq, F: Fn(T) -> U> FusedIterator for IterRangesMapped<'_, T, U, F> {}
+
+impl<I: Iterator<Item = CodePointMapRange<U>>, U: Eq> FusedIterator
+    for RangeListIteratorCoalescer<I, U>
+{
+}
+
+/// Hashes the header, the index and the data, which `==` compares.
+impl<T: TrieValue> Hash for CodePointTrie<'_, T> {
+    fn hash<H: Hasher>(&self, state: &mut H) {
+        self.parts().hash(state);
+    }
+}
+
+impl<T: TrieValue> Hash for FastCodePointTrie<'_, T> {
+    fn hash<H: Hasher>(&self, state: &mut H) {
+        self.as_untyped_ref().hash(state);
+    }
+}
+
+impl<T: TrieValue> Hash for SmallCodePointTrie<'_, T> {
+    fn hash<H: Hasher>(&self, state: &mut H) {
+        self.as_untyped_ref().hash(state);
+    }
+}
+
+/// Sets the value of each range, in order, as
+/// [`set_range_value`](CodePointTrieBuilder::set_range_value) does.
+///
+/// # Panics
+/// Panics if an allocation fails.
+impl<T: TrieValue> Extend<(RangeInclusive<u32>, T)> for CodePointTrieBuilder<T> {
+    fn extend<I: IntoIterator<Item = (RangeInclusive<u32>, T)>>(&mut self, ranges: I) {
+        for (range, value) in ranges {
+            self.set_range_value(range, value);
+        }
+    }
+}
+
+/// Sets the value of each range, in order, as
+/// [`set_range_value`](CodePointTrieBuilder::set_range_value) does.
+///
+/// # Panics
+/// Panics if an allocation fails.
+impl<T: TrieValue> Extend<CodePointMapRange<T>> for CodePointTrieBuilder<T> {
+    fn extend<I: IntoIterator<Item = CodePointMapRange<T>>>(&mut self, ranges: I) {
+        self.extend(ranges.into_iter().map(|it| (it.range, it.value)));
+    }
 }
 
 impl<T: TrieValue> CodePointTrie<'_, T> {

@@ -50,3 +50,11 @@ macro_rules! plain_clone {
     };
 }
 pub(crate) use plain_clone;
+
+/// Iterators that return `None` forever once they have returned it.
+macro_rules! fused {
+    ($(<$($life:lifetime),* $(, $of:ident: $bound:path)*> $name:ty;)*) => {
+        $(impl<$($life),* $(, $of: $bound)*> core::iter::FusedIterator for $name {})*
+    };
+}
+pub(crate) use fused;

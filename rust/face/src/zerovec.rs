@@ -46,3 +46,21 @@ impl<T: AsULE> FromIterator<T> for ZeroVec<'_, T> {
         plain(ZeroVec::alloc_from_iter(values.into_iter()))
     }
 }
+
+impl<'a, T: AsULE> IntoIterator for &'a ZeroVec<'_, T> {
+    type Item = T;
+    type IntoIter = iter::Iter<'a, T>;
+
+    fn into_iter(self) -> iter::Iter<'a, T> {
+        self.iter()
+    }
+}
+
+impl<'a, T: AsULE> IntoIterator for ZeroSlice<'a, T> {
+    type Item = T;
+    type IntoIter = iter::Iter<'a, T>;
+
+    fn into_iter(self) -> iter::Iter<'a, T> {
+        self.iter()
+    }
+}

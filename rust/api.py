@@ -1,0 +1,57 @@
+"""What the Rust API guidelines ask for beside what the proved sources have: more derived traits,
+`#[must_use]`, `#[non_exhaustive]`, and code of rust/added, which needs the private parts of a module."""
+import os
+import re
+
+from files import read
+from rules import DERIVED
+
+HERE = os.path.dirname(os.path.realpath(__file__))
+# A public type, with its derived traits if it has some.
+TYPE = r"(?m)^(?:#\[derive\(([^)]*)\)\]\n)?((?:pub(?:\(crate\))? )?(struct|enum) (\w+))"
+# A public function, and what it returns.
+FUNCTION = r"(?m)^( *)((?:#\[\w+(?:\(\w+\))?\]\n\1)*)(pub (?:const )?fn \w+[^;{]*?\) -> ([^;{]+?)(?= where|\s*\{))"
+# Results that carry `must_use` themselves, or iterators, which do too.
+MARKED = r"Result<|impl |(?:Iter\w*|\w+Iter\w*|Spans|Values?\w*Of\w*|Matches)<"
+
+
+def derived(code):
+    """Adds the traits of DERIVED in rust/rules.py, and marks enums of errors as non-exhaustive."""
+
+    def traits(found):
+        said, head, kind, name = found[1] or "", found[2], found[3], found[4]
+        more = DERIVED.get(name, "")
+        if name.endswith("Error"):
+            more += " Clone Eq Hash"
+        names = [it for it in said.split(", ") if it]
+        names += [it for it in more.split() if it not in names]
+        line = f"#[derive({', '.join(names)})]\n" if names else ""
+        is_open = kind == "enum" and name.endswith("Error")
+        return line + ("#[non_exhaustive]\n" if is_open else "") + head
+
+    return re.sub(TYPE, traits, code)
+
+
+def must_use(code):
+    """Marks each public function that only returns a value `#[must_use]`."""
+
+    def marked(found):
+        indent, attributes, head, returned = found[1], found[2], found[3], found[4]
+        if "&mut " in head or re.match(MARKED, returned) or " for " in owner(code, found.start()):
+            return found[0]
+        return f"{indent}#[must_use]\n{indent}{attributes}{head}"
+
+    return re.sub(FUNCTION, marked, code)
+
+
+def owner(code, place):
+    """Returns the line of the `impl` or `trait` that the code at `place` is in."""
+    heads = [it for it in re.finditer(r"(?m)^(?:impl|pub trait|\})[^\n]*", code) if it.start() < place]
+    return heads[-1][0] if heads else ""
+
+
+def guided(module, code):
+    """Returns the code of a module of the library with all of these."""
+    code = must_use(derived(code))
+    path = f"{HERE}/added/{module}.rs"
+    return code + "\n" + read(path) if os.path.exists(path) else code

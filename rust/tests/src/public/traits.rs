@@ -1,0 +1,152 @@
+//! Traits that the sources in Rattle lack: what they return, compared with std or with the methods.
+
+use bekstaudi::char16trie::{Char16Trie, Char16TrieBuilder};
+use bekstaudi::codepointinvlist::{
+    CodePointInversionList, CodePointInversionListBuilder, FrozenCodePointSet,
+    FrozenCodePointSetAndStrings, Span,
+};
+use bekstaudi::codepointinvliststringlist::CodePointInversionListAndStringList;
+use bekstaudi::codepointtrie::binary::{from_binary_any, to_binary};
+use bekstaudi::codepointtrie::planes::get_planes_trie;
+use bekstaudi::codepointtrie::{CodePointTrieBuilder, TrieType, Typed};
+use bekstaudi::zerovec::ZeroVec;
+use std::collections::BTreeSet;
+use std::fmt::Debug;
+use std::hash::{BuildHasher, BuildHasherDefault, DefaultHasher, Hash};
+use std::iter::FusedIterator;
+
+fn hash_of(value: &impl Hash) -> u64 {
+    BuildHasherDefault::<DefaultHasher>::default().hash_one(value)
+}
+
+/// Tests that a clone is equal, and that its hash is.
+fn clones<T: Clone + Debug + Eq + Hash>(value: &T) {
+    assert_eq!(value.clone(), *value);
+    assert_eq!(hash_of(&value.clone()), hash_of(value));
+}
+
+/// Tests that a clone of an iterator, taken in the middle, yields the same items, and that the
+/// iterator has ended once it says so.
+fn iterates<I: Iterator<Item: Debug + PartialEq> + Clone + FusedIterator>(mut items: I) {
+    items.next();
+    assert_eq!(items.clone().collect::<Vec<_>>(), items.by_ref().collect::<Vec<_>>());
+    assert!(items.next().is_none() && items.next().is_none());
+}
+
+/// The characters and ranges of many sets: in no order, overlapping, touching, empty, and outside
+/// the code space.
+fn numbers(seed: u32) -> Vec<u32> {
+    let next = |c: &u32| Some(c.wrapping_mul(1_664_525).wrapping_add(1_013_904_223));
+    std::iter::successors(Some(seed), next).take(200).map(|c| c >> 10 & 0x3FF).collect()
+}
+
+#[test]
+fn sets_collect_in_any_order() {
+    for seed in 0..200 {
+        let points = numbers(seed);
+        let characters = points.iter().filter_map(|c| char::from_u32(*c));
+        let set: CodePointInversionList = characters.clone().collect();
+        let expected: BTreeSet<u32> = points.iter().copied().collect();
+        assert_eq!(set.iter_chars().map(u32::from).collect::<Vec<_>>(), Vec::from_iter(expected));
+        let mut builder: CodePointInversionListBuilder = characters.clone().take(100).collect();
+        builder.extend(characters.skip(100));
+        assert_eq!(builder.build(), set);
+    }
+}
+
+#[test]
+fn sets_collect_ranges() {
+    for seed in 0..200 {
+        let edge = 0x10_FE00;
+        let bounds = numbers(seed);
+        let ranges = bounds.chunks(2).map(|it| edge + it[0]..=edge + it[1]);
+        let mut builder = CodePointInversionListBuilder::new();
+        ranges.clone().for_each(|it| builder.add_range32(it));
+        let set = builder.build();
+        assert_eq!(ranges.clone().collect::<CodePointInversionList>(), set);
+        let mut builder: CodePointInversionListBuilder = ranges.clone().take(20).collect();
+        builder.extend(ranges.skip(20));
+        assert_eq!(builder.build(), set);
+        let backwards: Vec<_> = set.iter_ranges().rev().collect();
+        let forwards: Vec<_> = (&set).into_iter().collect();
+        assert_eq!(backwards.into_iter().rev().collect::<Vec<_>>(), forwards);
+        let mut both = set.iter_ranges();
+        assert_eq!((both.next(), both.next_back()), (forwards.first().cloned(), forwards.get(1..).and_then(<[_]>::last).cloned()));
+        assert_eq!(CodePointInversionListBuilder::from(set.clone()).build(), set);
+    }
+    let whole: CodePointInversionList = [0..=0x10_FFFF].into_iter().collect();
+    assert_eq!(whole, CodePointInversionList::all());
+    let none: CodePointInversionList = [0..=0x11_0000, 7..=6].into_iter().collect();
+    assert_eq!(none, CodePointInversionList::default());
+}
+
+#[test]
+fn values_clone_and_hash() -> Result<(), Box<dyn std::error::Error>> {
+    let set: CodePointInversionList = ('a'..='z').collect();
+    clones(&set);
+    clones(&FrozenCodePointSet::freeze(&set));
+    let texts: CodePointInversionListAndStringList = ["a", "abc"].into_iter().collect();
+    clones(&texts);
+    clones(&FrozenCodePointSetAndStrings::freeze(&texts));
+    assert_eq!(texts, ["abc".to_string(), "a".to_string()].into_iter().collect());
+    assert_eq!(CodePointInversionListAndStringList::default().size(), 0);
+    let trie = get_planes_trie();
+    clones(&trie);
+    clones(&from_binary_any(&to_binary(&trie)?)?.0);
+    let Typed::Small(small) = trie.clone().to_typed() else { unreachable!() };
+    clones(&small);
+    let mut builder = Char16TrieBuilder::default();
+    builder.add_str("ab", 2)?;
+    let units = builder.clone().try_build()?;
+    assert_eq!(builder.try_build()?, units);
+    clones(&units);
+    assert_eq!(Char16Trie::default().iter2().next(), None);
+    Ok(())
+}
+
+#[test]
+fn iterators_clone_and_end() -> Result<(), Box<dyn std::error::Error>> {
+    let set: CodePointInversionList = ('a'..='z').chain('0'..='9').collect();
+    iterates(set.iter_ranges());
+    iterates(set.iter_ranges_complemented());
+    iterates(set.iter_chars());
+    let frozen = FrozenCodePointSet::freeze(&set);
+    iterates(frozen.spans("a, b, c"));
+    assert_eq!(frozen.spans("a").next(), Some(Span { text: "a", is_held: true }));
+    let trie = get_planes_trie();
+    iterates(trie.iter_ranges());
+    iterates(trie.iter_ranges_for_value(1));
+    iterates(trie.iter_ranges_mapped(|it| it % 2));
+    use bekstaudi::codepointtrie::text::{
+        value_indices_of, values_of, values_of_utf8, values_of_utf16,
+    };
+    iterates(values_of(&trie, "a\u{E9}b"));
+    iterates(value_indices_of(&trie, "a\u{E9}b"));
+    iterates(values_of_utf8(&trie, b"a\xFFb"));
+    iterates(values_of_utf16(&trie, &[0x61, 0xD800, 0x62]));
+    let numbers: ZeroVec<'_, u16> = [1, 2, 3].into_iter().collect();
+    iterates(numbers.iter());
+    assert_eq!(numbers.iter().rev().collect::<Vec<_>>(), [3, 2, 1]);
+    assert_eq!((&numbers).into_iter().len(), 3);
+    let mut builder = Char16TrieBuilder::new();
+    builder.add_str("ab", 2)?;
+    builder.add_str("a", 1)?;
+    let units = builder.try_build()?;
+    iterates(units.iter2());
+    iterates(units.matches(&[0x61, 0x62]));
+    let mut entries = units.entries();
+    assert!(entries.advance());
+    assert!(entries.clone().advance() && entries.key() == "a");
+    Ok(())
+}
+
+#[test]
+fn builders_of_tries_extend() {
+    let mut builder = CodePointTrieBuilder::new(0u8, 9, TrieType::Small);
+    builder.extend([(0x41..=0x5A, 1), (0x51..=0x51, 2)]);
+    let trie = builder.clone().build();
+    assert_eq!(trie.get_range(0x51).map(|it| it.range), Some(0x51..=0x51));
+    let mut copy = CodePointTrieBuilder::new(0u8, 9, TrieType::Small);
+    copy.extend(trie.iter_ranges());
+    assert_eq!(copy.build(), trie);
+}
