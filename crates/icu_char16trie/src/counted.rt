@@ -151,7 +151,9 @@ impl<'data> Char16Trie<'data> {
     /// Returns the number of entries of the trie, capped at `u64::MAX`, or `None` if the units are
     /// not a trie, which is when [`Char16Trie::is_trie`] returns false.
     ///
-    /// Visits each node twice, however many entries there are. Allocates nine bytes for each unit.
+    /// Takes time linear in the number of units, however many entries there are, if no two branches
+    /// share a part. In untrusted units they may, and a branch has up to 65,536 entries: then it
+    /// takes up to 65,536 steps for each unit. Allocates nine bytes for each unit.
     ///
     /// ```
     /// // of the map of "a" to 1 and "ab" to 2: trie.count_entries(alloc)? is Some(2)

@@ -177,8 +177,9 @@ impl<'data> Char16Trie<'data> {
     /// units. An empty list of units is the trie of the empty map. Units that no node leads to are
     /// ignored. Two nodes may lead to the same node, as in tries from ICU's builder.
     ///
-    /// Visits each node once, and a part of a branch once for each branch that shares it; a branch
-    /// has at most 65,536 entries. Allocates one byte for each unit.
+    /// Takes time linear in the number of units if no two branches share a part. In untrusted units
+    /// they may, and a branch has up to 65,536 entries: then it takes up to 65,536 steps for each
+    /// unit. Allocates one byte for each unit.
     ///
     /// ```
     /// // of [0x31, 0x61, 0x62, 0x8003], the map of "ab" to 3: trie.is_trie(alloc)? is true

@@ -33,7 +33,8 @@ impl<'a, T: TrieValue> Model for ValuesOfUtf16<'a, T> {
 ///
 /// The values are those that [`get32`](CodePointTrie::get32) returns. The units may be ill-formed:
 /// a surrogate that is not part of a pair is a code point of its own, with the value that the trie
-/// has for it. ICU: a loop over `UCPTRIE_FAST_U16_NEXT`.
+/// has for it. ICU: a loop over `U16_NEXT` and `ucptrie_get`. `UCPTRIE_FAST_U16_NEXT` gives such a
+/// surrogate the error value.
 ///
 /// ```
 /// for (c, category) in values_of_utf16(&categories, &[0xD835, 0xDC00, 0x31, 0xD835]) {
