@@ -44,6 +44,20 @@ def must_use(code):
     return re.sub(FUNCTION, marked, code)
 
 
+# A test whether a number is a multiple: of a name, a field, a call or a quotient.
+MULTIPLE = r"(?<=[(!\s])((?:self\.)?\w+(?:\.\w+)*(?:\(\))?(?: / \d+)?) % ((?:\w+::)*\w+) (==|!=) 0(?=[\s,)])"
+
+
+def multiples(code):
+    """Names the tests whether a number is a multiple of another."""
+
+    def named(found):
+        number = f"({found[1]})" if " " in found[1] else found[1]
+        return f"{'!' if found[3] == '!=' else ''}{number}.is_multiple_of({found[2]})"
+
+    return re.sub(MULTIPLE, named, code)
+
+
 def owner(code, place):
     """Returns the line of the `impl` or `trait` that the code at `place` is in."""
     heads = [it for it in re.finditer(r"(?m)^(?:impl|pub trait|\})[^\n]*", code) if it.start() < place]
@@ -52,6 +66,6 @@ def owner(code, place):
 
 def guided(module, code):
     """Returns the code of a module of the library with all of these."""
-    code = must_use(derived(code))
+    code = multiples(must_use(derived(code)))
     path = f"{HERE}/added/{module}.rs"
     return code + "\n" + read(path) if os.path.exists(path) else code

@@ -2,7 +2,7 @@
 import re
 import textwrap
 
-from rules import TRIED
+from rules import FALLIBLE, TRIED
 
 # What docs say about clauses, which the Rust edition does not have.
 CLAUSES = [
@@ -17,8 +17,25 @@ DOC_RULES = [
     (r"\b(vec!\[)in alloc; ", r"\1"),
     (r", whose changes take their memory from `alloc`", ""),
     (r": `alloc` is kept for", "; that is left to"),
+    # The walk is private here.
+    (
+        r"Otherwise the range is the one that \[`walk`\]\(\S*\) returns\.",
+        "Otherwise the header decides: [`is_coherent`](Self::is_coherent) says how.",
+    ),
+    (r"if the walk reaches a cell that the trie lacks", "if the trie lacks a cell that is needed"),
     (r"\[(`walk`)\]\(icu_trie_core::walk::walk\)", r"\1"),
+    # Methods of builders panic here, or start with `try_`.
+    (
+        r"If an allocation fails, the method returns `MemoryError` and leaves the set unchanged\.",
+        "If an allocation fails, a method panics. If its name starts with `try_`, it returns\n/// `MemoryError`"
+        " instead and leaves the set unchanged.",
+    ),
+    (
+        r"^/// Returns the number of code points in the set, including surrogates\.$",
+        r"\g<0>\n///\n/// Takes time linear in the number of ranges, as the number is not stored.",
+    ),
     # Functions that return a `Result` here, and private ones.
+    (rf"\b({'|'.join(FALLIBLE)})\b", r"\1_fallible"),
     (r"\bbuild_from_writes(?=\(.*\)\?)", "try_build_from_writes"),
     (r"(?<=\[`CodePointTrieBuilder::)build(?=`\])", "try_build"),
     (r"\btoml::table_from_str\(", "toml::from_str("),

@@ -5,13 +5,17 @@ import re
 def shown(name, text, fields):
     """Returns the match arm that formats an error: its pattern, and what is written."""
     if fields.startswith("("):
-        name += f"({', '.join(f'_{i}' for i in range(len(re.findall('[^,() ][^,]*', fields))))})"
+        count = len(re.findall("[^,() ][^,]*", fields))
+        names = ["field"] if count == 1 else ["first", "second", "third"][:count]
+        told = [it if text == "transparent" or f"{{{i}" in text else "_" for i, it in enumerate(names)]
+        name += f"({', '.join(told)})"
+        text = re.sub(r"\{(\d)", lambda it: "{" + names[int(it[1])], text)
     elif fields:
         told = [it for it in re.findall(r"(\w+):", fields) if "{" + it in text]
         name += f" {{ {', '.join(told)}, .. }}"
     if text == "transparent":
-        return f"{name} => core::fmt::Display::fmt(_0, f),"
-    return name + " => write!(f, " + re.sub(r"\{(\d)", r"{_\1", text) + "),"
+        return f"{name} => core::fmt::Display::fmt(field, f),"
+    return f"{name} => {'write!(f, ' if '{' in text else 'f.write_str('}{text}),"
 
 
 DISPLAY = """

@@ -21,14 +21,16 @@ PUBLIC = {
     r"icu_trie_builder(?:::(?:error|writes))?": "codepointtrie",
 }
 RULES = [
-    (r"\bicu_trie_core::cells::Steps\b", "crate::host::Steps"),
+    (r"\bicu_trie_core::cells::Steps\b", "crate::ledger::Steps"),
     *((rf"\b{path}(?=::)", f"bekstaudi::{module}") for path, module in PUBLIC.items()),
     (r"\bfn main\(", "pub(crate) fn main("),
+    # The library's enums of errors are non-exhaustive. What is no other error is a failed allocation.
+    (r"\b(?:BuildError|SwappedError)::Memory(?= =>)", "_"),
+    (r"\bErr\(MapError::Memory\)(?= =>)", "Err(_)"),
     (r"\buse std::str;\n", ""),
     (r"\buse std::\{error, fmt\};", "use core::{error, fmt};"),
     (r"\buse std::\{env, fs, io\};", "use crate::host::{env, fs, io};"),
     (r"\bstd::(env|fs|io|process|collections::BTreeSet)\b", lambda it: f"crate::host::{it[1].split('::')[-1]}"),
-    (r"\bstd::marker::Brand\b", "crate::support::Brand"),
     (r"\beprintln!\(rt; ", "writeln!(io::stderr(), "),
     # anyhow, clap, serde_json and toml.
     (r"\buse anyhow::", "use crate::context::"),
@@ -79,12 +81,13 @@ NAMES = "#[allow(unused_imports)]\nuse crate::host::{HostRuntime, Text};\n"
 
 def programs(folder, make):
     """Writes the packages beside the library's. `make` writes the modules of crates."""
-    for name, crates in PROGRAMS.items():
-        package = f"{folder}/{name}"
+    for program, crates in PROGRAMS.items():
+        package = f"{folder}/{program}"
         shutil.rmtree(f"{package}/src", ignore_errors=True)
-        shutil.copytree(f"{HERE}/programs/{name}", package, dirs_exist_ok=True)
+        shutil.copytree(f"{HERE}/programs/{program}", package, dirs_exist_ok=True)
         shutil.copytree(f"{HERE}/support", f"{package}/src/support")
-        shutil.copy(f"{HERE}/programs/host.rs", f"{package}/src")
+        for name in ("host", "ledger"):
+            shutil.copy(f"{HERE}/programs/{name}.rs", f"{package}/src")
         make(package, crates, RULES, EDITS)
         for crate in crates:
             for path in glob.glob(f"{package}/src/{crate}/*.rs"):

@@ -21,7 +21,13 @@ TRIED = (
     # Those of vectors and strings, in rust/support.
     " push push_str insert extend_from_slice resize"
 ).split()
+# Functions of the Rust crate that start with `try_` and allocate here. In rust/face they have the
+# errors of the Rust crate, and those that report failed allocations get this ending.
+FALLIBLE = "try_from_inversion_list try_from_u32_inversion_list_slice try_alloc_map_value".split()
 RENAMED = {
+    rf"\b({'|'.join(FALLIBLE)})\b": r"\1_fallible",
+    # rust/face has one that returns a list of `&str`.
+    r"\bstrings(?=\((?:&self)?\))": "string_slice",
     r"\.reserve\(": ".try_room(",
     r"\.reserve_exact\(": ".try_exact_room(",
     r"\b(Vec|String)::with_capacity\(": r"\1::with_room(",
@@ -35,7 +41,7 @@ RENAMED = {
 # Functions with a `requires` that only a proof can check. They are private.
 INSIDE = (
     "PotentialCodePoint::from_u24 ZeroSlice::at ZeroVec::try_into_converted"
-    " CodePointInversionList::from_valid_slice Steps::new look_up_far look_up_fast look_up_high"
+    " CodePointInversionList::from_valid_slice look_up_far look_up_fast look_up_high"
     " look_up_small look_up_whole NumberMap::set_range NumberMap::repeats NumberMap::copy_block"
     " NumberMap::get NumberMap::find_other CellStore::new CellStore::find CellStore::place build_index"
 ).split()
@@ -88,11 +94,11 @@ RULES = [
     (r"use thiserror::Error;\n", ""),
     (r"use std::marker::Model;\n", ""),
     (r"use std::marker::\{Model, (\w+)\};", r"use std::marker::\1;"),
-    (r"use std::marker::\{Brand, (\w+)\};", r"use std::marker::\1;\nuse crate::support::Brand;"),
+    (r"use std::marker::\{Brand, (\w+)\};", r"use std::marker::\1;\nuse crate::ledger::Brand;"),
     (r"use std::alloc::Global;\n", ""),
     (r"(use std::alloc::\{[^}]*), Global\}", r"\1}"),
-    (r"\bstd::(alloc|collections|sync::ledger)::", "crate::support::"),
-    (r"\bstd::marker::Brand\b", "crate::support::Brand"),
+    (r"\bstd::(alloc|collections)::", "crate::support::"),
+    (r"\bstd::sync::ledger::|\bstd::marker::(?=Brand\b)", "crate::ledger::"),
     (rf"\bstd::({'|'.join(OWN.split())})\b", r"core::\1"),
     # In Rattle, Drop is a marker: a value may be dropped.
     (r"#\[derive\(Drop\)\]\n\s*", ""),
@@ -112,10 +118,22 @@ RULES = [
     (r"([(,{]\s*)(?:\w+\.)*alloc(?:\(\))?,\s*", r"\1"),
     (r"(\(|,)\s*(?:\w+\.)*alloc(?:\(\))?\s*(?=\))", lambda found: found[1].strip(",")),
     (r"(\(&?self), \)", r"\1)"),
-    # A function that only a proof uses has a body that does nothing.
-    (r"fn shown\((&?self)\);", r"fn shown(\1) {}"),
+    # What only a proof uses: a method, its calls, and reads of a field that show its invariant.
+    (r"(?:\n +\x01\d+\x03)*(?:\n +#\[[^\n]*\])*\n +fn shown\(&?self\)(?:;| \{[^}]*\})", ""),
+    (r"\n +\w+\.shown\(\);", ""),
+    (r"(?:\n +\x01\d+\x03)*\n +let _ = &self\.\w+;", ""),
     # The blank lines and comments that clauses leave before the body.
     (r"(?<=[^,;{}\s\x03])(?:\n *\x01\d+\x03|\n)*\n *\{\n", " {\n"),
+]
+# Ledgers, which count reads in proofs. Programs and tests have those of rust/programs/ledger.rs.
+LEDGERS = [
+    (r"use crate::ledger::(?:\{[^}]*\}|\w+);\n", ""),
+    (r"(cells::)\{Cells, Steps\}", r"\1Cells"),
+    (r"use [\w:]*cells::Steps;\n", ""),
+    (r"(?s)(?:\x01\d+\x03\n)+pub struct Steps.*", ""),
+    (r"\n +(?:pub\(crate\) )?reads: Steps(?:<L>|::<L>::new\(blank\)|::new\(blank\)),", ""),
+    (r"\n +self\.reads\.tick\(\);", ""),
+    (r", L: Ledger\b|\n +blank: Blank,|, Blank::new\(1\)|(?<=<T), (?:L|Brand)(?=>)|(?<='a, T), L(?=>)", ""),
 ]
 # What no rule may leave: Rust does not have it, or it means something else there.
 NOT_IN_RUST = (
@@ -134,6 +152,32 @@ WRITTEN_BY_SLOTS = """\
     }
     count + chars.count()
 """
+# Methods that the Rust crate has in the trait of typed tries.
+UNTYPED = """
+    /// Returns a reference to the trie as a [`CodePointTrie`].
+    fn as_untyped_ref(&self) -> &CodePointTrie<'trie, T>;
+
+    /// Converts the trie into a [`CodePointTrie`].
+    fn to_untyped(self) -> CodePointTrie<'trie, T>
+    where
+        Self: Sized;
+"""
+UNTYPED_BODIES = """
+    #[inline(always)]
+    fn as_untyped_ref(&self) -> &CodePointTrie<'trie, T> {
+        &self.inner
+    }
+
+    #[inline(always)]
+    fn to_untyped(self) -> CodePointTrie<'trie, T> {
+        self.inner
+    }
+"""
+INTO_VIEW = (
+    r"pub fn new\(trie: ZeroSlice<'a, u16>\) -> Self \{(\n +)",
+    r"pub fn new(trie: impl Into<ZeroSlice<'a, u16>>) -> Self {\1let trie = trie.into();\1",
+    1,
+)
 # Changes to one source: pattern, replacement, and how often the pattern occurs.
 EDITS = {
     # Reads of cells, by the functions of rust/support/cells.
@@ -179,6 +223,32 @@ EDITS = {
     ],
     # rust/face has a TryFrom whose error is no failed allocation.
     "icu_invlist/codepointinvlist/conversions": [(r"fn try_from(?=<R)", "fn try_from_range", 1)],
+    # A cursor of a view or of a reference to one, as in the Rust crate.
+    **dict.fromkeys(["icu_char16trie/cursor", "icu_char16trie/iterator"], [INTO_VIEW]),
+    # The same for a list of strings.
+    "icu_text_sets/codepointinvliststringlist/make": [
+        (r"str_list: Vec<String>,(?=\n +\) -> Result)", "str_list: impl Into<Vec<String>>,", 1),
+        (r"(\n +)(?=match first_fault)", r"\1let str_list = str_list.into();\1", 1),
+    ],
+    # The bounds of the Rust crate.
+    "icu_trie_core/value": [
+        (r"AsULE \+ Eq(?= \{)", "AsULE + Eq + 'static", 1),
+        (r"type TryFromU32Error;", "type TryFromU32Error: core::fmt::Display;", 1),
+    ],
+    # rust/face has one with the error of the Rust crate.
+    "icu_trie/convert": [(r"fn try_into_converted", "fn try_into_converted_explained", 1)],
+    "icu_trie/typed": [
+        (r"(const TRIE_TYPE: TrieType;\n)", rf"\1{UNTYPED}", 1),
+        (r"(const TRIE_TYPE: TrieType = TrieType::\w+;\n)", rf"\1{UNTYPED_BODIES}", 2),
+    ],
     # Every RangeBounds is a range: rust/face/src/codepointinvlist.rs says which numbers it contains.
-    "icu_invlist/codepointinvlist/utils": [(r"(?ms)^impl<X: RangePoint> RangeOf.*?^\}\n", "", 6)],
+    # Only these know whether an inclusive range is used up; RangeBounds knows that here.
+    "icu_invlist/codepointinvlist/utils": [
+        (r"(?ms)^impl<X: RangePoint> RangeOf.*?^\}\n", "", 6),
+        (
+            r"fn is_used_up\(range: &RangeInclusive<Self>\) -> bool;",
+            "#[doc(hidden)]\n    fn is_used_up(_: &RangeInclusive<Self>) -> bool {\n        false\n    }",
+            1,
+        ),
+    ],
 }

@@ -48,11 +48,12 @@ use bekstaudi::codepointtrie::{CodePointTrieBuilder, TrieType};
 let trie = CodePointTrieBuilder::new(0u8, 9, TrieType::Fast).build();
 assert_eq!(trie.get32(0x10FFFF), 0);
 assert_eq!(trie.get32(u32::MAX), 9);
-//# map_value try_alloc_map_value
+//# map_value try_alloc_map_value_fallible
 use bekstaudi::codepointtrie::planes::get_planes_trie;
 use std::convert::Infallible;
 
-let next = get_planes_trie().try_alloc_map_value(|x| Ok::<u16, Infallible>(u16::from(x) + 1))?;
+let planes = get_planes_trie();
+let next = planes.try_alloc_map_value_fallible(|x| Ok::<u16, Infallible>(u16::from(x) + 1))?;
 assert_eq!(next.get32(0x1F600), 2);
 //# mapped_ranges iter_ranges_mapped
 use bekstaudi::codepointtrie::planes::get_planes_trie;

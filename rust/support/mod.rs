@@ -2,11 +2,9 @@
 //! allocations.
 
 pub(crate) mod cells;
-mod ledger;
 mod maps;
 pub(crate) mod memory;
 
-pub(crate) use ledger::{Blank, Book, Brand, Ledger, Share};
 pub use maps::{BTreeMap, HashMap};
 pub use memory::{AllocError, AllocFailed};
 

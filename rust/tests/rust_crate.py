@@ -86,6 +86,9 @@ def files(folder):
 def is_as_made(made, folder):
     """Whether the packages in rust/ are what rust/make writes."""
     made.packages(folder)
+    if not shutil.which("rustfmt"):
+        print("the packages are not compared with what rust/make writes: no rustfmt on PATH")
+        return True
     failed = []
     for package in os.listdir(folder):
         new, kept = f"{folder}/{package}", f"{TOP}/rust/{package}"
@@ -138,12 +141,13 @@ def add_tests(made, folder):
             place = re.match(r"(?://!.*\n)*\n*", text).end()
             write(path, text[:place] + TEST_NAMES + text[place:])
     shutil.copytree(PARTS, f"{folder}/src", dirs_exist_ok=True)
+    shutil.copy(f"{TOP}/rust/programs/ledger.rs", f"{folder}/src")
     shutil.move(f"{folder}/src/public", f"{folder}/tests")
     shutil.move(f"{folder}/src/refusing", folder)
     write(f"{folder}/Cargo.toml", '\n[dev-dependencies]\nrefusing = { path = "refusing" }\n', "a")
     names = "".join(
         f"#[cfg(test)]\n#[allow(dead_code, unused_imports, unused_variables)]\nmod {name};\n"
-        for name in ["runtime", "refusals", "icu_collections", "tables", *FORMS, *TESTS]
+        for name in ["ledger", "runtime", "refusals", "icu_collections", "tables", *FORMS, *TESTS]
     )
     write(f"{folder}/src/lib.rs", f"#[cfg(test)]\nextern crate std;\n{names}", "a")
 

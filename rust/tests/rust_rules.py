@@ -35,6 +35,7 @@ TEST_RULES = [
     (r"\.push_str\(", ".try_push_str("),
     (r"\bformat!\(in (?:rt\.alloc\(\)|alloc);\s*", "try_format!("),
     (r"\bprintln!\(rt; \x02\d+\x03\)", "rt.println(line)"),
+    (r"(\btrie|\btrie_of_two\([^()]*\)|clone\((?:alloc)?\)\??)(\.try_into_converted)\b", r"\1\2_explained"),
     # What is needed beside JSON and TOML.
     (r"\bValue::from_str\((?:alloc, )?", "serde_json::from_str::<Value>("),
     (r"\btoml::table_from_str\(alloc, ", "table_from_str("),
@@ -56,7 +57,14 @@ FORM_RULES = [
     (r"\b\w+JsonError, |, \w+JsonError\b|use serde_json::Value;\n", ""),
 ]
 # Functions that have other names in the edition than TRIED in rust/rules.py says.
-OTHER_NAMES = {"CodePointInversionList::try_from": "CodePointInversionList::try_from_range"}
+OTHER_NAMES = {
+    "CodePointInversionList::try_from": "CodePointInversionList::try_from_range",
+    "CodePointInversionList::try_from_inversion_list":
+        "CodePointInversionList::try_from_inversion_list_fallible",
+    "CodePointInversionList::try_from_u32_inversion_list_slice":
+        "CodePointInversionList::try_from_u32_inversion_list_slice_fallible",
+    "CodePointTrie::try_alloc_map_value": "CodePointTrie::try_alloc_map_value_fallible",
+}
 # Functions whose allocations do not fail in turn: an internal one, and those that write JSON.
 NOT_SWEPT = r"::from_valid_slice$|::to_json$"
 # Forms that rust/make does not know.
@@ -82,7 +90,7 @@ UNKNOWN = [
 ]
 # Forms that it knows, and what they become.
 KNOWN = {
-    "use std::marker::{Brand, PhantomData};\n": "use core::marker::PhantomData;\nuse crate::support::Brand;\n",
+    "use std::marker::{Brand, PhantomData};\n": "use core::marker::PhantomData;\n",
 }
 # Changes of c/bekstaudi.h after which it no longer declares what icu_collections_c has.
 OTHER_HEADERS = [

@@ -28,12 +28,12 @@
 //! # Ok::<(), Box<dyn std::error::Error>>(())
 //! ```
 
+#[cfg(feature = "json")]
+pub use crate::icu_char16trie::char16trie::Char16JsonError;
 pub use crate::icu_char16trie::char16trie::{
     Char16Trie, Char16TrieCursor, Char16TrieIterator, CursorPlace, Entries, Iter2, Matches,
     TrieResult,
 };
-#[cfg(feature = "json")]
-pub use crate::icu_char16trie::char16trie::Char16JsonError;
 pub use crate::icu_char16trie_builder::builder::Char16TrieBuilder;
 pub use crate::icu_char16trie_builder::error::{AddError, BuildError, SortedError};
 
@@ -96,6 +96,7 @@ impl Char16Trie<'_> {
     ///
     /// # Panics
     /// Panics if an allocation fails; [`try_is_trie`](Self::try_is_trie) returns an error then.
+    #[must_use]
     pub fn is_trie(&self) -> bool {
         plain(self.try_is_trie())
     }
@@ -105,6 +106,7 @@ impl Char16Trie<'_> {
     /// # Panics
     /// Panics if an allocation fails; [`try_count_entries`](Self::try_count_entries) returns an
     /// error then.
+    #[must_use]
     pub fn count_entries(&self) -> Option<u64> {
         plain(self.try_count_entries())
     }
@@ -116,6 +118,7 @@ impl Char16TrieCursor<'_> {
     /// # Panics
     /// Panics if an allocation fails; [`try_next_units`](Self::try_next_units) returns an error
     /// then.
+    #[must_use]
     pub fn next_units(&self) -> Vec<u16> {
         plain(self.try_next_units())
     }
@@ -125,6 +128,7 @@ impl Char16TrieCursor<'_> {
     /// # Panics
     /// Panics if an allocation fails; [`try_unique_value`](Self::try_unique_value) returns an error
     /// then.
+    #[must_use]
     pub fn unique_value(&self) -> Option<i32> {
         plain(self.try_unique_value())
     }
@@ -135,6 +139,7 @@ impl Entries<'_> {
     ///
     /// # Panics
     /// Panics if an allocation fails; [`try_advance`](Self::try_advance) returns an error then.
+    #[must_use]
     pub fn advance(&mut self) -> bool {
         plain(self.try_advance())
     }

@@ -24,18 +24,19 @@
 pub use crate::icu_frozen_sets::frozen::{FrozenCodePointSet, FrozenTables};
 pub use crate::icu_frozen_sets::spans::{Span, Spans};
 pub use crate::icu_frozen_sets::text_sets::FrozenCodePointSetAndStrings;
+#[cfg(feature = "json")]
+pub use crate::icu_invlist::codepointinvlist::SetJsonError;
 pub use crate::icu_invlist::codepointinvlist::{
     CodePointInversionList, CodePointInversionListBuilder, InvalidSetError, IterChars, IterRanges,
     IterRangesComplemented, RangeError, RangeOf, RangePoint, SetError, TryRangeError,
     deconstruct_range, is_valid_zv, utils,
 };
-#[cfg(feature = "json")]
-pub use crate::icu_invlist::codepointinvlist::SetJsonError;
 pub use crate::icu_invlist_binary::serialized;
 
 use crate::codepointinvliststringlist::CodePointInversionListAndStringList;
 use crate::icu_zerovec::CODE_POINT_LIMIT;
 use crate::plain::{fused, plain, plain_calls, plain_clone};
+use crate::zerovec::{PotentialCodePoint, ZeroVec};
 use alloc::vec::Vec;
 use core::hash::{Hash, Hasher};
 use core::ops::{
@@ -105,6 +106,7 @@ impl CodePointInversionListBuilder {
     ///
     /// # Panics
     /// Panics if an allocation fails; [`try_build`](Self::try_build) returns an error then.
+    #[must_use]
     pub fn build(self) -> CodePointInversionList<'static> {
         plain(self.try_build())
     }
@@ -116,12 +118,51 @@ impl Default for CodePointInversionListBuilder {
     }
 }
 
+impl<'data> CodePointInversionList<'data> {
+    /// Returns the set with this list of boundaries, and takes over the list without copying it.
+    ///
+    /// # Errors
+    /// Returns [`InvalidSetError`] with a copy of the list if `ends` is not an inversion list.
+    ///
+    /// # Panics
+    /// Panics if allocating that copy fails;
+    /// [`try_from_inversion_list_fallible`](Self::try_from_inversion_list_fallible) returns an error
+    /// then.
+    pub fn try_from_inversion_list(
+        ends: ZeroVec<'data, PotentialCodePoint>,
+    ) -> Result<Self, InvalidSetError> {
+        without_memory(Self::try_from_inversion_list_fallible(ends))
+    }
+
+    /// Returns the set with these boundaries, and copies them.
+    ///
+    /// # Errors
+    /// Returns [`InvalidSetError`] with a copy of the list if `ends` is not an inversion list.
+    ///
+    /// # Panics
+    /// Panics if an allocation fails;
+    /// [`try_from_u32_inversion_list_slice_fallible`](Self::try_from_u32_inversion_list_slice_fallible)
+    /// returns an error then.
+    pub fn try_from_u32_inversion_list_slice(ends: &[u32]) -> Result<Self, InvalidSetError> {
+        without_memory(Self::try_from_u32_inversion_list_slice_fallible(ends))
+    }
+}
+
+/// Returns the result with the error of the Rust crate. Panics if an allocation failed.
+fn without_memory<T>(answer: Result<T, SetError>) -> Result<T, InvalidSetError> {
+    match answer {
+        Err(SetError::Invalid(error)) => Err(error),
+        answer => Ok(plain(answer)),
+    }
+}
+
 impl CodePointInversionList<'_> {
     /// {try_get_inversion_list_vec}
     ///
     /// # Panics
     /// Panics if an allocation fails;
     /// [`try_get_inversion_list_vec`](Self::try_get_inversion_list_vec) returns an error then.
+    #[must_use]
     pub fn get_inversion_list_vec(&self) -> Vec<u32> {
         plain(self.try_get_inversion_list_vec())
     }
@@ -131,6 +172,7 @@ impl CodePointInversionList<'_> {
     /// # Panics
     /// Panics if an allocation fails; [`try_into_owned`](Self::try_into_owned) returns an error
     /// then.
+    #[must_use]
     pub fn into_owned(self) -> CodePointInversionList<'static> {
         plain(self.try_into_owned())
     }
@@ -167,7 +209,12 @@ fn ends_of(mut ranges: Vec<(u32, u32)>) -> Vec<u32> {
 impl FromIterator<RangeInclusive<u32>> for CodePointInversionList<'_> {
     fn from_iter<I: IntoIterator<Item = RangeInclusive<u32>>>(ranges: I) -> Self {
         let bounds = ranges.into_iter().map(|it| it.deconstruct());
-        let ends = ends_of(bounds.filter(|it| it.0 < it.1).map(|it| (it.0, it.1 - 1)).collect());
+        let ends = ends_of(
+            bounds
+                .filter(|it| it.0 < it.1)
+                .map(|it| (it.0, it.1 - 1))
+                .collect(),
+        );
         plain(CodePointInversionList::from_valid_slice(&ends))
     }
 }
@@ -276,6 +323,7 @@ impl FrozenCodePointSet {
     ///
     /// # Panics
     /// Panics if an allocation fails; [`try_freeze`](Self::try_freeze) returns an error then.
+    #[must_use]
     pub fn freeze(set: &CodePointInversionList<'_>) -> FrozenCodePointSet {
         plain(FrozenCodePointSet::try_freeze(set))
     }
@@ -286,6 +334,7 @@ impl FrozenCodePointSetAndStrings {
     ///
     /// # Panics
     /// Panics if an allocation fails; [`try_freeze`](Self::try_freeze) returns an error then.
+    #[must_use]
     pub fn freeze(set: &CodePointInversionListAndStringList<'_>) -> FrozenCodePointSetAndStrings {
         plain(FrozenCodePointSetAndStrings::try_freeze(set))
     }

@@ -60,8 +60,10 @@ pub use crate::icu_trie_text::text;
 
 use crate::codepointinvlist::CodePointInversionList;
 use crate::icu_trie::mapped_ranges::MappedRanges;
-use crate::iterator_utils::RangeListIteratorCoalescer;
+use crate::icu_trie::iterator_utils::RangeListIteratorCoalescer;
 use crate::plain::{fused, plain, plain_clone};
+use crate::zerovec::MemoryError;
+use crate::zerovec::ule::UleError;
 use core::hash::{Hash, Hasher};
 use core::iter::FusedIterator;
 use core::ops::RangeInclusive;
@@ -137,8 +139,68 @@ impl<T: TrieValue> CodePointTrie<'_, T> {
     /// # Panics
     /// Panics if an allocation fails; [`try_get_set_for_value`](Self::try_get_set_for_value)
     /// returns an error then.
+    #[must_use]
     pub fn get_set_for_value(&self, value: T) -> CodePointInversionList<'static> {
         plain(self.try_get_set_for_value(value))
+    }
+}
+
+impl<'trie, T: TrieValue> CodePointTrie<'trie, T> {
+    /// Returns a trie whose values are the results of `f` for the values of this one. Its index and
+    /// trie type are the same.
+    ///
+    /// It calls `f` for the error value, for the null value, and then for each data cell in order,
+    /// so as often for a value as the value occurs in the data.
+    ///
+    /// ```
+    /// use bekstaudi::codepointtrie::planes::get_planes_trie;
+    ///
+    /// let planes = get_planes_trie();
+    /// let doubled = planes.try_alloc_map_value(|plane| plane.checked_mul(20).ok_or(plane));
+    /// assert_eq!(doubled, Err(13));
+    /// let doubled = planes.try_alloc_map_value(|plane| Ok::<u16, u8>(u16::from(plane) * 2))?;
+    /// assert_eq!(doubled.get32(0x10FFFF), 32);
+    /// # Ok::<(), u8>(())
+    /// ```
+    ///
+    /// # Errors
+    /// Returns the first error that `f` returns, after which `f` is not called again.
+    ///
+    /// # Panics
+    /// Panics if an allocation fails;
+    /// [`try_alloc_map_value_fallible`](Self::try_alloc_map_value_fallible) returns an error then.
+    pub fn try_alloc_map_value<P: TrieValue, E>(
+        &self,
+        f: impl FnMut(T) -> Result<P, E>,
+    ) -> Result<CodePointTrie<'static, P>, E> {
+        match self.try_alloc_map_value_fallible(f) {
+            Ok(trie) => Ok(trie),
+            Err(MapError::Closure(error)) => Err(error),
+            Err(MapError::Memory) => plain(Err(MemoryError)),
+        }
+    }
+
+    /// Converts the trie to values of another type of the same width, without copying.
+    ///
+    /// The index and the bytes of the data are unchanged, and borrowed or owned as before. The
+    /// header's null value becomes the other type's number for the same packed bytes.
+    ///
+    /// # Errors
+    /// The trie is dropped, and the first of these that applies is returned:
+    /// - `UleError::Length` if values of the two types take different numbers of bytes;
+    /// - `UleError::Cell` with the position of the first data cell that is not a value of the other
+    ///   type, or with the number of cells if only the null value is not.
+    ///
+    /// [`try_into_converted_explained`](Self::try_into_converted_explained) has an error of its own
+    /// for each case.
+    pub fn try_into_converted<P: TrieValue>(self) -> Result<CodePointTrie<'trie, P>, UleError> {
+        let len = self.parts().2.len();
+        self.try_into_converted_explained()
+            .map_err(|error| match error {
+                ConvertError::Width => UleError::Length,
+                ConvertError::Cell(place) => UleError::Cell(place),
+                ConvertError::ErrorOrNull => UleError::Cell(len),
+            })
     }
 }
 
@@ -147,6 +209,7 @@ impl<T: TrieValue> CodePointTrieBuilder<T> {
     ///
     /// # Panics
     /// Panics if an allocation fails; [`try_from_trie`](Self::try_from_trie) returns an error then.
+    #[must_use]
     pub fn from_trie(trie: &CodePointTrie<'_, T>) -> CodePointTrieBuilder<T> {
         plain(CodePointTrieBuilder::try_from_trie(trie))
     }
@@ -173,6 +236,7 @@ impl<T: TrieValue> CodePointTrieBuilder<T> {
     /// # Panics
     /// Panics if an allocation fails, or if the map has too many different blocks;
     /// [`try_build`](Self::try_build) returns an error then.
+    #[must_use]
     pub fn build(self) -> CodePointTrie<'static, T> {
         plain(self.try_build())
     }
@@ -183,6 +247,7 @@ impl<T: TrieValue> CodePointTrieBuilder<T> {
 /// # Panics
 /// Panics if an allocation fails, or if the map has too many different blocks;
 /// [`try_build_from_writes`] returns an error then.
+#[must_use]
 pub fn build_from_writes<T: TrieValue>(
     default: T,
     error: T,

@@ -76,6 +76,7 @@ extern crate alloc;
 compile_error!("`proved-reads` needs a target with pointers of 64 bits: the proofs assume them");
 
 mod plain;
+mod strings;
 mod support;
 
 pub mod char16trie;
@@ -87,10 +88,22 @@ pub mod zerovec;
 pub use plain::iterator_utils;
 
 // rust/make writes the list. Names may be unused: some are used by proofs only, and some are public
-// in their crate but not here.
+// in their crate but not here. The sources count in loops over indices, which proofs are about.
 macro_rules! generated {
     ($($name:ident)*) => {
         $(#[allow(dead_code, unused_imports, unused_variables)]
+        #[allow(
+            clippy::collapsible_if,
+            clippy::explicit_auto_deref,
+            clippy::manual_clamp,
+            clippy::manual_div_ceil,
+            clippy::manual_find,
+            clippy::manual_range_contains,
+            clippy::needless_range_loop,
+            clippy::op_ref,
+            clippy::ptr_arg,
+            clippy::while_let_on_iterator
+        )]
         mod $name;)*
     };
 }

@@ -14,6 +14,7 @@ pub use crate::icu_zerovec::memory::{ApplyRefused, MemoryError};
 pub use crate::icu_zerovec::slice::ZeroSlice;
 pub use crate::icu_zerovec::vec::ZeroVec;
 pub use crate::icu_zerovec::{iter, ule};
+pub use crate::strings::VarZeroVec;
 
 use crate::plain::{plain, plain_clone};
 use ule::AsULE;
@@ -23,11 +24,25 @@ plain_clone! {
 }
 
 impl<T: AsULE> ZeroVec<'_, T> {
+    /// Returns a vector with these values that owns its bytes.
+    ///
+    /// The Rust crate's borrows the slice if the values are stored as they are packed. This one
+    /// always copies.
+    ///
+    /// # Panics
+    /// Panics if an allocation fails; [`alloc_from_slice`](Self::alloc_from_slice) returns an error
+    /// then.
+    #[must_use]
+    pub fn from_slice_or_alloc(values: &[T]) -> Self {
+        plain(ZeroVec::alloc_from_slice(values))
+    }
+
     /// {try_into_owned}
     ///
     /// # Panics
     /// Panics if an allocation fails; [`try_into_owned`](Self::try_into_owned) returns an error
     /// then.
+    #[must_use]
     pub fn into_owned(self) -> ZeroVec<'static, T> {
         plain(self.try_into_owned())
     }
@@ -62,5 +77,17 @@ impl<'a, T: AsULE> IntoIterator for ZeroSlice<'a, T> {
 
     fn into_iter(self) -> iter::Iter<'a, T> {
         self.iter()
+    }
+}
+
+impl<'a, T: AsULE> From<&ZeroSlice<'a, T>> for ZeroSlice<'a, T> {
+    fn from(view: &ZeroSlice<'a, T>) -> Self {
+        *view
+    }
+}
+
+impl<'a, T: AsULE> From<&'a ZeroVec<'_, T>> for ZeroSlice<'a, T> {
+    fn from(vector: &'a ZeroVec<'_, T>) -> Self {
+        vector.as_slice()
     }
 }

@@ -2,10 +2,11 @@
 
 pub(crate) mod codepointtrie {
     pub(crate) use crate::codepointtrie::*;
-    pub(crate) use crate::icu_trie_core::cells::{Cells, Steps};
+    pub(crate) use crate::icu_trie_core::cells::Cells;
     pub(crate) use crate::icu_trie_core::coherent::is_coherent;
     pub(crate) use crate::icu_trie_core::lookup::{look_up, look_up_whole};
     pub(crate) use crate::icu_trie_core::walk::walk;
+    pub(crate) use crate::ledger::Steps;
 
     /// Without the feature `json`: the numbers of the header, by their keys in JSON.
     #[cfg(not(feature = "json"))]

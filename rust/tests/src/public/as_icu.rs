@@ -139,7 +139,7 @@ fn unit_tries() {
 /// Compares the serialized form of the set with these boundaries. ICU's is `None` if it is too
 /// long.
 fn compare_written(boundaries: &[u32], by_icu: Option<&[u16]>) {
-    let set = CodePointInversionList::try_from_u32_inversion_list_slice(boundaries);
+    let set = CodePointInversionList::try_from_u32_inversion_list_slice_fallible(boundaries);
     let set = set.expect("no set");
     let Some(units) = by_icu else {
         assert_eq!(to_serialized(&set), Err(SerializeError::TooLong));

@@ -55,12 +55,12 @@ fn lists_of_ends() {
         }
         let rises = ends.windows(2).all(|it| it[0] < it[1]) && ends[ends.len() - 1] <= 0x11_0000;
         let is_valid = rises && ends.len() % 2 == 0;
-        let copied = CodePointInversionList::try_from_u32_inversion_list_slice(&ends);
+        let copied = CodePointInversionList::try_from_u32_inversion_list_slice_fallible(&ends);
         assert_eq!(copied.is_ok(), is_valid);
         let points = ends.iter().map(|it| PotentialCodePoint::try_from((*it).min(0xFF_FFFF)));
         let points: ZeroVec<_> = points.map(|it| it.expect("24 bits")).collect();
         assert_eq!(is_valid_zv(&points), is_valid);
-        match CodePointInversionList::try_from_inversion_list(points) {
+        match CodePointInversionList::try_from_inversion_list_fallible(points) {
             Ok(set) => {
                 assert!(copied.is_ok_and(|it| it == set));
                 if round % 10 == 0 {
@@ -105,7 +105,7 @@ fn lists_of_texts() {
         let texts: Vec<&str> = (0..random.below(4)).map(|_| random.one_of(&texts)).collect();
         let is_valid = texts.windows(2).all(|it| it[0] < it[1])
             && texts.iter().all(|it| it.chars().count() != 1);
-        let strings = texts.iter().map(|it| String::from(*it)).collect();
+        let strings = texts.iter().map(|it| String::from(*it)).collect::<Vec<_>>();
         let made = CodePointInversionListAndStringList::try_from(whole(), strings);
         assert_eq!(made.is_ok(), is_valid, "{texts:?}");
         if let Ok(set) = made {

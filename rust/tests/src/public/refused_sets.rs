@@ -12,12 +12,17 @@ use refusing::{refused_in_turn, unchanged_where_refused};
 
 /// Letters. The first ones form a range.
 fn letters() -> CodePointInversionList<'static> {
-    ('b'..='m').chain(['p', 'r', 'x', 'é', '\u{1F600}']).collect()
+    ('b'..='m')
+        .chain(['p', 'r', 'x', 'é', '\u{1F600}'])
+        .collect()
 }
 
 /// Every third letter, and Kana.
 fn other() -> CodePointInversionList<'static> {
-    ('a'..='z').step_by(3).chain('\u{3040}'..='\u{30FF}').collect()
+    ('a'..='z')
+        .step_by(3)
+        .chain('\u{3040}'..='\u{30FF}')
+        .collect()
 }
 
 /// A builder of the letters without spare capacity, since a clone has none.
@@ -34,29 +39,66 @@ type Change = (
 );
 
 const CHANGES: [Change; 17] = [
-    ("CodePointInversionListBuilder::try_add_char", |it, _| it.try_add_char('t')),
-    ("CodePointInversionListBuilder::try_add32", |it, _| it.try_add32(0x10_FFFF)),
-    ("CodePointInversionListBuilder::try_add_range", |it, _| it.try_add_range('0'..='9')),
-    ("CodePointInversionListBuilder::try_add_range32", |it, _| it.try_add_range32(0x100..0x200)),
-    ("CodePointInversionListBuilder::try_add_set", |it, other| it.try_add_set(other)),
-    ("CodePointInversionListBuilder::try_remove_char", |it, _| it.try_remove_char('d')),
-    ("CodePointInversionListBuilder::try_remove32", |it, _| it.try_remove32(0x64)),
-    ("CodePointInversionListBuilder::try_remove_range", |it, _| it.try_remove_range('d'..'f')),
-    ("CodePointInversionListBuilder::try_remove_range32", |it, _| {
-        it.try_remove_range32(0x64..=0x66)
+    ("CodePointInversionListBuilder::try_add_char", |it, _| {
+        it.try_add_char('t')
     }),
-    ("CodePointInversionListBuilder::try_remove_set", |it, other| it.try_remove_set(other)),
-    ("CodePointInversionListBuilder::try_retain_set", |it, other| it.try_retain_set(other)),
-    ("CodePointInversionListBuilder::try_complement_char", |it, _| it.try_complement_char('d')),
-    ("CodePointInversionListBuilder::try_complement32", |it, _| it.try_complement32(0x64)),
-    ("CodePointInversionListBuilder::try_complement_range", |it, _| {
-        it.try_complement_range('c'..='e')
+    ("CodePointInversionListBuilder::try_add32", |it, _| {
+        it.try_add32(0x10_FFFF)
     }),
-    ("CodePointInversionListBuilder::try_complement_range32", |it, _| {
-        it.try_complement_range32(0x63..0x66)
+    ("CodePointInversionListBuilder::try_add_range", |it, _| {
+        it.try_add_range('0'..='9')
     }),
-    ("CodePointInversionListBuilder::try_complement_set", |it, other| it.try_complement_set(other)),
-    ("CodePointInversionListBuilder::try_complement", |it, _| it.try_complement()),
+    ("CodePointInversionListBuilder::try_add_range32", |it, _| {
+        it.try_add_range32(0x100..0x200)
+    }),
+    ("CodePointInversionListBuilder::try_add_set", |it, other| {
+        it.try_add_set(other)
+    }),
+    ("CodePointInversionListBuilder::try_remove_char", |it, _| {
+        it.try_remove_char('d')
+    }),
+    ("CodePointInversionListBuilder::try_remove32", |it, _| {
+        it.try_remove32(0x64)
+    }),
+    (
+        "CodePointInversionListBuilder::try_remove_range",
+        |it, _| it.try_remove_range('d'..'f'),
+    ),
+    (
+        "CodePointInversionListBuilder::try_remove_range32",
+        |it, _| it.try_remove_range32(0x64..=0x66),
+    ),
+    (
+        "CodePointInversionListBuilder::try_remove_set",
+        |it, other| it.try_remove_set(other),
+    ),
+    (
+        "CodePointInversionListBuilder::try_retain_set",
+        |it, other| it.try_retain_set(other),
+    ),
+    (
+        "CodePointInversionListBuilder::try_complement_char",
+        |it, _| it.try_complement_char('d'),
+    ),
+    (
+        "CodePointInversionListBuilder::try_complement32",
+        |it, _| it.try_complement32(0x64),
+    ),
+    (
+        "CodePointInversionListBuilder::try_complement_range",
+        |it, _| it.try_complement_range('c'..='e'),
+    ),
+    (
+        "CodePointInversionListBuilder::try_complement_range32",
+        |it, _| it.try_complement_range32(0x63..0x66),
+    ),
+    (
+        "CodePointInversionListBuilder::try_complement_set",
+        |it, other| it.try_complement_set(other),
+    ),
+    ("CodePointInversionListBuilder::try_complement", |it, _| {
+        it.try_complement()
+    }),
 ];
 
 #[test]
@@ -72,7 +114,9 @@ fn changes() {
 fn sets() {
     let (set, builder) = (letters(), full());
     let ends = set.get_inversion_list_vec();
-    refused_in_turn("CodePointInversionListBuilder::try_clone", || builder.try_clone().ok());
+    refused_in_turn("CodePointInversionListBuilder::try_clone", || {
+        builder.try_clone().ok()
+    });
     // Building consumes the builder, so each turn first makes a new one.
     refused_in_turn("CodePointInversionListBuilder::try_build", || {
         builder.try_clone().ok()?.try_build().ok()
@@ -87,9 +131,10 @@ fn sets() {
     refused_in_turn("CodePointInversionList::try_from_iter", || {
         CodePointInversionList::try_from_iter(set.iter_ranges()).ok()
     });
-    refused_in_turn("CodePointInversionList::try_from_u32_inversion_list_slice", || {
-        CodePointInversionList::try_from_u32_inversion_list_slice(&ends).ok()
-    });
+    refused_in_turn(
+        "CodePointInversionList::try_from_u32_inversion_list_slice_fallible",
+        || CodePointInversionList::try_from_u32_inversion_list_slice_fallible(&ends).ok(),
+    );
     assert_eq!(set, letters());
 }
 
@@ -100,17 +145,23 @@ fn lent_sets() {
     let bytes = set.as_inversion_list().as_bytes().to_vec();
     let lent = || ZeroVec::<PotentialCodePoint>::parse_bytes(&bytes).ok();
     refused_in_turn("CodePointInversionList::try_into_owned", || {
-        CodePointInversionList::try_from_inversion_list(lent()?).ok()?.try_into_owned().ok()
+        CodePointInversionList::try_from_inversion_list_fallible(lent()?)
+            .ok()?
+            .try_into_owned()
+            .ok()
     });
     // A list that is not a set's is returned as a copy.
     let odd = ZeroVec::<PotentialCodePoint>::parse_bytes(&bytes[3..]).expect("no ends");
-    refused_in_turn("CodePointInversionList::try_from_inversion_list", || {
-        match CodePointInversionList::try_from_inversion_list(odd.as_slice().as_zerovec()) {
+    refused_in_turn(
+        "CodePointInversionList::try_from_inversion_list_fallible",
+        || match CodePointInversionList::try_from_inversion_list_fallible(
+            odd.as_slice().as_zerovec(),
+        ) {
             Err(SetError::Invalid(given_back)) => Some(given_back),
             Err(SetError::Memory) => None,
-            Ok(_) => unreachable!(),
-        }
-    });
+            _ => unreachable!(),
+        },
+    );
 }
 
 #[test]
@@ -118,11 +169,13 @@ fn serialized_sets() {
     let set = letters();
     let units = to_serialized(&set).expect("no memory");
     refused_in_turn("serialized::to_serialized", || to_serialized(&set).ok());
-    refused_in_turn("serialized::from_serialized", || match from_serialized(&units) {
-        Ok(read) => Some(read),
-        Err(error) => {
-            assert_eq!(error, SerializedSetError::Memory);
-            None
+    refused_in_turn("serialized::from_serialized", || {
+        match from_serialized(&units) {
+            Ok(read) => Some(read),
+            Err(error) => {
+                assert_eq!(error, SerializedSetError::Memory);
+                None
+            }
         }
     });
     assert_eq!(from_serialized(&units), Ok((set, units.len())));
@@ -132,7 +185,9 @@ fn serialized_sets() {
 fn frozen_sets() {
     let set = letters();
     let frozen = FrozenCodePointSet::freeze(&set);
-    refused_in_turn("FrozenCodePointSet::try_freeze", || FrozenCodePointSet::try_freeze(&set).ok());
+    refused_in_turn("FrozenCodePointSet::try_freeze", || {
+        FrozenCodePointSet::try_freeze(&set).ok()
+    });
     refused_in_turn("FrozenCodePointSet::try_clone", || frozen.try_clone().ok());
     assert!(frozen.contains('x') && !frozen.contains('y'));
 }
@@ -143,11 +198,15 @@ fn sets_with_texts() {
     let made = || CodePointInversionListAndStringList::try_from_iter(texts.into_iter()).ok();
     refused_in_turn("CodePointInversionListAndStringList::try_from_iter", made);
     let set = made().expect("no memory");
-    refused_in_turn("CodePointInversionListAndStringList::try_clone", || set.try_clone().ok());
+    refused_in_turn("CodePointInversionListAndStringList::try_clone", || {
+        set.try_clone().ok()
+    });
     refused_in_turn("FrozenCodePointSetAndStrings::try_freeze", || {
         FrozenCodePointSetAndStrings::try_freeze(&set).ok()
     });
     let frozen = FrozenCodePointSetAndStrings::freeze(&set);
-    refused_in_turn("FrozenCodePointSetAndStrings::try_clone", || frozen.try_clone().ok());
+    refused_in_turn("FrozenCodePointSetAndStrings::try_clone", || {
+        frozen.try_clone().ok()
+    });
     assert!(frozen.contains_str("xyz") && set.contains_str("abc"));
 }

@@ -124,8 +124,8 @@ fn tries() {
         refused_in_turn("CodePointTrie::try_get_set_for_value", || {
             trie.try_get_set_for_value(3).ok()
         });
-        refused_in_turn("CodePointTrie::try_alloc_map_value", || {
-            trie.try_alloc_map_value(|it| Ok::<u32, ()>(u32::from(it) * 2)).ok()
+        refused_in_turn("CodePointTrie::try_alloc_map_value_fallible", || {
+            trie.try_alloc_map_value_fallible(|it| Ok::<u32, ()>(u32::from(it) * 2)).ok()
         });
         refused_in_turn("CodePointTrie::alloc_from_slices", || {
             CodePointTrie::alloc_from_slices(header, &index, &values).ok()

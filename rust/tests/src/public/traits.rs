@@ -29,7 +29,10 @@ fn clones<T: Clone + Debug + Eq + Hash>(value: &T) {
 /// iterator has ended once it says so.
 fn iterates<I: Iterator<Item: Debug + PartialEq> + Clone + FusedIterator>(mut items: I) {
     items.next();
-    assert_eq!(items.clone().collect::<Vec<_>>(), items.by_ref().collect::<Vec<_>>());
+    assert_eq!(
+        items.clone().collect::<Vec<_>>(),
+        items.by_ref().collect::<Vec<_>>()
+    );
     assert!(items.next().is_none() && items.next().is_none());
 }
 
@@ -37,7 +40,10 @@ fn iterates<I: Iterator<Item: Debug + PartialEq> + Clone + FusedIterator>(mut it
 /// the code space.
 fn numbers(seed: u32) -> Vec<u32> {
     let next = |c: &u32| Some(c.wrapping_mul(1_664_525).wrapping_add(1_013_904_223));
-    std::iter::successors(Some(seed), next).take(200).map(|c| c >> 10 & 0x3FF).collect()
+    std::iter::successors(Some(seed), next)
+        .take(200)
+        .map(|c| c >> 10 & 0x3FF)
+        .collect()
 }
 
 #[test]
@@ -47,7 +53,10 @@ fn sets_collect_in_any_order() {
         let characters = points.iter().filter_map(|c| char::from_u32(*c));
         let set: CodePointInversionList = characters.clone().collect();
         let expected: BTreeSet<u32> = points.iter().copied().collect();
-        assert_eq!(set.iter_chars().map(u32::from).collect::<Vec<_>>(), Vec::from_iter(expected));
+        assert_eq!(
+            set.iter_chars().map(u32::from).collect::<Vec<_>>(),
+            Vec::from_iter(expected)
+        );
         let mut builder: CodePointInversionListBuilder = characters.clone().take(100).collect();
         builder.extend(characters.skip(100));
         assert_eq!(builder.build(), set);
@@ -71,8 +80,17 @@ fn sets_collect_ranges() {
         let forwards: Vec<_> = (&set).into_iter().collect();
         assert_eq!(backwards.into_iter().rev().collect::<Vec<_>>(), forwards);
         let mut both = set.iter_ranges();
-        assert_eq!((both.next(), both.next_back()), (forwards.first().cloned(), forwards.get(1..).and_then(<[_]>::last).cloned()));
-        assert_eq!(CodePointInversionListBuilder::from(set.clone()).build(), set);
+        assert_eq!(
+            (both.next(), both.next_back()),
+            (
+                forwards.first().cloned(),
+                forwards.get(1..).and_then(<[_]>::last).cloned()
+            )
+        );
+        assert_eq!(
+            CodePointInversionListBuilder::from(set.clone()).build(),
+            set
+        );
     }
     let whole: CodePointInversionList = [0..=0x10_FFFF].into_iter().collect();
     assert_eq!(whole, CodePointInversionList::all());
@@ -88,12 +106,17 @@ fn values_clone_and_hash() -> Result<(), Box<dyn std::error::Error>> {
     let texts: CodePointInversionListAndStringList = ["a", "abc"].into_iter().collect();
     clones(&texts);
     clones(&FrozenCodePointSetAndStrings::freeze(&texts));
-    assert_eq!(texts, ["abc".to_string(), "a".to_string()].into_iter().collect());
+    assert_eq!(
+        texts,
+        ["abc".to_string(), "a".to_string()].into_iter().collect()
+    );
     assert_eq!(CodePointInversionListAndStringList::default().size(), 0);
     let trie = get_planes_trie();
     clones(&trie);
     clones(&from_binary_any(&to_binary(&trie)?)?.0);
-    let Typed::Small(small) = trie.clone().to_typed() else { unreachable!() };
+    let Typed::Small(small) = trie.clone().to_typed() else {
+        unreachable!()
+    };
     clones(&small);
     let mut builder = Char16TrieBuilder::default();
     builder.add_str("ab", 2)?;
@@ -112,7 +135,13 @@ fn iterators_clone_and_end() -> Result<(), Box<dyn std::error::Error>> {
     iterates(set.iter_chars());
     let frozen = FrozenCodePointSet::freeze(&set);
     iterates(frozen.spans("a, b, c"));
-    assert_eq!(frozen.spans("a").next(), Some(Span { text: "a", is_held: true }));
+    assert_eq!(
+        frozen.spans("a").next(),
+        Some(Span {
+            text: "a",
+            is_held: true
+        })
+    );
     let trie = get_planes_trie();
     iterates(trie.iter_ranges());
     iterates(trie.iter_ranges_for_value(1));

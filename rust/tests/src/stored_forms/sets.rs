@@ -76,7 +76,7 @@ pub fn of_bytes(bytes: &[u8]) -> Outcome {
         Ok(ends) => ends,
         Err(error) => return by_bytes(error),
     };
-    match CodePointInversionList::try_from_inversion_list(ends) {
+    match CodePointInversionList::try_from_inversion_list_fallible(ends) {
         Ok(set) => asked(&set),
         Err(error) => by_ends(error),
     }
@@ -97,7 +97,7 @@ pub fn of_json(text: &[u8]) -> Outcome {
 /// Whether each string of a set is a member, and is less than the next one by its bytes.
 fn has_strings(set: &CodePointInversionListAndStringList<'_>) -> bool {
     let mut before: Option<&str> = None;
-    for string in set.strings() {
+    for string in set.string_slice() {
         let text = string.as_str();
         let is_after = match before {
             Some(other) => other < text,
