@@ -19,7 +19,7 @@ def laid_out(code):
 
 def inlined(code):
     """Marks short functions `#[inline]`: rustc sees one crate at a time, Rattle's compiler all."""
-    head = r"(?m)(?<![\]])\n( *)(?=(?:pub(?:\(crate\))? )?fn \w+)(?=(?:.+\n){1,12}?\1\})"
+    head = r"(?m)(?<![\]])\n( *)(?=(?:pub(?:\(crate\))? )?(?:const )?fn \w+)(?=(?:.+\n){1,12}?\1\})"
     return re.sub(head, r"\n\1#[inline]\n\1", code)
 
 

@@ -140,6 +140,15 @@ NOT_IN_RUST = (
     r"\bGlobal\b", r"\b(?<!crate::)alloc\b", r"\bstd::\w+", r"\bthiserror\b", r"\bModel\b",
     r"\bcore::[^;(]*\b(?:Brand|Drop)\b", r"\bstd::\{"
 )
+# Functions that constants can call.
+CONST = {
+    "icu_zerovec/vec": "from_packed",
+    "icu_zerovec/slice": "from_packed as_bytes as_zerovec",
+    "icu_trie_core/header": "fast_limit fast_index_len",
+    "icu_char16trie/trie": "new",
+    "icu_invlist/codepointinvlist/builder": "new",
+    "icu_invlist/codepointinvlist/cpinvlist": "all bmp",
+}
 # The loop of write_text.
 WRITTEN_BY_SLOTS = """\
     let mut chars = text.chars();
@@ -216,11 +225,31 @@ EDITS = {
     # That there are as many cells as before is proved only for lawful types, so it is asserted.
     "icu_trie/map_value": [
         (r"(\n +)(?=let index = self\.index)", r"\1assert_eq!(data.len(), self.data.len());\1", 1),
+        (r"self\.error_value\)", "self.error_value())", 1),
     ],
-    # So is that the number of boundaries is even, for types with their own `Eq`.
+    # So is that the number of boundaries is even, for types with their own `Eq`. In a constant there
+    # is no call of a trait.
     "icu_invlist/codepointinvlist/cpinvlist": [
-        (r"(\n +)(?=let bytes = pack)", r"\1assert_eq!(ends.len() % 2, 0);\1", 1)
+        (r"(\n +)(?=let bytes = pack)", r"\1assert_eq!(ends.len() % 2, 0);\1", 1),
+        (
+            r"match ZeroVec::parse_bytes\((&\[[^]]*\])\) \{(?:.*\n){3} +\}",
+            r"CodePointInversionList {\n            ends: ZeroVec::from_packed(\1),\n        }",
+            2,
+        ),
+        (r"(?m)^    (?=ends: ZeroVec<'data)", "    pub(crate) ", 1),
     ],
+    # A constant cannot read a value of any type, so the error value is not stored beside the data.
+    "icu_trie/cptrie": [
+        (r"\n +\x01\d+\x03\n +pub\(crate\) error_value: T,", "", 1),
+        (r"let Some\(error_value\) = data", "let Some(_) = data", 1),
+        (r"\n +error_value(?:: self\.error_value)?,(?=\n +\})", "", 2),
+        (r"self\.error_value(?=\n)", "self.without_answer()", 1),
+    ],
+    "icu_trie/convert": [
+        (r"\n +error_value(?:: _)?,(?=\n +\})", "", 2),
+        (r"let Some\(error_value\) = data\.last\(\) else \{\s*unreachable!\(\);?\s*\};\s*", "", 1),
+    ],
+    "icu_trie/typed": [(r"\n +error_value: self\.error_value,", "", 1)],
     # rust/face has a TryFrom whose error is no failed allocation.
     "icu_invlist/codepointinvlist/conversions": [(r"fn try_from(?=<R)", "fn try_from_range", 1)],
     # A cursor of a view or of a reference to one, as in the Rust crate.

@@ -21,6 +21,7 @@
 //! # Ok::<(), Box<dyn std::error::Error>>(())
 //! ```
 
+pub use crate::constant::InvalidStaticSet;
 pub use crate::icu_frozen_sets::frozen::{FrozenCodePointSet, FrozenTables};
 pub use crate::icu_frozen_sets::spans::{Span, Spans};
 pub use crate::icu_frozen_sets::text_sets::FrozenCodePointSetAndStrings;

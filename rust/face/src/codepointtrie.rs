@@ -34,6 +34,7 @@
 //! assert_eq!(found.map(|it| it.offset), Some(2));
 //! ```
 
+pub use crate::constant::ConstValue;
 pub use crate::icu_trie::cptrie::CodePointTrie;
 pub use crate::icu_trie::error::{CodePointTrieError, ConvertError, PartsError};
 pub use crate::icu_trie::header::{CodePointTrieHeader, TrieType};

@@ -60,6 +60,15 @@
 //! # Ok::<(), Box<dyn std::error::Error>>(())
 //! ```
 //!
+//! # Static data
+//!
+//! Tries, sets and unit tries can be `static`. The compiler runs the test of
+//! [`try_new`](codepointtrie::CodePointTrie::try_new), so a bad table does not compile:
+//! [`CodePointTrie::from_static`](codepointtrie::CodePointTrie::from_static),
+//! [`CodePointInversionList::from_static`](codepointinvlist::CodePointInversionList::from_static),
+//! [`Char16Trie::from_static`](char16trie::Char16Trie::from_static). [`zeroslice!`] packs an array
+//! for them, and [`trie_values!`] declares an enum of values.
+//!
 //! # Features
 //!
 //! All are off by default.
@@ -75,6 +84,7 @@ extern crate alloc;
 #[cfg(all(feature = "proved-reads", not(target_pointer_width = "64")))]
 compile_error!("`proved-reads` needs a target with pointers of 64 bits: the proofs assume them");
 
+mod constant;
 mod plain;
 mod strings;
 mod support;

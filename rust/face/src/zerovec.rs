@@ -9,6 +9,9 @@
 //! # Ok::<(), bekstaudi::zerovec::ule::UleError>(())
 //! ```
 
+pub use crate::constant::ConstCells;
+#[doc(hidden)]
+pub use crate::constant::{cell_of, joined};
 pub use crate::icu_zerovec::code_point::{CODE_POINT_LIMIT, PotentialCodePoint};
 pub use crate::icu_zerovec::memory::{ApplyRefused, MemoryError};
 pub use crate::icu_zerovec::slice::ZeroSlice;

@@ -1,0 +1,225 @@
+//! Tables in constants: the tests that the compiler runs give the results of the tests at run time,
+//! for every cell, every length around the limits, every offset and every null value.
+
+use bekstaudi::char16trie::Char16Trie;
+use bekstaudi::codepointinvlist::{
+    CodePointInversionList, CodePointInversionListBuilder, InvalidStaticSet,
+};
+use bekstaudi::codepointtrie::{
+    CodePointTrie, CodePointTrieBuilder, CodePointTrieError, CodePointTrieHeader, ConstValue, TrieType,
+};
+use bekstaudi::zerovec::ule::UleError;
+use bekstaudi::zerovec::{ConstCells, PotentialCodePoint, ZeroSlice, ZeroVec};
+use bekstaudi::{trie_values, zeroslice};
+use std::fmt::Debug;
+
+trie_values! {
+    /// Values in no order, with gaps.
+    pub enum Few: u8 {
+        Seven = 7,
+        Zero = 0,
+        One = 1,
+        Last = 0xFE,
+    }
+}
+
+trie_values! {
+    enum Wide: u16 {
+        Zero = 0,
+        Middle = 0x1234,
+        Last = 0xFFFF,
+    }
+}
+
+trie_values! {
+    enum Widest: u32 {
+        Zero = 0,
+        Two = 2,
+        Last = 0xFFFF_FFFF,
+    }
+}
+
+const HEADER: CodePointTrieHeader = CodePointTrieHeader {
+    high_start: 0x1000,
+    shifted12_high_start: 1,
+    index3_null_offset: 0x7FFF,
+    data_null_offset: 0xF_FFFF,
+    null_value: 0,
+    trie_type: TrieType::Small,
+};
+/// A block of 64, in which cell 1 is the value of U+0041, cell 62 the high value and cell 63 the
+/// error value.
+const CELLS: [u8; 64] = {
+    let mut cells = [0; 64];
+    cells[1] = 7;
+    cells[62] = 1;
+    cells[63] = 0xFE;
+    cells
+};
+static FEW: CodePointTrie<'static, Few> =
+    CodePointTrie::from_static(HEADER, zeroslice!(u16; [0; 64]), zeroslice!(Few as u8; CELLS));
+static VOWELS: CodePointInversionList<'static> = CodePointInversionList::from_static(
+    zeroslice!(PotentialCodePoint as u32; [0x61, 0x62, 0x65, 0x66, 0x10_FFFF, 0x11_0000]),
+);
+// The map of "ab" to 3: a linear match of two units, and a final value.
+static WORDS: Char16Trie<'static> =
+    Char16Trie::from_static(zeroslice!(u16; [0x31, 0x61, 0x62, 0x8003]));
+const ALL: CodePointInversionList<'static> = CodePointInversionList::all();
+const BUILDER: CodePointInversionListBuilder = CodePointInversionListBuilder::new();
+
+// Errors that a constant can look at.
+const NO_CELLS: ZeroSlice<'static, u8> = zeroslice!(u8; []);
+static NO_TRIE: Result<CodePointTrie<'static, u8>, CodePointTrieError> =
+    CodePointTrie::try_from_static(HEADER, zeroslice!(u16; [0; 64]), NO_CELLS);
+const _: () = assert!(matches!(
+    ZeroSlice::<char>::try_from_static(&[0x41, 0, 0, 0, 0xD8, 0]),
+    Err(UleError::Cell(1))
+));
+
+#[test]
+fn statics_return_their_values() {
+    assert_eq!((FEW.get('A'), FEW.get('B')), (Few::Seven, Few::Zero));
+    assert_eq!((FEW.get32(0x1000), FEW.get32(0x11_0000)), (Few::One, Few::Last));
+    assert_eq!((FEW.error_value(), FEW.null_value()), (Few::Last, Few::Zero));
+    assert_eq!(NO_TRIE.as_ref(), Err(&CodePointTrieError::EmptyDataVector));
+    assert!(VOWELS.contains('e') && !VOWELS.contains('f') && VOWELS.contains32(0x10_FFFF));
+    assert_eq!(WORDS.longest_match_str("abc"), Some((2, 3)));
+    assert_eq!((ALL.size(), BUILDER.build().size()), (0x11_0000, 0));
+    assert_eq!(zeroslice!(i8; [-1, 127, -128]).as_bytes(), [0xFF, 0x7F, 0x80]);
+    assert_eq!(zeroslice!(char; ['\u{1F600}']).as_bytes(), [0, 0xF6, 1]);
+    assert_eq!(zeroslice!(i32; [-2]).as_bytes(), [0xFE, 0xFF, 0xFF, 0xFF]);
+}
+
+#[test]
+fn an_enum_has_the_numbers_that_it_lists() {
+    assert_eq!(Few::CELLS, [(0, 1), (7, 7), (0xFE, 0xFE)]);
+    assert_eq!(Wide::CELLS, [(0, 0), (0x1234, 0x1234), (0xFFFF, 0xFFFF)]);
+    assert_eq!(Widest::CELLS, [(0, 0), (2, 2), (u32::MAX, u32::MAX)]);
+    let mut builder = CodePointTrieBuilder::new(Wide::Zero, Wide::Last, TrieType::Fast);
+    builder.set_value(0x1_F600, Wide::Middle);
+    let trie = builder.build();
+    let (header, index, data) = trie.parts();
+    let same = CodePointTrie::try_from_static(header, index, data);
+    assert_eq!(same.as_ref(), Ok(&trie));
+    assert_eq!(trie.get('\u{1F600}'), Wide::Middle);
+}
+
+/// Compares both tests for these bytes.
+fn compare_cells<T: ConstCells + Debug>(bytes: &[u8]) {
+    let found = ZeroSlice::<T>::try_from_static(bytes);
+    match ZeroVec::<T>::parse_bytes(bytes) {
+        Ok(vector) => assert_eq!(found.map(|it| it.as_bytes()), Ok(vector.as_bytes())),
+        Err(error) => assert_eq!(found.map(|_| ()), Err(error), "{bytes:?}"),
+    }
+}
+
+/// Compares both tests for each cell of up to three bytes, or for four bytes for the cells around
+/// powers of two; and for each length up to 13.
+fn compare_all<T: ConstCells + Debug>() {
+    for length in 0..14 {
+        compare_cells::<T>(&[0; 13][..length]);
+        compare_cells::<T>(&[0xFF; 13][..length]);
+    }
+    let cells: Box<dyn Iterator<Item = u32>> = match T::WIDTH {
+        1 => Box::new(0..0x100),
+        2 => Box::new(0..0x1_0000),
+        3 => Box::new((0..0x12_0000).chain((0x12_0000..0x100_0000).step_by(0xFFF))),
+        _ => Box::new((0..32).flat_map(|i| (0..9).map(move |j| (1u32 << i).wrapping_add(j).wrapping_sub(4)))),
+    };
+    for cell in cells {
+        let mut bytes = [0; 8];
+        bytes[T::WIDTH..][..4].copy_from_slice(&cell.to_le_bytes());
+        compare_cells::<T>(&bytes[..2 * T::WIDTH]);
+    }
+}
+
+/// Compares both tests for these parts.
+fn compare_parts<T: ConstValue + Debug>(header: CodePointTrieHeader, index: &[u8], data: &[u8]) {
+    let (index, data) = (ZeroVec::parse_bytes(index).unwrap(), ZeroVec::parse_bytes(data).unwrap());
+    let found = CodePointTrie::<T>::try_from_static(header, index.as_slice(), data.as_slice());
+    let expected = CodePointTrie::try_new(header, index.as_slice().as_zerovec(), data.clone());
+    assert_eq!(found, expected);
+    if let Ok(trie) = found {
+        for c in [0, 0x41, 0xFFF, 0x1000, 0xFFFF, 0x1_0000, 0x10_FFFF, u32::MAX] {
+            assert_eq!(trie.get32(c), trie.parts().2.get(0).unwrap());
+        }
+    }
+}
+
+/// Compares both tests for all lengths around the limits, offsets and null values. All data are 0.
+fn compare_tries<T: ConstValue + Debug>(trie_type: TrieType) {
+    let header = CodePointTrieHeader { trie_type, ..HEADER };
+    let blocks = trie_type.fast_index_len();
+    let index = vec![0; 2 * blocks + 6];
+    let data = vec![0; 130 * T::WIDTH];
+    for length in (0..6).chain(blocks - 3..blocks + 4) {
+        for cells in (0..3).chain(62..67) {
+            compare_parts::<T>(header, &index[..2 * length], &data[..cells * T::WIDTH]);
+        }
+    }
+    for offset in [0u16, 1, 63, 64, 65, 66, 67, 255, 256, 0xFFFF] {
+        // Every cell of the fast index, and the three after it.
+        for place in 0..blocks + 3 {
+            let mut index = index.clone();
+            index[2 * place..][..2].copy_from_slice(&offset.to_le_bytes());
+            compare_parts::<T>(header, &index, &data);
+        }
+    }
+    let powers = (0..32).flat_map(|i| (0..9).map(move |j| (1u32 << i).wrapping_add(j).wrapping_sub(4)));
+    for null_value in (0..0x300).chain(powers).chain(0xD700..0xE100).chain([0x1234, 0x10_FFFF]) {
+        let header = CodePointTrieHeader { null_value, ..header };
+        compare_parts::<T>(header, &index[..2 * blocks], &data);
+        compare_parts::<T>(header, &index[..2 * blocks - 2], &data[..63 * T::WIDTH]);
+        compare_parts::<T>(header, &[], &[]);
+    }
+}
+
+fn compare<T: ConstValue + Debug>() {
+    compare_all::<T>();
+    compare_tries::<T>(TrieType::Small);
+    compare_tries::<T>(TrieType::Fast);
+}
+
+#[test]
+fn both_tests_of_tries_agree() {
+    compare::<u8>();
+    compare::<u16>();
+    compare::<u32>();
+    compare::<i8>();
+    compare::<i16>();
+    compare::<i32>();
+    compare::<char>();
+    compare::<Few>();
+    compare::<Wide>();
+    compare::<Widest>();
+}
+
+/// Compares both tests for these boundaries.
+fn compare_set(ends: &[u32]) {
+    let bytes: Vec<u8> = ends.iter().flat_map(|it| it.to_le_bytes().into_iter().take(3)).collect();
+    let slice = ZeroSlice::<PotentialCodePoint>::try_from_static(&bytes).unwrap();
+    let found = CodePointInversionList::try_from_static(slice);
+    match CodePointInversionList::try_from_inversion_list(slice.as_zerovec()) {
+        Ok(set) => assert_eq!(found, Ok(set)),
+        Err(_) => assert_eq!(found, Err(InvalidStaticSet)),
+    }
+}
+
+#[test]
+fn both_tests_of_sets_agree() {
+    compare_all::<PotentialCodePoint>();
+    let numbers = [0, 1, 2, 0x41, 0xD800, 0x10_FFFF, 0x11_0000, 0x11_0001, 0xFF_FFFF];
+    compare_set(&[]);
+    for a in numbers {
+        compare_set(&[a]);
+        for b in numbers {
+            compare_set(&[a, b]);
+            for c in numbers {
+                compare_set(&[a, b, c]);
+                for d in numbers {
+                    compare_set(&[a, b, c, d]);
+                }
+            }
+        }
+    }
+}
