@@ -1,13 +1,13 @@
 """The rules of rust/make: what Rust has in another form, and what replaces it."""
 
-# Modules that need another crate, and so a feature of its name.
+# Modules that need another crate, and so a feature, or one of several.
 FEATURES = {
     "icu_invlist/codepointinvlist/json": "json",
-    "icu_invlist/spelling": "json",
+    "icu_invlist/spelling": "json serde",
     "icu_char16trie/json": "json",
     "icu_text_sets/codepointinvliststringlist/json": "json",
     "icu_trie_formats/json": "json",
-    "icu_trie_formats/trie_toml": "toml",
+    "icu_trie_formats/trie_toml": "toml serde",
 }
 # Modules that are left out.
 LEFT_OUT = []
@@ -226,6 +226,18 @@ EDITS = {
     "icu_trie/map_value": [
         (r"(\n +)(?=let index = self\.index)", r"\1assert_eq!(data.len(), self.data.len());\1", 1),
         (r"self\.error_value\)", "self.error_value())", 1),
+    ],
+    # serde spells ranges as JSON does, and reads tables from any format.
+    "icu_invlist/lib": [(r"(?m)^(?=mod spelling;)", "pub(crate) ", 1)],
+    "icu_trie_formats/trie_toml": [
+        (
+            r"(?m)^( *)(?=use toml\b|pub fn from_table\b|fn (?:fields_of|(?:optional_)?numbers?_(?:at|of|of_items)"
+            r"|value_at|items_of)\b)",
+            r'\1#[cfg(feature = "toml")]\n\1',
+            10,
+        ),
+        (r"(?m)^(?=struct TomlFields)", "pub(crate) ", 1),
+        (r"(?m)^    (?=(?:index|data_8|data_16|data_32|\w+_width|\w+_start|\w+_offset|trie_type|null_value|fields): [\w<>]+,$)", "    pub(crate) ", 12),
     ],
     # So is that the number of boundaries is even, for types with their own `Eq`. In a constant there
     # is no call of a trait.

@@ -19,9 +19,10 @@ from rust_rules import (
 TOP = os.path.dirname(os.path.dirname(os.path.dirname(os.path.realpath(__file__))))
 PARTS = f"{TOP}/rust/tests/src"
 README = f"{TOP}/rust/README.md"
-# Sources of serde_json and toml, as Debian has them in librust-serde-json-dev, librust-toml-dev.
+# Sources of the crates of the features and of bincode, as Debian has them in librust-bincode-dev,
+# librust-serde-derive-dev, librust-serde-json-dev and librust-toml-dev.
 SOURCES = "/usr/share/cargo/registry"
-HAS_FORMATS = all(glob.glob(f"{SOURCES}/{it}-*") for it in ("serde_json", "toml"))
+HAS_FORMATS = all(glob.glob(f"{SOURCES}/{it}-*") for it in ("bincode", "serde_derive", "serde_json", "toml"))
 HAS_CLAP = HAS_FORMATS and bool(glob.glob(f"{SOURCES}/clap-4*"))
 # What rust/tests/src has that needs them.
 FORMS = ["stored_forms"] if HAS_FORMATS else []
@@ -125,9 +126,9 @@ def sweeps_all(made):
 
 
 def cut(folder):
-    """Takes JSON and TOML out of a crate, if the crates that they depend on are not installed."""
+    """Takes serde, JSON and TOML out of a crate, if the crates that they depend on are not installed."""
     path = f"{folder}/Cargo.toml"
-    write(path, re.sub(r'"dep:\w+"|(?m:^(?:serde_json|toml) = \{.*\n)', "", read(path)))
+    write(path, re.sub(r'"dep:\w+"|(?m:^(?:serde|serde_json|toml) = \{.*\n)', "", read(path)))
 
 
 def add_tests(made, folder):
@@ -144,7 +145,9 @@ def add_tests(made, folder):
     shutil.copy(f"{TOP}/rust/programs/ledger.rs", f"{folder}/src")
     shutil.move(f"{folder}/src/public", f"{folder}/tests")
     shutil.move(f"{folder}/src/refusing", folder)
-    write(f"{folder}/Cargo.toml", '\n[dev-dependencies]\nrefusing = { path = "refusing" }\n', "a")
+    needed = '\n[dev-dependencies.refusing]\npath = "refusing"\n'
+    needed += '\n[dev-dependencies.bincode]\nversion = "1.3"\n' if HAS_FORMATS else ""
+    write(f"{folder}/Cargo.toml", needed, "a")
     names = "".join(
         f"#[cfg(test)]\n#[allow(dead_code, unused_imports, unused_variables)]\nmod {name};\n"
         for name in ["ledger", "runtime", "refusals", "icu_collections", "tables", *FORMS, *TESTS]

@@ -55,8 +55,11 @@ pub use crate::icu_trie_builder::writes::{ApplyRefused, Write};
 #[cfg(feature = "json")]
 pub use crate::icu_trie_formats::json;
 pub use crate::icu_trie_formats::planes;
-#[cfg(feature = "toml")]
+#[cfg(any(feature = "serde", feature = "toml"))]
 pub use crate::icu_trie_formats::trie_toml;
+#[cfg(feature = "serde")]
+#[doc(no_inline)]
+pub use crate::icu_trie_formats::trie_toml as toml;
 pub use crate::icu_trie_text::text;
 
 use crate::codepointinvlist::CodePointInversionList;

@@ -73,7 +73,12 @@
 //!
 //! All are off by default.
 //!
-//! - `json`: sets, tries and unit tries to and from the values of `serde_json`
+//! - `serde`: sets, tries and unit tries to and from any format of serde, in the forms of
+//!   `icu_collections`: numbers and texts in formats that people read, such as JSON, and packed
+//!   bytes, which are borrowed, in others
+//! - `json`: sets, tries and unit tries to and from the values of `serde_json`. The forms are those
+//!   of `serde`, except that a trie has the number of each value, also if its values are signed or
+//!   characters
 //! - `toml`: tries from the tables of `toml`; it needs `std`
 //! - `proved-reads`: reads whose index is proved to be in bounds are not checked again
 #![no_std]
@@ -86,6 +91,8 @@ compile_error!("`proved-reads` needs a target with pointers of 64 bits: the proo
 
 mod constant;
 mod plain;
+#[cfg(feature = "serde")]
+mod serde_forms;
 mod strings;
 mod support;
 
