@@ -1,6 +1,7 @@
 pub mod CallerLemmas
 mod CellBytesLemmas
 mod ConversionLemmas
+mod FastCells
 pub mod IteratorLemmas
 pub mod SetLemmas
 pub mod JoinedLemmas
