@@ -41,9 +41,6 @@ module _ (all : List (List ℕ × ℤ)) (first : UnitMap) (key : List ℕ) (v : 
         still = λ h. (here.still h).1;
       })
 
-  pub Along-twice : IsSome (value_of m key) → AreAllNew all first → ⊥
-  Along-twice there h = absent_and_there (value_of m key) (here.still h).0 there
-
 -- ---- how many units a trie of them takes at most
 absent : (o : Option ℤ) → IsNone o → o ≡ None
 absent None h = refl

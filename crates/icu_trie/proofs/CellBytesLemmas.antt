@@ -21,9 +21,6 @@ module _ {T : Type 0} {f : List ℕ → Option T} {w : ℕ} {b : List ℕ} {valu
   pub cell_is : slice_range b (i * w) (i * w + w) ≡ cell w b i
   cell_is = let e : i * w + w - i * w ≡ w = omega arith in ap (λ n. take n (drop (i * w) b)) e
 
-  pub length-cell : length (slice_range b (i * w) (i * w + w)) ≡ w
-  length-cell = ap length cell_is ∙ length-take-le w (drop (i * w) b) (omega (arith, length-drop (i * w) b, cell_fits))
-
   -- The bytes unpack to the value.
   pub value-cell : f (slice_range b (i * w) (i * w + w)) ≡ slice_get values i
   value-cell = rw are (ap f cell_is ∙ sym (get-values_of f w b i p within))

@@ -173,25 +173,8 @@ module _ {A : Type 0} {value : A} {ranges : List (CodePointMapRange A)} {next : 
     )
   ]
 
-  -- The last range does not have the value.
-  pub IsValid-closed : is_odd (length ends) ≡ false → IsValid ends
-  IsValid-closed even = record {
-    even = even_is (length ends) even;
-    ascending = gathers.rises;
-    within =
-        λ k d h. let l = gathers.low k d h in omega (arith, l, within);
-  }
-
   pub members-closed : is_odd (length ends) ≡ false → (c : ℕ) → (holds ends c ≡ true) ↔ IsInRangeOf value ranges c
   members-closed even = all ends (λ k d h. let l = gathers.low k d h in omega (arith, l)) (λ c lt. refl) even
-
-  -- The last range has the value.
-  pub IsValid-opened : is_odd (length ends) ≡ true → IsValid (ends ++ next ∷ [])
-  IsValid-opened odd = record {
-    even = even_is (length (ends ++ next ∷ [])) (ap is_odd (length_push ends next) ∙ odd_next (length ends) odd);
-    ascending = rises-push ends next gathers.rises gathers.low;
-    within = All-push (λ e. e ≤ 0x110000) ends next (λ k d h. let l = gathers.low k d h in omega (arith, l, within)) within;
-  }
 
   pub members-opened : is_odd (length ends) ≡ true → (c : ℕ) → (holds (ends ++ next ∷ []) c ≡ true) ↔ IsInRangeOf value ranges c
   members-opened odd = all (ends ++ next ∷ [])

@@ -4,17 +4,6 @@ use Rattle.std.proofs.lemmas.List.{length-append, drop-drop, drop_at, take_at}
 
 -- A header, an index, its padding, data, and what follows.
 module _ (a b c d rest : List ℕ) where
-  pub length-joined : length a ≡ 16 → length (a ++ ((b ++ c) ++ (d ++ rest))) ≡ 16 + length b + length c + length d + length rest
-  length-joined e =
-      omega (
-        arith,
-        e,
-        length-append a ((b ++ c) ++ (d ++ rest)),
-        length-append (b ++ c) (d ++ rest),
-        length-append b c,
-        length-append d rest,
-      )
-
   -- Everything except what follows.
   split-joined : a ++ ((b ++ c) ++ (d ++ rest)) ≡ ((a ++ (b ++ c)) ++ d) ++ rest
   split-joined = simp append_assoc
@@ -30,9 +19,6 @@ module _ (a b c d rest : List ℕ) where
       let s : a ++ ((b ++ c) ++ (d ++ rest)) ≡ front ++ (d ++ rest) =
       sym (append_assoc a (b ++ c) (d ++ rest)) ∙ ap (λ x. x ++ (d ++ rest)) e in
       rw s (take_at front (d ++ rest) (length front) refl)
-
-  pub whole-joined : (front cells : List ℕ) → a ++ (b ++ c) ≡ front → d ≡ cells → a ++ ((b ++ c) ++ (d ++ rest)) ≡ (front ++ cells) ++ rest
-  whole-joined front cells e f = split-joined ∙ ap (λ x. (x ++ d) ++ rest) e ∙ ap (λ x. (front ++ x) ++ rest) f
 
 -- The parts that were copied to their offsets.
 pub joined-copied : (bytes a b c d header index behind cells at_index at_behind at_cells rest : List ℕ)

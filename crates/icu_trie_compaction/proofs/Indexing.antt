@@ -239,12 +239,6 @@ module _ (start : ℕ) (fast offsets : List ℕ) (j : ℕ) (stored cells : List 
       let all = count_different_but-le (λ x. false) (block 32 offsets) 0 m in
       omega (arith, indexing-fresh none, up, all, over, l.short)
 
--- All blocks.
-pub indexing-done : (start : ℕ) (fast offsets : List ℕ) (j : ℕ) (stored cells : List ℕ) → Indexing start fast offsets j stored cells
-    → j ≡ length offsets / 32 → IsIndexed start fast offsets stored cells
-indexing-done start fast offsets j stored cells l end =
-    record { count = l.count ∙ end; cell = λ i lt. l.cell i (omega (arith, lt, l.count)); below = l.below }
-
 -- A block of cells that are below a bound.
 pub block-fit : (n k j : ℕ) (xs : List ℕ) → AllBelow n xs → k * j + k ≤ length xs → AllBelow n (block k xs j)
 block-fit n k j xs below fits i lt =

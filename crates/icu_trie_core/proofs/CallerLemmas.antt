@@ -1,8 +1,6 @@
 -- What other crates may use about the trie format and about maximal runs. First: the look-up result
 -- of a code point, from the data offset of its block.
 pub use Rattle.icu_trie_core.proofs.AnswerLemmas.{fast_answer, small_answer}
--- The first offset in the fast index whose block ends outside the data, as a loop finds it.
-pub use Rattle.icu_trie_core.proofs.FrontLemmas.{found, none_more, none_past}
 -- A returned range is the longest run from its start on.
 pub use Rattle.icu_trie_core.proofs.RangeLemmas.{LongestRun-from_gives}
 -- A map has exactly one list of maximal runs. Maps that are equal on all code points have the same

@@ -12,11 +12,6 @@ runs-of-ranges [] = refl
 runs-of-ranges (x ∷ xs) = ap (λ runs. run_of x ∷ runs) (runs-of-ranges xs)
 
 module _ (value answer : ℕ → ℕ) (text : List ℕ) where
-  -- The text if no number is asked for.
-  pub text_of_none : (asked : List ℕ) → asked ≡ [] → (runs : List (Run ℕ)) × (AreMaximalRuns value runs × (text ≡ runs_text runs))
-      → IsTextOfMap value answer asked text
-  text_of_none asked none all = rw none all
-
   -- The text if some number is asked for.
   pub text_of_some : (asked : List ℕ) → asked ≢ [] → text ≡ answers_text answer asked → IsTextOfMap value answer asked text
   text_of_some [] some lines = absurd (some refl)
