@@ -1,5 +1,6 @@
 //! Iterators over the ranges and the characters of a set.
 ghost use Rattle.std.specs.Prelude.{◌≡◌, ◌<◌, ◌≤◌, ◌-◌, ◌^◌, ◌∷◌, [], length, Some, IfSome};
+ghost use Rattle.std.specs.Char.{OutOfScalarRange};
 ghost use Rattle.std.specs.Iterator.{YieldsFirst, item_count, at_most, UpTo};
 ghost use Rattle.std.specs.Iterator.SizeHint.{IsWithinCount};
 ghost use Rattle.std.specs.List.{filter, range_with_len};
@@ -178,8 +179,32 @@ impl<'a> IterChars<'a> {
     }
 }
 
+/// Does what [`take_char`] does if `next` is no character: passes all surrogates in one step.
+#[cold]
+fn take_past_surrogates(next: &mut u32, end: u32) -> Option<char>
+    requires { OutOfScalarRange next.old }
+    ensures { MatchOption result
+        ((filter scalar (range_with_len next.old (end - next.old)) ≡ [])
+        × (filter scalar (range_with_len next.new (end - next.new)) ≡ []))
+        (λ c. filter scalar (range_with_len next.old (end - next.old))
+        ≡ c ∷ filter scalar (range_with_len next.new (end - next.new))) }
+{
+    if *next < 0xE000 {
+        *next = 0xE000;
+    }
+    if end <= *next {
+        return None;
+    }
+    let c = char::from_u32(*next);
+    *next += 1;
+    c
+}
+
 /// Returns the first character from `next` to `end` exclusive and moves `next` past it. Skips
 /// surrogates.
+///
+/// There is no loop here: LLVM vectorises one, as if it had far to search for each character.
+#[inline(always)]
 fn take_char(next: &mut u32, end: u32) -> Option<char>
     ensures { MatchOption result
         ((filter scalar (range_with_len next.old (end - next.old)) ≡ [])
@@ -187,14 +212,15 @@ fn take_char(next: &mut u32, end: u32) -> Option<char>
         (λ c. filter scalar (range_with_len next.old (end - next.old))
         ≡ c ∷ filter scalar (range_with_len next.new (end - next.new))) }
 {
-    while *next < end {
-        let c = char::from_u32(*next);
-        *next += 1;
-        if c.is_some() {
-            return c;
-        }
+    if *next >= end {
+        return None;
     }
-    None
+    let c = char::from_u32(*next);
+    if c.is_none() {
+        return take_past_surrogates(next, end);
+    }
+    *next += 1;
+    c
 }
 
 impl<'a> Iterator for IterChars<'a> {
