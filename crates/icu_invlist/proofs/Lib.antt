@@ -3,7 +3,8 @@ pub mod RunLemmas
 pub mod ValidLists
 pub mod Parity
 pub mod Splices
-pub mod EqualSets
+pub mod EmptySets
+mod EqualSets
 pub mod PlaceLemmas
 pub mod PackedEnds
 pub mod CheckedLists

@@ -74,6 +74,9 @@ impl CodePointInversionListBuilder {
     pub fn build(self) -> Result<CodePointInversionList<'static>, MemoryError>
         ensures ok { IfOk result (λ s. s ≡ self) }
     {
+        if self.is_empty() {
+            return Ok(CodePointInversionList::none());
+        }
         CodePointInversionList::from_valid_slice(self.alloc, &self.ends)
     }
 
@@ -157,6 +160,11 @@ impl CodePointInversionListBuilder {
     pub fn add_set(&mut self, set: &CodePointInversionList<'_>) -> Result<(), MemoryError>
         ensures { Changes either self.old (holds set.now) self.new result }
     {
+        // Reading the field gives the proof the invariant: the set is valid.
+        let _ = &self.ends;
+        if set.is_empty() {
+            return Ok(());
+        }
         change::<Union>(self.alloc, &mut self.ends, set)
     }
 }
@@ -219,6 +227,11 @@ impl CodePointInversionListBuilder {
     pub fn remove_set(&mut self, set: &CodePointInversionList<'_>) -> Result<(), MemoryError>
         ensures { Changes without self.old (holds set.now) self.new result }
     {
+        // Reading the field gives the proof the invariant: the set is valid.
+        let _ = &self.ends;
+        if set.is_empty() {
+            return Ok(());
+        }
         change::<Difference>(self.alloc, &mut self.ends, set)
     }
 }
@@ -354,6 +367,11 @@ impl CodePointInversionListBuilder {
             ((ends : List ℕ) → IsValid ends → Acts one_of self.new (holds set.now) ends
             → ends ≡ self.old) }
     {
+        // Reading the field gives the proof the invariant: the set is valid.
+        let _ = &self.ends;
+        if set.is_empty() {
+            return Ok(());
+        }
         change::<SymmetricDifference>(self.alloc, &mut self.ends, set)
     }
 }

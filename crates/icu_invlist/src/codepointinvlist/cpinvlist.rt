@@ -111,6 +111,16 @@ impl<'data> CodePointInversionList<'data> {
         }
     }
 
+    /// Returns the empty set. This does not allocate.
+    pub(crate) fn none() -> CodePointInversionList<'static>
+        ensures { result ≡ [] }
+    {
+        match ZeroVec::parse_bytes(&[]) {
+            Ok(ends) => CodePointInversionList { ends },
+            Err(_) => unreachable!(),
+        }
+    }
+
     /// Returns the set of all code points, 0 to 0x10FFFF inclusive, with surrogates. This does not
     /// allocate.
     pub fn all() -> CodePointInversionList<'static>
@@ -269,14 +279,16 @@ impl<'data> CodePointInversionList<'data> {
     {
         // Reading the field gives the proof the invariant: the set is valid.
         let _ = &self.ends;
-        let count = other.count();
-        if count == 0 {
+        if other.is_empty() {
             return true;
         }
         if !self.spans(other) {
             return false;
         }
-        if count < self.count() / 16 {
+        let count = other.count();
+        if self.ends.as_bytes() == other.ends.as_bytes() {
+            true
+        } else if count < self.count() / 16 {
             self.holds_each(other)
         } else {
             self.holds_in_order(other)

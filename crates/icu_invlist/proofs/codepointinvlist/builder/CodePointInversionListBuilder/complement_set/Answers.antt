@@ -1,6 +1,7 @@
 use Rattle.std.proofs.Common.{◌≡◌, ◌∙◌, ap, ℕ, Bool, true, false, refl, List}
 use Rattle.std.proofs.lemmas.Result.{on_ok_weaker}
 use Rattle.icu_invlist.specs.InversionList.{IsValid, holds, one_of, Acts}
+use Rattle.icu_invlist.proofs.EmptySets.{one_of_none, the_same, unchanged}
 use Rattle.icu_invlist.proofs.EqualSets.{same_sets}
 use Rattle.icu_invlist.proofs.codepointinvlist.builder.CodePointInversionListBuilder.complement_set.Goals as goal
 
@@ -20,3 +21,17 @@ returns-clause-twice c = on_ok_weaker c.change.result
     (λ acts ends v h. back c.self.inside.ends.items c.change.new.ends.items ends (holds c.args.set.now) v c.self.invariant acts h
     ∙ c.self.view_is)
     c.change.ensures.ok
+
+pub returns-then-is_empty-clause-changes : goal.returns-then-is_empty-clause-changes
+returns-then-is_empty-clause-changes c =
+    let v : IsValid c.args.self.now = rw (← c.self.view_is) c.self.invariant in
+    record {
+      ok = unchanged one_of c.args.self.now c.args.set.now one_of_none (c.is_empty.ensures.empty.0 c.if-is_empty.true);
+      err = tt;
+      valid = (v, v);
+    }
+
+pub returns-then-is_empty-clause-twice : goal.returns-then-is_empty-clause-twice
+returns-then-is_empty-clause-twice c ends v h =
+    the_same c.args.self.now c.args.set.now ends (c.is_empty.ensures.empty.0 c.if-is_empty.true)
+    (rw (← c.self.view_is) c.self.invariant) v h

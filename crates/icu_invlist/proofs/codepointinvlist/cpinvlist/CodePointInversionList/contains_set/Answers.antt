@@ -1,10 +1,9 @@
-use Rattle.std.proofs.Common.{arith, refl}
-use Rattle.icu_invlist.proofs.PlaceLemmas.{holds_before_any, holds_whole}
+use Rattle.std.proofs.Common.{refl}
+use Rattle.icu_invlist.proofs.EmptySets.{none_within}
 use Rattle.icu_invlist.proofs.codepointinvlist.cpinvlist.CodePointInversionList.contains_set.Goals as goal
 
-pub returns-then-count-eq0-clause-subset : goal.returns-then-count-eq0-clause-subset
-returns-then-count-eq0-clause-subset c = (
-  λ t. holds_whole c.args.other.now c.args.self.now 0 (holds_before_any c.args.other.now c.args.self.now) c.count-count.ensures.valid
-      (let k = c.count-count.ensures.count in let z = c.if-count-eq0.true in omega arith),
+pub returns-then-is_empty-clause-subset : goal.returns-then-is_empty-clause-subset
+returns-then-is_empty-clause-subset c = (
+  λ t. none_within c.args.other.now c.args.self.now (c.is_empty.ensures.empty.0 c.if-is_empty.true),
   λ sub. refl,
 )
