@@ -53,6 +53,7 @@ uint64_t ours_try_new_8(const TrieParts *, size_t turns), rust_try_new_8(const T
                                   size_t turns);                                                  \
     uint64_t name##_position(const uint8_t *, size_t, const uint32_t *points, size_t);            \
     uint64_t name##_set_iter(const uint8_t *, size_t, size_t turns);                              \
+    uint64_t name##_set_iter_chars(const uint8_t *, size_t, size_t turns);                        \
     uint64_t name##_contains_set(const uint8_t *, size_t, const uint8_t *, size_t, size_t turns); \
     uint64_t name##_blend(const uint8_t *, size_t, const uint8_t *, size_t, uint32_t how,         \
                           size_t turns);                                                          \

@@ -1,6 +1,8 @@
 // Queries of sets of code points that are not frozen.
 #include "icu_set.hpp"
 #include <algorithm>
+#include <numeric>
+#include <unicode/usetiter.h>
 #include <unicode/utf8.h>
 
 using icu::UnicodeSet;
@@ -77,6 +79,31 @@ static void contains() {
             const Call rust = [&] { return rust_contains(PARTS(s.bytes), PARTS(points)); };
             const string name = s.name + "-" + kind.name;
             row("set_contains", name, points.size(), ours, rust, [&] { return icu(s.set); });
+        }
+    }
+}
+
+// Looks up all code points of one or two planes in random order. None repeats, and they are too many
+// for a processor to learn which way the search for each of them goes.
+static void contains_apart() {
+    static const struct {
+        const char *name;
+        uint32_t limit;
+    } kinds[] = {{"bmp", 0x10000}, {"planes", 0x20000}};
+    for (const Set &s : all_sets()) {
+        for (auto &kind : kinds) {
+            vector<uint32_t> points(kind.limit);
+            std::iota(points.begin(), points.end(), 0);
+            shuffle(points);
+            const Call icu = [&] {
+                uint64_t sum = 0;
+                for (uint32_t c : points) sum += s.set.contains(UChar32(c));
+                return sum;
+            };
+            row(
+                "set_contains_apart", s.name + "-" + kind.name, points.size(),
+                [&] { return ours_contains(PARTS(s.bytes), PARTS(points)); },
+                [&] { return rust_contains(PARTS(s.bytes), PARTS(points)); }, icu);
         }
     }
 }
@@ -171,6 +198,24 @@ static void all_ranges() {
     }
 }
 
+static void all_characters() {
+    for (const Set &s : all_sets()) {
+        const Call icu = [&] {
+            uint64_t sum = 0;
+            for (icu::UnicodeSetIterator all(s.set); all.next();)
+                if (!U_IS_SURROGATE(all.getCodepoint())) sum += all.getCodepoint() ^ 7;
+            return sum;
+        };
+        size_t characters = 0;
+        for (icu::UnicodeSetIterator all(s.set); all.next();)
+            characters += !U_IS_SURROGATE(all.getCodepoint());
+        row(
+            "set_iter_chars", s.name, double(characters),
+            [&] { return ours_set_iter_chars(PARTS(s.bytes), 1); },
+            [&] { return rust_set_iter_chars(PARTS(s.bytes), 1); }, icu);
+    }
+}
+
 static void positions() {
     for (const Set &s : all_sets()) {
         vector<uint32_t> points(512);
@@ -192,8 +237,10 @@ static void positions() {
 
 void sets() {
     if (wanted("set_contains")) contains();
+    if (wanted("set_contains_apart")) contains_apart();
     if (wanted("set_text")) over_texts();
     if (wanted("set_span")) spans();
     if (wanted("set_iter")) all_ranges();
+    if (wanted("set_iter_chars")) all_characters();
     if (wanted("set_position")) positions();
 }

@@ -155,6 +155,23 @@ unsafe extern "C" fn rust_set_iter(ends: *const u8, len: usize, turns: usize) ->
     over(turns, |sum| added_ranges(&set, sum))
 }
 
+/// Adds to `sum` the numbers of all characters in the set. A range may have surrogates in it.
+#[inline(never)]
+fn added_chars(set: &Set<&[Cell]>, sum: u64) -> u64 {
+    let chars = set.ranges().flat_map(|(start, end)| (start..end).filter_map(char::from_u32));
+    let mut sum = sum;
+    for c in chars {
+        sum += (c as u32 ^ 7) as u64;
+    }
+    sum
+}
+
+#[unsafe(no_mangle)]
+unsafe extern "C" fn rust_set_iter_chars(ends: *const u8, len: usize, turns: usize) -> u64 {
+    let set = unsafe { set(ends, len) };
+    over(turns, |sum| added_chars(&set, sum))
+}
+
 #[unsafe(no_mangle)]
 unsafe extern "C" fn rust_contains_set(
     a: *const u8,

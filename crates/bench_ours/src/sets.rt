@@ -55,6 +55,16 @@ fn added_ranges(set: &CodePointInversionList<'_>, sum: u64) -> u64 {
     sum
 }
 
+/// Adds the numbers of all characters in the set to `sum`.
+#[inline(never)]
+fn added_chars(set: &CodePointInversionList<'_>, sum: u64) -> u64 {
+    let mut sum = sum;
+    for c in set.iter_chars() {
+        sum = sum.wrapping_add((u32::from(c) ^ 7) as u64);
+    }
+    sum
+}
+
 /// Counts the code points in the set.
 #[unsafe(no_mangle)]
 pub extern "C" fn ours_contains(alloc: Global, ends: &[u8], points: &[u32]) -> u64 {
@@ -102,6 +112,19 @@ pub extern "C" fn ours_set_iter(alloc: Global, ends: &[u8], turns: usize) -> u64
     let mut sum = 0u64;
     for _ in 0..turns {
         sum = added_ranges(&set, sum);
+    }
+    sum
+}
+
+/// Iterates over all characters of a set, `turns` times.
+#[unsafe(no_mangle)]
+pub extern "C" fn ours_set_iter_chars(alloc: Global, ends: &[u8], turns: usize) -> u64 {
+    let Some(set) = set_of(alloc, ends) else {
+        return u64::MAX;
+    };
+    let mut sum = 0u64;
+    for _ in 0..turns {
+        sum = added_chars(&set, sum);
     }
     sum
 }
