@@ -196,6 +196,15 @@ EDITS = {
         (r"bytes\.split_at\(T::WIDTH\);", "bytes.split_at_checked(T::WIDTH)?;", 1),
         (r"(?=use crate::ule)", "use crate::support::cells::{cell, proved_cell};\n", 1),
     ],
+    # Each step of a search without a jump, as in std: rustc makes a jump of this `if`, which is
+    # mispredicted half of the time if code points come in no order.
+    "icu_invlist/codepointinvlist/cpinvlist/places": [
+        (
+            r"if self\.end_at\(low \+ half\) <= c \{\n +low \+ half\n +\} else \{\n +low\n +\};",
+            "core::hint::select_unpredictable(self.end_at(low + half) <= c, low + half, low);",
+            1,
+        ),
+    ],
     "icu_collections_c/cells": [
         (r"let start = i \* T::WIDTH;\n +", "", 1),
         (r"&bytes\[start\.\.start \+ T::WIDTH\]", "proved_cell(bytes, T::WIDTH, i)", 1),
