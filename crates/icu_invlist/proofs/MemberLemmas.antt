@@ -37,9 +37,6 @@ pub no_single : (x : ℕ) → IsValid (x ∷ []) → ⊥
 no_single x v = let e = v.even in omega arith
 
 -- ---- how many members
-flag : ℕ → ℕ
-flag n = n % 2
-
 flag-is : (n : ℕ) → cond (is_odd n) 1 0 ≡ n % 2
 flag-is n = elim (cases_eq (n % 2) 1) [ inl h ↦ rw (eq-eqb _ _ h) (sym h) | inr h ↦ rw (ne_eqb _ _ h) (omega arith) ]
 
@@ -151,9 +148,6 @@ pub record Walked (xs : List ℕ) (i c before : ℕ) : Type 0 where
   pub held : holds xs c ≡ holds (drop i xs) c
   pub so_far : members_below xs c ≡ before + members_below (drop i xs) c
   pub small : before + total (drop i xs) ≡ total xs
-
-pub answer : List ℕ → ℕ → Option ℕ
-answer xs c = cond (holds xs c) (Some (members_below xs c)) None
 
 module _ (xs : List ℕ) (i c before s e : ℕ) (v : IsValid xs) (w : Walked xs i c before) (h : i + 1 < length xs) (a : s ≡ get_or xs i 0)
     (b : e ≡ get_or xs (i + 1) 0) where
