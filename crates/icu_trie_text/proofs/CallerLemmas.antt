@@ -8,3 +8,7 @@ pub use Rattle.icu_trie_text.proofs.IndexLemmas.{indices_of_drained}
 pub use Rattle.icu_trie_text.proofs.Utf8ValueLemmas.{values_of_bytes_drained, values_of_text}
 -- There are no more code points than units.
 pub use Rattle.icu_trie_text.proofs.Utf16Lemmas.{length-code_points}
+-- The first part of a text is its first character.
+pub use Rattle.icu_trie_text.proofs.CopiedItems.{text_next}
+-- The code points that have their values at their own index in the data.
+pub use Rattle.icu_trie_text.proofs.AsciiLemmas.{ascii_known}

@@ -1,10 +1,14 @@
 pub mod AsciiLemmas
 pub mod CallerLemmas
+pub mod CopiedItems
+pub mod CopiedLemmas
 pub mod FoundLemmas
 pub mod IndexLemmas
+pub mod NearLemmas
 pub mod Utf16Lemmas
 pub mod Utf8Absent
 pub mod Utf8Parts
 pub mod Utf8Table
 pub mod Utf8ValueLemmas
 pub mod ValueLemmas
+pub mod WordLemmas

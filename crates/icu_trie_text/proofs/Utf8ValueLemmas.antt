@@ -13,7 +13,7 @@ use Rattle.icu_trie_text.specs.Values.{AreValuesOf}
 use Rattle.icu_trie_text.proofs.Utf8Parts.{part_of_ascii}
 
 -- A text that is not empty starts with a character.
-some_begins : (bytes cs : List ℕ) → all_scalars cs ≡ true → encode_utf8_all cs ≡ bytes → 0 < length bytes → StartsWithNoChar bytes → ⊥
+pub some_begins : (bytes cs : List ℕ) → all_scalars cs ≡ true → encode_utf8_all cs ≡ bytes → 0 < length bytes → StartsWithNoChar bytes → ⊥
 some_begins bytes [] s e n none = omega (arith, n, ap (λ (bs : List ℕ). length bs) e)
 some_begins bytes (c ∷ cs) s e n none = none c (encode_utf8_all cs) (and_parts _ _ s).0 (sym e)
 

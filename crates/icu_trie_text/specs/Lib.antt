@@ -1,3 +1,5 @@
+pub mod Copied
+pub mod CopiedParts
 pub mod FirstCharacter
 pub mod Found
 pub mod Indices

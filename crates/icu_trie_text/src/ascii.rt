@@ -38,7 +38,7 @@ impl<'a, T: TrieValue> Model for AsciiInPlace<'a, T> {
 
 /// Returns 0x80 if the first two blocks of the trie are the first two blocks of the data, and
 /// otherwise 0. The code points below the result have their values at their own index in the data.
-fn ascii_end<T: TrieValue>(index: ZeroSlice<'_, u16>, values: ZeroSlice<'_, T>) -> u32
+pub(crate) fn ascii_end<T: TrieValue>(index: ZeroSlice<'_, u16>, values: ZeroSlice<'_, T>) -> u32
     ensures bound { result ≤ 0x80 }
     ensures first { 0 < result → slice_get (slice_values index.entry) 0 ≡ Some 0 }
     ensures second { 0 < result → slice_get (slice_values index.entry) 1 ≡ Some 64 }

@@ -85,7 +85,8 @@ pub(crate) fn of_four(bytes: &[u8]) -> Option<char>
 
 /// Returns true if these can be the upper ten bits of a three-byte character, which its first two
 /// bytes contain: they are not those of an overlong sequence or a surrogate.
-fn is_high_of_three(high: u32) -> bool
+#[inline(always)]
+pub(crate) fn is_high_of_three(high: u32) -> bool
     ensures { IsTrue result ↔ IsHighOfThree high }
 {
     0x20 <= high && (high < 0x360 || 0x380 <= high)
@@ -93,7 +94,8 @@ fn is_high_of_three(high: u32) -> bool
 
 /// Returns true if these can be the upper nine bits of a four-byte character, which its first two
 /// bytes contain: they are not those of an overlong sequence or a number above 0x10FFFF.
-fn is_high_of_four(high: u32) -> bool
+#[inline(always)]
+pub(crate) fn is_high_of_four(high: u32) -> bool
     ensures { IsTrue result ↔ IsHighOfFour high }
 {
     0x10 <= high && high < 0x110

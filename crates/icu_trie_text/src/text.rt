@@ -1,5 +1,7 @@
 //! Values of a trie along texts in UTF-8 and UTF-16.
 
+pub use crate::copy::copy_values;
+pub use crate::copy_parts::Copied;
 pub use crate::find::{find_value, span_of_values};
 pub use crate::found::Found;
 pub use crate::indices::{ValueIndicesOf, value_indices_of};

@@ -1,0 +1,36 @@
+use Rattle.std.proofs.Common.{◌≡◌, ℕ, ◌+◌, ◌*◌, ◌<◌, get_or, Some, arith}
+use Rattle.std.proofs.lemmas.Nat.{le_or_l, le_or_r}
+use Rattle.icu_trie_text.specs.Inside.Trails.{IsTrail}
+use Rattle.icu_trie_text.proofs.Utf8Parts.{three_found}
+use Rattle.icu_trie_text.proofs.copy_parts.near_three.Goals as goal
+
+pub near-requires-clause-place : goal.near-requires-clause-place
+near-requires-clause-place g c =
+    omega (arith, c.from-3.ensures, le_or_r c.trail_of-second.result c.trail_of-third.result, c.if-second-third-ge64.false)
+
+pub returns : goal.returns
+returns g c =
+    let a : ℕ = c.from.result in
+    let b : ℕ = c.from-2.result in
+    let d : ℕ = c.from-3.result in
+    let bytes = c.args.bytes.now in
+    let s : ℕ = c.trail_of-second.result in
+    let t : ℕ = c.trail_of-third.result in
+    let small : s < 64 = omega (arith, le_or_l s t, c.if-second-third-ge64.false) in
+    let small_too : t < 64 = omega (arith, le_or_r s t, c.if-second-third-ge64.false) in
+    let lead : get_or bytes 0 0 ≡ 224 + a = omega (arith, c.from.ensures, c.requires.from) in
+    let second : IsTrail bytes 1 b = record {
+      there = omega arith;
+      byte = omega (arith, c.from-2.ensures, c.trail_of-second.ensures small);
+      six = omega (arith, c.from-2.ensures, small);
+    } in
+    let third : IsTrail bytes 2 d = record {
+      there = omega arith;
+      byte = omega (arith, c.from-3.ensures, c.trail_of-third.ensures small_too);
+      six = omega (arith, c.from-3.ensures, small_too);
+    } in
+    let high = c.is_high_of_three.ensures.0 c.if-not-is_high_of_three.false in (
+      Some ((a * 64 + b) * 64 + d),
+      three_found bytes a b d lead (omega (arith, lead, c.requires.to)) second high third,
+      c.near.ensures,
+    )

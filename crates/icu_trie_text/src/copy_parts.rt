@@ -1,0 +1,327 @@
+//! The values of the parts of bytes that may be ill-formed UTF-8, written to a buffer.
+ghost use Rattle.std.specs.Prelude.{◌≡◌, ◌⊎◌, ℕ, ◌+◌, ◌*◌, ◌<◌, ◌≤◌, length, slice_get, slice_index, IfSome, Option, Some, None};
+ghost use Rattle.std.specs.Int.{w64, from_le_bytes};
+ghost use Rattle.std.specs.Option.{MatchOption};
+ghost use Rattle.std.specs.Str.{StartsWithNoChar};
+ghost use Rattle.icu_trie_text.specs.CopiedParts.{AreCopiedParts, HasCopiedParts, HasFirstValue};
+ghost use Rattle.icu_trie_text.specs.Utf8.{IsFirstPart};
+
+use crate::first_utf8::{
+    ill_formed_size, is_high_of_four, is_high_of_three, of_four, of_three, of_two,
+};
+
+/// How many values a function copied to a buffer, and how many bytes of the text they stand for.
+#[derive(Clone, Copy, Debug)]
+pub struct Copied {
+    /// The number of values at the start of the buffer.
+    pub values: usize,
+    /// The number of bytes at the start of the text whose values these are.
+    pub bytes: usize,
+}
+
+/// The values of characters and of ill-formed parts, for [`copy_parts`].
+///
+/// Public for the crates that build on this one.
+pub trait PartValues<T> {
+    /// The value of a character, or for `None` that of an ill-formed part.
+    ghost gives: { Self → Option ℕ → Option T };
+
+    /// The code points below it are ASCII, and take a single read.
+    ghost end_of_ascii: { Self → ℕ };
+
+    /// The first so many blocks of 64 code points take two reads.
+    ghost near_blocks: { Self → ℕ };
+
+    /// Returns the number up to which [`ascii`](Self::ascii) has the values: 0x80 or 0.
+    fn ascii_end(&self) -> u8
+        ensures end { result ≡ end_of_ascii self.now }
+        ensures bound { result ≤ 0x80 };
+
+    /// Returns the number of blocks of 64 code points whose values [`near`](Self::near) has.
+    fn blocks(&self) -> u32
+        ensures { result ≡ near_blocks self.now };
+
+    /// Returns the value of an ASCII code point.
+    fn ascii(&self, c: u8) -> T
+        requires { c < end_of_ascii self.now }
+        ensures { gives self.now (Some c) ≡ Some result };
+
+    /// Returns the value of the code point at a position in a block of 64 code points.
+    fn near(&self, block: u32, place: u32) -> T
+        requires block { block < near_blocks self.now }
+        requires place { place < 64 }
+        ensures { gives self.now (Some (block * 64 + place)) ≡ Some result };
+
+    /// Returns the value of any code point.
+    fn far(&self, c: u32) -> T
+        ensures { gives self.now (Some c) ≡ Some result };
+
+    /// Returns the value of an ill-formed part.
+    fn error(&self) -> T
+        ensures { gives self.now None ≡ Some result };
+}
+
+/// How many bytes have to be left for a step that writes eight values at once. The values after the
+/// ASCII ones are overwritten later: what is left has at least eight parts.
+const BYTES_AHEAD: usize = 32;
+
+/// How much of the buffer has to be left: such a step may write one more value.
+const ROOM_AHEAD: usize = 9;
+
+/// The highest bit of each of eight bytes.
+const HIGH_BITS: u64 = 0x8080_8080_8080_8080;
+
+/// The first eight bytes as a number, the first byte lowest. It is a single read.
+#[inline(always)]
+fn word_of(bytes: &[u8]) -> u64
+    requires { 8 ≤ length bytes.now }
+    ensures { result ≡ from_le_bytes w64 bytes.now }
+{
+    u64::from_le_bytes([
+        bytes[0], bytes[1], bytes[2], bytes[3], bytes[4], bytes[5], bytes[6], bytes[7],
+    ])
+}
+
+/// Returns how many of the first eight bytes are ASCII before one that is not.
+#[inline(always)]
+fn ascii_count(bytes: &[u8]) -> usize
+    requires { 8 ≤ length bytes.now }
+    ensures bound { result ≤ 8 }
+    ensures ascii { (k : ℕ) → k < result → slice_index bytes.now k < 0x80 }
+{
+    let high = word_of(bytes) & HIGH_BITS;
+    if high == 0 {
+        return 8;
+    }
+    high.trailing_zeros() as usize / 8
+}
+
+/// Writes eight values from index `j` on: those of the first eight bytes, where these are ASCII.
+#[inline(always)]
+fn put_eight<T: Copy, V: PartValues<T>>(trie: &V, bytes: &[u8], values: &mut [T], j: usize)
+    requires ascii { V.end_of_ascii trie.now ≡ 0x80 }
+    requires bytes { 8 ≤ length bytes.now }
+    requires room { j + 8 ≤ length values.old }
+    ensures put { (k : ℕ) → k < 8 → slice_index bytes.now k < 0x80
+        → V.gives trie.now (Some (slice_index bytes.now k)) ≡ slice_get values.new (j + k) }
+    ensures kept { (k : ℕ) → (k < j) ⊎ (j + 8 ≤ k)
+        → slice_get values.new k ≡ slice_get values.old k }
+{
+    for k in 0..8 {
+        values[j + k] = trie.ascii(bytes[k] & 0x7F);
+    }
+}
+
+/// Returns the character at the start of the bytes, which are not empty, and its size in bytes.
+/// `None` if they do not start with a character.
+#[inline(always)]
+fn first_character(bytes: &[u8]) -> Option<(u32, usize)>
+    requires { 0 < length bytes.now }
+    ensures { MatchOption result (StartsWithNoChar bytes.now)
+        (λ found. IsFirstPart bytes.now (Some found.0) found.1) }
+{
+    let lead = bytes[0];
+    if lead < 0xE0 {
+        if lead < 0x80 {
+            return Some((u32::from(lead), 1));
+        }
+        if lead < 0xC2 {
+            return None;
+        }
+        Some((u32::from(of_two(bytes)?), 2))
+    } else if lead < 0xF0 {
+        Some((u32::from(of_three(bytes)?), 3))
+    } else {
+        Some((u32::from(of_four(bytes)?), 4))
+    }
+}
+
+/// Returns the value of the first part of the bytes, which are not empty, and its size in bytes.
+#[inline(never)]
+fn first_value<T, V: PartValues<T>>(trie: &V, bytes: &[u8]) -> (T, usize)
+    requires { 0 < length bytes.now }
+    ensures { HasFirstValue (V.gives trie.now) bytes.now result.0 result.1 }
+{
+    match first_character(bytes) {
+        Some((c, size)) => (trie.far(c), size),
+        None => (trie.error(), ill_formed_size(bytes)),
+    }
+}
+
+/// Returns the six bits of a trail byte. For any other byte it returns 64 or more.
+#[inline(always)]
+fn trail_of(byte: u8) -> u8
+    ensures { result < 64 → byte ≡ 0x80 + result }
+{
+    byte.wrapping_sub(0x80)
+}
+
+/// Returns the value of the two-byte character at the start of the bytes. `None` if there is none.
+#[inline(always)]
+fn near_two<T, V: PartValues<T>>(trie: &V, bytes: &[u8]) -> Option<T>
+    requires bytes { 2 ≤ length bytes.now }
+    requires from { 0xC2 ≤ slice_index bytes.now 0 }
+    requires to { slice_index bytes.now 0 < 0xE0 }
+    requires blocks { 0x20 ≤ V.near_blocks trie.now }
+    ensures { IfSome result (λ x. HasFirstValue (V.gives trie.now) bytes.now x 2) }
+{
+    let second = trail_of(bytes[1]);
+    if second >= 0x40 {
+        return None;
+    }
+    Some(trie.near(u32::from(bytes[0] - 0xC0), u32::from(second)))
+}
+
+/// Returns the value of the three-byte character at the start of the bytes, in two reads.
+/// `None` if there is none, or if its value takes more reads.
+#[inline(always)]
+fn near_three<T, V: PartValues<T>>(trie: &V, bytes: &[u8]) -> Option<T>
+    requires bytes { 3 ≤ length bytes.now }
+    requires from { 0xE0 ≤ slice_index bytes.now 0 }
+    requires to { slice_index bytes.now 0 < 0xF0 }
+    ensures { IfSome result (λ x. HasFirstValue (V.gives trie.now) bytes.now x 3) }
+{
+    let second = trail_of(bytes[1]);
+    let third = trail_of(bytes[2]);
+    if second | third >= 0x40 {
+        return None;
+    }
+    let block = u32::from(bytes[0] - 0xE0) * 64 + u32::from(second);
+    if !is_high_of_three(block) {
+        return None;
+    }
+    if block >= trie.blocks() {
+        return None;
+    }
+    Some(trie.near(block, u32::from(third)))
+}
+
+/// Returns the value of the four-byte character at the start of the bytes. `None` if there is none.
+#[inline(always)]
+fn near_four<T, V: PartValues<T>>(trie: &V, bytes: &[u8]) -> Option<T>
+    requires bytes { 4 ≤ length bytes.now }
+    requires from { 0xF0 ≤ slice_index bytes.now 0 }
+    ensures { IfSome result (λ x. HasFirstValue (V.gives trie.now) bytes.now x 4) }
+{
+    let second = trail_of(bytes[1]);
+    let third = trail_of(bytes[2]);
+    let fourth = trail_of(bytes[3]);
+    if second | third | fourth >= 0x40 {
+        return None;
+    }
+    let high = u32::from(bytes[0] - 0xF0) * 64 + u32::from(second);
+    if !is_high_of_four(high) {
+        return None;
+    }
+    Some(trie.far(high * 4096 + u32::from(third) * 64 + u32::from(fourth)))
+}
+
+/// Returns the value of the first part of the bytes, and its size in bytes. There are at least four
+/// bytes. Each size of a character has its own look-up.
+#[inline(always)]
+fn near_value<T, V: PartValues<T>>(trie: &V, bytes: &[u8]) -> (T, usize)
+    requires bytes { 4 ≤ length bytes.now }
+    requires blocks { 0x20 ≤ V.near_blocks trie.now }
+    ensures { HasFirstValue (V.gives trie.now) bytes.now result.0 result.1 }
+{
+    let lead = bytes[0];
+    if lead >= 0xF0 {
+        if let Some(value) = near_four(trie, bytes) {
+            return (value, 4);
+        }
+    } else if lead >= 0xE0 {
+        if let Some(value) = near_three(trie, bytes) {
+            return (value, 3);
+        }
+    } else if lead >= 0xC2 {
+        if let Some(value) = near_two(trie, bytes) {
+            return (value, 2);
+        }
+    }
+    first_value(trie, bytes)
+}
+
+/// Writes the values of the first parts of the bytes, as long as many bytes and much of the buffer
+/// are left. If the next byte is ASCII, a step writes the values of eight bytes without a test of
+/// each.
+#[inline(always)]
+fn copy_front<T: Copy, V: PartValues<T>>(trie: &V, bytes: &[u8], values: &mut [T]) -> Copied
+    requires ascii { V.end_of_ascii trie.now ≡ 0x80 }
+    requires blocks { 0x20 ≤ V.near_blocks trie.now }
+    ensures { AreCopiedParts (V.gives trie.now) bytes.now values.old values.new
+        result.bytes result.values }
+{
+    let mut i = 0;
+    let mut j = 0;
+    while bytes.len() - i >= BYTES_AHEAD && values.len() - j >= ROOM_AHEAD {
+        if bytes[i] < 0x80 {
+            let count = ascii_count(&bytes[i..]);
+            put_eight(trie, &bytes[i..], values, j);
+            if count == 8 {
+                i += 8;
+                j += 8;
+                continue;
+            }
+            i += count;
+            j += count;
+        }
+        let (value, size) = near_value(trie, &bytes[i..]);
+        values[j] = value;
+        i += size;
+        j += 1;
+    }
+    Copied {
+        values: j,
+        bytes: i,
+    }
+}
+
+/// Writes the values of the parts of the bytes that are left to the rest of the buffer.
+#[inline(always)]
+fn copy_rest<T: Copy, V: PartValues<T>>(
+    trie: &V,
+    bytes: &[u8],
+    values: &mut [T],
+    front: Copied,
+) -> Copied
+    ensures { (old : _) → AreCopiedParts (V.gives trie.now) bytes.now old values.old front.bytes
+        front.values
+        → HasCopiedParts (V.gives trie.now) bytes.now old values.new result }
+{
+    let mut i = front.bytes;
+    let mut j = front.values;
+    while i < bytes.len() && j < values.len() {
+        let lead = bytes[i];
+        if lead < trie.ascii_end() {
+            values[j] = trie.ascii(lead);
+            i += 1;
+        } else {
+            let (value, size) = first_value(trie, &bytes[i..]);
+            values[j] = value;
+            i += size;
+        }
+        j += 1;
+    }
+    Copied {
+        values: j,
+        bytes: i,
+    }
+}
+
+/// Writes the values of the parts of the bytes to the start of the buffer, as many as fit. Returns
+/// how many these are, and how many bytes the parts take. The rest of the buffer is unchanged.
+///
+/// Public for the crates that build on this one.
+#[inline(always)]
+pub fn copy_parts<T: Copy, V: PartValues<T>>(trie: &V, bytes: &[u8], values: &mut [T]) -> Copied
+    ensures { HasCopiedParts (V.gives trie.now) bytes.now values.old values.new result }
+{
+    let mut front = Copied {
+        values: 0,
+        bytes: 0,
+    };
+    if trie.ascii_end() == 0x80 && trie.blocks() >= 0x20 {
+        front = copy_front(trie, bytes, values);
+    }
+    copy_rest(trie, bytes, values, front)
+}
