@@ -6,6 +6,8 @@ pub use Rattle.icu_trie_text.proofs.ValueLemmas.{values_of_drained}
 pub use Rattle.icu_trie_text.proofs.IndexLemmas.{indices_of_drained}
 -- The parts of bytes, each with its value. Those of a text are its characters.
 pub use Rattle.icu_trie_text.proofs.Utf8ValueLemmas.{values_of_bytes_drained, values_of_text}
+-- Two characters at the end of the same bytes are the same.
+pub use Rattle.icu_trie_text.proofs.CharacterLemmas.{last_same}
 -- There are no more code points than units.
 pub use Rattle.icu_trie_text.proofs.Utf16Lemmas.{length-code_points}
 -- The first part of a text is its first character.

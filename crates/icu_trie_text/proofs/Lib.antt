@@ -1,5 +1,6 @@
 pub mod AsciiLemmas
 pub mod CallerLemmas
+pub mod CharacterLemmas
 pub mod CopiedItems
 pub mod CopiedLemmas
 pub mod FoundLemmas

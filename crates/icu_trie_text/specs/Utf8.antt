@@ -1,7 +1,7 @@
 -- The parts of bytes that may be ill-formed UTF-8: characters, and the maximal subparts of
 -- ill-formed sequences, each of which becomes one U+FFFD (the Unicode Standard, section 3.9: D93b
 -- and "U+FFFD Substitution of Maximal Subparts"; WHATWG's decoder uses the same parts).
-use Rattle.std.specs.Prelude.{◌≡◌, ℕ, ◌<◌, ◌≤◌, List, ◌++◌, length, take, drop, Option, Some, None, encode_utf8}
+use Rattle.std.specs.Prelude.{◌≡◌, ◌≢◌, ℕ, ◌-◌, ◌<◌, ◌≤◌, List, ◌++◌, length, take, drop, Option, Some, None, encode_utf8}
 use Rattle.std.specs.Char.{IsScalar, len_utf8}
 use Rattle.std.specs.Str.{StartsWithNoChar}
 
@@ -23,3 +23,14 @@ abbrev pub IsFirstPart : List ℕ → Option ℕ → ℕ → Type 0
 IsFirstPart bytes (Some c) size =
     IsScalar c × (size ≡ len_utf8 c) × (bytes ≡ encode_utf8 c ++ drop size bytes)
 IsFirstPart bytes None size = IsIllFormedPart bytes size
+
+-- No suffix of the bytes is a character.
+abbrev pub EndsWithNoChar : List ℕ → Type 0
+EndsWithNoChar bytes = (c : ℕ) (front : List ℕ) → IsScalar c → bytes ≢ front ++ encode_utf8 c
+
+-- The last `size` bytes are those of the character.
+pub record IsLastCharacter (bytes : List ℕ) (c size : ℕ) : Type 0 where
+  pub scalar : IsScalar c
+  pub size_is : size ≡ len_utf8 c
+  pub within : size ≤ length bytes
+  pub bytes_are : bytes ≡ take (length bytes - size) bytes ++ encode_utf8 c

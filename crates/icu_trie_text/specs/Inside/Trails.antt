@@ -21,3 +21,13 @@ IsHighOfThree high = (0x20 ≤ high) × ((high < 0x360) ⊎ (0x380 ≤ high))
 -- they are not those of an overlong sequence or a number above 0x10FFFF.
 abbrev pub IsHighOfFour : ℕ → Type 0
 IsHighOfFour high = (0x10 ≤ high) × (high < 0x110)
+
+-- The bytes after the index, three at most, are trail bytes. The byte at the index is none, unless
+-- it is the first byte of all or three follow it.
+pub record IsLastLead (bytes : List ℕ) (start : ℕ) : Type 0 where
+  pub within : start < length bytes
+  pub near : length bytes ≤ start + 4
+  pub trails : (i : ℕ) → start < i → i < length bytes
+      → (0x80 ≤ slice_index bytes i) × (slice_index bytes i < 0xC0)
+  pub lead : (start ≡ 0) ⊎ (length bytes ≡ start + 4)
+      ⊎ (slice_index bytes start < 0x80) ⊎ (0xC0 ≤ slice_index bytes start)
