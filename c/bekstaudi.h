@@ -113,6 +113,12 @@ typedef struct bks_range {
     bool found;                       /* false if there is no range; the other fields are then 0 */
 } bks_range;
 
+/* The code points from `first` to `last`, both included. There are none if first > last. */
+typedef struct bks_interval {
+    uint32_t first;
+    uint32_t last;
+} bks_interval;
+
 /* The type of a trie that is built. ICU: UCPTrieType. */
 enum bks_type {
     BKS_FAST = 0,   /* look-ups below 0x10000 take two reads */
@@ -283,6 +289,32 @@ int64_t bks_set_difference(const uint32_t *a, size_t a_count, const uint32_t *b,
                            uint32_t *ends, size_t room);
 int64_t bks_set_symmetric_difference(const uint32_t *a, size_t a_count, const uint32_t *b,
                                      size_t b_count, uint32_t *ends, size_t room);
+
+/* [m] Writes the boundaries of the set of all code points in these ranges, or of these code points,
+ * into `ends`, as many as fit. They may be in any order, and may overlap or repeat. Numbers above
+ * 0x10FFFF are ignored. Returns how many boundaries there are, never more than 2 * count, or
+ * BKS_NO_MEMORY. Takes O(n log n) time. ICU: uset_addRange for each range, uset_add for each code
+ * point. */
+int64_t bks_set_from_ranges(const bks_interval *ranges, size_t count, uint32_t *ends, size_t room);
+int64_t bks_set_from_points(const uint32_t *points, size_t count, uint32_t *ends, size_t room);
+
+/* Writes the boundaries of the complement of a set into `complement`, as many as fit: all code
+ * points that are not in the set. Returns how many there are, never more than count + 2, or
+ * BKS_NO_SET. ICU: uset_complement. */
+int64_t bks_set_complement(const uint32_t *ends, size_t count, uint32_t *complement, size_t room);
+
+/* Returns whether the first set contains all code points of the second one. Takes linear time.
+ * Unspecified (but memory-safe) if bks_set_test returns false for one of them.
+ * ICU: uset_containsAll. */
+bool bks_set_contains_all(const uint32_t *a, size_t a_count, const uint32_t *b, size_t b_count);
+
+/* The code points of a set have indices in ascending order, from 0 on. bks_set_index_of returns
+ * true and stores the index of c in *index if the set contains c. bks_set_nth returns true and
+ * stores the code point at index n in *c if the set has more than n code points. Otherwise they
+ * return false, and *index or *c is unchanged. Both take linear time. What they return and store is
+ * unspecified (but memory-safe) if bks_set_test returns false. ICU: uset_indexOf, uset_charAt. */
+bool bks_set_index_of(const uint32_t *ends, size_t count, uint32_t c, uint32_t *index);
+bool bks_set_nth(const uint32_t *ends, size_t count, uint32_t n, uint32_t *c);
 
 /* [m] Freezes a set, for many look-ups of two reads each. Returns how many 64-bit words the frozen
  * set takes, at most BKS_FROZEN_MOST, or BKS_NO_MEMORY or BKS_NO_SET. The words are in `table` if

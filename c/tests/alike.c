@@ -151,6 +151,26 @@ static void tries(const library *l, const uint8_t *bytes, size_t size) {
     put(ends, sizeof ends);
 }
 
+static void made_sets(const library *l, const uint32_t *a, size_t n, const uint32_t *b, size_t m) {
+    static bks_interval ranges[80];
+    static uint32_t points[80], ends[300];
+    size_t count = any(9) ? any(80) : 0, room = any(9) ? any(300) : 0;
+    for (size_t i = 0; i < count; i++) {
+        points[i] = ranges[i].first = point();
+        ranges[i].last = any(9) ? points[i] + (uint32_t)any(any(2) ? 20 : 0x20000) : point();
+    }
+#define MAKE(name, items, count)                                                         \
+    FILLED(ends), PUT(ASK(name, SLICE(items, count), SLICE(ends, room))), put(ends, sizeof ends)
+    MAKE(bks_set_from_ranges, ranges, count), MAKE(bks_set_from_points, points, count);
+    MAKE(bks_set_complement, a, n);
+    PUT(ASK(bks_set_contains_all, SLICE(a, n), SLICE(b, m)));
+    for (int i = 0; i < 20; i++) {
+        uint32_t found = 77;
+        PUT(ASK(bks_set_index_of, SLICE(a, n), point(), &found)), PUT(found);
+        PUT(ASK(bks_set_nth, SLICE(a, n), any(5) ? (uint32_t)any(3000) : point(), &found)), PUT(found);
+    }
+}
+
 static void sets(const library *l) {
     static uint32_t a[256], b[256], ends[600];
     static uint64_t table[BKS_FROZEN_MOST + 8];
@@ -165,6 +185,7 @@ static void sets(const library *l) {
     FILLED(ends), PUT(ASK(name, SLICE(a, n), SLICE(b, m), SLICE(ends, room))), put(ends, sizeof ends)
     JOIN(bks_set_union), JOIN(bks_set_intersection);
     JOIN(bks_set_difference), JOIN(bks_set_symmetric_difference);
+    made_sets(l, a, n, b, m);
     FILLED(table), room = any(4) ? BKS_FROZEN_MOST : any(5) ? any(3000) : 0;
     PUT(ASK(bks_set_freeze, SLICE(a, n), SLICE(table, room)));
     put(table, sizeof table);

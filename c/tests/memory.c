@@ -49,6 +49,11 @@ static int64_t both(void) { return bks_set_intersection(a, 6, b, 4, ends, 4096);
 static int64_t either(void) { return bks_set_union(a, 6, b, 4, ends, 4096); }
 static int64_t without(void) { return bks_set_difference(a, 6, b, 4, ends, 4096); }
 static int64_t one_of(void) { return bks_set_symmetric_difference(a, 6, b, 4, ends, 4096); }
+static int64_t of_ranges(void) {
+    static const bks_interval ranges[] = {{90, 99}, {5, 9}, {20, 30}, {4, 6}, {0x4E00, 0x9FFF}};
+    return bks_set_from_ranges(ranges, 5, ends, 4096);
+}
+static int64_t of_points(void) { return bks_set_from_points(b, 4, ends, 4096); }
 static int64_t frozen(void) { return bks_set_freeze(a, 6, (uint64_t *)(void *)ends, 2048); }
 static int64_t built(void) {
     static const bks_row rows[] = {{0x41, 0x5A, 1}, {0x4E00, 0x9FFF, 2}, {0x61, 0x20000, 3}};
@@ -90,7 +95,7 @@ static long refused_in_turn(call tried) {
 
 int main(int count, char **words) {
     static const call calls[] = {set_of, set_of_none, size, span, both, either, without, one_of,
-                                 frozen, built,       units_built, counted, listed};
+                                 of_ranges, of_points, frozen, built, units_built, counted, listed};
     long made = 0;
     for (int i = 1; i < count; i++) {
         size_t bytes;

@@ -31,6 +31,12 @@ static void empty_sets(void) {
     CHECK(bks_set_intersection(NULL, 0, letters, 2, NULL, 0) == 0);
     CHECK(bks_set_difference(letters, 2, NULL, 0, NULL, 0) == 2);
     CHECK(bks_set_symmetric_difference(NULL, 0, NULL, 0, NULL, 0) == 0);
+    CHECK(bks_set_from_ranges(NULL, 0, NULL, 0) == 0 && bks_set_from_points(NULL, 0, NULL, 0) == 0);
+    CHECK(bks_set_from_points(letters, 2, NULL, 0) == 4 && bks_set_complement(NULL, 0, NULL, 0) == 2);
+    CHECK(bks_set_complement(NULL, 0, ends, 4) == 2 && ends[0] == 0 && ends[1] == CODE_POINTS);
+    CHECK(bks_set_contains_all(NULL, 0, NULL, 0) && bks_set_contains_all(letters, 2, NULL, 0));
+    CHECK(!bks_set_contains_all(NULL, 0, letters, 2) && !bks_set_index_of(NULL, 0, 0, ends));
+    CHECK(!bks_set_nth(NULL, 0, 0, ends) && ends[0] == 0);
     CHECK(bks_set_freeze(NULL, 0, NULL, 0) == bks_set_freeze(none, 0, &word, 1));
     CHECK(!bks_frozen_contains(NULL, 0, 0x41) && bks_frozen_span(NULL, 0, NULL, 0, true) == 0);
 }

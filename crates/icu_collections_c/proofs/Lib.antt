@@ -11,5 +11,7 @@ mod OpeningLemmas
 mod RangeLemmas
 mod RunLemmas
 mod SetLemmas
+mod SetMakingLemmas
+mod SetPlaceLemmas
 mod UnitLemmas
 mod UnitBuildingLemmas

@@ -7,6 +7,8 @@ pub mod Inside
 pub mod Listing
 pub mod Opening
 pub mod Ranges
+pub mod SetBuilding
+pub mod SetQueries
 pub mod Status
 pub mod UnitBuilding
 pub mod UnitTries

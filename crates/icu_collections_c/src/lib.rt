@@ -13,6 +13,8 @@
 //! - `value_sets`: the set of the code points with a value
 //! - `sets`: sets as lists of their boundaries, and queries of them
 //! - `set_operations`: sets made from two sets
+//! - `set_building`: sets made from ranges, from single code points or from another set
+//! - `set_queries`: subsets, and the code points of a set by their index
 //! - `frozen`: frozen sets in words, and look-ups in them
 //! - `unit_tries`: look-ups in unit tries; `units`: helpers of them
 //! - `unit_building`: builds unit tries from entries; `listing`: lists the entries of a unit trie
@@ -30,7 +32,9 @@ pub mod frozen;
 pub mod listing;
 pub mod opening;
 pub mod ranges;
+pub mod set_building;
 pub mod set_operations;
+pub mod set_queries;
 pub mod sets;
 pub mod status;
 pub mod texts;
