@@ -9,7 +9,6 @@
 
 #include "bekstaudi.h"
 
-#include <algorithm>
 #include <cstddef>
 #include <cstdint>
 #include <functional>
@@ -129,6 +128,7 @@ std::vector<std::uint32_t> ends_of(std::size_t room, Call call) {
         answered(call(ends.data(), ends.size()));
     }
     ends.resize(count);
+    if (count < room / 4) ends.shrink_to_fit();
     return ends;
 }
 
@@ -151,40 +151,25 @@ public:
         : code_point_set(view<std::uint32_t>(ends.begin(), ends.size())) {}
 
     // The code points from `first` to `last`, both included.
-    struct range {
-        std::uint32_t first, last;
-    };
+    using range = bks_interval;
 
     // Makes the set of all code points in these ranges, which may be in any order and may overlap.
     // A range whose first code point is above its last one has none, and code points above 0x10FFFF
     // are left out. Takes O(n log n) time (ICU: uset_addRange, range by range).
-    static code_point_set from_ranges(std::vector<range> ranges) {
-        auto by_first = [](const range &a, const range &b) { return a.first < b.first; };
-        if (!std::is_sorted(ranges.begin(), ranges.end(), by_first))
-            std::sort(ranges.begin(), ranges.end(), by_first);
-        code_point_set set;
-        for (const range &it : ranges) {
-            if (it.first > it.last || it.first > 0x10FFFF) continue;
-            std::uint32_t end = it.last < 0x10FFFF ? it.last + 1 : 0x110000;
-            if (!set.ends_.empty() && it.first <= set.ends_.back()) {
-                if (set.ends_.back() < end) set.ends_.back() = end;
-            } else {
-                set.ends_.push_back(it.first);
-                set.ends_.push_back(end);
-            }
-        }
-        return set;
+    static code_point_set from_ranges(const std::vector<range> &ranges) {
+        return made(2 * ranges.size(), [&](std::uint32_t *ends, std::size_t room) {
+            return bks_set_from_ranges(ranges.data(), ranges.size(), ends, room);
+        });
     }
 
     // Makes the set of these code points, in any order. Those above 0x10FFFF are left out.
     template <class Points>
     static code_point_set from_points(const Points &points) {
-        std::vector<range> ranges;
-        for (auto c : points) {
-            auto point = static_cast<std::uint32_t>(c);
-            ranges.push_back({point, point});
-        }
-        return from_ranges(std::move(ranges));
+        std::vector<std::uint32_t> all;
+        for (auto c : points) all.push_back(static_cast<std::uint32_t>(c));
+        return made(2 * all.size(), [&](std::uint32_t *ends, std::size_t room) {
+            return bks_set_from_points(all.data(), all.size(), ends, room);
+        });
     }
 
     const std::vector<std::uint32_t> &ends() const noexcept { return ends_; }
@@ -257,27 +242,26 @@ public:
 
     // Returns the code point at this index, if the set has that many (ICU: uset_charAt).
     std::optional<std::uint32_t> nth(std::size_t index) const noexcept {
-        for (std::size_t i = 0; i < ends_.size(); i += 2) {
-            std::size_t size = ends_[i + 1] - ends_[i];
-            if (index < size) return ends_[i] + static_cast<std::uint32_t>(index);
-            index -= size;
-        }
-        return std::nullopt;
+        std::uint32_t c = 0;
+        if (index > 0x10FFFF) return std::nullopt;
+        auto n = static_cast<std::uint32_t>(index);
+        if (!bks_set_nth(of().data(), ends_.size(), n, &c)) return std::nullopt;
+        return c;
     }
 
     // Returns the index of a code point among those of the set, if it is in the set (ICU:
     // uset_indexOf).
     std::optional<std::size_t> index_of(std::uint32_t c) const noexcept {
-        std::size_t before = 0;
-        for (std::size_t i = 0; i < ends_.size() && ends_[i] <= c; i += 2) {
-            if (c < ends_[i + 1]) return before + (c - ends_[i]);
-            before += ends_[i + 1] - ends_[i];
-        }
-        return std::nullopt;
+        std::uint32_t index = 0;
+        if (!bks_set_index_of(of().data(), ends_.size(), c, &index)) return std::nullopt;
+        return index;
     }
 
     // Returns whether the set contains all code points of another one (ICU: uset_containsAll).
-    bool contains_all(const code_point_set &other) const { return (other - *this).empty(); }
+    bool contains_all(const code_point_set &other) const noexcept {
+        return bks_set_contains_all(of().data(), ends_.size(), other.of().data(),
+                                    other.ends_.size());
+    }
 
     bool contains(std::uint32_t c) const noexcept {
         return bks_set_contains(of().data(), ends_.size(), c);
@@ -310,7 +294,11 @@ public:
         return made(bks_set_symmetric_difference, a, b);
     }
     // Returns the code points that are not in the set (ICU: uset_complement).
-    code_point_set operator~() const { return *this ^ code_point_set{0, 0x110000}; }
+    code_point_set operator~() const {
+        return made(ends_.size() + 2, [&](std::uint32_t *ends, std::size_t room) {
+            return bks_set_complement(of().data(), ends_.size(), ends, room);
+        });
+    }
 
     code_point_set &operator|=(const code_point_set &other) { return *this = *this | other; }
     code_point_set &operator&=(const code_point_set &other) { return *this = *this & other; }
@@ -337,12 +325,17 @@ private:
     template <class Operation>
     static code_point_set made(Operation operation, const code_point_set &a,
                                const code_point_set &b) {
-        code_point_set set;
-        auto call = [&](std::uint32_t *ends, std::size_t room) {
+        return made(a.ends_.size() + b.ends_.size(), [&](std::uint32_t *ends, std::size_t room) {
             return operation(a.of().data(), a.ends_.size(), b.of().data(), b.ends_.size(), ends,
                              room);
-        };
-        set.ends_ = detail::ends_of(a.ends_.size() + b.ends_.size(), call);
+        });
+    }
+
+    // The set whose boundaries a call writes, at most `room` of them.
+    template <class Call>
+    static code_point_set made(std::size_t room, Call call) {
+        code_point_set set;
+        set.ends_ = detail::ends_of(room, call);
         return set;
     }
 
