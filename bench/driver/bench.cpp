@@ -26,7 +26,7 @@ static const char *const kernels[] = {"get_u8",         "get_u16",            "g
                                       "c16_longest",    "c16_build",          "packed_read",
                                       "packed_search",  "c_get_u8",           "c_text_u8",
                                       "c_range_u8",     "c_ranges_u8",        "c_setfor_u8",
-                                      "c_build_u8",     "range_u8"};
+                                      "c_build_u8",     "c_set_from_points",  "range_u8"};
 
 enum { LEAST_ROUNDS = 5, MOST_ROUNDS = 400 };
 // A row takes about this many seconds.

@@ -1,5 +1,5 @@
 // This repository's C functions compared with ICU: inline look-ups, the values of a text at once,
-// the ranges of a trie, the set of a value, and a build into a buffer.
+// the ranges of a trie, the set of a value, a build into a buffer, and the set of scattered points.
 #include "../../c/bekstaudi.h"
 #include "icu_trie.hpp"
 #include <algorithm>
@@ -9,7 +9,7 @@
 using std::string;
 using std::vector;
 
-enum { POINTS = 4096, TURNS = 12, CHARACTERS = 4096, RANGES = 256, ROOM = 1 << 20 };
+enum { POINTS = 4096, TURNS = 12, CHARACTERS = 4096, RANGES = 256, ROOM = 1 << 20, SCATTERED = 50000 };
 
 // A trie that ICU built, in its binary form, and opened by the C library.
 struct Opened {
@@ -152,6 +152,23 @@ static void build(const Table &table, bool is_fast) {
         });
 }
 
+// The set of many code points in no order.
+static void set_from_points() {
+    vector<uint32_t> points(SCATTERED), ends(2 * SCATTERED);
+    for (uint32_t &c : points) c = random_number(0x110000);
+    row(
+        "c_set_from_points", std::to_string(SCATTERED), SCATTERED,
+        [&] { return bks_set_from_points(points.data(), SCATTERED, ends.data(), ends.size()); },
+        nullptr,
+        [&] {
+            USet *set = uset_openEmpty();
+            for (uint32_t c : points) uset_add(set, UChar32(c));
+            const uint64_t count = 2 * uset_getRangeCount(set);
+            uset_close(set);
+            return count;
+        });
+}
+
 void c_calls() {
     for (const Table &table : tables()) {
         if (table.greatest > 0xFF) continue;
@@ -172,4 +189,5 @@ void c_calls() {
         if (wanted("c_build_u8"))
             for (bool is_fast : {true, false}) build(table, is_fast);
     }
+    if (wanted("c_set_from_points")) set_from_points();
 }
