@@ -188,13 +188,27 @@ size_t bks_trie32_get_many(const bks_trie *trie, const uint32_t *points, size_t 
                            uint32_t *values, size_t room);
 
 /* Writes the values of the characters of a UTF-8 text, in order, as many as fit. Returns how many
- * characters there are, never more than `size`; or BKS_NO_TEXT. */
+ * characters there are, never more than `size`; or BKS_NO_TEXT, and the buffer is unchanged. If
+ * only some bytes of a text may be ill-formed, bks_trie8_copy_utf8 goes on after them. */
 int64_t bks_trie8_get_utf8(const bks_trie *trie, const char *text, size_t size, uint8_t *values,
                            size_t room);
 int64_t bks_trie16_get_utf8(const bks_trie *trie, const char *text, size_t size, uint16_t *values,
                             size_t room);
 int64_t bks_trie32_get_utf8(const bks_trie *trie, const char *text, size_t size, uint32_t *values,
                             size_t room);
+
+/* Writes the values of the characters of bytes that may be ill-formed UTF-8, in order, as many as
+ * fit. An ill-formed part gets the error value: each part that the Unicode Standard replaces by one
+ * U+FFFD (U+FFFD Substitution of Maximal Subparts). Returns how many values it wrote, and stores in
+ * *taken how many bytes they stand for; it stops where the buffer or the text ends. So a long text
+ * goes piece by piece: call it again with what follows these bytes. The fastest way to the values
+ * of a text. ICU: UCPTRIE_FAST_U8_NEXT in a loop. */
+size_t bks_trie8_copy_utf8(const bks_trie *trie, const char *text, size_t size, uint8_t *values,
+                           size_t room, size_t *taken);
+size_t bks_trie16_copy_utf8(const bks_trie *trie, const char *text, size_t size, uint16_t *values,
+                            size_t room, size_t *taken);
+size_t bks_trie32_copy_utf8(const bks_trie *trie, const char *text, size_t size, uint32_t *values,
+                            size_t room, size_t *taken);
 
 /* Writes the values of the code points of 16-bit units, in order, as many as fit. Returns how many
  * code points there are, never more than `count`. A high surrogate and the low surrogate after it

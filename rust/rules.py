@@ -44,7 +44,7 @@ INSIDE = (
     " CodePointInversionList::from_valid_slice look_up_far look_up_fast look_up_high"
     " look_up_small look_up_whole NumberMap::set_range NumberMap::repeats NumberMap::copy_block"
     " NumberMap::get NumberMap::find_other CellStore::new CellStore::find CellStore::place build_index"
-).split()
+).split() + ["trait PartValues::ascii", "trait PartValues::near"]
 # Functions whose `requires` need not hold: an iterator without an end runs until an allocation
 # fails, and a closure that does not return does not return here either.
 HARMLESS = (
@@ -149,18 +149,6 @@ CONST = {
     "icu_invlist/codepointinvlist/builder": "new",
     "icu_invlist/codepointinvlist/cpinvlist": "all bmp",
 }
-# The loop of write_text.
-WRITTEN_BY_SLOTS = """\
-    let mut chars = text.chars();
-    for slot in values.iter_mut() {
-        let Some(c) = chars.next() else {
-            return count;
-        };
-        *slot = value_of(&header, index, cells, u32::from(c)).unwrap_or(none);
-        count += 1;
-    }
-    count + chars.count()
-"""
 # Methods that the Rust crate has in the trait of typed tries.
 UNTYPED = """
     /// Returns a reference to the trie as a [`CodePointTrie`].
@@ -216,12 +204,9 @@ EDITS = {
         (r"(?=use icu_trie_core::cells)", "use crate::support::cells::{cell, proved_cell};\n", 1),
         (r"(count_of::<T>\(bytes\))\.saturating_sub\(1\)", r"\1.checked_sub(1)?", 1),
     ],
-    # What makes the C library fast: the error value is a cold path, and a text is written slot by slot.
+    # What makes the C library fast: the error value is a cold path.
     "icu_collections_c/tries": [
         (r"None => last_value\(values\),", "None => {\n            crate::cold();\n            last_value(values)\n        }", 1),
-    ],
-    "icu_collections_c/texts": [
-        (r"    for c in text\.chars\(\) \{\n(?:.*\n){4}    count\n", WRITTEN_BY_SLOTS, 1),
     ],
     # Two types that differ in lifetimes only may have different widths, so a vector of one must not
     # be accepted as a vector of the other.

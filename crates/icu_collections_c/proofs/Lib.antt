@@ -4,6 +4,7 @@ mod BufferLemmas
 mod BuildingLemmas
 mod CellLemmas
 mod CoherenceLemmas
+mod CopiedTextLemmas
 mod DropLemmas
 mod FrozenLemmas
 mod ListingLemmas

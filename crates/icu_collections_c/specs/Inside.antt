@@ -7,3 +7,4 @@ pub mod NumberLaws
 pub mod Operations
 pub mod PackedPlaces
 pub mod SetPlaces
+pub mod TextCells

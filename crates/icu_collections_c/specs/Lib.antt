@@ -2,6 +2,7 @@ pub mod Answers
 pub mod Buffers
 pub mod Building
 pub mod BytesTrie
+pub mod CopiedText
 pub mod Frozen
 pub mod Inside
 pub mod Listing

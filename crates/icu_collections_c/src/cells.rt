@@ -51,7 +51,7 @@ impl UnsignedValue for u32 {
 
 /// Returns how many whole cells the bytes have.
 #[inline(always)]
-fn count_of<T: UnsignedValue>(bytes: &[u8]) -> usize
+pub(crate) fn count_of<T: UnsignedValue>(bytes: &[u8]) -> usize
     ensures { result ≡ length (values_of T.unpack T.WIDTH bytes.now) }
 {
     bytes.len() / T::WIDTH
@@ -60,7 +60,7 @@ fn count_of<T: UnsignedValue>(bytes: &[u8]) -> usize
 /// Returns the value of the cell at index `i`, which has to exist. The proved library has no test,
 /// since any bytes of a cell are a value.
 #[inline(always)]
-fn value_there<T: UnsignedValue>(bytes: &[u8], i: usize) -> T
+pub(crate) fn value_there<T: UnsignedValue>(bytes: &[u8], i: usize) -> T
     requires { i < length bytes.now / T.WIDTH }
     ensures { slice_get (values_of T.unpack T.WIDTH bytes.now) i ≡ Some result }
 {
@@ -73,7 +73,7 @@ fn value_there<T: UnsignedValue>(bytes: &[u8], i: usize) -> T
 
 /// Returns the value of the cell at index `i`. `None` if `i` is past the last whole cell.
 #[inline(always)]
-fn value_at<T: UnsignedValue>(bytes: &[u8], i: usize) -> Option<T>
+pub(crate) fn value_at<T: UnsignedValue>(bytes: &[u8], i: usize) -> Option<T>
     ensures { result ≡ slice_get (values_of T.unpack T.WIDTH bytes.now) i }
 {
     if i >= bytes.len() / T::WIDTH {

@@ -1,16 +1,24 @@
 //! The values of the characters of a UTF-8 text, and of the code points of 16-bit units.
-ghost use Rattle.std.specs.Prelude.{◌≡◌, ℕ, pos, ◌<◌, ◌≤◌, length, map, slice_set, unwrap_or};
+ghost use Rattle.std.specs.Prelude.{◌≡◌, ℕ, pos, ◌<◌, ◌≤◌, length, map, slice_get, slice_set, Some, unwrap_or};
 ghost use Rattle.std.specs.Str.{IsUtf8, chars};
+ghost use Rattle.icu_zerovec.specs.Cells.{values_of};
+ghost use Rattle.icu_trie_core.specs.FastIndex.{fast_index_len};
 ghost use Rattle.icu_trie.specs.Parts.{trie_value};
+ghost use Rattle.icu_trie_text.specs.Inside.Ascii.{HasAsciiInPlace};
 ghost use Rattle.icu_trie_text.specs.Utf16.{code_points_of};
 ghost use Rattle.icu_collections_c.specs.Answers.{AnswersText};
 ghost use Rattle.icu_collections_c.specs.Buffers.{written};
-ghost use Rattle.icu_collections_c.specs.BytesTrie.{parts_in, value_at};
+ghost use Rattle.icu_collections_c.specs.BytesTrie.{cells_of, parts_in, value_at};
+ghost use Rattle.icu_collections_c.specs.CopiedText.{IsCopiedText, number_of_part};
+ghost use Rattle.icu_collections_c.specs.Inside.TextCells.{parts_from};
 
-use crate::cells::UnsignedValue;
+use crate::cells::{UnsignedValue, count_of, last_value, value_at, value_there};
 use crate::status::Refusal;
 use crate::tries::{Trie, header_of, value_of};
+use icu_trie_core::header::CodePointTrieHeader;
+use icu_trie_text::copy_parts::{Copied, PartValues, copy_parts};
 use icu_trie_text::first_utf16::first_code_point;
+use icu_zerovec::CODE_POINT_LIMIT;
 
 /// Writes the value at index `i` if the slice has that index.
 #[inline(always)]
@@ -21,6 +29,142 @@ fn put<T: UnsignedValue>(values: &mut [T], i: usize, value: T)
     if i < values.len() {
         values[i] = value;
     }
+}
+
+/// The values of a trie in bytes, for the parts of a text.
+#[derive(Drop)]
+struct TextValues<'a, T: UnsignedValue> {
+    header: CodePointTrieHeader,
+    index: &'a [u8],
+    cells: &'a [u8],
+    /// The value of each part if the trie has no cell at all.
+    none: T,
+    /// 0x80 if the data start with the values of ASCII, and otherwise 0.
+    ascii_end: u8,
+    /// The number of blocks of 64 code points that have a cell in the fast index.
+    blocks: u32,
+    ghost ascii: { HasAsciiInPlace
+        (parts_from T.unpack T.WIDTH header index.now cells.now)
+        (values_of T.unpack T.WIDTH cells.now) ascii_end },
+    ghost there: { blocks ≤ length (cells_of 2 index.now) },
+    ghost near: { blocks ≤ fast_index_len header.trie_type },
+}
+
+/// Returns 0x80 if the first two blocks of the trie are the first two blocks of the data, and
+/// otherwise 0. The code points below the result have their values at their own index in the data.
+fn ascii_end<T: UnsignedValue>(index: &[u8], cells: &[u8]) -> u8
+    ensures bound { result ≤ 0x80 }
+    ensures first { 0 < result → slice_get (cells_of 2 index.now) 0 ≡ Some 0 }
+    ensures second { 0 < result → slice_get (cells_of 2 index.now) 1 ≡ Some 64 }
+    ensures there { 0 < result → 0x80 ≤ length (values_of T.unpack T.WIDTH cells.now) }
+{
+    if count_of::<T>(cells) < 0x80 {
+        return 0;
+    }
+    if value_at::<u16>(index, 0) != Some(0) {
+        return 0;
+    }
+    if value_at::<u16>(index, 1) != Some(64) {
+        return 0;
+    }
+    0x80
+}
+
+impl<'a, T: UnsignedValue> PartValues<T> for TextValues<'a, T> {
+    ghost gives = { λ values part. Some (unwrap_or
+        (trie_value (parts_from T.unpack T.WIDTH values.header values.index.now values.cells.now)
+        (number_of_part part)) values.none) };
+
+    ghost end_of_ascii = { λ values. values.ascii_end };
+
+    ghost near_blocks = { λ values. values.blocks };
+
+    #[inline(always)]
+    fn ascii_end(&self) -> u8 {
+        self.ascii_end
+    }
+
+    #[inline(always)]
+    fn blocks(&self) -> u32 {
+        self.blocks
+    }
+
+    #[inline(always)]
+    fn ascii(&self, c: u8) -> T {
+        value_there(self.cells, c as usize)
+    }
+
+    #[inline(always)]
+    fn near(&self, block: u32, place: u32) -> T {
+        let offset = value_there::<u16>(self.index, block as usize);
+        match value_at(self.cells, offset as usize + place as usize) {
+            Some(value) => value,
+            None => self.far(block * 64 + place),
+        }
+    }
+
+    #[inline(always)]
+    fn far(&self, c: u32) -> T {
+        value_of(&self.header, self.index, self.cells, c).unwrap_or(self.none)
+    }
+
+    #[inline(always)]
+    fn error(&self) -> T {
+        self.far(CODE_POINT_LIMIT)
+    }
+}
+
+/// Writes the values of the parts of a text to the start of a buffer, as many as fit. The value is
+/// `none` if the trie has no cell at all.
+#[inline(always)]
+fn copy_text<T: UnsignedValue>(trie: &Trie<'_>, text: &[u8], values: &mut [T], none: T) -> Copied
+    ensures { IsCopiedText
+        (λ c. unwrap_or (trie_value (parts_in T.unpack T.WIDTH trie.now) c) none)
+        text.now values.old values.new result.values result.bytes }
+{
+    let header = header_of(trie);
+    let blocks = header.trie_type.fast_index_len();
+    let parts = TextValues {
+        header,
+        index: trie.index,
+        cells: trie.values,
+        none,
+        ascii_end: ascii_end::<T>(trie.index, trie.values),
+        blocks: blocks.min(count_of::<u16>(trie.index)) as u32,
+    };
+    copy_parts(&parts, text, values)
+}
+
+/// Writes the values of the parts of a text to the start of a buffer, as many as fit. Returns how
+/// many it wrote, and stores in `taken` how many bytes of the text these are for.
+#[inline(always)]
+fn copy_to<T: UnsignedValue>(
+    trie: &Trie<'_>,
+    text: &[u8],
+    values: &mut [T],
+    none: T,
+    taken: &mut usize,
+) -> usize
+    ensures { IsCopiedText
+        (λ c. unwrap_or (trie_value (parts_in T.unpack T.WIDTH trie.now) c) none)
+        text.now values.old values.new result taken.new }
+{
+    let copied = copy_text(trie, text, values, none);
+    *taken = copied.bytes;
+    copied.values
+}
+
+/// Returns how many characters a text has.
+fn count_of_characters(text: &str) -> usize
+    ensures count { result ≡ length (chars text.now) }
+    ensures bound { result ≤ length text.now }
+{
+    let mut count = 0;
+    for c in text.chars() {
+        let _ = c;
+        count += 1;
+    }
+    count
 }
 
 /// Writes the values of the characters of a text to the start of a buffer, as many as fit, and
@@ -34,14 +178,11 @@ fn write_text<T: UnsignedValue>(trie: &Trie<'_>, text: &str, values: &mut [T], n
         (map (λ c. unwrap_or (trie_value (parts_in T.unpack T.WIDTH trie.now) c) none)
         (chars text.now)) values.old }
 {
-    let (header, index, cells) = (header_of(trie), trie.index, trie.values);
-    let mut count = 0;
-    for c in text.chars() {
-        let value = value_of(&header, index, cells, u32::from(c)).unwrap_or(none);
-        put(values, count, value);
-        count += 1;
+    let copied = copy_text(trie, text.as_bytes(), values, none);
+    if copied.bytes < text.len() {
+        return count_of_characters(text);
     }
-    count
+    copied.values
 }
 
 /// Writes the values of the code points of 16-bit units to the start of a buffer, as many as fit,
@@ -124,6 +265,24 @@ pub extern "C" fn bks_trie32_get_utf8(trie: &Trie<'_>, text: &[u8], values: &mut
     }
 }
 
+/// Writes the values of the characters of a text that may be ill-formed UTF-8, in a trie of 8-bit
+/// values, to the start of a buffer, as many as fit. Each maximal subpart of an ill-formed sequence
+/// has the error value. Returns how many values it wrote, and stores in `taken` how many bytes of
+/// the text these are for. It stops only if the buffer is full or the text ends.
+///
+/// ICU: `UCPTRIE_FAST_U8_NEXT` in a loop.
+#[unsafe(no_mangle)]
+pub extern "C" fn bks_trie8_copy_utf8(
+    trie: &Trie<'_>,
+    text: &[u8],
+    values: &mut [u8],
+    taken: &mut usize,
+) -> usize
+    ensures { IsCopiedText (value_at 1 trie.now) text.now values.old values.new result taken.new }
+{
+    copy_to(trie, text, values, 0, taken)
+}
+
 /// Writes the values of the code points of 16-bit units, in a trie of 8-bit values, to the start of
 /// a buffer, as many as fit. Returns how many code points there are, which is never above the
 /// number of units.
@@ -142,6 +301,24 @@ pub extern "C" fn bks_trie8_get_utf16(trie: &Trie<'_>, text: &[u16], values: &mu
     write_units(trie, text, values, 0)
 }
 
+/// Writes the values of the characters of a text that may be ill-formed UTF-8, in a trie of 16-bit
+/// values, to the start of a buffer, as many as fit. Each maximal subpart of an ill-formed sequence
+/// has the error value. Returns how many values it wrote, and stores in `taken` how many bytes of
+/// the text these are for. It stops only if the buffer is full or the text ends.
+///
+/// ICU: `UCPTRIE_FAST_U8_NEXT` in a loop.
+#[unsafe(no_mangle)]
+pub extern "C" fn bks_trie16_copy_utf8(
+    trie: &Trie<'_>,
+    text: &[u8],
+    values: &mut [u16],
+    taken: &mut usize,
+) -> usize
+    ensures { IsCopiedText (value_at 2 trie.now) text.now values.old values.new result taken.new }
+{
+    copy_to(trie, text, values, 0, taken)
+}
+
 /// Writes the values of the code points of 16-bit units, in a trie of 16-bit values, to the start
 /// of a buffer, as many as fit. Returns how many code points there are, which is never above the
 /// number of units.
@@ -158,6 +335,24 @@ pub extern "C" fn bks_trie16_get_utf16(trie: &Trie<'_>, text: &[u16], values: &m
         ≡ written (map (value_at 2 trie.now) (code_points_of text.now)) values.old }
 {
     write_units(trie, text, values, 0)
+}
+
+/// Writes the values of the characters of a text that may be ill-formed UTF-8, in a trie of 32-bit
+/// values, to the start of a buffer, as many as fit. Each maximal subpart of an ill-formed sequence
+/// has the error value. Returns how many values it wrote, and stores in `taken` how many bytes of
+/// the text these are for. It stops only if the buffer is full or the text ends.
+///
+/// ICU: `UCPTRIE_FAST_U8_NEXT` in a loop.
+#[unsafe(no_mangle)]
+pub extern "C" fn bks_trie32_copy_utf8(
+    trie: &Trie<'_>,
+    text: &[u8],
+    values: &mut [u32],
+    taken: &mut usize,
+) -> usize
+    ensures { IsCopiedText (value_at 4 trie.now) text.now values.old values.new result taken.new }
+{
+    copy_to(trie, text, values, 0, taken)
 }
 
 /// Writes the values of the code points of 16-bit units, in a trie of 32-bit values, to the start
