@@ -422,6 +422,30 @@ public:
             return bks_get32(&trie_, c);
     }
 
+    // Returns the values of the characters of a UTF-8 text, in order. Each ill-formed part has the
+    // error value, as in bks_trie8_copy_utf8 (ICU: UCPTRIE_FAST_U8_NEXT in a loop).
+    std::vector<Value> values_of(std::string_view text) const {
+        std::vector<Value> values(text.size());
+        values.resize(copy_values(text, values.data(), values.size()).values);
+        return values;
+    }
+
+    // Writes these values to a buffer, as many as fit. Returns how many it wrote, and how many bytes
+    // of the text these are for: go on after them with the next buffer.
+    struct copied {
+        std::size_t values, bytes;
+    };
+    copied copy_values(std::string_view text, Value *values, std::size_t room) const noexcept {
+        copied done = {0, 0};
+        if constexpr (sizeof(Value) == 1)
+            done.values = bks_trie8_copy_utf8(&trie_, text.data(), text.size(), values, room, &done.bytes);
+        else if constexpr (sizeof(Value) == 2)
+            done.values = bks_trie16_copy_utf8(&trie_, text.data(), text.size(), values, room, &done.bytes);
+        else
+            done.values = bks_trie32_copy_utf8(&trie_, text.data(), text.size(), values, room, &done.bytes);
+        return done;
+    }
+
     // Returns whether the ranges are the longest runs of equal values, as in every trie that ICU or
     // this library built.
     bool is_coherent() const noexcept { return bks_trie_is_coherent(&trie_); }

@@ -127,7 +127,10 @@ static void values(const library *l, const bks_trie *t) {
 #define WIDTH(bits, of)                                                                  \
     MANY(bks_trie##bits##_get_many, points, count, of);                                  \
     MANY(bks_trie##bits##_get_utf8, text, size, of);                                     \
-    MANY(bks_trie##bits##_get_utf16, units, any(129), of)
+    MANY(bks_trie##bits##_get_utf16, units, any(129), of);                               \
+    FILLED(cells), PUT(ASK(bks_trie##bits##_copy_utf8, t, SLICE(text, size),             \
+                           SLICE((of *)cells, room), &n));                               \
+    PUT(n), put(cells, sizeof cells)
     WIDTH(8, uint8_t);
     WIDTH(16, uint16_t);
     WIDTH(32, uint32_t);

@@ -32,6 +32,14 @@ static void all_of(const bekstaudi::view<uint8_t> &bytes, size_t count, uint32_t
         for (uint32_t c = runs[i].first; c <= runs[i].last; c++) CHECK(trie[c] == runs[i].value);
     CHECK(trie[0x110000] == static_cast<Value>(error) && !trie.range(0x110000));
     CHECK(trie.range(runs[0].last)->first == runs[0].last);
+    const std::string_view text = "a\xC3\xA9\xE4\xB8\x96\xFF\xF0\x9F\x98\x80z";
+    const std::vector<uint32_t> parts = {'a', 0xE9, 0x4E16, 0x110000, 0x1F600, 'z'};
+    const std::vector<Value> values = trie.values_of(text);
+    CHECK(values.size() == parts.size());
+    for (size_t k = 0; k < values.size(); k++) CHECK(values[k] == trie[parts[k]]);
+    Value few[3];
+    const auto copied = trie.copy_values(text, few, 3);
+    CHECK(copied.values == 3 && copied.bytes == 6 && std::equal(few, few + 3, values.begin()));
     size_t i = 0;
     for (const bks_range &range : trie) {
         CHECK(i < count && range.first == runs[i].first && range.last == runs[i].last);

@@ -102,7 +102,28 @@ static void short_buffers(const bks_trie *trie) {
         CHECK(of_text(trie, text, 9, values, room) == 6);
         for (size_t i = 0; i < room && i < 6; i++)
             CHECK(value_in(trie, values, i) == called(trie, characters[i]));
+        static const size_t ends_of[] = {0, 1, 3, 6, 7, 8, 9};
+        size_t taken = 77, fits = room < 6 ? room : 6;
+        memset(values, 0x55, trie->width * room);
+        CHECK(copied(trie, text, 9, values, room, &taken) == fits && taken == ends_of[fits]);
+        for (size_t i = 0; i < fits; i++)
+            CHECK(value_in(trie, values, i) == called(trie, characters[i]));
+        for (size_t i = trie->width * fits; i < trie->width * room; i++) CHECK(values[i] == 0x55);
+        CHECK(copied(trie, text, 0, values, room, &taken) == 0 && taken == 0);
     }
+}
+
+/* The values of a text over any trie, also a damaged one: those of its characters one by one. */
+static void along_text(const bks_trie *trie) {
+    static const uint32_t some[] = {'a', 'b', 'c', ' ', 0x7F, 'e', 0xE9, 0x4E16, 0x1F600, 'x'};
+    static char text[400];
+    static uint32_t values[100];
+    size_t size = 0, taken;
+    for (size_t i = 0; i < 100; i++) size += write_utf8(some[i % 10], text + size);
+    CHECK(copied(trie, text, size, values, 100, &taken) == 100 && taken == size);
+    for (size_t i = 0; i < 100; i++) CHECK(value_in(trie, values, i) == called(trie, some[i % 10]));
+    CHECK(copied(trie, "\xFF", 1, values, 1, &taken) == 1 && taken == 1);
+    CHECK(value_in(trie, values, 0) == called(trie, CODE_POINTS));
 }
 
 /* Every proper prefix of the bytes is an error. */
@@ -120,6 +141,7 @@ static void fronts(const uint8_t *bytes, size_t size) {
 static void ask(const bks_trie *trie) {
     static uint32_t ends[16];
     uint32_t turns = 0, next = 0;
+    along_text(trie);
     for (uint32_t c = below(64); c <= CODE_POINTS; c += 61)
         CHECK(called(trie, c) == in_line(trie, c));
     for (bks_range r = bks_trie_range(trie, 0); r.found && turns < 2000; turns++) {

@@ -8,6 +8,7 @@ static const uint32_t none[] = {0}, letters[] = {0x41, 0x5B};
 static void zeros(void) {
     bks_trie trie;
     uint32_t value = 77;
+    size_t taken;
     memset(&trie, 0, sizeof trie);
     for (uint32_t c = 0; c <= CODE_POINTS; c += 0x100) {
         CHECK(bks_trie8_get(&trie, c) == 0 && bks_trie16_get(&trie, c) == 0 && bks_trie32_get(&trie, c) == 0);
@@ -18,6 +19,8 @@ static void zeros(void) {
     CHECK(bks_trie_set(&trie, 0, NULL, 0) == BKS_NO_TRIE);
     CHECK(bks_trie32_get_many(&trie, letters, 2, &value, 1) == 1 && value == 0);
     CHECK(bks_trie32_get_utf8(&trie, "A", 1, &value, 1) == 1 && value == 0);
+    value = 77;
+    CHECK(bks_trie32_copy_utf8(&trie, "\xFF", 1, &value, 1, &taken) == 1 && value == 0 && taken == 1);
 }
 
 /* NULL with a count of 0, for parameters that may have items. */
@@ -70,6 +73,8 @@ static void uninitialized(const uint8_t *bytes, size_t size) {
         CHECK(bks_trie_open(bytes, size - 1, &trie) == BKS_CUT_OFF && bks_get8(&trie, 0x41) == 0);
     }
     CHECK(many(&first, NULL, 0, NULL, 0) == 0 && of_text(&first, NULL, 0, NULL, 0) == 0);
+    size_t taken = 77;
+    CHECK(copied(&first, NULL, 0, NULL, 0, &taken) == 0 && taken == 0);
     CHECK(of_units(&first, NULL, 0, NULL, 0) == 0 && bks_trie_ranges(&first, 0, NULL, 0) == 0);
     CHECK(bks_trie_set(&first, called(&first, 0x41), NULL, 0) > 0);
 }

@@ -106,6 +106,14 @@ static inline int64_t of_text(const bks_trie *trie, const char *text, size_t siz
                : bks_trie32_get_utf8(trie, text, size, (uint32_t *)values, room);
 }
 
+static inline size_t copied(const bks_trie *trie, const char *text, size_t size, void *values,
+                            size_t room, size_t *taken) {
+    return trie->width == 1 ? bks_trie8_copy_utf8(trie, text, size, (uint8_t *)values, room, taken)
+           : trie->width == 2
+               ? bks_trie16_copy_utf8(trie, text, size, (uint16_t *)values, room, taken)
+               : bks_trie32_copy_utf8(trie, text, size, (uint32_t *)values, room, taken);
+}
+
 static inline size_t of_units(const bks_trie *trie, const uint16_t *text, size_t count, void *values,
                               size_t room) {
     return trie->width == 1 ? bks_trie8_get_utf16(trie, text, count, (uint8_t *)values, room)

@@ -6,6 +6,7 @@
 #include <unicode/ucptrie.h>
 #include <unicode/uset.h>
 #include <unicode/utf16.h>
+#include <unicode/utf8.h>
 #endif
 
 static bks_range runs[1 << 17], found[1 << 17];
@@ -26,6 +27,26 @@ static void look_ups(const bks_trie *trie, uint32_t error) {
     CHECK(called(trie, UINT32_MAX) == error && in_line(trie, UINT32_MAX) == error);
 }
 
+/* The text, which may be ill-formed, in pieces for buffers of `room` values. Each value is that of a
+   code point, or for ILL the error value. */
+enum { ILL = CODE_POINTS };
+
+static void copied_pieces(const bks_trie *trie, const char *bytes, size_t size,
+                          const uint32_t *wanted, size_t count, size_t room) {
+    size_t at = 0, done = 0, taken;
+    while (at < size) {
+        memset(values, 0x55, (room + 1) * trie->width);
+        const size_t n = copied(trie, bytes + at, size - at, values, room, &taken);
+        CHECK(n > 0 && n <= room && taken >= n && taken <= size - at && done + n <= count);
+        CHECK(n == room || taken == size - at);
+        for (size_t i = 0; i < n; i++) CHECK(value_in(trie, values, i) == expected[wanted[done + i]]);
+        for (size_t i = n * trie->width; i < (room + 1) * trie->width; i++)
+            CHECK(((uint8_t *)values)[i] == 0x55);
+        at += taken, done += n;
+    }
+    CHECK(at == size && done == count);
+}
+
 /* All characters in one text, into a buffer for all values, and into one for a few. */
 static void texts(const bks_trie *trie) {
     size_t size = 0, count = 0;
@@ -40,9 +61,81 @@ static void texts(const bks_trie *trie) {
     CHECK(of_text(trie, text, size, values, 3) == (int64_t)count);
     CHECK(value_in(trie, values, 2) == expected[2] && ((uint8_t *)values)[3 * trie->width] == 0x55);
     CHECK(of_text(trie, text, 0, values, 3) == 0);
+    copied_pieces(trie, text, size, points, count, count);
+    copied_pieces(trie, text, size, points, count, 100);
     CHECK(of_text(trie, "ab\xFF", 3, values, 3) == BKS_NO_TEXT);
     CHECK(of_text(trie, "\xED\xB0\x80", 3, values, 3) == BKS_NO_TEXT);
 }
+
+/* Bytes, and how many ill-formed parts these are: tables 3-8 to 3-11 of the Unicode Standard 15,
+   the example of its older versions, and sequences that are cut off. A letter is a part too. */
+static const struct {
+    const char *bytes;
+    size_t size;
+    const char *parts; /* ? for an ill-formed part */
+} ill_formed[] = {
+    {"\xC0\xAF\xE0\x80\xBF\xF0\x81\x82\x41", 9, "????????A"},
+    {"\xED\xA0\x80\xED\xBF\xBF\xED\xAF\x41", 9, "????????A"},
+    {"\xF4\x91\x92\x93\xFF\x41\x80\xBF\x42", 9, "?????A??B"},
+    {"\xE1\x80\xE2\xF0\x91\x92\xF1\xBF\x41", 9, "????A"},
+    {"\x61\xF1\x80\x80\xE1\x80\xC2\x62\x80\x63\x80\xBF\x64", 13, "a???b?c??d"},
+    {"\xC2", 1, "?"},
+    {"\xE0\xA0", 2, "?"},
+    {"\xE0\x9F", 2, "??"},
+    {"\xED\x9F", 2, "?"},
+    {"\xF0\x90\x80", 3, "?"},
+    {"\xF4\x8F\xBF", 3, "?"},
+    {"\xF5\x80\x80\x80", 4, "????"},
+};
+
+/* Each of these among 0 to 40 letters before and after it, before a closed page, and by buffers of
+   several lengths. */
+static void ill_formed_parts(const bks_trie *trie) {
+    for (size_t r = 0; r < sizeof ill_formed / sizeof *ill_formed; r++)
+        for (size_t before = 0; before <= 40; before += 1 + before / 12)
+            for (size_t after = 0; after <= 40; after += 1 + after / 3) {
+                const size_t size = before + ill_formed[r].size + after;
+                char *bytes = (char *)before_closed_page(size);
+                size_t count = 0;
+                memset(bytes, 'x', size);
+                memcpy(bytes + before, ill_formed[r].bytes, ill_formed[r].size);
+                while (count < before) points[count++] = 'x';
+                for (const char *part = ill_formed[r].parts; *part; part++)
+                    points[count++] = *part == '?' ? ILL : (uint32_t)*part;
+                for (size_t i = 0; i < after; i++) points[count++] = 'x';
+                for (size_t room = 1; room <= 64; room += 1 + room / 2)
+                    copied_pieces(trie, bytes, size, points, count, room);
+                released(bytes, size);
+            }
+}
+
+#ifdef WITH_ICU
+/* Damaged texts, by ICU's macro. */
+static void damaged(const bks_trie *trie) {
+    static const uint32_t below[] = {0x80, 0x80, 0x800, 0x10000, CODE_POINTS};
+    uint32_t state = 7;
+#define ANY(n) ((state = state * 1664525 + 1013904223) >> 8) % (n)
+    for (int turn = 0; turn < 20000; turn++) {
+        const size_t parts = ANY(60);
+        size_t size = 0, count = 0;
+        for (size_t i = 0; i < parts; i++) {
+            const uint32_t kind = ANY(5), c = ANY(below[turn % 3 ? kind : 0]);
+            size += write_utf8(c >= 0xD800 && c < 0xE000 ? 0x41 : c, text + size);
+        }
+        for (uint32_t i = ANY(4); size && i > 0; i--) {
+            const size_t where = ANY(size);
+            text[where] = (char)(ANY(2) ? 0x80 + ANY(0x80) : ANY(0x100));
+        }
+        for (size_t i = 0; i < size;) {
+            UChar32 c;
+            U8_NEXT((const uint8_t *)text, i, size, c);
+            points[count++] = c < 0 ? ILL : (uint32_t)c;
+        }
+        copied_pieces(trie, text, size, points, count, 1 + ANY(100));
+    }
+#undef ANY
+}
+#endif
 
 /* The next code point of 16-bit units, by ICU if it is there. */
 static uint32_t next_point(const uint16_t *units, size_t count, size_t *i) {
@@ -190,6 +283,10 @@ int main(int count, char **words) {
     for (uint32_t c = CODE_POINTS; c < CODE_POINTS + 16; c++) expected[c] = error;
     look_ups(&trie, error);
     texts(&trie);
+    ill_formed_parts(&trie);
+#ifdef WITH_ICU
+    damaged(&trie);
+#endif
     units(&trie);
     ranges(&trie, many_runs);
     many_ranges(&trie, many_runs, 1);
