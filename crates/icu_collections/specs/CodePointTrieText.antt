@@ -6,3 +6,4 @@ pub use Rattle.icu_trie_text.specs.Found.{AnswersOf, AreAccepted, AreRefused, Is
 unfoldable pub use Rattle.icu_trie_text.specs.Utf16.{code_points_of}
 pub use Rattle.icu_trie_text.specs.Utf8.{BeginsCharacter, IsFirstPart, IsIllFormedPart}
 pub use Rattle.icu_trie_text.specs.Utf8Values.{AreValuesOfBytes, BytesToValue, GivesPart, IsFirstItem, part_value}
+pub use Rattle.icu_trie_text.specs.Copied.{AreFirstValues, IsCopied}

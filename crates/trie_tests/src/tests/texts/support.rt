@@ -38,10 +38,35 @@ pub fn six_bits() -> ([u8; 2048], [u8; 130]) {
     (index, values)
 }
 
+/// The same, but the data start with the values of ASCII.
+pub fn ascii_in_place() -> ([u8; 2048], [u8; 194]) {
+    let mut index = [0; 2048];
+    index[2] = 64;
+    for block in 0xD800 / 64..0xE000 / 64 {
+        index[2 * block] = 128;
+    }
+    let mut values = [SURROGATE; 194];
+    for k in 0..64 {
+        values[k] = k as u8;
+        values[k + 64] = k as u8;
+    }
+    values[192] = HIGH;
+    values[193] = ERROR;
+    (index, values)
+}
+
 /// The trie of these bytes.
 pub fn trie_of_bits<'a>(
     rt: &impl Abort,
     (index, values): &'a ([u8; 2048], [u8; 130]),
+) -> CodePointTrie<'a, u8> {
+    trie_of(rt, HEADER, index, values)
+}
+
+/// The trie of these bytes, with the values of ASCII in place.
+pub fn trie_in_place<'a>(
+    rt: &impl Abort,
+    (index, values): &'a ([u8; 2048], [u8; 194]),
 ) -> CodePointTrie<'a, u8> {
     trie_of(rt, HEADER, index, values)
 }

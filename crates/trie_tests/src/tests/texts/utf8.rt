@@ -8,7 +8,7 @@ use icu_trie_text::text::values_of_utf8;
 /// sequence. The first row is from older versions of the Unicode Standard. The next four are tables
 /// 3-8 to 3-11 in section 3.9 of version 15. The other rows are our own, most of them truncated
 /// sequences.
-static ROWS: [(&[u8], &str); 12] = [
+pub static ROWS: [(&[u8], &str); 12] = [
     (
         b"\x61\xF1\x80\x80\xE1\x80\xC2\x62\x80\x63\x80\xBF\x64",
         "a\u{FFFD}\u{FFFD}\u{FFFD}b\u{FFFD}c\u{FFFD}\u{FFFD}d",
