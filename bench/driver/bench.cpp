@@ -10,23 +10,24 @@
 using std::string;
 using std::vector;
 
-static const char *const kernels[] = {"get_u8",         "get_u16",            "get_u32",
-                                      "typed_u8",       "typed_u16",          "typed_u32",
-                                      "text_u8",        "values_u8",          "bytes_u8",
-                                      "ranges_u8",      "ranges_u16",         "ranges_u32",
-                                      "setfor_u8",      "build_u8",           "build_u16",
-                                      "build_u32",      "open",               "try_new",
-                                      "set_contains",   "set_contains_apart", "set_text",
-                                      "set_iter",       "set_iter_chars",     "set_position",
-                                      "set_add",        "set_remove",         "set_retain",
-                                      "set_complement", "set_contains_set",   "set_ranges",
-                                      "set_span",       "frozen_contains",    "frozen_text",
-                                      "frozen_span",    "freeze",             "frozen_contains_set",
-                                      "c16_iter",       "c16_entries",        "c16_look",
-                                      "c16_longest",    "c16_build",          "packed_read",
-                                      "packed_search",  "c_get_u8",           "c_text_u8",
-                                      "c_range_u8",     "c_ranges_u8",        "c_setfor_u8",
-                                      "c_build_u8",     "c_set_from_points",  "range_u8"};
+static const char *const kernels[] = {"get_u8",              "get_u16",        "get_u32",
+                                      "typed_u8",            "typed_u16",      "typed_u32",
+                                      "text_u8",             "values_u8",      "bytes_u8",
+                                      "copy_u8",             "ranges_u8",      "ranges_u16",
+                                      "ranges_u32",          "setfor_u8",      "build_u8",
+                                      "build_u16",           "build_u32",      "open",
+                                      "try_new",             "set_contains",   "set_contains_apart",
+                                      "set_text",            "set_iter",       "set_iter_chars",
+                                      "set_position",        "set_add",        "set_remove",
+                                      "set_retain",          "set_complement", "set_contains_set",
+                                      "set_ranges",          "set_span",       "frozen_contains",
+                                      "frozen_text",         "frozen_span",    "freeze",
+                                      "frozen_contains_set", "c16_iter",       "c16_entries",
+                                      "c16_look",            "c16_longest",    "c16_build",
+                                      "packed_read",         "packed_search",  "c_get_u8",
+                                      "c_text_u8",           "c_copy_u8",      "c_range_u8",
+                                      "c_ranges_u8",         "c_setfor_u8",    "c_build_u8",
+                                      "c_set_from_points",   "range_u8"};
 
 enum { LEAST_ROUNDS = 5, MOST_ROUNDS = 400 };
 // A row takes about this many seconds.

@@ -73,6 +73,35 @@ static void text(const string &name, const Opened &ours, const UCPTrie *icu, con
         nullptr, [&] { return icu_values(icu, one.bytes, values); });
 }
 
+// The values by a buffer of so many, which is summed each time that it is full.
+static void copies(const string &name, const Opened &ours, const UCPTrie *icu, const Text &one,
+                   size_t room) {
+    vector<uint8_t> values(room);
+    row(
+        "c_copy_u8", name + "-" + one.name + "-" + std::to_string(room), CHARACTERS,
+        [&] {
+            uint64_t sum = 0;
+            for (size_t at = 0, taken; at < one.bytes.size(); at += taken)
+                sum += sum_of(values, bks_trie8_copy_utf8(&ours.trie, one.bytes.data() + at,
+                                                          one.bytes.size() - at, values.data(), room,
+                                                          &taken));
+            return sum;
+        },
+        nullptr,
+        [&] {
+            const uint8_t *at = reinterpret_cast<const uint8_t *>(one.bytes.data()),
+                          *end = at + one.bytes.size();
+            uint64_t sum = 0;
+            while (at < end) {
+                size_t count = 0;
+                while (count < room && at < end)
+                    UCPTRIE_FAST_U8_NEXT(icu, UCPTRIE_8, at, end, values[count++]);
+                sum += sum_of(values, count);
+            }
+            return sum;
+        });
+}
+
 // Each range is mixed on its own. In a chain each would wait for the one before, and that only
 // shows if the ranges come from a buffer.
 static uint64_t icu_ranges(const UCPTrie *trie) {
@@ -182,6 +211,9 @@ void c_calls() {
         }
         if (wanted("c_text_u8"))
             for (const Text &one : texts(CHARACTERS)) text(name, ours, icu.get(), one);
+        if (wanted("c_copy_u8"))
+            for (size_t room : {256, CHARACTERS + 0})
+                for (const Text &one : texts(CHARACTERS)) copies(name, ours, icu.get(), one, room);
         if (wanted("c_range_u8")) ranges("c_range_u8", name, ours, icu.get(), ranges_one_by_one);
         if (wanted("c_ranges_u8")) ranges("c_ranges_u8", name, ours, icu.get(), ranges_by_many);
         if (wanted("c_setfor_u8"))

@@ -32,6 +32,8 @@ typedef uint64_t PointsCall(const TrieParts *, const uint32_t *points, size_t, s
 typedef bool AnswersCall(const TrieParts *, const uint32_t *points, size_t, uint32_t *answers,
                          size_t);
 typedef uint64_t TextCall(const TrieParts *, const uint8_t *text, size_t, size_t turns);
+typedef uint64_t CopyCall(const TrieParts *, const uint8_t *text, size_t, uint8_t *values, size_t,
+                          size_t turns);
 typedef uint64_t RangesCall(const TrieParts *, size_t turns);
 typedef bool BuildCall(bool is_fast, const Row *, size_t, uint32_t error, Sizes *,
                        uint32_t *answers, size_t);
@@ -40,6 +42,7 @@ PointsCall ours_typed_8, ours_typed_16, ours_typed_32, rust_typed_8, rust_typed_
 AnswersCall ours_answers_8, ours_answers_16, ours_answers_32, rust_answers_8, rust_answers_16,
     rust_answers_32;
 TextCall ours_text_8, ours_values_8, ours_bytes_8, rust_text_8;
+CopyCall ours_copy_8, rust_copy_8;
 RangesCall ours_ranges_8, ours_ranges_16, ours_ranges_32, ours_range_8, rust_ranges_8,
     rust_ranges_16, rust_ranges_32;
 BuildCall ours_build_8, ours_build_16, ours_build_32;

@@ -168,6 +168,38 @@ static void over_texts(const AlongText &along, const Table &table, bool is_fast)
     }
 }
 
+// The values of a text in a buffer, summed.
+__attribute__((noinline)) static uint64_t copied(const UCPTrie *trie, const string &text,
+                                                 vector<uint8_t> &values, uint64_t sum) {
+    const uint8_t *at = reinterpret_cast<const uint8_t *>(text.data()), *end = at + text.size();
+    for (size_t i = 0; at < end && i < values.size(); i++)
+        UCPTRIE_FAST_U8_NEXT(trie, UCPTRIE_8, at, end, values[i]);
+    for (uint8_t value : values) sum += value;
+    return sum;
+}
+
+static void copies(const Table &table) {
+    const IcuTrie trie = icu_trie(table, true, UCPTRIE_VALUE_BITS_8);
+    const TrieParts parts = parts_of(trie, 1, true);
+    for (size_t characters : {SHORT_TEXT, LONG_TEXT}) {
+        const size_t turns = TURNS * POINTS / characters;
+        for (const Text &text : texts(characters)) {
+            const uint8_t *bytes = reinterpret_cast<const uint8_t *>(text.bytes.data());
+            vector<uint8_t> values(characters);
+            auto by = [&](CopyCall *call) -> Call {
+                return [&, call] { return call(&parts, bytes, text.bytes.size(), PARTS(values), turns); };
+            };
+            row(
+                "copy_u8", name_of(table, true) + "-" + text.name + "-" + std::to_string(characters),
+                double(characters) * turns, by(ours_copy_8), by(rust_copy_8), [&] {
+                    uint64_t sum = 0;
+                    for (size_t i = 0; i < turns; i++) sum = copied(trie.get(), text.bytes, values, sum);
+                    return sum;
+                });
+        }
+    }
+}
+
 void tries() {
     for (const Width &width : widths)
         for (const Table &table : tables())
@@ -180,4 +212,6 @@ void tries() {
             for (bool is_fast : {true, false})
                 if (table.greatest <= 0xFF && wanted(along.kernel) && (is_fast || along.small))
                     over_texts(along, table, is_fast);
+    for (const Table &table : tables())
+        if (table.greatest <= 0xFF && wanted("copy_u8")) copies(table);
 }

@@ -215,7 +215,7 @@ fn add_text<T: Value>(trie: &Trie<T>, text: &str, sum: u64) -> u64 {
 
 /// Runs this many turns, starting from 0. Each takes the sum of the last, so that the compiler
 /// removes none.
-pub fn over(turns: usize, turn: impl Fn(u64) -> u64) -> u64 {
+pub fn over(turns: usize, mut turn: impl FnMut(u64) -> u64) -> u64 {
     (0..turns).fold(0, |sum, _| turn(sum))
 }
 
@@ -275,6 +275,27 @@ calls!(u32, rust_get_32, rust_typed_32, rust_answers_32);
 unsafe extern "C" fn rust_text_8(parts: &Parts, text: *const u8, len: usize, turns: usize) -> u64 {
     let (trie, text) = unsafe { (Trie::<u8>::of_parts(parts), slice(text, len)) };
     std::str::from_utf8(text).map_or(u64::MAX, |text| over(turns, |sum| add_text(&trie, text, sum)))
+}
+
+#[inline(never)]
+fn add_copied(trie: &Trie<u8>, text: &str, values: &mut [u8], sum: u64) -> u64 {
+    values.iter_mut().zip(text.chars()).for_each(|(value, c)| *value = trie.get(c));
+    values.iter().fold(sum, |sum, value| sum + *value as u64)
+}
+
+#[unsafe(no_mangle)]
+unsafe extern "C" fn rust_copy_8(
+    parts: &Parts,
+    text: *const u8,
+    len: usize,
+    values: *mut u8,
+    room: usize,
+    turns: usize,
+) -> u64 {
+    let (trie, text) = unsafe { (Trie::<u8>::of_parts(parts), slice(text, len)) };
+    let values = unsafe { std::slice::from_raw_parts_mut(values, room) };
+    std::str::from_utf8(text)
+        .map_or(u64::MAX, |text| over(turns, |sum| add_copied(&trie, text, values, sum)))
 }
 
 /// Returns the value of `A` in the trie of these parts.
