@@ -208,6 +208,19 @@ EDITS = {
     "icu_collections_c/tries": [
         (r"None => last_value\(values\),", "None => {\n            crate::cold();\n            last_value(values)\n        }", 1),
     ],
+    # Eight bytes in one read, and eight values with one check of the buffer.
+    "icu_trie_text/copy_parts": [
+        (
+            r"(?s)    u64::from_le_bytes\(\[.*?\]\)\n",
+            "    match bytes.first_chunk::<8>() {\n        Some(eight) => u64::from_le_bytes(*eight),\n        None => 0,\n    }\n",
+            1,
+        ),
+        (
+            r"for k in 0\.\.8 \{\n( +)values\[j \+ k\] = trie\.ascii\(bytes\[k\] & 0x7F\);",
+            r"for (value, byte) in values[j..j + 8].iter_mut().zip(bytes) {\n\1*value = trie.ascii(byte & 0x7F);",
+            1,
+        ),
+    ],
     # Two types that differ in lifetimes only may have different widths, so a vector of one must not
     # be accepted as a vector of the other.
     **dict.fromkeys(

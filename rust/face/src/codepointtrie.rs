@@ -30,6 +30,9 @@
 //! let trie = builder.build();
 //! let values: Vec<_> = text::values_of_utf8(&trie, b"a\xF1\x80B").collect();
 //! assert_eq!(values, [('a', 1), ('\u{FFFD}', 9), ('B', 0)]);
+//! let mut buffer = [0; 4];
+//! let copied = text::copy_values(&trie, b"a\xF1\x80B", &mut buffer);
+//! assert_eq!((copied.values, copied.bytes, buffer), (3, 4, [1, 9, 0, 0]));
 //! let found = text::find_value(&trie, "abC", |value| value == 0);
 //! assert_eq!(found.map(|it| it.offset), Some(2));
 //! ```
