@@ -40,9 +40,9 @@ use crate::{{slice, slice_mut}};
 """
 
 
-def type_there(of, module):
-    """A Rust type as exports.rs names it."""
-    return of if of in NUMBERS else f"crate::{CRATE}::{module}::{of}"
+def type_there(of, homes):
+    """A Rust type as exports.rs names it. `homes` has the module of each struct."""
+    return of if of in NUMBERS else f"crate::{CRATE}::{homes[of]}::{of}"
 
 
 def c_type(of):
@@ -50,7 +50,7 @@ def c_type(of):
     return NUMBERS.get(of) or f"bks_{of.lower()}"
 
 
-def parameter(name, of, module):
+def parameter(name, of, homes):
     """A parameter in exports.rs, its C types, and the argument that the safe function gets."""
     found = re.fullmatch(r"&(?:'\w+ )?(mut )?(\[)?(\w+)(?:<'\w+>)?\]?", of)
     if not found:
@@ -59,7 +59,7 @@ def parameter(name, of, module):
         return f"{name}: {of}", [c_type(of)], name
     mutable, is_slice, item = found.groups()
     mutable = mutable or ""
-    there = TRIE if item == TRIE else type_there(item, module)
+    there = TRIE if item == TRIE else type_there(item, homes)
     pointer = f"{name}: *{mutable or 'const '}{there}"
     kinds = [("" if mutable else "const ") + c_type(item) + " *"]
     if is_slice:
@@ -68,13 +68,13 @@ def parameter(name, of, module):
     return pointer, kinds, f"&(*{name}).slices()" if item == TRIE else f"&{mutable}*{name}"
 
 
-def function(module, name, parameters, returned):
+def function(module, name, parameters, returned, homes):
     """A function of exports.rs, and its types in C: what it returns, then its parameters."""
     named = [it for it in re.split(r",\s*", parameters.strip(" ,\n")) if it]
-    parts = [parameter(*it.split(": "), module) for it in named]
+    parts = [parameter(*it.split(": "), homes) for it in named]
     call = f"crate::{CRATE}::{module}::{name}"
     head = f"\n#[unsafe(no_mangle)]\npub unsafe extern \"C\" fn {name}({', '.join(it[0] for it in parts)}) -> "
-    head += f"{type_there(returned, module)} {{\n"
+    head += f"{type_there(returned, homes)} {{\n"
     if name == OPEN:
         body = OPENING.format(call=call)
     elif any("*" in it[0] for it in parts):
@@ -217,13 +217,17 @@ def c_library(folder, edition, header, make):
     shutil.rmtree(f"{folder}/src", ignore_errors=True)
     shutil.copytree(f"{os.path.dirname(os.path.realpath(__file__))}/c", folder, dirs_exist_ok=True)
     make(folder, [CRATE])
-    functions, structs, enums, text = {}, {}, {}, ""
-    for path in sorted(glob.glob(f"{folder}/src/{CRATE}/*.rs")):
-        code, module = read(path), os.path.basename(path)[:-3]
-        structs.update(STRUCT.findall(code))
-        enums.update(ENUM.findall(code))
+    functions, structs, enums, homes, text = {}, {}, {}, {}, ""
+    sources = {os.path.basename(it)[:-3]: it for it in sorted(glob.glob(f"{folder}/src/{CRATE}/*.rs"))}
+    for module, path in sources.items():
+        found = STRUCT.findall(read(path))
+        structs.update(found)
+        homes.update({name: module for name, _ in found})
+        enums.update(ENUM.findall(read(path)))
+    for module, path in sources.items():
+        code = read(path)
         for name, parameters, returned in CALL.findall(code):
-            shown, functions[name] = function(module, name, parameters, returned)
+            shown, functions[name] = function(module, name, parameters, returned, homes)
             text += shown
         code = CALL.sub(lambda it: it[0].split("\n", 1)[1].replace('extern "C" ', ""), code)
         if 'extern "C"' in code or "no_mangle" in code:
