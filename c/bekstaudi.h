@@ -422,6 +422,21 @@ int64_t bks_units_build(const uint16_t *keys, size_t keys_count, const size_t *l
                         size_t lengths_count, const int32_t *values, size_t values_count,
                         void *units, size_t room);
 
+/* Looks up a key in UTF-8: its UTF-16 units are looked up. Returns true and stores its value in
+ * *value. Returns false if the key is not UTF-8 or not there; *value is then unchanged. */
+bool bks_units_get_utf8(const void *units, size_t size, const char *key, size_t key_size,
+                        int32_t *value);
+
+/* [m] bks_units_build for keys in UTF-8: the key of entry i is the UTF-16 units of the next
+ * lengths[i] bytes of `keys`. It builds what bks_units_build builds of these units, so at most
+ * 4 * keys_size + 32 * lengths_count bytes. If no unit trie is built, it returns the first of these
+ * that applies: BKS_NO_ENTRIES, if lengths_count is not values_count, or the lengths add up to more
+ * than keys_size; BKS_NO_TEXT, if a key is not UTF-8 on its own; BKS_LONG_KEY; BKS_SAME_KEY;
+ * BKS_TOO_LARGE; BKS_NO_MEMORY, which may come before the last three. */
+int64_t bks_units_build_utf8(const char *keys, size_t keys_size, const size_t *lengths,
+                             size_t lengths_count, const int32_t *values, size_t values_count,
+                             void *units, size_t room);
+
 /* ---- Inline functions ------------------------------------------------------------------------ */
 /* They read without a test what the proved functions guarantee. The README of
  * crates/icu_collections_c lists each such read and the guarantee. */

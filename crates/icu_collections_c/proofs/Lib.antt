@@ -16,3 +16,4 @@ mod SetMakingLemmas
 mod SetPlaceLemmas
 mod UnitLemmas
 mod UnitBuildingLemmas
+mod UnitTextLemmas

@@ -12,4 +12,5 @@ pub mod SetBuilding
 pub mod SetQueries
 pub mod Status
 pub mod UnitBuilding
+pub mod UnitTexts
 pub mod UnitTries

@@ -17,6 +17,7 @@
 //! - `set_queries`: subsets, and the code points of a set by their index
 //! - `frozen`: frozen sets in words, and look-ups in them
 //! - `unit_tries`: look-ups in unit tries; `units`: helpers of them
+//! - `unit_texts`: unit tries whose keys are texts in UTF-8; `unit_keys`: transcodes them
 //! - `unit_building`: builds unit tries from entries; `listing`: lists the entries of a unit trie
 //! - `cells`: the cells of tries, in bytes at any address
 //! - `status`: the errors of functions that return a count
@@ -40,6 +41,8 @@ pub mod status;
 pub mod texts;
 pub mod tries;
 pub mod unit_building;
+mod unit_keys;
+pub mod unit_texts;
 pub mod unit_tries;
 mod units;
 pub mod value_sets;

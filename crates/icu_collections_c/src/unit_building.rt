@@ -44,7 +44,7 @@ impl From<BuildError> for Refusal {
 
 /// Returns whether `count` units are enough for keys of these lengths.
 #[tactic(auto, using(crate::proofs::UnitBuildingLemmas::sum_drop_more))]
-fn has_units(count: usize, lengths: &[usize]) -> bool
+pub(crate) fn has_units(count: usize, lengths: &[usize]) -> bool
     ensures { IsTrue result ↔ (sum lengths.now ≤ count) }
 {
     let mut left = count;
