@@ -150,6 +150,13 @@ typedef struct bks_cursor {
                                          or `position` is past the units */
 } bks_cursor;
 
+/* A key that is a prefix of a text: how many units of the text it takes, or bytes if the text is
+ * UTF-8, and its value. */
+typedef struct bks_prefix {
+    size_t length;
+    int32_t value;
+} bks_prefix;
+
 /* An entry of a unit trie: the offset and the size of its text among the bytes of all texts, and
  * its value. */
 typedef struct bks_word {
@@ -436,6 +443,18 @@ bool bks_units_get_utf8(const void *units, size_t size, const char *key, size_t 
 int64_t bks_units_build_utf8(const char *keys, size_t keys_size, const size_t *lengths,
                              size_t lengths_count, const int32_t *values, size_t values_count,
                              void *units, size_t room);
+
+/* Finds all keys that are prefixes of a text, the shortest first, as many as fit in `found`.
+ * Returns how many there are. It reads no more of the text than some key continues with. ICU:
+ * UCharsTrie::next and getValue in a loop, while USTRINGTRIE_HAS_NEXT. */
+size_t bks_units_prefixes(const void *units, size_t size, const uint16_t *text, size_t count,
+                          bks_prefix *found, size_t room);
+
+/* The same for a UTF-8 text, with lengths in bytes. A key that ends within a character does not
+ * count. Returns how many there are, or BKS_NO_TEXT. All of the text is validated first: of a long
+ * text, pass no more than the longest key takes. */
+int64_t bks_units_prefixes_utf8(const void *units, size_t size, const char *text, size_t text_size,
+                                bks_prefix *found, size_t room);
 
 /* ---- Inline functions ------------------------------------------------------------------------ */
 /* They read without a test what the proved functions guarantee. The README of

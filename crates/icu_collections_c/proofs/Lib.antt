@@ -17,3 +17,4 @@ mod SetPlaceLemmas
 mod UnitLemmas
 mod UnitBuildingLemmas
 mod UnitTextLemmas
+mod UnitPrefixLemmas

@@ -12,5 +12,6 @@ pub mod SetBuilding
 pub mod SetQueries
 pub mod Status
 pub mod UnitBuilding
+pub mod UnitPrefixes
 pub mod UnitTexts
 pub mod UnitTries

@@ -18,6 +18,7 @@
 //! - `frozen`: frozen sets in words, and look-ups in them
 //! - `unit_tries`: look-ups in unit tries; `units`: helpers of them
 //! - `unit_texts`: unit tries whose keys are texts in UTF-8; `unit_keys`: transcodes them
+//! - `unit_prefixes`: the keys that are prefixes of a text
 //! - `unit_building`: builds unit tries from entries; `listing`: lists the entries of a unit trie
 //! - `cells`: the cells of tries, in bytes at any address
 //! - `status`: the errors of functions that return a count
@@ -42,6 +43,7 @@ pub mod texts;
 pub mod tries;
 pub mod unit_building;
 mod unit_keys;
+pub mod unit_prefixes;
 pub mod unit_texts;
 pub mod unit_tries;
 mod units;

@@ -1,0 +1,331 @@
+-- The prefixes of a text that have a value, as a cursor passes the text.
+use Rattle.std.proofs.Common.{◌≡◌, ◌∙◌, refl, sym, ap, subst, ℕ, ℤ, zero, suc, ◌+◌, ◌-◌, ◌/◌, ◌%◌, ◌<◌, ◌≤◌, Bool, true, false, cond, nat_lt, not, List, [], ◌∷◌, ◌++◌, Option, Some, None, length, take, drop, get_or, append-nil, append_assoc, length-append, arith, ◌⊎◌, inl, inr}
+use Rattle.std.specs.Prelude.{encode_utf8_all, map, nat_le, slice_get}
+use Rattle.std.specs.Char.{encode_utf8}
+use Rattle.std.specs.Char.Escape.{encode_utf16}
+use Rattle.std.specs.List.{flat_map}
+use Rattle.std.specs.Str.{IsUtf8, chars}
+use Rattle.std.proofs.Math.ListN.{set}
+use Rattle.std.proofs.Math.Utf8.{encode, encodes}
+use Rattle.std.proofs.lemmas.Bool.{cases_lt}
+use Rattle.std.proofs.lemmas.Bool.Decides.{nat_tests}
+use Rattle.std.proofs.lemmas.Grind.{flat_map-append}
+use Rattle.std.proofs.lemmas.List.{drop_all, length-drop, length-map, length-take-le, map-append, take-append-drop, take_all}
+use Rattle.std.proofs.lemmas.Str.{encodes-append, encodes-chars, length-le-encodes}
+use Rattle.icu_char16trie.specs.Grammar.{IsTrieOf}
+use Rattle.icu_char16trie.specs.Matches.{HasValueAlong, front_units, match_at}
+use Rattle.icu_char16trie.specs.Steps.{InNode, StepsAlong, StepsTo, at_final, no_lead}
+use Rattle.icu_char16trie.specs.UnitMap.{UnitMap, goes_on, value_of}
+use Rattle.icu_char16trie.specs.UnitPlaces.{At, HasPassed, ends_by, is_empty_at, value_at}
+use Rattle.icu_char16trie.specs.declared.place.Place.{Place}
+use Rattle.icu_char16trie.specs.declared.place.Place.TheVariants.{Node, Nowhere, Run}
+use Rattle.icu_char16trie.proofs.CallerLemmas.{none_beyond}
+use Rattle.icu_collections_c.specs.Buffers.{written}
+use Rattle.icu_collections_c.specs.UnitPrefixes.{AreValued, GivesPrefixes, HasFound, prefix_of}
+use Rattle.icu_collections_c.specs.declared.unit_prefixes.Prefix.{Prefix}
+
+-- ---- one more item in a buffer
+
+set-front : {A : Type 0} (xs ys : List A) (y : A) → 0 < length ys → set (xs ++ ys) (length xs) y ≡ (xs ++ y ∷ []) ++ drop 1 ys
+set-front [] [] y l = absurd (omega (arith, l))
+set-front [] (z ∷ ys) y l = refl
+set-front (x ∷ xs) ys y l = ap (λ zs. x ∷ zs) (set-front xs ys y l)
+
+drop-suc : {A : Type 0} (n : ℕ) (ys : List A) → drop 1 (drop n ys) ≡ drop (suc n) ys
+drop-suc zero ys = refl
+drop-suc (suc n) [] = refl
+drop-suc (suc n) (y ∷ ys) = drop-suc n ys
+
+-- A further item is written if it fits.
+pub written-more : {A : Type 0} (xs old : List A) (y : A) → length xs < length old
+    → set (written xs old) (length xs) y ≡ written (xs ++ y ∷ []) old
+written-more xs old y l =
+    let fits : take (length old) xs ≡ xs = take_all (length old) xs (omega (arith, l)) in
+    let long = length-append xs (y ∷ []) in
+    let more : take (length old) (xs ++ y ∷ []) ≡ xs ++ y ∷ [] = take_all (length old) (xs ++ y ∷ []) (omega (arith, l, long)) in
+    let some : 0 < length (drop (length xs) old) = omega (arith, l, length-drop (length xs) old) in
+    let count : suc (length xs) ≡ length (xs ++ y ∷ []) = omega (arith, long) in
+    ap (λ z. set (z ++ drop (length xs) old) (length xs) y) fits
+    ∙ set-front xs (drop (length xs) old) y some
+    ∙ ap (λ z. (xs ++ y ∷ []) ++ z) (drop-suc (length xs) old ∙ ap (λ k. drop k old) count)
+    ∙ ap (λ z. z ++ drop (length (xs ++ y ∷ [])) old) (sym more)
+
+take-front : {A : Type 0} (n : ℕ) (xs ys : List A) → n ≤ length xs → take n (xs ++ ys) ≡ take n xs
+take-front zero xs ys l = refl
+take-front (suc n) [] ys l = absurd (omega (arith, l))
+take-front (suc n) (x ∷ xs) ys l = ap (λ zs. x ∷ zs) (take-front n xs ys (omega (arith, l)))
+
+-- If the buffer is full, nothing more is written.
+pub written-full : {A : Type 0} (xs old : List A) (y : A) → length old ≤ length xs → written (xs ++ y ∷ []) old ≡ written xs old
+written-full xs old y l =
+    let long = length-append xs (y ∷ []) in
+    let none : drop (length xs) old ≡ [] = drop_all (length xs) old l in
+    let none' : drop (length (xs ++ y ∷ [])) old ≡ [] = drop_all (length (xs ++ y ∷ [])) old (omega (arith, l, long)) in
+    ap (λ z. z ++ drop (length (xs ++ y ∷ [])) old) (take-front (length old) xs (y ∷ []) l)
+    ∙ ap (λ z. take (length old) xs ++ z) (none' ∙ sym none)
+
+length-written : {A : Type 0} (xs old : List A) → length (written xs old) ≡ length old
+length-written xs old = elim (cases_lt (length xs) (length old)) [
+  | inl h ↦
+      ap (λ z. length (z ++ drop (length xs) old)) (take_all (length old) xs (omega (arith, h)))
+      ∙ length-append xs (drop (length xs) old) ∙ omega (arith, h, length-drop (length xs) old)
+  | inr h ↦
+      ap (λ z. length (take (length old) xs ++ z)) (drop_all (length xs) old (omega (arith, h)))
+      ∙ ap length (append-nil (take (length old) xs)) ∙ length-take-le (length old) xs (omega (arith, h))
+]
+
+module _ (xs : List (ℕ × ℤ)) (all old new : List Prefix) (n : ℕ) (x : ℕ × ℤ) (was : HasFound xs all old n) where
+  as_many : length (map prefix_of xs) ≡ n
+  as_many = length-map xs prefix_of ∙ sym was.count
+
+  room : length old ≡ length all
+  room = ap length was.buffer ∙ length-written (map prefix_of xs) all
+
+  pushed : map prefix_of (xs ++ x ∷ []) ≡ map prefix_of xs ++ prefix_of x ∷ []
+  pushed = map-append prefix_of xs (x ∷ [])
+
+  -- One more prefix was found.
+  pub HasFound-more : (n < length old → new ≡ set old n (prefix_of x)) → (length old ≤ n → new ≡ old)
+      → HasFound (xs ++ x ∷ []) all new (n + 1)
+  HasFound-more within past = record {
+    count = let long = length-append xs (x ∷ []) in omega (arith, long, was.count);
+    buffer = elim (cases_lt n (length old)) [
+      | inl h ↦
+          within h ∙ ap (λ z. set z n (prefix_of x)) was.buffer
+          ∙ ap (λ k. set (written (map prefix_of xs) all) k (prefix_of x)) (sym as_many)
+          ∙ written-more (map prefix_of xs) all (prefix_of x) (omega (arith, h, as_many, room))
+          ∙ ap (λ z. written z all) (sym pushed)
+      | inr h ↦
+          past h ∙ was.buffer ∙ sym (written-full (map prefix_of xs) all (prefix_of x) (omega (arith, h, as_many, room)))
+          ∙ ap (λ z. written z all) (sym pushed)
+    ];
+  }
+
+-- Before anything is found.
+pub HasFound-none : (all : List Prefix) → HasFound [] all all 0
+HasFound-none all = record { count = refl; buffer = sym (none all) }
+  where
+    none : (old : List Prefix) → written [] old ≡ old
+    none [] = refl
+    none (x ∷ xs) = refl
+
+-- ---- steps
+
+-- From an empty position each unit leads nowhere.
+ends_nowhere : (units : List ℕ) (place : Place) (u : ℕ) → is_empty_at units place ≡ true → StepsTo units place u Nowhere
+ends_nowhere units Nowhere u e = refl
+ends_nowhere units (Node p) u e = by (slice_get units p) refl e
+  where
+    from : (lead : ℕ) → nat_le 0x8000 lead ≡ true → 0x8000 ≤ lead
+    from lead h = grind (arith, nat_tests)
+
+    by : (o : Option ℕ) → slice_get units p ≡ o → ends_by o ≡ true → InNode units u p Nowhere
+    by None g h = no_lead p Nowhere g refl
+    by (Some lead) g h = at_final p lead Nowhere g (from lead h) refl
+ends_nowhere units (Run p left) u e = cc
+
+stays_nowhere : (units w : List ℕ) → StepsAlong units Nowhere w Nowhere
+stays_nowhere units [] = refl
+stays_nowhere units (u ∷ w) = (Nowhere, refl, stays_nowhere units w)
+
+pub along_then : (units : List ℕ) (from mid to : Place) (v w : List ℕ) → StepsAlong units from v mid
+    → StepsAlong units mid w to → StepsAlong units from (v ++ w) to
+along_then units from mid to [] w h k = subst (λ z. StepsAlong units z w to) h k
+along_then units from mid to (u ∷ v) w h k = (h.0, h.1, along_then units h.0 mid to v w h.2 k)
+
+-- After an empty position nothing has a value.
+none_along : (units w : List ℕ) (place : Place) (u : ℕ) (more : List ℕ) → StepsAlong units (Node 0) w place
+    → is_empty_at units place ≡ true → HasValueAlong units (w ++ u ∷ more) None
+none_along units w place u more steps ends =
+    let on : StepsAlong units place (u ∷ more) Nowhere = (Nowhere, ends_nowhere units place u ends, stays_nowhere units more) in
+    (Nowhere, along_then units (Node 0) place Nowhere w (u ∷ more) steps on, refl)
+
+-- ---- prefixes, one after another
+
+-- If no longer prefix has a value, no more are found.
+AreValued-none : (P : ℕ → Option ℤ → Type 0) (size : ℕ → ℕ) (i j : ℕ) (xs : List (ℕ × ℤ)) → AreValued P size i xs
+    → ((k : ℕ) → i ≤ k → k < i + j → P k None) → AreValued P size (i + j) xs
+AreValued-none P size i zero xs h none = subst (λ n. AreValued P size n xs) (same i) h
+  where
+    same : (n : ℕ) → n ≡ n + zero
+    same n = omega arith
+AreValued-none P size i (suc j) xs h none =
+    subst (λ n. AreValued P size n xs) last
+    (xs, None, AreValued-none P size i j xs h (λ k a b. none k a (omega (arith, b))), none (i + j) (omega arith) (omega arith), sym (append-nil xs))
+  where
+    last : suc (i + j) ≡ i + suc j
+    last = omega arith
+
+-- There are no more prefixes with a value than prefixes.
+pub few-valued : (P : ℕ → Option ℤ → Type 0) (size : ℕ → ℕ) (n : ℕ) (xs : List (ℕ × ℤ)) → AreValued P size n xs → length xs ≤ n
+few-valued P size zero xs h = omega (arith, ap length h)
+few-valued P size (suc n) xs h =
+    let before = few-valued P size n h.0 h.2 in
+    omega (arith, before, ap length h.4, length-append h.0 (match_at (size n) h.1), at_most_one (size n) h.1)
+  where
+    at_most_one : (k : ℕ) (v : Option ℤ) → length (match_at k v) ≤ 1
+    at_most_one k None = omega arith
+    at_most_one k (Some v) = omega arith
+
+-- The cursor has passed the first k items of a text: `front k` are their units. The prefixes with a
+-- value among the first k + 1 are found.
+pub record HasLooked (units : List ℕ) (front : ℕ → List ℕ) (size : ℕ → ℕ) (all : List Prefix) (k : ℕ) (cursor : At)
+    (found : List Prefix) (n : ℕ) : Type 0 where
+  pub units_are : cursor.units ≡ units
+  pub steps : StepsAlong units (Node 0) (front k) cursor.place
+  pub after : (m : UnitMap) → IsTrieOf units m → HasPassed cursor m (front k)
+  pub xs : List (ℕ × ℤ)
+  pub exact : AreValued (λ j v. HasValueAlong units (front j) v) size (suc k) xs
+  pub keys : (m : UnitMap) → IsTrieOf units m → AreValued (λ j v. value_of m (front j) ≡ v) size (suc k) xs
+  pub are : HasFound xs all found n
+
+-- There are no more of them than prefixes.
+pub few-looked : {units : List ℕ} {front : ℕ → List ℕ} {size : ℕ → ℕ} {all : List Prefix} {k : ℕ} {cursor : At} {found : List Prefix}
+    {n : ℕ} → HasLooked units front size all k cursor found n → n ≤ suc k
+few-looked {units = units} {front = front} {size = size} {k = k} was =
+    omega (arith, was.are.count, few-valued (λ j v. HasValueAlong units (front j) v) size (suc k) was.xs was.exact)
+
+module _ (units : List ℕ) (front : ℕ → List ℕ) (size : ℕ → ℕ) (all : List Prefix) where
+  -- Before the first item.
+  pub looked_first : (cursor : At) (found : List Prefix) (n : ℕ) (v : Option ℤ) → cursor.units ≡ units
+      → front 0 ≡ [] → cursor.place ≡ Node 0 → ((m : UnitMap) → IsTrieOf units m → HasPassed cursor m [])
+      → v ≡ value_at cursor.units cursor.place
+      → ((m : UnitMap) (w : List ℕ) → HasPassed cursor m w → v ≡ value_of m w)
+      → HasFound (match_at (size 0) v) all found n → HasLooked units front size all 0 cursor found n
+  looked_first cursor found n v same none at root value values are =
+      let steps : StepsAlong units (Node 0) (front 0) cursor.place = rw none at in
+      record {
+        units_are = same;
+        steps = steps;
+        after = λ m h. rw none (root m h);
+        xs = match_at (size 0) v;
+        exact = ([], v, refl, (cursor.place, steps, rw (← same) (sym value)), refl);
+        keys = λ m h. ([], v, refl, rw none (sym (values m [] (root m h))), refl);
+        are = are;
+      }
+
+  -- After one more item.
+  pub looked_next : (k next : ℕ) → next ≡ suc k → (old new : At) (found found' : List Prefix) (n n' : ℕ) (v : Option ℤ)
+      → HasLooked units front size all k old found n → new.units ≡ units
+      → StepsAlong units (Node 0) (front next) new.place
+      → ((m : UnitMap) → IsTrieOf units m → HasPassed new m (front next))
+      → v ≡ value_at new.units new.place
+      → ((m : UnitMap) (w : List ℕ) → HasPassed new m w → v ≡ value_of m w)
+      → ((xs : List (ℕ × ℤ)) → HasFound xs all found n → HasFound (xs ++ match_at (size next) v) all found' n')
+      → HasLooked units front size all next new found' n'
+  looked_next k next is old new found found' n n' v was same steps after value values put = record {
+    units_are = same;
+    steps = steps;
+    after = after;
+    xs = was.xs ++ match_at (size next) v;
+    exact = (
+      was.xs,
+      v,
+      subst (λ j. AreValued (λ i o. HasValueAlong units (front i) o) size j was.xs) (sym is) was.exact,
+      (new.place, steps, rw (← same) (sym value)),
+      refl,
+    );
+    keys = λ m h. (
+      was.xs,
+      v,
+      subst (λ j. AreValued (λ i o. value_of m (front i) ≡ o) size j was.xs) (sym is) (was.keys m h),
+      sym (values m (front next) (after m h)),
+      refl,
+    );
+    are = put was.xs was.are;
+  }
+
+  -- All items are passed.
+  module _ (k : ℕ) (cursor : At) (found : List Prefix) (n : ℕ) (was : HasLooked units front size all k cursor found n) where
+    pub looked_all_exact : GivesPrefixes (λ j v. HasValueAlong units (front j) v) size k all found n
+    looked_all_exact = (was.xs, was.exact, was.are)
+
+    pub looked_all_keys : (m : UnitMap) → IsTrieOf units m → GivesPrefixes (λ j v. value_of m (front j) ≡ v) size k all found n
+    looked_all_keys m h = (was.xs, was.keys m h, was.are)
+
+    -- No key continues after the items so far.
+    module _ (most : ℕ) (within : k ≤ most) (ends : is_empty_at cursor.units cursor.place ≡ true)
+        (none : (m : UnitMap) (w : List ℕ) → HasPassed cursor m w → goes_on m w ≡ false)
+        (longer : (j : ℕ) → k < j → j ≤ most → (u : ℕ) × (more : List ℕ) × (front j ≡ front k ++ u ∷ more)) where
+      all_of : suc k + (most - k) ≡ suc most
+      all_of = omega (arith, within)
+
+      pub looked_ends_exact : GivesPrefixes (λ j v. HasValueAlong units (front j) v) size most all found n
+      looked_ends_exact = (
+        was.xs,
+        subst (λ i. AreValued (λ j v. HasValueAlong units (front j) v) size i was.xs) all_of
+            (AreValued-none (λ j v. HasValueAlong units (front j) v) size (suc k) (most - k) was.xs was.exact
+            (λ j a b. step j (longer j (omega (arith, a)) (omega (arith, b, within))))),
+        was.are,
+      )
+        where
+          step : (j : ℕ) → (u : ℕ) × (more : List ℕ) × (front j ≡ front k ++ u ∷ more) → HasValueAlong units (front j) None
+          step j more = rw more.2 (none_along units (front k) cursor.place more.0 more.1 was.steps (rw was.units_are at ends))
+
+      pub looked_ends_keys : (m : UnitMap) → IsTrieOf units m → GivesPrefixes (λ j v. value_of m (front j) ≡ v) size most all found n
+      looked_ends_keys m h = (
+        was.xs,
+        subst (λ i. AreValued (λ j v. value_of m (front j) ≡ v) size i was.xs) all_of
+            (AreValued-none (λ j v. value_of m (front j) ≡ v) size (suc k) (most - k) was.xs (was.keys m h)
+            (λ j a b. step j (longer j (omega (arith, a)) (omega (arith, b, within))))),
+        was.are,
+      )
+        where
+          step : (j : ℕ) → (u : ℕ) × (more : List ℕ) × (front j ≡ front k ++ u ∷ more) → value_of m (front j) ≡ None
+          step j more = ap (value_of m) more.2 ∙ none_beyond m (front k) more.0 more.1 (none m (front k) (was.after m h))
+
+-- ---- the items of a text
+
+pub no_more : (b : Bool) → not b ≡ true → b ≡ false
+no_more true e = cc
+no_more false e = refl
+
+-- A longer prefix starts with a shorter one.
+pub front_more : (text : List ℕ) (i k : ℕ) → i < k → k ≤ length text
+    → (x : ℕ) × (y : List ℕ) × (take k text ≡ take i text ++ x ∷ y)
+front_more [] i k below within = absurd (omega (arith, below, within))
+front_more (u ∷ text) i zero below within = absurd (omega (arith, below))
+front_more (u ∷ text) zero (suc k) below within = (u, take k text, refl)
+front_more (u ∷ text) (suc i) (suc k) below within =
+    let more = front_more text i k (omega (arith, below)) (omega (arith, within)) in
+    (more.0, more.1, ap (λ (z : List ℕ). u ∷ z) more.2)
+
+-- ---- the characters of a text
+
+-- A character has a unit.
+some_unit : (c : ℕ) → (u : ℕ) × (more : List ℕ) × (encode_utf16 c ≡ u ∷ more)
+some_unit c = by (nat_lt c 0x1_0000)
+  where
+    by : (b : Bool) → (u : ℕ) × (more : List ℕ)
+        × (cond b (c ∷ []) ((0xD800 + (c - 0x1_0000) / 0x400) ∷ (0xDC00 + (c - 0x1_0000) % 0x400) ∷ []) ≡ u ∷ more)
+    by true = (c, [], refl)
+    by false = (0xD800 + (c - 0x1_0000) / 0x400, (0xDC00 + (c - 0x1_0000) % 0x400) ∷ [], refl)
+
+-- The units of more characters start with those of fewer.
+pub units_more : (cs : List ℕ) (i k : ℕ) → i < k → k ≤ length cs
+    → (u : ℕ) × (more : List ℕ) × (front_units cs k ≡ front_units cs i ++ u ∷ more)
+units_more cs i k below within =
+    let t = front_more cs i k below within in
+    let one = some_unit t.0 in (
+      one.0,
+      one.1 ++ flat_map encode_utf16 t.1,
+      ap (flat_map encode_utf16) t.2 ∙ flat_map-append encode_utf16 (take i cs) (t.0 ∷ t.1)
+          ∙ ap (λ z. front_units cs i ++ (z ++ flat_map encode_utf16 t.1)) one.2,
+    )
+
+-- The first characters take no more bytes than the text.
+pub bytes_within : (text : List ℕ) (k : ℕ) → IsUtf8 text → length (encode_utf8_all (take k (chars text))) ≤ length text
+bytes_within text k u =
+    let whole : encodes (take k (chars text)) ++ encodes (drop k (chars text)) ≡ text =
+    sym (encodes-append (take k (chars text)) (drop k (chars text))) ∙ ap encodes (take-append-drop k (chars text)) ∙ encodes-chars text u in
+    omega (arith, ap length whole, length-append (encodes (take k (chars text))) (encodes (drop k (chars text))))
+
+-- There are no more characters than bytes.
+pub chars_within : (text : List ℕ) → IsUtf8 text → length (chars text) ≤ length text
+chars_within text u = omega (arith, length-le-encodes (chars text), ap length (encodes-chars text u))
+
+-- The bytes of one more character.
+pub bytes_next : (cs : List ℕ) (c : ℕ) → length (encode_utf8_all (cs ++ c ∷ [])) ≡ length (encode_utf8_all cs) + length (encode_utf8 c)
+bytes_next cs c =
+    ap length (encodes-append cs (c ∷ [])) ∙ length-append (encodes cs) (encodes (c ∷ []))
+    ∙ ap (λ (z : List ℕ). length (encodes cs) + length z) (append-nil (encode c))

@@ -1,0 +1,44 @@
+-- The keys of a unit trie that are prefixes of a text, as C sees them.
+use Rattle.std.specs.Prelude.{◌≡◌, ◌⊎◌, ◌-◌, ◌^◌, min, ℕ, ℤ, zero, suc, pos, List, [], ◌++◌, Option, encode_utf8_all, length, map, take}
+use Rattle.icu_char16trie.specs.Matches.{match_at}
+use Rattle.icu_collections_c.specs.Buffers.{written}
+use Rattle.icu_collections_c.specs.Status.{refused}
+use Rattle.icu_collections_c.specs.declared.status.Refusal.TheVariants.{NoText}
+use Rattle.icu_collections_c.specs.declared.unit_prefixes.Prefix.{Prefix}
+
+-- A prefix as C sees it, from its length and its value.
+abbrev pub prefix_of : ℕ × ℤ → Prefix
+prefix_of x = record { length = x.0; value = x.1 }
+
+-- The buffer holds these prefixes, as many as fit. There are n of them.
+pub record HasFound (xs : List (ℕ × ℤ)) (old new : List Prefix) (n : ℕ) : Type 0 where
+  pub count : n ≡ length xs
+  pub buffer : new ≡ written (map prefix_of xs) old
+
+-- Of the first n prefixes of a text, those with a value, the shortest first. The first prefix is
+-- the empty one. HasValue k v says that the value of the prefix of k items is v, which may be None,
+-- and `size k` is how long that prefix is.
+abbrev pub AreValued : (ℕ → Option ℤ → Type 0) → (ℕ → ℕ) → ℕ → List (ℕ × ℤ) → Type 0
+AreValued HasValue size zero xs = xs ≡ []
+AreValued HasValue size (suc k) xs =
+    (before : List (ℕ × ℤ)) × (v : Option ℤ) × AreValued HasValue size k before × HasValue k v
+    × (xs ≡ before ++ match_at (size k) v)
+
+-- All prefixes with a value of a text of `most` items: how many there are, and the buffer holds
+-- those that fit.
+abbrev pub GivesPrefixes : (ℕ → Option ℤ → Type 0) → (ℕ → ℕ) → ℕ → List Prefix → List Prefix → ℕ
+    → Type 0
+GivesPrefixes HasValue size most old new n =
+    (xs : List (ℕ × ℤ)) × AreValued HasValue size (suc most) xs × HasFound xs old new n
+
+-- The same for a UTF-8 text, 2^63 - 1 if there are more, one after each byte of a text of that size.
+-- If the bytes are not a text: `NoText`, and the buffer is unchanged.
+abbrev pub AnswersPrefixes : Type 0 → (ℕ → Option ℤ → Type 0) → (ℕ → ℕ) → ℕ → List Prefix
+    → List Prefix → ℤ → Type 0
+AnswersPrefixes text HasValue size most old new returned =
+    (text × (n : ℕ) × (returned ≡ pos (min n (2 ^ 63 - 1))) × GivesPrefixes HasValue size most old new n)
+    ⊎ (¬ text × (returned ≡ refused NoText) × (new ≡ old))
+
+-- How many bytes of UTF-8 the first k of some characters take.
+abbrev pub bytes_before : List ℕ → ℕ → ℕ
+bytes_before cs k = length (encode_utf8_all (take k cs))
