@@ -456,6 +456,18 @@ size_t bks_units_prefixes(const void *units, size_t size, const uint16_t *text, 
 int64_t bks_units_prefixes_utf8(const void *units, size_t size, const char *text, size_t text_size,
                                 bks_prefix *found, size_t room);
 
+/* [m] Writes the units that can come next in some key into `next`, ascending, as many as fit.
+ * Returns how many there are, at most 65,536, or BKS_NO_MEMORY. ICU: UCharsTrie::getNextUChars. */
+int64_t bks_units_next(const void *units, size_t size, const bks_cursor *cursor, uint16_t *next,
+                       size_t room);
+
+/* [m] Returns 1 if all keys that start with the units so far have one value, the key of just these
+ * units included, and stores it in *value. Returns 0 if their values differ or there is no such
+ * key, or BKS_NO_MEMORY; *value is then unchanged. It visits each node ahead once. If the units are
+ * not a trie from here on, it returns 0. ICU: UCharsTrie::hasUniqueValue, which in ICU 72 is wrong
+ * for branches of six units and more. */
+int64_t bks_units_unique(const void *units, size_t size, const bks_cursor *cursor, int32_t *value);
+
 /* ---- Inline functions ------------------------------------------------------------------------ */
 /* They read without a test what the proved functions guarantee. The README of
  * crates/icu_collections_c lists each such read and the guarantee. */

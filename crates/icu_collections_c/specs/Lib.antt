@@ -12,6 +12,7 @@ pub mod SetBuilding
 pub mod SetQueries
 pub mod Status
 pub mod UnitBuilding
+pub mod UnitNodes
 pub mod UnitPrefixes
 pub mod UnitTexts
 pub mod UnitTries

@@ -19,6 +19,7 @@
 //! - `unit_tries`: look-ups in unit tries; `units`: helpers of them
 //! - `unit_texts`: unit tries whose keys are texts in UTF-8; `unit_keys`: transcodes them
 //! - `unit_prefixes`: the keys that are prefixes of a text
+//! - `unit_nodes`: the units that can come next, and the one value of all keys from there on
 //! - `unit_building`: builds unit tries from entries; `listing`: lists the entries of a unit trie
 //! - `cells`: the cells of tries, in bytes at any address
 //! - `status`: the errors of functions that return a count
@@ -43,6 +44,7 @@ pub mod texts;
 pub mod tries;
 pub mod unit_building;
 mod unit_keys;
+pub mod unit_nodes;
 pub mod unit_prefixes;
 pub mod unit_texts;
 pub mod unit_tries;

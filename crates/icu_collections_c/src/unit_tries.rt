@@ -33,7 +33,7 @@ pub struct Cursor {
 
 /// Converts the cursor to the position that the library uses.
 #[inline(always)]
-fn place_of(cursor: &Cursor) -> CursorPlace
+pub(crate) fn place_of(cursor: &Cursor) -> CursorPlace
     ensures { result ≡ record { position = cursor.now.position; left = cursor.now.left } }
 {
     CursorPlace {
