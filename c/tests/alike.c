@@ -210,8 +210,19 @@ static void keys(const library *l, const uint8_t *bytes, size_t size) {
     PUT(ASK(bks_units_get, SLICE(bytes, size), SLICE(key, n), &value)), PUT(value);
     PUT(ASK(bks_units_longest, SLICE(bytes, size), SLICE(key, n), &value)), PUT(value);
     PUT(ASK(bks_units_longest_utf8, SLICE(bytes, size), SLICE(text, m), &value)), PUT(value);
+    PUT(ASK(bks_units_get_utf8, SLICE(bytes, size), SLICE(text, m), &value)), PUT(value);
+    static bks_prefix found[8];
+    static uint16_t next[40];
+    size_t room = any(9);
+    FILLED(found), PUT(ASK(bks_units_prefixes, SLICE(bytes, size), SLICE(key, n), SLICE(found, room)));
+    for (int i = 0; i < 8; i++) PUT(found[i].length), PUT(found[i].value);
+    FILLED(found), PUT(ASK(bks_units_prefixes_utf8, SLICE(bytes, size), SLICE(text, m), SLICE(found, room)));
+    for (int i = 0; i < 8; i++) PUT(found[i].length), PUT(found[i].value);
     bks_cursor cursor = {any(3) ? 0 : any(size + 4), (uint16_t)(any(3) ? 0 : any(300))};
     if (any(20) == 0) cursor.position = any(0);
+    room = any(41), FILLED(next);
+    PUT(ASK(bks_units_next, SLICE(bytes, size), &cursor, SLICE(next, room))), put(next, sizeof next);
+    if (any(4) == 0 || size < 4096) PUT(ASK(bks_units_unique, SLICE(bytes, size), &cursor, &value)), PUT(value);
     for (size_t i = 0; i < n; i++) {
         PUT(ASK(bks_units_step, SLICE(bytes, size), &cursor, key[i]));
         PUT(cursor.position), PUT(cursor.left);
@@ -270,6 +281,13 @@ static void built_units(const library *l) {
                        SLICE(numbers, given), SLICE(bytes, room));
     PUT(size), put(bytes, sizeof bytes);
     if (size > 0 && (size_t)size <= room) units(l, bytes, (size_t)size, true);
+    static char texts[600];
+    used = text_of(texts, sizeof texts, any(9) == 0);
+    for (size_t i = 0; i < used; i++)
+        if (any(2)) texts[i] = (char)(0x61 + any(12));
+    FILLED(bytes);
+    size = ASK(bks_units_build_utf8, SLICE(texts, used), SLICE(lengths, entries), SLICE(numbers, given), SLICE(bytes, room));
+    PUT(size), put(bytes, sizeof bytes);
 }
 
 static uint8_t *files[64], copy[MOST];

@@ -90,6 +90,39 @@ static void refused(void) {
     for (size_t i = 0; i < MOST; i++) CHECK(bytes[i] == STAYS);
 }
 
+/* The same of keys in UTF-8: the key of an entry is the next bytes, and has to be UTF-8 on its own. */
+static void texts_refused(void) {
+    static char many[70000];
+    static const size_t half[] = {1, 1}, two[] = {2, 1}, huge[] = {65536, 1, 1}, longest[] = {65535, 1};
+    static const size_t same[] = {65536, 1, 1, 2};
+    static const int32_t values[] = {1, 2, 3, 4};
+    uint8_t bytes[MOST];
+    memset(bytes, STAYS, MOST), memset(many, 'a', sizeof many);
+    struct {
+        const char *keys;
+        size_t size;
+        const size_t *lengths;
+        size_t count, values;
+        int64_t answer;
+    } rows[] = {
+        {"\xC3\xA9", 2, half, 2, 2, BKS_NO_TEXT}, {"\xC3\xA9", 2, half, 2, 1, BKS_NO_ENTRIES},
+        {"\xC3\xA9", 1, half, 2, 2, BKS_NO_ENTRIES}, {"\xC3\xA9\xFF", 3, two, 1, 1, 6},
+        {"\xC3\xA9\xFF", 3, two, 2, 2, BKS_NO_TEXT}, {"aa", 2, half, 2, 2, BKS_SAME_KEY},
+        {many, sizeof many, huge, 1, 1, BKS_LONG_KEY}, {many, sizeof many, huge, 3, 3, BKS_LONG_KEY},
+        {many, sizeof many, same + 1, 3, 3, BKS_SAME_KEY},
+    };
+    for (size_t i = 0; i < sizeof rows / sizeof rows[0]; i++) {
+        int64_t answer = bks_units_build_utf8(rows[i].keys, rows[i].size, rows[i].lengths, rows[i].count,
+                                              values, rows[i].values, bytes, rows[i].answer > 0 ? 0 : MOST);
+        CHECK(answer == rows[i].answer);
+    }
+    CHECK(bks_units_build_utf8(many, sizeof many, longest, 2, values, 2, bytes, MOST) > MOST);
+    many[65537] = '\xFF'; /* a later key that is not UTF-8 comes before a long one */
+    CHECK(bks_units_build_utf8(many, sizeof many, same, 3, values, 3, bytes, MOST) == BKS_NO_TEXT);
+    memcpy(many, "\xE4\xB8\x96", 3);
+    for (size_t i = 0; i < MOST; i++) CHECK(bytes[i] == STAYS);
+}
+
 /* A listing: the number of entries, and their texts one after another. */
 static int64_t listed(const char *said, bks_word *words, size_t room, char *texts, size_t *size) {
     uint8_t units[MOST * 4];
@@ -168,6 +201,7 @@ static void doubled(void) {
 int main(void) {
     for (size_t i = 0; i < sizeof rows / sizeof rows[0]; i++) is_row(rows + i);
     refused();
+    texts_refused();
     listings();
     counts();
     doubled();

@@ -75,6 +75,23 @@ static int64_t listed(void) {
     return count;
 }
 
+static int64_t texts_built(void) {
+    static const size_t lengths[] = {2, 1, 0, 4};
+    static const int32_t values[] = {2, 1, 0, -1};
+    return bks_units_build_utf8("aba\xF0\x9F\x98\x80", 7, lengths, 4, values, 4, ends, sizeof ends);
+}
+static int64_t next_units(void) {
+    static const bks_cursor root = {0, 0};
+    return bks_units_next(units, sizeof units, &root, (uint16_t *)ends, 4);
+}
+static int64_t unique(void) {
+    static const bks_cursor final = {2, 0};
+    int32_t value = 0x77777777;
+    int64_t one = bks_units_unique(units, sizeof units, &final, &value);
+    CHECK(value == 0x77777777 && one <= 0);
+    return one;
+}
+
 /* The number of allocations of the function, each of which failed once. */
 static long refused_in_turn(call tried) {
     long before = taken, made;
@@ -95,7 +112,8 @@ static long refused_in_turn(call tried) {
 
 int main(int count, char **words) {
     static const call calls[] = {set_of, set_of_none, size, span, both, either, without, one_of,
-                                 of_ranges, of_points, frozen, built, units_built, counted, listed};
+                                 of_ranges, of_points, frozen, built, units_built, counted, listed,
+                                 texts_built, next_units, unique};
     long made = 0;
     for (int i = 1; i < count; i++) {
         size_t bytes;

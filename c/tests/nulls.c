@@ -56,6 +56,13 @@ static void empty_units(void) {
     CHECK(bks_units_count(NULL, 0) == bks_units_count(none, 0));
     CHECK(bks_units_list(NULL, 0, NULL, 0, NULL, 0, &size) == 0 && size == 0);
     CHECK(bks_units_build(NULL, 0, NULL, 0, NULL, 0, NULL, 0) == 0);
+    CHECK(!bks_units_get_utf8(NULL, 0, NULL, 0, &value) && value == 77);
+    CHECK(bks_units_prefixes(NULL, 0, NULL, 0, NULL, 0) == 0);
+    CHECK(bks_units_prefixes_utf8(NULL, 0, NULL, 0, NULL, 0) == 0);
+    cursor = (bks_cursor){0, 0};
+    CHECK(bks_units_next(NULL, 0, &cursor, NULL, 0) == 0);
+    CHECK(bks_units_unique(NULL, 0, &cursor, &value) == 0 && value == 77);
+    CHECK(bks_units_build_utf8(NULL, 0, NULL, 0, NULL, 0, NULL, 0) == 0);
 }
 
 /* Opens into memory whose bytes are all the same, whatever they are. */
