@@ -19,6 +19,7 @@
 #include <stdexcept>
 #include <string>
 #include <string_view>
+#include <tuple>
 #include <type_traits>
 #include <utility>
 #include <vector>
@@ -585,30 +586,34 @@ public:
     template <class C, class = detail::if_temporary<C>>
     explicit unit_trie(const C &&units) = delete;
 
-    // Returns the units of a trie built from entries in any order, as bks_units_build writes them.
-    // The entries are a map, or any other range of pairs of a key, in UTF-16 or UTF-8, and an
-    // integer. Throws entries_refused.
+    // Returns the units of a trie built from entries in any order, as bks_units_build and
+    // bks_units_build_utf8 write them. The entries are a map, or any other range of pairs of a key,
+    // in UTF-16 or UTF-8, and an integer. Throws entries_refused.
     template <class Entries>
     static std::vector<std::uint8_t> build(const Entries &entries) {
-        std::u16string keys;
+        using key_of = std::tuple_element_t<0, std::decay_t<decltype(*std::begin(entries))>>;
+        constexpr bool is_utf8 = std::is_convertible_v<const key_of &, std::string_view>;
+        using unit = std::conditional_t<is_utf8, char, char16_t>;
+        std::basic_string<unit> keys;
         std::vector<std::size_t> lengths;
         std::vector<std::int32_t> values;
         for (const auto &[key, value] : entries) {
-            std::size_t before = keys.size();
-            if constexpr (std::is_convertible_v<decltype(key), std::string_view>)
-                append_utf8(keys, key);
-            else
-                keys.append(std::u16string_view(key));
-            lengths.push_back(keys.size() - before);
+            std::basic_string_view<unit> units(key);
+            keys.append(units);
+            lengths.push_back(units.size());
             if (!is_of_32_bits(value)) throw entries_refused(BKS_WIDE_VALUE);
             values.push_back(static_cast<std::int32_t>(value));
         }
         view<std::size_t> sizes(lengths);
         view<std::int32_t> numbers(values);
         std::vector<std::uint8_t> bytes(4 * keys.size() + 32 * lengths.size() + 1);
-        std::int64_t size =
-            bks_units_build(units_of(keys).data(), keys.size(), sizes.data(), sizes.size(),
-                            numbers.data(), numbers.size(), bytes.data(), bytes.size());
+        std::int64_t size;
+        if constexpr (is_utf8)
+            size = bks_units_build_utf8(keys.data(), keys.size(), sizes.data(), sizes.size(),
+                                        numbers.data(), numbers.size(), bytes.data(), bytes.size());
+        else
+            size = bks_units_build(units_of(keys).data(), keys.size(), sizes.data(), sizes.size(),
+                                   numbers.data(), numbers.size(), bytes.data(), bytes.size());
         if (size == BKS_NO_MEMORY) throw std::bad_alloc();
         if (size < 0) throw entries_refused(static_cast<bks_refusal>(size));
         bytes.resize(static_cast<std::size_t>(size));
@@ -684,11 +689,33 @@ public:
         return match{static_cast<std::size_t>(size), value};
     }
 
-    // Returns the value of a key in UTF-8. Throws set_refused if it is not UTF-8.
-    std::optional<std::int32_t> operator[](std::string_view key) const {
-        std::optional<match> found = longest(key);
-        return found && found->size == key.size() ? std::optional<std::int32_t>(found->value)
-                                                  : std::nullopt;
+    // Returns the value of a key in UTF-8, or nothing if it is not UTF-8 or not there.
+    std::optional<std::int32_t> get(std::string_view key) const noexcept {
+        std::int32_t value = 0;
+        view<char> bytes(key);
+        bool found =
+            bks_units_get_utf8(units_.data(), units_.size(), bytes.data(), bytes.size(), &value);
+        return found ? std::optional<std::int32_t>(value) : std::nullopt;
+    }
+    std::optional<std::int32_t> operator[](std::string_view key) const noexcept { return get(key); }
+
+    // Returns all keys that are prefixes of a UTF-16 text, the shortest first.
+    std::vector<match> prefixes(std::u16string_view text) const {
+        view<std::uint16_t> units = units_of(text);
+        return matches_of([&](bks_prefix *found, std::size_t room) {
+            return static_cast<std::int64_t>(bks_units_prefixes(
+                units_.data(), units_.size(), units.data(), units.size(), found, room));
+        });
+    }
+
+    // Returns all keys that are prefixes of a UTF-8 text, the shortest first. A key that ends within
+    // a character does not count. Throws set_refused if the text is not UTF-8.
+    std::vector<match> prefixes(std::string_view text) const {
+        view<char> bytes(text);
+        return matches_of([&](bks_prefix *found, std::size_t room) {
+            return bks_units_prefixes_utf8(units_.data(), units_.size(), bytes.data(), bytes.size(),
+                                           found, room);
+        });
     }
 
     // Moves unit by unit from the root (ICU: UCharsTrie::next, getValue).
@@ -703,6 +730,29 @@ public:
             std::int32_t value = 0;
             bool found = bks_units_value(units_.data(), units_.size(), &place_, &value);
             return found ? std::optional<std::int32_t>(value) : std::nullopt;
+        }
+
+        // Returns the units that can come next in some key, ascending (ICU: getNextUChars).
+        std::vector<char16_t> next_units() const {
+            std::vector<char16_t> next(16);
+            for (;;) {
+                std::int64_t answer = bks_units_next(
+                    units_.data(), units_.size(), &place_,
+                    reinterpret_cast<std::uint16_t *>(next.data()), next.size());
+                if (answer < 0) throw std::bad_alloc();
+                bool fits = static_cast<std::size_t>(answer) <= next.size();
+                next.resize(static_cast<std::size_t>(answer));
+                if (fits) return next;
+            }
+        }
+
+        // Returns the value of all keys that start with the units so far, or nothing if their values
+        // differ or there is no such key (ICU: hasUniqueValue).
+        std::optional<std::int32_t> unique_value() const {
+            std::int32_t value = 0;
+            std::int64_t answer = bks_units_unique(units_.data(), units_.size(), &place_, &value);
+            if (answer < 0) throw std::bad_alloc();
+            return answer ? std::optional<std::int32_t>(value) : std::nullopt;
         }
 
     private:
@@ -726,29 +776,22 @@ private:
         return {reinterpret_cast<const std::uint16_t *>(text.data()), text.size()};
     }
 
-    // Appends a UTF-8 text as UTF-16.
-    static void append_utf8(std::u16string &units, std::string_view text) {
-        // The least code point of a character of 1 to 4 bytes.
-        static constexpr char32_t least[] = {0, 0x80, 0x800, 0x10000};
-        for (std::size_t i = 0; i < text.size();) {
-            auto lead = static_cast<unsigned char>(text[i++]);
-            std::size_t more = lead < 0x80 ? 0 : lead < 0xE0 ? 1 : lead < 0xF0 ? 2 : 3;
-            char32_t c = more == 0 ? lead : lead & (0x3Fu >> more);
-            bool is_good = (lead < 0x80 || (lead >= 0xC2 && lead < 0xF5)) && more <= text.size() - i;
-            for (std::size_t k = 0; is_good && k < more; k++) {
-                auto byte = static_cast<unsigned char>(text[i++]);
-                is_good = (byte & 0xC0) == 0x80;
-                c = c << 6 | (byte & 0x3F);
-            }
-            if (!is_good || c < least[more] || c > 0x10FFFF || (c >> 11) == 0x1B)
-                throw entries_refused(BKS_NO_TEXT);
-            if (c < 0x10000) {
-                units.push_back(static_cast<char16_t>(c));
-            } else {
-                units.push_back(static_cast<char16_t>(0xD7C0 + (c >> 10)));
-                units.push_back(static_cast<char16_t>(0xDC00 + (c & 0x3FF)));
-            }
+    // Returns the prefixes that a call finds.
+    template <class Call>
+    static std::vector<match> matches_of(Call call) {
+        std::vector<bks_prefix> found(8);
+        std::size_t count = 0;
+        for (;;) {
+            std::int64_t answer = call(found.data(), found.size());
+            if (answer < 0) throw set_refused("bekstaudi: no UTF-8");
+            count = static_cast<std::size_t>(answer);
+            if (count <= found.size()) break;
+            found.resize(count);
         }
+        std::vector<match> all;
+        all.reserve(count);
+        for (std::size_t i = 0; i < count; i++) all.push_back({found[i].length, found[i].value});
+        return all;
     }
 
     view<std::uint8_t> units_;

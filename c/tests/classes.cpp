@@ -223,6 +223,23 @@ static void unit_tries() {
     CHECK(!cursor.value() && cursor.step(u'a') == BKS_INTERMEDIATE_VALUE && cursor.value() == 1);
     CHECK(cursor.step(u'b') == BKS_FINAL_VALUE && cursor.value() == 100);
     CHECK(cursor.step(u'b') == BKS_NO_MATCH && !cursor.value());
+    CHECK(words.get("ab") == 100 && !words.get("b") && !words.get("a\xFF") && !none.get("a"));
+    CHECK(pair.get("\xF0\x9F\x98\x80") == 2 && !pair.get("\xED\xA0\xBD"));
+    auto are = [](const std::vector<bekstaudi::unit_trie::match> &found,
+                  std::initializer_list<std::pair<size_t, int32_t>> wanted) {
+        auto same = [](const auto &a, const auto &b) { return a.size == b.first && a.value == b.second; };
+        return std::equal(found.begin(), found.end(), wanted.begin(), wanted.end(), same);
+    };
+    CHECK(are(words.prefixes("abc"), {{1, 1}, {2, 100}}) && are(words.prefixes(u"ac"), {{1, 1}}));
+    CHECK(are(words.prefixes("b"), {}) && are(none.prefixes(u""), {}));
+    CHECK(are(pair.prefixes("\xF0\x9F\x98\x80"), {{4, 2}}));
+    CHECK(are(pair.prefixes(u"\xD83D\xDE00"), {{1, 1}, {2, 2}}));
+    CHECK(throws<bekstaudi::set_refused>([&] { words.prefixes("a\xFF"); }));
+    bekstaudi::unit_trie::cursor next(words);
+    CHECK(next.next_units() == std::vector<char16_t>{u'a'} && !next.unique_value());
+    CHECK(next.step(u'a') && next.next_units() == std::vector<char16_t>{u'b'} && !next.unique_value());
+    CHECK(next.step(u'b') && next.next_units().empty() && next.unique_value() == 100);
+    CHECK(next.step(u'b') == BKS_NO_MATCH && next.next_units().empty() && !next.unique_value());
 }
 
 /* Tries are made over bytes that outlive them: named containers, and views. */
@@ -252,6 +269,11 @@ static void unit_tries_built() {
         {"", -7}, {"a", 1}, {"ab", 2}, {"\uFFFD", 3}, {"\U0001F600", INT32_MIN}};
     CHECK(trie.entries() == wanted && trie.count() == 5u);
     CHECK(!bekstaudi::unit_trie("0", 2).count());
+    std::map<std::u16string, int> units;
+    for (char16_t unit = 0; unit < 300; unit++) units[std::u16string(1, unit)] = 5;
+    const std::vector<uint8_t> of_units = bekstaudi::unit_trie::build(units);
+    bekstaudi::unit_trie::cursor root{bekstaudi::unit_trie(of_units)};
+    CHECK(root.next_units().size() == 300 && root.next_units()[299] == 299 && root.unique_value() == 5);
     CHECK(bekstaudi::unit_trie::build(std::map<std::u16string, uint64_t>{{u"a", INT32_MAX}}).size() > 0);
     for (int64_t wide : {int64_t{1} << 40, int64_t{INT32_MIN} - 1})
         CHECK(throws<bekstaudi::entries_refused>(
