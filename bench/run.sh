@@ -37,7 +37,9 @@ else
         -o "$rust" "$here/peer/lib.rs"
 fi
 for file in "$here"/driver/*.cpp; do
-    [ -z "$without" ] || [ "$(basename "$file")" != c_calls.cpp ] || continue
+    case $without/$(basename "$file") in
+    -*/c_*) continue ;;
+    esac
     g++ -std=c++17 -O3 -march=x86-64-v2 $without -c -o "$work/$(basename "$file" .cpp).o" "$file"
 done
 if [ -n "${CODE:-}" ]; then

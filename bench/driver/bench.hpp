@@ -43,3 +43,4 @@ void unit_tries();
 void packed();
 // The C functions; left out when the Rust edition is measured, which has none.
 void c_calls();
+void c_spans();
